@@ -1,0 +1,156 @@
+//! A whole run: a script in, its replies out.
+#![tactic(auto)]
+
+ghost use Rattle.std.specs.Prelude.{◌≡◌, IfOk, IfErr, OnErr};
+ghost use Rattle.device.specs.Machine.{machine_of};
+ghost use Rattle.cli.specs.Session.{one_end, AnswersOne, BreaksOne, Answered, Broken, Ran, Failed, status_of};
+
+use crate::ends::{Read, ReadFault, Write, WriteFailed};
+use crate::replies::write_reply;
+use crate::script::{ScriptFault, read_script};
+use device::Device;
+use device_store::command::{Command, Reply};
+use std::alloc::Global;
+use thiserror::Error;
+
+/// What is given to a run beside its script.
+#[derive(Clone, Copy, Debug, PartialEq, Eq)]
+pub struct Options {
+    /// The most ticks of a work-item of a launch, from 1 to 1,000,000
+    pub budget: u32,
+}
+
+impl Options {
+    /// The budget where none is given.
+    pub const DEFAULT_BUDGET: u32 = 100_000;
+}
+
+impl Default for Options {
+    ghost is_default = { λ options. options.budget ≡ 100000 };
+
+    fn default() -> Self {
+        Options {
+            budget: Self::DEFAULT_BUDGET,
+        }
+    }
+}
+
+/// What the replies of a run come to.
+#[derive(Clone, Copy, Debug, PartialEq, Eq)]
+pub struct RunEnd {
+    /// A launch ended in a fault
+    pub faulted: bool,
+    /// A command was refused
+    pub refused: bool,
+}
+
+/// Why a run came to no end.
+#[derive(Clone, Copy, Debug, PartialEq, Eq, Error)]
+pub enum RunFault {
+    /// 1: the reader failed. Nothing was written
+    #[error("cannot read")]
+    Read,
+    /// 2: the writer failed. A beginning of the replies' text was written
+    #[error("cannot write")]
+    Write,
+    /// 3: the lowest bad line of a text that is no script, counted from 1. Nothing was written
+    #[error("line {0}: bad line")]
+    BadLine(usize),
+    /// 4: no memory is left to read the script. Nothing was written
+    #[error("out of memory")]
+    OutOfMemory,
+}
+
+fn one_end(reply: &Reply, end: RunEnd) -> RunEnd
+    ensures { result ≡ one_end reply.now end }
+{
+    match reply {
+        Reply::Fault { .. } => RunEnd {
+            faulted: true,
+            ..end
+        },
+        Reply::Refused(_) => RunEnd {
+            refused: true,
+            ..end
+        },
+        Reply::Done | Reply::Data(_) | Reply::Clean => end,
+    }
+}
+
+/// Performs a command and writes its reply's line.
+fn answer<W: Write>(
+    device: &mut Device,
+    command: Command,
+    end: RunEnd,
+    writer: &mut W,
+) -> Result<RunEnd, WriteFailed>
+    ensures ok { IfOk result
+        (λ next. AnswersOne (machine_of device.old) command (machine_of device.new) (W.sink writer.old) (W.sink writer.new) end next) }
+    ensures err { OnErr result (BreaksOne (machine_of device.old) command (W.sink writer.old) (W.sink writer.new)) }
+{
+    let reply = device.apply(command);
+    write_reply(&reply, writer)?;
+    Ok(one_end(&reply, end))
+}
+
+/// Performs the commands in order, and writes a line for each reply.
+fn perform<W: Write>(
+    alloc: Global,
+    budget: u32,
+    commands: Vec<Command>,
+    writer: &mut W,
+) -> Result<RunEnd, WriteFailed>
+    ensures ok { IfOk result (λ end. Answered budget commands.items (W.sink writer.old) (W.sink writer.new) end) }
+    ensures err { OnErr result (Broken budget commands.items (W.sink writer.old) (W.sink writer.new)) }
+{
+    let mut device = Device::new(alloc, budget);
+    let mut end = RunEnd {
+        faulted: false,
+        refused: false,
+    };
+    for command in commands {
+        end = answer(&mut device, command, end, writer)?;
+    }
+    writer.flush()?;
+    Ok(end)
+}
+
+/// Reads a script, performs its commands on a new device and writes a line for each reply, in order and nothing else.
+pub fn run<R: Read, W: Write>(
+    alloc: Global,
+    reader: &mut R,
+    writer: &mut W,
+    options: Options,
+) -> Result<RunEnd, RunFault>
+    ensures ran { IfOk result (Ran (R.rest reader.old) options.budget (W.sink writer.old) (W.sink writer.new)) }
+    ensures failed { IfErr result
+        (Failed (R.rest reader.old) (R.failures reader.old) (R.failures reader.new) options.budget (W.sink writer.old) (W.sink writer.new)) }
+{
+    let bytes = match reader.read_all(alloc) {
+        Ok(bytes) => bytes,
+        Err(ReadFault::Failed) => return Err(RunFault::Read),
+        Err(ReadFault::OutOfMemory) => return Err(RunFault::OutOfMemory),
+    };
+    let commands = match read_script(alloc, bytes.as_slice()) {
+        Ok(commands) => commands,
+        Err(ScriptFault::BadLine(number)) => return Err(RunFault::BadLine(number)),
+        Err(ScriptFault::OutOfMemory) => return Err(RunFault::OutOfMemory),
+    };
+    match perform(alloc, options.budget, commands, writer) {
+        Ok(end) => Ok(end),
+        Err(WriteFailed) => Err(RunFault::Write),
+    }
+}
+
+/// The status of a run: 2 where a command was refused or the run failed, else 1 where a launch faulted, else 0.
+pub fn status(outcome: &Result<RunEnd, RunFault>) -> u8
+    ensures { result ≡ status_of outcome.now }
+{
+    match outcome {
+        Ok(end) if !end.refused => u8::from(end.faulted),
+        _ => 2,
+    }
+}
+
+#[cfg(test)]
+mod tests;

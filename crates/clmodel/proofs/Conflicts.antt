@@ -1,0 +1,256 @@
+-- What it says of two accesses that they have no conflict.
+use Rattle.std.proofs.Common.{◌≡◌, ℕ, zero, suc, ◌+◌, ◌<◌, ◌≤◌, ◌⊎◌, Bool, true, false, not, ◌&&◌, ◌||◌, ◌==◌, if◌then◌else◌, Option, None, Some, List, [], ◌∷◌, refl, sym, ap, ap₂, ◌∙◌, subst, inl, inr, arith, eqb-true, eq-eqb}
+use Rattle.std.specs.Option.{option_map}
+use Rattle.std.proofs.lemmas.Bool.{and_parts, and_from, false≢true, cases_eq}
+use Rattle.clmodel.specs.Cells.{byte_count, covers}
+use Rattle.clmodel.specs.Launch.{Launch, same_region, kind_of, class_number, clash, group_of, unordered, share, conflict_between, conflict}
+use Rattle.clmodel.specs.Run.{State, interval_of, access_of}
+use Rattle.clmodel.specs.Law.{Logged, conflict_on, conflict_from}
+use Rattle.clmodel.specs.declared.access.Access.{Access}
+use Rattle.clmodel.specs.declared.access.AccessKind.{AccessKind}
+use Rattle.clmodel.specs.declared.access.AccessKind.TheVariants as kind
+use Rattle.clmodel.specs.declared.access.Clash.{Clash}
+use Rattle.clmodel.specs.declared.access.Clash.TheVariants.{Race, Order}
+use Rattle.clmodel.specs.declared.access.Class.{Class}
+use Rattle.clmodel.specs.declared.access.Class.TheVariants as class
+use Rattle.clmodel.specs.declared.access.Conflict as conflict_type
+use Rattle.clmodel.specs.declared.access.Operation.{Operation}
+use Rattle.clmodel.specs.declared.access.Region.{Region}
+use Rattle.clmodel.specs.declared.access.Operation.TheVariants.{Load, Store, Update}
+use Rattle.clmodel.proofs.Steps.{none_some, if_true, or_else_none, region_for, ItemStep}
+use Rattle.clmodel.proofs.CellLaws.{covers_parts, Agree, Compatible}
+use Rattle.clmodel.proofs.Swaps.{same_region_self, same_region-true, Free}
+
+none_if : {A : Type 0} (b : Bool) (o : Option A) → (if b then o else None) ≡ None → b ≡ true → o ≡ None
+none_if true o h e = h
+none_if false o h e = absurd (false≢true e)
+
+if_none : {A : Type 0} (b : Bool) (o : Option A) → (b ≡ true → o ≡ None) → (if b then o else None) ≡ None
+if_none true o h = h refl
+if_none false o h = refl
+
+-- ---- the test of a conflict, part by part
+
+-- two accesses, of one group or of two, that no barrier orders, and that are both at this byte
+pub record Meet (one_group : Bool) (x y : Access) (byte : ℕ) : Type 0 where
+  pub items : x.item ≡ y.item → ⊥
+  pub intervals : one_group ≡ true → x.interval ≡ y.interval
+  pub regions : x.region ≡ y.region
+  pub first_covers : covers x.first (byte_count x.width) byte ≡ true
+  pub second_covers : covers y.first (byte_count y.width) byte ≡ true
+
+not_parts : (a b : Bool) → not a ≡ true → a ≡ true → ⊥
+not_parts true b h e = false≢true h
+not_parts false b h e = false≢true e
+
+or_at : (a b : Bool) → (not a || b) ≡ true → a ≡ true → b ≡ true
+or_at true b h e = h
+or_at false b h e = absurd (false≢true e)
+
+or_made : (a b : Bool) → (a ≡ true → b ≡ true) → (not a || b) ≡ true
+or_made true b h = h refl
+or_made false b h = refl
+
+not_made : (a : Bool) → (a ≡ true → ⊥) → not a ≡ true
+not_made true h = absurd (h refl)
+not_made false h = refl
+
+and_three : (a b c : Bool) → (a && b && c) ≡ true → (a ≡ true) × (b ≡ true) × (c ≡ true)
+and_three true true true h = (refl, refl, refl)
+and_three true true false h = absurd (false≢true h)
+and_three true false c h = absurd (false≢true h)
+and_three false b c h = absurd (false≢true h)
+
+and_three_from : (a b c : Bool) → a ≡ true → b ≡ true → c ≡ true → (a && b && c) ≡ true
+and_three_from true true true p q r = refl
+and_three_from true true false p q r = absurd (false≢true r)
+and_three_from true false c p q r = absurd (false≢true q)
+and_three_from false b c p q r = absurd (false≢true p)
+
+meet_parts : (og : Bool) (x y : Access) (byte : ℕ) → (unordered og x y && share x y byte) ≡ true → Meet og x y byte
+meet_parts og x y byte h =
+    let r : (unordered og x y ≡ true) × (share x y byte ≡ true) = and_parts (unordered og x y) (share x y byte) h in
+    let u : (not (x.item == y.item) ≡ true) × ((not og || (x.interval == y.interval)) ≡ true)
+    = and_parts (not (x.item == y.item)) (not og || (x.interval == y.interval)) r.0 in
+    let s : (same_region x.region y.region ≡ true) × (covers x.first (byte_count x.width) byte ≡ true) × (covers y.first (byte_count y.width) byte ≡ true)
+    = and_three (same_region x.region y.region) (covers x.first (byte_count x.width) byte) (covers y.first (byte_count y.width) byte) r.1 in
+    record {
+      items = λ e. not_parts (x.item == y.item) true u.0 (eq-eqb x.item y.item e);
+      intervals = λ e. eqb-true x.interval y.interval (or_at og (x.interval == y.interval) u.1 e);
+      regions = same_region-true x.region y.region s.0;
+      first_covers = s.1;
+      second_covers = s.2;
+    }
+
+meet_from : (og : Bool) (x y : Access) (byte : ℕ) → Meet og x y byte → (unordered og x y && share x y byte) ≡ true
+meet_from og x y byte m =
+    and_from (unordered og x y) (share x y byte)
+    (and_from (not (x.item == y.item)) (not og || (x.interval == y.interval)) (not_made (x.item == y.item) (λ e. m.items (eqb-true x.item y.item e)))
+    (or_made og (x.interval == y.interval) (λ e. eq-eqb x.interval y.interval (m.intervals e))))
+    (and_three_from (same_region x.region y.region) (covers x.first (byte_count x.width) byte) (covers y.first (byte_count y.width) byte)
+    (ap (same_region x.region) (sym m.regions) ∙ same_region_self x.region) m.first_covers m.second_covers)
+
+abbrev pub one_group : Launch → Access → Access → Bool
+one_group l x y = group_of l x.item == group_of l y.item
+
+-- two accesses that meet without a conflict don't clash
+pub no_clash : (l : Launch) (x y : Access) (byte : ℕ) → conflict l x y byte ≡ None → Meet (one_group l x y) x y byte → clash x.kind y.kind ≡ None
+unfolding conflict conflict_between
+no_clash l x y byte h m = none_if (unordered (one_group l x y) x y && share x y byte) (clash x.kind y.kind) h (meet_from (one_group l x y) x y byte m)
+
+-- two accesses have no conflict if they don't clash where they meet
+pub no_conflict : (l : Launch) (x y : Access) (byte : ℕ) → (Meet (one_group l x y) x y byte → clash x.kind y.kind ≡ None) → conflict l x y byte ≡ None
+unfolding conflict conflict_between
+no_conflict l x y byte h = if_none (unordered (one_group l x y) x y && share x y byte) (clash x.kind y.kind) (λ e. h (meet_parts (one_group l x y) x y byte e))
+
+-- ---- both ways round
+
+same_class : (c d : Class) → (if class_number c == class_number d then None else Some Order) ≡ None → class_number c ≡ class_number d
+same_class c d h = go (class_number c == class_number d) refl h
+  where
+    go : (b : Bool) → (class_number c == class_number d) ≡ b → ◌≡◌ {A = Option Clash} (if b then None else Some Order) None → class_number c ≡ class_number d
+    go true e h = eqb-true (class_number c) (class_number d) e
+    go false e h = absurd (none_some Order (sym h))
+
+class_of : ℕ → Class
+class_of zero = class.Add
+class_of (suc zero) = class.And
+class_of (suc (suc zero)) = class.Or
+class_of (suc (suc (suc zero))) = class.Xor
+class_of (suc (suc (suc (suc zero)))) = class.SignedMin
+class_of (suc (suc (suc (suc (suc zero))))) = class.UnsignedMin
+class_of (suc (suc (suc (suc (suc (suc zero)))))) = class.SignedMax
+class_of (suc (suc (suc (suc (suc (suc (suc n))))))) = class.UnsignedMax
+
+class_of-number : (c : Class) → class_of (class_number c) ≡ c
+unfolding class_of
+class_of-number class.Add = refl
+class_of-number class.And = refl
+class_of-number class.Or = refl
+class_of-number class.Xor = refl
+class_of-number class.SignedMin = refl
+class_of-number class.UnsignedMin = refl
+class_of-number class.SignedMax = refl
+class_of-number class.UnsignedMax = refl
+
+clash_sym : (a b : AccessKind) → clash a b ≡ None → clash b a ≡ None
+clash_sym kind.Load kind.Load h = refl
+clash_sym kind.Load kind.Store h = absurd (none_some Race (sym h))
+clash_sym kind.Load (kind.Update d) h = absurd (none_some Race (sym h))
+clash_sym kind.Store b h = absurd (none_some Race (sym h))
+clash_sym (kind.Update c) kind.Load h = absurd (none_some Race (sym h))
+clash_sym (kind.Update c) kind.Store h = absurd (none_some Race (sym h))
+clash_sym (kind.Update c) (kind.Update d) h =
+    if_true (class_number d == class_number c) None (Some Order) (eq-eqb (class_number d) (class_number c) (sym (same_class c d h)))
+
+meet_sym : (l : Launch) (x y : Access) (byte : ℕ) → Meet (one_group l x y) x y byte → Meet (one_group l y x) y x byte
+meet_sym l x y byte m =
+    record {
+      items = λ e. m.items (sym e);
+      intervals =
+          λ e. sym (m.intervals (eq-eqb (group_of l x.item) (group_of l y.item) (sym (eqb-true (group_of l y.item) (group_of l x.item) e))));
+      regions = sym m.regions;
+      first_covers = m.second_covers;
+      second_covers = m.first_covers;
+    }
+
+pub conflict_sym : (l : Launch) (x y : Access) (byte : ℕ) → conflict l x y byte ≡ None → conflict l y x byte ≡ None
+conflict_sym l x y byte h = no_conflict l y x byte (λ m. clash_sym x.kind y.kind (no_clash l x y byte h (meet_sym l y x byte m)))
+
+pub no_conflict_self : (l : Launch) (x : Access) (byte : ℕ) → conflict l x x byte ≡ None
+no_conflict_self l x byte = no_conflict l x x byte (λ m. absurd (m.items refl))
+
+-- ---- two accesses of one state
+
+agree : (op op2 : Operation) → clash (kind_of op) (kind_of op2) ≡ None → Agree op op2
+agree (Load width) (Load width2) h = tt
+agree (Load width) (Store width2 value) h = absurd (none_some Race (sym h))
+agree (Load width) (Update d operand) h = absurd (none_some Race (sym h))
+agree (Store width value) op2 h = absurd (none_some Race (sym h))
+agree (Update c operand) (Load width) h = absurd (none_some Race (sym h))
+agree (Update c operand) (Store width value) h = absurd (none_some Race (sym h))
+agree (Update c operand) (Update d operand2) h = sym (class_of-number c) ∙ ap class_of (same_class c d h) ∙ class_of-number d
+
+-- what an item's access would be logged as
+abbrev pub entry_of : (l : Launch) (s : State) (i : ℕ) (t : State) → ItemStep l s i t → Access
+entry_of l s i t p = access_of l s i (region_for l i p.object) p.first p.operation
+
+-- two accesses of one state that have no conflict agree on each byte that both cover
+pub free_at :
+    (l : Launch) (s : State) (i : ℕ) (r : Region) (first : ℕ) (op : Operation) (j : ℕ) (r2 : Region) (first2 : ℕ) (op2 : Operation) → (i ≡ j → ⊥)
+    → ((byte : ℕ) → conflict l (access_of l s i r first op) (access_of l s j r2 first2 op2) byte ≡ None) → r ≡ r2 → Compatible op first op2 first2
+free_at l s i r first op j r2 first2 op2 ne calm same byte a b =
+    agree op op2
+    (no_clash l (access_of l s i r first op) (access_of l s j r2 first2 op2) byte (calm byte)
+    (record {
+      items = ne;
+      intervals = λ e. ap₂ (interval_of s) (eqb-true (group_of l i) (group_of l j) e) same;
+      regions = same;
+      first_covers = a;
+      second_covers = b;
+    }))
+
+-- so do the accesses of two events that are possible in it
+pub free_from :
+    (l : Launch) (s : State) (i : ℕ) (t : State) (j : ℕ) (u : State) (p : ItemStep l s i t) (q : ItemStep l s j u) → (i ≡ j → ⊥)
+    → ((byte : ℕ) → conflict l (entry_of l s i t p) (entry_of l s j u q) byte ≡ None) → Free l s i t j u p q
+free_from l s i t j u p q ne calm =
+    free_at l s i (region_for l i p.object) p.first p.operation j (region_for l j q.object) q.first q.operation ne calm
+
+-- ---- logs without conflicts
+
+-- no two accesses of a log conflict
+abbrev pub Harmless : Launch → List Access → Type 0
+Harmless l log = (x y : Access) (byte : ℕ) → Logged log x → Logged log y → conflict l x y byte ≡ None
+
+map_none : {A B : Type 0} (f : A → B) (o : Option A) → option_map f o ≡ None → o ≡ None
+map_none f None h = refl
+map_none f (Some a) h = absurd (none_some (f a) (sym h))
+
+on_byte : (l : Launch) (x : Access) (byte : ℕ) (log : List Access) → conflict_on (conflict l) x byte log ≡ None → (y : Access) → Logged log y → conflict l y x byte ≡ None
+on_byte l x byte (z ∷ log) h y w =
+    go w (or_else_none (conflict_on (conflict l) x byte log) (option_map (λ c. record { earlier = z; later = x; byte = byte; clash = c }) (conflict l z x byte)) h)
+    (on_byte l x byte log)
+  where
+    go :
+        (z ≡ y) ⊎ Logged log y
+        → (conflict_on (conflict l) x byte log ≡ None)
+        × (◌≡◌ {A = Option conflict_type.Conflict} (option_map (λ c. record { earlier = z; later = x; byte = byte; clash = c }) (conflict l z x byte)) None)
+        → (conflict_on (conflict l) x byte log ≡ None → (y : Access) → Logged log y → conflict l y x byte ≡ None) → conflict l y x byte ≡ None
+    go (inl e) r ih =
+        subst (λ a. conflict l a x byte ≡ None) e
+        (map_none {B = conflict_type.Conflict} (λ c. record { earlier = z; later = x; byte = byte; clash = c }) (conflict l z x byte) r.1)
+    go (inr v) r ih = ih r.0 y v
+on_byte l x byte [] h y w = absurd w
+
+from_byte :
+    (l : Launch) (x : Access) (log : List Access) (first count : ℕ) → conflict_from (conflict l) x log first count ≡ None → (y : Access) → Logged log y → (byte : ℕ)
+    → first ≤ byte → byte < first + count → conflict l y x byte ≡ None
+from_byte l x log first zero h y w byte a b = absurd (omega (arith, a, b))
+from_byte l x log first (suc count) h y w byte a b = go (cases_eq first byte) (or_else_none (conflict_on (conflict l) x first log) (conflict_from (conflict l) x log (suc first) count) h) (from_byte l x log (suc first) count)
+  where
+    go :
+        (first ≡ byte) ⊎ (first ≡ byte → ⊥)
+        → (conflict_on (conflict l) x first log ≡ None) × (conflict_from (conflict l) x log (suc first) count ≡ None)
+        → (conflict_from (conflict l) x log (suc first) count ≡ None → (y : Access) → Logged log y → (byte : ℕ) → suc first ≤ byte → byte < suc first + count → conflict l y x byte ≡ None)
+        → conflict l y x byte ≡ None
+    go (inl e) r ih = subst (λ k. conflict l y x k ≡ None) e (on_byte l x first log r.0 y w)
+    go (inr ne) r ih = ih r.1 y w byte (omega (arith, a, ne)) (omega (arith, b))
+
+-- an access without a conflict with an earlier one leaves a log without conflicts
+pub harmless_more :
+    (l : Launch) (x : Access) (log : List Access) → conflict_from (conflict l) x log x.first (byte_count x.width) ≡ None → Harmless l log → Harmless l (x ∷ log)
+harmless_more l x log h calm = both
+  where
+    with_earlier : (y : Access) (byte : ℕ) → Logged log y → conflict l y x byte ≡ None
+    with_earlier y byte w =
+        no_conflict l y x byte
+        (λ m.
+        let r : (x.first ≤ byte) × (byte < x.first + byte_count x.width) = covers_parts x.first (byte_count x.width) byte m.second_covers in
+        no_clash l y x byte (from_byte l x log x.first (byte_count x.width) h y w byte r.0 r.1) m)
+
+    both : (y z : Access) (byte : ℕ) → Logged (x ∷ log) y → Logged (x ∷ log) z → conflict l y z byte ≡ None
+    both y z byte (inl e) (inl d) = subst (λ a. conflict l a z byte ≡ None) e (subst (λ a. conflict l x a byte ≡ None) d (no_conflict_self l x byte))
+    both y z byte (inl e) (inr w) = subst (λ a. conflict l a z byte ≡ None) e (conflict_sym l z x byte (with_earlier z byte w))
+    both y z byte (inr v) (inl d) = subst (λ a. conflict l y a byte ≡ None) d (with_earlier y byte v)
+    both y z byte (inr v) (inr w) = calm y z byte v w

@@ -1,0 +1,115 @@
+-- One region of memory: its bytes, and what a load, a store and an atomic update do to them (OpenCL 1.2, 3.3 and 6.12.11).
+use Rattle.std.specs.Prelude.{◌≡◌, ℕ, zero, suc, ◌+◌, ◌-◌, ◌*◌, ◌/◌, ◌%◌, ◌^◌, min, max, Bool, true, false, ◌&&◌, nat_le, nat_lt, if◌then◌else◌, Option, None, Some, List, [], ◌∷◌, bit_and, bit_or, bit_xor}
+use Rattle.std.specs.Option.{option_map}
+use Rattle.clmodel.specs.declared.access.Width.{Width}
+use Rattle.clmodel.specs.declared.access.Width.TheVariants.{One, Two, Four, Eight}
+use Rattle.clmodel.specs.declared.access.Class.{Class}
+use Rattle.clmodel.specs.declared.access.Class.TheVariants as class
+use Rattle.clmodel.specs.declared.access.Operation.{Operation}
+use Rattle.clmodel.specs.declared.access.Operation.TheVariants.{Load, Store, Update}
+use Rattle.clmodel.specs.declared.action.Answer.{Answer}
+use Rattle.clmodel.specs.declared.action.Answer.TheVariants.{Value, Done}
+
+-- what a region has at each byte number: a byte, or None where it is unset
+abbrev pub Cells : Type 0
+Cells = ℕ → Option ℕ
+
+abbrev pub byte_count : Width → ℕ
+byte_count One = 1
+byte_count Two = 2
+byte_count Four = 4
+byte_count Eight = 8
+
+-- byte k of a number, the lowest first
+abbrev pub byte_of : ℕ → ℕ → ℕ
+byte_of k value = value / 256 ^ k % 256
+
+-- the number whose lowest byte is the first, if both are set
+abbrev pub joined : Option ℕ → Option ℕ → Option ℕ
+joined None high = None
+joined (Some low) None = None
+joined (Some low) (Some high) = Some (low + 256 * high)
+
+-- the little-endian number of `count` bytes, or None where one of them is unset
+abbrev pub number : Cells → ℕ → ℕ → Option ℕ
+number cells first zero = Some 0
+number cells first (suc count) = joined (cells first) (number cells (suc first) count)
+
+-- a byte that is there is not unset
+abbrev pub unset_or : Option ℕ → ℕ → Option ℕ → Option ℕ
+unset_or None byte rest = Some byte
+unset_or (Some _) byte rest = rest
+
+-- the lowest unset byte among `count` bytes
+abbrev pub lowest_unset : Cells → ℕ → ℕ → Option ℕ
+lowest_unset cells first zero = None
+lowest_unset cells first (suc count) = unset_or (cells first) first (lowest_unset cells (suc first) count)
+
+-- a byte is one of the `count` from `first` on
+abbrev pub covers : ℕ → ℕ → ℕ → Bool
+covers first count byte = nat_le first byte && nat_lt byte (first + count)
+
+-- the cells once the low `count` bytes of a value are written from `first` on
+unfoldable pub written : Cells → ℕ → ℕ → ℕ → Cells
+written cells first count value byte = if covers first count byte then Some (byte_of (byte - first) value) else cells byte
+
+-- a number of 32 bits as its place in the order of signed numbers, and back
+abbrev pub signed_place : ℕ → ℕ
+signed_place x = (x + 2 ^ 31) % 2 ^ 32
+
+-- what an update leaves of a number x of 32 bits
+unfoldable pub combined : Class → ℕ → ℕ → ℕ
+combined class.Add x v = (x + v) % 2 ^ 32
+combined class.And x v = bit_and x v % 2 ^ 32
+combined class.Or x v = bit_or x v % 2 ^ 32
+combined class.Xor x v = bit_xor x v % 2 ^ 32
+combined class.SignedMin x v = signed_place (min (signed_place x) (signed_place v))
+combined class.UnsignedMin x v = min (x % 2 ^ 32) (v % 2 ^ 32)
+combined class.SignedMax x v = signed_place (max (signed_place x) (signed_place v))
+combined class.UnsignedMax x v = max (x % 2 ^ 32) (v % 2 ^ 32)
+
+abbrev pub width_of : Operation → Width
+width_of (Load width) = width
+width_of (Store width _) = width
+width_of (Update _ _) = Four
+
+-- how many bytes an operation acts on
+abbrev pub size_of : Operation → ℕ
+size_of operation = byte_count (width_of operation)
+
+-- whether the bytes must be set
+abbrev pub reads : Operation → Bool
+reads (Load _) = true
+reads (Store _ _) = false
+reads (Update _ _) = true
+
+-- the answer of an access and the cells that it leaves
+pub record Outcome : Type 0 where
+  pub answer : Answer
+  pub cells : Cells
+
+-- the number that an operation finds, where it reads one, or None where one of its bytes is unset
+abbrev pub found : Operation → Cells → ℕ → Option ℕ
+found operation cells first = if reads operation then number cells first (size_of operation) else Some 0
+
+-- the answer to an operation that found a number
+abbrev pub answer_to : Operation → ℕ → Answer
+answer_to (Load _) x = Value x
+answer_to (Store _ _) x = Done
+answer_to (Update _ _) x = Done
+
+-- the cells that it leaves
+abbrev pub effect : Operation → ℕ → Cells → ℕ → Cells
+effect (Load _) x cells first = cells
+effect (Store width value) x cells first = written cells first (byte_count width) value
+effect (Update class operand) x cells first = written cells first 4 (combined class x operand)
+
+-- an operation at the bytes from `first` on, or None where it reads an unset one
+abbrev pub perform : Operation → Cells → ℕ → Option Outcome
+perform operation cells first = option_map (λ x. record { answer = answer_to operation x; cells = effect operation x cells first }) (found operation cells first)
+
+-- a listed region as cells
+abbrev pub cells_of : List (Option ℕ) → Cells
+cells_of [] byte = None
+cells_of (cell ∷ cells) zero = cell
+cells_of (cell ∷ cells) (suc byte) = cells_of cells byte

@@ -1,0 +1,98 @@
+-- A launch: what its items do next, which places there are, and what is kept of an access (OpenCL 1.2, 3.2 and 3.3).
+use Rattle.std.specs.Prelude.{◌≡◌, ℕ, ◌+◌, ◌*◌, ◌/◌, ◌==◌, ℤ, pos, negsuc, Bool, true, false, not, ◌&&◌, ◌||◌, nat_le, if◌then◌else◌, Option, None, Some, List, [], ◌∷◌, length, slice_index, slice_index_or}
+use Rattle.clmodel.specs.Cells.{byte_count, covers, size_of}
+use Rattle.clmodel.specs.declared.access.Class.{Class}
+use Rattle.clmodel.specs.declared.access.Class.TheVariants as class
+use Rattle.clmodel.specs.declared.access.AccessKind.{AccessKind}
+use Rattle.clmodel.specs.declared.access.AccessKind.TheVariants as kind
+use Rattle.clmodel.specs.declared.access.Object.{Object}
+use Rattle.clmodel.specs.declared.access.Object.TheVariants as object
+use Rattle.clmodel.specs.declared.access.Region.{Region}
+use Rattle.clmodel.specs.declared.access.Region.TheVariants as region
+use Rattle.clmodel.specs.declared.access.Operation.{Operation}
+use Rattle.clmodel.specs.declared.access.Operation.TheVariants as operation
+use Rattle.clmodel.specs.declared.access.Access.{Access}
+use Rattle.clmodel.specs.declared.access.Clash.{Clash}
+use Rattle.clmodel.specs.declared.access.Clash.TheVariants.{Race, Order}
+use Rattle.clmodel.specs.declared.action.Action.{Action}
+use Rattle.clmodel.specs.declared.action.Answer.{Answer}
+use Rattle.clmodel.specs.declared.fault.Location.{Location}
+use Rattle.clmodel.specs.declared.fault.Location.TheVariants as location
+
+-- A launch of `items` items, `group_size` to a group. `next` gives an item's action once the listed answers are used up, one
+-- for each earlier action. The names are those that a reply gives to buffers, to local objects, and to what the source names.
+pub record Launch : Type 0 where
+  pub items : ℕ
+  pub group_size : ℕ
+  pub buffers : List (List ℕ)
+  pub local_sizes : List ℕ
+  pub next : ℕ → List Answer → Action
+  pub buffer_names : List (List ℕ)
+  pub local_names : List (List ℕ)
+  pub source_names : List (List ℕ)
+
+abbrev pub same_region : Region → Region → Bool
+same_region (region.Buffer a) (region.Buffer b) = a == b
+same_region (region.Buffer a) (region.Local h b) = false
+same_region (region.Local g a) (region.Buffer b) = false
+same_region (region.Local g a) (region.Local h b) = (g == h) && (a == b)
+
+-- the region that an object is for the items of a group
+abbrev pub region_of : ℕ → Object → Region
+region_of group (object.Buffer number) = region.Buffer number
+region_of group (object.Local number) = region.Local group number
+
+-- how many bytes a region has
+abbrev pub bytes_of : Launch → Region → ℕ
+bytes_of launch (region.Buffer number) = length (slice_index_or launch.buffers number [])
+bytes_of launch (region.Local group number) = slice_index launch.local_sizes number
+
+-- where a region lies, as a reply names it
+abbrev pub location_of : Launch → Region → Location
+location_of launch (region.Buffer number) = location.Buffer (slice_index_or launch.buffer_names number [])
+location_of launch (region.Local group number) = location.Local group (slice_index_or launch.local_names number [])
+
+-- the first byte of an element of so many bytes, or None where the element is out of range
+abbrev pub first_byte : ℕ → ℤ → ℕ → Option ℕ
+first_byte bytes (pos element) count = if nat_le ((element + 1) * count) bytes then Some (element * count) else None
+first_byte bytes (negsuc _) count = None
+
+abbrev pub kind_of : Operation → AccessKind
+kind_of (operation.Load _) = kind.Load
+kind_of (operation.Store _ _) = kind.Store
+kind_of (operation.Update class _) = kind.Update class
+
+abbrev pub class_number : Class → ℕ
+class_number class.Add = 0
+class_number class.And = 1
+class_number class.Or = 2
+class_number class.Xor = 3
+class_number class.SignedMin = 4
+class_number class.UnsignedMin = 5
+class_number class.SignedMax = 6
+class_number class.UnsignedMax = 7
+
+-- How two kinds conflict: loads don't, nor updates of one class; updates of two classes leave what depends on their order.
+abbrev pub clash : AccessKind → AccessKind → Option Clash
+clash kind.Load kind.Load = None
+clash (kind.Update c) (kind.Update d) = if class_number c == class_number d then None else Some Order
+clash _ _ = Some Race
+
+abbrev pub group_of : Launch → ℕ → ℕ
+group_of launch item = item / launch.group_size
+
+-- two accesses of different items that no barrier orders, of one group or of two
+abbrev pub unordered : Bool → Access → Access → Bool
+unordered one_group x y = not (x.item == y.item) && (not one_group || (x.interval == y.interval))
+
+-- both are at this byte
+abbrev pub share : Access → Access → ℕ → Bool
+share x y byte = same_region x.region y.region && covers x.first (byte_count x.width) byte && covers y.first (byte_count y.width) byte
+
+-- how two accesses of one group, or of two, conflict on a byte, if they do
+unfoldable pub conflict_between : Bool → Access → Access → ℕ → Option Clash
+conflict_between one_group x y byte = if unordered one_group x y && share x y byte then clash x.kind y.kind else None
+
+-- how two accesses of a launch conflict on a byte, if they do
+unfoldable pub conflict : Launch → Access → Access → ℕ → Option Clash
+conflict launch x y = conflict_between (group_of launch x.item == group_of launch y.item) x y

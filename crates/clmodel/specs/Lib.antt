@@ -1,0 +1,10 @@
+pub mod Tree
+pub mod Cells
+pub mod Launch
+pub mod Run
+pub mod Law
+pub mod BuiltIns
+pub mod Setup
+pub mod Next
+pub mod Typing
+pub mod Plain

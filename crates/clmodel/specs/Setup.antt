@@ -1,0 +1,66 @@
+-- What a launch runs: a kernel of a program with a range, arguments and a budget (OpenCL 1.2, 3.2 and 6.7).
+use Rattle.std.specs.Prelude.{◌≡◌, ℕ, ◌*◌, ◌/◌, ◌%◌, ◌==◌, suc, Bool, true, false, ◌&&◌, not, if◌then◌else◌, Option, None, Some, List, [], ◌∷◌, ◌++◌, map, slice_index, slice_index_or, nat_eq}
+use Rattle.std.specs.List.{list_any}
+use Rattle.std.specs.Cmp.Lexicographic.{pointwise}
+use Rattle.clmodel.specs.Tree.{Program, Func, Funcs, NoFunc, ThenFunc}
+use Rattle.clmodel.specs.declared.setup.Range.{Range}
+use Rattle.clmodel.specs.declared.setup.Argument.{Argument}
+use Rattle.clmodel.specs.declared.setup.Argument.TheVariants as argument
+
+-- a kernel by its name's number, with an argument for each parameter, or None where it was not given
+pub record Setup : Type 0 where
+  pub program : Program
+  pub kernel : ℕ
+  pub range : Range
+  pub arguments : List (Option Argument)
+  pub budget : ℕ
+
+abbrev pub product : List ℕ → ℕ
+product [] = 1
+product (n ∷ ns) = n * product ns
+
+-- how many items a launch has, and how many a group
+abbrev pub item_count : Range → ℕ
+item_count range = product range.global
+
+abbrev pub group_items : Range → ℕ
+group_items range = product range.local
+
+-- a number as one digit for each size, the lowest first
+abbrev pub digits : ℕ → List ℕ → List ℕ
+digits n [] = []
+digits n (size ∷ sizes) = n % size ∷ digits (n / size) sizes
+
+-- an item's local id in a dimension, 0 where there is no such dimension
+abbrev pub local_id : Range → ℕ → ℕ → ℕ
+local_id range item dimension = slice_index (digits (item % group_items range) range.local) dimension
+
+-- two names are the same text
+abbrev pub same_text : List ℕ → List ℕ → Bool
+same_text = pointwise nat_eq
+
+-- names with one more at the end, if it isn't there
+abbrev pub with_name : List (List ℕ) → List ℕ → List (List ℕ)
+with_name names name = if list_any (same_text name) names then names else names ++ name ∷ []
+
+-- the buffers that arguments name, each once, behind others
+abbrev pub names_among : List (List ℕ) → List (Option Argument) → List (List ℕ)
+names_among names [] = names
+names_among names (Some (argument.Buffer name) ∷ arguments) = names_among (with_name names name) arguments
+names_among names (Some (argument.Value _) ∷ arguments) = names_among names arguments
+names_among names (Some (argument.Local _) ∷ arguments) = names_among names arguments
+names_among names (None ∷ arguments) = names_among names arguments
+
+-- the launch's buffers, in the order of the first arguments that name them
+abbrev pub buffer_names : Setup → List (List ℕ)
+buffer_names setup = names_among [] setup.arguments
+
+-- the place of a name among others
+abbrev pub place_of : List (List ℕ) → List ℕ → ℕ
+place_of [] name = 0
+place_of (other ∷ others) name = if same_text name other then 0 else suc (place_of others name)
+
+-- the kernel of a name
+abbrev pub kernel_in : Funcs → ℕ → Option Func
+kernel_in NoFunc name = None
+kernel_in (ThenFunc fs f) name = if f.is_kernel && (f.name == name) then Some f else kernel_in fs name

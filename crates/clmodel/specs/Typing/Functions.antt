@@ -1,0 +1,59 @@
+-- The rules and the faults of functions and of programs (OpenCL 1.2, 6.7.1 and 6.9; C99 6.9).
+use Rattle.std.specs.Prelude.{◌≡◌, ℕ, Bool, true, false, not, ◌&&◌, List, [], ◌∷◌, ◌++◌}
+use Rattle.clmodel.specs.declared.tree.Parameter.{Parameter}
+use Rattle.clmodel.specs.declared.type_fault.TypeFault.{TypeFault}
+use Rattle.clmodel.specs.declared.type_fault.TypeFault.TheVariants as fault
+use Rattle.clmodel.specs.Tree.{Func, Funcs, NoFunc, ThenFunc, Program}
+use Rattle.clmodel.specs.Typing.Context.{Context, among, is_reserved, is_free, bind}
+use Rattle.clmodel.specs.Typing.Least.{Places}
+use Rattle.clmodel.specs.Typing.Rules.{AreTyped}
+use Rattle.clmodel.specs.Typing.Faults.{unless, row_faults}
+
+-- names of functions, in the order of the text
+abbrev pub names : Funcs → List ℕ
+names NoFunc = []
+names (ThenFunc fs f) = names fs ++ f.name ∷ []
+
+-- where a function's text begins, with these before it
+abbrev pub begin : List ℕ → Funcs → Func → Context
+begin all fs f = record { all = all; begun = names fs ++ f.name ∷ []; scope = [] }
+
+abbrev pub with_params : Context → List Parameter → Context
+with_params c [] = c
+with_params c (p ∷ ps) = with_params (bind c p.name p.kind) ps
+
+-- each parameter has a name that is free
+abbrev pub AreParams : Context → List Parameter → Type 0
+AreParams c [] = Unit {0}
+AreParams c (p ∷ ps) = (is_free c p.name ≡ true) × AreParams (bind c p.name p.kind) ps
+
+-- a name for a function, with these before it
+abbrev pub is_new : Funcs → ℕ → Bool
+is_new fs x = not (is_reserved x) && not (among x (names fs))
+
+-- A function with these before it.
+pub record IsTypedFunction (all : List ℕ) (fs : Funcs) (f : Func) : Type 0 where
+  pub kernel : f.is_kernel ≡ true
+  pub name : is_new fs f.name ≡ true
+  pub parameters : AreParams (begin all fs f) f.parameters
+  pub body : AreTyped (with_params (begin all fs f) f.parameters) f.body
+
+abbrev pub AreTypedFunctions : List ℕ → Funcs → Type 0
+AreTypedFunctions all NoFunc = Unit {0}
+AreTypedFunctions all (ThenFunc fs f) = AreTypedFunctions all fs × IsTypedFunction all fs f
+
+abbrev pub params_faults : Context → List Parameter → Places
+params_faults c [] = []
+params_faults c (p ∷ ps) = unless (is_free c p.name) (fault.Redeclared p.name_at) ∷ params_faults (bind c p.name p.kind) ps
+
+abbrev pub function_faults : List ℕ → Funcs → Func → Places
+function_faults all fs f =
+    (unless (is_new fs f.name) (fault.Redeclared f.name_at) ++ unless f.is_kernel (fault.TypeMismatch f.name_at))
+    ∷ (params_faults (begin all fs f) f.parameters ++ row_faults (with_params (begin all fs f) f.parameters) f.body)
+
+abbrev pub functions_faults : List ℕ → Funcs → Places
+functions_faults all NoFunc = []
+functions_faults all (ThenFunc fs f) = functions_faults all fs ++ function_faults all fs f
+
+abbrev pub program_faults : Program → Places
+program_faults p = functions_faults (names p.functions) p.functions

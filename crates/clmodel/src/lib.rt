@@ -1,0 +1,16 @@
+//! The model: what a launch is, what its work-items may do, and what the device promises of it.
+#![tactic(auto)]
+
+pub mod access;
+pub mod action;
+pub mod determinacy;
+pub mod fault;
+pub mod next_laws;
+pub mod operand;
+pub mod plain;
+pub mod run_laws;
+pub mod schedule;
+pub mod setup;
+pub mod text;
+pub mod tree;
+pub mod type_fault;

@@ -1,0 +1,20 @@
+//! Values of expressions.
+#![tactic(auto)]
+
+use crate::access::Object;
+use clnum::{IntType, Value};
+
+/// A pointer to elements of a type, so many elements behind an object's start.
+#[derive(Clone, Copy, Debug, PartialEq, Eq)]
+pub struct Pointer {
+    pub object: Object,
+    pub element: IntType,
+    pub offset: i64,
+}
+
+/// The value of an expression: a whole number or a pointer.
+#[derive(Clone, Copy, Debug, PartialEq, Eq)]
+pub enum Operand {
+    Integral(Value),
+    Pointed(Pointer),
+}

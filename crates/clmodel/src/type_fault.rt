@@ -1,0 +1,34 @@
+//! Why a syntax tree is no typed program.
+#![tactic(auto)]
+
+/// A fault of a tree's types (OpenCL 1.2, sections 6.1 to 6.12). Each has the byte number of the name, expression, statement or number
+/// that it is about, but want of memory.
+#[derive(Clone, Copy, Debug, PartialEq, Eq)]
+pub enum TypeFault {
+    /// 1: a name that isn't in scope
+    UnknownName { at: u32 },
+    /// 2: a name declared again in its scope, or one that can't be declared
+    Redeclared { at: u32 },
+    /// 3: an operand, condition, argument or value of a wrong kind
+    TypeMismatch { at: u32 },
+    /// 4: a store to what is constant
+    NotAssignable { at: u32 },
+    /// 5: a call of a function in its own body
+    Recursion { at: u32 },
+    /// 6: a call with too few or too many arguments
+    WrongArgumentCount { at: u32 },
+    /// 7: a pointer of another address space than wanted
+    WrongSpace { at: u32 },
+    /// 8: an argument of `barrier` that names no fences
+    BadBarrierFlags { at: u32 },
+    /// 9: an atomic call that isn't a whole statement
+    AtomicValueUsed { at: u32 },
+    /// 10: loops nested too deep
+    TooManyLoops { at: u32 },
+    /// 11: an array or a kernel that is too large
+    TooLarge { at: u32 },
+    /// 12: a function with a result that doesn't always return
+    MissingReturn { at: u32 },
+    /// 13
+    OutOfMemory,
+}

@@ -1,0 +1,4 @@
+pub mod Integer
+pub mod Conversions
+pub mod Operations
+pub mod Builtins

@@ -1,0 +1,16 @@
+//! The whole numbers of OpenCL C: integer types, their values and the operators on them.
+#![tactic(auto)]
+
+mod builtins;
+mod int_type;
+mod operations;
+mod operators;
+#[cfg(test)]
+mod tests;
+mod values;
+
+pub use builtins::builtin;
+pub use int_type::IntType;
+pub use operations::{binary, convert, unary};
+pub use operators::{ArithFault, BinaryOperator, Builtin, UnaryOperator};
+pub use values::Value;

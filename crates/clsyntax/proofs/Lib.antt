@@ -1,0 +1,13 @@
+pub mod Moves
+pub mod Levels
+pub mod Complete
+pub mod Stands
+pub mod SoundExpressions
+pub mod Sound
+pub mod Ends
+pub mod ReadingLaws
+pub mod Lists
+pub mod Loop
+pub mod ParseLaws
+pub mod Unique
+pub mod SourceLaws

@@ -1,0 +1,28 @@
+-- What a source's bytes stand for.
+use Rattle.std.proofs.Common.{◌≡◌, ◌≢◌, ℕ, List, Result, Ok, Err, sym, ◌∙◌, ap, subst}
+use Rattle.clmodel.specs.Tree.{Program}
+use Rattle.clsyntax_lex.specs.declared.token.SyntaxFault.{SyntaxFault}
+use Rattle.clsyntax_lex.specs.declared.token.SyntaxFault.TheVariants.{BadByte, NumberTooLarge, Unexpected, TooDeep, TooLong, OutOfMemory}
+use Rattle.clsyntax_lex.specs.Tokens.{Text}
+use Rattle.clsyntax_lex.specs.Lexing.{Lexes}
+use Rattle.clsyntax.specs.Correct.{IsReading, UnlessMemory}
+use Rattle.clsyntax.specs.Source.{IsSource, read, refused, IsOneSource}
+use Rattle.clsyntax.proofs.Unique.{one_reading}
+
+pub one_source : IsOneSource
+one_source source a b (read {text = text} l h) (read {text = other} m k) =
+    let same : Ok text ≡ Ok other = sym l ∙ m in
+    let texts : text ≡ other = cc in
+    let R : Text → Type 0 = λ x. IsReading x a in
+    one_reading other a b (subst R texts h) k
+one_source source a b (read {text = text} l h) (refused {fault = fault} m) = let clash : Ok text ≡ Err fault = sym l ∙ m in absurd cc
+one_source source a b (refused {fault = fault} l) (read {text = other} m k) = let clash : Err fault ≡ Ok other = sym l ∙ m in absurd cc
+one_source source a b (refused {fault = fault} l) (refused {fault = other} m) = let f : Err fault ≡ Err other = sym l ∙ m in let same : fault ≡ other = cc in ap Err same
+
+pub refused_unless : (source : List ℕ) (fault : SyntaxFault) → (fault ≢ OutOfMemory → Lexes source (Err fault)) → UnlessMemory fault (IsSource source (Err fault))
+refused_unless source (BadByte at) h = refused (h (λ e. cc))
+refused_unless source (NumberTooLarge at) h = refused (h (λ e. cc))
+refused_unless source (Unexpected at) h = refused (h (λ e. cc))
+refused_unless source (TooDeep at) h = refused (h (λ e. cc))
+refused_unless source (TooLong at) h = refused (h (λ e. cc))
+refused_unless source OutOfMemory h = tt

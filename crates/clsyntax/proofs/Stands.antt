@@ -1,0 +1,139 @@
+-- What the machine holds stands for the tokens that were read.
+use Rattle.std.proofs.Common.{◌≡◌, ℕ, suc, ◌+◌, ◌≤◌, ◌<◌, List, [], ◌∷◌, Bool, true, false, Option, Some, None, cond, refl, sym, subst, arith}
+use Rattle.std.specs.Prelude.{nat_lt}
+use Rattle.std.proofs.lemmas.Bool.{ltb-true, ltb-false}
+use Rattle.clnum.specs.declared.int_type.IntType.{IntType}
+use Rattle.clnum.specs.declared.int_type.IntType.TheVariants.{Int}
+use Rattle.clmodel.specs.declared.tree.InfixOperator.{InfixOperator}
+use Rattle.clmodel.specs.declared.tree.AddressSpace.{AddressSpace}
+use Rattle.clmodel.specs.declared.tree.AddressSpace.TheVariants.{Global}
+use Rattle.clmodel.specs.declared.tree.Parameter.{Parameter}
+use Rattle.clmodel.specs.Tree.{Term, Variable, Element, ElementAddress, Call, Binary, Terms, NoTerm, ThenTerm, Place, Part, Stmt, Assign, CallOnly, Stmts, NoStmt, ThenStmt, Funcs, ThenFunc}
+use Rattle.clsyntax_lex.specs.declared.token.Token.{Token}
+use Rattle.clsyntax_lex.specs.declared.token.TokenKind.{TokenKind}
+use Rattle.clsyntax_lex.specs.declared.token.TokenKind.TheVariants as kinds
+use Rattle.clsyntax.specs.Grammar.{Placed, put, start, Head, kernel, pointer_parameter, infix_of, level, Expr, Arguments, Target, Statement, Items, Parameters, Heading, Program, Reads, number, variable, element, address, bare_call, call, round, binary, one_argument, next_argument, part, assign, bare_call_only, call_only, no_items, item, pointer, first_parameter, next_parameter, bare_heading, heading, no_functions, function}
+use Rattle.clsyntax.specs.Machine.{Frame, After, InRound, InElement, InAddress, InCall, InPart, InAssign, InItems, InBody, InHead, InProgram, Mode, Operand, Have, Named, AfterAnd, AndName, CallOpen, Item, BeginName, Aimed, Ended, Did, Top, AfterKernel, AfterVoid, AfterName, HeadOpen, WantParameter, AfterSpace, AfterType, AfterStar, AfterParameter, HeadDone, State, in_mode, Moved, Folded, folded, close, on_operand, on_close_round, on_comma, on_close_square, on_semicolon, end_expression, close_call, after_operand, on_close_brace, on_item, on_parameter_name, on_open_brace, add_parameter, step, begun}
+use Rattle.clsyntax.proofs.Moves.{Runs, stop, onward}
+use Rattle.clsyntax.proofs.Levels.{reach, no_less}
+use Rattle.clsyntax.proofs.Complete.{head_of}
+
+-- what the innermost frame waits for, and its nesting
+pub data Need : Type 0 where
+  AnExpr : (n : ℕ) → Need
+  SomeArguments : (n : ℕ) → Need
+  AStatement : (n : ℕ) → Need
+  SomeItems : (n : ℕ) → Need
+  ABody : Need
+  AHead : Need
+  AParameter : Need
+  AfterOne : Need
+  AFunction : Need
+
+-- the tokens with which a kernel begins
+abbrev pub opening : (a b c d x : ℕ) → List Placed → List Placed
+opening a b c d x ps = put 0 kinds.Kernel a ∷ put 0 kinds.Void b ∷ put 0 (kinds.Name x) c ∷ put 0 kinds.OpenRound d ∷ ps
+
+-- a call is an operand or a statement
+abbrev pub call_need : Bool → ℕ → Need
+call_need false n = AnExpr n
+call_need true n = AStatement n
+
+-- the arguments before the next
+pub data ArgumentsSoFar : ℕ → Terms → List Placed → List Placed → Type 0 where
+  none_yet : {n : ℕ} {ps : List Placed} → ArgumentsSoFar n NoTerm ps ps
+  some_yet : {n b : ℕ} {es : Terms} {ps qs : List Placed} → Reads (Arguments n es) ps (put (suc n) kinds.Comma b ∷ qs) → ArgumentsSoFar n es ps qs
+
+pub arguments_then : {n m : ℕ} {es : Terms} {e : Term} {ps qs rs : List Placed} → ArgumentsSoFar n es ps qs → Reads (Expr 0 (suc n) e m) qs rs → Reads (Arguments n (ThenTerm es e)) ps rs
+arguments_then none_yet r = one_argument r
+arguments_then (some_yet q) r = next_argument q r
+
+-- Stands w need fs qs: the frames stand for the tokens of w before qs, where what they need may begin.
+pub data Stands : List Placed → Need → List Frame → List Placed → Type 0 where
+  in_program : {w qs : List Placed} {done : Funcs} → Reads (Program done) w qs → Stands w AFunction (InProgram done ∷ []) qs
+  in_head : {w qs : List Placed} {fs : List Frame} {a b c d x : ℕ} → Stands w AFunction fs (opening a b c d x qs) → Stands w AHead (InHead (head_of c x []) ∷ fs) qs
+  first : {w qs : List Placed} {fs : List Frame} {a b c d x : ℕ} → Stands w AFunction fs (opening a b c d x qs) → Stands w AParameter (InHead (head_of c x []) ∷ fs) qs
+  next : {w ps qs : List Placed} {fs : List Frame} {xs : List Parameter} {a b c d g x : ℕ}
+      → Stands w AFunction fs (opening a b c d x ps) → Reads (Parameters xs) ps (put 1 kinds.Comma g ∷ qs) → Stands w AParameter (InHead (head_of c x xs) ∷ fs) qs
+  after_one : {w ps qs : List Placed} {fs : List Frame} {xs : List Parameter} {a b c d x : ℕ}
+      → Stands w AFunction fs (opening a b c d x ps) → Reads (Parameters xs) ps qs → Stands w AfterOne (InHead (head_of c x xs) ∷ fs) qs
+  head_read : {w ps qs : List Placed} {fs : List Frame} {h : Head} → Stands w AFunction fs ps → Reads (Heading h) ps qs → Stands w ABody (InHead h ∷ fs) qs
+  in_body : {w ps qs : List Placed} {fs : List Frame} {h : Head} {a : ℕ} → Stands w AFunction fs ps → Reads (Heading h) ps (put 0 kinds.OpenBrace a ∷ qs) → Stands w (SomeItems 1) (InBody h a ∷ fs) qs
+  in_items : {w ps qs : List Placed} {fs : List Frame} {n : ℕ} {ss : Stmts} → Stands w (SomeItems n) fs ps → Reads (Items n ss) ps qs → Stands w (AStatement n) (InItems n ss ∷ fs) qs
+  in_part : {w qs : List Placed} {fs : List Frame} {n a b x : ℕ} → Stands w (AStatement n) fs (put n (kinds.Name x) a ∷ put n kinds.OpenSquare b ∷ qs) → Stands w (AnExpr (suc n)) (InPart a x n ∷ fs) qs
+  in_after : {w ps qs : List Placed} {fs : List Frame} {n m b : ℕ} {k : TokenKind} {op : InfixOperator} {d : Term}
+      → Stands w (AnExpr n) fs ps → reach fs ≤ level op → infix_of k ≡ Some op → Reads (Expr (level op) n d m) ps (put m k b ∷ qs) → Stands w (AnExpr (suc m)) (After (start ps) op d ∷ fs) qs
+  in_round : {w qs : List Placed} {fs : List Frame} {n a : ℕ} → Stands w (AnExpr n) fs (put n kinds.OpenRound a ∷ qs) → Stands w (AnExpr (suc n)) (InRound a n ∷ fs) qs
+  in_element : {w qs : List Placed} {fs : List Frame} {n a b x : ℕ} → Stands w (AnExpr n) fs (put n (kinds.Name x) a ∷ put n kinds.OpenSquare b ∷ qs) → Stands w (AnExpr (suc n)) (InElement a x n ∷ fs) qs
+  in_address : {w qs : List Placed} {fs : List Frame} {n a b c x : ℕ}
+      → Stands w (AnExpr n) fs (put n kinds.And a ∷ put (suc n) (kinds.Name x) b ∷ put (suc n) kinds.OpenSquare c ∷ qs) → Stands w (AnExpr (suc (suc n))) (InAddress a b x (suc n) ∷ fs) qs
+  call_open : {w qs : List Placed} {fs : List Frame} {u : Bool} {n a b x : ℕ} → Stands w (call_need u n) fs (put n (kinds.Name x) a ∷ put n kinds.OpenRound b ∷ qs) → Stands w (SomeArguments (suc n)) (InCall u a x n NoTerm ∷ fs) qs
+  in_call : {w ps qs : List Placed} {fs : List Frame} {u : Bool} {n a b x : ℕ} {es : Terms}
+      → Stands w (call_need u n) fs (put n (kinds.Name x) a ∷ put n kinds.OpenRound b ∷ ps) → ArgumentsSoFar n es ps qs → Stands w (AnExpr (suc n)) (InCall u a x n es ∷ fs) qs
+  in_assign : {w ps qs : List Placed} {fs : List Frame} {n b : ℕ} {t : Place} → Stands w (AStatement n) fs ps → Reads (Target n t) ps (put n kinds.Assign b ∷ qs) → Stands w (AnExpr n) (InAssign (start ps) n t ∷ fs) qs
+
+-- an expression was read
+pub data HasExpr (w : List Placed) (m : ℕ) : (from : ℕ) → Term → List Frame → List Placed → Type 0 where
+  has_expr : {ps qs : List Placed} {fs : List Frame} {n : ℕ} {e : Term} → Stands w (AnExpr n) fs ps → ((l : ℕ) → Reads (Expr l n e m) ps qs) → HasExpr w m (start ps) e fs qs
+
+pub data HasTarget (w : List Placed) (n : ℕ) : (from : ℕ) → Place → List Frame → List Placed → Type 0 where
+  has_target : {ps qs : List Placed} {fs : List Frame} {t : Place} → Stands w (AStatement n) fs ps → Reads (Target n t) ps qs → HasTarget w n (start ps) t fs qs
+
+pub record HasStatement (w : List Placed) (n : ℕ) (s : Stmt) (fs : List Frame) (qs : List Placed) : Type 0 where
+  pub from : List Placed
+  pub stands : Stands w (AStatement n) fs from
+  pub reads : Reads (Statement n s) from qs
+
+-- a statement was read but its semicolon
+pub record HasEnded (w : List Placed) (n : ℕ) (s : Stmt) (fs : List Frame) (qs : List Placed) : Type 0 where
+  pub from : List Placed
+  pub stands : Stands w (AStatement n) fs from
+  pub closes : (d : ℕ) (rest : List Placed) → qs ≡ put n kinds.Semicolon d ∷ rest → Reads (Statement n s) from rest
+
+pub data HasAnd (w : List Placed) : (k a : ℕ) → List Frame → List Placed → Type 0 where
+  has_and : {qs : List Placed} {fs : List Frame} {n a : ℕ} → Stands w (AnExpr n) fs (put n kinds.And a ∷ qs) → HasAnd w (suc n) a fs qs
+
+pub data HasAndName (w : List Placed) : (k a b x : ℕ) → List Frame → List Placed → Type 0 where
+  has_and_name : {qs : List Placed} {fs : List Frame} {n a b x : ℕ} → Stands w (AnExpr n) fs (put n kinds.And a ∷ put (suc n) (kinds.Name x) b ∷ qs) → HasAndName w (suc n) a b x fs qs
+
+abbrev pub GoodIn : List Placed → Mode → List Frame → List Placed → Type 0
+GoodIn w (Operand n) fs qs = Stands w (AnExpr n) fs qs
+GoodIn w (Have n from e) fs qs = HasExpr w n from e fs qs
+GoodIn w (Named n a x) fs qs = Stands w (AnExpr n) fs (put n (kinds.Name x) a ∷ qs)
+GoodIn w (AfterAnd k a) fs qs = HasAnd w k a fs qs
+GoodIn w (AndName k a b x) fs qs = HasAndName w k a b x fs qs
+GoodIn w (CallOpen k) fs qs = Stands w (SomeArguments k) fs qs
+GoodIn w (Item n) fs qs = Stands w (AStatement n) fs qs
+GoodIn w (BeginName n a x) fs qs = Stands w (AStatement n) fs (put n (kinds.Name x) a ∷ qs)
+GoodIn w (Aimed n a t) fs qs = HasTarget w n a t fs qs
+GoodIn w (Ended n s) fs qs = HasEnded w n s fs qs
+GoodIn w (Did n s) fs qs = HasStatement w n s fs qs
+GoodIn w Top fs qs = Stands w AFunction fs qs
+GoodIn w AfterKernel fs qs = (a : ℕ) × Stands w AFunction fs (put 0 kinds.Kernel a ∷ qs)
+GoodIn w AfterVoid fs qs = (a : ℕ) × (b : ℕ) × Stands w AFunction fs (put 0 kinds.Kernel a ∷ put 0 kinds.Void b ∷ qs)
+GoodIn w (AfterName c x) fs qs = (a : ℕ) × (b : ℕ) × Stands w AFunction fs (put 0 kinds.Kernel a ∷ put 0 kinds.Void b ∷ put 0 (kinds.Name x) c ∷ qs)
+GoodIn w HeadOpen fs qs = Stands w AHead fs qs
+GoodIn w WantParameter fs qs = Stands w AParameter fs qs
+GoodIn w AfterSpace fs qs = (a : ℕ) × Stands w AParameter fs (put 1 (kinds.Space Global) a ∷ qs)
+GoodIn w AfterType fs qs = (a : ℕ) × (b : ℕ) × Stands w AParameter fs (put 1 (kinds.Space Global) a ∷ put 1 (kinds.Type Int) b ∷ qs)
+GoodIn w AfterStar fs qs = (a : ℕ) × (b : ℕ) × (c : ℕ) × Stands w AParameter fs (put 1 (kinds.Space Global) a ∷ put 1 (kinds.Type Int) b ∷ put 1 kinds.Star c ∷ qs)
+GoodIn w AfterParameter fs qs = Stands w AfterOne fs qs
+GoodIn w HeadDone fs qs = Stands w ABody fs qs
+
+abbrev pub Good : List Placed → State → List Placed → Type 0
+Good w s qs = GoodIn w s.mode s.frames qs
+
+-- A move from what P says of its nesting leads to a good state.
+abbrev pub KeepsFrom : List Placed → List Placed → (ℕ → Type 0) → Moved → Type 0
+KeepsFrom w qs P None = Unit {0}
+KeepsFrom w qs P (Some x) = P x.0 → Good w x.1 qs
+
+abbrev pub Keeps : List Placed → Mode → List Frame → Token → List Placed → Moved → Type 0
+Keeps w m fs t qs x = KeepsFrom w qs (λ k. GoodIn w m fs (record { nesting = k; token = t } ∷ qs)) x
+
+abbrev pub Safe : Mode → List Frame → TokenKind → Type 0
+Safe m fs kind = (w qs : List Placed) (a : ℕ) → let t : Token = record { kind = kind; at = a } in Keeps w m fs t qs (step (in_mode m fs) t)
+
+pub kept : (w qs : List Placed) (P Q : ℕ → Type 0) (x : Moved) → ((k : ℕ) → Q k → P k) → KeepsFrom w qs P x → KeepsFrom w qs Q x
+kept w qs P Q None f h = tt
+kept w qs P Q (Some x) f h = λ g. h (f x.0 g)

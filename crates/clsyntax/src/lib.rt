@@ -1,0 +1,53 @@
+//! From the tokens of a source to its syntax tree.
+#![tactic(auto)]
+
+ghost use Rattle.std.specs.Prelude.{Result};
+ghost use Rattle.clmodel.specs.Tree.{Program};
+ghost use Rattle.clsyntax_lex.specs.declared.token.SyntaxFault.{SyntaxFault};
+ghost use Rattle.clsyntax.specs.Correct.{IsReading, IsOne, GivesAs, Gives};
+ghost use Rattle.clsyntax.specs.Source.{IsSource, IsOneSource};
+
+mod expressions;
+mod heads;
+mod machine;
+mod operators;
+mod parser;
+mod state;
+mod statements;
+#[cfg(test)]
+mod tests;
+
+use crate::parser::{copies, functions_of};
+use clmodel::tree::Tree;
+pub use clsyntax_lex::token::{SyntaxFault, Token, TokenKind};
+pub use clsyntax_lex::{Tokens, lex};
+use std::alloc::Global;
+
+/// The tree of a source with these tokens (OpenCL 1.2, section 6.9). Tokens may be nested 64 deep.
+///
+/// `Unexpected` is the first token with which no program begins, or the source's length where it ends too early;
+/// `TooDeep` a token before that, nested deeper; `OutOfMemory` may come at any time.
+pub fn parse(alloc: Global, tokens: &Tokens) -> Result<Tree, SyntaxFault>
+    ensures exact { GivesAs result (IsReading tokens.now) }
+    ensures only { (r : Result Program SyntaxFault) → IsReading tokens.now r → Gives result r }
+    ensures one { IsOne }
+{
+    let functions = functions_of(alloc, tokens.length(), tokens.as_slice())?;
+    let Ok(names) = copies(alloc, tokens.names()) else {
+        return Err(SyntaxFault::OutOfMemory);
+    };
+    Ok(Tree { functions, names })
+}
+
+/// The tree of a source: `lex`, then `parse`, with the faults of both.
+pub fn read(alloc: Global, source: &[u8]) -> Result<Tree, SyntaxFault>
+    ensures exact { GivesAs result (IsSource source.now) }
+{
+    let tokens = lex(alloc, source)?;
+    parse(alloc, &tokens)
+}
+
+/// A source stands for one tree, or has one fault.
+pub fn one_source()
+    ensures { IsOneSource }
+{}

@@ -1,0 +1,122 @@
+//! From tokens to a tree.
+#![tactic(auto)]
+
+ghost use Rattle.std.specs.Prelude.{◌≡◌, ◌∷◌, IfOk};
+ghost use Rattle.clsyntax.specs.Machine as machine;
+ghost use Rattle.clsyntax.specs.Machine.{ended, ended_in, begun};
+ghost use Rattle.clsyntax.specs.Reading.{at_end, read_from};
+ghost use Rattle.clsyntax.specs.Views.{funcs_of, frames_of, state_of, IsAdvance, IsRead};
+
+use crate::machine::step;
+use crate::state::{Frame, Frames, LIMIT, Mode, State, Step};
+use clmodel::text::Name;
+use clmodel::tree::Function;
+use clsyntax_lex::token::{SyntaxFault, Token};
+use std::alloc::{AllocError, Global};
+
+/// The state before the first token.
+fn begin(alloc: Global) -> Result<Box<State>, AllocError>
+    ensures { IfOk result (λ state. state_of state.value ≡ begun) }
+{
+    let below = Box::new(alloc, Frames::Empty)?;
+    let program = Frame::InProgram {
+        functions: Vec::new(alloc),
+    };
+    let frames = Box::new(alloc, Frames::Inside(program, below))?;
+    let state = Box::new(
+        alloc,
+        State {
+            mode: Mode::Top,
+            frames,
+        },
+    )?;
+    Ok(state)
+}
+
+/// The state after one more token.
+fn advance(alloc: Global, state: Box<State>, token: Token) -> Result<Box<State>, SyntaxFault>
+    ensures { IsAdvance result (machine.step (state_of state.value) token) token.at }
+{
+    let at = token.at;
+    let Ok(done) = step(alloc, state, token) else {
+        return Err(SyntaxFault::OutOfMemory);
+    };
+    match done {
+        Step::Refused => Err(SyntaxFault::Unexpected { at }),
+        Step::Deep => Err(SyntaxFault::TooDeep { at }),
+        Step::To { nesting, state } => {
+            if nesting > LIMIT {
+                Err(SyntaxFault::TooDeep { at })
+            } else {
+                Ok(state)
+            }
+        }
+    }
+}
+
+/// The functions, if there are any and nothing else is open.
+fn whole(functions: Vec<Function>, below: Frames, length: u32) -> Result<Vec<Function>, SyntaxFault>
+    ensures { IsRead result (at_end (ended_in machine.Top (machine.InProgram (funcs_of functions.items) ∷ frames_of below)) length) }
+{
+    match below {
+        Frames::Empty => {
+            if functions.is_empty() {
+                Err(SyntaxFault::Unexpected { at: length })
+            } else {
+                Ok(functions)
+            }
+        }
+        _ => Err(SyntaxFault::Unexpected { at: length }),
+    }
+}
+
+fn program_of(frames: Frames, length: u32) -> Result<Vec<Function>, SyntaxFault>
+    ensures { IsRead result (at_end (ended_in machine.Top (frames_of frames)) length) }
+{
+    match frames {
+        Frames::Inside(frame, below) => match frame {
+            Frame::InProgram { functions } => whole(functions, Box::into_inner(below), length),
+            _ => Err(SyntaxFault::Unexpected { at: length }),
+        },
+        Frames::Empty => Err(SyntaxFault::Unexpected { at: length }),
+    }
+}
+
+/// The functions where the program may end, in a source of this length.
+fn finish(state: Box<State>, length: u32) -> Result<Vec<Function>, SyntaxFault>
+    ensures { IsRead result (at_end (ended (state_of state.value)) length) }
+{
+    let State { mode, frames } = Box::into_inner(state);
+    match mode {
+        Mode::Top => program_of(Box::into_inner(frames), length),
+        _ => Err(SyntaxFault::Unexpected { at: length }),
+    }
+}
+
+/// The functions of a source of this length with these tokens.
+pub(crate) fn functions_of(
+    alloc: Global,
+    length: u32,
+    tokens: &[Token],
+) -> Result<Vec<Function>, SyntaxFault>
+    ensures { IsRead result (read_from length tokens.now begun) }
+{
+    let Ok(mut state) = begin(alloc) else {
+        return Err(SyntaxFault::OutOfMemory);
+    };
+    for token in tokens {
+        state = advance(alloc, state, *token)?;
+    }
+    finish(state, length)
+}
+
+/// A copy of a table of names.
+pub(crate) fn copies(alloc: Global, names: &[Name]) -> Result<Vec<Name>, AllocError>
+    ensures { IfOk result (λ copies. copies.items ≡ names.now) }
+{
+    let mut copies = Vec::new(alloc);
+    for name in names {
+        copies.push(Name::copy_of(alloc, name.as_slice())?)?;
+    }
+    Ok(copies)
+}

@@ -1,0 +1,62 @@
+-- The beginning and the end of a source.
+use Rattle.std.proofs.Common.{◌≡◌, ℕ, ◌<◌, ◌≤◌, ◌+◌, ◌-◌, All, take, length-drop, List, [], ◌∷◌, length, drop, arith, sym, ◌∙◌, cond, ap, subst, Result, Ok, Err, append-nil}
+use Rattle.std.proofs.lemmas.List.{take_all, drop_all, drop-drop}
+use borrow.Author.Tests.{le-ltb, lt-ltb}
+use Rattle.clsyntax_lex.specs.declared.token.Token.{Token}
+use Rattle.clsyntax_lex.specs.declared.token.SyntaxFault.{SyntaxFault}
+use Rattle.clsyntax_lex.specs.declared.token.SyntaxFault.TheVariants.{TooLong}
+use Rattle.clsyntax_lex.specs.Tokens.{Text, IsNumberedBelow}
+use Rattle.clsyntax_lex.specs.Words.{built_in_names}
+use Rattle.clsyntax_lex.specs.Progress.{Advances}
+use Rattle.clsyntax_lex.specs.Lexing.{lexing, lexemes_from, completed, with_names}
+
+pub lexing-long : (source : List ℕ) → 65536 < length source → lexing source ≡ Err (TooLong 65536)
+unfolding lexing
+lexing-long source long = ap (λ b. cond b (Err (TooLong 65536)) (completed (length source) [] built_in_names (lexemes_from 0 0 source))) (lt-ltb 65536 (length source) long)
+
+pub lexing-short : (source : List ℕ) → length source ≤ 65536 → lexing source ≡ completed (length source) [] built_in_names (lexemes_from 0 0 source)
+unfolding lexing
+lexing-short source short = ap (λ b. cond b (Err (TooLong 65536)) (completed (length source) [] built_in_names (lexemes_from 0 0 source))) (le-ltb 65536 (length source) short)
+
+pub completed-end : (bytes at : ℕ) (tokens : List Token) (names : List (List ℕ)) (rest : List ℕ) → rest ≡ [] →
+    completed bytes tokens names (lexemes_from at 0 rest) ≡ Ok (record { tokens = tokens; length = bytes; names = names })
+unfolding lexemes_from with_names
+completed-end bytes at tokens names [] ended = ap (λ tokens. Ok (record { tokens = tokens; length = bytes; names = names })) (append-nil tokens)
+completed-end bytes at tokens names (b ∷ rest) ended = cc
+
+-- so far a source is read as these tokens and names
+pub record ReadsTo (source : List ℕ) (at : ℕ) (tokens : List Token) (names : List (List ℕ)) : Type 0 where
+  pub within : at ≤ length source
+  pub few : length names ≤ 26 + at
+  pub numbered : All (λ token. IsNumberedBelow (length names) token.kind) tokens
+  pub same : lexing source ≡ completed (length source) tokens names (lexemes_from at 0 (drop at source))
+
+pub ReadsTo-begin : (source : List ℕ) (tokens : List Token) (names : List (List ℕ)) → length source ≤ 65536 → tokens ≡ [] → names ≡ built_in_names → ReadsTo source 0 tokens names
+ReadsTo-begin source tokens names short none built_in =
+    subst (λ tokens. ReadsTo source 0 tokens names) (sym none) (subst (ReadsTo source 0 []) (sym built_in) (record {
+      within = omega arith;
+      few = omega arith;
+      numbered = λ k d inside. absurd (omega arith);
+      same = lexing-short source short;
+    }))
+
+pub ReadsTo-more : (source : List ℕ) (at len : ℕ) (tokens new_tokens : List Token) (names new_names : List (List ℕ)) → ReadsTo source at tokens names
+    → Advances at (take (length source - at) (drop at source)) tokens names new_tokens new_names len → ReadsTo source (at + len) new_tokens new_names
+ReadsTo-more source at len tokens new_tokens names new_names before step =
+    let tail : take (length source - at) (drop at source) ≡ drop at source = take_all (length source - at) (drop at source) (omega (arith, length-drop at source)) in
+    let step' : Advances at (drop at source) tokens names new_tokens new_names len = subst (λ rest. Advances at rest tokens names new_tokens new_names len) tail step in
+    record {
+      within = omega (arith, step'.within, length-drop at source, before.within);
+      few = omega (arith, step'.few, before.few);
+      numbered = step'.numbered before.numbered;
+      same = before.same ∙ step'.same (length source) ∙ ap (λ rest. completed (length source) new_tokens new_names (lexemes_from (at + len) 0 rest)) (drop-drop len at source);
+    }
+
+pub ReadsTo-end : (source : List ℕ) (at : ℕ) (tokens : List Token) (names copied : List (List ℕ)) (text : Text) → ReadsTo source at tokens names → length source ≤ at
+    → copied ≡ names → text ≡ record { tokens = tokens; length = length source; names = copied } → lexing source ≡ Ok text
+ReadsTo-end source at tokens names copied text before ended same_names is_text =
+    before.same ∙ completed-end (length source) at tokens names (drop at source) (drop_all at source ended)
+    ∙ ap (whole (length source) tokens) (sym same_names) ∙ ap Ok (sym is_text)
+  where
+    whole : ℕ → List Token → List (List ℕ) → Result Text SyntaxFault
+    whole bytes tokens names = Ok (record { tokens = tokens; length = bytes; names = names })

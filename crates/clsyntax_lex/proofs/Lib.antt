@@ -1,0 +1,10 @@
+mod PieceLemmas
+mod NumberLemmas
+mod FitLemmas
+mod NameLemmas
+mod StepLemmas
+mod LexLemmas
+mod NumberSpelling
+mod SpellingLemmas
+mod TableLemmas
+mod ReadingLemmas

@@ -1,0 +1,16 @@
+//! From the bytes of a source to its tokens.
+#![tactic(auto)]
+
+pub mod laws;
+mod lexer;
+mod names;
+mod numbers;
+mod pieces;
+#[cfg(test)]
+mod tests;
+pub mod token;
+mod tokens;
+mod words;
+
+pub use lexer::lex;
+pub use tokens::Tokens;

@@ -1,0 +1,69 @@
+//! The type checker: which programs are typed, and the fault of one that isn't (OpenCL 1.2, sections 6.1 to 6.12).
+#![tactic(auto)]
+
+ghost use Rattle.std.specs.Prelude.{◌≡◌, IfOk, IfErr, map};
+ghost use Rattle.clmodel.specs.Tree.{program};
+ghost use Rattle.clmodel.specs.Typing.{IsTypedProgram};
+ghost use Rattle.clmodel.specs.Typing.Functions.{names, functions_faults};
+ghost use Rattle.clmodel.specs.Typing.Least.{first};
+ghost use Rattle.cltypes.specs.Answers.{IsFaultOf, Ends};
+ghost use Rattle.cltypes.specs.Views.{functions_of};
+
+pub mod checked;
+mod expressions;
+mod faults;
+mod functions;
+pub mod laws;
+mod scope;
+mod statements;
+
+pub use checked::Checked;
+use clmodel::tree::{Function, Tree};
+pub use clmodel::type_fault::TypeFault;
+use functions::check_function;
+use scope::Scope;
+use std::alloc::{AllocError, Global};
+
+/// The names of functions, in the order of the text.
+fn function_names(alloc: Global, functions: &[Function]) -> Result<Vec<u32>, AllocError>
+    ensures { IfOk result (λ names. names.items ≡ map (λ f. f.name) functions.now) }
+{
+    let mut names = Vec::new(alloc);
+    for function in functions {
+        names.push(function.name)?;
+    }
+    Ok(names)
+}
+
+/// The first fault of functions in the order of their text; Err(OutOfMemory) may come at any time.
+fn check_functions(alloc: Global, functions: &[Function]) -> Result<(), TypeFault>
+    ensures { Ends result (first (functions_faults (names (functions_of functions.now)) (functions_of functions.now))) }
+{
+    let Ok(names) = function_names(alloc, functions) else {
+        return Err(TypeFault::OutOfMemory);
+    };
+    let mut scope = Scope {
+        functions: names,
+        begun: Vec::new(alloc),
+        variables: Vec::new(alloc),
+    };
+    for function in functions {
+        if let Err(fault) = check_function(&mut scope, function) {
+            return Err(fault);
+        }
+    }
+    Ok(())
+}
+
+/// Checks the types of a tree. The fault is the first one in the order of the text, children before parents, and of one place the
+/// one of the least number; Err(OutOfMemory) may come at any time, and nothing else for a typed program.
+pub fn check(alloc: Global, tree: Tree) -> Result<Checked, TypeFault>
+    ensures typed { IfOk result (λ checked. (checked.tree ≡ tree) × IsTypedProgram (program tree)) }
+    ensures fault { IfErr result (IsFaultOf (program tree)) }
+    ensures typed_only { IsTypedProgram (program tree) → IfErr result (λ f. f ≡ TypeFault.OutOfMemory) }
+{
+    match check_functions(alloc, &tree.functions) {
+        Err(fault) => Err(fault),
+        Ok(()) => Ok(Checked { tree }),
+    }
+}

@@ -1,0 +1,21 @@
+use Rattle.std.proofs.Common.{◌≡◌, ◌<◌, ◌^◌, refl, sym, ap, ◌∙◌, arith}
+use Rattle.clmodel.specs.Setup.{Setup, buffer_names}
+use Rattle.item_step.specs.Setups.{setup_of}
+use Rattle.device.specs.Prepared.{prepared_setup, Came}
+use Rattle.device.specs.Machine.{bytes_in}
+use Rattle.device.proofs.Runs.{ready, concluded, names_of}
+use Rattle.device.proofs.prepared.Prepared.run.Goals as goal
+
+pub run-requires : goal.run-requires
+run-requires c =
+    let same : setup_of c.in_ok-items.items ≡ prepared_setup c.args.self.now c.args.range.now = c.in_ok-items.ensures ∙ rw (c.function-function.ensures, c.arguments-arguments.ensures) refl in
+    let small : c.args.self.now.budget < 2 ^ 32 = omega arith in
+    ready c.in_ok-launch.launch _ _ (bytes_in c.args.buffers.now) same c.in_ok-launch.ensures.launch c.budget_bounds.ensures small c.in_ok-launch.ensures.ready.0 c.in_ok-launch.ensures.ready.1
+
+pub returns : goal.returns
+returns c =
+    let same : setup_of c.in_ok-items.items ≡ prepared_setup c.args.self.now c.args.range.now = c.in_ok-items.ensures ∙ rw (c.function-function.ensures, c.arguments-arguments.ensures) refl in
+    record {
+      names = names_of c.in_ok-launch.launch (prepared_setup c.args.self.now c.args.range.now) (bytes_in c.args.buffers.now) c.in_ok-launch.ensures.launch;
+      concludes = concluded c.in_ok-launch.launch _ _ (bytes_in c.args.buffers.now) c.in_ok-outcome.outcome same c.in_ok-launch.ensures.launch c.in_ok-outcome.ensures;
+    }

@@ -1,0 +1,188 @@
+-- The machine: what each command answers and leaves.
+use Rattle.std.specs.Prelude.{◌≡◌, ℕ, ◌+◌, ◌==◌, ◌⊎◌, Bool, true, false, not, ◌&&◌, ◌||◌, nat_le, nat_lt, if◌then◌else◌, IsTrue, List, [], ◌∷◌, ◌++◌, length, map, take, drop, replicate, slice_get, Option, None, Some, is_some, Result, Ok, Err}
+use Rattle.std.specs.List.{list_any}
+use Rattle.std.specs.Map.{set_value}
+use Rattle.std.specs.Option.{option_map, option_and_then, option_map_or, unwrap_or, MatchOption}
+use Rattle.clmodel.specs.Law.{CleanWith, Reaches, RunsIntoFault}
+use Rattle.clmodel.specs.Launch.{Launch}
+use Rattle.clmodel.specs.Run.{Events, State}
+use Rattle.clmodel.specs.declared.fault.Fault.{Fault}
+use Rattle.clmodel.specs.Next.{launch_of}
+use Rattle.clmodel.specs.Plain.{events_of, IsMerged}
+use Rattle.clmodel.specs.Setup.{Setup, buffer_names}
+use Rattle.clmodel.specs.Tree.{Program, NoFunc, program}
+use Rattle.clmodel.specs.declared.setup.Argument.{Argument}
+use Rattle.clmodel.specs.declared.setup.Argument.TheVariants as argument
+use Rattle.clmodel.specs.declared.setup.Range.{Range}
+use Rattle.device_store.specs.Builds.{Builds}
+use Rattle.device_store.specs.Kernels.{KernelState, kernel_number, parameters_of, with_argument, new_kernel, no_kernel, suits}
+use Rattle.device_store.specs.Ranges.{is_bad_dimension, is_bad_group, is_too_many}
+use Rattle.device_store.specs.Tables.{Table, is, find, with_values}
+use Rattle.device_store.specs.declared.command.BuildFault.{BuildFault}
+use Rattle.device_store.specs.declared.command.Command.{Command}
+use Rattle.device_store.specs.declared.command.Command.TheVariants as command
+use Rattle.device_store.specs.declared.command.Refusal.{Refusal}
+use Rattle.device_store.specs.declared.command.Refusal.TheVariants.{NameInUse, NoSuchName, BadSize, OutOfRange, TooManyBuffers, BadDimension, BadGroupSize, TooManyItems, BuildFailed, NoSuchKernel, BadArgument, ArgumentsMissing, OutOfMemory}
+use Rattle.device_store.specs.declared.command.Reply.{Reply}
+use Rattle.device_store.specs.declared.command.Reply.TheVariants as reply
+use Rattle.device.specs.declared.Device.{Device}
+
+-- what is known between two commands: the ticks that an item of a launch may make, and the buffers with their bytes, the programs
+-- and the kernels by their names
+pub record Machine : Type 0 where
+  pub budget : ℕ
+  pub buffers : Table (List ℕ)
+  pub programs : Table Program
+  pub kernels : Table KernelState
+
+abbrev pub machine_of : Device → Machine
+machine_of device =
+    record {
+      budget = device.budget;
+      buffers = device.buffers;
+      programs = map (λ e. (e.0, program e.1.tree)) device.programs;
+      kernels = device.kernels;
+    }
+
+abbrev pub opening : ℕ → Machine
+opening budget = record { budget = budget; buffers = []; programs = []; kernels = [] }
+
+-- something has the name
+abbrev pub is_used : Machine → List ℕ → Bool
+is_used m name = is_some (find m.buffers name) || is_some (find m.programs name) || is_some (find m.kernels name)
+
+-- the bytes of a buffer, none where there is no such buffer
+abbrev pub bytes_in : Table (List ℕ) → List ℕ → List ℕ
+bytes_in buffers name = unwrap_or (find buffers name) []
+
+abbrev pub bytes_of : Machine → List ℕ → List ℕ
+bytes_of m = bytes_in m.buffers
+
+abbrev pub no_program : Program
+no_program = record { functions = NoFunc; names = [] }
+
+-- a program, and a kernel, of a name
+abbrev pub program_of : Machine → List ℕ → Program
+program_of m name = unwrap_or (find m.programs name) no_program
+
+abbrev pub kernel_of : Machine → List ℕ → KernelState
+kernel_of m name = unwrap_or (find m.kernels name) no_kernel
+
+-- a kernel is there, and its program
+abbrev pub has_kernel : Machine → List ℕ → Bool
+has_kernel m name = is_some (find m.kernels name) && is_some (find m.programs (kernel_of m name).program)
+
+-- a kernel has a parameter of this index, and the argument suits it
+abbrev pub fits : Machine → KernelState → ℕ → Argument → Bool
+fits m kernel index argument =
+    option_map_or (λ p. suits p.kind argument) (slice_get (parameters_of (program_of m kernel.program) kernel.function) index) false
+
+-- an argument names no buffer that isn't there
+abbrev pub is_there : Machine → Argument → Bool
+is_there m (argument.Buffer name) = is_some (find m.buffers name)
+is_there m (argument.Value n) = true
+is_there m (argument.Local size) = true
+
+-- what a launch of a kernel runs
+abbrev pub setup_of : Machine → KernelState → Range → Setup
+setup_of m kernel range =
+    record { program = program_of m kernel.program; kernel = kernel.function; range = range; arguments = kernel.arguments; budget = m.budget }
+
+-- conditions with the refusals that they call for, in their order
+abbrev pub Row : Type 0
+Row = List (Bool × Refusal)
+
+-- the first whose condition holds
+abbrev pub first : Row → Option Refusal
+first [] = None
+first (x ∷ row) = if x.0 then Some x.1 else first row
+
+-- the row of a command
+abbrev pub row : Machine → Command → Row
+row m (command.Buffer name size) =
+    (is_used m name, NameInUse)
+    ∷ ((size == 0) || nat_lt 1048576 size, BadSize)
+    ∷ (nat_le 64 (length m.buffers), TooManyBuffers)
+    ∷ []
+row m (command.Read name at count) =
+    (not (is_some (find m.buffers name)), NoSuchName)
+    ∷ (count == 0, BadSize)
+    ∷ (nat_lt (length (bytes_of m name)) (at + count), OutOfRange)
+    ∷ []
+row m (command.Program name source) = (is_used m name, NameInUse) ∷ []
+row m (command.Kernel name program function) =
+    (is_used m name, NameInUse)
+    ∷ (not (is_some (find m.programs program)), NoSuchName)
+    ∷ (not (is_some (kernel_number (program_of m program) function)), NoSuchKernel)
+    ∷ []
+row m (command.Arg kernel index argument) =
+    (not (has_kernel m kernel), NoSuchName)
+    ∷ (not (fits m (kernel_of m kernel) index argument), BadArgument)
+    ∷ (not (is_there m argument), NoSuchName)
+    ∷ []
+row m (command.Launch kernel range) =
+    (not (has_kernel m kernel), NoSuchName)
+    ∷ (is_bad_dimension range, BadDimension)
+    ∷ (is_bad_group range, BadGroupSize)
+    ∷ (is_too_many range, TooManyItems)
+    ∷ (list_any (λ a. not (is_some a)) (kernel_of m kernel).arguments, ArgumentsMissing)
+    ∷ []
+
+-- A program that is built is there from then on. A source that isn't built is refused.
+abbrev pub Built : Machine → List ℕ → Result Program BuildFault → Reply → Machine → Type 0
+Built old name (Ok p) r new = (r ≡ reply.Done) × (new ≡ record old { programs = old.programs ++ (name, p) ∷ [] })
+Built old name (Err f) r new = (r ≡ reply.Refused (BuildFailed f)) × (new ≡ old)
+
+-- the canonical run of a launch makes these events and ends with this report
+abbrev pub IsReported : Launch → Events → Fault → Type 0
+IsReported launch events fault = (end : State) × RunsIntoFault launch events end fault
+
+-- A launch that isn't refused: it is clean, whatever the order in which its items go on, and its buffers hold from then on what
+-- every order leaves in them; or the schedule leads to a state that shows the fault, which is the canonical run's report, and no buffer changes.
+abbrev pub Launches : Machine → Setup → Reply → Machine → Type 0
+Launches old setup reply.Clean new =
+    (contents : List (List ℕ)) × CleanWith (launch_of setup (bytes_of old)) (map (λ bytes. map Some bytes) contents)
+    × (new ≡ record old { buffers = with_values old.buffers (buffer_names setup) contents })
+Launches old setup (reply.Fault fault schedule) new =
+    Reaches (launch_of setup (bytes_of old)) (events_of schedule) fault × IsReported (launch_of setup (bytes_of old)) (events_of schedule) fault
+    × IsMerged schedule × (new ≡ old)
+Launches old setup reply.Done new = ⊥
+Launches old setup (reply.Data bytes) new = ⊥
+Launches old setup (reply.Refused refusal) new = ⊥
+
+-- a kernel of a program's function, with no arguments yet
+abbrev pub named_kernel : Program → List ℕ → List ℕ → KernelState
+named_kernel p program function =
+    let number = unwrap_or (kernel_number p function) 0 in new_kernel program number (length (parameters_of p number))
+
+-- what a command that its row doesn't refuse answers and leaves
+abbrev pub Does : Machine → Command → Reply → Machine → Type 0
+Does old (command.Buffer name size) r new = (r ≡ reply.Done) × (new ≡ record old { buffers = old.buffers ++ (name, replicate size 0) ∷ [] })
+Does old (command.Read name at count) r new = (r ≡ reply.Data (take count (drop at (bytes_of old name)))) × (new ≡ old)
+Does old (command.Program name source) r new = (built : Result Program BuildFault) × Builds source built × Built old name built r new
+Does old (command.Kernel name program function) r new =
+    (r ≡ reply.Done) × (new ≡ record old { kernels = old.kernels ++ (name, named_kernel (program_of old program) program function) ∷ [] })
+Does old (command.Arg kernel index argument) r new =
+    (r ≡ reply.Done) × (new ≡ record old { kernels = set_value (is kernel) old.kernels (with_argument (kernel_of old kernel) index argument) })
+Does old (command.Launch kernel range) r new = Launches old (setup_of old (kernel_of old kernel) range) r new
+
+-- the first refusal of the row, or what the command does
+abbrev pub Answers : Machine → Command → Reply → Machine → Type 0
+Answers old c r new = MatchOption (first (row old c)) (Does old c r new) (λ refusal. (r ≡ reply.Refused refusal) × (new ≡ old))
+
+-- the commands whose rows end with refusal 16: all so far
+abbrev pub takes_memory : Command → Bool
+takes_memory (command.Buffer name size) = true
+takes_memory (command.Read name at count) = true
+takes_memory (command.Program name source) = true
+takes_memory (command.Kernel name program function) = true
+takes_memory (command.Arg kernel index argument) = true
+takes_memory (command.Launch kernel range) = true
+
+-- want of memory may come in place of any answer of a command that takes memory
+abbrev pub LacksMemory : Machine → Command → Reply → Machine → Type 0
+LacksMemory old c r new = IsTrue (takes_memory c) × (r ≡ reply.Refused OutOfMemory) × (new ≡ old)
+
+-- one step of the machine
+abbrev pub Step : Machine → Command → Reply → Machine → Type 0
+Step old c r new = Answers old c r new ⊎ LacksMemory old c r new

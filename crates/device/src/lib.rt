@@ -1,0 +1,298 @@
+//! A simulated OpenCL 1.2 device.
+#![tactic(auto)]
+
+ghost use Rattle.std.specs.Prelude.{◌≡◌, ◌&&◌, IfOk, IfErr, IfSome, OnErr, None, Some, is_some};
+ghost use Rattle.std.specs.Option.{option_map};
+ghost use Rattle.clmodel.specs.Tree.{program};
+ghost use Rattle.device_store.specs.Tables.{find};
+ghost use Rattle.device.specs.Machine.{Step, Answers, machine_of, opening, is_used, is_there, has_kernel, kernel_of, program_of, setup_of, first, row};
+ghost use Rattle.device_store.specs.Ranges.{IsLaunchable};
+ghost use Rattle.device.specs.Prepared.{prepared_setup, Starts};
+
+mod prepared;
+#[cfg(test)]
+mod tests;
+
+use crate::prepared::Launched;
+use clmodel::determinacy::{clean_is_complete, determinacy};
+use clmodel::plain::run::Outcome;
+use clmodel::run_laws::report_is_shown;
+use clmodel::setup::{Argument, Range};
+use clmodel::text::{Bytes, Name};
+use clmodel::tree::Tree;
+use cltypes::Checked;
+use device_store::build::build;
+pub use device_store::command::{BuildFault, Command, Refusal, Reply};
+use device_store::kernel::{Kernel, kernel_number, parameters_of, suits};
+use device_store::ranges::{is_bad_dimension, is_bad_group, is_too_many};
+pub use device_store::table::Table;
+pub use prepared::Prepared;
+use std::alloc::{AllocError, Global};
+
+/// The most buffers that a device has.
+const MAX_BUFFERS: usize = 64;
+
+/// The most bytes that a buffer has.
+const MAX_SIZE: u64 = 1048576;
+
+/// A device: its buffers, programs and kernels.
+#[derive(Drop)]
+pub struct Device {
+    alloc: Global,
+    budget: u32,
+    buffers: Table<Bytes>,
+    programs: Table<Checked>,
+    kernels: Table<Kernel>,
+}
+
+impl Device {
+    /// A device without buffers, programs and kernels, on which an item of a launch may make so many ticks.
+    pub fn new(alloc: Global, budget: u32) -> Self
+        ensures { machine_of result ≡ opening budget }
+    {
+        Device {
+            alloc,
+            budget,
+            buffers: Table::new(alloc),
+            programs: Table::new(alloc),
+            kernels: Table::new(alloc),
+        }
+    }
+
+    /// The buffers with their bytes.
+    pub fn buffers(&self) -> &Table<Bytes>
+        ensures { result.now ≡ (machine_of self.now).buffers }
+    {
+        &self.buffers
+    }
+
+    /// The tree of a program.
+    #[tactic(auto, using(crate::proofs::Programs::find_program))]
+    fn program(&self, name: &Name) -> Option<&Tree>
+        ensures { option_map (λ tree. program tree.now) result ≡ find (machine_of self.now).programs name.now }
+    {
+        match self.programs.get(name) {
+            None => None,
+            Some(checked) => Some(&checked.tree),
+        }
+    }
+
+    /// Whether something has the name.
+    fn is_used(&self, name: &Name) -> bool
+        ensures { result ≡ is_used (machine_of self.now) name.now }
+    {
+        self.buffers.get(name).is_some()
+            || self.program(name).is_some()
+            || self.kernels.get(name).is_some()
+    }
+
+    /// The kernel of a name with its program's tree.
+    fn kernel(&self, name: &Name) -> Option<(&Tree, &Kernel)>
+        ensures there { is_some result ≡ has_kernel (machine_of self.now) name.now }
+        ensures tree { IfSome result (λ found. program found.0.now ≡ program_of (machine_of self.now) (kernel_of (machine_of self.now) name.now).program) }
+        ensures kernel { IfSome result (λ found. found.1.now ≡ kernel_of (machine_of self.now) name.now) }
+    {
+        let Some(kernel) = self.kernels.get(name) else {
+            return None;
+        };
+        match self.program(kernel.program()) {
+            None => None,
+            Some(tree) => Some((tree, kernel)),
+        }
+    }
+
+    fn make_buffer(&mut self, name: Name, size: u64) -> Result<Reply, AllocError>
+        ensures ok { IfOk result (λ reply. Answers (machine_of self.old) (Command.Buffer name size) reply (machine_of self.new)) }
+        ensures err { OnErr result (machine_of self.new ≡ machine_of self.old) }
+    {
+        if self.is_used(&name) {
+            return Ok(Reply::Refused(Refusal::NameInUse));
+        }
+        if size == 0 || size > MAX_SIZE {
+            return Ok(Reply::Refused(Refusal::BadSize));
+        }
+        if self.buffers.len() >= MAX_BUFFERS {
+            return Ok(Reply::Refused(Refusal::TooManyBuffers));
+        }
+        let bytes = Bytes::zeros(self.alloc, size as usize)?;
+        self.buffers.insert(name, bytes)?;
+        Ok(Reply::Done)
+    }
+
+    fn read(&self, name: &Name, offset: u64, count: u64) -> Result<Reply, AllocError>
+        ensures { IfOk result (λ reply. Answers (machine_of self.now) (Command.Read name.now offset count) reply (machine_of self.now)) }
+    {
+        let Some(buffer) = self.buffers.get(name) else {
+            return Ok(Reply::Refused(Refusal::NoSuchName));
+        };
+        if count == 0 {
+            return Ok(Reply::Refused(Refusal::BadSize));
+        }
+        let size = buffer.len() as u64;
+        if count > size || offset > size - count {
+            return Ok(Reply::Refused(Refusal::OutOfRange));
+        }
+        let found = &buffer.as_slice()[offset as usize..(offset + count) as usize];
+        Ok(Reply::Data(Bytes::copy_of(self.alloc, found)?))
+    }
+
+    #[tactic(auto, using(crate::proofs::Programs::free))]
+    fn make_program(&mut self, name: Name, source: &Bytes) -> Result<Reply, AllocError>
+        ensures ok { IfOk result (λ reply. Answers (machine_of self.old) (Command.Program name source.now) reply (machine_of self.new)) }
+        ensures err { OnErr result (machine_of self.new ≡ machine_of self.old) }
+    {
+        if self.is_used(&name) {
+            return Ok(Reply::Refused(Refusal::NameInUse));
+        }
+        match build(self.alloc, source.as_slice())? {
+            Ok(checked) => {
+                self.programs.insert(name, checked)?;
+                Ok(Reply::Done)
+            }
+            Err(fault) => Ok(Reply::Refused(Refusal::BuildFailed(fault))),
+        }
+    }
+
+    fn make_kernel(
+        &mut self,
+        name: Name,
+        program: Name,
+        function: &Name,
+    ) -> Result<Reply, AllocError>
+        ensures ok { IfOk result (λ reply. Answers (machine_of self.old) (Command.Kernel name program function.now) reply (machine_of self.new)) }
+        ensures err { OnErr result (machine_of self.new ≡ machine_of self.old) }
+    {
+        if self.is_used(&name) {
+            return Ok(Reply::Refused(Refusal::NameInUse));
+        }
+        let Some(tree) = self.program(&program) else {
+            return Ok(Reply::Refused(Refusal::NoSuchName));
+        };
+        let Some(number) = kernel_number(tree, function) else {
+            return Ok(Reply::Refused(Refusal::NoSuchKernel));
+        };
+        let count = parameters_of(tree, number).len();
+        let kernel = Kernel::new(self.alloc, program, number, count)?;
+        self.kernels.insert(name, kernel)?;
+        Ok(Reply::Done)
+    }
+
+    fn set_argument(&mut self, name: &Name, index: u64, argument: Argument) -> Reply
+        ensures { Answers (machine_of self.old) (Command.Arg name.now index argument) result (machine_of self.new) }
+    {
+        let Some((tree, kernel)) = self.kernel(name) else {
+            return Reply::Refused(Refusal::NoSuchName);
+        };
+        let Some(parameter) = parameters_of(tree, kernel.function()).get(index as usize) else {
+            return Reply::Refused(Refusal::BadArgument);
+        };
+        if !suits(parameter.kind, &argument) {
+            return Reply::Refused(Refusal::BadArgument);
+        }
+        if !self.is_there(&argument) {
+            return Reply::Refused(Refusal::NoSuchName);
+        }
+        self.kernels.set_argument(name, index as usize, argument);
+        Reply::Done
+    }
+
+    /// Whether the buffer that an argument names is there, if it names one.
+    fn is_there(&self, argument: &Argument) -> bool
+        ensures { result ≡ is_there (machine_of self.now) argument.now }
+    {
+        match argument {
+            Argument::Buffer(name) => self.buffers.get(name).is_some(),
+            Argument::Value(_) | Argument::Local(_) => true,
+        }
+    }
+
+    /// A kernel that may be launched over a range, or the launch's refusal.
+    fn prepare(&self, name: &Name, range: &Range) -> Result<Prepared<'_>, Refusal>
+        ensures admitted { IfOk result (λ _. first (row (machine_of self.now) (Command.Launch name.now range.now)) ≡ None) }
+        ensures launchable { IfOk result (λ _. IsLaunchable range.now) }
+        ensures setup { IfOk result (λ p. prepared_setup p range.now ≡ setup_of (machine_of self.now) (kernel_of (machine_of self.now) name.now) range.now) }
+        ensures refused { IfErr result (λ refusal. first (row (machine_of self.now) (Command.Launch name.now range.now)) ≡ Some refusal) }
+    {
+        let Some((tree, kernel)) = self.kernel(name) else {
+            return Err(Refusal::NoSuchName);
+        };
+        if is_bad_dimension(range) {
+            return Err(Refusal::BadDimension);
+        }
+        if is_bad_group(range) {
+            return Err(Refusal::BadGroupSize);
+        }
+        if is_too_many(range) {
+            return Err(Refusal::TooManyItems);
+        }
+        if kernel.lacks_argument() {
+            return Err(Refusal::ArgumentsMissing);
+        }
+        Ok(Prepared {
+            tree,
+            kernel,
+            budget: self.budget,
+        })
+    }
+
+    /// Runs a kernel over a range on copies of the buffers, or answers the launch's refusal.
+    fn start(&self, name: &Name, range: &Range) -> Result<Result<Launched, Refusal>, AllocError>
+        ensures { IfOk result (Starts (machine_of self.now) name.now range.now) }
+    {
+        match self.prepare(name, range) {
+            Ok(prepared) => Ok(Ok(prepared.run(self.alloc, &self.buffers, range)?)),
+            Err(refusal) => Ok(Err(refusal)),
+        }
+    }
+
+    fn launch(&mut self, name: &Name, range: &Range) -> Result<Reply, AllocError>
+        ensures ok { IfOk result (λ reply. Answers (machine_of self.old) (Command.Launch name.now range.now) reply (machine_of self.new)) }
+        ensures err { OnErr result (machine_of self.new ≡ machine_of self.old) }
+    {
+        let launched = match self.start(name, range)? {
+            Ok(launched) => launched,
+            Err(refusal) => return Ok(Reply::Refused(refusal)),
+        };
+        let Launched { names, outcome } = launched;
+        determinacy();
+        clean_is_complete();
+        report_is_shown();
+        match outcome {
+            Outcome::Clean(contents) => {
+                self.buffers.replace_all(names.as_slice(), contents);
+                Ok(Reply::Clean)
+            }
+            Outcome::Faulted(fault, schedule) => Ok(Reply::Fault { fault, schedule }),
+        }
+    }
+
+    /// One step of the machine.
+    pub fn apply(&mut self, command: Command) -> Reply
+        ensures { Step (machine_of self.old) command result (machine_of self.new) }
+    {
+        let answer = match command {
+            Command::Buffer { name, size } => self.make_buffer(name, size),
+            Command::Read {
+                buffer,
+                offset,
+                count,
+            } => self.read(&buffer, offset, count),
+            Command::Program { name, source } => self.make_program(name, &source),
+            Command::Kernel {
+                name,
+                program,
+                function,
+            } => self.make_kernel(name, program, &function),
+            Command::Arg {
+                kernel,
+                index,
+                argument,
+            } => Ok(self.set_argument(&kernel, index, argument)),
+            Command::Launch { kernel, range } => self.launch(&kernel, &range),
+        };
+        match answer {
+            Ok(reply) => reply,
+            Err(AllocError) => Reply::Refused(Refusal::OutOfMemory),
+        }
+    }
+}

@@ -1,0 +1,57 @@
+-- Kernels with their arguments (OpenCL 1.2, 5.7).
+use Rattle.std.specs.Prelude.{ℕ, ℤ, Bool, true, false, not, ◌&&◌, nat_le, List, Option, None, Some, position, slice_set, [], replicate, length}
+use Rattle.std.specs.Ordering.{int_eq}
+use Rattle.std.specs.Option.{option_map, option_and_then, option_map_or}
+use Rattle.clnum.specs.Integer.{wrap}
+use Rattle.clmodel.specs.Tree.{Program, Func}
+use Rattle.clmodel.specs.Setup.{kernel_in}
+use Rattle.clmodel.specs.declared.setup.Argument.{Argument}
+use Rattle.clmodel.specs.declared.setup.Argument.TheVariants as argument
+use Rattle.clmodel.specs.declared.tree.Parameter.{Parameter}
+use Rattle.clmodel.specs.declared.tree.VariableType.{VariableType}
+use Rattle.clmodel.specs.declared.tree.VariableType.TheVariants as variable_type
+use Rattle.clmodel.specs.declared.tree.AddressSpace.{AddressSpace}
+use Rattle.clmodel.specs.declared.tree.AddressSpace.TheVariants as space
+use Rattle.device_store.specs.Tables.{is}
+
+-- A kernel: the name of its program, its function by the number of its name, and an argument for each parameter, or None where it
+-- wasn't given.
+pub record KernelState : Type 0 where
+  pub program : List ℕ
+  pub function : ℕ
+  pub arguments : List (Option Argument)
+
+-- the number of the name of a program's kernel, or None where it has no such kernel
+abbrev pub kernel_number : Program → List ℕ → Option ℕ
+kernel_number program name =
+    option_and_then (λ number. option_map (λ f. f.name) (kernel_in program.functions number)) (position (is name) program.names)
+
+-- the parameters of a program's kernel, by the number of its name
+abbrev pub parameters_of : Program → ℕ → List Parameter
+parameters_of program number = option_map_or (λ f. f.parameters) (kernel_in program.functions number) []
+
+-- a kernel with an argument set
+abbrev pub with_argument : KernelState → ℕ → Argument → KernelState
+with_argument kernel index argument = record kernel { arguments = slice_set kernel.arguments index (Some argument) }
+
+-- a kernel of so many parameters, none of which was given an argument
+abbrev pub new_kernel : List ℕ → ℕ → ℕ → KernelState
+new_kernel program function count = record { program = program; function = function; arguments = replicate count None }
+
+abbrev pub no_kernel : KernelState
+no_kernel = new_kernel [] 0 0
+
+abbrev pub is_local : AddressSpace → Bool
+is_local space.Global = false
+is_local space.Local = true
+is_local space.Constant = false
+
+-- an argument is of the kind that a parameter wants: a buffer for a pointer to global or constant memory, a size of 1 to 32768
+-- for one to local memory, a number of its type for an integer
+abbrev pub suits : VariableType → Argument → Bool
+suits (variable_type.Pointer p) (argument.Buffer name) = not (is_local p.space)
+suits (variable_type.Pointer p) (argument.Local size) = is_local p.space && nat_le 1 size && nat_le size 32768
+suits (variable_type.Pointer p) (argument.Value n) = false
+suits (variable_type.Integer kind) (argument.Value n) = int_eq (wrap kind n) n
+suits (variable_type.Integer kind) (argument.Buffer name) = false
+suits (variable_type.Integer kind) (argument.Local size) = false

@@ -1,0 +1,104 @@
+//! Host commands and their replies.
+#![tactic(auto)]
+
+use clmodel::fault::Fault;
+use clmodel::schedule::Schedule;
+use clmodel::setup::{Argument, Range};
+use clmodel::text::{Bytes, Name};
+use clmodel::type_fault::TypeFault;
+use clsyntax_lex::token::SyntaxFault;
+
+/// A command of the host (OpenCL 1.2, chapter 5, in an order of their own).
+#[derive(Debug, Drop)]
+pub enum Command {
+    /// Makes a buffer of so many zero bytes (section 5.2.1).
+    Buffer {
+        name: Name,
+        size: u64,
+    },
+    /// Reads bytes of a buffer (section 5.2.2).
+    Read {
+        buffer: Name,
+        offset: u64,
+        count: u64,
+    },
+    /// Builds a program of a source (sections 5.6.1 and 5.6.2).
+    Program {
+        name: Name,
+        source: Bytes,
+    },
+    /// Makes a kernel of a function of a program (section 5.7.1).
+    Kernel {
+        name: Name,
+        program: Name,
+        function: Name,
+    },
+    /// Sets an argument of a kernel, over an earlier one of the same index (section 5.7.2).
+    Arg {
+        kernel: Name,
+        index: u64,
+        argument: Argument,
+    },
+    /// Runs a kernel over an index space (section 5.8).
+    Launch {
+        kernel: Name,
+        range: Range,
+    },
+}
+
+/// Why a source doesn't build.
+#[derive(Clone, Copy, Debug, PartialEq, Eq)]
+pub enum BuildFault {
+    Syntax(SyntaxFault),
+    Type(TypeFault),
+}
+
+/// Why a command was refused. A refused command changes nothing.
+#[derive(Clone, Copy, Debug, PartialEq, Eq)]
+pub enum Refusal {
+    /// 1: the name is that of a buffer, a program or a kernel
+    NameInUse,
+    /// 2: nothing of the wanted kind has the name
+    NoSuchName,
+    /// 3
+    BadSize,
+    /// 4
+    OutOfRange,
+    /// 5: there are 64 buffers
+    TooManyBuffers,
+    /// 6: not 1 to 3 sizes, lists of unequal length, or an offset and a size that pass 2^64 - 1 together
+    BadDimension,
+    /// 7: a size 0, a global size not divisible by its local size, or more than 256 items a group
+    BadGroupSize,
+    /// 8
+    TooManyItems,
+    /// 9
+    Overlap,
+    /// 10
+    BuildFailed(BuildFault),
+    /// 11
+    NoSuchKernel,
+    /// 12
+    BadArgument,
+    /// 13
+    ArgumentsMissing,
+    /// 14
+    LocalTooLarge,
+    /// 15
+    InUse,
+    /// 16
+    OutOfMemory,
+}
+
+/// The answer to a command.
+#[derive(Debug, Drop)]
+pub enum Reply {
+    Done,
+    /// The bytes that were read
+    Data(Bytes),
+    /// No interleaving of the launch's items shows a fault
+    Clean,
+    /// A fault, and a schedule after which the launch shows it
+    Fault { fault: Fault, schedule: Schedule },
+    Refused(Refusal),
+}

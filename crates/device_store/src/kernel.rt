@@ -1,0 +1,175 @@
+//! Kernels with their arguments (OpenCL 1.2, section 5.7).
+#![tactic(auto)]
+
+ghost use Rattle.std.specs.Prelude.{◌≡◌, ◌<◌, ℕ, position, None, Some, length, map, replicate, slice_set, IfOk, is_some, not};
+ghost use Rattle.std.specs.List.{list_any};
+ghost use Rattle.std.specs.Map.{set_value};
+ghost use Rattle.std.specs.Option.{option_map, unwrap_or};
+ghost use Rattle.clmodel.specs.Tree.{program, func, then_funcs, NoFunc};
+ghost use Rattle.clmodel.specs.Setup.{kernel_in};
+ghost use Rattle.device_store.specs.Tables.{is, find};
+ghost use Rattle.device_store.specs.Kernels.{kernel_number, parameters_of, with_argument, new_kernel, no_kernel, suits};
+
+use crate::table::Table;
+use clmodel::setup::Argument;
+use clmodel::text::Name;
+use clmodel::tree::{AddressSpace, Function, Parameter, Tree, VariableType};
+use clnum::Value;
+use std::alloc::{AllocError, Global};
+use std::marker::Model;
+
+/// The most bytes of local memory that a group may have.
+const MAX_LOCAL: u64 = 32768;
+
+/// A kernel of a program, with an argument for each parameter that was given one.
+#[derive(Drop)]
+pub struct Kernel {
+    program: Name,
+    function: u32,
+    arguments: Vec<Option<Argument>>,
+}
+
+impl Model for Kernel {
+    ghost use Rattle.device_store.specs.Kernels.{KernelState};
+
+    ghost Value = { KernelState };
+
+    ghost view = { λ a. record { program = a.program; function = a.function; arguments = a.arguments.items } };
+}
+
+/// So many arguments that weren't given.
+fn none_given(alloc: Global, count: usize) -> Result<Vec<Option<Argument>>, AllocError>
+    ensures { IfOk result (λ arguments. arguments.items ≡ replicate count None) }
+{
+    let mut arguments = Vec::new(alloc);
+    while arguments.len() < count {
+        arguments.push(None)?;
+    }
+    Ok(arguments)
+}
+
+impl Kernel {
+    /// The kernel of a program's function, by the number of its name, with so many arguments that weren't given.
+    pub fn new(
+        alloc: Global,
+        program: Name,
+        function: u32,
+        count: usize,
+    ) -> Result<Self, AllocError>
+        ensures { IfOk result (λ kernel. kernel ≡ new_kernel program function count) }
+    {
+        Ok(Kernel {
+            program,
+            function,
+            arguments: none_given(alloc, count)?,
+        })
+    }
+
+    /// The name of its program.
+    pub fn program(&self) -> &Name
+        ensures { result.now ≡ self.now.program }
+    {
+        &self.program
+    }
+
+    /// The number of its function's name.
+    pub fn function(&self) -> u32
+        ensures { result ≡ self.now.function }
+    {
+        self.function
+    }
+
+    /// Its arguments.
+    pub fn arguments(&self) -> &[Option<Argument>]
+        ensures { result.now ≡ self.now.arguments }
+    {
+        self.arguments.as_slice()
+    }
+
+    /// Whether a parameter wasn't given an argument.
+    pub fn lacks_argument(&self) -> bool
+        ensures { result ≡ list_any (λ argument. not (is_some argument)) self.now.arguments }
+    {
+        self.arguments.iter().any(|argument| !argument.is_some())
+    }
+
+    /// Sets the argument of an index, over an earlier one, if there is such a parameter.
+    pub fn set_argument(&mut self, index: usize, argument: Argument)
+        ensures { self.new ≡ with_argument self.old index argument }
+    {
+        if index < self.arguments.len() {
+            self.arguments[index] = Some(argument);
+        }
+    }
+}
+
+impl Table<Kernel> {
+    #[tactic(auto, using(crate::proofs::Tables::unreplaced))]
+    /// Sets the argument of an index of the kernel of a name, if there are such a kernel and such a parameter.
+    pub fn set_argument(&mut self, name: &Name, index: usize, argument: Argument)
+        ensures { self.new ≡ set_value (is name.now) self.old (with_argument (unwrap_or (find self.old name.now) no_kernel) index argument) }
+    {
+        if let Some(kernel) = self.map.get_mut(name) {
+            kernel.set_argument(index, argument);
+        }
+    }
+}
+
+/// The kernel of a name, by its number, among functions.
+#[tactic(auto, using(crate::proofs::Functions::one_more))]
+pub fn kernel_in(functions: &[Function], number: usize) -> Option<&Function>
+    ensures { option_map (λ f. func f.now) result ≡ kernel_in (then_funcs NoFunc (map func functions.now)) number }
+{
+    let mut found = None;
+    for f in functions {
+        if f.is_kernel && f.name as usize == number {
+            found = Some(f);
+        }
+    }
+    found
+}
+
+/// The place of a name among others.
+fn place_of(names: &[Name], name: &Name) -> Option<usize>
+    ensures { result ≡ position (is name.now) names.now }
+{
+    names.iter().position(|other| name == other)
+}
+
+/// The number of the name of a program's kernel.
+pub fn kernel_number(tree: &Tree, name: &Name) -> Option<u32>
+    ensures { result ≡ kernel_number (program tree.now) name.now }
+{
+    let number = place_of(tree.names.as_slice(), name)?;
+    match kernel_in(tree.functions.as_slice(), number) {
+        None => None,
+        Some(function) => Some(function.name),
+    }
+}
+
+/// The parameters of a program's kernel, by the number of its name.
+pub fn parameters_of(tree: &Tree, number: u32) -> &[Parameter]
+    ensures { result.now ≡ parameters_of (program tree.now) number }
+{
+    match kernel_in(tree.functions.as_slice(), number as usize) {
+        None => &[],
+        Some(function) => function.parameters.as_slice(),
+    }
+}
+
+/// Whether an argument is of the kind that a parameter wants: a buffer for a pointer to global or constant memory, a size for one to
+/// local memory, a number of its type for an integer.
+pub fn suits(kind: VariableType, argument: &Argument) -> bool
+    ensures { result ≡ suits kind argument.now }
+{
+    match (kind, argument) {
+        (VariableType::Pointer(p), Argument::Buffer(_)) => p.space != AddressSpace::Local,
+        (VariableType::Pointer(p), Argument::Local(size)) => {
+            p.space == AddressSpace::Local && *size >= 1 && *size <= MAX_LOCAL
+        }
+        (VariableType::Integer(kind), Argument::Value(n)) => {
+            Value::wrapped(kind, *n).number() == *n
+        }
+        _ => false,
+    }
+}

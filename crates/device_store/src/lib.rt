@@ -1,0 +1,8 @@
+//! What a device keeps: names with buffers, programs and kernels, and the commands, replies and refusals of a host.
+#![tactic(auto)]
+
+pub mod build;
+pub mod command;
+pub mod kernel;
+pub mod ranges;
+pub mod table;

@@ -1,0 +1,5 @@
+pub mod Finds
+pub mod Lists
+pub mod Statements
+pub mod Kernels
+pub mod Nexts

@@ -1,0 +1,16 @@
+use Rattle.std.specs.Prelude.{pos}
+use Rattle.clmodel.specs.Next.{answered}
+use Rattle.clmodel.specs.declared.action.Answer.{Answer}
+use Rattle.clmodel.specs.declared.operand.Operand.TheVariants.{Integral}
+use Rattle.clnum.specs.Operations.{wrapped}
+use Rattle.item_step.proofs.memory.load.Goals as goal
+
+pub returns-in-Ok : goal.returns-in-Ok
+returns-in-Ok c after =
+    rw (c.in-Pointed.is, c.loaded.ensures)
+    (rw c.load_of.ensures at (c.in-Ok.ensures (λ (answer : Answer). after (Integral (wrapped c.in-Pointed.pointer.element (pos (answered answer)))))))
+
+pub returns-in-Err : goal.returns-in-Err
+returns-in-Err c after =
+    rw c.in-Pointed.is
+    (rw c.load_of.ensures at (c.in-Err.ensures (λ (answer : Answer). after (Integral (wrapped c.in-Pointed.pointer.element (pos (answered answer)))))))

@@ -1,0 +1,42 @@
+-- How an evaluation that runs against a list of answers stands for a tree of actions.
+use Rattle.std.specs.Prelude.{◌≡◌, ℕ, List, [], ◌∷◌, ◌++◌, Result, Ok, Err, drop}
+use Rattle.clmodel.specs.Next.{Run, walk, Here, Variables, eval, exec, known, look, moved, store}
+use Rattle.clmodel.specs.Tree.{Term, Stmt}
+use Rattle.clmodel.specs.declared.action.Action.{Action}
+use Rattle.clmodel.specs.declared.action.Action.TheVariants as action
+use Rattle.clmodel.specs.declared.action.Answer.{Answer}
+use Rattle.clmodel.specs.declared.operand.Operand.{Operand}
+use Rattle.item_step.specs.declared.halt.Halt.{Halt}
+use Rattle.item_step.specs.declared.halt.Halt.TheVariants as halt
+use Rattle.item_step.specs.declared.answers.Left.{Left}
+
+-- the action at which an evaluation stopped; where memory ran out nothing is said of it
+abbrev pub Stops : Halt → Action → Type 0
+Stops halt.Memory made = Unit {0}
+Stops halt.Finish made = made ≡ action.End
+Stops (halt.Access p operation) made = made ≡ action.Access p.object p.offset operation
+Stops (halt.Fail c) made = made ≡ action.Fault c
+
+-- an evaluation gave a value, and what follows is made with it; or it stopped at an action
+abbrev pub Went : {A : Type 0} → Result A Halt → Action → (A → Action) → Type 0
+Went (Ok value) made following = made ≡ following value
+Went (Err h) made following = Stops h made
+
+-- the action that a run makes with what is left of ticks and answers
+abbrev pub made : Run → List Answer → Left → Action
+made run answers left = walk run left.ticks (drop left.used answers)
+
+-- expressions of a list, from left to right, behind values
+abbrev pub eval_list : Here → List Term → Variables → List Operand → (List Operand → Run) → Run
+eval_list here [] variables values after = after values
+eval_list here (e ∷ es) variables values after = eval here e variables (λ v. eval_list here es variables (values ++ v ∷ []) after)
+
+-- statements of a list, in order
+abbrev pub exec_list : Here → List Stmt → (Variables → Run) → Variables → Run
+exec_list here [] after variables = after variables
+exec_list here (s ∷ ss) after variables = exec here s (λ now. exec_list here ss after now) variables
+
+-- an assignment to an element of what a name points to
+abbrev pub assigned : Here → ℕ → Term → Term → Variables → Run → Run
+assigned here name index value variables after =
+    known name (look variables name) (λ p. eval here index variables (λ i. moved p i (λ q. eval here value variables (λ v. store q v after))))

@@ -1,0 +1,4 @@
+pub mod Evaluation
+pub mod Contents
+pub mod Context
+pub mod Setups

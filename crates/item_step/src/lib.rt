@@ -1,0 +1,14 @@
+//! One work-item: what it does next.
+#![tactic(auto)]
+
+mod answers;
+mod context;
+mod evaluation;
+mod execution;
+mod halt;
+mod launch;
+mod memory;
+#[cfg(test)]
+mod tests;
+
+pub use launch::Launch;

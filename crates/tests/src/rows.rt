@@ -1,0 +1,118 @@
+use cli::memory::{MemoryReader, MemoryWriter};
+use cli::session::{Options, RunFault, run, status};
+use cli::streams::{Input, Output};
+use std::process::Abort;
+
+/// Runs a script, and compares the text that was written and the status.
+fn check<R: Abort + AllocGlobal>(rt: &R, script: &str, replies: &str, wanted: u8) {
+    let mut reader = Input::new(MemoryReader::new(script.as_bytes(), 4096, u64::MAX));
+    let mut written = MemoryWriter::new(Vec::new(rt.alloc()), 4096, u64::MAX);
+    let mut writer = Output::new(&mut written);
+    let outcome = run(rt.alloc(), &mut reader, &mut writer, Options::default());
+    assert_eq!(rt; status(&outcome), wanted);
+    assert_eq!(rt; written.as_slice(), replies.as_bytes());
+}
+
+/// Runs a script that is none, and compares the line that is told.
+fn check_bad<R: Abort + AllocGlobal>(rt: &R, script: &str, line: usize) {
+    let mut reader = Input::new(MemoryReader::new(script.as_bytes(), 4096, u64::MAX));
+    let mut written = MemoryWriter::new(Vec::new(rt.alloc()), 4096, u64::MAX);
+    let mut writer = Output::new(&mut written);
+    let outcome = run(rt.alloc(), &mut reader, &mut writer, Options::default());
+    assert!(rt; matches!(&outcome, Err(RunFault::BadLine(number)) if *number == line));
+    assert!(rt; written.as_slice().is_empty());
+}
+
+#[test]
+fn the_first_run(rt: HostRuntime) {
+    check(
+        &rt,
+        "buffer a 8\nprogram p 1\n__kernel void f(__global int *a) { a[0] = 7; a[1] = 9; }\nkernel k p f\narg k 0 buffer a\nlaunch k 1 1\nread a 0 8\n",
+        "ok\nok\nok\nok\nclean\ndata 0700000009000000\n",
+        0,
+    );
+}
+
+#[test]
+fn scripts_without_a_launch(rt: HostRuntime) {
+    check(&rt, "", "", 0);
+    check(
+        &rt,
+        "buffer a 1048576\nbuffer a 4\nbuffer b 1048577\nbuffer c 0\n",
+        "ok\nrefused 1 NameInUse\nrefused 3 BadSize\nrefused 3 BadSize\n",
+        2,
+    );
+    check_bad(&rt, "buffer a 4", 1);
+    check_bad(&rt, "buffer a 4\n\nbuffer b 4\n", 2);
+    check_bad(&rt, "program p 2\n__kernel void f() { }\n", 1);
+}
+
+#[test]
+fn stores_of_one_item(rt: HostRuntime) {
+    check(
+        &rt,
+        "buffer a 8\nprogram p 1\n__kernel void f(__global int *a) { a[1] = 2147483648; }\nkernel k p f\narg k 0 buffer a\nlaunch k 1 1\nread a 0 8\n",
+        "ok\nok\nok\nok\nclean\ndata 0000000000000080\n",
+        0,
+    );
+    check(
+        &rt,
+        "buffer a 8\nprogram p 1\n__kernel void f(__global int *a) { a[2] = 1; }\nkernel k p f\narg k 0 buffer a\nlaunch k 1 1\nread a 0 8\n",
+        "ok\nok\nok\nok\nfault 4 bounds item 0 store buffer a element 2 schedule -\ndata 0000000000000000\n",
+        1,
+    );
+}
+
+#[test]
+fn two_items(rt: HostRuntime) {
+    check(
+        &rt,
+        "buffer a 12\nprogram p 1\n__kernel void f(__global int *a) { a[get_local_id(0)] = a[get_local_id(0) + 1]; }\nkernel k p f\narg k 0 buffer a\nlaunch k 2 2\n",
+        "ok\nok\nok\nok\nfault 1 race item 0 load item 1 store buffer a byte 4 schedule 0*2 1*2\n",
+        1,
+    );
+    check(
+        &rt,
+        "buffer a 4\nprogram p 1\n__kernel void f(__global int *a) { a[0] = get_local_id(0); }\nkernel k p f\narg k 0 buffer a\nlaunch k 2 2\n",
+        "ok\nok\nok\nok\nfault 1 race item 0 store item 1 store buffer a byte 0 schedule 0*1 1*1\n",
+        1,
+    );
+    check(
+        &rt,
+        "buffer a 8\nprogram p 1\n__kernel void f(__global int *a) { a[get_local_id(0)] = get_local_id(0); }\nkernel k p f\narg k 0 buffer a\nlaunch k 2 2\nread a 0 8\n",
+        "ok\nok\nok\nok\nclean\ndata 0000000001000000\n",
+        0,
+    );
+}
+
+#[test]
+fn updates_of_two_items(rt: HostRuntime) {
+    check(
+        &rt,
+        "buffer a 4\nprogram p 1\n__kernel void f(__global int *a) { atomic_add(&a[0], 3); atomic_min(&a[0], 1); }\nkernel k p f\narg k 0 buffer a\nlaunch k 2 2\n",
+        "ok\nok\nok\nok\nfault 2 order item 0 smin item 1 add buffer a byte 0 schedule 0*2 1*1\n",
+        1,
+    );
+    check(
+        &rt,
+        "buffer a 4\nprogram p 1\n__kernel void f(__global int *a) { atomic_add(&a[0], 3); }\nkernel k p f\narg k 0 buffer a\nlaunch k 2 2\nread a 0 4\n",
+        "ok\nok\nok\nok\nclean\ndata 06000000\n",
+        0,
+    );
+}
+
+#[test]
+fn refusals_of_sources(rt: HostRuntime) {
+    check(
+        &rt,
+        "program p 1\n__kernel void f() { y[0] = 1; }\n",
+        "refused 10 BuildFailed type 1 UnknownName at 20\n",
+        2,
+    );
+    check(
+        &rt,
+        "program p 1\n__kernel void f(size_t n) { }\n",
+        "refused 10 BuildFailed syntax 3 Unexpected at 16\n",
+        2,
+    );
+}
