@@ -8,7 +8,5 @@ mod execution;
 mod halt;
 mod launch;
 mod memory;
-#[cfg(test)]
-mod tests;
 
 pub use launch::Launch;
