@@ -44,6 +44,3 @@ pub struct PlainLaunch {
     pub local_names: Vec<Name>,
     pub source_names: Vec<Name>,
 }
-
-#[cfg(test)]
-mod tests;
