@@ -36,7 +36,9 @@ use Rattle.clmodel.specs.declared.operand.Operand.{Operand}
 use Rattle.clmodel.specs.declared.operand.Operand.TheVariants.{Integral, Pointed}
 use Rattle.clmodel.specs.declared.operand.Pointer.{Pointer}
 use Rattle.clmodel.specs.declared.setup.BuiltIn.{BuiltIn}
-use Rattle.clmodel.specs.declared.setup.BuiltIn.TheVariants.{LocalId, AtomicAdd, AtomicMin}
+use Rattle.clmodel.specs.declared.setup.BuiltIn.TheVariants.{WorkItem, Atomic}
+use Rattle.clmodel.specs.declared.setup.WorkItemFunction.TheVariants.{LocalId}
+use Rattle.clmodel.specs.declared.setup.AtomicFunction.TheVariants as atomic
 
 -- What is still to be done: actions that come one after the answer of another, and loop turns between them.
 pub data Run : Type 0 where
@@ -138,7 +140,7 @@ size_value n = Integral (wrapped Ulong (pos n))
 
 -- a built-in function that gives a value
 abbrev pub call : Here → Option BuiltIn → List Operand → (Operand → Run) → Run
-call here (Some LocalId) (d ∷ []) after = after (size_value (here.local_id (dimension d)))
+call here (Some (WorkItem LocalId)) (d ∷ []) after = after (size_value (here.local_id (dimension d)))
 call here _ _ after = finish
 
 -- An expression, and what follows its value. (The rest of the language has no meaning yet, and no typed program has it.)
@@ -168,9 +170,9 @@ abbrev mutual
 
 -- a call that is a whole statement
 abbrev pub call_only : Here → Option BuiltIn → List Operand → Run → Run
-call_only here (Some AtomicAdd) (p ∷ v ∷ []) after = update (λ _. class.Add) p v after
-call_only here (Some AtomicMin) (p ∷ v ∷ []) after = update least_class p v after
-call_only here (Some LocalId) (d ∷ []) after = after
+call_only here (Some (Atomic atomic.Add)) (p ∷ v ∷ []) after = update (λ _. class.Add) p v after
+call_only here (Some (Atomic atomic.Min)) (p ∷ v ∷ []) after = update least_class p v after
+call_only here (Some (WorkItem LocalId)) (d ∷ []) after = after
 call_only here _ _ after = finish
 
 -- A statement, and what follows it.

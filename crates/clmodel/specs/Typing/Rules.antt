@@ -7,7 +7,7 @@ use Rattle.clnum.specs.declared.int_type.IntType.{IntType}
 use Rattle.clnum.specs.declared.int_type.IntType.TheVariants.{Int, Uint, Ulong}
 use Rattle.clnum.specs.declared.operators.BinaryOperator.TheVariants.{Add}
 use Rattle.clmodel.specs.declared.setup.BuiltIn.{BuiltIn}
-use Rattle.clmodel.specs.declared.setup.BuiltIn.TheVariants.{LocalId, AtomicAdd, AtomicMin}
+use Rattle.clmodel.specs.declared.setup.BuiltIn.TheVariants as built_in
 use Rattle.clmodel.specs.declared.tree.AddressSpace.{AddressSpace}
 use Rattle.clmodel.specs.declared.tree.AddressSpace.TheVariants.{Global, Local, Constant}
 use Rattle.clmodel.specs.declared.tree.PointerType.{PointerType}
@@ -40,15 +40,17 @@ pub data Want : Type 0 where
 
 -- the parameters of a built-in function
 abbrev pub wants : BuiltIn → List Want
-wants LocalId = AnInteger ∷ []
-wants AtomicAdd = AnAtomicPointer ∷ AnInteger ∷ []
-wants AtomicMin = AnAtomicPointer ∷ AnInteger ∷ []
+wants built_in.WorkDim = []
+wants (built_in.WorkItem f) = AnInteger ∷ []
+wants (built_in.Integer f) = AnInteger ∷ []
+wants (built_in.Atomic f) = AnAtomicPointer ∷ AnInteger ∷ []
 
 -- the type of its value; an atomic function's value can't be used
 abbrev pub gives : BuiltIn → Option VariableType
-gives LocalId = Some (kind.Integer Ulong)
-gives AtomicAdd = None
-gives AtomicMin = None
+gives built_in.WorkDim = Some (kind.Integer Uint)
+gives (built_in.WorkItem f) = Some (kind.Integer Ulong)
+gives (built_in.Integer f) = None
+gives (built_in.Atomic f) = None
 
 abbrev pub count : Terms → ℕ
 count NoTerm = 0
