@@ -10,11 +10,3 @@ pub mod Canonical
 pub mod Rows
 pub mod Ending
 pub mod Reports
-pub mod PlainMemory
-pub mod PlainConflicts
-pub mod PlainStates
-pub mod PlainSearch
-pub mod PlainSteps
-pub mod PlainTurns
-pub mod PlainRuns
-pub mod PlainSchedules

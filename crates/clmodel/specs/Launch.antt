@@ -1,6 +1,6 @@
 -- A launch: what its items do next, which places there are, and what is kept of an access (OpenCL 1.2, 3.2 and 3.3).
-use Rattle.std.specs.Prelude.{◌≡◌, ℕ, ◌+◌, ◌*◌, ◌/◌, ◌==◌, ℤ, pos, negsuc, Bool, true, false, not, ◌&&◌, ◌||◌, nat_le, if◌then◌else◌, Option, None, Some, List, [], ◌∷◌, length, slice_index, slice_index_or}
-use Rattle.clmodel.specs.Cells.{byte_count, covers, size_of}
+use Rattle.std.specs.Prelude.{ℕ, ◌+◌, ◌*◌, ◌/◌, ◌==◌, ℤ, pos, negsuc, Bool, false, not, ◌&&◌, ◌||◌, nat_le, if◌then◌else◌, Option, None, Some, List, [], length, slice_index, slice_index_or}
+use Rattle.clmodel.specs.Cells.{byte_count, covers}
 use Rattle.clmodel.specs.declared.access.Class.{Class}
 use Rattle.clmodel.specs.declared.access.Class.TheVariants as class
 use Rattle.clmodel.specs.declared.access.AccessKind.{AccessKind}

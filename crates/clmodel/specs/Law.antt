@@ -1,9 +1,9 @@
 -- Faults, the states that show them, the canonical run, and determinacy.
-use Rattle.std.specs.Prelude.{◌≡◌, ℕ, zero, suc, ◌<◌, ◌≤◌, ℤ, Bool, true, false, not, ◌⊎◌, if◌then◌else◌, Option, None, Some, List, [], ◌∷◌, ◌++◌, length, slice_index_or}
+use Rattle.std.specs.Prelude.{◌≡◌, ℕ, zero, suc, ◌+◌, ◌-◌, ◌<◌, ◌≤◌, ℤ, Bool, true, false, not, ◌⊎◌, if◌then◌else◌, Option, None, Some, List, [], ◌∷◌, ◌++◌, length, slice_index_or}
 use Rattle.std.specs.Option.{option_map}
 use Rattle.clmodel.specs.Cells.{byte_count, lowest_unset, reads, size_of}
 use Rattle.clmodel.specs.Launch.{Launch, region_of, location_of, kind_of, group_of, conflict}
-use Rattle.clmodel.specs.Run.{State, Events, start, step, after, next_action, byte_at, or_else, lowest, first_item, stop_of, same_stop, both_stop, straggler, IsComplete, left}
+use Rattle.clmodel.specs.Run.{State, Events, start, step, after, next_action, byte_at, or_else, lowest, first_item, stop_of, same_stop, straggler, IsComplete, left}
 use Rattle.clmodel.specs.declared.access.AccessKind.{AccessKind}
 use Rattle.clmodel.specs.declared.access.Object.{Object}
 use Rattle.clmodel.specs.declared.access.Operation.{Operation}
@@ -228,6 +228,29 @@ abbrev pub RunEnds : Type 0
 RunEnds =
     (launch : Launch) (bound : ℕ) → IsBounded launch bound
     → ((events : Events) × (end : State) × RunsClean launch events end) ⊎ ((events : Events) × (end : State) × (f : Fault) × RunsIntoFault launch events end f)
+
+-- an event is possible
+abbrev pub IsPossible : Launch → State → Event → Type 0
+IsPossible launch state event = (next : State) × (step launch state event ≡ Some next)
+
+-- the canonical run never sticks: the event that it makes is possible
+abbrev pub NeverSticks : Type 0
+NeverSticks = (launch : Launch) (state : State) (event : Event) → turn launch state ≡ Makes event → IsPossible launch state event
+
+-- the sum of a function over the numbers below a count
+abbrev pub sum_below : (ℕ → ℕ) → ℕ → ℕ
+sum_below f zero = 0
+sum_below f (suc n) = sum_below f n + f n
+
+-- how many answers the items can still be given, where none is given more than `bound`
+abbrev pub answers_left : Launch → ℕ → State → ℕ
+answers_left launch bound state = sum_below (λ item. bound - length (state.answers item)) launch.items
+
+-- each event of a launch with a bound leaves fewer
+abbrev pub AnswersRunOut : Type 0
+AnswersRunOut =
+    (launch : Launch) (bound : ℕ) (state : State) (event : Event) (next : State) → IsBounded launch bound → step launch state event ≡ Some next
+    → answers_left launch bound next < answers_left launch bound state
 
 -- a launch has one canonical run
 abbrev pub NoEvent : Launch → State → Type 0

@@ -7,4 +7,4 @@ pub mod BuiltIns
 pub mod Setup
 pub mod Next
 pub mod Typing
-pub mod Plain
+pub mod Outcome

@@ -5,11 +5,11 @@ use Rattle.std.specs.Option.{MatchOption}
 use Rattle.clmodel.specs.Law.{Determinacy, CleanIsComplete, ReportIsShown}
 use Rattle.clmodel.specs.Launch.{Launch}
 use Rattle.clmodel.specs.Next.{launch_of}
-use Rattle.clmodel.specs.Plain.{Concludes}
+use Rattle.clmodel.specs.Outcome.{Concludes}
 use Rattle.clmodel.specs.Setup.{Setup}
 use Rattle.clmodel.specs.declared.fault.Fault.{Fault}
-use Rattle.clmodel.specs.declared.plain.run.Outcome.{Outcome}
-use Rattle.clmodel.specs.declared.plain.run.Outcome.TheVariants.{Clean, Faulted}
+use Rattle.clmodel.specs.declared.outcome.Outcome.{Outcome}
+use Rattle.clmodel.specs.declared.outcome.Outcome.TheVariants.{Clean, Faulted}
 use Rattle.clmodel.specs.declared.schedule.Run.{Run}
 use Rattle.clmodel.specs.declared.setup.Range.{Range}
 use Rattle.device_store.specs.Tables.{with_values}

@@ -5,12 +5,12 @@ use Rattle.clmodel.specs.Run.{State, Events, left}
 use Rattle.clmodel.specs.Law.{Determinacy, CleanIsComplete, ReportIsShown, CleanWith, Reaches, IsBounded, RunsClean}
 use Rattle.device.specs.Machine.{IsReported}
 use Rattle.clmodel.specs.Next.{next, launch_of}
-use Rattle.clmodel.specs.Plain as plain
-use Rattle.clmodel.specs.Plain.{IsReady, Concludes, events_of, IsMerged}
+use Rattle.plain_run.specs.Plain as plain
+use Rattle.clmodel.specs.Outcome.{IsReady, Concludes, events_of, IsMerged}
 use Rattle.clmodel.specs.Setup.{Setup, buffer_names}
-use Rattle.clmodel.specs.declared.plain.PlainLaunch.{PlainLaunch}
-use Rattle.clmodel.specs.declared.plain.run.Outcome.{Outcome}
-use Rattle.clmodel.specs.declared.plain.run.Outcome.TheVariants.{Clean, Faulted}
+use Rattle.plain_run.specs.declared.PlainLaunch.{PlainLaunch}
+use Rattle.clmodel.specs.declared.outcome.Outcome.{Outcome}
+use Rattle.clmodel.specs.declared.outcome.Outcome.TheVariants.{Clean, Faulted}
 use Rattle.clmodel.specs.declared.fault.Fault.{Fault}
 use Rattle.clmodel.specs.declared.schedule.Run as schedule_run
 

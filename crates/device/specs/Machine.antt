@@ -8,7 +8,7 @@ use Rattle.clmodel.specs.Launch.{Launch}
 use Rattle.clmodel.specs.Run.{Events, State}
 use Rattle.clmodel.specs.declared.fault.Fault.{Fault}
 use Rattle.clmodel.specs.Next.{launch_of}
-use Rattle.clmodel.specs.Plain.{events_of, IsMerged}
+use Rattle.clmodel.specs.Outcome.{events_of, IsMerged}
 use Rattle.clmodel.specs.Setup.{Setup, buffer_names}
 use Rattle.clmodel.specs.Tree.{Program, NoFunc, program}
 use Rattle.clmodel.specs.declared.setup.Argument.{Argument}

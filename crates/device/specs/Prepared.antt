@@ -2,7 +2,7 @@
 use Rattle.std.specs.Prelude.{◌≡◌, ℕ, List, None, Some, Result, Ok, Err}
 use Rattle.clmodel.specs.Setup.{Setup, buffer_names}
 use Rattle.clmodel.specs.Next.{launch_of}
-use Rattle.clmodel.specs.Plain.{Concludes}
+use Rattle.clmodel.specs.Outcome.{Concludes}
 use Rattle.clmodel.specs.Tree.{program}
 use Rattle.clmodel.specs.declared.setup.Range.{Range}
 use Rattle.device_store.specs.declared.command.Command.TheVariants as command

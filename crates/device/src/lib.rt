@@ -13,7 +13,7 @@ mod prepared;
 
 use crate::prepared::Launched;
 use clmodel::determinacy::{clean_is_complete, determinacy};
-use clmodel::plain::run::Outcome;
+use clmodel::outcome::Outcome;
 use clmodel::run_laws::report_is_shown;
 use clmodel::setup::{Argument, Range};
 use clmodel::text::{Bytes, Name};

@@ -3,15 +3,14 @@
 
 ghost use Rattle.std.specs.Prelude.{◌≡◌, ◌<◌, ◌%◌, map, IfOk};
 ghost use Rattle.clmodel.specs.Next.{next, launch_of};
-ghost use Rattle.clmodel.specs.Plain as plain;
+ghost use Rattle.plain_run.specs.Plain as plain;
 ghost use Rattle.clmodel.specs.Setup.{buffer_names};
 ghost use Rattle.device_store.specs.Ranges.{IsLaunchable};
 ghost use Rattle.device.specs.Machine.{bytes_in};
 ghost use Rattle.device.specs.Prepared.{prepared_setup, Came};
 
 use clmodel::next_laws::budget_bounds;
-use clmodel::plain::PlainLaunch;
-use clmodel::plain::run::{Outcome, run};
+use clmodel::outcome::Outcome;
 use clmodel::setup::Range;
 use clmodel::text::{Bytes, Name};
 use clmodel::tree::Tree;
@@ -19,6 +18,7 @@ use device_store::kernel::Kernel;
 use device_store::ranges::{group_items, item_count};
 use device_store::table::Table;
 use item_step::Launch;
+use plain_run::{PlainLaunch, run};
 use std::alloc::{AllocError, Global};
 
 /// A kernel that may be launched, with its program's tree.

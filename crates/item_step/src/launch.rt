@@ -15,7 +15,7 @@ use crate::context::Context;
 use crate::execution::execute_all;
 use crate::halt::Halt;
 use clmodel::action::{Action, Answer};
-use clmodel::plain::NextAction;
+use clmodel::next_action::NextAction;
 use clmodel::setup::{Argument, Range};
 use clmodel::text::Name;
 use clmodel::tree::{Function, Tree};

@@ -1,0 +1,22 @@
+//! What runs a launch asks of its items.
+
+ghost use Rattle.std.specs.Prelude.{◌≡◌, ℕ, List, IfOk};
+ghost use Rattle.clmodel.specs.declared.action.Action.{Action};
+ghost use Rattle.clmodel.specs.declared.action.Answer.{Answer};
+
+use crate::action::{Action, Answer};
+use std::alloc::{AllocError, Global};
+
+/// What the items of a launch do next.
+pub trait NextAction {
+    ghost next: { Self → ℕ → List Answer → Action };
+
+    /// An item's action once these answers are used up.
+    fn next_action(
+        &self,
+        alloc: Global,
+        item: u32,
+        answers: &[Answer],
+    ) -> Result<Action, AllocError>
+        ensures { IfOk result (λ action. action ≡ next self.now item answers.now) };
+}

@@ -1,0 +1,28 @@
+//! The plain program: the canonical run of a launch over lists, one event after another, as the definitions have it. It is slow,
+//! and what faster programs are measured by.
+#![tactic(auto)]
+
+mod canonical;
+mod compare;
+mod launch;
+mod memory;
+mod search;
+mod state;
+mod step;
+mod turn;
+
+pub use canonical::run;
+use clmodel::text::{Bytes, Name};
+
+/// A launch of so many items, so many to a group, with the bytes of its buffers, the bytes that each local object of the kernel
+/// has, and the names that a fault gives to buffers, to local objects and to what the source names.
+#[derive(Debug, Drop)]
+pub struct PlainLaunch {
+    pub items: u32,
+    pub group_size: u32,
+    pub buffers: Vec<Bytes>,
+    pub local_sizes: Vec<u64>,
+    pub buffer_names: Vec<Name>,
+    pub local_names: Vec<Name>,
+    pub source_names: Vec<Name>,
+}
