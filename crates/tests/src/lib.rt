@@ -2,4 +2,6 @@
 #![tactic(auto)]
 
 #[cfg(test)]
+mod interleavings;
+#[cfg(test)]
 mod rows;

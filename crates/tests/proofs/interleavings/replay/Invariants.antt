@@ -1,0 +1,5 @@
+use Rattle.clmodel.specs.Plain.{launch_of, IsKept}
+use Rattle.tests.proofs.interleavings.replay.Given as goal
+
+abbrev pub invariant-loop-event : goal.invariant-loop-event
+invariant-loop-event g l = IsKept (launch_of l.launch (g.N.NextAction.next l.items)) l.state
