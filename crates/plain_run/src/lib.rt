@@ -2,14 +2,14 @@
 //! and what faster programs are measured by.
 #![tactic(auto)]
 
-mod canonical;
-mod compare;
+pub mod canonical;
+pub mod compare;
 mod launch;
 mod memory;
-mod search;
-mod state;
-mod step;
-mod turn;
+pub mod search;
+pub mod state;
+pub mod step;
+pub mod turn;
 
 pub use canonical::run;
 use clmodel::text::{Bytes, Name};

@@ -3,17 +3,19 @@
 #![tactic(auto)]
 
 ghost use Rattle.std.specs.Prelude.{◌≡◌, ℕ, ◌<◌, ◌%◌, ◌==◌, nat_lt, length, slice_index_or, if◌then◌else◌, IfOk, IfSome};
-ghost use Rattle.clmodel.specs.Plain.{launch_of, IsKept, IsReady};
+ghost use Rattle.plain_run.specs.Plain.{launch_of, IsKept, IsReady};
 
 use clmodel::access::{Class, Object, Operation, Width};
 use clmodel::action::{Action, Answer, Cause, Fences, Instance, Turns};
-use clmodel::plain::compare::newest_conflict;
-use clmodel::plain::run::{Outcome, buffers_after, run};
-use clmodel::plain::search::lowest_unended;
-use clmodel::plain::state::PlainState;
-use clmodel::plain::step::step;
-use clmodel::plain::turn::{PlainTurn, turn};
-use clmodel::plain::{NextAction, PlainLaunch};
+use plain_run::compare::newest_conflict;
+use clmodel::outcome::Outcome;
+use plain_run::canonical::{buffers_after, run};
+use plain_run::search::lowest_unended;
+use plain_run::state::PlainState;
+use plain_run::step::step;
+use plain_run::turn::{PlainTurn, turn};
+use clmodel::next_action::NextAction;
+use plain_run::PlainLaunch;
 use clmodel::schedule::{Event, Run};
 use clmodel::text::{Bytes, Name};
 use std::alloc::{AllocError, Global};

@@ -1,4 +1,4 @@
-use Rattle.clmodel.specs.Plain.{launch_of, IsKept}
+use Rattle.plain_run.specs.Plain.{launch_of, IsKept}
 use Rattle.tests.proofs.interleavings.replay.Given as goal
 
 abbrev pub invariant-loop-event : goal.invariant-loop-event
