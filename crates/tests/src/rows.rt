@@ -116,3 +116,106 @@ fn refusals_of_sources(rt: HostRuntime) {
         2,
     );
 }
+
+// Each item stores a byte of its own; sizes that do not divide.
+#[test]
+fn bytes_side_by_side(rt: HostRuntime) {
+    check(
+        &rt,
+        "buffer a 4\nprogram p 1\n__kernel void f(__global uchar *a) { ulong i = get_global_id(0); a[i] = i + 1; }\nkernel k p f\narg k 0 buffer a\nlaunch k 4 4\nread a 0 4\n",
+        "ok\nok\nok\nok\nclean\ndata 01020304\n",
+        0,
+    );
+    check(
+        &rt,
+        "buffer a 4\nprogram p 1\n__kernel void f(__global uchar *a) { ulong i = get_global_id(0); a[i] = i + 1; }\nkernel k p f\narg k 0 buffer a\nlaunch k 3 2\nread a 0 4\n",
+        "ok\nok\nok\nok\nrefused 7 BadGroupSize\ndata 00000000\n",
+        2,
+    );
+}
+
+// The element of a store is an argument.
+#[test]
+fn elements_out_of_range(rt: HostRuntime) {
+    check(
+        &rt,
+        "buffer a 16\nprogram p 1\n__kernel void f(__global int *a, int n) { a[n] = 5; }\nkernel k p f\narg k 0 buffer a\narg k 1 value 3\nlaunch k 1 1\nread a 12 4\n",
+        "ok\nok\nok\nok\nok\nclean\ndata 05000000\n",
+        0,
+    );
+    check(
+        &rt,
+        "buffer a 16\nprogram p 1\n__kernel void f(__global int *a, int n) { a[n] = 5; }\nkernel k p f\narg k 0 buffer a\narg k 1 value 4\nlaunch k 1 1\n",
+        "ok\nok\nok\nok\nok\nfault 4 bounds item 0 store buffer a element 4 schedule -\n",
+        1,
+    );
+    check(
+        &rt,
+        "buffer a 16\nprogram p 1\n__kernel void f(__global int *a, int n) { a[n] = 5; }\nkernel k p f\narg k 0 buffer a\narg k 1 value -1\nlaunch k 1 1\n",
+        "ok\nok\nok\nok\nok\nfault 4 bounds item 0 store buffer a element -1 schedule -\n",
+        1,
+    );
+}
+
+// Items of one whole group add and increment.
+#[test]
+fn updates_of_one_class(rt: HostRuntime) {
+    check(
+        &rt,
+        "buffer a 4\nprogram p 1\n__kernel void f(__global int *a) { atomic_add(&a[0], 3); atomic_inc(&a[0]); }\nkernel k p f\narg k 0 buffer a\nlaunch k 256 256\nread a 0 4\n",
+        "ok\nok\nok\nok\nclean\ndata 00040000\n",
+        0,
+    );
+}
+
+// An unset variable, both faults of division, and a shift by more than the width.
+#[test]
+fn faults_of_evaluation(rt: HostRuntime) {
+    check(
+        &rt,
+        "buffer a 4\nprogram p 1\n__kernel void f(__global int *a) { int x; a[0] = x; }\nkernel k p f\narg k 0 buffer a\nlaunch k 1 1\n",
+        "ok\nok\nok\nok\nfault 5 unset item 0 variable x schedule -\n",
+        1,
+    );
+    check(
+        &rt,
+        "buffer a 12\nwrite a 0 00000080ffffffff00000000\nprogram p 1\n__kernel void f(__global int *a) { a[2] = a[0] / a[1]; }\nkernel k p f\narg k 0 buffer a\nlaunch k 1 1\n",
+        "ok\nok\nok\nok\nok\nfault 7 divide_overflow item 0 schedule 0*2\n",
+        1,
+    );
+    check(
+        &rt,
+        "buffer a 12\nwrite a 0 000000800000000000000000\nprogram p 1\n__kernel void f(__global int *a) { a[2] = a[0] / a[1]; }\nkernel k p f\narg k 0 buffer a\nlaunch k 1 1\n",
+        "ok\nok\nok\nok\nok\nfault 6 divide_by_zero item 0 schedule 0*2\n",
+        1,
+    );
+    check(
+        &rt,
+        "buffer a 4\nprogram p 1\n__kernel void f(__global int *a) { a[0] = 1 << 33; }\nkernel k p f\narg k 0 buffer a\nlaunch k 1 1\nread a 0 4\n",
+        "ok\nok\nok\nok\nclean\ndata 02000000\n",
+        0,
+    );
+}
+
+// Where a source does not build.
+#[test]
+fn faults_of_sources(rt: HostRuntime) {
+    check(
+        &rt,
+        "program p 1\n__kernel void f() { int x = 1.5; }\n",
+        "refused 10 BuildFailed syntax 1 BadByte at 29\n",
+        2,
+    );
+    check(
+        &rt,
+        "program p 1\n__kernel void f() { y = 1; }\n",
+        "refused 10 BuildFailed type 1 UnknownName at 20\n",
+        2,
+    );
+    check(
+        &rt,
+        "program p 1\n__kernel void f(__global int *p) { *p++; }\n",
+        "refused 10 BuildFailed syntax 3 Unexpected at 37\n",
+        2,
+    );
+}
