@@ -204,7 +204,8 @@ fn conclude<N: NextAction>(
     }
 }
 
-/// The canonical run of a launch: it ends clean, with what the buffers then hold, or with its report and its schedule.
+/// The canonical run of a launch of whole groups (OpenCL 1.2, section 5.8) whose items are over after fewer than 2^32 answers: it ends
+/// clean, with what the buffers then hold, or with its report and its schedule. The launch stays as it is. An error is want of memory.
 pub fn run<N: NextAction>(
     alloc: Global,
     launch: &PlainLaunch,
