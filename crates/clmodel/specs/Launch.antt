@@ -1,4 +1,5 @@
--- A launch: what its items do next, which places there are, and what is kept of an access (OpenCL 1.2, 3.2 and 3.3).
+-- A launch: what its items do next, which places there are, and what is kept of an access.
+-- Numbers of sections are those of OpenCL 1.2, or of C99 where that is said; "own" is what this project decided.
 use Rattle.std.specs.Prelude.{ℕ, ◌+◌, ◌*◌, ◌/◌, ◌==◌, ℤ, pos, negsuc, Bool, false, not, ◌&&◌, ◌||◌, nat_le, if◌then◌else◌, Option, None, Some, List, [], length, slice_index, slice_index_or}
 use Rattle.clmodel.specs.Cells.{byte_count, covers}
 use Rattle.clmodel.specs.declared.access.Class.{Class}
@@ -19,7 +20,7 @@ use Rattle.clmodel.specs.declared.action.Answer.{Answer}
 use Rattle.clmodel.specs.declared.fault.Location.{Location}
 use Rattle.clmodel.specs.declared.fault.Location.TheVariants as location
 
--- A launch of `items` items, `group_size` to a group. `next` gives an item's action once the listed answers are used up, one
+-- A launch of `items` items, `group_size` to a group (3.2, 5.8). `next` gives an item's action once the listed answers are used up, one
 -- for each earlier action. The names are those that a reply gives to buffers, to local objects, and to what the source names.
 pub record Launch : Type 0 where
   pub items : ℕ
@@ -31,37 +32,40 @@ pub record Launch : Type 0 where
   pub local_names : List (List ℕ)
   pub source_names : List (List ℕ)
 
+-- two regions are one: local objects of different groups are different (3.3)
 abbrev pub same_region : Region → Region → Bool
 same_region (region.Buffer a) (region.Buffer b) = a == b
 same_region (region.Buffer a) (region.Local h b) = false
 same_region (region.Local g a) (region.Buffer b) = false
 same_region (region.Local g a) (region.Local h b) = (g == h) && (a == b)
 
--- the region that an object is for the items of a group
+-- the region that an object is for the items of a group (3.3, 6.5.1, 6.5.2)
 abbrev pub region_of : ℕ → Object → Region
 region_of group (object.Buffer number) = region.Buffer number
 region_of group (object.Local number) = region.Local group number
 
--- how many bytes a region has
+-- how many bytes a region has (5.2.1 for a buffer, 5.7.2 for a local object)
 abbrev pub bytes_of : Launch → Region → ℕ
 bytes_of launch (region.Buffer number) = length (slice_index_or launch.buffers number [])
 bytes_of launch (region.Local group number) = slice_index launch.local_sizes number
 
--- where a region lies, as a reply names it
+-- where a region lies, as a reply names it (own)
 abbrev pub location_of : Launch → Region → Location
 location_of launch (region.Buffer number) = location.Buffer (slice_index_or launch.buffer_names number [])
 location_of launch (region.Local group number) = location.Local group (slice_index_or launch.local_names number [])
 
--- the first byte of an element of so many bytes, or None where the element is out of range
+-- the first byte of an element of so many bytes, or None where the element is out of range (C99 6.5.2.1, 6.5.6)
 abbrev pub first_byte : ℕ → ℤ → ℕ → Option ℕ
 first_byte bytes (pos element) count = if nat_le ((element + 1) * count) bytes then Some (element * count) else None
 first_byte bytes (negsuc _) count = None
 
+-- the kind of an operation, by which accesses conflict (own)
 abbrev pub kind_of : Operation → AccessKind
 kind_of (operation.Load _) = kind.Load
 kind_of (operation.Store _ _) = kind.Store
 kind_of (operation.Update class _) = kind.Update class
 
+-- a number for each class of updates (own)
 abbrev pub class_number : Class → ℕ
 class_number class.Add = 0
 class_number class.And = 1
@@ -72,27 +76,29 @@ class_number class.UnsignedMin = 5
 class_number class.SignedMax = 6
 class_number class.UnsignedMax = 7
 
--- How two kinds conflict: loads don't, nor updates of one class; updates of two classes leave what depends on their order.
+-- How two kinds conflict (own, on 3.3.1 and 6.12.11): loads don't, nor updates of one class; updates of two classes leave what
+-- depends on their order.
 abbrev pub clash : AccessKind → AccessKind → Option Clash
 clash kind.Load kind.Load = None
 clash (kind.Update c) (kind.Update d) = if class_number c == class_number d then None else Some Order
 clash _ _ = Some Race
 
+-- an item's group: items are numbered group by group (3.2, own in the order)
 abbrev pub group_of : Launch → ℕ → ℕ
 group_of launch item = item / launch.group_size
 
--- two accesses of different items that no barrier orders, of one group or of two
+-- two accesses of different items that no barrier orders, of one group or of two (3.3.1, 6.12.8)
 abbrev pub unordered : Bool → Access → Access → Bool
 unordered one_group x y = not (x.item == y.item) && (not one_group || (x.interval == y.interval))
 
--- both are at this byte
+-- both are at this byte (3.3)
 abbrev pub share : Access → Access → ℕ → Bool
 share x y byte = same_region x.region y.region && covers x.first (byte_count x.width) byte && covers y.first (byte_count y.width) byte
 
--- how two accesses of one group, or of two, conflict on a byte, if they do
+-- how two accesses of one group, or of two, conflict on a byte, if they do (3.3.1, own)
 unfoldable pub conflict_between : Bool → Access → Access → ℕ → Option Clash
 conflict_between one_group x y byte = if unordered one_group x y && share x y byte then clash x.kind y.kind else None
 
--- how two accesses of a launch conflict on a byte, if they do
+-- how two accesses of a launch conflict on a byte, if they do (3.3.1, own)
 unfoldable pub conflict : Launch → Access → Access → ℕ → Option Clash
 conflict launch x y = conflict_between (group_of launch x.item == group_of launch y.item) x y

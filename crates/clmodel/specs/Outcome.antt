@@ -1,4 +1,5 @@
--- What a run of a launch answers: its outcome, and the schedule that it tells in runs.
+-- What a program that runs a launch answers: its outcome, and the schedule that it tells in runs. All of it is this project's own,
+-- but for whole groups (OpenCL 1.2, 5.8).
 use Rattle.std.specs.Prelude.{◌≡◌, ◌≢◌, ℕ, ◌<◌, ◌%◌, ◌^◌, Some, List, [], ◌∷◌, ◌++◌, map, replicate}
 use Rattle.clmodel.specs.Launch.{Launch}
 use Rattle.clmodel.specs.Run.{State, Events, left}

@@ -10,6 +10,7 @@ use Rattle.std.proofs.lemmas.Nat.{div-add-mod', div_below, le-div}
 use Rattle.clmodel.specs.Cells.{Cells, byte_count, byte_of, covers, written, combined, width_of, answer_to, effect}
 use Rattle.clmodel.specs.Launch.{Launch, same_region, group_of}
 use Rattle.clmodel.specs.Run.{Memory, State, start, changed, with_cells, access_of, accessed, raised, released}
+use Rattle.clmodel.specs.Law.{RegionsAreOne}
 use Rattle.plain_run.specs.Plain.{byte_written, byte_after, memory_of, written_by, accesses_of, local_fences, global_fences, answers_released, state_of, IsNumbered, IsInside, IsKept}
 use Rattle.clmodel.specs.declared.access.Access.{Access}
 use Rattle.clmodel.specs.declared.access.Operation.{Operation}
@@ -20,7 +21,6 @@ use Rattle.clmodel.specs.declared.action.Answer.TheVariants.{Done}
 use Rattle.plain_run.specs.declared.memory.Entry.{Entry}
 use Rattle.plain_run.specs.declared.state.GroupRelease.{GroupRelease}
 use Rattle.plain_run.specs.declared.state.PlainState.{PlainState}
-use Rattle.clmodel.proofs.Swaps.{same_region-true}
 use Rattle.plain_run.proofs.PlainMemory.{reverse_push}
 use Rattle.plain_run.proofs.PlainConflicts.{accesses_push}
 
@@ -82,11 +82,11 @@ not_written (Some value) k old = refl
 
 -- what an entry of an access leaves of the memory
 pub memory_after :
-    (memory : Memory) (e : Entry) (operation : Operation) (x : ℕ) → e.written ≡ written_by operation x → e.access.width ≡ width_of operation
+    RegionsAreOne → (memory : Memory) (e : Entry) (operation : Operation) (x : ℕ) → e.written ≡ written_by operation x → e.access.width ≡ width_of operation
     → (λ (other : Region) (byte : ℕ). byte_after e other byte (memory other byte))
     ≡ with_cells memory e.access.region (effect operation x (memory e.access.region) e.access.first)
 unfolding byte_after
-memory_after memory e operation x w v = fun_ext (λ other. fun_ext (λ byte. at other byte (same_region other e.access.region) refl))
+memory_after one memory e operation x w v = fun_ext (λ other. fun_ext (λ byte. at other byte (same_region other e.access.region) refl))
   where
     in_region :
         (other : Region) (byte : ℕ) → other ≡ e.access.region
@@ -104,7 +104,7 @@ memory_after memory e operation x w v = fun_ext (λ other. fun_ext (λ byte. at 
         ≡ (if same_region other e.access.region then effect operation x (memory e.access.region) e.access.first else memory other) byte
     at other byte true q =
         ap (λ z. byte_written e.written (z && covers e.access.first (byte_count e.access.width) byte) (byte - e.access.first) (memory other byte)) q
-        ∙ in_region other byte (same_region-true other e.access.region q)
+        ∙ in_region other byte (one other e.access.region q)
         ∙ ap (λ (z : Bool). (if z then effect operation x (memory e.access.region) e.access.first else memory other) byte) (sym q)
     at other byte false q =
         ap (λ z. byte_written e.written (z && covers e.access.first (byte_count e.access.width) byte) (byte - e.access.first) (memory other byte)) q
@@ -126,18 +126,18 @@ answers_set lists item new h = fun_ext (λ i. at i (i == item) refl)
 
 -- the state once an access is added
 pub accessed_is :
-    (l : Launch) (s t : PlainState) (item : ℕ) (e : Entry) (region : Region) (first : ℕ) (operation : Operation) (x : ℕ)
+    RegionsAreOne → (l : Launch) (s t : PlainState) (item : ℕ) (e : Entry) (region : Region) (first : ℕ) (operation : Operation) (x : ℕ)
     → item < length s.answers.items
     → e.written ≡ written_by operation x → e.access ≡ access_of l (state_of l s) item region first operation
     → t.log.items ≡ s.log.items ++ e ∷ []
     → t.answers.items ≡ set s.answers.items item (get_or s.answers.items item [] ++ answer_to operation x ∷ [])
     → t.releases.items ≡ s.releases.items
     → accessed l (state_of l s) item region first operation (record { answer = answer_to operation x; cells = effect operation x ((state_of l s).memory region) first }) ≡ state_of l t
-accessed_is l s t item e region first operation x h w a p q r =
+accessed_is one l s t item e region first operation x h w a p q r =
     sym (same_states (state_of l t) (accessed l (state_of l s) item region first operation (record { answer = answer_to operation x; cells = effect operation x ((state_of l s).memory region) first }))
     (ap (λ z. memory_of l (reverse z)) p
     ∙ ap (memory_of l) (reverse_push s.log.items e)
-    ∙ memory_after (memory_of l (reverse s.log.items)) e operation x w (ap (λ (z : Access). z.width) a)
+    ∙ memory_after one (memory_of l (reverse s.log.items)) e operation x w (ap (λ (z : Access). z.width) a)
     ∙ ap (λ (z : Access). with_cells (memory_of l (reverse s.log.items)) z.region (effect operation x (memory_of l (reverse s.log.items) z.region) z.first)) a)
     (ap (λ z item. get_or z item []) q ∙ answers_set s.answers.items item (get_or s.answers.items item [] ++ answer_to operation x ∷ []) h)
     (ap accesses_of p ∙ accesses_push s.log.items e ∙ ap (λ z. z ∷ accesses_of s.log.items) a)

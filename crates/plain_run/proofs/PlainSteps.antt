@@ -7,7 +7,7 @@ use Rattle.std.specs.Option.{option_map}
 use Rattle.clmodel.specs.Cells.{Outcome, width_of, found, answer_to, effect}
 use Rattle.clmodel.specs.Launch.{Launch, region_of, first_byte, kind_of, group_of}
 use Rattle.clmodel.specs.Run.{State, step, next_action, byte_at, interval_of, access_of, accessed, access_at, item_step, first_item, straggler, released, release_from, release_if, release}
-use Rattle.clmodel.specs.Law.{is_over}
+use Rattle.clmodel.specs.Law.{RegionsAreOne, is_over}
 use Rattle.clmodel.specs.Outcome.{IsReady}
 use Rattle.plain_run.specs.Plain.{written_by, access_in, fences_of, state_of, IsKept}
 use Rattle.clmodel.specs.declared.access.AccessKind.{AccessKind}
@@ -51,7 +51,7 @@ access_is l s item object element operation region first width kind interval w a
     ∙ ap (λ z. (entry_of item region first (width_of operation) (kind_of operation) z w).access) a.within
 
 pub access_made :
-    (l : Launch) (s t : PlainState) (item : ℕ) (object : Object) (element : ℤ) (operation : Operation) (region : Region) (first : ℕ) (width : Width) (kind : AccessKind) (interval x : ℕ)
+    RegionsAreOne → (l : Launch) (s t : PlainState) (item : ℕ) (object : Object) (element : ℤ) (operation : Operation) (region : Region) (first : ℕ) (width : Width) (kind : AccessKind) (interval x : ℕ)
     (w : Option ℕ) (answer : Answer) → IsAccess l s item object element operation region first width kind interval
     → w ≡ written_by operation x → answer ≡ answer_to operation x
     → found operation ((state_of l s).memory region) first ≡ Some x → item < length s.answers.items
@@ -59,12 +59,12 @@ pub access_made :
     → t.answers.items ≡ set s.answers.items item (get_or s.answers.items item [] ++ answer ∷ [])
     → t.releases.items ≡ s.releases.items
     → access_at l (state_of l s) item (region_of (group_of l item) object) operation (byte_at l item object element operation) ≡ Some (state_of l t)
-access_made l s t item object element operation region first width kind interval x w answer a wrote answered finds h p q r =
+access_made one l s t item object element operation region first width kind interval x w answer a wrote answered finds h p q r =
     ap (access_at l (state_of l s) item (region_of (group_of l item) object) operation) a.placed
     ∙ ap (λ z. access_at l (state_of l s) item z operation (Some first)) (sym a.in_region)
     ∙ ap (λ o. option_map (accessed l (state_of l s) item region first operation)
     (option_map (λ (n : ℕ). let out : Outcome = record { answer = answer_to operation n; cells = effect operation n ((state_of l s).memory region) first } in out) o)) finds
-    ∙ ap Some (accessed_is l s t item (entry_of item region first width kind interval w) region first operation x h wrote
+    ∙ ap Some (accessed_is one l s t item (entry_of item region first width kind interval w) region first operation x h wrote
     (access_is l s item object element operation region first width kind interval w a) p
     (q ∙ ap (λ z. set s.answers.items item (get_or s.answers.items item [] ++ z ∷ [])) answered) r)
 

@@ -1,4 +1,4 @@
--- What the lists of the plain program stand for.
+-- What the lists of the plain program stand for. All of it is this project's own; it speaks in the terms of the model.
 use Rattle.std.specs.Prelude.{◌≡◌, ℕ, suc, ◌+◌, ◌-◌, ◌/◌, ◌<◌, ◌≤◌, ◌^◌, ◌==◌, Bool, true, false, ◌&&◌, if◌then◌else◌, Option, None, Some, List, [], ◌∷◌, ◌++◌, length, map, reverse, slice_index_or, count_by, All}
 use Rattle.clmodel.specs.Cells.{byte_count, byte_of, combined, covers}
 use Rattle.clmodel.specs.Launch.{Launch, same_region, bytes_of, group_of}

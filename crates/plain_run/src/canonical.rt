@@ -19,6 +19,7 @@ use crate::state::PlainState;
 use crate::step::step;
 use crate::turn::{PlainTurn, turn};
 use clmodel::access::Region;
+use clmodel::determinacy::regions_are_one;
 use clmodel::next_action::NextAction;
 use clmodel::outcome::Outcome;
 use clmodel::run_laws::{answers_run_out, never_sticks};
@@ -59,6 +60,7 @@ fn write_entry(launch: &PlainLaunch, number: usize, bytes: &mut Vec<u8>, entry: 
     let access = entry.access;
     if let Some(value) = entry.written {
         if is_buffer(access.region, number) {
+            regions_are_one();
             write(
                 bytes,
                 access.first as usize,
@@ -202,7 +204,8 @@ fn conclude<N: NextAction>(
     }
 }
 
-/// The canonical run of a launch: it ends clean, with what the buffers then hold, or with its report and its schedule.
+/// The canonical run of a launch of whole groups (OpenCL 1.2, section 5.8) whose items are over after fewer than 2^32 answers: it ends
+/// clean, with what the buffers then hold, or with its report and its schedule. The launch stays as it is. An error is want of memory.
 pub fn run<N: NextAction>(
     alloc: Global,
     launch: &PlainLaunch,

@@ -14,6 +14,7 @@ use crate::search::{first_item, straggler};
 use crate::state::{GroupRelease, PlainState, interval_of};
 use clmodel::access::{Access, Object, Operation};
 use clmodel::action::{Action, Fences};
+use clmodel::determinacy::regions_are_one;
 use clmodel::next_action::NextAction;
 use clmodel::schedule::Event;
 use std::alloc::{AllocError, Global};
@@ -45,6 +46,7 @@ fn make_access(
         → state_of (launch_of launch.now next) state.new ≡ state_of (launch_of launch.now next) state.old) }
     ensures kept { (next : ℕ → List Answer → Action) → IsKept (launch_of launch.now next) state.old → IsKept (launch_of launch.now next) state.new }
 {
+    regions_are_one();
     let group = launch.group_of(item);
     let region = region_of(group, object);
     let width = width_of(operation);

@@ -7,7 +7,6 @@ use Rattle.clmodel.specs.declared.access.Region.TheVariants as region
 use Rattle.clmodel.specs.declared.action.Action.{Action}
 use Rattle.clmodel.specs.declared.action.Action.TheVariants as action
 use Rattle.clmodel.specs.declared.action.Answer.{Answer}
-use Rattle.clmodel.proofs.Swaps.{same_region-true}
 use Rattle.plain_run.proofs.PlainRuns.{entry_writes, entry_elsewhere, entry_reads}
 use Rattle.plain_run.proofs.canonical.write_entry.Goals as goal
 
@@ -15,7 +14,7 @@ pub write-requires-clause-inside : goal.write-requires-clause-inside
 write-requires-clause-inside c =
     let next : ℕ → List Answer → Action = λ _ _. action.End in
     let l : Launch = launch_of c.args.launch.now next in
-    let e = ap (bytes_of l) (same_region-true (region.Buffer c.args.number) c.args.entry.now.access.region (sym c.if-is_buffer.ensures)) in
+    let e = ap (bytes_of l) (c.regions_are_one.ensures (region.Buffer c.args.number) c.args.entry.now.access.region (sym c.if-is_buffer.ensures)) in
     omega (arith, c.requires.inside next, e, c.requires.sized, c.byte_count.ensures)
 
 pub returns-then-is_buffer-clause-value : goal.returns-then-is_buffer-clause-value

@@ -53,7 +53,7 @@ returns-in_default-found-clause-ok c next =
 
 pub returns-clause-ok : goal.returns-clause-ok
 returns-clause-ok c next =
-    access_made (launch_of c.args.launch.now next) c.args.state.now c.record.new.self c.args.item c.args.object c.args.element c.args.operation c.region_of-region.result c.in-Some.first
+    access_made c.regions_are_one.ensures (launch_of c.args.launch.now next) c.args.state.now c.record.new.self c.args.item c.args.object c.args.element c.args.operation c.region_of-region.result c.in-Some.first
     c.width_of-width.result c.kind_of.result c.interval_of-interval.result c.in-Some-found.number c.written_by.result c.answer_to.result (access c next) c.written_by.ensures c.answer_to.ensures
     (ap (λ z. found c.args.operation (memory_of (launch_of c.args.launch.now next) (reverse z) c.region_of-region.result) c.in-Some.first) (sym c.as_slice.ensures.value)
     ∙ sym (c.in-Some-found.ensures.value next))
