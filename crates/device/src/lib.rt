@@ -117,6 +117,22 @@ impl Device {
         Ok(Reply::Done)
     }
 
+    fn write(&mut self, name: &Name, offset: u64, bytes: &Bytes) -> Reply
+        ensures { Answers (machine_of self.old) (Command.Write name.now offset bytes.now) result (machine_of self.new) }
+    {
+        let Some(buffer) = self.buffers.get(name) else {
+            return Reply::Refused(Refusal::NoSuchName);
+        };
+        if bytes.is_empty() {
+            return Reply::Refused(Refusal::BadSize);
+        }
+        if bytes.len() > buffer.len() || offset > (buffer.len() - bytes.len()) as u64 {
+            return Reply::Refused(Refusal::OutOfRange);
+        }
+        self.buffers.write(name, offset as usize, bytes.as_slice());
+        Reply::Done
+    }
+
     fn read(&self, name: &Name, offset: u64, count: u64) -> Result<Reply, AllocError>
         ensures { IfOk result (λ reply. Answers (machine_of self.now) (Command.Read name.now offset count) reply (machine_of self.now)) }
     {
@@ -270,6 +286,11 @@ impl Device {
     {
         let answer = match command {
             Command::Buffer { name, size } => self.make_buffer(name, size),
+            Command::Write {
+                buffer,
+                offset,
+                bytes,
+            } => Ok(self.write(&buffer, offset, &bytes)),
             Command::Read {
                 buffer,
                 offset,
