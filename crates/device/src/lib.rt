@@ -10,6 +10,8 @@ ghost use Rattle.device_store.specs.Ranges.{IsLaunchable};
 ghost use Rattle.device.specs.Prepared.{prepared_setup, Starts};
 
 mod prepared;
+#[cfg(test)]
+mod tests;
 
 use crate::prepared::Launched;
 use clmodel::determinacy::{clean_is_complete, determinacy};
