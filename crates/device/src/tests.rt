@@ -88,19 +88,32 @@ fn argument(alloc: Global, index: u64, text: &str) -> Result<Command, AllocError
     })
 }
 
+/// What the device answers, of which the tests are to know nothing beforehand.
+fn reply(device: &mut Device, command: Command) -> Reply {
+    device.apply(command)
+}
+
+/// The refusal of a command, if it is refused.
+fn refusal(device: &mut Device, command: Command) -> Option<Refusal> {
+    match device.apply(command) {
+        Reply::Refused(refusal) => Some(refusal),
+        _ => None,
+    }
+}
+
 /// A device with a buffer a of so many bytes and a kernel k that has it as its argument.
 fn ready(alloc: Global, size: u64, source: &[u8]) -> Result<Device, AllocError> {
     let mut device = Device::new(alloc, 100000);
-    let _ = device.apply(buffer(alloc, "a", size)?);
-    let _ = device.apply(program(alloc, "p", source)?);
-    let _ = device.apply(kernel(alloc, "k", "f")?);
-    let _ = device.apply(argument(alloc, 0, "a")?);
+    let _ = reply(&mut device, buffer(alloc, "a", size)?);
+    let _ = reply(&mut device, program(alloc, "p", source)?);
+    let _ = reply(&mut device, kernel(alloc, "k", "f")?);
+    let _ = reply(&mut device, argument(alloc, 0, "a")?);
     Ok(device)
 }
 
 /// What the buffer a of so many bytes holds.
 fn contents(alloc: Global, device: &mut Device, size: u64) -> Result<Bytes, AllocError> {
-    match device.apply(read(alloc, "a", 0, size)?) {
+    match reply(device, read(alloc, "a", 0, size)?) {
         Reply::Data(bytes) => Ok(bytes),
         _ => Err(AllocError),
     }
@@ -108,10 +121,11 @@ fn contents(alloc: Global, device: &mut Device, size: u64) -> Result<Bytes, Allo
 
 #[test]
 fn runs_a_kernel(rt: HostRuntime) -> Result<(), Fail> {
-    let mut device = ready(rt.alloc(), 8, TWO_STORES)?;
-    let reply = device.apply(launch(rt.alloc(), &[1], &[1], 0)?);
-    assert!(rt; matches!(reply, Reply::Clean));
-    let bytes = contents(rt.alloc(), &mut device, 8)?;
+    let alloc = rt.alloc();
+    let mut device = ready(alloc, 8, TWO_STORES)?;
+    let launched = reply(&mut device, launch(alloc, &[1], &[1], 0)?);
+    assert!(rt; matches!(launched, Reply::Clean));
+    let bytes = contents(alloc, &mut device, 8)?;
     assert_eq!(rt; bytes.as_slice(), [7, 0, 0, 0, 9, 0, 0, 0].as_slice());
     assert_eq!(rt; device.buffers().len(), 1);
     Ok(())
@@ -121,9 +135,9 @@ fn runs_a_kernel(rt: HostRuntime) -> Result<(), Fail> {
 fn writes_and_runs_in_two_dimensions(rt: HostRuntime) -> Result<(), Fail> {
     let alloc = rt.alloc();
     let mut device = ready(alloc, 16, TWO_DIMENSIONS)?;
-    let written = device.apply(write(alloc, 7, &[1, 2, 0, 0, 0, 255])?);
+    let written = reply(&mut device, write(alloc, 7, &[1, 2, 0, 0, 0, 255])?);
     assert!(rt; matches!(written, Reply::Done));
-    let launched = device.apply(launch(alloc, &[2, 2], &[2, 2], 0)?);
+    let launched = reply(&mut device, launch(alloc, &[2, 2], &[2, 2], 0)?);
     assert!(rt; matches!(launched, Reply::Clean));
     let bytes = contents(alloc, &mut device, 16)?;
     assert_eq!(rt;
@@ -135,10 +149,11 @@ fn writes_and_runs_in_two_dimensions(rt: HostRuntime) -> Result<(), Fail> {
 
 #[test]
 fn a_fault_leaves_the_buffers(rt: HostRuntime) -> Result<(), Fail> {
-    let mut device = ready(rt.alloc(), 8, STORE_PAST_THE_END)?;
-    let reply = device.apply(launch(rt.alloc(), &[1], &[1], 0)?);
-    assert!(rt; matches!(reply, Reply::Fault { .. }));
-    let bytes = contents(rt.alloc(), &mut device, 8)?;
+    let alloc = rt.alloc();
+    let mut device = ready(alloc, 8, STORE_PAST_THE_END)?;
+    let launched = reply(&mut device, launch(alloc, &[1], &[1], 0)?);
+    assert!(rt; matches!(launched, Reply::Fault { .. }));
+    let bytes = contents(alloc, &mut device, 8)?;
     assert_eq!(rt; bytes.as_slice(), [0; 8].as_slice());
     Ok(())
 }
@@ -147,21 +162,35 @@ fn a_fault_leaves_the_buffers(rt: HostRuntime) -> Result<(), Fail> {
 fn refuses_buffers(rt: HostRuntime) -> Result<(), Fail> {
     let alloc = rt.alloc();
     let mut device = Device::new(alloc, 1);
-    assert!(rt; matches!(device.apply(buffer(alloc, "a", 1048576)?), Reply::Done));
-    let twice = device.apply(buffer(alloc, "a", 0)?);
-    assert!(rt; matches!(twice, Reply::Refused(Refusal::NameInUse)));
-    let large = device.apply(buffer(alloc, "b", 1048577)?);
-    assert!(rt; matches!(large, Reply::Refused(Refusal::BadSize)));
-    let past = device.apply(read(alloc, "a", 1048576, 1)?);
-    assert!(rt; matches!(past, Reply::Refused(Refusal::OutOfRange)));
-    let nothing = device.apply(read(alloc, "a", 1048577, 0)?);
-    assert!(rt; matches!(nothing, Reply::Refused(Refusal::BadSize)));
-    let absent = device.apply(read(alloc, "b", 0, 0)?);
-    assert!(rt; matches!(absent, Reply::Refused(Refusal::NoSuchName)));
-    let empty = device.apply(write(alloc, 1048577, &[])?);
-    assert!(rt; matches!(empty, Reply::Refused(Refusal::BadSize)));
-    let far = device.apply(write(alloc, u64::MAX, &[1])?);
-    assert!(rt; matches!(far, Reply::Refused(Refusal::OutOfRange)));
+    assert_eq!(rt; refusal(&mut device, buffer(alloc, "a", 1048576)?), None);
+    assert_eq!(rt;
+        refusal(&mut device, buffer(alloc, "a", 0)?),
+        Some(Refusal::NameInUse)
+    );
+    assert_eq!(rt;
+        refusal(&mut device, buffer(alloc, "b", 1048577)?),
+        Some(Refusal::BadSize)
+    );
+    assert_eq!(rt;
+        refusal(&mut device, read(alloc, "b", 0, 0)?),
+        Some(Refusal::NoSuchName)
+    );
+    assert_eq!(rt;
+        refusal(&mut device, read(alloc, "a", 1048577, 0)?),
+        Some(Refusal::BadSize)
+    );
+    assert_eq!(rt;
+        refusal(&mut device, read(alloc, "a", 1048576, 1)?),
+        Some(Refusal::OutOfRange)
+    );
+    assert_eq!(rt;
+        refusal(&mut device, write(alloc, 1048577, &[])?),
+        Some(Refusal::BadSize)
+    );
+    assert_eq!(rt;
+        refusal(&mut device, write(alloc, u64::MAX, &[1])?),
+        Some(Refusal::OutOfRange)
+    );
     Ok(())
 }
 
@@ -169,14 +198,20 @@ fn refuses_buffers(rt: HostRuntime) -> Result<(), Fail> {
 fn refuses_kernels(rt: HostRuntime) -> Result<(), Fail> {
     let alloc = rt.alloc();
     let mut device = ready(alloc, 8, TWO_STORES)?;
-    let fault = device.apply(program(alloc, "q", b"x")?);
-    assert!(rt; matches!(fault, Reply::Refused(Refusal::BuildFailed(_))));
-    let absent = device.apply(kernel(alloc, "l", "g")?);
-    assert!(rt; matches!(absent, Reply::Refused(Refusal::NoSuchKernel)));
-    let index = device.apply(argument(alloc, 9, "zz")?);
-    assert!(rt; matches!(index, Reply::Refused(Refusal::BadArgument)));
-    let buffer = device.apply(argument(alloc, 0, "zz")?);
-    assert!(rt; matches!(buffer, Reply::Refused(Refusal::NoSuchName)));
+    let fault = refusal(&mut device, program(alloc, "q", b"x")?);
+    assert!(rt; matches!(fault, Some(Refusal::BuildFailed(_))));
+    assert_eq!(rt;
+        refusal(&mut device, kernel(alloc, "l", "g")?),
+        Some(Refusal::NoSuchKernel)
+    );
+    assert_eq!(rt;
+        refusal(&mut device, argument(alloc, 9, "zz")?),
+        Some(Refusal::BadArgument)
+    );
+    assert_eq!(rt;
+        refusal(&mut device, argument(alloc, 0, "zz")?),
+        Some(Refusal::NoSuchName)
+    );
     Ok(())
 }
 
@@ -184,22 +219,25 @@ fn refuses_kernels(rt: HostRuntime) -> Result<(), Fail> {
 fn refuses_launches(rt: HostRuntime) -> Result<(), Fail> {
     let alloc = rt.alloc();
     let mut device = ready(alloc, 8, TWO_STORES)?;
-    let offset = device.apply(launch(alloc, &[u64::MAX], &[0], 1)?);
-    assert!(rt; matches!(offset, Reply::Refused(Refusal::BadDimension)));
-    let dimensions = device.apply(launch(alloc, &[0, 0, 0, 0], &[1], 0)?);
-    assert!(rt; matches!(dimensions, Reply::Refused(Refusal::BadDimension)));
-    let lists = device.apply(launch(alloc, &[4], &[1, 1], 0)?);
-    assert!(rt; matches!(lists, Reply::Refused(Refusal::BadDimension)));
-    let group = device.apply(launch(alloc, &[3], &[2], 0)?);
-    assert!(rt; matches!(group, Reply::Refused(Refusal::BadGroupSize)));
-    let huge = device.apply(launch(
+    let end = launch(alloc, &[u64::MAX], &[0], 1)?;
+    assert_eq!(rt; refusal(&mut device, end), Some(Refusal::BadDimension));
+    let dimensions = launch(alloc, &[0, 0, 0, 0], &[1], 0)?;
+    assert_eq!(rt;
+        refusal(&mut device, dimensions),
+        Some(Refusal::BadDimension)
+    );
+    let lists = launch(alloc, &[4], &[1, 1], 0)?;
+    assert_eq!(rt; refusal(&mut device, lists), Some(Refusal::BadDimension));
+    let uneven = launch(alloc, &[3], &[2], 0)?;
+    assert_eq!(rt; refusal(&mut device, uneven), Some(Refusal::BadGroupSize));
+    let huge = launch(
         alloc,
-        &[0x100000000, 0x100000000],
-        &[0x100000000, 0x100000000],
+        &[4294967296, 4294967296],
+        &[4294967296, 4294967296],
         0,
-    )?);
-    assert!(rt; matches!(huge, Reply::Refused(Refusal::BadGroupSize)));
-    let items = device.apply(launch(alloc, &[2], &[1], 0)?);
-    assert!(rt; matches!(items, Reply::Refused(Refusal::TooManyItems)));
+    )?;
+    assert_eq!(rt; refusal(&mut device, huge), Some(Refusal::BadGroupSize));
+    let groups = launch(alloc, &[2], &[1], 0)?;
+    assert_eq!(rt; refusal(&mut device, groups), Some(Refusal::TooManyItems));
     Ok(())
 }
