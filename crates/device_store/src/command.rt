@@ -16,6 +16,12 @@ pub enum Command {
         name: Name,
         size: u64,
     },
+    /// Writes bytes into a buffer from an offset on, in place of those that were there (section 5.2.2, clEnqueueWriteBuffer).
+    Write {
+        buffer: Name,
+        offset: u64,
+        bytes: Bytes,
+    },
     /// Reads bytes of a buffer (section 5.2.2).
     Read {
         buffer: Name,
