@@ -2,12 +2,8 @@
 #![tactic(auto)]
 
 pub mod command_line;
-pub mod ends;
-mod fields;
-pub mod laws;
 pub mod memory;
-pub mod pieces;
-pub mod replies;
-pub mod script;
 pub mod session;
-pub mod streams;
+
+pub use simfile::ends;
+pub use simfile::streams;
