@@ -14,6 +14,7 @@ use Rattle.clmodel.specs.Tree.{Program, NoFunc, program}
 use Rattle.clmodel.specs.declared.setup.Argument.{Argument}
 use Rattle.clmodel.specs.declared.setup.Argument.TheVariants as argument
 use Rattle.clmodel.specs.declared.setup.Range.{Range}
+use Rattle.device_store.specs.Buffers.{bytes_in, with_bytes}
 use Rattle.device_store.specs.Builds.{Builds}
 use Rattle.device_store.specs.Kernels.{KernelState, kernel_number, parameters_of, with_argument, new_kernel, no_kernel, suits}
 use Rattle.device_store.specs.Ranges.{is_bad_dimension, is_bad_group, is_too_many}
@@ -52,9 +53,6 @@ abbrev pub is_used : Machine → List ℕ → Bool
 is_used m name = is_some (find m.buffers name) || is_some (find m.programs name) || is_some (find m.kernels name)
 
 -- the bytes of a buffer, none where there is no such buffer
-abbrev pub bytes_in : Table (List ℕ) → List ℕ → List ℕ
-bytes_in buffers name = unwrap_or (find buffers name) []
-
 abbrev pub bytes_of : Machine → List ℕ → List ℕ
 bytes_of m = bytes_in m.buffers
 
@@ -103,6 +101,11 @@ row m (command.Buffer name size) =
     (is_used m name, NameInUse)
     ∷ ((size == 0) || nat_lt 1048576 size, BadSize)
     ∷ (nat_le 64 (length m.buffers), TooManyBuffers)
+    ∷ []
+row m (command.Write name at bytes) =
+    (not (is_some (find m.buffers name)), NoSuchName)
+    ∷ (length bytes == 0, BadSize)
+    ∷ (nat_lt (length (bytes_of m name)) (at + length bytes), OutOfRange)
     ∷ []
 row m (command.Read name at count) =
     (not (is_some (find m.buffers name)), NoSuchName)
@@ -158,6 +161,8 @@ named_kernel p program function =
 -- what a command that its row doesn't refuse answers and leaves
 abbrev pub Does : Machine → Command → Reply → Machine → Type 0
 Does old (command.Buffer name size) r new = (r ≡ reply.Done) × (new ≡ record old { buffers = old.buffers ++ (name, replicate size 0) ∷ [] })
+Does old (command.Write name at bytes) r new =
+    (r ≡ reply.Done) × (new ≡ record old { buffers = set_value (is name) old.buffers (with_bytes (bytes_of old name) at bytes) })
 Does old (command.Read name at count) r new = (r ≡ reply.Data (take count (drop at (bytes_of old name)))) × (new ≡ old)
 Does old (command.Program name source) r new = (built : Result Program BuildFault) × Builds source built × Built old name built r new
 Does old (command.Kernel name program function) r new =
@@ -170,9 +175,10 @@ Does old (command.Launch kernel range) r new = Launches old (setup_of old (kerne
 abbrev pub Answers : Machine → Command → Reply → Machine → Type 0
 Answers old c r new = MatchOption (first (row old c)) (Does old c r new) (λ refusal. (r ≡ reply.Refused refusal) × (new ≡ old))
 
--- the commands whose rows end with refusal 16: all so far
+-- the commands whose rows end with refusal 16: all but a write
 abbrev pub takes_memory : Command → Bool
 takes_memory (command.Buffer name size) = true
+takes_memory (command.Write name at bytes) = false
 takes_memory (command.Read name at count) = true
 takes_memory (command.Program name source) = true
 takes_memory (command.Kernel name program function) = true

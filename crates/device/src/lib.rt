@@ -1,15 +1,17 @@
 //! A simulated OpenCL 1.2 device.
 #![tactic(auto)]
 
-ghost use Rattle.std.specs.Prelude.{◌≡◌, ◌&&◌, IfOk, IfErr, IfSome, OnErr, None, Some, is_some};
+ghost use Rattle.std.specs.Prelude.{◌≡◌, ◌&&◌, IfOk, IfErr, IfSome, OnErr, IsTrue, None, Some, is_some};
 ghost use Rattle.std.specs.Option.{option_map};
 ghost use Rattle.clmodel.specs.Tree.{program};
 ghost use Rattle.device_store.specs.Tables.{find};
-ghost use Rattle.device.specs.Machine.{Step, Answers, machine_of, opening, is_used, is_there, has_kernel, kernel_of, program_of, setup_of, first, row};
+ghost use Rattle.device.specs.Machine.{Step, Answers, machine_of, opening, is_used, is_there, has_kernel, kernel_of, program_of, setup_of, first, row, takes_memory};
 ghost use Rattle.device_store.specs.Ranges.{IsLaunchable};
 ghost use Rattle.device.specs.Prepared.{prepared_setup, Starts};
 
 mod prepared;
+#[cfg(test)]
+mod tests;
 
 use crate::prepared::Launched;
 use clmodel::determinacy::{clean_is_complete, determinacy};
@@ -115,6 +117,22 @@ impl Device {
         let bytes = Bytes::zeros(self.alloc, size as usize)?;
         self.buffers.insert(name, bytes)?;
         Ok(Reply::Done)
+    }
+
+    fn write(&mut self, name: &Name, offset: u64, bytes: &Bytes) -> Reply
+        ensures { Answers (machine_of self.old) (Command.Write name.now offset bytes.now) result (machine_of self.new) }
+    {
+        let Some(buffer) = self.buffers.get(name) else {
+            return Reply::Refused(Refusal::NoSuchName);
+        };
+        if bytes.is_empty() {
+            return Reply::Refused(Refusal::BadSize);
+        }
+        if bytes.len() > buffer.len() || offset > (buffer.len() - bytes.len()) as u64 {
+            return Reply::Refused(Refusal::OutOfRange);
+        }
+        self.buffers.write(name, offset as usize, bytes.as_slice());
+        Reply::Done
     }
 
     fn read(&self, name: &Name, offset: u64, count: u64) -> Result<Reply, AllocError>
@@ -264,12 +282,18 @@ impl Device {
         }
     }
 
-    /// One step of the machine.
-    pub fn apply(&mut self, command: Command) -> Reply
-        ensures { Step (machine_of self.old) command result (machine_of self.new) }
+    /// What a command answers and does, or want of memory.
+    fn perform(&mut self, command: Command) -> Result<Reply, AllocError>
+        ensures ok { IfOk result (λ reply. Answers (machine_of self.old) command reply (machine_of self.new)) }
+        ensures err { OnErr result (IsTrue (takes_memory command) × (machine_of self.new ≡ machine_of self.old)) }
     {
-        let answer = match command {
+        match command {
             Command::Buffer { name, size } => self.make_buffer(name, size),
+            Command::Write {
+                buffer,
+                offset,
+                bytes,
+            } => Ok(self.write(&buffer, offset, &bytes)),
             Command::Read {
                 buffer,
                 offset,
@@ -287,8 +311,14 @@ impl Device {
                 argument,
             } => Ok(self.set_argument(&kernel, index, argument)),
             Command::Launch { kernel, range } => self.launch(&kernel, &range),
-        };
-        match answer {
+        }
+    }
+
+    /// One step of the machine.
+    pub fn apply(&mut self, command: Command) -> Reply
+        ensures { Step (machine_of self.old) command result (machine_of self.new) }
+    {
+        match self.perform(command) {
             Ok(reply) => reply,
             Err(AllocError) => Reply::Refused(Refusal::OutOfMemory),
         }

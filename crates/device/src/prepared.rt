@@ -6,7 +6,7 @@ ghost use Rattle.clmodel.specs.Next.{next, launch_of};
 ghost use Rattle.clmodel.specs.Plain as plain;
 ghost use Rattle.clmodel.specs.Setup.{buffer_names};
 ghost use Rattle.device_store.specs.Ranges.{IsLaunchable};
-ghost use Rattle.device.specs.Machine.{bytes_in};
+ghost use Rattle.device_store.specs.Buffers.{bytes_in};
 ghost use Rattle.device.specs.Prepared.{prepared_setup, Came};
 
 use clmodel::next_laws::budget_bounds;

@@ -1,8 +1,8 @@
 -- Kernels with their arguments (OpenCL 1.2, 5.7).
-use Rattle.std.specs.Prelude.{ℕ, ℤ, Bool, true, false, not, ◌&&◌, nat_le, List, Option, None, Some, position, slice_set, [], replicate, length}
-use Rattle.std.specs.Ordering.{int_eq}
+use Rattle.std.specs.Prelude.{ℕ, ℤ, Bool, true, false, not, ◌&&◌, nat_le, int_le, List, Option, None, Some, position, slice_set, [], replicate, length}
 use Rattle.std.specs.Option.{option_map, option_and_then, option_map_or}
-use Rattle.clnum.specs.Integer.{wrap}
+use Rattle.clnum.specs.Integer.{least, greatest}
+use Rattle.clnum.specs.declared.int_type.IntType.{IntType}
 use Rattle.clmodel.specs.Tree.{Program, Func}
 use Rattle.clmodel.specs.Setup.{kernel_in}
 use Rattle.clmodel.specs.declared.setup.Argument.{Argument}
@@ -46,12 +46,16 @@ is_local space.Global = false
 is_local space.Local = true
 is_local space.Constant = false
 
+-- a number is in the range of a type (6.1.1)
+abbrev pub is_in_range : IntType → ℤ → Bool
+is_in_range kind n = int_le (least kind) n && int_le n (greatest kind)
+
 -- an argument is of the kind that a parameter wants: a buffer for a pointer to global or constant memory, a size of 1 to 32768
 -- for one to local memory, a number of its type for an integer
 abbrev pub suits : VariableType → Argument → Bool
 suits (variable_type.Pointer p) (argument.Buffer name) = not (is_local p.space)
 suits (variable_type.Pointer p) (argument.Local size) = is_local p.space && nat_le 1 size && nat_le size 32768
 suits (variable_type.Pointer p) (argument.Value n) = false
-suits (variable_type.Integer kind) (argument.Value n) = int_eq (wrap kind n) n
+suits (variable_type.Integer kind) (argument.Value n) = is_in_range kind n
 suits (variable_type.Integer kind) (argument.Buffer name) = false
 suits (variable_type.Integer kind) (argument.Local size) = false

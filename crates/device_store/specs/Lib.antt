@@ -1,4 +1,5 @@
 pub mod Tables
+pub mod Buffers
 pub mod Ranges
 pub mod Kernels
 pub mod Builds

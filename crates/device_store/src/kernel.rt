@@ -8,13 +8,13 @@ ghost use Rattle.std.specs.Option.{option_map, unwrap_or};
 ghost use Rattle.clmodel.specs.Tree.{program, func, then_funcs, NoFunc};
 ghost use Rattle.clmodel.specs.Setup.{kernel_in};
 ghost use Rattle.device_store.specs.Tables.{is, find};
-ghost use Rattle.device_store.specs.Kernels.{kernel_number, parameters_of, with_argument, new_kernel, no_kernel, suits};
+ghost use Rattle.device_store.specs.Kernels.{kernel_number, parameters_of, with_argument, new_kernel, no_kernel, is_in_range, suits};
 
 use crate::table::Table;
 use clmodel::setup::Argument;
 use clmodel::text::Name;
 use clmodel::tree::{AddressSpace, Function, Parameter, Tree, VariableType};
-use clnum::Value;
+use clnum::{IntType, Value};
 use std::alloc::{AllocError, Global};
 use std::marker::Model;
 
@@ -157,6 +157,13 @@ pub fn parameters_of(tree: &Tree, number: u32) -> &[Parameter]
     }
 }
 
+/// Whether a number is in the range of a type.
+fn is_in_range(kind: IntType, number: i128) -> bool
+    ensures { result ≡ is_in_range kind number }
+{
+    Value::wrapped(kind, number).number() == number
+}
+
 /// Whether an argument is of the kind that a parameter wants: a buffer for a pointer to global or constant memory, a size for one to
 /// local memory, a number of its type for an integer.
 pub fn suits(kind: VariableType, argument: &Argument) -> bool
@@ -167,9 +174,7 @@ pub fn suits(kind: VariableType, argument: &Argument) -> bool
         (VariableType::Pointer(p), Argument::Local(size)) => {
             p.space == AddressSpace::Local && *size >= 1 && *size <= MAX_LOCAL
         }
-        (VariableType::Integer(kind), Argument::Value(n)) => {
-            Value::wrapped(kind, *n).number() == *n
-        }
+        (VariableType::Integer(kind), Argument::Value(n)) => { is_in_range(kind, *n) }
         _ => false,
     }
 }

@@ -2,7 +2,7 @@ use Rattle.std.proofs.Common.{◌≡◌, ◌<◌, ◌^◌, refl, sym, ap, ◌∙
 use Rattle.clmodel.specs.Setup.{Setup, buffer_names}
 use Rattle.item_step.specs.Setups.{setup_of}
 use Rattle.device.specs.Prepared.{prepared_setup, Came}
-use Rattle.device.specs.Machine.{bytes_in}
+use Rattle.device_store.specs.Buffers.{bytes_in}
 use Rattle.device.proofs.Runs.{ready, concluded, names_of}
 use Rattle.device.proofs.prepared.Prepared.run.Goals as goal
 

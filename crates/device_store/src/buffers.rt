@@ -1,0 +1,24 @@
+//! Buffers by their names.
+#![tactic(auto)]
+
+ghost use Rattle.std.specs.Prelude.{◌≡◌, ◌≤◌, ◌+◌, [], length};
+ghost use Rattle.std.specs.Map.{set_value};
+ghost use Rattle.std.specs.Option.{unwrap_or};
+ghost use Rattle.device_store.specs.Tables.{is, find};
+ghost use Rattle.device_store.specs.Buffers.{bytes_in, with_bytes};
+
+use crate::table::Table;
+use clmodel::text::{Bytes, Name};
+
+impl Table<Bytes> {
+    /// Writes bytes into the buffer of a name from an offset on, in place of those that were there (OpenCL 1.2, section 5.2.2).
+    #[tactic(auto, using(crate::proofs::Tables::unreplaced))]
+    pub fn write(&mut self, name: &Name, offset: usize, bytes: &[u8])
+        requires { offset + length bytes.now ≤ length (bytes_in self.old name.now) }
+        ensures { self.new ≡ set_value (is name.now) self.old (with_bytes (bytes_in self.old name.now) offset bytes.now) }
+    {
+        if let Some(buffer) = self.map.get_mut(name) {
+            buffer.put(offset, bytes);
+        }
+    }
+}
