@@ -1,5 +1,5 @@
 -- The text of each reply.
-use Rattle.std.specs.Prelude.{ℕ, ℤ, ◌==◌, length, List, [], ◌∷◌, ◌++◌, codes, if◌then◌else◌, decimal}
+use Rattle.std.specs.Prelude.{ℕ, ℤ, ◌==◌, length, Option, None, Some, List, [], ◌∷◌, ◌++◌, codes, if◌then◌else◌, decimal}
 use Rattle.std.specs.Fmt.{signed_decimal}
 use Rattle.std.specs.List.{flat_map}
 use Rattle.clmodel.specs.declared.access.AccessKind.{AccessKind}
@@ -20,6 +20,7 @@ use Rattle.clmodel.specs.declared.type_fault.TypeFault.{TypeFault}
 use Rattle.clmodel.specs.declared.type_fault.TypeFault.TheVariants as typing
 use Rattle.clsyntax_lex.specs.declared.token.SyntaxFault.{SyntaxFault}
 use Rattle.clsyntax_lex.specs.declared.token.SyntaxFault.TheVariants as syntax_fault
+use Rattle.device_store.specs.declared.command.BuildFault.{BuildFault}
 use Rattle.device_store.specs.declared.command.BuildFault.TheVariants as build
 use Rattle.device_store.specs.declared.command.Refusal.{Refusal}
 use Rattle.device_store.specs.declared.command.Refusal.TheVariants as refusal
@@ -144,6 +145,15 @@ type_place (typing.TooLarge at) = at
 type_place (typing.MissingReturn at) = at
 type_place typing.OutOfMemory = 0
 
+abbrev pub build_words : BuildFault → List ℕ
+build_words (build.Syntax fault) = syntax_words fault
+build_words (build.Type fault) = type_words fault
+
+-- where in the source
+abbrev pub build_place : BuildFault → ℕ
+build_place (build.Syntax fault) = syntax_place fault
+build_place (build.Type fault) = type_place fault
+
 abbrev pub refusal_text : Refusal → List ℕ
 refusal_text refusal.NameInUse = codes "1 NameInUse"
 refusal_text refusal.NoSuchName = codes "2 NoSuchName"
@@ -154,8 +164,7 @@ refusal_text refusal.BadDimension = codes "6 BadDimension"
 refusal_text refusal.BadGroupSize = codes "7 BadGroupSize"
 refusal_text refusal.TooManyItems = codes "8 TooManyItems"
 refusal_text refusal.Overlap = codes "9 Overlap"
-refusal_text (refusal.BuildFailed (build.Syntax fault)) = joined (codes "10 BuildFailed " ∷ syntax_words fault ∷ decimal (syntax_place fault) ∷ [])
-refusal_text (refusal.BuildFailed (build.Type fault)) = joined (codes "10 BuildFailed " ∷ type_words fault ∷ decimal (type_place fault) ∷ [])
+refusal_text (refusal.BuildFailed fault) = joined (codes "10 BuildFailed " ∷ build_words fault ∷ decimal (build_place fault) ∷ [])
 refusal_text refusal.NoSuchKernel = codes "11 NoSuchKernel"
 refusal_text refusal.BadArgument = codes "12 BadArgument"
 refusal_text refusal.ArgumentsMissing = codes "13 ArgumentsMissing"
@@ -176,3 +185,8 @@ line (reply.Refused refusal) = joined (codes "refused " ∷ refusal_text refusal
 
 abbrev pub lines : List Reply → List ℕ
 lines replies = flat_map line replies
+
+-- what a check of a source says, as a line: its fault, or that it has none
+abbrev pub check_line : Option BuildFault → List ℕ
+check_line None = joined (codes "ok\n" ∷ [])
+check_line (Some fault) = joined (build_words fault ∷ decimal (build_place fault) ∷ codes "\n" ∷ [])

@@ -4,7 +4,7 @@
 ghost use Rattle.std.specs.Prelude.{◌≡◌, codes};
 ghost use Rattle.std.specs.List.{flat_map};
 ghost use Rattle.simfile.specs.Sink.{Puts};
-ghost use Rattle.simfile.specs.Lines.{class_text, kind_text, clash_text, location_text, later_turn_text, turns_text, stop_text, run_text, schedule_text, fault_text, private_text, item_text, fault_line, syntax_words, syntax_place, type_words, type_place, refusal_text, line};
+ghost use Rattle.simfile.specs.Lines.{class_text, kind_text, clash_text, location_text, later_turn_text, turns_text, stop_text, run_text, schedule_text, fault_text, private_text, item_text, fault_line, syntax_words, syntax_place, type_words, type_place, build_words, build_place, refusal_text, line, check_line};
 ghost use Rattle.simfile.specs.Parts.{part_text};
 
 use crate::ends::{Write, WriteFailed};
@@ -134,19 +134,45 @@ fn type_place(fault: TypeFault) -> u32
     }
 }
 
-/// Writes what follows `10 `, with the place of the fault in the source.
+/// The words of a fault of a source, and its place in it.
+fn fault_in_source(fault: BuildFault) -> (&'static str, u32)
+    ensures words { result.0.now ≡ build_words fault }
+    ensures place { result.1 ≡ build_place fault }
+{
+    match fault {
+        BuildFault::Syntax(fault) => (syntax_words(fault), syntax_place(fault)),
+        BuildFault::Type(fault) => (type_words(fault), type_place(fault)),
+    }
+}
+
+/// Writes what follows `refused `, with the place of the fault in the source.
 fn write_build_fault<W: Write>(fault: BuildFault, writer: &mut W) -> Result<(), WriteFailed>
     ensures { Puts (W.sink writer.old) result (W.sink writer.new) (refusal_text (Refusal.BuildFailed fault)) }
 {
-    let (words, at) = match fault {
-        BuildFault::Syntax(fault) => (syntax_words(fault), syntax_place(fault)),
-        BuildFault::Type(fault) => (type_words(fault), type_place(fault)),
-    };
+    let (words, at) = fault_in_source(fault);
     write_pieces(
         &[
             Piece::Text("10 BuildFailed "),
             Piece::Text(words),
             Piece::Index(at),
+        ],
+        writer,
+    )
+}
+
+/// Writes the line of a check of a source: its fault with its place, or `ok` where it has none.
+pub fn write_check<W: Write>(fault: Option<BuildFault>, writer: &mut W) -> Result<(), WriteFailed>
+    ensures { Puts (W.sink writer.old) result (W.sink writer.new) (check_line fault) }
+{
+    let Some(fault) = fault else {
+        return writer.write(b"ok\n");
+    };
+    let (words, at) = fault_in_source(fault);
+    write_pieces(
+        &[
+            Piece::Text(words),
+            Piece::Index(at),
+            Piece::Text("\n"),
         ],
         writer,
     )

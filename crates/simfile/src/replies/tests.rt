@@ -2,6 +2,7 @@
 
 use super::{write_reply, write_turns};
 
+use crate::ends::Write;
 use crate::streams::Output;
 use clmodel::access::{AccessKind, Clash, Class};
 use clmodel::action::{Instance, Stop, Turns};
@@ -12,14 +13,14 @@ use clmodel::type_fault::TypeFault;
 use clsyntax_lex::token::SyntaxFault;
 use device_store::command::{BuildFault, Refusal, Reply};
 use std::alloc::{AllocError, Global};
+use std::io::BufWriter;
 use std::test::Fail;
 
 fn text_of(alloc: Global, reply: Reply) -> Option<Vec<u8>> {
-    let mut writer = Output::new(MemoryWriter::new(Vec::new(alloc), 7, 1000));
-    match write_reply(&reply, &mut writer) {
-        Ok(()) => Some(writer.into_inner().into_bytes()),
-        Err(_) => None,
-    }
+    let mut writer = Output::new(BufWriter::new(alloc, Vec::new(alloc)).ok()?);
+    write_reply(&reply, &mut writer).ok()?;
+    writer.flush().ok()?;
+    Some(writer.into_inner())
 }
 
 fn is_line(alloc: Global, reply: Reply, line: &str) -> bool {
@@ -141,8 +142,9 @@ fn stops(rt: HostRuntime) -> Result<(), Fail> {
     };
     let line = "fault 3 divergence item 0 barrier 1 item 1 end schedule -\n";
     assert!(rt; is_line(alloc, fault(alloc, divergence, &[])?, line));
-    let mut writer = Output::new(MemoryWriter::new(Vec::new(alloc), 7, 1000));
+    let mut writer = Output::new(BufWriter::new(alloc, Vec::new(alloc))?);
     assert!(rt; write_turns(&[2, 0, 11], &mut writer).is_ok());
+    assert!(rt; writer.flush().is_ok());
     assert_eq!(rt; writer.into_inner().as_slice(), b" turns 2,0,11".as_slice());
     Ok(())
 }
