@@ -1,6 +1,1 @@
-pub mod Puts
-pub mod FieldLemmas
-pub mod FieldLaws
-pub mod Grammar
-pub mod Scripts
 pub mod Sessions

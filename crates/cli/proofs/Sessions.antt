@@ -7,10 +7,10 @@ use Rattle.device.specs.Machine.{Machine, Step, opening}
 use Rattle.device_store.specs.declared.command.Command.{Command}
 use Rattle.device_store.specs.declared.command.Reply.{Reply}
 use Rattle.cli.specs.declared.session.RunEnd.{RunEnd}
-use Rattle.cli.specs.Sink.{Sink, Wrote, Stopped}
-use Rattle.cli.specs.Lines.{line, lines}
+use Rattle.simfile.specs.Sink.{Sink, Wrote, Stopped}
+use Rattle.simfile.specs.Lines.{line, lines}
 use Rattle.cli.specs.Session.{Plays, one_end, end_of, AnswersOne, BreaksOne, Answered, Broken}
-use Rattle.cli.proofs.Puts.{wrote_none, wrote_then, stopped_then}
+use Rattle.simfile.proofs.Puts.{wrote_none, wrote_then, stopped_then}
 
 -- the commands so far were answered
 pub record HasAnswered (budget : ℕ) (done : List Command) (now : Machine) (old new : Sink) (end : RunEnd) : Type 0 where
@@ -54,12 +54,13 @@ broken_at {budget} {done} {now} {old} {mid} {after} {end} all left c e h b = rec
   stopped = rw (lines-more h.replies b.answer) (stopped_then h.wrote b.stopped);
 }
 
-pub answered_all : {budget : ℕ} {done : List Command} {now : Machine} {old mid after : Sink} {end : RunEnd} (all : List Command) → all ≡ done → HasAnswered budget done now old mid end → Wrote mid after [] → Answered budget all old after end
-answered_all {budget} {done} {now} {old} {mid} {after} {end} all e h w = record {
+pub answered_all : {budget : ℕ} {done : List Command} {now : Machine} {old mid after : Sink} {end : RunEnd} (all : List Command) → all ≡ done → HasAnswered budget done now old mid end → Wrote mid after [] → after.held ≡ [] → Answered budget all old after end
+answered_all {budget} {done} {now} {old} {mid} {after} {end} all e h w r = record {
   replies = h.replies;
   last = now;
   plays = rw e h.plays;
   wrote = let both : Wrote old after (lines h.replies ++ []) = wrote_then h.wrote w in rw append-nil at both;
+  released = r;
   end = h.counts;
 }
 

@@ -1,12 +1,6 @@
-pub mod Sink
-pub mod Source
-pub mod Fields
-pub mod Lines
-pub mod Pieces
-pub mod Parts
-pub mod Script
-pub mod Reading
-pub mod Views
-pub mod Laws
-pub mod Faults
 pub mod Session
+pub mod Checking
+pub use Rattle.simfile.specs.Sink
+pub use Rattle.simfile.specs.Source
+pub use Rattle.simfile.specs.Script
+pub use Rattle.simfile.specs.Lines

@@ -8,10 +8,10 @@ use Rattle.device_store.specs.declared.command.Reply.TheVariants as reply
 use Rattle.cli.specs.declared.session.RunEnd.{RunEnd}
 use Rattle.cli.specs.declared.session.RunFault.{RunFault}
 use Rattle.cli.specs.declared.session.RunFault.TheVariants as fault
-use Rattle.cli.specs.Sink.{Sink, Wrote, Stopped, CountsUp}
-use Rattle.cli.specs.Source.{Are}
-use Rattle.cli.specs.Script.{IsScript, IsBadLine}
-use Rattle.cli.specs.Lines.{line, lines}
+use Rattle.simfile.specs.Sink.{Sink, Wrote, Stopped, CountsUp}
+use Rattle.simfile.specs.Source.{Are}
+use Rattle.simfile.specs.Script.{IsScript, IsBadLine}
+use Rattle.simfile.specs.Lines.{line, lines}
 
 -- the machine may give these replies to these commands, one step after another
 abbrev pub Plays : Machine → List Command → List Reply → Machine → Type 0
@@ -32,12 +32,13 @@ one_end (reply.Refused refusal) end = record end { refused = true }
 abbrev pub end_of : List Reply → RunEnd
 end_of replies = fold (λ end r. one_end r end) (record { faulted = false; refused = false }) replies
 
--- the replies to all the commands were written
+-- the replies to all the commands were written, and none of their text is held back
 pub record Answered (budget : ℕ) (commands : List Command) (old new : Sink) (outcome : RunEnd) : Type 0 where
   pub replies : List Reply
   pub last : Machine
   pub plays : Plays (opening budget) commands replies last
   pub wrote : Wrote old new (lines replies)
+  pub released : new.held ≡ []
   pub end : outcome ≡ end_of replies
 
 -- a write failed at a reply to one of the commands, and a beginning of the replies' text was written

@@ -1,13 +1,13 @@
-//! The program's commands: scripts in, replies out.
+//! The program's commands: scripts in and replies out, and sources checked.
 #![tactic(auto)]
 
+pub mod checking;
 pub mod command_line;
-pub mod ends;
-mod fields;
-pub mod laws;
 pub mod memory;
-pub mod pieces;
-pub mod replies;
-pub mod script;
 pub mod session;
-pub mod streams;
+
+pub use checking::check_file;
+pub use command_line::command;
+pub use session::{run, status};
+pub use simfile::ends;
+pub use simfile::streams;

@@ -1,6 +1,7 @@
 //! The program `clsim`: scripts for a simulated OpenCL 1.2 device.
 #![tactic(auto)]
 
+use cli::checking::check_file;
 use cli::command_line::{Invocation, command};
 use cli::session::{Options, RunEnd, RunFault, run, status};
 use cli::streams::{Input, Output};
@@ -10,7 +11,7 @@ use std::rt::Files;
 use std::{env, fs, io};
 
 /// Runs the script of a file, with the replies on standard output.
-fn run_file<R: Files + Print + AllocGlobal>(rt: &R, file: &str) -> Result<RunEnd, RunFault> {
+fn run_script<R: Files + Print + AllocGlobal>(rt: &R, file: &str) -> Result<RunEnd, RunFault> {
     let Ok(script) = fs::open(rt, file) else {
         return Err(RunFault::Read);
     };
@@ -22,12 +23,24 @@ fn run_file<R: Files + Print + AllocGlobal>(rt: &R, file: &str) -> Result<RunEnd
     run(rt.alloc(), &mut reader, &mut writer, Options::default())
 }
 
-/// Tells a run's fault on standard error.
-fn tell(rt: &impl Eprint, outcome: &Result<RunEnd, RunFault>, file: &str) -> io::Result<()> {
-    match outcome {
-        Ok(_) => Ok(()),
-        Err(RunFault::Read) => eprintln!(rt; "clsim: cannot read {file}"),
-        Err(fault) => eprintln!(rt; "clsim: {fault}"),
+/// Checks the source of a file, with the line that tells what was found on standard output.
+fn check_source<R: Files + Print + AllocGlobal>(rt: &R, file: &str) -> Result<bool, RunFault> {
+    let Ok(source) = fs::open(rt, file) else {
+        return Err(RunFault::Read);
+    };
+    let Ok(line) = BufWriter::new(rt.alloc(), io::writer(rt)) else {
+        return Err(RunFault::OutOfMemory);
+    };
+    let mut reader = Input::new(source);
+    let mut writer = Output::new(line);
+    check_file(rt.alloc(), &mut reader, &mut writer)
+}
+
+/// Tells on standard error why a file came to no end.
+fn tell(rt: &impl Eprint, fault: RunFault, file: &str) -> io::Result<()> {
+    match fault {
+        RunFault::Read => eprintln!(rt; "clsim: cannot read {file}"),
+        _ => eprintln!(rt; "clsim: {fault}"),
     }
 }
 
@@ -41,10 +54,19 @@ fn perform(rt: &HostRuntime) -> io::Result<u8> {
     }
     match command(rt.alloc(), texts.as_slice()) {
         Ok(Invocation::Run { file }) => {
-            let outcome = run_file(rt, file);
-            tell(rt, &outcome, file)?;
+            let outcome = run_script(rt, file);
+            if let Err(fault) = outcome {
+                tell(rt, fault, file)?;
+            }
             Ok(status(&outcome))
         }
+        Ok(Invocation::Check { file }) => match check_source(rt, file) {
+            Ok(good) => Ok(if good { 0 } else { 2 }),
+            Err(fault) => {
+                tell(rt, fault, file)?;
+                Ok(2)
+            }
+        },
         Err(error) => {
             rt.eprint(&error)?;
             Ok(2)

@@ -3,8 +3,9 @@
 use super::{Options, RunEnd, RunFault, run, status};
 use crate::command_line::{Invocation, command};
 use crate::memory::{MemoryReader, MemoryWriter};
-use crate::streams::{Input, Output};
+use simfile::streams::{Input, Output};
 use std::alloc::Global;
+use std::io::BufWriter;
 use std::test::Fail;
 
 const SCRIPT: &str = "read a 0 4\nread b 1 2\n";
@@ -16,7 +17,10 @@ fn run_over(
     writes: u64,
 ) -> (Result<RunEnd, RunFault>, Vec<u8>) {
     let mut reader = Input::new(MemoryReader::new(script.as_bytes(), 5, reads));
-    let mut writer = Output::new(MemoryWriter::new(Vec::new(alloc), 3, writes));
+    let Ok(buffer) = BufWriter::new(alloc, MemoryWriter::new(Vec::new(alloc), 3, writes)) else {
+        return (Err(RunFault::OutOfMemory), Vec::new(alloc));
+    };
+    let mut writer = Output::new(buffer);
     let outcome = run(alloc, &mut reader, &mut writer, Options::default());
     (outcome, writer.into_inner().into_bytes())
 }
@@ -109,8 +113,13 @@ fn command_lines(rt: HostRuntime) {
     let words = ["clsim", "run", "script.txt"];
     match command(rt.alloc(), &words) {
         Ok(Invocation::Run { file }) => assert_eq!(rt; file, "script.txt"),
-        Err(_) => assert!(rt; false),
+        _ => assert!(rt; false),
     }
+    match command(rt.alloc(), &["clsim", "check", "f.cl"]) {
+        Ok(Invocation::Check { file }) => assert_eq!(rt; file, "f.cl"),
+        _ => assert!(rt; false),
+    }
+    assert!(rt; command(rt.alloc(), &["clsim", "check"]).is_err());
     assert!(rt; command(rt.alloc(), &["clsim"]).is_err());
     assert!(rt; command(rt.alloc(), &["clsim", "--help"]).is_err());
     assert!(rt; command(rt.alloc(), &["clsim", "run"]).is_err());

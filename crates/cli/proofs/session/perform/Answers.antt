@@ -29,10 +29,10 @@ returns-in_err-flush-clause-err g c =
     let p = err_from_is_err_and c.from_residual-in_err-flush.result c.from_residual-in_err-flush.ensures.1 in
     let empty = nothing_left (into_iter_items c.loop-command.command-iterator) (omega (arith, c.in-None.ensures.steps.0, c.loop-command.command-iterator.rest.ok)) in
     let all : c.args.commands.items ≡ c.loop-command.yielded = c.loop-command.invariant.split ∙ (ap (λ l. c.loop-command.yielded ++ l) empty ∙ append-nil c.loop-command.yielded) in
-    rw p.1 (broken_last c.args.commands.items all c.loop-command.invariant.answered c.in_err-flush.ensures)
+    rw p.1 (broken_last c.args.commands.items all c.loop-command.invariant.answered c.in_err-flush.ensures.bytes)
 
 pub returns-clause-ok : goal.returns-clause-ok
 returns-clause-ok g c =
     let empty = nothing_left (into_iter_items c.loop-command.command-iterator) (omega (arith, c.in-None.ensures.steps.0, c.loop-command.command-iterator.rest.ok)) in
     let all : c.args.commands.items ≡ c.loop-command.yielded = c.loop-command.invariant.split ∙ (ap (λ l. c.loop-command.yielded ++ l) empty ∙ append-nil c.loop-command.yielded) in
-    answered_all c.args.commands.items all c.loop-command.invariant.answered c.in_ok-flush.ensures
+    answered_all c.args.commands.items all c.loop-command.invariant.answered c.in_ok-flush.ensures.bytes c.in_ok-flush.ensures.released

@@ -1,5 +1,0 @@
-use Rattle.cli.proofs.Puts.{HasPushed}
-use Rattle.cli.proofs.streams.push_all.Given as goal
-
-abbrev pub invariant-loop : goal.invariant-loop
-invariant-loop g l = HasPushed (g.W.Write.contents l.initial.inner) (g.W.Write.contents l.inner) l.bytes l.rest

@@ -1,0 +1,39 @@
+-- A source that is checked, and the line that tells what was found.
+use Rattle.std.specs.Prelude.{◌≡◌, ℕ, Bool, Option, None, Some, Result, Ok, Err, is_ok, List, []}
+use Rattle.clmodel.specs.Tree.{Program}
+use Rattle.device_store.specs.Builds.{Builds}
+use Rattle.device_store.specs.declared.command.BuildFault.{BuildFault}
+use Rattle.cli.specs.declared.session.RunFault.{RunFault}
+use Rattle.cli.specs.declared.session.RunFault.TheVariants as fault
+use Rattle.simfile.specs.Sink.{Sink, Wrote, Stopped, CountsUp}
+use Rattle.simfile.specs.Source.{Are}
+use Rattle.simfile.specs.Lines.{check_line}
+
+abbrev pub fault_of : Result Program BuildFault → Option BuildFault
+fault_of (Ok program) = None
+fault_of (Err fault) = Some fault
+
+-- what the source builds to was told in a line, of which nothing is held back
+pub record Checked (rest : Option (List ℕ)) (old new : Sink) (good : Bool) : Type 0 where
+  pub source : List ℕ
+  pub built : Result Program BuildFault
+  pub read : Are rest source
+  pub builds : Builds source built
+  pub wrote : Wrote old new (check_line (fault_of built))
+  pub released : new.held ≡ []
+  pub answer : good ≡ is_ok built
+
+-- a write failed at the line of what the source builds to
+pub record Untold (rest : Option (List ℕ)) (old new : Sink) : Type 0 where
+  pub source : List ℕ
+  pub built : Result Program BuildFault
+  pub read : Are rest source
+  pub builds : Builds source built
+  pub stopped : Stopped old new (check_line (fault_of built))
+
+-- why a check came to no end, and what it left
+abbrev pub Unchecked : Option (List ℕ) → ℕ → ℕ → Sink → Sink → RunFault → Type 0
+Unchecked rest failures failures' old new fault.Read = CountsUp failures failures' × (new ≡ old)
+Unchecked rest failures failures' old new fault.OutOfMemory = new ≡ old
+Unchecked rest failures failures' old new fault.Write = Untold rest old new
+Unchecked rest failures failures' old new (fault.BadLine n) = ⊥

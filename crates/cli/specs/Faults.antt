@@ -1,9 +1,0 @@
--- Why bytes are no script.
-use Rattle.std.specs.Prelude.{List, ℕ, ⊤}
-use Rattle.cli.specs.Script.{IsBadLine}
-use Rattle.cli.specs.declared.script.ScriptFault.{ScriptFault}
-use Rattle.cli.specs.declared.script.ScriptFault.TheVariants as script
-
-abbrev pub NoScript : List ℕ → ScriptFault → Type 0
-NoScript bytes (script.BadLine n) = IsBadLine bytes n
-NoScript bytes script.OutOfMemory = ⊤

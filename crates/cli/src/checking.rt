@@ -1,0 +1,55 @@
+//! A source that is checked, and the line that tells what was found.
+#![tactic(auto)]
+
+ghost use Rattle.std.specs.Prelude.{◌≡◌, [], IfOk, IfErr, OnOk};
+ghost use Rattle.simfile.specs.Sink.{Puts};
+ghost use Rattle.simfile.specs.Lines.{check_line};
+ghost use Rattle.cli.specs.Checking.{Checked, Unchecked};
+
+use crate::session::RunFault;
+use device_store::build::build;
+use device_store::command::BuildFault;
+use simfile::ends::{Read, ReadFault, Write, WriteFailed};
+use simfile::replies::write_check;
+use std::alloc::{AllocError, Global};
+
+/// Writes the line of a check, and lets go of it.
+fn tell<W: Write>(fault: Option<BuildFault>, writer: &mut W) -> Result<(), WriteFailed>
+    ensures line { Puts (W.sink writer.old) result (W.sink writer.new) (check_line fault) }
+    ensures released { OnOk result ((W.sink writer.new).held ≡ []) }
+{
+    write_check(fault, writer)?;
+    writer.flush()
+}
+
+/// Reads a source and checks it as a program is built: `read`, then `check`. Writes `ok`, or the fault with its number, name and
+/// place in the source, as a line. Answers whether the source builds.
+///
+/// No fault is a `BadLine`; after `Read` and `OutOfMemory` nothing was written, after `Write` a beginning of the line.
+pub fn check_file<R: Read, W: Write>(
+    alloc: Global,
+    reader: &mut R,
+    writer: &mut W,
+) -> Result<bool, RunFault>
+    ensures checked { IfOk result (Checked (R.rest reader.old) (W.sink writer.old) (W.sink writer.new)) }
+    ensures failed { IfErr result
+        (Unchecked (R.rest reader.old) (R.failures reader.old) (R.failures reader.new) (W.sink writer.old) (W.sink writer.new)) }
+{
+    let source = match reader.read_all(alloc) {
+        Ok(source) => source,
+        Err(ReadFault::Failed) => return Err(RunFault::Read),
+        Err(ReadFault::OutOfMemory) => return Err(RunFault::OutOfMemory),
+    };
+    let fault = match build(alloc, source.as_slice()) {
+        Ok(Ok(_)) => None,
+        Ok(Err(fault)) => Some(fault),
+        Err(AllocError) => return Err(RunFault::OutOfMemory),
+    };
+    match tell(fault, writer) {
+        Ok(()) => Ok(fault.is_none()),
+        Err(WriteFailed) => Err(RunFault::Write),
+    }
+}
+
+#[cfg(test)]
+mod tests;

@@ -1,0 +1,77 @@
+-- Fields as loops find them.
+use Rattle.std.proofs.Common.{◌≡◌, ℕ, suc, ◌+◌, ◌-◌, ◌*◌, ◌<◌, ◌≤◌, Bool, true, false, not, List, [], ◌∷◌, length, drop, get_or, None, Some, unwrap_or, refl, ap, sym, ◌∙◌, arith, cond, nat_lt, if◌then◌else◌, position}
+use Rattle.std.proofs.lemmas.List.{at_drop_more, at_drop_all}
+use Rattle.std.proofs.lemmas.Bool.Decides.{nat_tests}
+use Rattle.std.specs.List.{position_or_len}
+use Rattle.simfile.specs.Fields.{value_behind, value_of, bytes_of, hex_value}
+use Rattle.simfile.specs.Reading.{front_length, lines_end}
+
+pub value_grows : (n : ℕ) (ds : List ℕ) → n ≤ value_behind n ds
+value_grows n [] = omega arith
+value_grows n (d ∷ ds) = let more : 10 * n + (d - 48) ≤ value_behind (10 * n + (d - 48)) ds = value_grows (10 * n + (d - 48)) ds in omega arith
+
+pub value_more : (v i u : ℕ) (ds : List ℕ) → i < length ds → u ≡ get_or ds i 0 - 48 → value_behind v (drop i ds) ≡ value_of ds → value_behind (10 * v + u) (drop (i + 1) ds) ≡ value_of ds
+value_more v i u ds h e p = let s : value_behind v (drop i ds) ≡ value_behind (10 * v + (get_or ds i 0 - 48)) (drop (i + 1) ds) = at_drop_more (value_behind v) ds i 0 h in rw e (sym s ∙ p)
+
+pub value_past : (v i u : ℕ) (ds : List ℕ) → i < length ds → u ≡ get_or ds i 0 - 48 → value_behind v (drop i ds) ≡ value_of ds → 10 * v + u ≤ value_of ds
+value_past v i u ds h e p = let s = value_more v i u ds h e p in rw (← s) (value_grows (10 * v + u) (drop (i + 1) ds))
+
+pub value_all : (v i : ℕ) (ds : List ℕ) → length ds ≤ i → value_behind v (drop i ds) ≡ value_of ds → v ≡ value_of ds
+value_all v i ds h p = let s : value_behind v (drop i ds) ≡ v = at_drop_all (value_behind v) ds i h in sym s ∙ p
+
+pub front_is : (p : ℕ → Bool) (bs : List ℕ) → position_or_len (λ b. not (p b)) bs ≡ front_length p bs
+front_is p [] = refl
+front_is p (b ∷ bs) = elim (p b) as (λ v. cond (not (not v)) (1 + position_or_len (λ x. not (p x)) bs) 0 ≡ (if v then front_length p bs + 1 else 0)) [
+  | true ↦ let h = front_is p bs in omega (arith, h)
+  | false ↦ refl
+]
+
+pub front_within : (p : ℕ → Bool) (bs : List ℕ) → front_length p bs ≤ length bs
+front_within p [] = omega arith
+front_within p (b ∷ bs) = let h = front_within p bs in elim (p b) as (λ v. (if v then front_length p bs + 1 else 0) ≤ suc (length bs)) [ true ↦ omega (arith, h) | false ↦ omega arith ]
+
+pub least : (m n : ℕ) → m ≤ n → unwrap_or (cond (nat_lt m n) (Some m) None) n ≡ m
+least m n h = grind (arith, nat_tests)
+
+pub front_of_position : (p : ℕ → Bool) (bs : List ℕ) → unwrap_or (position (λ b. not (p b)) bs) (length bs) ≡ front_length p bs
+front_of_position p bs = let e = front_is p bs in let h = front_within p bs in let same : position_or_len (λ b. not (p b)) bs ≤ length bs = rw e h in least (position_or_len (λ b. not (p b)) bs) (length bs) same ∙ e
+
+-- the steps through the lines
+
+pub lines_last : (n at b : ℕ) (bs : List ℕ) → b ≡ 10 → n ≡ 1 → lines_end n at (b ∷ bs) ≡ Some (at + 1)
+lines_last n at b bs e f = rw (e, f) refl
+
+pub lines_feed : (n at b : ℕ) (bs : List ℕ) → b ≡ 10 → (n ≡ 1 → ⊥) → lines_end n at (b ∷ bs) ≡ lines_end (n - 1) (at + 1) bs
+lines_feed n at b bs e f = rw e (grind (arith, nat_tests))
+
+pub lines_other : (n at b : ℕ) (bs : List ℕ) → (b ≡ 10 → ⊥) → lines_end n at (b ∷ bs) ≡ lines_end n (at + 1) bs
+lines_other n at b bs e = grind (arith, nat_tests)
+
+pub end_found : (n c i : ℕ) (bs : List ℕ) → i < length bs → get_or bs i 0 ≡ 10 → n ≡ 1 → lines_end n i (drop i bs) ≡ lines_end c 0 bs → Some (i + 1) ≡ lines_end c 0 bs
+end_found n c i bs h e f p = sym (lines_last n i (get_or bs i 0) (drop (i + 1) bs) e f) ∙ (sym (at_drop_more (lines_end n i) bs i 0 h) ∙ p)
+
+pub end_feed : (n c i : ℕ) (bs : List ℕ) → i < length bs → get_or bs i 0 ≡ 10 → (n ≡ 1 → ⊥) → lines_end n i (drop i bs) ≡ lines_end c 0 bs → lines_end (n - 1) (i + 1) (drop (i + 1) bs) ≡ lines_end c 0 bs
+end_feed n c i bs h e f p = sym (lines_feed n i (get_or bs i 0) (drop (i + 1) bs) e f) ∙ (sym (at_drop_more (lines_end n i) bs i 0 h) ∙ p)
+
+pub end_other : (n c i : ℕ) (bs : List ℕ) → i < length bs → (get_or bs i 0 ≡ 10 → ⊥) → lines_end n i (drop i bs) ≡ lines_end c 0 bs → lines_end n (i + 1) (drop (i + 1) bs) ≡ lines_end c 0 bs
+end_other n c i bs h e p = sym (lines_other n i (get_or bs i 0) (drop (i + 1) bs) e) ∙ (sym (at_drop_more (lines_end n i) bs i 0 h) ∙ p)
+
+pub end_none : (n c i : ℕ) (bs : List ℕ) → length bs ≤ i → lines_end n i (drop i bs) ≡ lines_end c 0 bs → None ≡ lines_end c 0 bs
+end_none n c i bs h p = sym (at_drop_all (lines_end n i) bs i h) ∙ p
+
+-- two digits more
+
+bytes_pair : (ds rest : List ℕ) (a b : ℕ) → ds ≡ a ∷ b ∷ rest → bytes_of ds ≡ (16 * hex_value a + hex_value b) ∷ bytes_of rest
+bytes_pair ds rest a b e = ap bytes_of e
+
+pub bytes_more : (i : ℕ) (ds : List ℕ) → 2 * i + 1 < length ds → bytes_of (drop (2 * i) ds) ≡ (16 * hex_value (get_or ds (2 * i) 0) + hex_value (get_or ds (2 * i + 1) 0)) ∷ bytes_of (drop (2 * (i + 1)) ds)
+bytes_more i ds h =
+    let one : drop (2 * i) ds ≡ get_or ds (2 * i) 0 ∷ drop (2 * i + 1) ds = at_drop_more (λ l. l) ds (2 * i) 0 (omega (arith, h)) in
+    let two : drop (2 * i + 1) ds ≡ get_or ds (2 * i + 1) 0 ∷ drop (2 * i + 1 + 1) ds = at_drop_more (λ l. l) ds (2 * i + 1) 0 h in
+    let next : 2 * (i + 1) ≡ 2 * i + 1 + 1 = omega arith in
+    bytes_pair (drop (2 * i) ds) (drop (2 * (i + 1)) ds) (get_or ds (2 * i) 0) (get_or ds (2 * i + 1) 0) (rw next (one ∙ ap (λ l. get_or ds (2 * i) 0 ∷ l) two))
+
+pub bytes_last : (ds : List ℕ) → length ds < 2 → bytes_of ds ≡ []
+bytes_last [] h = refl
+bytes_last (a ∷ []) h = refl
+bytes_last (a ∷ b ∷ ds) h = absurd (omega (arith, h))

@@ -1,0 +1,444 @@
+-- Commands: what is read of a line is the text of a command, and that text is read.
+use Rattle.std.proofs.Common.{◌≡◌, ℕ, ◌<◌, ◌≤◌, ◌^◌, false, List, [], ◌∷◌, ◌++◌, Option, None, Some, inl, inr, refl, ap, sym, ◌∙◌, subst, arith, decimal, codes, IsTrue, append_assoc}
+use Rattle.std.specs.Fmt.{signed_decimal}
+use Rattle.clmodel.specs.declared.setup.Argument.{Argument}
+use Rattle.clmodel.specs.declared.setup.Argument.TheVariants as argument
+use Rattle.clmodel.specs.declared.setup.Range.{Range}
+use Rattle.device_store.specs.declared.command.Command.{Command}
+use Rattle.device_store.specs.declared.command.Command.TheVariants as command
+use Rattle.simfile.specs.Fields.{joined, is_name, is_listed, IsList, list_text, numbers_of, AreBytes, hex, bytes_of}
+use Rattle.simfile.specs.Reading.{after, name_at, number_at, list_at, hex_at, value_at, source_at, buffer_at, write_at, read_at, buffer_argument_at, value_argument_at, argument_at, listed_offset_at, offset_at, offsets_of, range_of, program_at, kernel_at, arg_at, launch_at, command_at, or_else, ◌>>=◌}
+use Rattle.simfile.specs.Script.{IsText, IsSetting, IsOffset, AreLines, space, line_feed}
+use Rattle.simfile.specs.Laws.{Takes, Again}
+use Rattle.simfile.proofs.FieldLaws.{after_takes, after_again, name_takes, name_again, number_takes, number_again, list_takes, list_again, list_back, hex_takes, hex_again, hex_back, value_takes, value_again, source_takes, source_again, space_ends, feed_ends, space_ends_list, feed_ends_list, feed_ends_hex}
+
+bind_some : {A B : Type 0} (o : Option A) (f : A → Option B) (y : B) → (o >>= f) ≡ Some y → (x : A) × (o ≡ Some x) × (f x ≡ Some y)
+bind_some None f y e = absurd (cc)
+bind_some (Some x) f y e = (x, refl, e)
+
+-- texts one after another, and then the rest
+abbrev joined_onto : List (List ℕ) → List ℕ → List ℕ
+joined_onto [] rest = rest
+joined_onto (part ∷ parts) rest = part ++ joined_onto parts rest
+
+joined-append : (parts : List (List ℕ)) (rest : List ℕ) → joined parts ++ rest ≡ joined_onto parts rest
+joined-append [] rest = refl
+joined-append (part ∷ parts) rest = append_assoc part (joined parts) rest ∙ ap (λ l. part ++ l) (joined-append parts rest)
+
+-- the text of a command that begins with a word lies in front
+abbrev Behind : List ℕ → List ℕ → Command → List ℕ → Type 0
+Behind word bytes c rest = (text : List ℕ) × (word ++ bytes ≡ text ++ rest) × IsText text c
+
+behind : (word bytes : List ℕ) (parts : List (List ℕ)) (x y : Command × List ℕ) → Some x ≡ Some y → word ++ bytes ≡ joined_onto parts x.1 → IsText (joined parts) x.0 → Behind word bytes y.0 y.1
+behind word bytes parts x y e split text =
+    let P : Command × List ℕ → Type 0 = λ z. Behind word bytes z.0 z.1 in
+    let same : x ≡ y = cc in
+    subst P same (joined parts, split ∙ sym (joined-append parts x.1), text)
+
+buffer_takes : (bytes : List ℕ) (c : Command) (rest : List ℕ) → buffer_at bytes ≡ Some (c, rest) → Behind (codes "buffer ") bytes c rest
+unfolding buffer_at
+buffer_takes bytes c rest e =
+    let s1 = bind_some (name_at bytes) _ (c, rest) e in
+    let t1 = name_takes bytes s1.0 s1.1 in
+    let p1 : bytes ≡ s1.0.0 ++ s1.0.1 = t1.0 in
+    let s2 = bind_some (after (32 ∷ []) s1.0.1) _ (c, rest) s1.2 in
+    let t2 : s1.0.1 ≡ (32 ∷ []) ++ s2.0 = after_takes (32 ∷ []) s1.0.1 s2.0 s2.1 in
+    let s3 = bind_some (number_at s2.0) _ (c, rest) s2.2 in
+    let t3 = number_takes s2.0 s3.0 s3.1 in
+    let p3 : s2.0 ≡ decimal s3.0.0 ++ s3.0.1 = t3.0 in
+    let s4 = bind_some (after (10 ∷ []) s3.0.1) _ (c, rest) s3.2 in
+    let t4 : s3.0.1 ≡ (10 ∷ []) ++ s4.0 = after_takes (10 ∷ []) s3.0.1 s4.0 s4.1 in
+    let parts = codes "buffer " ∷ s1.0.0 ∷ space ∷ decimal s3.0.0 ∷ line_feed ∷ [] in
+    behind (codes "buffer ") bytes parts (command.Buffer s1.0.0 s3.0.0, s4.0) (c, rest) s4.2 (ap (λ l. codes "buffer " ++ l) (p1 ∙ ap (λ l. s1.0.0 ++ l) (t2 ∙ ap (λ l. (32 ∷ []) ++ l) (p3 ∙ ap (λ l. decimal s3.0.0 ++ l) t4)))) (t1.1, t3.1, refl)
+
+read_takes : (bytes : List ℕ) (c : Command) (rest : List ℕ) → read_at bytes ≡ Some (c, rest) → Behind (codes "read ") bytes c rest
+unfolding read_at
+read_takes bytes c rest e =
+    let s1 = bind_some (name_at bytes) _ (c, rest) e in
+    let t1 = name_takes bytes s1.0 s1.1 in
+    let p1 : bytes ≡ s1.0.0 ++ s1.0.1 = t1.0 in
+    let s2 = bind_some (after (32 ∷ []) s1.0.1) _ (c, rest) s1.2 in
+    let t2 : s1.0.1 ≡ (32 ∷ []) ++ s2.0 = after_takes (32 ∷ []) s1.0.1 s2.0 s2.1 in
+    let s3 = bind_some (number_at s2.0) _ (c, rest) s2.2 in
+    let t3 = number_takes s2.0 s3.0 s3.1 in
+    let p3 : s2.0 ≡ decimal s3.0.0 ++ s3.0.1 = t3.0 in
+    let s4 = bind_some (after (32 ∷ []) s3.0.1) _ (c, rest) s3.2 in
+    let t4 : s3.0.1 ≡ (32 ∷ []) ++ s4.0 = after_takes (32 ∷ []) s3.0.1 s4.0 s4.1 in
+    let s5 = bind_some (number_at s4.0) _ (c, rest) s4.2 in
+    let t5 = number_takes s4.0 s5.0 s5.1 in
+    let p5 : s4.0 ≡ decimal s5.0.0 ++ s5.0.1 = t5.0 in
+    let s6 = bind_some (after (10 ∷ []) s5.0.1) _ (c, rest) s5.2 in
+    let t6 : s5.0.1 ≡ (10 ∷ []) ++ s6.0 = after_takes (10 ∷ []) s5.0.1 s6.0 s6.1 in
+    let parts = codes "read " ∷ s1.0.0 ∷ space ∷ decimal s3.0.0 ∷ space ∷ decimal s5.0.0 ∷ line_feed ∷ [] in
+    behind (codes "read ") bytes parts (command.Read s1.0.0 s3.0.0 s5.0.0, s6.0) (c, rest) s6.2 (ap (λ l. codes "read " ++ l) (p1 ∙ ap (λ l. s1.0.0 ++ l) (t2 ∙ ap (λ l. (32 ∷ []) ++ l) (p3 ∙ ap (λ l. decimal s3.0.0 ++ l) (t4 ∙ ap (λ l. (32 ∷ []) ++ l) (p5 ∙ ap (λ l. decimal s5.0.0 ++ l) t6)))))) (t1.1, t3.1, t5.1, refl)
+
+program_takes : (bytes : List ℕ) (c : Command) (rest : List ℕ) → program_at bytes ≡ Some (c, rest) → Behind (codes "program ") bytes c rest
+unfolding program_at
+program_takes bytes c rest e =
+    let s1 = bind_some (name_at bytes) _ (c, rest) e in
+    let t1 = name_takes bytes s1.0 s1.1 in
+    let p1 : bytes ≡ s1.0.0 ++ s1.0.1 = t1.0 in
+    let s2 = bind_some (after (32 ∷ []) s1.0.1) _ (c, rest) s1.2 in
+    let t2 : s1.0.1 ≡ (32 ∷ []) ++ s2.0 = after_takes (32 ∷ []) s1.0.1 s2.0 s2.1 in
+    let s3 = bind_some (number_at s2.0) _ (c, rest) s2.2 in
+    let t3 = number_takes s2.0 s3.0 s3.1 in
+    let p3 : s2.0 ≡ decimal s3.0.0 ++ s3.0.1 = t3.0 in
+    let s4 = bind_some (after (10 ∷ []) s3.0.1) _ (c, rest) s3.2 in
+    let t4 : s3.0.1 ≡ (10 ∷ []) ++ s4.0 = after_takes (10 ∷ []) s3.0.1 s4.0 s4.1 in
+    let s5 = bind_some (source_at s3.0.0 s4.0) _ (c, rest) s4.2 in
+    let t5 = source_takes s3.0.0 s4.0 s5.0 s5.1 in
+    let p5 : s4.0 ≡ s5.0.0 ++ s5.0.1 = t5.0 in
+    let parts = codes "program " ∷ s1.0.0 ∷ space ∷ decimal s3.0.0 ∷ line_feed ∷ s5.0.0 ∷ [] in
+    behind (codes "program ") bytes parts (command.Program s1.0.0 s5.0.0, s5.0.1) (c, rest) s5.2 (ap (λ l. codes "program " ++ l) (p1 ∙ ap (λ l. s1.0.0 ++ l) (t2 ∙ ap (λ l. (32 ∷ []) ++ l) (p3 ∙ ap (λ l. decimal s3.0.0 ++ l) (t4 ∙ ap (λ l. (10 ∷ []) ++ l) p5))))) (t1.1, (s3.0.0, t5.1, t5.2, refl))
+
+kernel_takes : (bytes : List ℕ) (c : Command) (rest : List ℕ) → kernel_at bytes ≡ Some (c, rest) → Behind (codes "kernel ") bytes c rest
+unfolding kernel_at
+kernel_takes bytes c rest e =
+    let s1 = bind_some (name_at bytes) _ (c, rest) e in
+    let t1 = name_takes bytes s1.0 s1.1 in
+    let p1 : bytes ≡ s1.0.0 ++ s1.0.1 = t1.0 in
+    let s2 = bind_some (after (32 ∷ []) s1.0.1) _ (c, rest) s1.2 in
+    let t2 : s1.0.1 ≡ (32 ∷ []) ++ s2.0 = after_takes (32 ∷ []) s1.0.1 s2.0 s2.1 in
+    let s3 = bind_some (name_at s2.0) _ (c, rest) s2.2 in
+    let t3 = name_takes s2.0 s3.0 s3.1 in
+    let p3 : s2.0 ≡ s3.0.0 ++ s3.0.1 = t3.0 in
+    let s4 = bind_some (after (32 ∷ []) s3.0.1) _ (c, rest) s3.2 in
+    let t4 : s3.0.1 ≡ (32 ∷ []) ++ s4.0 = after_takes (32 ∷ []) s3.0.1 s4.0 s4.1 in
+    let s5 = bind_some (name_at s4.0) _ (c, rest) s4.2 in
+    let t5 = name_takes s4.0 s5.0 s5.1 in
+    let p5 : s4.0 ≡ s5.0.0 ++ s5.0.1 = t5.0 in
+    let s6 = bind_some (after (10 ∷ []) s5.0.1) _ (c, rest) s5.2 in
+    let t6 : s5.0.1 ≡ (10 ∷ []) ++ s6.0 = after_takes (10 ∷ []) s5.0.1 s6.0 s6.1 in
+    let parts = codes "kernel " ∷ s1.0.0 ∷ space ∷ s3.0.0 ∷ space ∷ s5.0.0 ∷ line_feed ∷ [] in
+    behind (codes "kernel ") bytes parts (command.Kernel s1.0.0 s3.0.0 s5.0.0, s6.0) (c, rest) s6.2 (ap (λ l. codes "kernel " ++ l) (p1 ∙ ap (λ l. s1.0.0 ++ l) (t2 ∙ ap (λ l. (32 ∷ []) ++ l) (p3 ∙ ap (λ l. s3.0.0 ++ l) (t4 ∙ ap (λ l. (32 ∷ []) ++ l) (p5 ∙ ap (λ l. s5.0.0 ++ l) t6)))))) (t1.1, t3.1, t5.1, refl)
+
+write_takes : (bytes : List ℕ) (c : Command) (rest : List ℕ) → write_at bytes ≡ Some (c, rest) → Behind (codes "write ") bytes c rest
+unfolding write_at
+write_takes bytes c rest e =
+    let s1 = bind_some (name_at bytes) _ (c, rest) e in
+    let t1 = name_takes bytes s1.0 s1.1 in
+    let p1 : bytes ≡ s1.0.0 ++ s1.0.1 = t1.0 in
+    let s2 = bind_some (after (32 ∷ []) s1.0.1) _ (c, rest) s1.2 in
+    let t2 : s1.0.1 ≡ (32 ∷ []) ++ s2.0 = after_takes (32 ∷ []) s1.0.1 s2.0 s2.1 in
+    let s3 = bind_some (number_at s2.0) _ (c, rest) s2.2 in
+    let t3 = number_takes s2.0 s3.0 s3.1 in
+    let p3 : s2.0 ≡ decimal s3.0.0 ++ s3.0.1 = t3.0 in
+    let s4 = bind_some (after (32 ∷ []) s3.0.1) _ (c, rest) s3.2 in
+    let t4 : s3.0.1 ≡ (32 ∷ []) ++ s4.0 = after_takes (32 ∷ []) s3.0.1 s4.0 s4.1 in
+    let s5 = bind_some (hex_at s4.0) _ (c, rest) s4.2 in
+    let t5 = hex_takes s4.0 s5.0 s5.1 in
+    let p5 : s4.0 ≡ hex (bytes_of s5.0.0) ++ s5.0.1 = t5.0 in
+    let s6 = bind_some (after (10 ∷ []) s5.0.1) _ (c, rest) s5.2 in
+    let t6 : s5.0.1 ≡ (10 ∷ []) ++ s6.0 = after_takes (10 ∷ []) s5.0.1 s6.0 s6.1 in
+    let parts = codes "write " ∷ s1.0.0 ∷ space ∷ decimal s3.0.0 ∷ space ∷ hex (bytes_of s5.0.0) ∷ line_feed ∷ [] in
+    behind (codes "write ") bytes parts (command.Write s1.0.0 s3.0.0 (bytes_of s5.0.0), s6.0) (c, rest) s6.2 (ap (λ l. codes "write " ++ l) (p1 ∙ ap (λ l. s1.0.0 ++ l) (t2 ∙ ap (λ l. (32 ∷ []) ++ l) (p3 ∙ ap (λ l. decimal s3.0.0 ++ l) (t4 ∙ ap (λ l. (32 ∷ []) ++ l) (p5 ∙ ap (λ l. hex (bytes_of s5.0.0) ++ l) t6)))))) (t1.1, t3.1, t5.1, refl)
+
+-- the words of an argument lie in front
+abbrev SettingBehind : List ℕ → Argument → List ℕ → Type 0
+SettingBehind bytes argument rest = (setting : List ℕ) × (bytes ≡ setting ++ rest) × IsSetting setting argument
+
+buffer_argument_takes : (bytes onto : List ℕ) (x : Argument × List ℕ) → bytes ≡ codes " buffer " ++ onto → buffer_argument_at onto ≡ Some x → SettingBehind bytes x.0 x.1
+unfolding buffer_argument_at
+buffer_argument_takes bytes onto x is e =
+    let s = bind_some (name_at onto) _ x e in
+    let t = name_takes onto s.0 s.1 in
+    let same : (argument.Buffer s.0.0, s.0.1) ≡ x = let f = s.2 in cc in
+    let split : bytes ≡ (codes " buffer " ++ s.0.0) ++ s.0.1 = is ∙ (ap (λ l. codes " buffer " ++ l) t.0 ∙ sym (append_assoc (codes " buffer ") s.0.0 s.0.1)) in
+    let P : Argument × List ℕ → Type 0 = λ y. SettingBehind bytes y.0 y.1 in
+    subst P same (codes " buffer " ++ s.0.0, split, (t.1, refl))
+
+value_argument_takes : (bytes onto : List ℕ) (x : Argument × List ℕ) → bytes ≡ codes " value " ++ onto → value_argument_at onto ≡ Some x → SettingBehind bytes x.0 x.1
+unfolding value_argument_at
+value_argument_takes bytes onto x is e =
+    let s = bind_some (value_at onto) _ x e in
+    let t = value_takes onto s.0 s.1 in
+    let same : (argument.Value s.0.0, s.0.1) ≡ x = let f = s.2 in cc in
+    let split : bytes ≡ (codes " value " ++ signed_decimal s.0.0) ++ s.0.1 = is ∙ (ap (λ l. codes " value " ++ l) t.0 ∙ sym (append_assoc (codes " value ") (signed_decimal s.0.0) s.0.1)) in
+    let P : Argument × List ℕ → Type 0 = λ y. SettingBehind bytes y.0 y.1 in
+    subst P same (codes " value " ++ signed_decimal s.0.0, split, (t.1, refl))
+
+argument_by : (bytes : List ℕ) (x : Argument × List ℕ) (o p : Option (List ℕ)) → after (codes " buffer ") bytes ≡ o → after (codes " value ") bytes ≡ p → or_else o buffer_argument_at (or_else p value_argument_at None) ≡ Some x → SettingBehind bytes x.0 x.1
+argument_by bytes x (Some onto) p is other e = buffer_argument_takes bytes onto x (after_takes (codes " buffer ") bytes onto is) e
+argument_by bytes x None (Some onto) is other e = value_argument_takes bytes onto x (after_takes (codes " value ") bytes onto other) e
+argument_by bytes x None None is other e = absurd (cc)
+
+argument_takes : (bytes : List ℕ) (x : Argument × List ℕ) → argument_at bytes ≡ Some x → SettingBehind bytes x.0 x.1
+unfolding argument_at
+argument_takes bytes x e = argument_by bytes x (after (codes " buffer ") bytes) (after (codes " value ") bytes) refl refl e
+
+arg_takes : (bytes : List ℕ) (c : Command) (rest : List ℕ) → arg_at bytes ≡ Some (c, rest) → Behind (codes "arg ") bytes c rest
+unfolding arg_at
+arg_takes bytes c rest e =
+    let s1 = bind_some (name_at bytes) _ (c, rest) e in
+    let t1 = name_takes bytes s1.0 s1.1 in
+    let p1 : bytes ≡ s1.0.0 ++ s1.0.1 = t1.0 in
+    let s2 = bind_some (after (32 ∷ []) s1.0.1) _ (c, rest) s1.2 in
+    let t2 : s1.0.1 ≡ (32 ∷ []) ++ s2.0 = after_takes (32 ∷ []) s1.0.1 s2.0 s2.1 in
+    let s3 = bind_some (number_at s2.0) _ (c, rest) s2.2 in
+    let t3 = number_takes s2.0 s3.0 s3.1 in
+    let p3 : s2.0 ≡ decimal s3.0.0 ++ s3.0.1 = t3.0 in
+    let s4 = bind_some (argument_at s3.0.1) _ (c, rest) s3.2 in
+    let t4 = argument_takes s3.0.1 s4.0 s4.1 in
+    let p4 : s3.0.1 ≡ t4.0 ++ s4.0.1 = t4.1 in
+    let s5 = bind_some (after (10 ∷ []) s4.0.1) _ (c, rest) s4.2 in
+    let t5 : s4.0.1 ≡ (10 ∷ []) ++ s5.0 = after_takes (10 ∷ []) s4.0.1 s5.0 s5.1 in
+    let parts = codes "arg " ∷ s1.0.0 ∷ space ∷ decimal s3.0.0 ∷ t4.0 ∷ line_feed ∷ [] in
+    behind (codes "arg ") bytes parts (command.Arg s1.0.0 s3.0.0 s4.0.0, s5.0) (c, rest) s5.2 (ap (λ l. codes "arg " ++ l) (p1 ∙ ap (λ l. s1.0.0 ++ l) (t2 ∙ ap (λ l. (32 ∷ []) ++ l) (p3 ∙ ap (λ l. decimal s3.0.0 ++ l) (p4 ∙ ap (λ l. t4.0 ++ l) t5))))) (t1.1, t3.1, (t4.0, t4.2, refl))
+
+-- the offsets lie in front, or none do, and then the line feed
+abbrev OffsetBehind : List ℕ → Option (List ℕ) → List ℕ → Type 0
+OffsetBehind bytes offset rest = (text : List ℕ) × (bytes ≡ text ++ (10 ∷ rest)) × ((sizes : List ℕ) → IsOffset text sizes (offsets_of offset sizes))
+
+listed_offset_takes : (bytes : List ℕ) (x : Option (List ℕ) × List ℕ) → listed_offset_at bytes ≡ Some x → OffsetBehind bytes x.0 x.1
+unfolding listed_offset_at
+listed_offset_takes bytes x e =
+    let s1 = bind_some (after (32 ∷ []) bytes) _ x e in
+    let t1 : bytes ≡ (32 ∷ []) ++ s1.0 = after_takes (32 ∷ []) bytes s1.0 s1.1 in
+    let s2 = bind_some (list_at s1.0) _ x s1.2 in
+    let t2 = list_takes s1.0 s2.0 s2.1 in
+    let s3 = bind_some (after (10 ∷ []) s2.0.1) _ x s2.2 in
+    let t3 : s2.0.1 ≡ (10 ∷ []) ++ s3.0 = after_takes (10 ∷ []) s2.0.1 s3.0 s3.1 in
+    let same : (Some s2.0.0, s3.0) ≡ x = let f = s3.2 in cc in
+    let text = space ++ list_text (numbers_of s2.0.0) in
+    let split : bytes ≡ text ++ (10 ∷ s3.0) = t1 ∙ (ap (λ l. (32 ∷ []) ++ l) (t2.0 ∙ ap (λ l. list_text (numbers_of s2.0.0) ++ l) t3)) in
+    let P : Option (List ℕ) × List ℕ → Type 0 = λ y. OffsetBehind bytes y.0 y.1 in
+    subst P same (text, split, λ sizes. inr (t2.1, refl))
+
+offset_by : (bytes : List ℕ) (x : Option (List ℕ) × List ℕ) (o : Option (List ℕ)) → after (10 ∷ []) bytes ≡ o → or_else o (λ rest. Some (None, rest)) (listed_offset_at bytes) ≡ Some x → OffsetBehind bytes x.0 x.1
+offset_by bytes x None is e = listed_offset_takes bytes x e
+offset_by bytes x (Some rest) is e =
+    let same : (None, rest) ≡ x = cc in
+    let P : Option (List ℕ) × List ℕ → Type 0 = λ y. OffsetBehind bytes y.0 y.1 in
+    subst P same ([], after_takes (10 ∷ []) bytes rest is, λ sizes. inl (refl, refl))
+
+offset_takes : (bytes : List ℕ) (x : Option (List ℕ) × List ℕ) → offset_at bytes ≡ Some x → OffsetBehind bytes x.0 x.1
+unfolding offset_at
+offset_takes bytes x e = offset_by bytes x (after (10 ∷ []) bytes) refl e
+
+launch_takes : (bytes : List ℕ) (c : Command) (rest : List ℕ) → launch_at bytes ≡ Some (c, rest) → Behind (codes "launch ") bytes c rest
+unfolding launch_at
+launch_takes bytes c rest e =
+    let s1 = bind_some (name_at bytes) _ (c, rest) e in
+    let t1 = name_takes bytes s1.0 s1.1 in
+    let p1 : bytes ≡ s1.0.0 ++ s1.0.1 = t1.0 in
+    let s2 = bind_some (after (32 ∷ []) s1.0.1) _ (c, rest) s1.2 in
+    let t2 : s1.0.1 ≡ (32 ∷ []) ++ s2.0 = after_takes (32 ∷ []) s1.0.1 s2.0 s2.1 in
+    let s3 = bind_some (list_at s2.0) _ (c, rest) s2.2 in
+    let t3 = list_takes s2.0 s3.0 s3.1 in
+    let global = list_text (numbers_of s3.0.0) in
+    let p3 : s2.0 ≡ global ++ s3.0.1 = t3.0 in
+    let s4 = bind_some (after (32 ∷ []) s3.0.1) _ (c, rest) s3.2 in
+    let t4 : s3.0.1 ≡ (32 ∷ []) ++ s4.0 = after_takes (32 ∷ []) s3.0.1 s4.0 s4.1 in
+    let s5 = bind_some (list_at s4.0) _ (c, rest) s4.2 in
+    let t5 = list_takes s4.0 s5.0 s5.1 in
+    let local = list_text (numbers_of s5.0.0) in
+    let p5 : s4.0 ≡ local ++ s5.0.1 = t5.0 in
+    let s6 = bind_some (offset_at s5.0.1) _ (c, rest) s5.2 in
+    let t6 = offset_takes s5.0.1 s6.0 s6.1 in
+    let p6 : s5.0.1 ≡ t6.0 ++ (10 ∷ s6.0.1) = t6.1 in
+    let parts = codes "launch " ∷ s1.0.0 ∷ space ∷ global ∷ space ∷ local ∷ t6.0 ∷ line_feed ∷ [] in
+    behind (codes "launch ") bytes parts (command.Launch s1.0.0 (range_of s3.0.0 s5.0.0 s6.0.0), s6.0.1) (c, rest) s6.2 (ap (λ l. codes "launch " ++ l) (p1 ∙ ap (λ l. s1.0.0 ++ l) (t2 ∙ ap (λ l. (32 ∷ []) ++ l) (p3 ∙ ap (λ l. global ++ l) (t4 ∙ ap (λ l. (32 ∷ []) ++ l) (p5 ∙ ap (λ l. local ++ l) p6)))))) (t1.1, t3.1, t5.1, (t6.0, t6.2 (numbers_of s3.0.0), refl))
+
+-- the command in front, by its first word
+by_word : (word bytes : List ℕ) (f : List ℕ → Option (Command × List ℕ)) (other : Option (Command × List ℕ)) (c : Command) (rest : List ℕ) → ((b : List ℕ) (d : Command) (r : List ℕ) → f b ≡ Some (d, r) → Behind word b d r)
+    → (other ≡ Some (c, rest) → (text : List ℕ) × (bytes ≡ text ++ rest) × IsText text c) → (o : Option (List ℕ)) → after word bytes ≡ o → or_else o f other ≡ Some (c, rest) → (text : List ℕ) × (bytes ≡ text ++ rest) × IsText text c
+by_word word bytes f other c rest takes more None is e = more e
+by_word word bytes f other c rest takes more (Some b) is e =
+    let h = takes b c rest e in
+    (h.0, after_takes word bytes b is ∙ h.1, h.2)
+
+pub command_takes : Takes
+unfolding command_at
+command_takes bytes c rest e =
+    by_word (codes "buffer ") bytes buffer_at _ c rest buffer_takes
+    (by_word (codes "write ") bytes write_at _ c rest write_takes
+    (by_word (codes "program ") bytes program_at _ c rest program_takes
+    (by_word (codes "kernel ") bytes kernel_at _ c rest kernel_takes
+    (by_word (codes "arg ") bytes arg_at _ c rest arg_takes
+    (by_word (codes "launch ") bytes launch_at _ c rest launch_takes
+    (by_word (codes "read ") bytes read_at None c rest read_takes (λ h. absurd (cc)) (after (codes "read ") bytes) refl)
+    (after (codes "launch ") bytes) refl)
+    (after (codes "arg ") bytes) refl)
+    (after (codes "kernel ") bytes) refl)
+    (after (codes "program ") bytes) refl)
+    (after (codes "write ") bytes) refl)
+    (after (codes "buffer ") bytes) refl e
+
+buffer_again : (name : List ℕ) (size : ℕ) (rest : List ℕ) → IsTrue (is_name name) → size < 2 ^ 64 → buffer_at (joined_onto (name ∷ space ∷ decimal size ∷ line_feed ∷ []) rest) ≡ Some (command.Buffer name size, rest)
+unfolding buffer_at
+buffer_again name size rest h k =
+    rw (
+      name_again name h 32 (joined_onto (decimal size ∷ line_feed ∷ []) rest) space_ends,
+      after_again space (joined_onto (decimal size ∷ line_feed ∷ []) rest),
+      number_again size k 10 rest refl,
+      after_again line_feed rest,
+    ) refl
+
+read_again : (buffer : List ℕ) (offset count : ℕ) (rest : List ℕ) → IsTrue (is_name buffer) → offset < 2 ^ 64 → count < 2 ^ 64 → read_at (joined_onto (buffer ∷ space ∷ decimal offset ∷ space ∷ decimal count ∷ line_feed ∷ []) rest) ≡ Some (command.Read buffer offset count, rest)
+unfolding read_at
+read_again buffer offset count rest h k m =
+    rw (
+      name_again buffer h 32 (joined_onto (decimal offset ∷ space ∷ decimal count ∷ line_feed ∷ []) rest) space_ends,
+      after_again space (joined_onto (decimal offset ∷ space ∷ decimal count ∷ line_feed ∷ []) rest),
+      number_again offset k 32 (joined_onto (decimal count ∷ line_feed ∷ []) rest) refl,
+      after_again space (joined_onto (decimal count ∷ line_feed ∷ []) rest),
+      number_again count m 10 rest refl,
+      after_again line_feed rest,
+    ) refl
+
+program_again : (name source : List ℕ) (n : ℕ) (rest : List ℕ) → IsTrue (is_name name) → n < 2 ^ 64 → n ≤ 65536 → AreLines source n → program_at (joined_onto (name ∷ space ∷ decimal n ∷ line_feed ∷ source ∷ []) rest) ≡ Some (command.Program name source, rest)
+unfolding program_at
+program_again name source n rest h k m lines =
+    rw (
+      name_again name h 32 (joined_onto (decimal n ∷ line_feed ∷ source ∷ []) rest) space_ends,
+      after_again space (joined_onto (decimal n ∷ line_feed ∷ source ∷ []) rest),
+      number_again n k 10 (joined_onto (source ∷ []) rest) refl,
+      after_again line_feed (joined_onto (source ∷ []) rest),
+      source_again source rest n m lines,
+    ) refl
+
+kernel_again : (name program function : List ℕ) (rest : List ℕ) → IsTrue (is_name name) → IsTrue (is_name program) → IsTrue (is_name function) → kernel_at (joined_onto (name ∷ space ∷ program ∷ space ∷ function ∷ line_feed ∷ []) rest) ≡ Some (command.Kernel name program function, rest)
+unfolding kernel_at
+kernel_again name program function rest h k m =
+    rw (
+      name_again name h 32 (joined_onto (program ∷ space ∷ function ∷ line_feed ∷ []) rest) space_ends,
+      after_again space (joined_onto (program ∷ space ∷ function ∷ line_feed ∷ []) rest),
+      name_again program k 32 (joined_onto (function ∷ line_feed ∷ []) rest) space_ends,
+      after_again space (joined_onto (function ∷ line_feed ∷ []) rest),
+      name_again function m 10 rest feed_ends,
+      after_again line_feed rest,
+    ) refl
+
+write_again : (buffer : List ℕ) (offset : ℕ) (bytes rest : List ℕ) → IsTrue (is_name buffer) → offset < 2 ^ 64 → AreBytes bytes → write_at (joined_onto (buffer ∷ space ∷ decimal offset ∷ space ∷ hex bytes ∷ line_feed ∷ []) rest) ≡ Some (command.Write buffer offset bytes, rest)
+unfolding write_at
+write_again buffer offset bytes rest h k m =
+    rw (
+      name_again buffer h 32 (joined_onto (decimal offset ∷ space ∷ hex bytes ∷ line_feed ∷ []) rest) space_ends,
+      after_again space (joined_onto (decimal offset ∷ space ∷ hex bytes ∷ line_feed ∷ []) rest),
+      number_again offset k 32 (joined_onto (hex bytes ∷ line_feed ∷ []) rest) refl,
+      after_again space (joined_onto (hex bytes ∷ line_feed ∷ []) rest),
+      hex_again bytes m 10 rest feed_ends_hex,
+      after_again line_feed rest,
+      hex_back bytes m,
+    ) refl
+
+argument_again : (setting : List ℕ) (a : Argument) (rest : List ℕ) → IsSetting setting a → argument_at (setting ++ 10 ∷ rest) ≡ Some (a, 10 ∷ rest)
+argument_again setting (argument.Buffer buffer) rest h =
+    let onto = buffer ++ 10 ∷ rest in
+    let split : setting ++ 10 ∷ rest ≡ codes " buffer " ++ onto = ap (λ l. l ++ 10 ∷ rest) h.1 ∙ append_assoc (codes " buffer ") buffer (10 ∷ rest) in
+    rw split (unfold argument_at in unfold after in unfold buffer_argument_at in rw (name_again buffer h.0 10 rest feed_ends) refl)
+argument_again setting (argument.Value value) rest h =
+    let onto = signed_decimal value ++ 10 ∷ rest in
+    let split : setting ++ 10 ∷ rest ≡ codes " value " ++ onto = ap (λ l. l ++ 10 ∷ rest) h.1 ∙ append_assoc (codes " value ") (signed_decimal value) (10 ∷ rest) in
+    rw split (unfold argument_at in unfold after in unfold value_argument_at in rw (value_again value h.0 10 rest refl) refl)
+argument_again setting (argument.Local size) rest h = absurd h
+
+-- the words of an argument begin with a space
+spaced : (setting : List ℕ) (a : Argument) → IsSetting setting a → (more : List ℕ) × (setting ≡ 32 ∷ more)
+spaced setting (argument.Buffer buffer) h = (codes "buffer " ++ buffer, h.1)
+spaced setting (argument.Value value) h = (codes "value " ++ signed_decimal value, h.1)
+spaced setting (argument.Local size) h = absurd h
+
+arg_again : (kernel : List ℕ) (index : ℕ) (setting : List ℕ) (a : Argument) (rest : List ℕ) → IsTrue (is_name kernel) → index < 2 ^ 64 → IsSetting setting a → arg_at (joined_onto (kernel ∷ space ∷ decimal index ∷ setting ∷ line_feed ∷ []) rest) ≡ Some (command.Arg kernel index a, rest)
+unfolding arg_at
+arg_again kernel index setting a rest h k m =
+    let s = spaced setting a m in
+    let read : number_at (decimal index ++ (setting ++ 10 ∷ rest)) ≡ Some (index, setting ++ 10 ∷ rest) = rw s.1 (number_again index k 32 (s.0 ++ 10 ∷ rest) refl) in
+    rw (
+      name_again kernel h 32 (joined_onto (decimal index ∷ setting ∷ line_feed ∷ []) rest) space_ends,
+      after_again space (joined_onto (decimal index ∷ setting ∷ line_feed ∷ []) rest),
+      read,
+      argument_again setting a rest m,
+      after_again line_feed rest,
+    ) refl
+
+-- what is read of the offsets
+record OffsetRead (text sizes offsets rest : List ℕ) : Type 0 where
+  offset : Option (List ℕ)
+  read : offset_at (text ++ 10 ∷ rest) ≡ Some (offset, rest)
+  same : offsets_of offset sizes ≡ offsets
+  ends : (b : ℕ) × (more : List ℕ) × (text ++ 10 ∷ rest ≡ b ∷ more) × (is_listed b ≡ false)
+
+offset_again : (text sizes offsets rest : List ℕ) → IsOffset text sizes offsets → OffsetRead text sizes offsets rest
+offset_again text sizes offsets rest (inl h) = record {
+  offset = None;
+  read = rw h.0 (unfold offset_at in unfold after in refl);
+  same = sym h.1;
+  ends = (10, rest, rw h.0 refl, feed_ends_list);
+}
+offset_again text sizes offsets rest (inr h) = record {
+  offset = Some (list_text offsets);
+  read = rw h.1 (unfold offset_at in unfold after in unfold listed_offset_at in rw (list_again offsets h.0 10 rest feed_ends_list) refl);
+  same = list_back offsets h.0;
+  ends = (32, list_text offsets ++ 10 ∷ rest, rw h.1 refl, space_ends_list);
+}
+
+launch_again : (kernel : List ℕ) (range : Range) (offset rest : List ℕ) → IsTrue (is_name kernel) → IsList range.global → IsList range.local → IsOffset offset range.global range.offset → launch_at (joined_onto (kernel ∷ space ∷ list_text range.global ∷ space ∷ list_text range.local ∷ offset ∷ line_feed ∷ []) rest) ≡ Some (command.Launch kernel range, rest)
+unfolding launch_at
+launch_again kernel range offset rest h k m o =
+    let t = offset_again offset range.global range.offset rest o in
+    let local : list_at (list_text range.local ++ (offset ++ 10 ∷ rest)) ≡ Some (list_text range.local, offset ++ 10 ∷ rest) = rw t.ends.2 (list_again range.local m t.ends.0 t.ends.1 t.ends.3) in
+    rw (
+      name_again kernel h 32 (joined_onto (list_text range.global ∷ space ∷ list_text range.local ∷ offset ∷ line_feed ∷ []) rest) space_ends,
+      after_again space (joined_onto (list_text range.global ∷ space ∷ list_text range.local ∷ offset ∷ line_feed ∷ []) rest),
+      list_again range.global k 32 (joined_onto (list_text range.local ∷ offset ∷ line_feed ∷ []) rest) space_ends_list,
+      after_again space (joined_onto (list_text range.local ∷ offset ∷ line_feed ∷ []) rest),
+      local,
+      t.read,
+      list_back range.global k,
+      list_back range.local m,
+      t.same,
+    ) refl
+
+-- a command by its first word
+
+buffer_word : (bytes onto : List ℕ) (c : Command) (rest : List ℕ) → bytes ≡ codes "buffer " ++ onto → buffer_at onto ≡ Some (c, rest) → command_at bytes ≡ Some (c, rest)
+buffer_word bytes onto c rest e h = rw e (unfold command_at in unfold after in h)
+
+write_word : (bytes onto : List ℕ) (c : Command) (rest : List ℕ) → bytes ≡ codes "write " ++ onto → write_at onto ≡ Some (c, rest) → command_at bytes ≡ Some (c, rest)
+write_word bytes onto c rest e h = rw e (unfold command_at in unfold after in h)
+
+program_word : (bytes onto : List ℕ) (c : Command) (rest : List ℕ) → bytes ≡ codes "program " ++ onto → program_at onto ≡ Some (c, rest) → command_at bytes ≡ Some (c, rest)
+program_word bytes onto c rest e h = rw e (unfold command_at in unfold after in h)
+
+kernel_word : (bytes onto : List ℕ) (c : Command) (rest : List ℕ) → bytes ≡ codes "kernel " ++ onto → kernel_at onto ≡ Some (c, rest) → command_at bytes ≡ Some (c, rest)
+kernel_word bytes onto c rest e h = rw e (unfold command_at in unfold after in h)
+
+arg_word : (bytes onto : List ℕ) (c : Command) (rest : List ℕ) → bytes ≡ codes "arg " ++ onto → arg_at onto ≡ Some (c, rest) → command_at bytes ≡ Some (c, rest)
+arg_word bytes onto c rest e h = rw e (unfold command_at in unfold after in h)
+
+launch_word : (bytes onto : List ℕ) (c : Command) (rest : List ℕ) → bytes ≡ codes "launch " ++ onto → launch_at onto ≡ Some (c, rest) → command_at bytes ≡ Some (c, rest)
+launch_word bytes onto c rest e h = rw e (unfold command_at in unfold after in h)
+
+read_word : (bytes onto : List ℕ) (c : Command) (rest : List ℕ) → bytes ≡ codes "read " ++ onto → read_at onto ≡ Some (c, rest) → command_at bytes ≡ Some (c, rest)
+read_word bytes onto c rest e h = rw e (unfold command_at in unfold after in h)
+
+pub command_again : Again
+command_again text (command.Buffer name size) rest h =
+    let parts = codes "buffer " ∷ name ∷ space ∷ decimal size ∷ line_feed ∷ [] in
+    let split : text ++ rest ≡ joined_onto parts rest = ap (λ l. l ++ rest) h.2 ∙ joined-append parts rest in
+    (buffer_word (text ++ rest) (joined_onto (name ∷ space ∷ decimal size ∷ line_feed ∷ []) rest) _ rest split (buffer_again name size rest h.0 h.1))
+command_again text (command.Read buffer offset count) rest h =
+    let parts = codes "read " ∷ buffer ∷ space ∷ decimal offset ∷ space ∷ decimal count ∷ line_feed ∷ [] in
+    let split : text ++ rest ≡ joined_onto parts rest = ap (λ l. l ++ rest) h.3 ∙ joined-append parts rest in
+    (read_word (text ++ rest) (joined_onto (buffer ∷ space ∷ decimal offset ∷ space ∷ decimal count ∷ line_feed ∷ []) rest) _ rest split (read_again buffer offset count rest h.0 h.1 h.2))
+command_again text (command.Program name source) rest h =
+    let parts = codes "program " ∷ name ∷ space ∷ decimal h.1.0 ∷ line_feed ∷ source ∷ [] in
+    let split : text ++ rest ≡ joined_onto parts rest = ap (λ l. l ++ rest) h.1.3 ∙ joined-append parts rest in
+    (program_word (text ++ rest) (joined_onto (name ∷ space ∷ decimal h.1.0 ∷ line_feed ∷ source ∷ []) rest) _ rest split (program_again name source h.1.0 rest h.0 (omega (arith, h.1.1)) h.1.1 h.1.2))
+command_again text (command.Kernel name program function) rest h =
+    let parts = codes "kernel " ∷ name ∷ space ∷ program ∷ space ∷ function ∷ line_feed ∷ [] in
+    let split : text ++ rest ≡ joined_onto parts rest = ap (λ l. l ++ rest) h.3 ∙ joined-append parts rest in
+    (kernel_word (text ++ rest) (joined_onto (name ∷ space ∷ program ∷ space ∷ function ∷ line_feed ∷ []) rest) _ rest split (kernel_again name program function rest h.0 h.1 h.2))
+command_again text (command.Write buffer offset bytes) rest h =
+    let parts = codes "write " ∷ buffer ∷ space ∷ decimal offset ∷ space ∷ hex bytes ∷ line_feed ∷ [] in
+    let split : text ++ rest ≡ joined_onto parts rest = ap (λ l. l ++ rest) h.3 ∙ joined-append parts rest in
+    (write_word (text ++ rest) (joined_onto (buffer ∷ space ∷ decimal offset ∷ space ∷ hex bytes ∷ line_feed ∷ []) rest) _ rest split (write_again buffer offset bytes rest h.0 h.1 h.2))
+command_again text (command.Arg kernel index argument) rest h =
+    let parts = codes "arg " ∷ kernel ∷ space ∷ decimal index ∷ h.2.0 ∷ line_feed ∷ [] in
+    let split : text ++ rest ≡ joined_onto parts rest = ap (λ l. l ++ rest) h.2.2 ∙ joined-append parts rest in
+    (arg_word (text ++ rest) (joined_onto (kernel ∷ space ∷ decimal index ∷ h.2.0 ∷ line_feed ∷ []) rest) _ rest split (arg_again kernel index h.2.0 argument rest h.0 h.1 h.2.1))
+command_again text (command.Launch kernel range) rest h =
+    let parts = codes "launch " ∷ kernel ∷ space ∷ list_text range.global ∷ space ∷ list_text range.local ∷ h.3.0 ∷ line_feed ∷ [] in
+    let split : text ++ rest ≡ joined_onto parts rest = ap (λ l. l ++ rest) h.3.2 ∙ joined-append parts rest in
+    (launch_word (text ++ rest) (joined_onto (kernel ∷ space ∷ list_text range.global ∷ space ∷ list_text range.local ∷ h.3.0 ∷ line_feed ∷ []) rest) _ rest split (launch_again kernel range h.3.0 rest h.0 h.1 h.2 h.3.1))

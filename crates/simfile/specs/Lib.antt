@@ -1,0 +1,11 @@
+pub mod Sink
+pub mod Source
+pub mod Fields
+pub mod Lines
+pub mod Pieces
+pub mod Parts
+pub mod Script
+pub mod Reading
+pub mod Views
+pub mod Laws
+pub mod Faults

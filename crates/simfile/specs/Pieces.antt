@@ -1,0 +1,12 @@
+-- The text of a part of a line.
+use Rattle.std.specs.Prelude.{ℕ, List, decimal}
+use Rattle.std.specs.Fmt.{signed_decimal}
+use Rattle.simfile.specs.declared.pieces.Piece.{Piece}
+use Rattle.simfile.specs.declared.pieces.Piece.TheVariants as piece
+
+abbrev pub piece_text : Piece → List ℕ
+piece_text (piece.Text text) = text.now
+piece_text (piece.Bytes bytes) = bytes.now
+piece_text (piece.Number number) = decimal number
+piece_text (piece.Index number) = decimal number
+piece_text (piece.Signed number) = signed_decimal number

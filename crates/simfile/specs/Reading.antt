@@ -1,0 +1,185 @@
+-- Reading a command from the front of the bytes, as a function: what it gives is the command and the bytes after it.
+use Rattle.std.specs.Prelude.{ℕ, ◌+◌, ◌-◌, ◌%◌, ◌==◌, ℤ, pos, negsuc, Bool, ◌&&◌, nat_lt, nat_le, nat_eq, Option, None, Some, List, [], ◌∷◌, length, take, drop, replicate, codes, if◌then◌else◌}
+use lib.Pointwise.{pointwise}
+use Rattle.std.specs.Char.{is_ascii_digit}
+use Rattle.clmodel.specs.declared.setup.Argument.{Argument}
+use Rattle.clmodel.specs.declared.setup.Argument.TheVariants as argument
+use Rattle.clmodel.specs.declared.setup.Range.{Range}
+use Rattle.device_store.specs.declared.command.Command.{Command}
+use Rattle.device_store.specs.declared.command.Command.TheVariants as command
+use Rattle.simfile.specs.Fields.{is_later, is_name, is_number, value_of, is_listed, is_list, numbers_of, is_hex_digit, bytes_of}
+
+infixl 10 ◌>>=◌
+abbrev pub ◌>>=◌ : {A B : Type 0} → Option A → (A → Option B) → Option B
+None >>= f = None
+(Some x) >>= f = f x
+
+-- the bytes after a word
+unfoldable pub after : List ℕ → List ℕ → Option (List ℕ)
+after word bytes = if pointwise nat_eq (take (length word) bytes) word then Some (drop (length word) bytes) else None
+
+-- how many bytes in front pass a test
+abbrev pub front_length : (ℕ → Bool) → List ℕ → ℕ
+front_length passes [] = 0
+front_length passes (b ∷ bs) = if passes b then front_length passes bs + 1 else 0
+
+-- the letters, digits and _ in front, where they are a name, and the rest
+unfoldable pub name_at : List ℕ → Option (List ℕ × List ℕ)
+name_at bytes = let n = front_length is_later bytes in if is_name (take n bytes) then Some (take n bytes, drop n bytes) else None
+
+-- the digits in front, where they are a number, and the rest
+unfoldable pub number_at : List ℕ → Option (ℕ × List ℕ)
+number_at bytes = let n = front_length is_ascii_digit bytes in if is_number (take n bytes) then Some (value_of (take n bytes), drop n bytes) else None
+
+-- the digits and commas in front, where they are a list, and the rest
+unfoldable pub list_at : List ℕ → Option (List ℕ × List ℕ)
+list_at bytes = let n = front_length is_listed bytes in if is_list (take n bytes) then Some (take n bytes, drop n bytes) else None
+
+-- the pairs of digits in front, where they are 1 to 1,048,576, and the rest
+unfoldable pub hex_at : List ℕ → Option (List ℕ × List ℕ)
+hex_at bytes = let n = front_length is_hex_digit bytes in if nat_lt 0 n && nat_le n 2097152 && (n % 2 == 0) then Some (take n bytes, drop n bytes) else None
+
+-- a number from 1 to 2^63 in front, as the one below 0, and the rest
+unfoldable pub negative_at : List ℕ → Option (ℤ × List ℕ)
+negative_at bytes = do
+  number ← number_at bytes
+  if nat_lt 0 number.0 && nat_le number.0 9223372036854775808 then Some (negsuc (number.0 - 1), number.1) else None
+
+unfoldable pub positive_at : List ℕ → Option (ℤ × List ℕ)
+positive_at bytes = do
+  number ← number_at bytes
+  Some (pos number.0, number.1)
+
+abbrev pub or_else : {A B : Type 0} → Option A → (A → Option B) → Option B → Option B
+or_else None f o = o
+or_else (Some x) f o = f x
+
+-- a number in front, behind a sign or without one, and the rest
+unfoldable pub value_at : List ℕ → Option (ℤ × List ℕ)
+value_at bytes = or_else (after (45 ∷ []) bytes) negative_at (positive_at bytes)
+
+-- where so many lines end, behind so many bytes
+abbrev pub lines_end : ℕ → ℕ → List ℕ → Option ℕ
+lines_end n at [] = None
+lines_end n at (b ∷ bs) = if b == 10 then (if n == 1 then Some (at + 1) else lines_end (n - 1) (at + 1) bs) else lines_end n (at + 1) bs
+
+-- so many lines, and the rest
+unfoldable pub lines_at : ℕ → List ℕ → Option (List ℕ × List ℕ)
+lines_at n bytes = do
+  k ← lines_end n 0 bytes
+  Some (take k bytes, drop k bytes)
+
+unfoldable pub buffer_at : List ℕ → Option (Command × List ℕ)
+buffer_at bytes = do
+  name ← name_at bytes
+  rest ← after (32 ∷ []) name.1
+  size ← number_at rest
+  rest ← after (10 ∷ []) size.1
+  Some (command.Buffer name.0 size.0, rest)
+
+unfoldable pub write_at : List ℕ → Option (Command × List ℕ)
+write_at bytes = do
+  name ← name_at bytes
+  rest ← after (32 ∷ []) name.1
+  offset ← number_at rest
+  rest ← after (32 ∷ []) offset.1
+  digits ← hex_at rest
+  rest ← after (10 ∷ []) digits.1
+  Some (command.Write name.0 offset.0 (bytes_of digits.0), rest)
+
+unfoldable pub read_at : List ℕ → Option (Command × List ℕ)
+read_at bytes = do
+  name ← name_at bytes
+  rest ← after (32 ∷ []) name.1
+  offset ← number_at rest
+  rest ← after (32 ∷ []) offset.1
+  count ← number_at rest
+  rest ← after (10 ∷ []) count.1
+  Some (command.Read name.0 offset.0 count.0, rest)
+
+-- a source of 1 to 65,536 lines
+unfoldable pub source_at : ℕ → List ℕ → Option (List ℕ × List ℕ)
+source_at n bytes = if nat_lt 0 n && nat_le n 65536 then lines_at n bytes else None
+
+unfoldable pub program_at : List ℕ → Option (Command × List ℕ)
+program_at bytes = do
+  name ← name_at bytes
+  rest ← after (32 ∷ []) name.1
+  count ← number_at rest
+  rest ← after (10 ∷ []) count.1
+  source ← source_at count.0 rest
+  Some (command.Program name.0 source.0, source.1)
+
+unfoldable pub kernel_at : List ℕ → Option (Command × List ℕ)
+kernel_at bytes = do
+  name ← name_at bytes
+  rest ← after (32 ∷ []) name.1
+  program ← name_at rest
+  rest ← after (32 ∷ []) program.1
+  function ← name_at rest
+  rest ← after (10 ∷ []) function.1
+  Some (command.Kernel name.0 program.0 function.0, rest)
+
+unfoldable pub buffer_argument_at : List ℕ → Option (Argument × List ℕ)
+buffer_argument_at bytes = do
+  name ← name_at bytes
+  Some (argument.Buffer name.0, name.1)
+
+unfoldable pub value_argument_at : List ℕ → Option (Argument × List ℕ)
+value_argument_at bytes = do
+  value ← value_at bytes
+  Some (argument.Value value.0, value.1)
+
+-- an argument by its word
+unfoldable pub argument_at : List ℕ → Option (Argument × List ℕ)
+argument_at bytes = or_else (after (codes " buffer ") bytes) buffer_argument_at (or_else (after (codes " value ") bytes) value_argument_at None)
+
+unfoldable pub arg_at : List ℕ → Option (Command × List ℕ)
+arg_at bytes = do
+  kernel ← name_at bytes
+  rest ← after (32 ∷ []) kernel.1
+  index ← number_at rest
+  argument ← argument_at index.1
+  rest ← after (10 ∷ []) argument.1
+  Some (command.Arg kernel.0 index.0 argument.0, rest)
+
+unfoldable pub listed_offset_at : List ℕ → Option (Option (List ℕ) × List ℕ)
+listed_offset_at bytes = do
+  rest ← after (32 ∷ []) bytes
+  offset ← list_at rest
+  rest ← after (10 ∷ []) offset.1
+  Some (Some offset.0, rest)
+
+-- the list of the offsets, where there is one, and the rest behind the line feed
+unfoldable pub offset_at : List ℕ → Option (Option (List ℕ) × List ℕ)
+offset_at bytes = or_else (after (10 ∷ []) bytes) (λ rest. Some (None, rest)) (listed_offset_at bytes)
+
+-- the offsets of a list, or as many zeros as there are sizes
+abbrev pub offsets_of : Option (List ℕ) → List ℕ → List ℕ
+offsets_of None sizes = replicate (length sizes) 0
+offsets_of (Some text) sizes = numbers_of text
+
+-- the range that a line's lists tell
+abbrev pub range_of : List ℕ → List ℕ → Option (List ℕ) → Range
+range_of global local offset = record { global = numbers_of global; local = numbers_of local; offset = offsets_of offset (numbers_of global) }
+
+unfoldable pub launch_at : List ℕ → Option (Command × List ℕ)
+launch_at bytes = do
+  kernel ← name_at bytes
+  rest ← after (32 ∷ []) kernel.1
+  global ← list_at rest
+  rest ← after (32 ∷ []) global.1
+  local ← list_at rest
+  offset ← offset_at local.1
+  Some (command.Launch kernel.0 (range_of global.0 local.0 offset.0), offset.1)
+
+-- a command by its first word
+unfoldable pub command_at : List ℕ → Option (Command × List ℕ)
+command_at bytes =
+    or_else (after (codes "buffer ") bytes) buffer_at
+    (or_else (after (codes "write ") bytes) write_at
+    (or_else (after (codes "program ") bytes) program_at
+    (or_else (after (codes "kernel ") bytes) kernel_at
+    (or_else (after (codes "arg ") bytes) arg_at
+    (or_else (after (codes "launch ") bytes) launch_at
+    (or_else (after (codes "read ") bytes) read_at None))))))

@@ -1,0 +1,85 @@
+-- The text of a script. A script is the texts of its commands, one after another.
+use Rattle.std.specs.Prelude.{◌≡◌, ℕ, ◌+◌, ◌<◌, ◌≤◌, ◌^◌, ◌==◌, IsTrue, List, [], ◌∷◌, ◌++◌, length, replicate, codes, decimal, if◌then◌else◌, ◌⊎◌}
+use Rattle.std.specs.Fmt.{signed_decimal}
+use Rattle.clmodel.specs.declared.setup.Argument.{Argument}
+use Rattle.clmodel.specs.declared.setup.Argument.TheVariants as argument
+use Rattle.device_store.specs.declared.command.Command.{Command}
+use Rattle.device_store.specs.declared.command.Command.TheVariants as command
+use Rattle.simfile.specs.Fields.{joined, is_name, IsList, list_text, AreBytes, hex, IsValue}
+
+abbrev pub line_feeds : List ℕ → ℕ
+line_feeds [] = 0
+line_feeds (b ∷ bs) = if b == 10 then 1 + line_feeds bs else line_feeds bs
+
+-- so many lines, at least one, each with its line feed
+pub record AreLines (text : List ℕ) (n : ℕ) : Type 0 where
+  pub front : List ℕ
+  pub ends : text ≡ front ++ 10 ∷ []
+  pub count : line_feeds front + 1 ≡ n
+
+abbrev pub space : List ℕ
+space = 32 ∷ []
+
+abbrev pub line_feed : List ℕ
+line_feed = 10 ∷ []
+
+-- what an argument is set to, with the space before it
+abbrev pub IsSetting : List ℕ → Argument → Type 0
+IsSetting text (argument.Buffer buffer) = IsTrue (is_name buffer) × (text ≡ codes " buffer " ++ buffer)
+IsSetting text (argument.Value value) = IsValue value × (text ≡ codes " value " ++ signed_decimal value)
+IsSetting text (argument.Local size) = ⊥
+
+-- the offsets of a launch with the space before them, or nothing, which stands for as many zeros as there are sizes
+abbrev pub IsOffset : List ℕ → List ℕ → List ℕ → Type 0
+IsOffset text sizes offsets = (text ≡ []) × (offsets ≡ replicate (length sizes) 0) ⊎ IsList offsets × (text ≡ space ++ list_text offsets)
+
+-- the text of a command
+abbrev pub IsText : List ℕ → Command → Type 0
+IsText text (command.Buffer name size) =
+    IsTrue (is_name name) × (size < 2 ^ 64)
+    × (text ≡ joined (codes "buffer " ∷ name ∷ space ∷ decimal size ∷ line_feed ∷ []))
+IsText text (command.Write buffer offset bytes) =
+    IsTrue (is_name buffer) × (offset < 2 ^ 64) × AreBytes bytes
+    × (text ≡ joined (codes "write " ∷ buffer ∷ space ∷ decimal offset ∷ space ∷ hex bytes ∷ line_feed ∷ []))
+IsText text (command.Read buffer offset count) =
+    IsTrue (is_name buffer) × (offset < 2 ^ 64) × (count < 2 ^ 64)
+    × (text ≡ joined (codes "read " ∷ buffer ∷ space ∷ decimal offset ∷ space ∷ decimal count ∷ line_feed ∷ []))
+IsText text (command.Program name source) =
+    IsTrue (is_name name)
+    × ((n : ℕ) × (n ≤ 65536) × AreLines source n
+    × (text ≡ joined (codes "program " ∷ name ∷ space ∷ decimal n ∷ line_feed ∷ source ∷ [])))
+IsText text (command.Kernel name program function) =
+    IsTrue (is_name name) × IsTrue (is_name program) × IsTrue (is_name function)
+    × (text ≡ joined (codes "kernel " ∷ name ∷ space ∷ program ∷ space ∷ function ∷ line_feed ∷ []))
+IsText text (command.Arg kernel index argument) =
+    IsTrue (is_name kernel) × (index < 2 ^ 64)
+    × ((setting : List ℕ) × IsSetting setting argument
+    × (text ≡ joined (codes "arg " ∷ kernel ∷ space ∷ decimal index ∷ setting ∷ line_feed ∷ [])))
+IsText text (command.Launch kernel range) =
+    IsTrue (is_name kernel) × IsList range.global × IsList range.local
+    × ((offset : List ℕ) × IsOffset offset range.global range.offset
+    × (text ≡ joined (codes "launch " ∷ kernel ∷ space ∷ list_text range.global ∷ space ∷ list_text range.local ∷ offset ∷ line_feed ∷ [])))
+
+-- the bytes are the texts of the commands, in order, and then the rest
+abbrev pub Begins : List ℕ → List Command → List ℕ → Type 0
+Begins bytes [] rest = bytes ≡ rest
+Begins bytes (c ∷ cs) rest = (text mid : List ℕ) × (bytes ≡ text ++ mid) × IsText text c × Begins mid cs rest
+
+-- a script has at most 4,096 commands
+abbrev pub IsScript : List ℕ → List Command → Type 0
+IsScript bytes commands = Begins bytes commands [] × (length commands ≤ 4096)
+
+-- no command's text begins the bytes
+abbrev pub NoText : List ℕ → Type 0
+NoText bytes = (c : Command) (text more : List ℕ) → bytes ≡ text ++ more → IsText text c → ⊥
+
+-- the line n is the lowest bad one: the lines before it are a script's, there is a line, and no command's text begins there, or the script is full
+pub record IsBadLine (bytes : List ℕ) (n : ℕ) : Type 0 where
+  pub commands : List Command
+  pub front : List ℕ
+  pub rest : List ℕ
+  pub split : bytes ≡ front ++ rest
+  pub script : IsScript front commands
+  pub number : n ≡ line_feeds front + 1
+  pub some : 0 < length rest
+  pub why : NoText rest ⊎ (length commands ≡ 4096)

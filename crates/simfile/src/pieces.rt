@@ -1,0 +1,86 @@
+//! Parts of a line of text, and how they are written.
+#![tactic(auto)]
+
+ghost use Rattle.std.specs.Prelude.{◌≡◌, ◌<◌, decimal};
+ghost use Rattle.std.specs.Fmt.{signed_decimal};
+ghost use Rattle.std.specs.List.{flat_map};
+ghost use Rattle.simfile.specs.Sink.{Puts};
+ghost use Rattle.simfile.specs.Pieces.{piece_text};
+ghost use Rattle.simfile.specs.Fields.{byte_text, hex_digit};
+
+use crate::ends::{Write, WriteFailed};
+use itoa::Buffer;
+
+/// A part of a line.
+#[derive(Clone, Copy, Debug)]
+pub enum Piece<'a> {
+    Text(&'a str),
+    Bytes(&'a [u8]),
+    /// In decimal
+    Number(u64),
+    /// In decimal
+    Index(u32),
+    /// In decimal, with a sign where it is below 0
+    Signed(i64),
+}
+
+pub fn write_number<W: Write>(number: u64, writer: &mut W) -> Result<(), WriteFailed>
+    ensures { Puts (W.sink writer.old) result (W.sink writer.new) (decimal number) }
+{
+    writer.write(Buffer::new().format(number).as_bytes())
+}
+
+pub fn write_signed<W: Write>(number: i64, writer: &mut W) -> Result<(), WriteFailed>
+    ensures { Puts (W.sink writer.old) result (W.sink writer.new) (signed_decimal number) }
+{
+    writer.write(Buffer::new().format(number).as_bytes())
+}
+
+fn write_piece<W: Write>(piece: &Piece<'_>, writer: &mut W) -> Result<(), WriteFailed>
+    ensures { Puts (W.sink writer.old) result (W.sink writer.new) (piece_text piece.now) }
+{
+    match piece {
+        Piece::Text(text) => writer.write(text.as_bytes()),
+        Piece::Bytes(bytes) => writer.write(bytes),
+        Piece::Number(number) => write_number(*number, writer),
+        Piece::Index(number) => write_number(u64::from(*number), writer),
+        Piece::Signed(number) => write_signed(*number, writer),
+    }
+}
+
+/// Writes the parts one after another.
+pub fn write_pieces<W: Write>(pieces: &[Piece<'_>], writer: &mut W) -> Result<(), WriteFailed>
+    ensures { Puts (W.sink writer.old) result (W.sink writer.new) (flat_map piece_text pieces.now) }
+{
+    for piece in pieces {
+        write_piece(piece, writer)?;
+    }
+    Ok(())
+}
+
+fn hex_digit(value: u8) -> u8
+    requires { value < 16 }
+    ensures { result ≡ hex_digit value }
+{
+    if value < 10 {
+        b'0' + value
+    } else {
+        b'a' + (value - 10)
+    }
+}
+
+fn write_byte<W: Write>(byte: u8, writer: &mut W) -> Result<(), WriteFailed>
+    ensures { Puts (W.sink writer.old) result (W.sink writer.new) (byte_text byte) }
+{
+    writer.write(&[hex_digit(byte / 16), hex_digit(byte % 16)])
+}
+
+/// Writes two lower-case hexadecimal digits for each byte.
+pub fn write_hex<W: Write>(bytes: &[u8], writer: &mut W) -> Result<(), WriteFailed>
+    ensures { Puts (W.sink writer.old) result (W.sink writer.new) (flat_map byte_text bytes.now) }
+{
+    for byte in bytes {
+        write_byte(*byte, writer)?;
+    }
+    Ok(())
+}

@@ -1,0 +1,141 @@
+//! Scripts and bad lines, by the format's rules.
+
+use super::{ScriptFault, read_script};
+use clmodel::setup::{Argument, Range};
+use device_store::command::Command;
+use std::test::Fail;
+
+const GOOD: &str = "buffer a 8
+write a 0 000a9fff
+program p 2
+__kernel void f(__global int *a)
+{ a[0] = 7; }
+kernel k p f
+arg k 0 buffer a
+arg k 1 value -9223372036854775808
+arg k 1 value 18446744073709551615
+arg k 1 value 0
+launch k 1 1
+launch k 4,2,1 2,1,1 0,18446744073709551615,3
+launch k 1,1,1,1,1 1 0
+read a 0 18446744073709551615
+";
+
+#[test]
+fn good_lines(rt: HostRuntime) -> Result<(), Fail> {
+    let commands = read_script(rt.alloc(), GOOD.as_bytes()).map_err(|_| "no script")?;
+    assert_eq!(rt; commands.len(), 12);
+    let none = read_script(rt.alloc(), b"").map_err(|_| "no script")?;
+    assert_eq!(rt; none.len(), 0);
+    Ok(())
+}
+
+/// The only command of a script.
+fn only_command(rt: &HostRuntime, text: &str) -> Option<Command> {
+    read_script(rt.alloc(), text.as_bytes()).ok()?.pop()
+}
+
+#[test]
+fn values(rt: HostRuntime) {
+    for (text, wanted) in [
+        ("arg k 3 value -7\n", -7i128),
+        ("arg k 3 value 7\n", 7),
+        ("arg k 3 value -9223372036854775808\n", -9223372036854775808),
+        ("arg k 3 value 18446744073709551615\n", 18446744073709551615),
+    ] {
+        match only_command(&rt, text) {
+            Some(Command::Arg { argument: Argument::Value(value), .. }) => {
+                assert_eq!(rt; value, wanted)
+            }
+            _ => assert!(rt; false, "{text}"),
+        }
+    }
+}
+
+#[test]
+fn written_bytes(rt: HostRuntime) {
+    match only_command(&rt, "write a 5 00ff10a9\n") {
+        Some(Command::Write { offset, bytes, .. }) => {
+            assert_eq!(rt; offset, 5);
+            assert_eq!(rt; bytes.as_slice(), [0, 255, 16, 169].as_slice());
+        }
+        _ => assert!(rt; false),
+    }
+}
+
+fn are(range: &Range, global: &[u64], local: &[u64], offset: &[u64]) -> bool {
+    range.global.as_slice() == global
+        && range.local.as_slice() == local
+        && range.offset.as_slice() == offset
+}
+
+#[test]
+fn lists(rt: HostRuntime) {
+    match only_command(&rt, "launch k 4,20,1 2,5,1 7,0,8\n") {
+        Some(Command::Launch { range, .. }) => {
+            assert!(rt; are(&range, &[4, 20, 1], &[2, 5, 1], &[7, 0, 8]));
+        }
+        _ => assert!(rt; false),
+    }
+    match only_command(&rt, "launch k 4,2 2\n") {
+        Some(Command::Launch { range, .. }) => assert!(rt; are(&range, &[4, 2], &[2], &[0, 0])),
+        _ => assert!(rt; false),
+    }
+}
+
+#[test]
+fn bad_lines(rt: HostRuntime) {
+    let long_name = "buffer aaaaaaaaaaaaaaaaaaaaaaaaaaaaaaaaaaaaaaaaaaaaaaaaaaaaaaaaaaaaaaaa 1\n";
+    for (text, number) in [
+        ("buffer a 4", 1),
+        ("\n", 1),
+        ("buffer a 4\n\n", 2),
+        ("buffer a 04\n", 1),
+        ("buffer a 18446744073709551616\n", 1),
+        ("buffer a -1\n", 1),
+        ("buffer 1a 4\n", 1),
+        ("buffer a  4\n", 1),
+        ("buffer a 4 \n", 1),
+        (long_name, 1),
+        ("program p 0\n", 1),
+        ("program p 65537\n", 1),
+        ("buffer a 4\nprogram p 2\nx\n", 2),
+        ("program p 2\nx\ny\nbuffer a\n", 4),
+        ("program p 2\nx\ny", 1),
+        ("launch k 1\n", 1),
+        ("launch k 1 1 1 1\n", 1),
+        ("launch k 1, 1\n", 1),
+        ("launch k ,1 1\n", 1),
+        ("launch k 1,,1 1\n", 1),
+        ("launch k 1,02 1\n", 1),
+        ("launch k 1 1 18446744073709551616\n", 1),
+        ("arg k 0 value -0\n", 1),
+        ("arg k 0 value -9223372036854775809\n", 1),
+        ("arg k 0 value 18446744073709551616\n", 1),
+        ("arg k 0 value --1\n", 1),
+        ("arg k 0 value\n", 1),
+        ("arg k 0 local 4\n", 1),
+        ("write a 0 \n", 1),
+        ("write a 0 0\n", 1),
+        ("write a 0 0A\n", 1),
+        ("write a 0 0g\n", 1),
+        ("write a 00\n", 1),
+        ("release a\n", 1),
+    ] {
+        let fault = read_script(rt.alloc(), text.as_bytes()).err();
+        assert_eq!(rt; fault, Some(ScriptFault::BadLine(number)), "{text}");
+    }
+}
+
+#[test]
+fn too_many_commands(rt: HostRuntime) -> Result<(), Fail> {
+    let mut text = String::new(rt.alloc());
+    for _ in 0..4096 {
+        text.push_str("read a 0 4\n")?;
+    }
+    assert!(rt; read_script(rt.alloc(), text.as_bytes()).is_ok());
+    text.push_str("read a 0 4\n")?;
+    let fault = read_script(rt.alloc(), text.as_bytes()).err();
+    assert_eq!(rt; fault, Some(ScriptFault::BadLine(4097)));
+    Ok(())
+}
