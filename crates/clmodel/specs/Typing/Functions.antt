@@ -16,7 +16,7 @@ names (ThenFunc fs f) = names fs ++ f.name ∷ []
 
 -- where a function's text begins, with these before it
 abbrev pub begin : List ℕ → Funcs → Func → Context
-begin all fs f = record { all = all; begun = names fs ++ f.name ∷ []; scope = [] }
+begin all fs f = record { all = all; begun = names fs ++ f.name ∷ []; inner = []; outer = [] }
 
 abbrev pub with_params : Context → List Parameter → Context
 with_params c [] = c
