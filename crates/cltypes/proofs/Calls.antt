@@ -1,12 +1,10 @@
 -- A call's own faults against the rule of what is called, by the types of its arguments.
-use Rattle.std.proofs.Common.{◌≡◌, ℕ, suc, ◌+◌, ◌<◌, ◌≤◌, Bool, true, false, not, ◌||◌, ◌&&◌, nat_eq, cond, List, [], ◌∷◌, ◌++◌, length, Option, None, Some, refl, sym, ap, ◌∙◌, subst, arith}
-use Rattle.std.specs.List.{slice_get}
+use Rattle.std.proofs.Common.{◌≡◌, ℕ, Bool, true, false, not, ◌||◌, nat_eq, cond, List, [], ◌∷◌, ◌++◌, length, Option, None, Some, refl, sym, ap, ◌∙◌, subst, arith}
 use Rattle.std.proofs.lemmas.Bool.Decides.{nat_tests}
 use Rattle.std.proofs.lemmas.List.{length-append}
 use Rattle.clnum.specs.Builtins.{is_same}
 use Rattle.clnum.specs.declared.int_type.IntType.{IntType}
-use Rattle.clnum.specs.declared.int_type.IntType.TheVariants.{Int, Uint, Ulong}
-use Rattle.clnum.specs.declared.operators.Builtin.{Builtin}
+use Rattle.clnum.specs.declared.int_type.IntType.TheVariants.{Int, Uint}
 use Rattle.clnum.specs.declared.operators.Builtin.TheVariants as integer
 use Rattle.clmodel.specs.declared.setup.AtomicFunction.{AtomicFunction}
 use Rattle.clmodel.specs.declared.setup.BuiltIn.{BuiltIn}
@@ -14,14 +12,13 @@ use Rattle.clmodel.specs.declared.setup.BuiltIn.TheVariants as built_in
 use Rattle.clmodel.specs.declared.tree.PointerType.{PointerType}
 use Rattle.clmodel.specs.declared.tree.VariableType.{VariableType}
 use Rattle.clmodel.specs.declared.tree.VariableType.TheVariants.{Integer as Number, Pointer}
-use Rattle.clmodel.specs.declared.type_fault.TypeFault.{TypeFault}
 use Rattle.clmodel.specs.declared.type_fault.TypeFault.TheVariants as fault
 use Rattle.clmodel.specs.Tree.{Term, Terms, NoTerm, ThenTerm}
 use Rattle.clmodel.specs.Typing.Context.{Context, Meaning, Bound, Callable, BuiltInFunction, Unknown}
 use Rattle.clmodel.specs.Typing.Least.{least}
 use Rattle.clmodel.specs.Typing.Rules as rule
 use Rattle.clmodel.specs.Typing.Rules.{is_constant, is_writable, is_atomic, has_operand, Calls}
-use Rattle.clmodel.specs.Typing.Faults.{unless, start, integer_faults, Want, AnInteger, OfTypeBefore, AnAtomicPointer, atomic_wants, wants, has_value, count, callee_faults, wanted, same_faults, atomic_faults, argument_faults, call_kind, kind_of, last_kind, arguments_faults, call_faults}
+use Rattle.clmodel.specs.Typing.Faults.{unless, start, integer_faults, Want, AnInteger, OfTypeBefore, AnAtomicPointer, atomic_wants, wants, has_value, count, callee_faults, same_faults, atomic_faults, argument_faults, call_kind, kind_of, last_kind, arguments_faults, call_faults}
 use Rattle.cltypes.proofs.Splits.{none_split, none_joined, some_fault, unless_none, unless_true, three_none, three_true, and_true, and_left, and_right}
 use Rattle.cltypes.proofs.Tables.{same_type_sound, same_type_complete}
 

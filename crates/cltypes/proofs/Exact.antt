@@ -1,27 +1,24 @@
 -- An expression or a statement is typed exactly where none of its places has a fault.
-use Rattle.std.proofs.Common.{◌≡◌, ℕ, Bool, true, false, List, [], ◌∷◌, ◌++◌, Option, None, Some, refl, sym, ap, ◌∙◌, subst}
+use Rattle.std.proofs.Common.{◌≡◌, ℕ, true, false, List, [], ◌∷◌, ◌++◌, Option, None, Some, refl, sym, ap, ◌∙◌, subst}
 use Rattle.clnum.specs.declared.int_type.IntType.{IntType}
 use Rattle.clnum.specs.declared.operators.BinaryOperator.{BinaryOperator}
 use Rattle.clnum.specs.declared.operators.UnaryOperator.{UnaryOperator}
 use Rattle.clmodel.specs.declared.setup.BuiltIn.{BuiltIn}
-use Rattle.clmodel.specs.declared.tree.InfixOperator.{InfixOperator}
-use Rattle.clmodel.specs.declared.tree.InfixOperator.TheVariants.{Arithmetic}
 use Rattle.clmodel.specs.declared.tree.PointerType.{PointerType}
 use Rattle.clmodel.specs.declared.tree.VariableType.{VariableType}
 use Rattle.clmodel.specs.declared.tree.VariableType.TheVariants.{Integer as Number, Pointer}
-use Rattle.clmodel.specs.declared.type_fault.TypeFault.{TypeFault}
 use Rattle.clmodel.specs.declared.type_fault.TypeFault.TheVariants as fault
 use Rattle.clmodel.specs.Tree as tree
 use Rattle.clmodel.specs.Tree.{Term, Terms, NoTerm, ThenTerm, Place, Stmt, Stmts, NoStmt, ThenStmt}
-use Rattle.clmodel.specs.Typing.Context.{Context, Meaning, meaning, Bound, BuiltInFunction, is_free, bind, enter, after_all}
+use Rattle.clmodel.specs.Typing.Context.{Context, meaning, Bound, BuiltInFunction, is_free, bind, enter, after_all}
 use Rattle.clmodel.specs.Typing.Least.{least, first}
 use Rattle.clmodel.specs.Typing.Rules as rule
 use Rattle.clmodel.specs.Typing.Rules.{is_writable, Passes, Operates, Calls, Types, TypesAll, TypesPlace, IsTyped, AreTyped}
-use Rattle.clmodel.specs.Typing.Faults.{start, place_start, integer_faults, pointer_faults, passing_faults, name_faults, front_faults, operand_faults, assigning_faults, wants, has_value, count, callee_faults, wanted, name_kind, element_kind, unary_type, binary_type, choice_type, call_kind, kind_of, last_kind, arguments_faults, call_faults, term_faults, terms_faults, store_faults, target_faults, place_faults, place_kind, beginning, declared_faults, initial_faults, assignment_faults, faults, row_faults}
+use Rattle.clmodel.specs.Typing.Faults.{start, place_start, integer_faults, pointer_faults, passing_faults, name_faults, front_faults, operand_faults, assigning_faults, has_value, count, callee_faults, wanted, name_kind, element_kind, unary_type, binary_type, choice_type, call_kind, kind_of, last_kind, arguments_faults, call_faults, term_faults, terms_faults, store_faults, target_faults, place_faults, place_kind, beginning, declared_faults, initial_faults, assignment_faults, faults, row_faults}
 use Rattle.cltypes.proofs.Splits.{none_split, none_joined, places_split, places_joined, node_split, node_joined, one_place, place_then, some_fault, unless_none, unless_true}
 use Rattle.cltypes.proofs.Least.{earlier_none}
 use Rattle.cltypes.proofs.Tables.{integer_sound, name_sound, front_sound, passing_sound, passing_complete, operands_sound, operands_complete, assigning_sound, assigning_complete, store_sound, store_complete}
-use Rattle.cltypes.proofs.Calls.{kinds_of, given, IsCallee, callee_sound, calls_sound, IsCalled, calls_complete, own_complete, has_some, some_given}
+use Rattle.cltypes.proofs.Calls.{kinds_of, callee_sound, calls_sound, IsCalled, calls_complete, own_complete, has_some, some_given}
 
 -- typed where there is no fault
 

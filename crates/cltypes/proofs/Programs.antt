@@ -1,12 +1,12 @@
 -- A program is typed exactly where none of its places has a fault.
-use Rattle.std.proofs.Common.{◌≡◌, ℕ, ◌≤◌, Bool, true, false, nat_le, List, [], ◌∷◌, ◌++◌, Option, None, Some, ◌↔◌, refl, sym, ap, ◌∙◌, subst, arith}
+use Rattle.std.proofs.Common.{◌≡◌, ℕ, ◌≤◌, true, nat_le, List, [], ◌∷◌, ◌++◌, Option, None, Some, refl, arith}
 use Rattle.std.proofs.lemmas.Bool.Decides.{nat_tests}
 use Rattle.clmodel.specs.declared.tree.Parameter.{Parameter}
 use Rattle.clmodel.specs.declared.type_fault.TypeFault.{TypeFault}
 use Rattle.clmodel.specs.declared.type_fault.TypeFault.TheVariants as fault
 use Rattle.clmodel.specs.Tree.{Func, Funcs, NoFunc, ThenFunc, Program}
 use Rattle.clmodel.specs.Typing.Context.{Context, is_free, bind}
-use Rattle.clmodel.specs.Typing.Least.{Places, least, earlier, first}
+use Rattle.clmodel.specs.Typing.Least.{least, first}
 use Rattle.clmodel.specs.Typing.Faults.{unless, declared_faults, row_faults}
 use Rattle.clmodel.specs.Typing.Sizes.{row_nodes, node_limit}
 use Rattle.clmodel.specs.Typing.Functions.{names, begin, with_params, AreParams, is_new, IsTypedFunction, AreTypedFunctions, params_faults, heading_faults, size_faults, function_faults, functions_faults, program_faults}

@@ -1,5 +1,5 @@
 -- A node's own faults against the rule of the node, by the types of its parts.
-use Rattle.std.proofs.Common.{◌≡◌, ℕ, Bool, true, false, not, ◌||◌, ◌&&◌, List, [], ◌∷◌, ◌++◌, Option, None, Some, refl, sym, ap, ◌∙◌, subst}
+use Rattle.std.proofs.Common.{◌≡◌, ℕ, true, not, ◌||◌, [], ◌∷◌, None, refl, sym, ap, ◌∙◌, subst}
 use Rattle.clnum.specs.Builtins.{is_same}
 use Rattle.clnum.specs.declared.int_type.IntType.{IntType}
 use Rattle.clnum.specs.declared.int_type.IntType.TheVariants.{Char, Uchar, Short, Ushort, Int, Uint, Long, Ulong}
@@ -12,14 +12,13 @@ use Rattle.clmodel.specs.declared.tree.InfixOperator.TheVariants.{Arithmetic, Lo
 use Rattle.clmodel.specs.declared.tree.PointerType.{PointerType}
 use Rattle.clmodel.specs.declared.tree.VariableType.{VariableType}
 use Rattle.clmodel.specs.declared.tree.VariableType.TheVariants.{Integer as Number, Pointer}
-use Rattle.clmodel.specs.declared.type_fault.TypeFault.{TypeFault}
 use Rattle.clmodel.specs.declared.type_fault.TypeFault.TheVariants as fault
 use Rattle.clmodel.specs.Typing.Context.{Meaning, Bound, Callable, BuiltInFunction, Unknown}
 use Rattle.clmodel.specs.Typing.Least.{least}
 use Rattle.clmodel.specs.Typing.Rules as rule
 use Rattle.clmodel.specs.Typing.Rules.{is_writable, Passes, Operates}
-use Rattle.clmodel.specs.Typing.Faults.{unless, integer_faults, pointer_faults, is_same_space, passing_faults, name_faults, front_faults, moves, takes_pointer, is_sum, operand_faults, assigning_faults, name_kind, element_kind, binary_type, store_faults, target_faults}
-use Rattle.cltypes.proofs.Splits.{none_split, none_joined, some_fault, unless_none, unless_true, three_none, three_true, implied, implies}
+use Rattle.clmodel.specs.Typing.Faults.{unless, integer_faults, pointer_faults, is_same_space, passing_faults, name_faults, front_faults, moves, takes_pointer, is_sum, operand_faults, assigning_faults, name_kind, binary_type, store_faults}
+use Rattle.cltypes.proofs.Splits.{none_split, some_fault, unless_none, unless_true, three_none, three_true, implied, implies}
 
 -- types
 
