@@ -18,7 +18,7 @@ use Rattle.clmodel.specs.Typing.Faults.{start, place_start, integer_faults, poin
 use Rattle.cltypes.proofs.Splits.{none_split, none_joined, places_split, places_joined, node_split, node_joined, one_place, place_then, some_fault, unless_none, unless_true}
 use Rattle.cltypes.proofs.Least.{earlier_none}
 use Rattle.cltypes.proofs.Tables.{integer_sound, name_sound, front_sound, passing_sound, passing_complete, operands_sound, operands_complete, assigning_sound, assigning_complete, store_sound, store_complete}
-use Rattle.cltypes.proofs.Calls.{kinds_of, callee_sound, calls_sound, IsCalled, calls_complete, own_complete, has_some, some_given}
+use Rattle.cltypes.proofs.CallTables.{kinds_of, callee_sound, calls_sound, IsCalled, calls_complete, own_complete, has_some, some_given}
 
 -- typed where there is no fault
 
