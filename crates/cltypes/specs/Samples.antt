@@ -1,18 +1,20 @@
--- Statements in a kernel, each with its first fault; offsets count from the start of the statements.
+-- Statements in a kernel and whole texts, each with its first fault; the offsets of statements count from the first one's start.
 use Rattle.std.specs.Prelude.{◌≡◌, ℕ, pos, true, false, List, [], ◌∷◌, map, Option, None, Some}
 use Rattle.clnum.specs.declared.int_type.IntType.{IntType}
 use Rattle.clnum.specs.declared.int_type.IntType.TheVariants.{Char, Int, Long}
 use Rattle.clnum.specs.declared.operators.BinaryOperator.TheVariants.{Add, Subtract, Multiply, Equal}
 use Rattle.clmodel.specs.declared.tree.AddressSpace.TheVariants.{Global, Constant}
 use Rattle.clmodel.specs.declared.tree.InfixOperator.TheVariants.{Arithmetic, LogicalAnd}
+use Rattle.clmodel.specs.declared.tree.Parameter.{Parameter}
 use Rattle.clmodel.specs.declared.tree.VariableType.{VariableType}
 use Rattle.clmodel.specs.declared.tree.VariableType.TheVariants as kind
 use Rattle.clmodel.specs.declared.type_fault.TypeFault.{TypeFault}
 use Rattle.clmodel.specs.declared.type_fault.TypeFault.TheVariants.{UnknownName, Redeclared, TypeMismatch, NotAssignable, WrongArgumentCount, WrongSpace, AtomicValueUsed}
-use Rattle.clmodel.specs.Tree.{Term, NoTerm, Number, Variable, Element, ElementAddress, Dereference, Call, Cast, Binary, Choice, Whole, Part, Behind, Stmt, Stmts, NoStmt, then_all, then_stmts, Empty, Block, Declare, DeclareAs, Assign, Step, CallOnly}
+use Rattle.clmodel.specs.Tree.{Term, NoTerm, Number, Variable, Element, ElementAddress, Dereference, Call, Cast, Binary, Choice, Whole, Part, Behind, Stmt, Stmts, NoStmt, then_all, then_stmts, Func, Funcs, NoFunc, then_funcs, Empty, Block, Declare, DeclareAs, Assign, Step, CallOnly}
 use Rattle.clmodel.specs.Typing.Context.{Context}
 use Rattle.clmodel.specs.Typing.Least.{first}
 use Rattle.clmodel.specs.Typing.Faults.{row_faults}
+use Rattle.clmodel.specs.Typing.Functions.{names, functions_faults}
 use Rattle.clmodel.specs.Typing.Sizes.{nodes}
 
 abbrev global : IntType → VariableType
@@ -181,7 +183,35 @@ counted =
     ∷ (DeclareAs 0 (global Int) 14 33 (ElementAddress 18 19 27 (one 21)), 3)
     ∷ []
 
+abbrev parameter : (at name : ℕ) → Parameter
+parameter at name = record { name_at = at; name = name; kind = kind.Integer Int }
+
+abbrev kernel : (at name : ℕ) → List Parameter → List Stmt → Func
+kernel at name ps ss = record { is_kernel = true; result = None; name_at = at; name = name; parameters = ps; body_at = at; body = then_stmts NoStmt ss }
+
+-- whole texts, in which f is the name 26, g 27 and p 28
+abbrev pub texts : List (Funcs × Option TypeFault)
+texts =
+    -- kernel void f(int f) { }
+    (then_funcs NoFunc (kernel 12 26 (parameter 18 26 ∷ []) [] ∷ []), Some (Redeclared 18))
+    -- kernel void f() { g(); } kernel void g() { }
+    ∷ (then_funcs NoFunc (kernel 12 26 [] (CallOnly 18 27 NoTerm ∷ []) ∷ kernel 37 27 [] [] ∷ []), Some (UnknownName 18))
+    -- kernel void f() { } kernel void g() { f(); }
+    ∷ (then_funcs NoFunc (kernel 12 26 [] [] ∷ kernel 32 27 [] (CallOnly 38 26 NoTerm ∷ []) ∷ []), Some (TypeMismatch 38))
+    -- kernel void f() { } kernel void f(int p, int p) { }
+    ∷ (then_funcs NoFunc (kernel 12 26 [] [] ∷ kernel 32 26 (parameter 38 28 ∷ parameter 45 28 ∷ []) [] ∷ []), Some (Redeclared 32))
+    -- kernel void f(int p) { p++; } kernel void g(int p) { { int p = p; } }
+    ∷ (
+      then_funcs NoFunc
+          (kernel 12 26 (parameter 18 28 ∷ []) (Step 23 (Whole 23 28) true ∷ [])
+          ∷ kernel 42 27 (parameter 48 28 ∷ []) (Block 53 (then_stmts NoStmt (DeclareAs 55 (kind.Integer Int) 59 28 (Variable 63 28) ∷ [])) ∷ [])
+          ∷ []),
+      None,
+    )
+    ∷ []
+
 -- each sample has that fault, or that many nodes
 pub record AreSampled : Type 0 where
   pub faults : map (λ s. first (row_faults here s.0)) samples ≡ map (λ s. s.1) samples
+  pub texts : map (λ s. first (functions_faults (names s.0) s.0)) texts ≡ map (λ s. s.1) texts
   pub nodes : map (λ s. nodes s.0) counted ≡ map (λ s. s.1) counted

@@ -9,7 +9,7 @@ pub fn typed_exactly()
     ensures { IsTypedExactly }
 {}
 
-/// Statements and their first faults.
+/// The first faults of some statements and texts, and how many nodes some statements have.
 pub fn samples()
     ensures { AreSampled }
 {}
