@@ -1,168 +1,70 @@
 -- An expression or a statement is typed exactly where none of its places has a fault.
-use Rattle.std.proofs.Common.{◌≡◌, ℕ, suc, ◌+◌, ◌<◌, ◌≤◌, Bool, true, false, not, ◌||◌, ◌&&◌, nat_eq, cond, List, [], ◌∷◌, ◌++◌, length, Option, None, Some, is_some, refl, sym, ap, ◌∙◌, subst, arith}
-use Prim.Native.Nat.{zero}
-use Rattle.std.specs.List.{slice_get}
-use Rattle.std.proofs.lemmas.Bool.Decides.{nat_tests}
-use Rattle.clnum.specs.Integer.{Integer}
-use Rattle.clnum.specs.Conversions.{common}
+use Rattle.std.proofs.Common.{◌≡◌, ℕ, true, false, List, [], ◌∷◌, ◌++◌, Option, None, Some, refl, sym, ap, ◌∙◌, subst}
 use Rattle.clnum.specs.declared.int_type.IntType.{IntType}
-use Rattle.clnum.specs.declared.operators.BinaryOperator.TheVariants.{Add}
+use Rattle.clnum.specs.declared.operators.BinaryOperator.{BinaryOperator}
+use Rattle.clnum.specs.declared.operators.UnaryOperator.{UnaryOperator}
 use Rattle.clmodel.specs.declared.setup.BuiltIn.{BuiltIn}
-use Rattle.clmodel.specs.declared.setup.BuiltIn.TheVariants.{LocalId, AtomicAdd, AtomicMin}
 use Rattle.clmodel.specs.declared.tree.PointerType.{PointerType}
 use Rattle.clmodel.specs.declared.tree.VariableType.{VariableType}
-use Rattle.clmodel.specs.declared.tree.VariableType.TheVariants as kind
-use Rattle.clmodel.specs.declared.tree.InfixOperator.{InfixOperator}
-use Rattle.clmodel.specs.declared.tree.InfixOperator.TheVariants.{Arithmetic}
-use Rattle.clmodel.specs.declared.type_fault.TypeFault.{TypeFault}
+use Rattle.clmodel.specs.declared.tree.VariableType.TheVariants.{Integer as Number, Pointer}
 use Rattle.clmodel.specs.declared.type_fault.TypeFault.TheVariants as fault
 use Rattle.clmodel.specs.Tree as tree
 use Rattle.clmodel.specs.Tree.{Term, Terms, NoTerm, ThenTerm, Place, Stmt, Stmts, NoStmt, ThenStmt}
-use Rattle.clmodel.specs.Typing.Context.{Context, Meaning, meaning, Bound, Callable, BuiltInFunction, Unknown}
-use Rattle.clmodel.specs.Typing.Least.{Places, Among, head, lesser, least, earlier, first, node}
+use Rattle.clmodel.specs.Typing.Context.{Context, meaning, Bound, BuiltInFunction, is_free, bind, enter, after_all}
+use Rattle.clmodel.specs.Typing.Least.{least, first}
 use Rattle.clmodel.specs.Typing.Rules as rule
-use Rattle.clmodel.specs.Typing.Rules.{Want, AnInteger, AnAtomicPointer, wants, gives, count, is_constant, is_writable, is_atomic, Fits, Types, TypesAll, IsTarget, IsTyped, AreTyped}
-use Rattle.clmodel.specs.Typing.Faults.{unless, start, integer_faults, name_faults, front_faults, operand_faults, callee_faults, wanted, atomic_faults, argument_faults, name_kind, element_kind, given_kind, call_kind, sum_kind, kind_of, arguments_faults, term_faults, terms_faults, target_faults, place_faults, beginning, faults, row_faults}
-use Rattle.cltypes.proofs.Least.{lesser_none, least_append, first_append, first_node, earlier_none, least_none}
-
--- no fault in the parts of a list
-
-pub none_split : (fs gs : List TypeFault) → least (fs ++ gs) ≡ None → (least fs ≡ None) × (least gs ≡ None)
-none_split fs gs e = lesser_none (least fs) (least gs) (sym (least_append fs gs) ∙ e)
-
-pub none_joined : (fs gs : List TypeFault) → least fs ≡ None → least gs ≡ None → least (fs ++ gs) ≡ None
-none_joined fs gs p q = least_append fs gs ∙ ap (λ o. lesser o (least gs)) p ∙ q
-
-pub places_split : (ps qs : Places) → first (ps ++ qs) ≡ None → (first ps ≡ None) × (first qs ≡ None)
-places_split ps qs e = earlier_none (first ps) (first qs) (sym (first_append ps qs) ∙ e)
-
-pub places_joined : (ps qs : Places) → first ps ≡ None → first qs ≡ None → first (ps ++ qs) ≡ None
-places_joined ps qs p q = first_append ps qs ∙ ap (λ o. earlier o (first qs)) p ∙ q
-
-pub node_split : (ps : Places) (own : List TypeFault) → first (node ps own) ≡ None → (first ps ≡ None) × (least own ≡ None)
-node_split ps own e = earlier_none (first ps) (least own) (sym (first_node ps own) ∙ e)
-
-pub node_joined : (ps : Places) (own : List TypeFault) → first ps ≡ None → least own ≡ None → first (node ps own) ≡ None
-node_joined ps own p q = first_node ps own ∙ ap (λ o. earlier o (least own)) p ∙ q
-
-pub one_place : (fs : List TypeFault) → first (fs ∷ []) ≡ None → least fs ≡ None
-one_place fs e = (earlier_none (least fs) None e).0
-
-pub some_fault : (f : TypeFault) (fs : List TypeFault) → least (f ∷ fs) ≡ None → ⊥
-some_fault f fs e = least_none (f ∷ fs) e f head
-
-pub unless_none : (b : Bool) (f : TypeFault) → least (unless b f) ≡ None → b ≡ true
-unless_none true f e = refl
-unless_none false f e = absurd (some_fault f [] e)
-
--- what a list without a fault says
-
-integer_sound : (k : VariableType) (a : ℕ) → least (integer_faults k a) ≡ None → (t : IntType) × (k ≡ kind.Integer t)
-integer_sound (kind.Integer t) a e = (t, refl)
-integer_sound (kind.Pointer p) a e = absurd (some_fault (fault.TypeMismatch a) [] e)
-
-name_sound : (m : Meaning) (a : ℕ) → least (name_faults m a) ≡ None → m ≡ Bound (name_kind m)
-name_sound (Bound k) a e = refl
-name_sound Callable a e = absurd (some_fault (fault.TypeMismatch a) [] e)
-name_sound (BuiltInFunction f) a e = absurd (some_fault (fault.TypeMismatch a) [] e)
-name_sound Unknown a e = absurd (some_fault (fault.UnknownName a) [] e)
-
-front_sound : (m : Meaning) (a : ℕ) → least (front_faults m a) ≡ None → (p : PointerType) × (m ≡ Bound (kind.Pointer p))
-front_sound (Bound (kind.Pointer p)) a e = (p, refl)
-front_sound (Bound (kind.Integer t)) a e = absurd (some_fault (fault.TypeMismatch a) [] e)
-front_sound Callable a e = absurd (some_fault (fault.TypeMismatch a) [] e)
-front_sound (BuiltInFunction f) a e = absurd (some_fault (fault.TypeMismatch a) [] e)
-front_sound Unknown a e = absurd (some_fault (fault.UnknownName a) [] e)
-
-target_sound : (m : Meaning) (a : ℕ) → least (target_faults m a) ≡ None → (p : PointerType) × (m ≡ Bound (kind.Pointer p)) × (is_writable p ≡ true)
-target_sound (Bound (kind.Pointer p)) a e = (p, refl, unless_none (is_writable p) (fault.NotAssignable a) e)
-target_sound (Bound (kind.Integer t)) a e = absurd (some_fault (fault.TypeMismatch a) [] e)
-target_sound Callable a e = absurd (some_fault (fault.TypeMismatch a) [] e)
-target_sound (BuiltInFunction f) a e = absurd (some_fault (fault.TypeMismatch a) [] e)
-target_sound Unknown a e = absurd (some_fault (fault.UnknownName a) [] e)
-
-and_true : (a b : Bool) → a ≡ true → b ≡ true → (a && b) ≡ true
-and_true a b p q = rw (p, q) refl
-
-fits_sound : (w : Want) (k : VariableType) (a : ℕ) → least (argument_faults (Some w) k a) ≡ None → Fits w k
-fits_sound AnInteger (kind.Integer t) a e = rule.integer
-fits_sound AnInteger (kind.Pointer p) a e = absurd (some_fault (fault.TypeMismatch a) [] e)
-fits_sound AnAtomicPointer (kind.Integer t) a e = absurd (some_fault (fault.TypeMismatch a) [] e)
-fits_sound AnAtomicPointer (kind.Pointer p) a e =
-    let r = none_split (unless (is_atomic p.element) (fault.TypeMismatch a) ++ unless (not p.is_const) (fault.NotAssignable a)) (unless (not (is_constant p.space)) (fault.WrongSpace a)) e in
-    let s = none_split (unless (is_atomic p.element) (fault.TypeMismatch a)) (unless (not p.is_const) (fault.NotAssignable a)) r.0 in
-    rule.atomic_pointer
-    (unless_none (is_atomic p.element) (fault.TypeMismatch a) s.0)
-    (and_true (not p.is_const) (not (is_constant p.space)) (unless_none (not p.is_const) (fault.NotAssignable a) s.1) (unless_none (not (is_constant p.space)) (fault.WrongSpace a) r.1))
-
--- what a call without a fault of its own is
-record IsCallee (whole : Bool) (m : Meaning) (n : ℕ) : Type 0 where
-  function : BuiltIn
-  is : m ≡ BuiltInFunction function
-  counted : n ≡ length (wants function)
-  placed : (whole || is_some (gives function)) ≡ true
-
-same_count : (m n : ℕ) → nat_eq m n ≡ true → m ≡ n
-same_count m n e = grind (arith, nat_tests)
-
-callee_sound : (whole : Bool) (m : Meaning) (a n : ℕ) → least (callee_faults whole m a n) ≡ None → IsCallee whole m n
-callee_sound whole (BuiltInFunction f) a n e =
-    let r = none_split (unless (nat_eq n (length (wants f))) (fault.WrongArgumentCount a)) (unless (whole || is_some (gives f)) (fault.AtomicValueUsed a)) e in
-    record {
-      function = f;
-      is = refl;
-      counted = same_count n (length (wants f)) (unless_none (nat_eq n (length (wants f))) (fault.WrongArgumentCount a) r.0);
-      placed = unless_none (whole || is_some (gives f)) (fault.AtomicValueUsed a) r.1;
-    }
-callee_sound whole (Bound k) a n e = absurd (some_fault (fault.TypeMismatch a) [] e)
-callee_sound whole Callable a n e = absurd (some_fault (fault.TypeMismatch a) [] e)
-callee_sound whole Unknown a n e = absurd (some_fault (fault.UnknownName a) [] e)
-
-given_some : (o : Option VariableType) → (false || is_some o) ≡ true → o ≡ Some (given_kind o)
-given_some (Some k) e = refl
-given_some None e = absurd (cc)
-
-get_within : {A : Type 0} (xs : List A) (n : ℕ) → n < length xs → (x : A) × (slice_get xs n ≡ Some x)
-get_within [] n h = absurd (omega arith)
-get_within (x ∷ xs) zero h = (x, refl)
-get_within (x ∷ xs) (suc n) h = get_within xs n (omega arith)
+use Rattle.clmodel.specs.Typing.Rules.{is_writable, Passes, Operates, Calls, Types, TypesAll, TypesPlace, IsTyped, AreTyped}
+use Rattle.clmodel.specs.Typing.Faults.{start, place_start, integer_faults, pointer_faults, passing_faults, name_faults, front_faults, operand_faults, assigning_faults, has_value, count, callee_faults, wanted, name_kind, element_kind, unary_type, binary_type, choice_type, call_kind, kind_of, last_kind, arguments_faults, call_faults, term_faults, terms_faults, store_faults, target_faults, place_faults, place_kind, beginning, declared_faults, initial_faults, assignment_faults, faults, row_faults}
+use Rattle.cltypes.proofs.Splits.{none_split, none_joined, places_split, places_joined, node_split, node_joined, one_place, place_then, some_fault, unless_none, unless_true}
+use Rattle.cltypes.proofs.Least.{earlier_none}
+use Rattle.cltypes.proofs.Tables.{integer_sound, name_sound, front_sound, passing_sound, passing_complete, operands_sound, operands_complete, assigning_sound, assigning_complete, store_sound, store_complete}
+use Rattle.cltypes.proofs.CallTables.{kinds_of, callee_sound, calls_sound, IsCalled, calls_complete, own_complete, has_some, some_given}
 
 -- typed where there is no fault
 
-sum_sound : (c : Context) (a : ℕ) (op : InfixOperator) (d e : Term) (k j : VariableType) (p q w : ℕ)
-    → least (operand_faults op k j p q w) ≡ None → Types c d k → Types c e j → Types c (tree.Binary a op d e) (sum_kind k j)
-sum_sound c a (Arithmetic Add) d e (kind.Integer t) (kind.Integer u) p q w n x y = rule.sum x y
-sum_sound c a (Arithmetic Add) d e (kind.Integer t) (kind.Pointer r) p q w n x y = rule.sum_pointer x y
-sum_sound c a (Arithmetic Add) d e (kind.Pointer r) (kind.Integer u) p q w n x y = rule.pointer_sum x y
-sum_sound c a (Arithmetic Add) d e (kind.Pointer r) (kind.Pointer s) p q w n x y = absurd (some_fault (fault.TypeMismatch q) [] n)
-sum_sound c a op d e k j p q w n x y = absurd (some_fault (fault.TypeMismatch w) [] n)
-
-as_integer : (c : Context) (e : Term) (k : VariableType) (u : IntType) → k ≡ kind.Integer u → Types c e k → Types c e (kind.Integer u)
+as_integer : (c : Context) (e : Term) (k : VariableType) (u : IntType) → k ≡ Number u → Types c e k → Types c e (Number u)
 as_integer c e k u h t = subst (λ j. Types c e j) h t
 
-argument_sound : (c : Context) (ws : List Want) (es : Terms) (e : Term) → count es < length ws → TypesAll c ws es → Types c e (kind_of c e)
-    → least (argument_faults (slice_get ws (count es)) (kind_of c e) (start e)) ≡ None → TypesAll c ws (ThenTerm es e)
-argument_sound c ws es e h all one n =
-    let w = get_within ws (count es) h in
-    rule.argument all one w.1 (fits_sound w.0 (kind_of c e) (start e) (subst (λ o. least (argument_faults o (kind_of c e) (start e)) ≡ None) w.1 n))
-
-element_sound : (c : Context) (a x : ℕ) (e : Term) (b : ℕ) → Types c e (kind_of c e)
-    → least (front_faults (meaning c x) b ++ integer_faults (kind_of c e) (start e)) ≡ None
-    → Types c (tree.Element a x e) (element_kind (meaning c x))
-element_sound c a x e b t n =
+element_sound : (c : Context) (a b x : ℕ) (e : Term) → Types c e (kind_of c e) → least (front_faults (meaning c x) b ++ integer_faults (kind_of c e) (start e)) ≡ None
+    → Types c (tree.Element a x e) (element_kind (name_kind (meaning c x))) × Types c (tree.ElementAddress a b x e) (name_kind (meaning c x))
+element_sound c a b x e t n =
     let r = none_split (front_faults (meaning c x) b) (integer_faults (kind_of c e) (start e)) n in
     let p = front_sound (meaning c x) b r.0 in
     let u = integer_sound (kind_of c e) (start e) r.1 in
-    subst (λ m. Types c (tree.Element a x e) (element_kind m)) (sym p.1) (rule.element p.1 (as_integer c e (kind_of c e) u.0 u.1 t))
+    let i = as_integer c e (kind_of c e) u.0 u.1 t in (
+      subst (λ m. Types c (tree.Element a x e) (element_kind (name_kind m))) (sym p.1) (rule.element p.1 i),
+      subst (λ m. Types c (tree.ElementAddress a b x e) (name_kind m)) (sym p.1) (rule.address p.1 i),
+    )
 
-address_sound : (c : Context) (a b x : ℕ) (e : Term) → Types c e (kind_of c e)
-    → least (front_faults (meaning c x) b ++ integer_faults (kind_of c e) (start e)) ≡ None
-    → Types c (tree.ElementAddress a b x e) (name_kind (meaning c x))
-address_sound c a b x e t n =
-    let r = none_split (front_faults (meaning c x) b) (integer_faults (kind_of c e) (start e)) n in
-    let p = front_sound (meaning c x) b r.0 in
-    let u = integer_sound (kind_of c e) (start e) r.1 in
-    subst (λ m. Types c (tree.ElementAddress a b x e) (name_kind m)) (sym p.1) (rule.address p.1 (as_integer c e (kind_of c e) u.0 u.1 t))
+dereference_sound : (c : Context) (a b : ℕ) (e : Term) (k : VariableType) → Types c e k → least (pointer_faults k b) ≡ None → Types c (tree.Dereference a e) (element_kind k)
+dereference_sound c a b e (Pointer p) t n = rule.dereference t
+dereference_sound c a b e (Number u) t n = absurd (some_fault (fault.TypeMismatch b) [] n)
+
+unary_sound : (c : Context) (a b : ℕ) (op : UnaryOperator) (e : Term) (k : VariableType) → Types c e k → least (integer_faults k b) ≡ None → Types c (tree.Unary a op e) (unary_type op k)
+unary_sound c a b op e (Number u) t n = rule.unary t
+unary_sound c a b op e (Pointer p) t n = absurd (some_fault (fault.TypeMismatch b) [] n)
+
+cast_sound : (c : Context) (a b : ℕ) (s : IntType) (e : Term) (k : VariableType) → Types c e k → least (integer_faults k b) ≡ None → Types c (tree.Cast a s e) (Number s)
+cast_sound c a b s e (Number u) t n = rule.cast t
+cast_sound c a b s e (Pointer p) t n = absurd (some_fault (fault.TypeMismatch b) [] n)
+
+choice_sound : (c : Context) (a p q r : ℕ) (e d f : Term) (i j k : VariableType) → Types c e i → Types c d j → Types c f k
+    → least (integer_faults i p ++ integer_faults j q ++ integer_faults k r) ≡ None → Types c (tree.Choice a e d f) (choice_type j k)
+choice_sound c a p q r e d f (Number s) (Number t) (Number u) x y z n = rule.choice x y z
+choice_sound c a p q r e d f (Pointer o) j k x y z n =
+    absurd (some_fault (fault.TypeMismatch p) [] (none_split (fault.TypeMismatch p ∷ []) (integer_faults j q) (none_split (fault.TypeMismatch p ∷ integer_faults j q) (integer_faults k r) n).0).0)
+choice_sound c a p q r e d f (Number s) (Pointer o) k x y z n = absurd (some_fault (fault.TypeMismatch q) (integer_faults k r) n)
+choice_sound c a p q r e d f (Number s) (Number t) (Pointer o) x y z n = absurd (some_fault (fault.TypeMismatch r) [] n)
+
+call_sound : (c : Context) (a x : ℕ) (es : Terms) → TypesAll c es (kinds_of c es) → least (call_faults c false (meaning c x) a es) ≡ None
+    → Types c (tree.Call a x es) (call_kind (meaning c x) (last_kind c es))
+call_sound c a x es all n =
+    let m = meaning c x in
+    let s = none_split (callee_faults false m a (count es)) (arguments_faults c (wanted m) es) n in
+    let f = callee_sound false m a (count es) s.0 in
+    let g = calls_sound c f.function es f.counted (subst (λ v. least (arguments_faults c (wanted v) es) ≡ None) f.is s.1) in
+    subst (λ v. Types c (tree.Call a x es) (call_kind v (last_kind c es))) (sym f.is)
+    (rule.call f.is all (subst (λ o. Calls f.function (kinds_of c es) o) (some_given f.function (last_kind c es) f.placed) g))
 
 mutual
   pub term_sound : (c : Context) (e : Term) → first (term_faults c e) ≡ None → Types c e (kind_of c e)
@@ -170,131 +72,124 @@ mutual
   term_sound c (tree.Variable a x) n = rule.variable (name_sound (meaning c x) a (one_place (name_faults (meaning c x) a) n))
   term_sound c (tree.Element a x e) n =
       let r = node_split (term_faults c e) (front_faults (meaning c x) a ++ integer_faults (kind_of c e) (start e)) n in
-      element_sound c a x e a (term_sound c e r.0) r.1
+      (element_sound c a a x e (term_sound c e r.0) r.1).0
   term_sound c (tree.ElementAddress a b x e) n =
       let r = node_split (term_faults c e) (front_faults (meaning c x) b ++ integer_faults (kind_of c e) (start e)) n in
-      address_sound c a b x e (term_sound c e r.0) r.1
+      (element_sound c a b x e (term_sound c e r.0) r.1).1
+  term_sound c (tree.Dereference a e) n =
+      let r = node_split (term_faults c e) (pointer_faults (kind_of c e) (start e)) n in
+      dereference_sound c a (start e) e (kind_of c e) (term_sound c e r.0) r.1
   term_sound c (tree.Call a x es) n =
-      let r = node_split (terms_faults c es) (callee_faults false (meaning c x) a (count es) ++ arguments_faults c (wanted (meaning c x)) es) n in
-      let s = none_split (callee_faults false (meaning c x) a (count es)) (arguments_faults c (wanted (meaning c x)) es) r.1 in
-      let f = callee_sound false (meaning c x) a (count es) s.0 in
-      let t = terms_sound c (wants f.function) es r.0 (subst (λ m. least (arguments_faults c (wanted m) es) ≡ None) f.is s.1) (omega (arith, f.counted)) in
-      let k = given_some (gives f.function) f.placed in
-      subst (λ m. Types c (tree.Call a x es) (call_kind m)) (sym f.is) (rule.call f.is k f.counted t)
+      let r = node_split (terms_faults c es) (call_faults c false (meaning c x) a es) n in
+      call_sound c a x es (terms_sound c es r.0) r.1
+  term_sound c (tree.Unary a op e) n =
+      let r = node_split (term_faults c e) (integer_faults (kind_of c e) (start e)) n in
+      unary_sound c a (start e) op e (kind_of c e) (term_sound c e r.0) r.1
+  term_sound c (tree.Cast a t e) n =
+      let r = node_split (term_faults c e) (integer_faults (kind_of c e) (start e)) n in
+      cast_sound c a (start e) t e (kind_of c e) (term_sound c e r.0) r.1
   term_sound c (tree.Binary a op d e) n =
-      let r = node_split (term_faults c d ++ term_faults c e) (operand_faults op (kind_of c d) (kind_of c e) (start d) (start e) a) n in
+      let r = node_split (term_faults c d ++ term_faults c e) (operand_faults op (kind_of c d) (kind_of c e) (start d) (start e)) n in
       let s = places_split (term_faults c d) (term_faults c e) r.0 in
-      sum_sound c a op d e (kind_of c d) (kind_of c e) (start d) (start e) a r.1 (term_sound c d s.0) (term_sound c e s.1)
-  term_sound c (tree.Dereference a e) n = absurd (some_fault (fault.TypeMismatch a) [] (one_place (fault.TypeMismatch a ∷ []) n))
-  term_sound c (tree.Unary a op e) n = absurd (some_fault (fault.TypeMismatch a) [] (one_place (fault.TypeMismatch a ∷ []) n))
-  term_sound c (tree.Cast a t e) n = absurd (some_fault (fault.TypeMismatch a) [] (one_place (fault.TypeMismatch a ∷ []) n))
-  term_sound c (tree.Choice a e d f) n = absurd (some_fault (fault.TypeMismatch a) [] (one_place (fault.TypeMismatch a ∷ []) n))
+      rule.binary (term_sound c d s.0) (term_sound c e s.1) (operands_sound op (kind_of c d) (kind_of c e) (start d) (start e) r.1)
+  term_sound c (tree.Choice a e d f) n =
+      let r = node_split (term_faults c e ++ term_faults c d ++ term_faults c f) (integer_faults (kind_of c e) (start e) ++ integer_faults (kind_of c d) (start d) ++ integer_faults (kind_of c f) (start f)) n in
+      let s = places_split (term_faults c e ++ term_faults c d) (term_faults c f) r.0 in
+      let t = places_split (term_faults c e) (term_faults c d) s.0 in
+      choice_sound c a (start e) (start d) (start f) e d f (kind_of c e) (kind_of c d) (kind_of c f) (term_sound c e t.0) (term_sound c d t.1) (term_sound c f s.1) r.1
 
-  pub terms_sound : (c : Context) (ws : List Want) (es : Terms) → first (terms_faults c es) ≡ None → least (arguments_faults c ws es) ≡ None
-      → count es ≤ length ws → TypesAll c ws es
-  terms_sound c ws NoTerm n m h = rule.no_argument
-  terms_sound c ws (ThenTerm es e) n m h =
+  pub terms_sound : (c : Context) (es : Terms) → first (terms_faults c es) ≡ None → TypesAll c es (kinds_of c es)
+  terms_sound c NoTerm n = rule.no_argument
+  terms_sound c (ThenTerm es e) n =
       let r = places_split (terms_faults c es) (term_faults c e) n in
-      let s = none_split (arguments_faults c ws es) (argument_faults (slice_get ws (count es)) (kind_of c e) (start e)) m in
-      argument_sound c ws es e (omega arith) (terms_sound c ws es r.0 s.0 (omega arith)) (term_sound c e r.1) s.1
+      rule.argument (terms_sound c es r.0) (term_sound c e r.1)
 
-place_sound : (c : Context) (p : Place) → first (place_faults c p) ≡ None → IsTarget c p
-place_sound c (tree.Whole a x) n = absurd (some_fault (fault.TypeMismatch a) [] (one_place (fault.TypeMismatch a ∷ []) n))
-place_sound c (tree.Behind a e) n = absurd (some_fault (fault.TypeMismatch a) [] (one_place (fault.TypeMismatch a ∷ []) n))
+behind_sound : (c : Context) (a b : ℕ) (e : Term) (k : VariableType) → Types c e k → least (pointer_faults k b ++ store_faults k a) ≡ None → TypesPlace c (tree.Behind a e) (element_kind k)
+behind_sound c a b e (Pointer p) t n = rule.behind (store_sound p a n) t
+behind_sound c a b e (Number u) t n = absurd (some_fault (fault.TypeMismatch b) [] n)
+
+place_sound : (c : Context) (p : Place) → first (place_faults c p) ≡ None → TypesPlace c p (place_kind c p)
+place_sound c (tree.Whole a x) n = rule.whole (name_sound (meaning c x) a (one_place (name_faults (meaning c x) a) n))
 place_sound c (tree.Part a x e) n =
-    let r = node_split (term_faults c e) (target_faults (meaning c x) a ++ integer_faults (kind_of c e) (start e)) n in
-    let s = none_split (target_faults (meaning c x) a) (integer_faults (kind_of c e) (start e)) r.1 in
-    let p = target_sound (meaning c x) a s.0 in
+    let m = meaning c x in
+    let r = node_split (term_faults c e) (target_faults m a ++ integer_faults (kind_of c e) (start e)) n in
+    let s = none_split (target_faults m a) (integer_faults (kind_of c e) (start e)) r.1 in
+    let t = none_split (front_faults m a) (store_faults (name_kind m) a) s.0 in
+    let p = front_sound m a t.0 in
+    let w = store_sound p.0 a (subst (λ v. least (store_faults (name_kind v) a) ≡ None) p.1 t.1) in
     let u = integer_sound (kind_of c e) (start e) s.1 in
-    rule.part p.1 p.2 (as_integer c e (kind_of c e) u.0 u.1 (term_sound c e r.0))
+    subst (λ v. TypesPlace c (tree.Part a x e) (element_kind (name_kind v))) (sym p.1)
+    (rule.part p.1 w (as_integer c e (kind_of c e) u.0 u.1 (term_sound c e r.0)))
+place_sound c (tree.Behind a e) n =
+    let r = node_split (term_faults c e) (pointer_faults (kind_of c e) (start e) ++ store_faults (kind_of c e) a) n in
+    behind_sound c a (start e) e (kind_of c e) (term_sound c e r.0) r.1
 
-pub sound : (c : Context) (s : Stmt) → first (faults c s) ≡ None → IsTyped c s
-sound c (tree.Assign a p None e) n =
-    let r = node_split (place_faults c p ++ term_faults c e) (integer_faults (kind_of c e) (start e)) n in
-    let s = places_split (place_faults c p) (term_faults c e) r.0 in
-    let u = integer_sound (kind_of c e) (start e) r.1 in
-    rule.assign (place_sound c p s.0) (as_integer c e (kind_of c e) u.0 u.1 (term_sound c e s.1))
-sound c (tree.CallOnly a x es) n =
-    let r = node_split (terms_faults c es) (callee_faults true (meaning c x) a (count es) ++ arguments_faults c (wanted (meaning c x)) es) n in
-    let s = none_split (callee_faults true (meaning c x) a (count es)) (arguments_faults c (wanted (meaning c x)) es) r.1 in
-    let f = callee_sound true (meaning c x) a (count es) s.0 in
-    rule.call_only f.is f.counted (terms_sound c (wants f.function) es r.0 (subst (λ m. least (arguments_faults c (wanted m) es) ≡ None) f.is s.1) (omega (arith, f.counted)))
-sound c s n = absurd (some_fault (fault.TypeMismatch (beginning s)) [] (one_place (fault.TypeMismatch (beginning s) ∷ []) n))
+assignment_sound : (c : Context) (a : ℕ) (p : Place) (op : Option BinaryOperator) (e : Term) → TypesPlace c p (place_kind c p) → Types c e (kind_of c e)
+    → least (assignment_faults c p op e) ≡ None → IsTyped c (tree.Assign a p op e)
+assignment_sound c a p None e t u n = rule.assign t u (passing_sound (place_kind c p) (kind_of c e) (start e) n)
+assignment_sound c a p (Some op) e t u n =
+    let r = assigning_sound op (place_kind c p) (kind_of c e) (place_start p) (start e) n in
+    rule.assign_by t u r.operates r.passes
 
-pub row_sound : (c : Context) (ss : Stmts) → first (row_faults c ss) ≡ None → AreTyped c ss
-row_sound c NoStmt n = rule.no_statement
-row_sound c (ThenStmt ss s) n =
-    let r = places_split (row_faults c ss) (faults c s) n in
-    rule.statement (row_sound c ss r.0) (sound c s r.1)
+mutual
+  pub sound : (c : Context) (s : Stmt) → first (faults c s) ≡ None → IsTyped c s
+  sound c (tree.Empty a) n = rule.empty
+  sound c (tree.Block a ss) n = rule.block (row_sound (enter c) ss n)
+  sound c (tree.Declare a k b x) n = rule.declare (unless_none (is_free c x) (fault.Redeclared b) (one_place (declared_faults c b x) n))
+  sound c (tree.DeclareAs a k b x e) n =
+      let r = earlier_none (least (declared_faults c b x)) (first (initial_faults (bind c x k) k e)) n in
+      let s = node_split (term_faults (bind c x k) e) (passing_faults k (kind_of (bind c x k) e) (start e)) r.1 in
+      rule.declare_as (unless_none (is_free c x) (fault.Redeclared b) r.0) (term_sound (bind c x k) e s.0)
+      (passing_sound k (kind_of (bind c x k) e) (start e) s.1)
+  sound c (tree.Assign a p op e) n =
+      let r = node_split (place_faults c p ++ term_faults c e) (assignment_faults c p op e) n in
+      let s = places_split (place_faults c p) (term_faults c e) r.0 in
+      assignment_sound c a p op e (place_sound c p s.0) (term_sound c e s.1) r.1
+  sound c (tree.Step a p is_increment) n = rule.step (place_sound c p n)
+  sound c (tree.CallOnly a x es) n =
+      let r = node_split (terms_faults c es) (call_faults c true (meaning c x) a es) n in
+      let s = none_split (callee_faults true (meaning c x) a (count es)) (arguments_faults c (wanted (meaning c x)) es) r.1 in
+      let f = callee_sound true (meaning c x) a (count es) s.0 in
+      rule.call_only f.is (terms_sound c es r.0)
+      (calls_sound c f.function es f.counted (subst (λ m. least (arguments_faults c (wanted m) es) ≡ None) f.is s.1))
+  sound c s n = absurd (some_fault (fault.TypeMismatch (beginning s)) [] (one_place (fault.TypeMismatch (beginning s) ∷ []) n))
+
+  pub row_sound : (c : Context) (ss : Stmts) → first (row_faults c ss) ≡ None → AreTyped c ss
+  row_sound c NoStmt n = rule.no_statement
+  row_sound c (ThenStmt ss s) n =
+      let r = places_split (row_faults c ss) (faults (after_all c ss) s) n in
+      rule.statement (row_sound c ss r.0) (sound (after_all c ss) s r.1)
 
 -- no fault where it is typed
-
-and_left : (a b : Bool) → (a && b) ≡ true → a ≡ true
-and_left true b e = refl
-and_left false b e = absurd (cc)
-
-and_right : (a b : Bool) → (a && b) ≡ true → b ≡ true
-and_right true b e = e
-and_right false b e = absurd (cc)
-
-pub unless_true : (b : Bool) (f : TypeFault) → b ≡ true → least (unless b f) ≡ None
-unless_true true f e = refl
-unless_true false f e = absurd (cc)
-
-fits_complete : (w : Want) (k : VariableType) (a : ℕ) → Fits w k → least (argument_faults (Some w) k a) ≡ None
-fits_complete _ _ a rule.integer = refl
-fits_complete _ _ a (rule.atomic_pointer {p = p} e w) =
-    none_joined
-    (unless (is_atomic p.element) (fault.TypeMismatch a) ++ unless (not p.is_const) (fault.NotAssignable a))
-    (unless (not (is_constant p.space)) (fault.WrongSpace a))
-    (none_joined
-    (unless (is_atomic p.element) (fault.TypeMismatch a))
-    (unless (not p.is_const) (fault.NotAssignable a))
-    (unless_true (is_atomic p.element) (fault.TypeMismatch a) e)
-    (unless_true (not p.is_const) (fault.NotAssignable a) (and_left (not p.is_const) (not (is_constant p.space)) w)))
-    (unless_true (not (is_constant p.space)) (fault.WrongSpace a) (and_right (not p.is_const) (not (is_constant p.space)) w))
-
-count_test : (m n : ℕ) → m ≡ n → nat_eq m n ≡ true
-count_test m n e = grind (arith, nat_tests)
-
-callee_complete : (whole : Bool) (m : Meaning) (f : BuiltIn) (a n : ℕ) → m ≡ BuiltInFunction f → n ≡ length (wants f) → (whole || is_some (gives f)) ≡ true
-    → least (callee_faults whole m a n) ≡ None
-callee_complete whole m f a n e h p =
-    subst (λ v. least (callee_faults whole v a n) ≡ None) (sym e)
-    (none_joined
-    (unless (nat_eq n (length (wants f))) (fault.WrongArgumentCount a))
-    (unless (whole || is_some (gives f)) (fault.AtomicValueUsed a))
-    (unless_true (nat_eq n (length (wants f))) (fault.WrongArgumentCount a) (count_test n (length (wants f)) h))
-    (unless_true (whole || is_some (gives f)) (fault.AtomicValueUsed a) p))
-
-placed_some : (o : Option VariableType) (k : VariableType) → o ≡ Some k → (false || is_some o) ≡ true
-placed_some o k e = rw e refl
 
 -- an expression without a fault, of this type
 pub record IsOf (c : Context) (e : Term) (k : VariableType) : Type 0 where
   pub faultless : first (term_faults c e) ≡ None
   pub same : kind_of c e ≡ k
 
-front_complete : (m : Meaning) (p : PointerType) (k : VariableType) (u : IntType) (a b : ℕ) → m ≡ Bound (kind.Pointer p) → k ≡ kind.Integer u
-    → least (front_faults m a ++ integer_faults k b) ≡ None
-front_complete m p k u a b e h = rw (e, h) refl
+-- arguments without a fault inside them, of these types
+pub record AreOf (c : Context) (es : Terms) (ks : List VariableType) : Type 0 where
+  pub faultless : first (terms_faults c es) ≡ None
+  pub same : kinds_of c es ≡ ks
 
-target_complete : (m : Meaning) (p : PointerType) (k : VariableType) (u : IntType) (a b : ℕ) → m ≡ Bound (kind.Pointer p) → is_writable p ≡ true → k ≡ kind.Integer u
-    → least (target_faults m a ++ integer_faults k b) ≡ None
-target_complete m p k u a b e w h =
-    none_joined (target_faults m a) (integer_faults k b)
-    (subst (λ v. least (target_faults v a) ≡ None) (sym e) (unless_true (is_writable p) (fault.NotAssignable a) w))
-    (rw h refl)
+-- what can be assigned to, without a fault, of this type
+pub record IsPlaceOf (c : Context) (p : Place) (k : VariableType) : Type 0 where
+  pub faultless : first (place_faults c p) ≡ None
+  pub same : place_kind c p ≡ k
 
-binary_complete : (c : Context) (a : ℕ) (d e : Term) (k j : VariableType) → IsOf c d k → IsOf c e j
-    → least (operand_faults (Arithmetic Add) k j (start d) (start e) a) ≡ None → IsOf c (tree.Binary a (Arithmetic Add) d e) (sum_kind k j)
-binary_complete c a d e k j x y n = record {
-  faultless = node_joined (term_faults c d ++ term_faults c e) (operand_faults (Arithmetic Add) (kind_of c d) (kind_of c e) (start d) (start e) a)
-      (places_joined (term_faults c d) (term_faults c e) x.faultless y.faultless)
-      (subst (λ v. least (operand_faults (Arithmetic Add) v (kind_of c e) (start d) (start e) a) ≡ None) (sym x.same)
-      (subst (λ v. least (operand_faults (Arithmetic Add) k v (start d) (start e) a) ≡ None) (sym y.same) n));
-  same = ap (λ v. sum_kind v (kind_of c e)) x.same ∙ ap (λ v. sum_kind k v) y.same;
-}
+indexed : (c : Context) (x b : ℕ) (e : Term) (p : PointerType) (u : IntType) → meaning c x ≡ Bound (Pointer p) → kind_of c e ≡ Number u
+    → least (front_faults (meaning c x) b ++ integer_faults (kind_of c e) (start e)) ≡ None
+indexed c x b e p u m h = rw (m, h) refl
+
+chosen : (c : Context) (e d f : Term) (s t u : IntType) → kind_of c e ≡ Number s → kind_of c d ≡ Number t → kind_of c f ≡ Number u
+    → least (integer_faults (kind_of c e) (start e) ++ integer_faults (kind_of c d) (start d) ++ integer_faults (kind_of c f) (start f)) ≡ None
+chosen c e d f s t u x y z = rw (x, y, z) refl
+
+call_complete : (c : Context) (a x : ℕ) (f : BuiltIn) (es : Terms) (ks : List VariableType) (r : Option VariableType)
+    → meaning c x ≡ BuiltInFunction f → AreOf c es ks → IsCalled c f es r → (has_value f ≡ true) → first (term_faults c (tree.Call a x es)) ≡ None
+call_complete c a x f es ks r m h g p =
+    node_joined (terms_faults c es) (call_faults c false (meaning c x) a es) h.faultless
+    (subst (λ v. least (call_faults c false v a es) ≡ None) (sym m) (own_complete c false f a es r g p))
 
 mutual
   pub term_complete : (c : Context) (e : Term) (k : VariableType) → Types c e k → IsOf c e k
@@ -304,67 +199,131 @@ mutual
     same = ap name_kind m;
   }
   term_complete c _ _ (rule.element {a = a} {x = x} {p = p} {u = u} {e = e} m h) =
-      let r = term_complete c e (kind.Integer u) h in
+      let r = term_complete c e (Number u) h in
       record {
-        faultless = node_joined (term_faults c e) (front_faults (meaning c x) a ++ integer_faults (kind_of c e) (start e)) r.faultless
-            (front_complete (meaning c x) p (kind_of c e) u a (start e) m r.same);
-        same = ap element_kind m;
+        faultless = node_joined (term_faults c e) (front_faults (meaning c x) a ++ integer_faults (kind_of c e) (start e)) r.faultless (indexed c x a e p u m r.same);
+        same = ap (λ v. element_kind (name_kind v)) m;
       }
   term_complete c _ _ (rule.address {a = a} {b = b} {x = x} {p = p} {u = u} {e = e} m h) =
-      let r = term_complete c e (kind.Integer u) h in
+      let r = term_complete c e (Number u) h in
       record {
-        faultless = node_joined (term_faults c e) (front_faults (meaning c x) b ++ integer_faults (kind_of c e) (start e)) r.faultless
-            (front_complete (meaning c x) p (kind_of c e) u b (start e) m r.same);
+        faultless = node_joined (term_faults c e) (front_faults (meaning c x) b ++ integer_faults (kind_of c e) (start e)) r.faultless (indexed c x b e p u m r.same);
         same = ap name_kind m;
       }
-  term_complete c _ _ (rule.sum {a = a} {t = t} {u = u} {d = d} {e = e} x y) =
-      binary_complete c a d e (kind.Integer t) (kind.Integer u) (term_complete c d (kind.Integer t) x) (term_complete c e (kind.Integer u) y) refl
-  term_complete c _ _ (rule.pointer_sum {a = a} {p = p} {u = u} {d = d} {e = e} x y) =
-      binary_complete c a d e (kind.Pointer p) (kind.Integer u) (term_complete c d (kind.Pointer p) x) (term_complete c e (kind.Integer u) y) refl
-  term_complete c _ _ (rule.sum_pointer {a = a} {p = p} {t = t} {d = d} {e = e} x y) =
-      binary_complete c a d e (kind.Integer t) (kind.Pointer p) (term_complete c d (kind.Integer t) x) (term_complete c e (kind.Pointer p) y) refl
-  term_complete c _ _ (rule.call {a = a} {x = x} {f = f} {k = k} {es = es} m g n h) =
-      let r = terms_complete c (wants f) es h in
+  term_complete c _ _ (rule.dereference {a = a} {p = p} {e = e} h) =
+      let r = term_complete c e (Pointer p) h in
       record {
-        faultless = node_joined (terms_faults c es) (callee_faults false (meaning c x) a (count es) ++ arguments_faults c (wanted (meaning c x)) es) r.0
-            (none_joined (callee_faults false (meaning c x) a (count es)) (arguments_faults c (wanted (meaning c x)) es)
-            (callee_complete false (meaning c x) f a (count es) m n (placed_some (gives f) k g))
-            (subst (λ v. least (arguments_faults c (wanted v) es) ≡ None) (sym m) r.1));
-        same = ap call_kind m ∙ ap given_kind g;
+        faultless = node_joined (term_faults c e) (pointer_faults (kind_of c e) (start e)) r.faultless (subst (λ v. least (pointer_faults v (start e)) ≡ None) (sym r.same) refl);
+        same = ap element_kind r.same;
+      }
+  term_complete c _ _ (rule.call {a = a} {x = x} {f = f} {es = es} {ks = ks} {k = k} m h g) =
+      let r = terms_complete c es ks h in
+      let s = calls_complete c f es ks (Some k) g r.same in
+      let t = has_some f (last_kind c es) k s.gives in
+      record {
+        faultless = call_complete c a x f es ks (Some k) m r s t.0;
+        same = ap (λ v. call_kind v (last_kind c es)) m ∙ t.1;
+      }
+  term_complete c _ _ (rule.unary {a = a} {op = op} {t = t} {e = e} h) =
+      let r = term_complete c e (Number t) h in
+      record {
+        faultless = node_joined (term_faults c e) (integer_faults (kind_of c e) (start e)) r.faultless (subst (λ v. least (integer_faults v (start e)) ≡ None) (sym r.same) refl);
+        same = ap (unary_type op) r.same;
+      }
+  term_complete c _ _ (rule.cast {a = a} {t = t} {u = u} {e = e} h) =
+      let r = term_complete c e (Number u) h in
+      record {
+        faultless = node_joined (term_faults c e) (integer_faults (kind_of c e) (start e)) r.faultless (subst (λ v. least (integer_faults v (start e)) ≡ None) (sym r.same) refl);
+        same = refl;
+      }
+  term_complete c _ _ (rule.binary {a = a} {op = op} {d = d} {e = e} {j = j} {k = k} {r = r} x y o) =
+      let s = term_complete c d j x in
+      let t = term_complete c e k y in
+      let w = operands_complete op j k r (start d) (start e) o in
+      record {
+        faultless = node_joined (term_faults c d ++ term_faults c e) (operand_faults op (kind_of c d) (kind_of c e) (start d) (start e))
+            (places_joined (term_faults c d) (term_faults c e) s.faultless t.faultless)
+            (subst (λ v. least (operand_faults op v (kind_of c e) (start d) (start e)) ≡ None) (sym s.same)
+            (subst (λ v. least (operand_faults op j v (start d) (start e)) ≡ None) (sym t.same) w.0));
+        same = ap (λ v. binary_type op v (kind_of c e)) s.same ∙ ap (λ v. binary_type op j v) t.same ∙ w.1;
+      }
+  term_complete c _ _ (rule.choice {a = a} {s = s} {t = t} {u = u} {e = e} {d = d} {f = f} x y z) =
+      let p = term_complete c e (Number s) x in
+      let q = term_complete c d (Number t) y in
+      let r = term_complete c f (Number u) z in
+      record {
+        faultless = node_joined (term_faults c e ++ term_faults c d ++ term_faults c f) (integer_faults (kind_of c e) (start e) ++ integer_faults (kind_of c d) (start d) ++ integer_faults (kind_of c f) (start f))
+            (places_joined (term_faults c e ++ term_faults c d) (term_faults c f) (places_joined (term_faults c e) (term_faults c d) p.faultless q.faultless) r.faultless)
+            (chosen c e d f s t u p.same q.same r.same);
+        same = ap (λ v. choice_type v (kind_of c f)) q.same ∙ ap (λ v. choice_type (Number t) v) r.same;
       }
 
-  pub terms_complete : (c : Context) (ws : List Want) (es : Terms) → TypesAll c ws es
-      → (first (terms_faults c es) ≡ None) × (least (arguments_faults c ws es) ≡ None)
-  terms_complete c ws _ rule.no_argument = (refl, refl)
-  terms_complete c ws _ (rule.argument {es = es} {e = e} {w = w} {k = k} all one g f) =
-      let r = terms_complete c ws es all in
-      let s = term_complete c e k one in (
-        places_joined (terms_faults c es) (term_faults c e) r.0 s.faultless,
-        none_joined (arguments_faults c ws es) (argument_faults (slice_get ws (count es)) (kind_of c e) (start e)) r.1
-            (subst (λ o. least (argument_faults o (kind_of c e) (start e)) ≡ None) (sym g)
-            (subst (λ v. least (argument_faults (Some w) v (start e)) ≡ None) (sym s.same) (fits_complete w k (start e) f))),
-      )
+  pub terms_complete : (c : Context) (es : Terms) (ks : List VariableType) → TypesAll c es ks → AreOf c es ks
+  terms_complete c _ _ rule.no_argument = record { faultless = refl; same = refl }
+  terms_complete c _ _ (rule.argument {es = es} {e = e} {ks = ks} {k = k} all one) =
+      let r = terms_complete c es ks all in
+      let s = term_complete c e k one in
+      record {
+        faultless = places_joined (terms_faults c es) (term_faults c e) r.faultless s.faultless;
+        same = ap (λ v. v ++ kind_of c e ∷ []) r.same ∙ ap (λ v. ks ++ v ∷ []) s.same;
+      }
 
-place_complete : (c : Context) (p : Place) → IsTarget c p → first (place_faults c p) ≡ None
-place_complete c _ (rule.part {a = a} {x = x} {p = p} {u = u} {e = e} m w h) =
-    let r = term_complete c e (kind.Integer u) h in
-    node_joined (term_faults c e) (target_faults (meaning c x) a ++ integer_faults (kind_of c e) (start e)) r.faultless
-    (target_complete (meaning c x) p (kind_of c e) u a (start e) m w r.same)
+place_complete : (c : Context) (p : Place) (k : VariableType) → TypesPlace c p k → IsPlaceOf c p k
+place_complete c _ _ (rule.whole {a = a} {x = x} m) = record {
+  faultless = subst (λ v. first (name_faults v a ∷ []) ≡ None) (sym m) refl;
+  same = ap name_kind m;
+}
+place_complete c _ _ (rule.part {a = a} {x = x} {p = p} {u = u} {e = e} m w h) =
+    let r = term_complete c e (Number u) h in
+    record {
+      faultless = node_joined (term_faults c e) (target_faults (meaning c x) a ++ integer_faults (kind_of c e) (start e)) r.faultless
+          (none_joined (target_faults (meaning c x) a) (integer_faults (kind_of c e) (start e))
+          (subst (λ v. least (target_faults v a) ≡ None) (sym m) (store_complete p a w))
+          (subst (λ v. least (integer_faults v (start e)) ≡ None) (sym r.same) refl));
+      same = ap (λ v. element_kind (name_kind v)) m;
+    }
+place_complete c _ _ (rule.behind {a = a} {p = p} {e = e} w h) =
+    let r = term_complete c e (Pointer p) h in
+    record {
+      faultless = node_joined (term_faults c e) (pointer_faults (kind_of c e) (start e) ++ store_faults (kind_of c e) a) r.faultless
+          (subst (λ v. least (pointer_faults v (start e) ++ store_faults v a) ≡ None) (sym r.same) (store_complete p a w));
+      same = ap element_kind r.same;
+    }
 
-pub complete : (c : Context) (s : Stmt) → IsTyped c s → first (faults c s) ≡ None
-complete c _ (rule.assign {a = a} {p = p} {u = u} {e = e} t h) =
-    let r = term_complete c e (kind.Integer u) h in
-    node_joined (place_faults c p ++ term_faults c e) (integer_faults (kind_of c e) (start e))
-    (places_joined (place_faults c p) (term_faults c e) (place_complete c p t) r.faultless)
-    (subst (λ v. least (integer_faults v (start e)) ≡ None) (sym r.same) refl)
-complete c _ (rule.call_only {a = a} {x = x} {f = f} {es = es} m n h) =
-    let r = terms_complete c (wants f) es h in
-    node_joined (terms_faults c es) (callee_faults true (meaning c x) a (count es) ++ arguments_faults c (wanted (meaning c x)) es) r.0
-    (none_joined (callee_faults true (meaning c x) a (count es)) (arguments_faults c (wanted (meaning c x)) es)
-    (callee_complete true (meaning c x) f a (count es) m n refl)
-    (subst (λ v. least (arguments_faults c (wanted v) es) ≡ None) (sym m) r.1))
+assigned : (c : Context) (a : ℕ) (p : Place) (op : Option BinaryOperator) (e : Term) → first (place_faults c p) ≡ None → first (term_faults c e) ≡ None
+    → least (assignment_faults c p op e) ≡ None → first (faults c (tree.Assign a p op e)) ≡ None
+assigned c a p op e x y n =
+    node_joined (place_faults c p ++ term_faults c e) (assignment_faults c p op e) (places_joined (place_faults c p) (term_faults c e) x y) n
 
-pub row_complete : (c : Context) (ss : Stmts) → AreTyped c ss → first (row_faults c ss) ≡ None
-row_complete c _ rule.no_statement = refl
-row_complete c _ (rule.statement {ss = ss} {s = s} all one) =
-    places_joined (row_faults c ss) (faults c s) (row_complete c ss all) (complete c s one)
+mutual
+  pub complete : (c : Context) (s : Stmt) → IsTyped c s → first (faults c s) ≡ None
+  complete _ _ rule.empty = refl
+  complete _ _ (rule.block {c = c} {ss = ss} h) = row_complete (enter c) ss h
+  complete _ _ (rule.declare {c = c} {b = b} {x = x} f) = place_then (declared_faults c b x) [] (unless_true (is_free c x) (fault.Redeclared b) f) refl
+  complete _ _ (rule.declare_as {c = c} {b = b} {x = x} {k = k} {j = j} {e = e} f t p) =
+      let r = term_complete (bind c x k) e j t in
+      place_then (declared_faults c b x) (initial_faults (bind c x k) k e) (unless_true (is_free c x) (fault.Redeclared b) f)
+      (node_joined (term_faults (bind c x k) e) (passing_faults k (kind_of (bind c x k) e) (start e)) r.faultless
+      (subst (λ v. least (passing_faults k v (start e)) ≡ None) (sym r.same) (passing_complete k j (start e) p)))
+  complete _ _ (rule.assign {c = c} {a = a} {p = p} {e = e} {k = k} {j = j} t u s) =
+      let q = place_complete c p k t in
+      let r = term_complete c e j u in
+      assigned c a p None e q.faultless r.faultless
+      (subst (λ v. least (passing_faults v (kind_of c e) (start e)) ≡ None) (sym q.same)
+      (subst (λ v. least (passing_faults k v (start e)) ≡ None) (sym r.same) (passing_complete k j (start e) s)))
+  complete _ _ (rule.assign_by {c = c} {a = a} {p = p} {op = op} {e = e} {k = k} {j = j} {r = i} t u o s) =
+      let q = place_complete c p k t in
+      let r = term_complete c e j u in
+      assigned c a p (Some op) e q.faultless r.faultless
+      (subst (λ v. least (assigning_faults op v (kind_of c e) (place_start p) (start e)) ≡ None) (sym q.same)
+      (subst (λ v. least (assigning_faults op k v (place_start p) (start e)) ≡ None) (sym r.same) (assigning_complete op k j i (place_start p) (start e) o s)))
+  complete _ _ (rule.step {c = c} {p = p} {k = k} t) = (place_complete c p k t).faultless
+  complete _ _ (rule.call_only {c = c} {a = a} {x = x} {f = f} {es = es} {ks = ks} {r = r} m h g) =
+      let s = terms_complete c es ks h in
+      node_joined (terms_faults c es) (call_faults c true (meaning c x) a es) s.faultless
+      (subst (λ v. least (call_faults c true v a es) ≡ None) (sym m) (own_complete c true f a es r (calls_complete c f es ks r g s.same) refl))
+
+  pub row_complete : (c : Context) (ss : Stmts) → AreTyped c ss → first (row_faults c ss) ≡ None
+  row_complete c _ rule.no_statement = refl
+  row_complete _ _ (rule.statement {c = c} {ss = ss} {s = s} all one) =
+      places_joined (row_faults c ss) (faults (after_all c ss) s) (row_complete c ss all) (complete (after_all c ss) s one)

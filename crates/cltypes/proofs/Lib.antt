@@ -1,4 +1,7 @@
 pub mod Least
+pub mod Splits
+pub mod Tables
+pub mod CallTables
 pub mod Views
 pub mod Texts
 pub mod Headings
