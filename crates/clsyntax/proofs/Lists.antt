@@ -8,7 +8,7 @@ use Rattle.clmodel.specs.declared.tree.Statement as rust_statement
 use Rattle.clmodel.specs.declared.tree.Function as rust_function
 use mathlib.Core.Former.{Count}
 use Rattle.clmodel.specs.declared.tree.Expression as rust_expression
-use Rattle.clmodel.specs.Tree.{term, terms, row_terms, then_all, Terms, NoTerm, ThenTerm, Call, Stmts, NoStmt, ThenStmt, stmt, then_stmts, Func, Funcs, NoFunc, ThenFunc, func, then_funcs}
+use Rattle.clmodel.specs.Tree.{term, terms, row_terms, then_all, Terms, NoTerm, ThenTerm, Call, Block, Stmts, NoStmt, ThenStmt, stmt, row_stmts, then_stmts, Func, Funcs, NoFunc, ThenFunc, func, then_funcs}
 use Rattle.clsyntax.specs.Views.{stmts_of, funcs_of}
 
 stmts_behind : (ss : Stmts) (ts : List rust_statement.Statement) (t : rust_statement.Statement) → then_stmts ss (map stmt (ts ++ t ∷ [])) ≡ ThenStmt (then_stmts ss (map stmt ts)) (stmt t)
@@ -55,3 +55,18 @@ calls at name es =
     let row = row_of (rust_expression.Call at name es) in
     let same = rust_expression.items_hidden-the_row-Expression-0 es in
     ap (Call at name) (row_same NoTerm row.0 row.1 ∙ ap (λ ds. then_all NoTerm (map term ds)) same)
+
+stmt_row_same : (ss : Stmts) (n : _) (row : rust_statement.Row_of-Statement n) → row_stmts ss row ≡ then_stmts ss (map stmt (rust_statement.items-the_row-Statement n row))
+stmt_row_same ss n rust_statement.end_of-Statement = refl
+stmt_row_same ss n (rust_statement.more_of-Statement s rest) = stmt_row_same (ThenStmt ss (stmt s)) _ rest
+
+abbrev stmt_row_of : rust_statement.Statement → (n : Count) × rust_statement.Row_of-Statement n
+stmt_row_of (rust_statement.Block' at n row) = (_, row)
+stmt_row_of _ = (_, rust_statement.end_of-Statement)
+
+-- a block is read as its statements
+pub blocks : (at : ℕ) (ss : Vec rust_statement.Statement Global) → stmt (rust_statement.Block at ss) ≡ Block at (stmts_of ss.items)
+blocks at ss =
+    let row = stmt_row_of (rust_statement.Block at ss) in
+    let same = rust_statement.items_hidden-the_row-Statement-0 ss in
+    ap (Block at) (stmt_row_same NoStmt row.0 row.1 ∙ ap (λ ts. then_stmts NoStmt (map stmt ts)) same)

@@ -1,15 +1,19 @@
--- The grammar of programs, as a relation between tokens and what they stand for (OpenCL 1.2, 6.9; C99 6.7 to 6.9).
-use Rattle.std.specs.Prelude.{◌≡◌, ℕ, suc, ◌≤◌, List, [], ◌∷◌, ◌++◌, true, false, Option, None, Some}
-use Rattle.clnum.specs.Integer.{Integer}
-use Rattle.clnum.specs.declared.int_type.IntType.TheVariants.{Int}
+-- The grammar of programs, as a relation between tokens and what they stand for (OpenCL 1.2, 6.1 to 6.9; C99 6.5 to 6.9).
+use Rattle.std.specs.Prelude.{◌≡◌, ℕ, suc, ◌≤◌, List, [], ◌∷◌, ◌++◌, Bool, true, false, Option, None, Some}
+use Rattle.clnum.specs.Integer as whole
+use Rattle.clnum.specs.declared.int_type.IntType.{IntType}
+use Rattle.clnum.specs.declared.int_type.IntType.TheVariants.{Ulong}
+use Rattle.clnum.specs.declared.operators.UnaryOperator.{UnaryOperator}
+use Rattle.clnum.specs.declared.operators.UnaryOperator.TheVariants as unary_operators
 use Rattle.clnum.specs.declared.operators.BinaryOperator.{BinaryOperator}
 use Rattle.clnum.specs.declared.operators.BinaryOperator.TheVariants.{Add, Subtract, Multiply, Divide, Remainder, ShiftLeft, ShiftRight, Less, Greater, LessOrEqual, GreaterOrEqual, Equal, NotEqual, BitAnd, BitXor, BitOr}
 use Rattle.clmodel.specs.declared.tree.InfixOperator.{InfixOperator}
 use Rattle.clmodel.specs.declared.tree.InfixOperator.TheVariants.{Arithmetic, LogicalAnd, LogicalOr}
 use Rattle.clmodel.specs.declared.tree.AddressSpace.TheVariants.{Global}
-use Rattle.clmodel.specs.declared.tree.VariableType.TheVariants.{Pointer}
+use Rattle.clmodel.specs.declared.tree.VariableType.{VariableType}
+use Rattle.clmodel.specs.declared.tree.VariableType.TheVariants.{Integer, Pointer}
 use Rattle.clmodel.specs.declared.tree.Parameter.{Parameter}
-use Rattle.clmodel.specs.Tree.{Term, Number, Variable, Element, ElementAddress, Call, Binary, Terms, NoTerm, ThenTerm, Place, Part, Stmt, Assign, CallOnly, Stmts, NoStmt, ThenStmt, Func, Funcs, NoFunc, ThenFunc}
+use Rattle.clmodel.specs.Tree.{Term, Number, Variable, Element, ElementAddress, Dereference, Call, Unary, Cast, Binary, Choice, Terms, NoTerm, ThenTerm, Place, Whole, Part, Behind, Stmt, Empty, Block, Declare, DeclareAs, Assign, Step, CallOnly, Stmts, NoStmt, ThenStmt, Func, Funcs, NoFunc, ThenFunc}
 use Rattle.clsyntax_lex.specs.declared.token.Token.{Token}
 use Rattle.clsyntax_lex.specs.declared.token.TokenKind.{TokenKind}
 use Rattle.clsyntax_lex.specs.declared.token.TokenKind.TheVariants as kinds
@@ -28,9 +32,26 @@ abbrev pub start : List Placed → ℕ
 start [] = 0
 start (p ∷ ps) = p.token.at
 
--- the operator that a token between two expressions is
+-- the operator that a token between two expressions is (C99 6.5.5 to 6.5.14)
 abbrev pub infix_of : TokenKind → Option InfixOperator
+infix_of kinds.OrOr = Some LogicalOr
+infix_of kinds.AndAnd = Some LogicalAnd
+infix_of kinds.Or = Some (Arithmetic BitOr)
+infix_of kinds.Caret = Some (Arithmetic BitXor)
+infix_of kinds.And = Some (Arithmetic BitAnd)
+infix_of kinds.Equal = Some (Arithmetic Equal)
+infix_of kinds.NotEqual = Some (Arithmetic NotEqual)
+infix_of kinds.Less = Some (Arithmetic Less)
+infix_of kinds.Greater = Some (Arithmetic Greater)
+infix_of kinds.LessOrEqual = Some (Arithmetic LessOrEqual)
+infix_of kinds.GreaterOrEqual = Some (Arithmetic GreaterOrEqual)
+infix_of kinds.ShiftLeft = Some (Arithmetic ShiftLeft)
+infix_of kinds.ShiftRight = Some (Arithmetic ShiftRight)
 infix_of kinds.Plus = Some (Arithmetic Add)
+infix_of kinds.Minus = Some (Arithmetic Subtract)
+infix_of kinds.Star = Some (Arithmetic Multiply)
+infix_of kinds.Slash = Some (Arithmetic Divide)
+infix_of kinds.Percent = Some (Arithmetic Remainder)
 infix_of _ = None
 
 -- how tightly an operator binds, from the loosest (C99 6.5.5 to 6.5.14)
@@ -57,6 +78,70 @@ level LogicalOr = 2
 level LogicalAnd = 3
 level (Arithmetic op) = arithmetic_level op
 
+-- the level of an operand, above that of every operator between two
+abbrev pub tight : ℕ
+tight = 12
+
+-- what stands before an operand (C99 6.5.3.2, 6.5.3.3 and 6.5.4)
+pub data Prefix : Type 0 where
+  Operator : UnaryOperator → Prefix
+  Fetch : Prefix
+  Convert : IntType → Prefix
+
+-- the prefix that a token is
+abbrev pub prefix_of : TokenKind → Option Prefix
+prefix_of kinds.Plus = Some (Operator unary_operators.Plus)
+prefix_of kinds.Minus = Some (Operator unary_operators.Negate)
+prefix_of kinds.Tilde = Some (Operator unary_operators.Complement)
+prefix_of kinds.Not = Some (Operator unary_operators.Not)
+prefix_of kinds.Star = Some Fetch
+prefix_of _ = None
+
+-- an operand behind a prefix that begins at the offset
+abbrev pub prefixed_by : Prefix → ℕ → Term → Term
+prefixed_by (Operator op) at e = Unary at op e
+prefixed_by Fetch at e = Dereference at e
+prefixed_by (Convert type) at e = Cast at type e
+
+-- the type that a word names; whether size_t is one is told (OpenCL 1.2, 6.1.1 and 6.9 k)
+abbrev pub type_of : (takes_size : Bool) → TokenKind → Option IntType
+type_of takes_size (kinds.Type type) = Some type
+type_of true kinds.SizeT = Some Ulong
+type_of _ _ = None
+
+-- the operator of an assignment, if it has one (C99 6.5.16)
+abbrev pub assign_of : TokenKind → Option (Option BinaryOperator)
+assign_of kinds.Assign = Some None
+assign_of kinds.PlusAssign = Some (Some Add)
+assign_of kinds.MinusAssign = Some (Some Subtract)
+assign_of kinds.StarAssign = Some (Some Multiply)
+assign_of kinds.SlashAssign = Some (Some Divide)
+assign_of kinds.PercentAssign = Some (Some Remainder)
+assign_of kinds.ShiftLeftAssign = Some (Some ShiftLeft)
+assign_of kinds.ShiftRightAssign = Some (Some ShiftRight)
+assign_of kinds.AndAssign = Some (Some BitAnd)
+assign_of kinds.CaretAssign = Some (Some BitXor)
+assign_of kinds.OrAssign = Some (Some BitOr)
+assign_of _ = None
+
+-- whether a step goes up (C99 6.5.2.4 and 6.5.3.1)
+abbrev pub step_of : TokenKind → Option Bool
+step_of kinds.PlusPlus = Some true
+step_of kinds.MinusMinus = Some false
+step_of _ = None
+
+-- a name or an element: `*p++;` is no statement
+abbrev pub IsNamed : Place → Type 0
+IsNamed (Behind at e) = ⊥
+IsNamed _ = Unit {0}
+
+-- a pointer into global memory
+abbrev pub pointer_to : (is_const : Bool) → IntType → VariableType
+pointer_to is_const type = Pointer (record { space = Global; is_const = is_const; element = type })
+
+abbrev pub parameter_of : VariableType → (name_at name : ℕ) → Parameter
+parameter_of kind name_at name = record { name_at = name_at; name = name; kind = kind }
+
 -- what stands before a function's body
 pub record Head : Type 0 where
   pub name_at : ℕ
@@ -67,18 +152,19 @@ pub record Head : Type 0 where
 abbrev pub kernel : Head → ℕ → Stmts → Func
 kernel h at ss = record { is_kernel = true; result = None; name_at = h.name_at; name = h.name; parameters = h.parameters; body_at = at; body = ss }
 
--- `__global int *name`
-abbrev pub pointer_parameter : (name_at name : ℕ) → Parameter
-pointer_parameter name_at name = record { name_at = name_at; name = name; kind = Pointer (record { space = Global; is_const = false; element = Int }) }
-
 -- What tokens stand for. n is the nesting where it begins. An expression is of a level: its outermost operator binds at
--- least so tightly (0: any expression); m is n and the operators in it outside its brackets. n of arguments is that outside
--- of their brackets.
+-- least so tightly (0: any expression; 1: one without `?`; tight: an operand); m is n and the operators in it outside its
+-- brackets. n of arguments is that outside of their brackets. A type may be size_t or not. Simple: a statement but its
+-- semicolon.
 pub data Goal : Type 0 where
+  Before : (n : ℕ) → Prefix → Goal
   Expr : (l n : ℕ) → Term → (m : ℕ) → Goal
   Arguments : (n : ℕ) → Terms → Goal
   Target : (n : ℕ) → Place → Goal
+  Simple : (n : ℕ) → Stmt → Goal
   Statement : (n : ℕ) → Stmt → Goal
+  Typing : (takes_size : Bool) → (n : ℕ) → VariableType → Goal
+  Declaration : (n : ℕ) → Stmt → Goal
   Items : (n : ℕ) → Stmts → Goal
   OneParameter : Parameter → Goal
   Parameters : List Parameter → Goal
@@ -87,7 +173,7 @@ pub data Goal : Type 0 where
 
 -- Reads g ps qs: the tokens of ps that stand before qs are a g.
 pub data Reads : Goal → List Placed → List Placed → Type 0 where
-  number : {l n a : ℕ} {v : Integer} {qs : List Placed} → Reads (Expr l n (Number a v) n) (put n (kinds.Number v) a ∷ qs) qs
+  number : {l n a : ℕ} {v : whole.Integer} {qs : List Placed} → Reads (Expr l n (Number a v) n) (put n (kinds.Number v) a ∷ qs) qs
   variable : {l n x a : ℕ} {qs : List Placed} → Reads (Expr l n (Variable a x) n) (put n (kinds.Name x) a ∷ qs) qs
   element : {l n x a b c m : ℕ} {e : Term} {ps qs : List Placed}
       → Reads (Expr 0 (suc n) e m) ps (put (suc n) kinds.CloseSquare c ∷ qs)
@@ -103,6 +189,16 @@ pub data Reads : Goal → List Placed → List Placed → Type 0 where
   round : {l n a c m : ℕ} {e : Term} {ps qs : List Placed}
       → Reads (Expr 0 (suc n) e m) ps (put (suc n) kinds.CloseRound c ∷ qs)
       → Reads (Expr l n e n) (put n kinds.OpenRound a ∷ ps) qs
+  operator : {n a : ℕ} {k : TokenKind} {p : Prefix} {qs : List Placed}
+      → prefix_of k ≡ Some p
+      → Reads (Before n p) (put n k a ∷ qs) qs
+  cast : {n a b c : ℕ} {k : TokenKind} {type : IntType} {qs : List Placed}
+      → type_of true k ≡ Some type
+      → Reads (Before n (Convert type)) (put n kinds.OpenRound a ∷ put (suc n) k b ∷ put (suc n) kinds.CloseRound c ∷ qs) qs
+  prefixed : {l n m : ℕ} {p : Prefix} {e : Term} {ps qs rs : List Placed}
+      → Reads (Before n p) ps qs
+      → Reads (Expr tight (suc n) e m) qs rs
+      → Reads (Expr l n (prefixed_by p (start ps) e) m) ps rs
   -- the left operand may be of the operator's level, so that operators are taken from left to right
   binary : {l n m o b : ℕ} {k : TokenKind} {op : InfixOperator} {d e : Term} {ps qs rs : List Placed}
       → infix_of k ≡ Some op
@@ -110,6 +206,12 @@ pub data Reads : Goal → List Placed → List Placed → Type 0 where
       → Reads (Expr (level op) n d m) ps (put m k b ∷ qs)
       → Reads (Expr (suc (level op)) (suc m) e o) qs rs
       → Reads (Expr l n (Binary (start ps) op d e) o) ps rs
+  -- the operators of all parts add up
+  choice : {n m o z b c : ℕ} {d e f : Term} {ps qs rs us : List Placed}
+      → Reads (Expr 1 n d m) ps (put m kinds.Question b ∷ qs)
+      → Reads (Expr 0 (suc m) e o) qs (put o kinds.Colon c ∷ rs)
+      → Reads (Expr 0 o f z) rs us
+      → Reads (Expr 0 n (Choice (start ps) d e f) z) ps us
   one_argument : {n m : ℕ} {e : Term} {ps qs : List Placed}
       → Reads (Expr 0 (suc n) e m) ps qs
       → Reads (Arguments n (ThenTerm NoTerm e)) ps qs
@@ -117,25 +219,69 @@ pub data Reads : Goal → List Placed → List Placed → Type 0 where
       → Reads (Arguments n es) ps (put (suc n) kinds.Comma b ∷ qs)
       → Reads (Expr 0 (suc n) e m) qs rs
       → Reads (Arguments n (ThenTerm es e)) ps rs
+  whole_place : {n x a : ℕ} {qs : List Placed} → Reads (Target n (Whole a x)) (put n (kinds.Name x) a ∷ qs) qs
   part : {n x a b c m : ℕ} {e : Term} {ps qs : List Placed}
       → Reads (Expr 0 (suc n) e m) ps (put (suc n) kinds.CloseSquare c ∷ qs)
       → Reads (Target n (Part a x e)) (put n (kinds.Name x) a ∷ put n kinds.OpenSquare b ∷ ps) qs
-  assign : {n b c m : ℕ} {t : Place} {e : Term} {ps qs rs : List Placed}
-      → Reads (Target n t) ps (put n kinds.Assign b ∷ qs)
-      → Reads (Expr 0 n e m) qs (put n kinds.Semicolon c ∷ rs)
-      → Reads (Statement n (Assign (start ps) t None e)) ps rs
-  bare_call_only : {n x a b c d : ℕ} {qs : List Placed}
-      → Reads (Statement n (CallOnly a x NoTerm)) (put n (kinds.Name x) a ∷ put n kinds.OpenRound b ∷ put (suc n) kinds.CloseRound c ∷ put n kinds.Semicolon d ∷ qs) qs
-  call_only : {n x a b c d : ℕ} {es : Terms} {ps qs : List Placed}
-      → Reads (Arguments n es) ps (put (suc n) kinds.CloseRound c ∷ put n kinds.Semicolon d ∷ qs)
-      → Reads (Statement n (CallOnly a x es)) (put n (kinds.Name x) a ∷ put n kinds.OpenRound b ∷ ps) qs
+  behind_star : {n a m : ℕ} {e : Term} {ps qs : List Placed}
+      → Reads (Expr tight (suc n) e m) ps qs
+      → Reads (Target n (Behind a e)) (put n kinds.Star a ∷ ps) qs
+  -- the value's expression begins anew: operators of the target count no more
+  assign : {n b m : ℕ} {k : TokenKind} {op : Option BinaryOperator} {t : Place} {e : Term} {ps qs rs : List Placed}
+      → assign_of k ≡ Some op
+      → Reads (Target n t) ps (put n k b ∷ qs)
+      → Reads (Expr 0 n e m) qs rs
+      → Reads (Simple n (Assign (start ps) t op e)) ps rs
+  step_before : {n a : ℕ} {k : TokenKind} {is_increment : Bool} {t : Place} {ps qs : List Placed}
+      → step_of k ≡ Some is_increment
+      → Reads (Target (suc n) t) ps qs
+      → Reads (Simple n (Step a t is_increment)) (put n k a ∷ ps) qs
+  step_behind : {n b : ℕ} {k : TokenKind} {is_increment : Bool} {t : Place} {ps qs : List Placed}
+      → step_of k ≡ Some is_increment
+      → IsNamed t
+      → Reads (Target n t) ps (put n k b ∷ qs)
+      → Reads (Simple n (Step (start ps) t is_increment)) ps qs
+  bare_call_only : {n x a b c : ℕ} {qs : List Placed}
+      → Reads (Simple n (CallOnly a x NoTerm)) (put n (kinds.Name x) a ∷ put n kinds.OpenRound b ∷ put (suc n) kinds.CloseRound c ∷ qs) qs
+  call_only : {n x a b c : ℕ} {es : Terms} {ps qs : List Placed}
+      → Reads (Arguments n es) ps (put (suc n) kinds.CloseRound c ∷ qs)
+      → Reads (Simple n (CallOnly a x es)) (put n (kinds.Name x) a ∷ put n kinds.OpenRound b ∷ ps) qs
+  simple : {n c : ℕ} {s : Stmt} {ps qs : List Placed}
+      → Reads (Simple n s) ps (put n kinds.Semicolon c ∷ qs)
+      → Reads (Statement n s) ps qs
+  empty : {n a : ℕ} {qs : List Placed} → Reads (Statement n (Empty a)) (put n kinds.Semicolon a ∷ qs) qs
+  -- a block is open after its brace
+  block : {n a b : ℕ} {ss : Stmts} {ps qs : List Placed}
+      → Reads (Items (suc n) ss) ps (put (suc n) kinds.CloseBrace b ∷ qs)
+      → Reads (Statement n (Block a ss)) (put n kinds.OpenBrace a ∷ ps) qs
+  integer : {n a : ℕ} {u : Bool} {k : TokenKind} {type : IntType} {qs : List Placed}
+      → type_of u k ≡ Some type
+      → Reads (Typing u n (Integer type)) (put n k a ∷ qs) qs
+  pointer : {n a b c : ℕ} {u : Bool} {k : TokenKind} {type : IntType} {qs : List Placed}
+      → type_of u k ≡ Some type
+      → Reads (Typing u n (pointer_to false type)) (put n (kinds.Space Global) a ∷ put n k b ∷ put n kinds.Star c ∷ qs) qs
+  const_pointer : {n a b c d : ℕ} {u : Bool} {k : TokenKind} {type : IntType} {qs : List Placed}
+      → type_of u k ≡ Some type
+      → Reads (Typing u n (pointer_to true type)) (put n (kinds.Space Global) a ∷ put n kinds.Const b ∷ put n k c ∷ put n kinds.Star d ∷ qs) qs
+  declare : {n b c x : ℕ} {kind : VariableType} {ps qs : List Placed}
+      → Reads (Typing true n kind) ps (put n (kinds.Name x) b ∷ put n kinds.Semicolon c ∷ qs)
+      → Reads (Declaration n (Declare (start ps) kind b x)) ps qs
+  declare_as : {n b c d x m : ℕ} {kind : VariableType} {e : Term} {ps qs rs : List Placed}
+      → Reads (Typing true n kind) ps (put n (kinds.Name x) b ∷ put n kinds.Assign c ∷ qs)
+      → Reads (Expr 0 n e m) qs (put n kinds.Semicolon d ∷ rs)
+      → Reads (Declaration n (DeclareAs (start ps) kind b x e)) ps rs
   no_items : {n : ℕ} {ps : List Placed} → Reads (Items n NoStmt) ps ps
-  item : {n : ℕ} {ss : Stmts} {s : Stmt} {ps qs rs : List Placed}
+  statement : {n : ℕ} {ss : Stmts} {s : Stmt} {ps qs rs : List Placed}
       → Reads (Items n ss) ps qs
       → Reads (Statement n s) qs rs
       → Reads (Items n (ThenStmt ss s)) ps rs
-  pointer : {x a b c d : ℕ} {qs : List Placed}
-      → Reads (OneParameter (pointer_parameter d x)) (put 1 (kinds.Space Global) a ∷ put 1 (kinds.Type Int) b ∷ put 1 kinds.Star c ∷ put 1 (kinds.Name x) d ∷ qs) qs
+  declaration : {n : ℕ} {ss : Stmts} {s : Stmt} {ps qs rs : List Placed}
+      → Reads (Items n ss) ps qs
+      → Reads (Declaration n s) qs rs
+      → Reads (Items n (ThenStmt ss s)) ps rs
+  parameter : {x d : ℕ} {kind : VariableType} {ps qs : List Placed}
+      → Reads (Typing false 1 kind) ps (put 1 (kinds.Name x) d ∷ qs)
+      → Reads (OneParameter (parameter_of kind d x)) ps qs
   first_parameter : {p : Parameter} {ps qs : List Placed} → Reads (OneParameter p) ps qs → Reads (Parameters (p ∷ [])) ps qs
   next_parameter : {b : ℕ} {xs : List Parameter} {p : Parameter} {ps qs rs : List Placed}
       → Reads (Parameters xs) ps (put 1 kinds.Comma b ∷ qs)

@@ -1,50 +1,86 @@
 -- A machine that takes one token at a time, and holds what is open. The grammar is Grammar's; this is how it is read.
 use Rattle.std.specs.Prelude.{ℕ, suc, nat_lt, if◌then◌else◌, List, [], ◌∷◌, ◌++◌, Option, None, Some, Bool, true, false}
 use Rattle.clnum.specs.declared.int_type.IntType.{IntType}
-use Rattle.clnum.specs.declared.int_type.IntType.TheVariants.{Int}
+use Rattle.clnum.specs.declared.int_type.IntType.TheVariants.{Ulong}
+use Rattle.clnum.specs.declared.operators.BinaryOperator.{BinaryOperator}
 use Rattle.clmodel.specs.declared.tree.InfixOperator.{InfixOperator}
 use Rattle.clmodel.specs.declared.tree.AddressSpace.{AddressSpace}
 use Rattle.clmodel.specs.declared.tree.AddressSpace.TheVariants.{Global}
+use Rattle.clmodel.specs.declared.tree.VariableType.{VariableType}
+use Rattle.clmodel.specs.declared.tree.VariableType.TheVariants.{Integer}
 use Rattle.clmodel.specs.declared.tree.Parameter.{Parameter}
-use Rattle.clmodel.specs.Tree.{Term, Number, Variable, Element, ElementAddress, Call, Binary, Terms, NoTerm, ThenTerm, Place, Part, Stmt, Assign, CallOnly, Stmts, NoStmt, ThenStmt, Func, Funcs, NoFunc, ThenFunc}
+use Rattle.clmodel.specs.Tree.{Term, Number, Variable, Element, ElementAddress, Call, Binary, Choice, Terms, NoTerm, ThenTerm, Place, Whole, Part, Behind, Stmt, Empty, Block, Declare, DeclareAs, Assign, Step, CallOnly, Stmts, NoStmt, ThenStmt, Func, Funcs, NoFunc, ThenFunc}
 use Rattle.clsyntax_lex.specs.declared.token.Token.{Token}
 use Rattle.clsyntax_lex.specs.declared.token.TokenKind.{TokenKind}
 use Rattle.clsyntax_lex.specs.declared.token.TokenKind.TheVariants as kinds
-use Rattle.clsyntax.specs.Grammar.{Head, kernel, pointer_parameter, infix_of, level}
+use Rattle.clsyntax.specs.Grammar.{Prefix, Convert, prefix_of, prefixed_by, assign_of, step_of, pointer_to, parameter_of, Head, kernel, infix_of, level}
 
 -- What is open, from the innermost outwards. n is the nesting outside of it.
 pub data Frame : Type 0 where
   -- an operator that waits for its right operand; from: where its left operand begins
   After : (from : ℕ) → InfixOperator → Term → Frame
+  -- a prefix that waits for its operand
+  Before : (at : ℕ) → Prefix → Frame
+  -- `condition ?`, then `condition ? chosen :`; from: where the condition begins
+  Asked : (from : ℕ) → Term → Frame
+  Chosen : (from : ℕ) → Term → Term → Frame
   -- what an expression is read for
   InRound : (at n : ℕ) → Frame
   InElement : (at name n : ℕ) → Frame
   InAddress : (at name_at name n : ℕ) → Frame
   InCall : (is_statement : Bool) → (at name n : ℕ) → Terms → Frame
-  InPart : (at name n : ℕ) → Frame
-  InAssign : (at n : ℕ) → Place → Frame
+  -- so a target, which a step before it steps, or an assignment or a step behind it: `name[`, `*`
+  InPart : (is_step : Bool) → (at name n : ℕ) → Frame
+  InBehind : (is_step : Bool) → (at n : ℕ) → Frame
+  -- a step before its target
+  InStep : (at n : ℕ) → (is_increment : Bool) → Frame
+  InAssign : (at n : ℕ) → Place → Option BinaryOperator → Frame
+  InDeclare : (at n : ℕ) → VariableType → (name_at name : ℕ) → Frame
   InItems : (n : ℕ) → Stmts → Frame
+  InBlock : (at n : ℕ) → Frame
   InBody : Head → (at : ℕ) → Frame
   InHead : Head → Frame
   InProgram : Funcs → Frame
 
--- What was read last, and so what may come. n is the nesting of the next token.
+-- what a type is read for
+pub data Purpose : Type 0 where
+  ForParameter : Purpose
+  ForDeclaration : (at n : ℕ) → Purpose
+
+abbrev pub takes_size : Purpose → Bool
+takes_size ForParameter = false
+takes_size (ForDeclaration at n) = true
+
+abbrev pub nesting_of : Purpose → ℕ
+nesting_of ForParameter = 1
+nesting_of (ForDeclaration at n) = n
+
+-- What was read last, and so what may come. n is the nesting of the next token; with an opened bracket, that outside of it.
 pub data Mode : Type 0 where
   -- an operand is wanted; one was read, which begins at an offset
   Operand : (n : ℕ) → Mode
   Have : (n from : ℕ) → Term → Mode
-  -- in an expression a name was read; `&`; `&` and a name; the bracket of a call
+  -- in an expression: a name was read; `(`; `(` and a type; `&`; `&` and a name; the bracket of a call
   Named : (n at name : ℕ) → Mode
+  Opened : (n at : ℕ) → Mode
+  CastType : (n at : ℕ) → IntType → Mode
   AfterAnd : (n at : ℕ) → Mode
   AndName : (n at name_at name : ℕ) → Mode
   CallOpen : (n : ℕ) → Mode
-  -- a statement, or the end of a block, is wanted; a statement's first name was read; a target; a statement but its
-  -- semicolon; a whole statement
+  -- a statement, a declaration or the end of a block is wanted; a target; a first name was read; a target; a statement but
+  -- its semicolon; a whole statement
   Item : (n : ℕ) → Mode
-  BeginName : (n at name : ℕ) → Mode
-  Aimed : (n at : ℕ) → Place → Mode
+  Aim : (n : ℕ) → Mode
+  BeginName : (is_step : Bool) → (n at name : ℕ) → Mode
+  Aimed : (is_step : Bool) → (n at : ℕ) → Place → Mode
   Ended : (n : ℕ) → Stmt → Mode
   Did : (n : ℕ) → Stmt → Mode
+  -- a pointer's address space was read; `const` too; the type of its elements; a whole type; a declared name
+  AfterSpace : Purpose → Mode
+  AfterConst : Purpose → Mode
+  AfterElement : Purpose → (is_const : Bool) → IntType → Mode
+  AfterTyping : Purpose → VariableType → Mode
+  Declared : (n at : ℕ) → VariableType → (name_at name : ℕ) → Mode
   -- a function, or the program's end, is wanted; the words of its head
   Top : Mode
   AfterKernel : Mode
@@ -52,9 +88,6 @@ pub data Mode : Type 0 where
   AfterName : (at name : ℕ) → Mode
   HeadOpen : Mode
   WantParameter : Mode
-  AfterSpace : Mode
-  AfterType : Mode
-  AfterStar : Mode
   AfterParameter : Mode
   HeadDone : Mode
 
@@ -72,6 +105,12 @@ Moved = Option (ℕ × State)
 abbrev pub go : ℕ → Mode → List Frame → Moved
 go n m fs = Some (n, in_mode m fs)
 
+abbrev pub when : Bool → Moved → Moved
+when true m = m
+when false m = None
+
+-- ---- expressions
+
 -- an expression, where it begins, and the frames behind it
 pub record Folded : Type 0 where
   pub from : ℕ
@@ -81,10 +120,18 @@ pub record Folded : Type 0 where
 abbrev pub folded : ℕ → Term → List Frame → Folded
 folded from e fs = record { from = from; term = e; rest = fs }
 
--- An expression takes the operators before it that bind at least so tightly as the next token asks.
+-- An expression takes the prefixes before it, the operators that bind at least so tightly as the next token asks, and where
+-- that asks nothing, a choice.
 abbrev pub close : ℕ → ℕ → Term → List Frame → Folded
 close k from e (After b op d ∷ fs) = if nat_lt (level op) k then folded from e (After b op d ∷ fs) else close k b (Binary b op d e) fs
+close k from e (Before b p ∷ fs) = close k b (prefixed_by p b e) fs
+close k from e (Chosen b c d ∷ fs) = if nat_lt 0 k then folded from e (Chosen b c d ∷ fs) else close k b (Choice b c d e) fs
 close k from e fs = folded from e fs
+
+-- a prefix, where an operand is wanted
+abbrev pub on_prefix : Option Prefix → ℕ → ℕ → List Frame → Moved
+on_prefix (Some p) n a fs = go n (Operand (suc n)) (Before a p ∷ fs)
+on_prefix None n a fs = None
 
 -- where an operand is wanted
 abbrev pub on_operand : ℕ → List Frame → Token → Moved
@@ -92,7 +139,21 @@ on_operand n fs t = elim t.kind [
   | kinds.Number v ↦ go n (Have n t.at (Number t.at v)) fs
   | kinds.Name x ↦ go n (Named n t.at x) fs
   | kinds.And ↦ go n (AfterAnd (suc n) t.at) fs
-  | kinds.OpenRound ↦ go n (Operand (suc n)) (InRound t.at n ∷ fs)
+  | kinds.OpenRound ↦ go n (Opened n t.at) fs
+  | _ ↦ on_prefix (prefix_of t.kind) n t.at fs
+]
+
+-- after a bracket where an operand was wanted
+abbrev pub on_opened : ℕ → ℕ → List Frame → Token → Moved
+on_opened n a fs t = elim t.kind [
+  | kinds.Type type ↦ go (suc n) (CastType n a type) fs
+  | kinds.SizeT ↦ go (suc n) (CastType n a Ulong) fs
+  | _ ↦ on_operand (suc n) (InRound a n ∷ fs) t
+]
+
+abbrev pub on_cast_type : ℕ → ℕ → IntType → List Frame → Token → Moved
+on_cast_type n a type fs t = elim t.kind [
+  | kinds.CloseRound ↦ go (suc n) (Operand (suc n)) (Before a (Convert type) ∷ fs)
   | _ ↦ None
 ]
 
@@ -113,31 +174,67 @@ on_comma e _ = None
 abbrev pub on_close_square : Term → List Frame → Moved
 on_close_square e (InElement a x n ∷ fs) = go (suc n) (Have n a (Element a x e)) fs
 on_close_square e (InAddress a b x n ∷ fs) = go (suc n) (Have n a (ElementAddress a b x e)) fs
-on_close_square e (InPart a x n ∷ fs) = go (suc n) (Aimed n a (Part a x e)) fs
+on_close_square e (InPart is_step a x n ∷ fs) = go (suc n) (Aimed is_step n a (Part a x e)) fs
 on_close_square e _ = None
 
+abbrev pub on_colon : ℕ → Term → List Frame → Moved
+on_colon n e (Asked b d ∷ fs) = go n (Operand n) (Chosen b d e ∷ fs)
+on_colon n e _ = None
+
+-- the semicolon of a step before its target
+abbrev pub end_step : Place → List Frame → Moved
+end_step p (InStep a n is_increment ∷ fs) = go n (Did n (Step a p is_increment)) fs
+end_step p _ = None
+
+-- the semicolon of a declaration
+abbrev pub end_declaration : ℕ → Stmt → List Frame → Moved
+end_declaration n s (InItems m ss ∷ fs) = go n (Item n) (InItems m (ThenStmt ss s) ∷ fs)
+end_declaration n s _ = None
+
 abbrev pub on_semicolon : Term → List Frame → Moved
-on_semicolon e (InAssign a n p ∷ fs) = go n (Did n (Assign a p None e)) fs
+on_semicolon e (InAssign a n p op ∷ fs) = go n (Did n (Assign a p op e)) fs
+on_semicolon e (InBehind true a n ∷ fs) = end_step (Behind a e) fs
+on_semicolon e (InDeclare a n kind b x ∷ fs) = end_declaration n (DeclareAs a kind b x e) fs
 on_semicolon e _ = None
 
--- after a whole expression
-abbrev pub end_expression : TokenKind → Term → List Frame → Moved
-end_expression kinds.CloseRound e fs = on_close_round e fs
-end_expression kinds.Comma e fs = on_comma e fs
-end_expression kinds.CloseSquare e fs = on_close_square e fs
-end_expression kinds.Semicolon e fs = on_semicolon e fs
-end_expression _ e fs = None
+-- an assignment, behind `*` and an operand
+abbrev pub on_assignment : Option (Option BinaryOperator) → Term → List Frame → Moved
+on_assignment (Some op) e (InBehind false a n ∷ fs) = go n (Operand n) (InAssign a n (Behind a e) op ∷ fs)
+on_assignment _ e _ = None
+
+-- Behind `*` and an operand at a statement's begin no operator can come.
+abbrev pub unless_behind : List Frame → Moved → Moved
+unless_behind (InBehind is_step a n ∷ fs) m = None
+unless_behind _ m = m
 
 abbrev pub wait : ℕ → InfixOperator → Folded → Moved
-wait n op x = go n (Operand (suc n)) (After x.from op x.term ∷ x.rest)
+wait n op x = unless_behind x.rest (go n (Operand (suc n)) (After x.from op x.term ∷ x.rest))
 
--- after an expression, where the next token is an operator or none
-abbrev pub after_operand : Option InfixOperator → ℕ → ℕ → Term → List Frame → TokenKind → Moved
-after_operand (Some op) n from e fs kind = wait n op (close (level op) from e fs)
-after_operand None n from e fs kind = let x = close 0 from e fs in end_expression kind x.term x.rest
+abbrev pub ask : ℕ → Folded → Moved
+ask n x = unless_behind x.rest (go n (Operand (suc n)) (Asked x.from x.term ∷ x.rest))
+
+-- after an expression, at a token that is no operator between two
+abbrev pub end_expression : TokenKind → ℕ → Folded → Moved
+end_expression kinds.Question n x = ask n x
+end_expression kinds.Colon n x = on_colon n x.term x.rest
+end_expression kinds.CloseRound n x = on_close_round x.term x.rest
+end_expression kinds.Comma n x = on_comma x.term x.rest
+end_expression kinds.CloseSquare n x = on_close_square x.term x.rest
+end_expression kinds.Semicolon n x = on_semicolon x.term x.rest
+end_expression kind n x = on_assignment (assign_of kind) x.term x.rest
+
+-- how tightly the operators before an expression must bind, so that they take it in front of a token
+abbrev pub asked_level : Option InfixOperator → TokenKind → ℕ
+asked_level (Some op) kind = level op
+asked_level None kinds.Question = 1
+asked_level None _ = 0
+
+abbrev pub after_folded : Option InfixOperator → TokenKind → ℕ → Folded → Moved
+after_folded (Some op) kind n x = wait n op x
+after_folded None kind n x = end_expression kind n x
 
 abbrev pub on_have : ℕ → ℕ → Term → List Frame → Token → Moved
-on_have n from e fs t = after_operand (infix_of t.kind) n from e fs t.kind
+on_have n from e fs t = after_folded (infix_of t.kind) t.kind n (close (asked_level (infix_of t.kind) t.kind) from e fs)
 
 -- after a name in an expression
 abbrev pub on_named : ℕ → ℕ → ℕ → List Frame → Token → Moved
@@ -170,6 +267,66 @@ on_call_open n fs t = elim t.kind [
   | _ ↦ on_operand n fs t
 ]
 
+-- ---- types
+
+abbrev pub is_global : AddressSpace → Bool
+is_global Global = true
+is_global _ = false
+
+-- where a type may begin
+abbrev pub on_typing : Purpose → List Frame → TokenKind → Moved
+on_typing p fs kind = elim kind [
+  | kinds.Type type ↦ go (nesting_of p) (AfterTyping p (Integer type)) fs
+  | kinds.SizeT ↦ when (takes_size p) (go (nesting_of p) (AfterTyping p (Integer Ulong)) fs)
+  | kinds.Space space ↦ when (is_global space) (go (nesting_of p) (AfterSpace p) fs)
+  | _ ↦ None
+]
+
+-- after a pointer's `const`
+abbrev pub on_after_const : Purpose → Bool → List Frame → TokenKind → Moved
+on_after_const p is_const fs kind = elim kind [
+  | kinds.Type type ↦ go (nesting_of p) (AfterElement p is_const type) fs
+  | kinds.SizeT ↦ when (takes_size p) (go (nesting_of p) (AfterElement p is_const Ulong) fs)
+  | _ ↦ None
+]
+
+abbrev pub on_after_space : Purpose → List Frame → TokenKind → Moved
+on_after_space p fs kinds.Const = go (nesting_of p) (AfterConst p) fs
+on_after_space p fs kind = on_after_const p false fs kind
+
+abbrev pub on_after_element : Purpose → Bool → IntType → List Frame → TokenKind → Moved
+on_after_element p is_const type fs kind = elim kind [
+  | kinds.Star ↦ go (nesting_of p) (AfterTyping p (pointer_to is_const type)) fs
+  | _ ↦ None
+]
+
+abbrev pub add_parameter : Parameter → Head → Head
+add_parameter p h = record { name_at = h.name_at; name = h.name; parameters = h.parameters ++ p ∷ [] }
+
+abbrev pub on_parameter_name : Parameter → List Frame → Moved
+on_parameter_name p (InHead h ∷ fs) = go 1 AfterParameter (InHead (add_parameter p h) ∷ fs)
+on_parameter_name p _ = None
+
+-- the name of what a type was read for
+abbrev pub on_typed_name : Purpose → VariableType → ℕ → ℕ → List Frame → Moved
+on_typed_name ForParameter kind b x fs = on_parameter_name (parameter_of kind b x) fs
+on_typed_name (ForDeclaration a n) kind b x fs = go n (Declared n a kind b x) fs
+
+abbrev pub on_after_typing : Purpose → VariableType → List Frame → Token → Moved
+on_after_typing p kind fs t = elim t.kind [
+  | kinds.Name x ↦ on_typed_name p kind t.at x fs
+  | _ ↦ None
+]
+
+-- ---- statements and declarations
+
+abbrev pub on_declared : ℕ → ℕ → VariableType → ℕ → ℕ → List Frame → Token → Moved
+on_declared n a kind b x fs t = elim t.kind [
+  | kinds.Assign ↦ go n (Operand n) (InDeclare a n kind b x ∷ fs)
+  | kinds.Semicolon ↦ end_declaration n (Declare a kind b x) fs
+  | _ ↦ None
+]
+
 -- where a function ends
 abbrev pub end_function : ℕ → Func → List Frame → Moved
 end_function n f (InProgram done ∷ fs) = go n Top (InProgram (ThenFunc done f) ∷ fs)
@@ -178,33 +335,71 @@ end_function n f _ = None
 -- where a block with these items ends
 abbrev pub end_items : ℕ → Stmts → List Frame → Moved
 end_items n ss (InBody h a ∷ fs) = end_function n (kernel h a ss) fs
+end_items n ss (InBlock a m ∷ fs) = go n (Did m (Block a ss)) fs
 end_items n ss _ = None
 
 abbrev pub on_close_brace : List Frame → Moved
 on_close_brace (InItems n ss ∷ fs) = end_items n ss fs
 on_close_brace _ = None
 
--- where a statement or the block's end is wanted
+-- where a statement may begin
+abbrev pub on_begin : ℕ → List Frame → Token → Moved
+on_begin n fs t = elim t.kind [
+  | kinds.Name x ↦ go n (BeginName false n t.at x) fs
+  | kinds.Star ↦ go n (Operand (suc n)) (InBehind false t.at n ∷ fs)
+  | kinds.PlusPlus ↦ go n (Aim (suc n)) (InStep t.at n true ∷ fs)
+  | kinds.MinusMinus ↦ go n (Aim (suc n)) (InStep t.at n false ∷ fs)
+  | kinds.OpenBrace ↦ go n (Item (suc n)) (InItems (suc n) NoStmt ∷ InBlock t.at n ∷ fs)
+  | kinds.Semicolon ↦ go n (Did n (Empty t.at)) fs
+  | _ ↦ None
+]
+
+-- where a statement, a declaration or the block's end is wanted
 abbrev pub on_item : ℕ → List Frame → Token → Moved
 on_item n fs t = elim t.kind [
-  | kinds.Name x ↦ go n (BeginName n t.at x) fs
   | kinds.CloseBrace ↦ on_close_brace fs
+  | kinds.Type type ↦ on_typing (ForDeclaration t.at n) fs t.kind
+  | kinds.SizeT ↦ on_typing (ForDeclaration t.at n) fs t.kind
+  | kinds.Space space ↦ on_typing (ForDeclaration t.at n) fs t.kind
+  | _ ↦ on_begin n fs t
+]
+
+-- where a step's target is wanted
+abbrev pub on_aim : ℕ → List Frame → Token → Moved
+on_aim n fs t = elim t.kind [
+  | kinds.Name x ↦ go n (BeginName true n t.at x) fs
+  | kinds.Star ↦ go n (Operand (suc n)) (InBehind true t.at n ∷ fs)
   | _ ↦ None
 ]
 
--- after the name with which a statement begins
-abbrev pub on_begin_name : ℕ → ℕ → ℕ → List Frame → Token → Moved
-on_begin_name n a x fs t = elim t.kind [
-  | kinds.OpenSquare ↦ go n (Operand (suc n)) (InPart a x n ∷ fs)
-  | kinds.OpenRound ↦ go n (CallOpen (suc n)) (InCall true a x n NoTerm ∷ fs)
+-- after a target: an assignment or a step
+abbrev pub on_placed : Option (Option BinaryOperator) → Option Bool → ℕ → ℕ → Place → List Frame → Moved
+on_placed (Some op) _ n a p fs = go n (Operand n) (InAssign a n p op ∷ fs)
+on_placed None (Some is_increment) n a p fs = go n (Ended n (Step a p is_increment)) fs
+on_placed None None n a p fs = None
+
+-- after a step's target
+abbrev pub on_stepped : Place → List Frame → TokenKind → Moved
+on_stepped p fs kind = elim kind [
+  | kinds.Semicolon ↦ end_step p fs
   | _ ↦ None
 ]
 
--- after what is assigned to
-abbrev pub on_aimed : ℕ → ℕ → Place → List Frame → Token → Moved
-on_aimed n a p fs t = elim t.kind [
-  | kinds.Assign ↦ go n (Operand n) (InAssign a n p ∷ fs)
-  | _ ↦ None
+-- after a name or an element that is a target
+abbrev pub on_aimed : Bool → ℕ → ℕ → Place → List Frame → TokenKind → Moved
+on_aimed false n a p fs kind = on_placed (assign_of kind) (step_of kind) n a p fs
+on_aimed true n a p fs kind = on_stepped p fs kind
+
+abbrev pub begin_call : Bool → ℕ → ℕ → ℕ → List Frame → Moved
+begin_call false n a x fs = go n (CallOpen (suc n)) (InCall true a x n NoTerm ∷ fs)
+begin_call true n a x fs = None
+
+-- after the name with which a statement, or a step's target, begins
+abbrev pub on_begin_name : Bool → ℕ → ℕ → ℕ → List Frame → Token → Moved
+on_begin_name is_step n a x fs t = elim t.kind [
+  | kinds.OpenSquare ↦ go n (Operand (suc n)) (InPart is_step a x n ∷ fs)
+  | kinds.OpenRound ↦ begin_call is_step n a x fs
+  | _ ↦ on_aimed is_step n a (Whole a x) fs t.kind
 ]
 
 -- after a statement but its semicolon
@@ -218,6 +413,8 @@ on_ended n s fs t = elim t.kind [
 abbrev pub on_did : ℕ → Stmt → List Frame → Token → Moved
 on_did n s (InItems m ss ∷ fs) t = on_item n (InItems m (ThenStmt ss s) ∷ fs) t
 on_did n s _ t = None
+
+-- ---- functions
 
 abbrev pub on_top : List Frame → Token → Moved
 on_top fs t = elim t.kind [
@@ -243,55 +440,11 @@ on_after_name a x fs t = elim t.kind [
   | _ ↦ None
 ]
 
-abbrev pub is_global : AddressSpace → Bool
-is_global Global = true
-is_global _ = false
-
-abbrev pub is_int : IntType → Bool
-is_int Int = true
-is_int _ = false
-
-abbrev pub when : Bool → Moved → Moved
-when true m = m
-when false m = None
-
--- where a parameter is wanted
-abbrev pub on_parameter : List Frame → Token → Moved
-on_parameter fs t = elim t.kind [
-  | kinds.Space space ↦ when (is_global space) (go 1 AfterSpace fs)
-  | _ ↦ None
-]
-
 -- after the bracket of a function's head
 abbrev pub on_head_open : List Frame → Token → Moved
 on_head_open fs t = elim t.kind [
   | kinds.CloseRound ↦ go 1 HeadDone fs
-  | _ ↦ on_parameter fs t
-]
-
-abbrev pub on_after_space : List Frame → Token → Moved
-on_after_space fs t = elim t.kind [
-  | kinds.Type type ↦ when (is_int type) (go 1 AfterType fs)
-  | _ ↦ None
-]
-
-abbrev pub on_after_type : List Frame → Token → Moved
-on_after_type fs t = elim t.kind [
-  | kinds.Star ↦ go 1 AfterStar fs
-  | _ ↦ None
-]
-
-abbrev pub add_parameter : Parameter → Head → Head
-add_parameter p h = record { name_at = h.name_at; name = h.name; parameters = h.parameters ++ p ∷ [] }
-
-abbrev pub on_parameter_name : Parameter → List Frame → Moved
-on_parameter_name p (InHead h ∷ fs) = go 1 AfterParameter (InHead (add_parameter p h) ∷ fs)
-on_parameter_name p _ = None
-
-abbrev pub on_after_star : List Frame → Token → Moved
-on_after_star fs t = elim t.kind [
-  | kinds.Name x ↦ on_parameter_name (pointer_parameter t.at x) fs
-  | _ ↦ None
+  | _ ↦ on_typing ForParameter fs t.kind
 ]
 
 abbrev pub on_after_parameter : List Frame → Token → Moved
@@ -315,23 +468,28 @@ abbrev pub step_in : Mode → List Frame → Token → Moved
 step_in (Operand n) fs t = on_operand n fs t
 step_in (Have n from e) fs t = on_have n from e fs t
 step_in (Named n a x) fs t = on_named n a x fs t
+step_in (Opened n a) fs t = on_opened n a fs t
+step_in (CastType n a type) fs t = on_cast_type n a type fs t
 step_in (AfterAnd n a) fs t = on_after_and n a fs t
 step_in (AndName n a b x) fs t = on_and_name n a b x fs t
 step_in (CallOpen n) fs t = on_call_open n fs t
 step_in (Item n) fs t = on_item n fs t
-step_in (BeginName n a x) fs t = on_begin_name n a x fs t
-step_in (Aimed n a p) fs t = on_aimed n a p fs t
+step_in (Aim n) fs t = on_aim n fs t
+step_in (BeginName is_step n a x) fs t = on_begin_name is_step n a x fs t
+step_in (Aimed is_step n a p) fs t = on_aimed is_step n a p fs t.kind
 step_in (Ended n s) fs t = on_ended n s fs t
 step_in (Did n s) fs t = on_did n s fs t
+step_in (AfterSpace p) fs t = on_after_space p fs t.kind
+step_in (AfterConst p) fs t = on_after_const p true fs t.kind
+step_in (AfterElement p is_const type) fs t = on_after_element p is_const type fs t.kind
+step_in (AfterTyping p kind) fs t = on_after_typing p kind fs t
+step_in (Declared n a kind b x) fs t = on_declared n a kind b x fs t
 step_in Top fs t = on_top fs t
 step_in AfterKernel fs t = on_after_kernel fs t
 step_in AfterVoid fs t = on_after_void fs t
 step_in (AfterName a x) fs t = on_after_name a x fs t
 step_in HeadOpen fs t = on_head_open fs t
-step_in WantParameter fs t = on_parameter fs t
-step_in AfterSpace fs t = on_after_space fs t
-step_in AfterType fs t = on_after_type fs t
-step_in AfterStar fs t = on_after_star fs t
+step_in WantParameter fs t = on_typing ForParameter fs t.kind
 step_in AfterParameter fs t = on_after_parameter fs t
 step_in HeadDone fs t = on_head_done fs t
 

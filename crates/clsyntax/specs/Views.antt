@@ -1,7 +1,9 @@
 -- What the parser holds, as the machine sees it.
-use Rattle.std.specs.Prelude.{◌≡◌, ℕ, Bool, false, nat_le, ◌<◌, List, [], ◌∷◌, map, None, Some, Result, Ok, Err, IfOk, Box, Vec}
+use Rattle.std.specs.Prelude.{◌≡◌, ℕ, Bool, true, false, nat_le, ◌<◌, List, [], ◌∷◌, map, Option, None, Some, Result, Ok, Err, is_some, IfOk, Box, Vec}
 use Rattle.std.specs.declared.alloc.Global.{Global}
 use Rattle.std.specs.declared.alloc.AllocError.{AllocError}
+use Rattle.clsyntax_lex.specs.declared.token.TokenKind.{TokenKind}
+use Rattle.clsyntax_lex.specs.declared.token.TokenKind.TheVariants as kinds
 use Rattle.clsyntax_lex.specs.declared.token.SyntaxFault.{SyntaxFault}
 use Rattle.clmodel.specs.declared.tree.Statement as rust_statement
 use Rattle.clmodel.specs.declared.tree.Function as rust_function
@@ -13,13 +15,21 @@ use Rattle.clsyntax.specs.Machine.{Moved}
 use Rattle.clsyntax.specs.Correct.{limit, UnlessMemory}
 use Rattle.clsyntax.specs.Reading.{moved}
 use Rattle.clsyntax.specs.declared.state.Head.{Head}
+use Rattle.clsyntax.specs.declared.state.Call.{Call}
+use Rattle.clsyntax.specs.declared.state.Prefix.{Prefix}
+use Rattle.clsyntax.specs.declared.state.Prefix.TheVariants as prefixes
+use Rattle.clsyntax.specs.declared.state.Purpose.{Purpose}
+use Rattle.clsyntax.specs.declared.state.Purpose.TheVariants as purposes
+use Rattle.clsyntax.specs.declared.state.HeadMode.{HeadMode}
+use Rattle.clsyntax.specs.declared.state.HeadMode.TheVariants as heads
 use Rattle.clsyntax.specs.declared.state.Frame.{Frame}
 use Rattle.clsyntax.specs.declared.state.Frame.TheVariants as frames
 use Rattle.clsyntax.specs.declared.state.Frames.{Frames, Empty, Inside'}
 use Rattle.clsyntax.specs.declared.state.Mode.{Mode}
 use Rattle.clsyntax.specs.declared.state.Mode.TheVariants as modes
 use Rattle.clsyntax.specs.declared.state.State.{State}
-use Rattle.clsyntax.specs.declared.state.Folded.{Folded}
+use Rattle.clsyntax.specs.declared.operators.Folded.{Folded}
+use Rattle.clsyntax.specs.declared.state.Stack.{Stack}
 use Rattle.clsyntax.specs.declared.state.Step.{Step}
 use Rattle.clsyntax.specs.declared.state.Step.TheVariants.{Refused, Deep, To}
 
@@ -32,15 +42,38 @@ funcs_of fs = then_funcs NoFunc (map func fs)
 abbrev pub head_of : Head → grammar.Head
 head_of h = record { name_at = h.name_at; name = h.name; parameters = h.parameters.items }
 
+abbrev pub prefix : Prefix → grammar.Prefix
+prefix (prefixes.Operator operator) = grammar.Operator operator
+prefix prefixes.Fetch = grammar.Fetch
+prefix (prefixes.Convert type) = grammar.Convert type
+
+abbrev pub maybe_prefix : Option Prefix → Option grammar.Prefix
+maybe_prefix None = None
+maybe_prefix (Some p) = Some (prefix p)
+
+abbrev pub purpose : Purpose → machine.Purpose
+purpose purposes.Parameter = machine.ForParameter
+purpose (purposes.Declaration at nesting) = machine.ForDeclaration at nesting
+
+abbrev pub in_call : Call → machine.Frame
+in_call c = machine.InCall c.is_statement c.at c.name c.nesting (terms c.arguments.items)
+
 abbrev pub frame_of : Frame → machine.Frame
 frame_of (frames.After from operator left) = machine.After from operator (term left.value)
+frame_of (frames.Before at p) = machine.Before at (prefix p)
+frame_of (frames.Asked from condition) = machine.Asked from (term condition.value)
+frame_of (frames.Chosen from condition chosen) = machine.Chosen from (term condition.value) (term chosen.value)
 frame_of (frames.InRound at nesting) = machine.InRound at nesting
 frame_of (frames.InElement at name nesting) = machine.InElement at name nesting
 frame_of (frames.InAddress at name_at name nesting) = machine.InAddress at name_at name nesting
-frame_of (frames.InCall is_statement at name nesting arguments) = machine.InCall is_statement at name nesting (terms arguments.items)
-frame_of (frames.InPart at name nesting) = machine.InPart at name nesting
-frame_of (frames.InAssign at nesting target) = machine.InAssign at nesting (place target.value)
+frame_of (frames.InCall call) = in_call call
+frame_of (frames.InPart is_step at name nesting) = machine.InPart is_step at name nesting
+frame_of (frames.InBehind is_step at nesting) = machine.InBehind is_step at nesting
+frame_of (frames.InStep at nesting is_increment) = machine.InStep at nesting is_increment
+frame_of (frames.InAssign at nesting target operator) = machine.InAssign at nesting (place target.value) operator
+frame_of (frames.InDeclare d) = machine.InDeclare d.at d.nesting d.kind d.name_at d.name
 frame_of (frames.InItems nesting body) = machine.InItems nesting (stmts_of body.items)
+frame_of (frames.InBlock at nesting) = machine.InBlock at nesting
 frame_of (frames.InBody head at) = machine.InBody (head_of head) at
 frame_of (frames.InHead head) = machine.InHead (head_of head)
 frame_of (frames.InProgram functions) = machine.InProgram (funcs_of functions.items)
@@ -49,40 +82,68 @@ abbrev pub frames_of : Frames → List machine.Frame
 frames_of Empty = []
 frames_of (Inside' frame p rest) = frame_of frame ∷ frames_of rest
 
+abbrev pub head_mode_of : HeadMode → machine.Mode
+head_mode_of heads.Top = machine.Top
+head_mode_of heads.AfterKernel = machine.AfterKernel
+head_mode_of heads.AfterVoid = machine.AfterVoid
+head_mode_of (heads.AfterName at name) = machine.AfterName at name
+head_mode_of heads.HeadOpen = machine.HeadOpen
+head_mode_of heads.WantParameter = machine.WantParameter
+head_mode_of heads.AfterParameter = machine.AfterParameter
+head_mode_of heads.HeadDone = machine.HeadDone
+
 abbrev pub mode_of : Mode → machine.Mode
 mode_of (modes.Operand nesting) = machine.Operand nesting
 mode_of (modes.Have nesting from value) = machine.Have nesting from (term value.value)
 mode_of (modes.Named nesting at name) = machine.Named nesting at name
+mode_of (modes.Opened nesting at) = machine.Opened nesting at
+mode_of (modes.CastType nesting at type) = machine.CastType nesting at type
 mode_of (modes.AfterAnd nesting at) = machine.AfterAnd nesting at
 mode_of (modes.AndName nesting at name_at name) = machine.AndName nesting at name_at name
 mode_of (modes.CallOpen nesting) = machine.CallOpen nesting
 mode_of (modes.Item nesting) = machine.Item nesting
-mode_of (modes.BeginName nesting at name) = machine.BeginName nesting at name
-mode_of (modes.Aimed nesting at target) = machine.Aimed nesting at (place target.value)
+mode_of (modes.Aim nesting) = machine.Aim nesting
+mode_of (modes.BeginName is_step nesting at name) = machine.BeginName is_step nesting at name
+mode_of (modes.Aimed is_step nesting at target) = machine.Aimed is_step nesting at (place target.value)
 mode_of (modes.Ended nesting statement) = machine.Ended nesting (stmt statement.value)
 mode_of (modes.Did nesting statement) = machine.Did nesting (stmt statement.value)
-mode_of modes.Top = machine.Top
-mode_of modes.AfterKernel = machine.AfterKernel
-mode_of modes.AfterVoid = machine.AfterVoid
-mode_of (modes.AfterName at name) = machine.AfterName at name
-mode_of modes.HeadOpen = machine.HeadOpen
-mode_of modes.WantParameter = machine.WantParameter
-mode_of modes.AfterSpace = machine.AfterSpace
-mode_of modes.AfterType = machine.AfterType
-mode_of modes.AfterStar = machine.AfterStar
-mode_of modes.AfterParameter = machine.AfterParameter
-mode_of modes.HeadDone = machine.HeadDone
+mode_of (modes.AfterSpace p) = machine.AfterSpace (purpose p)
+mode_of (modes.AfterConst p) = machine.AfterConst (purpose p)
+mode_of (modes.AfterElement p is_const type) = machine.AfterElement (purpose p) is_const type
+mode_of (modes.AfterTyping p kind) = machine.AfterTyping (purpose p) kind
+mode_of (modes.Declared d) = machine.Declared d.nesting d.at d.kind d.name_at d.name
+mode_of (modes.Head h) = head_mode_of h
 
 abbrev pub state_of : State → machine.State
 state_of s = machine.in_mode (mode_of s.mode) (frames_of s.frames.value)
 
-abbrev pub folded_of : Folded → machine.Folded
-folded_of f = machine.folded f.from (term f.value.value) (frames_of f.frames.value)
+abbrev pub opened : Stack → List machine.Frame
+opened s = frames_of s.frames.value
 
--- the frame in front is an operator that binds at least so tightly
+abbrev pub folded_of : Folded → machine.Folded
+folded_of f = machine.folded f.from (term f.value.value) (opened f.stack)
+
+-- an expression takes the frame in front, where operators bind at least so tightly
 abbrev pub takes_front : ℕ → List machine.Frame → Bool
 takes_front k (machine.After b op d ∷ fs) = nat_le k (level op)
+takes_front k (machine.Before b p ∷ fs) = true
+takes_front k (machine.Chosen b c d ∷ fs) = nat_le k 0
 takes_front k _ = false
+
+-- an operand or the type of a cast begins with the token
+abbrev pub is_operand : TokenKind → Bool
+is_operand (kinds.Type type) = true
+is_operand kinds.SizeT = true
+is_operand (kinds.Number v) = true
+is_operand (kinds.Name x) = true
+is_operand kinds.And = true
+is_operand kinds.OpenRound = true
+is_operand kind = is_some (grammar.prefix_of kind)
+
+-- the frame in front is `*` at a statement's begin
+abbrev pub is_behind : List machine.Frame → Bool
+is_behind (machine.InBehind is_step a n ∷ fs) = true
+is_behind _ = false
 
 -- a move, at a token that is nested too deep
 abbrev pub IsDeep : Moved → Type 0

@@ -4,78 +4,65 @@
 ghost use Rattle.std.specs.Prelude.{◌≡◌};
 ghost use Rattle.clmodel.specs.Tree as tree;
 ghost use Rattle.clmodel.specs.Tree.{term, terms};
+ghost use Rattle.clsyntax.specs.Grammar as grammar;
 ghost use Rattle.clsyntax.specs.Machine as machine;
-ghost use Rattle.clsyntax.specs.Views.{frames_of, Steps};
+ghost use Rattle.clsyntax.specs.Views.{opened, folded_of, is_operand, Steps};
 
-use crate::operators::{close, infix_of, level};
-use crate::state::{Frame, Frames, Mode, Step, deeper, go, push};
-use clmodel::tree::{Expression, Statement, Target};
+use crate::operators::{Folded, assign_of, close, infix_of, is_star, level, prefix_of};
+use crate::state::{Call, Frame, Mode, Moved, Stack, Step, deeper};
+use crate::statements::{end_declaration, end_step};
+use clmodel::tree::{Expression, InfixOperator, Statement, Target};
+use clnum::IntType;
 use clsyntax_lex::token::{Token, TokenKind};
-use std::alloc::{AllocError, Global};
-
-/// The step of a token with a nesting to an expression that was read.
-fn have(
-    alloc: Global,
-    token_nesting: u32,
-    nesting: u32,
-    from: u32,
-    value: Expression,
-    frames: Box<Frames>,
-) -> Result<Step, AllocError>
-    ensures { Steps result (machine.go token_nesting (machine.Have nesting from (term value)) (frames_of frames.value)) }
-{
-    let value = Box::new(alloc, value)?;
-    go(
-        alloc,
-        token_nesting,
-        Mode::Have {
-            nesting,
-            from,
-            value,
-        },
-        frames,
-    )
-}
 
 /// Where an operand is wanted.
-pub(crate) fn on_operand(
-    alloc: Global,
-    nesting: u32,
-    frames: Box<Frames>,
-    token: Token,
-) -> Result<Step, AllocError>
-    ensures { Steps result (machine.on_operand nesting (frames_of frames.value) token) }
+pub(crate) fn on_operand(nesting: u32, stack: Stack, token: Token) -> Moved
+    ensures { Steps result (machine.on_operand nesting (opened stack) token) }
 {
     let Token { kind, at } = token;
     match kind {
-        TokenKind::Number(value) => have(
-            alloc,
-            nesting,
-            nesting,
-            at,
-            Expression::Number { at, value },
-            frames,
-        ),
-        TokenKind::Name(name) => go(alloc, nesting, Mode::Named { nesting, at, name }, frames),
-        TokenKind::And => {
-            let Some(inner) = deeper(nesting) else {
-                return Ok(Step::Deep);
-            };
-            go(
-                alloc,
-                nesting,
-                Mode::AfterAnd { nesting: inner, at },
-                frames,
-            )
+        TokenKind::Number(value) => {
+            let value = Box::new(stack.alloc, Expression::Number { at, value })?;
+            stack.go(nesting, Mode::Have(nesting, at, value))
         }
-        TokenKind::OpenRound => {
-            let Some(inner) = deeper(nesting) else {
-                return Ok(Step::Deep);
-            };
-            let frames = push(alloc, Frame::InRound { at, nesting }, frames)?;
-            go(alloc, nesting, Mode::Operand { nesting: inner }, frames)
-        }
-        _ => Ok(Step::Refused),
+        TokenKind::Name(name) => stack.go(nesting, Mode::Named { nesting, at, name }),
+        TokenKind::And => match deeper(nesting) {
+            Some(inner) => stack.go(nesting, Mode::AfterAnd { nesting: inner, at }),
+            None => Ok(Step::Deep),
+        },
+        TokenKind::OpenRound => stack.go(nesting, Mode::Opened { nesting, at }),
+        _ => match prefix_of(kind) {
+            Some(prefix) => stack.open(nesting, Frame::Before { at, prefix }),
+            None => Ok(Step::Refused),
+        },
+    }
+}
+
+/// Whether an operand or the type of a cast begins with a token.
+fn begins_operand(kind: TokenKind) -> bool
+    ensures { result ≡ is_operand kind }
+{
+    match kind {
+        TokenKind::Type(_) | TokenKind::SizeT | TokenKind::Number(_) | TokenKind::Name(_) => true,
+        TokenKind::And | TokenKind::OpenRound => true,
+        _ => prefix_of(kind).is_some(),
+    }
+}
+
+/// After a bracket where an operand was wanted: the type of a cast, or an operand.
+pub(crate) fn on_opened(nesting: u32, at: u32, stack: Stack, token: Token) -> Moved
+    ensures { Steps result (machine.on_opened nesting at (opened stack) token) }
+{
+    if !begins_operand(token.kind) {
+        return Ok(Step::Refused);
+    }
+    let Some(inner) = deeper(nesting) else {
+        return Ok(Step::Deep);
+    };
+    match token.kind {
+        TokenKind::Type(target) => stack.go(inner, Mode::CastType(nesting, at, target)),
+        TokenKind::SizeT => stack.go(inner, Mode::CastType(nesting, at, IntType::Ulong)),
+        _ => on_operand(inner, stack.push(Frame::InRound { at, nesting })?, token),
     }
 }
 
@@ -90,389 +77,250 @@ fn call_of(at: u32, name: u32, arguments: Vec<Expression>) -> Expression
 }
 
 /// Where a call's bracket closes.
-fn end_call(
-    alloc: Global,
-    is_statement: bool,
-    at: u32,
-    name: u32,
-    nesting: u32,
-    arguments: Vec<Expression>,
-    frames: Box<Frames>,
-) -> Result<Step, AllocError>
-    ensures { Steps result (machine.end_call is_statement at name nesting (terms arguments.items) (frames_of frames.value)) }
+fn end_call(call: Call, stack: Stack) -> Moved
+    ensures { Steps result (machine.end_call call.is_statement call.at call.name call.nesting (terms call.arguments.items) (opened stack)) }
 {
+    let Call {
+        is_statement,
+        at,
+        name,
+        nesting,
+        arguments,
+    } = call;
     let Some(inner) = deeper(nesting) else {
         return Ok(Step::Deep);
     };
     if is_statement {
         let statement = Box::new(
-            alloc,
+            stack.alloc,
             Statement::Call {
                 at,
                 name,
                 arguments,
             },
         )?;
-        go(alloc, inner, Mode::Ended { nesting, statement }, frames)
+        stack.go(inner, Mode::Ended(nesting, statement))
     } else {
-        have(
-            alloc,
-            inner,
-            nesting,
-            at,
-            call_of(at, name, arguments),
-            frames,
-        )
+        let value = Box::new(stack.alloc, call_of(at, name, arguments))?;
+        stack.go(inner, Mode::Have(nesting, at, value))
     }
 }
 
+/// Where an expression's or an argument's bracket closes.
 #[tactic(auto, using(crate::proofs::Lists::terms_then))]
-fn on_close_round(
-    alloc: Global,
-    value: Box<Expression>,
-    frames: Box<Frames>,
-) -> Result<Step, AllocError>
-    ensures { Steps result (machine.on_close_round (term value.value) (frames_of frames.value)) }
+fn on_close_round(value: Box<Expression>, stack: Stack) -> Moved
+    ensures { Steps result (machine.on_close_round (term value.value) (opened stack)) }
 {
-    match Box::into_inner(frames) {
-        Frames::Inside(frame, rest) => match frame {
-            Frame::InRound { at, nesting } => {
-                let Some(inner) = deeper(nesting) else {
-                    return Ok(Step::Deep);
-                };
-                go(
-                    alloc,
-                    inner,
-                    Mode::Have {
-                        nesting,
-                        from: at,
-                        value,
-                    },
-                    rest,
-                )
-            }
-            Frame::InCall {
-                is_statement,
-                at,
-                name,
-                nesting,
-                arguments,
-            } => {
-                let mut arguments = arguments;
-                arguments.push(Box::into_inner(value))?;
-                end_call(alloc, is_statement, at, name, nesting, arguments, rest)
-            }
-            _ => Ok(Step::Refused),
-        },
-        Frames::Empty => Ok(Step::Refused),
+    let Some((frame, stack)) = stack.pop() else {
+        return Ok(Step::Refused);
+    };
+    match frame {
+        Frame::InRound { at, nesting } => stack.close(nesting, at, value),
+        Frame::InCall(mut call) => {
+            call.arguments.push(Box::into_inner(value))?;
+            end_call(call, stack)
+        }
+        _ => Ok(Step::Refused),
     }
 }
 
 /// Between two arguments.
 #[tactic(auto, using(crate::proofs::Lists::terms_then))]
-fn on_comma(alloc: Global, value: Box<Expression>, frames: Box<Frames>) -> Result<Step, AllocError>
-    ensures { Steps result (machine.on_comma (term value.value) (frames_of frames.value)) }
+fn on_comma(value: Box<Expression>, stack: Stack) -> Moved
+    ensures { Steps result (machine.on_comma (term value.value) (opened stack)) }
 {
-    match Box::into_inner(frames) {
-        Frames::Inside(frame, rest) => match frame {
-            Frame::InCall {
-                is_statement,
-                at,
-                name,
-                nesting,
-                arguments,
-            } => {
-                let Some(inner) = deeper(nesting) else {
-                    return Ok(Step::Deep);
-                };
-                let mut arguments = arguments;
-                arguments.push(Box::into_inner(value))?;
-                let call = Frame::InCall {
-                    is_statement,
-                    at,
-                    name,
-                    nesting,
-                    arguments,
-                };
-                let frames = push(alloc, call, rest)?;
-                go(alloc, inner, Mode::Operand { nesting: inner }, frames)
-            }
-            _ => Ok(Step::Refused),
-        },
-        Frames::Empty => Ok(Step::Refused),
-    }
-}
-
-/// Where an index ends.
-fn on_close_square(
-    alloc: Global,
-    index: Box<Expression>,
-    frames: Box<Frames>,
-) -> Result<Step, AllocError>
-    ensures { Steps result (machine.on_close_square (term index.value) (frames_of frames.value)) }
-{
-    match Box::into_inner(frames) {
-        Frames::Inside(frame, rest) => match frame {
-            Frame::InElement { at, name, nesting } => {
-                let Some(inner) = deeper(nesting) else {
-                    return Ok(Step::Deep);
-                };
-                have(
-                    alloc,
-                    inner,
-                    nesting,
-                    at,
-                    Expression::Element { at, name, index },
-                    rest,
-                )
-            }
-            Frame::InAddress {
-                at,
-                name_at,
-                name,
-                nesting,
-            } => {
-                let Some(inner) = deeper(nesting) else {
-                    return Ok(Step::Deep);
-                };
-                let address = Expression::ElementAddress {
-                    at,
-                    name_at,
-                    name,
-                    index,
-                };
-                have(alloc, inner, nesting, at, address, rest)
-            }
-            Frame::InPart { at, name, nesting } => {
-                let Some(inner) = deeper(nesting) else {
-                    return Ok(Step::Deep);
-                };
-                let target = Box::new(alloc, Target::Element { at, name, index })?;
-                go(
-                    alloc,
-                    inner,
-                    Mode::Aimed {
-                        nesting,
-                        at,
-                        target,
-                    },
-                    rest,
-                )
-            }
-            _ => Ok(Step::Refused),
-        },
-        Frames::Empty => Ok(Step::Refused),
-    }
-}
-
-/// Where a statement with an expression at its end ends.
-fn on_semicolon(
-    alloc: Global,
-    value: Box<Expression>,
-    frames: Box<Frames>,
-) -> Result<Step, AllocError>
-    ensures { Steps result (machine.on_semicolon (term value.value) (frames_of frames.value)) }
-{
-    match Box::into_inner(frames) {
-        Frames::Inside(frame, rest) => match frame {
-            Frame::InAssign {
-                at,
-                nesting,
-                target,
-            } => {
-                let statement = Box::new(
-                    alloc,
-                    Statement::Assign {
-                        at,
-                        target,
-                        operator: None,
-                        value,
-                    },
-                )?;
-                go(alloc, nesting, Mode::Did { nesting, statement }, rest)
-            }
-            _ => Ok(Step::Refused),
-        },
-        Frames::Empty => Ok(Step::Refused),
-    }
-}
-
-/// After a whole expression.
-fn end_expression(
-    alloc: Global,
-    value: Box<Expression>,
-    frames: Box<Frames>,
-    token: Token,
-) -> Result<Step, AllocError>
-    ensures { Steps result (machine.end_expression token.kind (term value.value) (frames_of frames.value)) }
-{
-    match token.kind {
-        TokenKind::CloseRound => on_close_round(alloc, value, frames),
-        TokenKind::Comma => on_comma(alloc, value, frames),
-        TokenKind::CloseSquare => on_close_square(alloc, value, frames),
-        TokenKind::Semicolon => on_semicolon(alloc, value, frames),
+    let Some((frame, stack)) = stack.pop() else {
+        return Ok(Step::Refused);
+    };
+    match frame {
+        Frame::InCall(mut call) => {
+            let Some(inner) = deeper(call.nesting) else {
+                return Ok(Step::Deep);
+            };
+            call.arguments.push(Box::into_inner(value))?;
+            stack.want(inner, Frame::InCall(call))
+        }
         _ => Ok(Step::Refused),
     }
 }
 
-/// After an expression.
-pub(crate) fn on_have(
-    alloc: Global,
-    nesting: u32,
-    from: u32,
-    value: Box<Expression>,
-    frames: Box<Frames>,
-    token: Token,
-) -> Result<Step, AllocError>
-    ensures { Steps result (machine.on_have nesting from (term value.value) (frames_of frames.value) token) }
+/// Where an index ends.
+fn on_close_square(index: Box<Expression>, stack: Stack) -> Moved
+    ensures { Steps result (machine.on_close_square (term index.value) (opened stack)) }
 {
-    match infix_of(token.kind) {
-        Some(operator) => {
-            let Some(inner) = deeper(nesting) else {
-                return Ok(Step::Deep);
-            };
-            let folded = close(alloc, level(operator), from, value, frames)?;
-            let after = Frame::After {
-                from: folded.from,
-                operator,
-                left: folded.value,
-            };
-            let frames = push(alloc, after, folded.frames)?;
-            go(alloc, nesting, Mode::Operand { nesting: inner }, frames)
+    let Some((frame, stack)) = stack.pop() else {
+        return Ok(Step::Refused);
+    };
+    match frame {
+        Frame::InElement { at, name, nesting } => {
+            let element = Box::new(stack.alloc, Expression::Element { at, name, index })?;
+            stack.close(nesting, at, element)
         }
-        None => {
-            let folded = close(alloc, 0, from, value, frames)?;
-            end_expression(alloc, folded.value, folded.frames, token)
-        }
-    }
-}
-
-/// After a name in an expression.
-pub(crate) fn on_named(
-    alloc: Global,
-    nesting: u32,
-    at: u32,
-    name: u32,
-    frames: Box<Frames>,
-    token: Token,
-) -> Result<Step, AllocError>
-    ensures { Steps result (machine.on_named nesting at name (frames_of frames.value) token) }
-{
-    match token.kind {
-        TokenKind::OpenSquare => {
-            let Some(inner) = deeper(nesting) else {
-                return Ok(Step::Deep);
-            };
-            let frames = push(alloc, Frame::InElement { at, name, nesting }, frames)?;
-            go(alloc, nesting, Mode::Operand { nesting: inner }, frames)
-        }
-        TokenKind::OpenRound => {
-            let Some(inner) = deeper(nesting) else {
-                return Ok(Step::Deep);
-            };
-            let call = Frame::InCall {
-                is_statement: false,
+        Frame::InAddress(at, name_at, name, nesting) => {
+            let address = Expression::ElementAddress {
                 at,
+                name_at,
                 name,
-                nesting,
-                arguments: Vec::new(alloc),
+                index,
             };
-            let frames = push(alloc, call, frames)?;
-            go(alloc, nesting, Mode::CallOpen { nesting: inner }, frames)
+            let address = Box::new(stack.alloc, address)?;
+            stack.close(nesting, at, address)
         }
-        _ => {
-            let value = Box::new(alloc, Expression::Variable { at, name })?;
-            on_have(alloc, nesting, at, value, frames, token)
+        Frame::InPart(is_step, at, name, nesting) => {
+            let target = Box::new(stack.alloc, Target::Element { at, name, index })?;
+            match deeper(nesting) {
+                Some(inner) => stack.go(inner, Mode::Aimed(is_step, nesting, at, target)),
+                None => Ok(Step::Deep),
+            }
         }
+        _ => Ok(Step::Refused),
     }
 }
 
-pub(crate) fn on_after_and(
-    alloc: Global,
-    nesting: u32,
-    at: u32,
-    frames: Box<Frames>,
-    token: Token,
-) -> Result<Step, AllocError>
-    ensures { Steps result (machine.on_after_and nesting at (frames_of frames.value) token) }
+/// Between the two values of a choice.
+fn on_colon(nesting: u32, chosen: Box<Expression>, stack: Stack) -> Moved
+    ensures { Steps result (machine.on_colon nesting (term chosen.value) (opened stack)) }
 {
-    match token.kind {
-        TokenKind::Name(name) => go(
-            alloc,
+    let Some((frame, stack)) = stack.pop() else {
+        return Ok(Step::Refused);
+    };
+    match frame {
+        Frame::Asked(from, condition) => stack.want(
             nesting,
-            Mode::AndName {
-                nesting,
-                at,
-                name_at: token.at,
-                name,
-            },
-            frames,
+            Frame::Chosen(from, condition, chosen),
         ),
         _ => Ok(Step::Refused),
     }
 }
 
-pub(crate) fn on_and_name(
-    alloc: Global,
-    nesting: u32,
-    at: u32,
-    name_at: u32,
-    name: u32,
-    frames: Box<Frames>,
-    token: Token,
-) -> Result<Step, AllocError>
-    ensures { Steps result (machine.on_and_name nesting at name_at name (frames_of frames.value) token) }
+/// Where a statement with an expression at its end ends.
+fn on_semicolon(value: Box<Expression>, stack: Stack) -> Moved
+    ensures { Steps result (machine.on_semicolon (term value.value) (opened stack)) }
 {
-    match token.kind {
-        TokenKind::OpenSquare => {
-            let Some(inner) = deeper(nesting) else {
-                return Ok(Step::Deep);
+    let Some((frame, stack)) = stack.pop() else {
+        return Ok(Step::Refused);
+    };
+    match frame {
+        Frame::InAssign(at, nesting, target, operator) => {
+            let assign = Statement::Assign {
+                at,
+                target,
+                operator,
+                value,
             };
-            let frames = push(
-                alloc,
-                Frame::InAddress {
-                    at,
-                    name_at,
-                    name,
-                    nesting,
-                },
-                frames,
-            )?;
-            go(alloc, nesting, Mode::Operand { nesting: inner }, frames)
+            let statement = Box::new(stack.alloc, assign)?;
+            stack.go(nesting, Mode::Did(nesting, statement))
+        }
+        Frame::InBehind(true, at, _) => {
+            let target = Box::new(stack.alloc, Target::Dereference { at, pointer: value })?;
+            end_step(target, stack)
+        }
+        Frame::InDeclare(declared) => end_declaration(declared, Some(value), stack),
+        _ => Ok(Step::Refused),
+    }
+}
+
+/// Where an assignment follows `*` and an operand.
+fn on_assignment(kind: TokenKind, pointer: Box<Expression>, stack: Stack) -> Moved
+    ensures { Steps result (machine.on_assignment (grammar.assign_of kind) (term pointer.value) (opened stack)) }
+{
+    let Some(operator) = assign_of(kind) else {
+        return Ok(Step::Refused);
+    };
+    let Some((frame, stack)) = stack.pop() else {
+        return Ok(Step::Refused);
+    };
+    match frame {
+        Frame::InBehind(false, at, nesting) => {
+            let target = Box::new(stack.alloc, Target::Dereference { at, pointer })?;
+            stack.want(nesting, Frame::InAssign(at, nesting, target, operator))
         }
         _ => Ok(Step::Refused),
     }
 }
 
-fn close_call(alloc: Global, frames: Box<Frames>) -> Result<Step, AllocError>
-    ensures { Steps result (machine.close_call (frames_of frames.value)) }
+/// After an expression, at a token that is no operator between two.
+fn end_expression(kind: TokenKind, nesting: u32, folded: Folded) -> Moved
+    ensures { Steps result (machine.end_expression kind nesting (folded_of folded)) }
 {
-    match Box::into_inner(frames) {
-        Frames::Inside(frame, rest) => match frame {
-            Frame::InCall {
-                is_statement,
-                at,
-                name,
-                nesting,
-                arguments,
-            } => { end_call(alloc, is_statement, at, name, nesting, arguments, rest) }
-            _ => Ok(Step::Refused),
-        },
-        Frames::Empty => Ok(Step::Refused),
+    let Folded { from, value, stack } = folded;
+    match kind {
+        TokenKind::Question if is_star(&stack.frames) => Ok(Step::Refused),
+        TokenKind::Question => stack.open(nesting, Frame::Asked(from, value)),
+        TokenKind::Colon => on_colon(nesting, value, stack),
+        TokenKind::CloseRound => on_close_round(value, stack),
+        TokenKind::Comma => on_comma(value, stack),
+        TokenKind::CloseSquare => on_close_square(value, stack),
+        TokenKind::Semicolon => on_semicolon(value, stack),
+        _ => on_assignment(kind, value, stack),
+    }
+}
+
+/// How tightly the operators before an expression must bind, so that they take it in front of a token.
+fn asked_level(between: Option<InfixOperator>, kind: TokenKind) -> u32
+    ensures { result ≡ machine.asked_level between kind }
+{
+    match (between, kind) {
+        (Some(operator), _) => level(operator),
+        (None, TokenKind::Question) => 1,
+        _ => 0,
+    }
+}
+
+/// After an expression.
+pub(crate) fn on_have(
+    nesting: u32,
+    from: u32,
+    value: Box<Expression>,
+    stack: Stack,
+    token: Token,
+) -> Moved
+    ensures { Steps result (machine.on_have nesting from (term value.value) (opened stack) token) }
+{
+    let infix = infix_of(token.kind);
+    let folded = close(asked_level(infix, token.kind), from, value, stack)?;
+    match infix {
+        Some(_) if is_star(&folded.stack.frames) => Ok(Step::Refused),
+        Some(operator) => {
+            let Folded { from, value, stack } = folded;
+            stack.open(nesting, Frame::After(from, operator, value))
+        }
+        None => end_expression(token.kind, nesting, folded),
+    }
+}
+
+/// After a name in an expression.
+pub(crate) fn on_named(nesting: u32, at: u32, name: u32, stack: Stack, token: Token) -> Moved
+    ensures { Steps result (machine.on_named nesting at name (opened stack) token) }
+{
+    match token.kind {
+        TokenKind::OpenSquare => stack.open(nesting, Frame::InElement { at, name, nesting }),
+        TokenKind::OpenRound => stack.call(false, at, name, nesting),
+        _ => {
+            let value = Box::new(stack.alloc, Expression::Variable { at, name })?;
+            on_have(nesting, at, value, stack, token)
+        }
+    }
+}
+
+fn close_call(stack: Stack) -> Moved
+    ensures { Steps result (machine.close_call (opened stack)) }
+{
+    let Some((frame, stack)) = stack.pop() else {
+        return Ok(Step::Refused);
+    };
+    match frame {
+        Frame::InCall(call) => end_call(call, stack),
+        _ => Ok(Step::Refused),
     }
 }
 
 /// After the bracket of a call.
-pub(crate) fn on_call_open(
-    alloc: Global,
-    nesting: u32,
-    frames: Box<Frames>,
-    token: Token,
-) -> Result<Step, AllocError>
-    ensures { Steps result (machine.on_call_open nesting (frames_of frames.value) token) }
+pub(crate) fn on_call_open(nesting: u32, stack: Stack, token: Token) -> Moved
+    ensures { Steps result (machine.on_call_open nesting (opened stack) token) }
 {
     match token.kind {
-        TokenKind::CloseRound => close_call(alloc, frames),
-        _ => on_operand(alloc, nesting, frames, token),
+        TokenKind::CloseRound => close_call(stack),
+        _ => on_operand(nesting, stack, token),
     }
 }

@@ -8,7 +8,7 @@ ghost use Rattle.clsyntax.specs.Reading.{at_end, read_from};
 ghost use Rattle.clsyntax.specs.Views.{funcs_of, frames_of, state_of, IsAdvance, IsRead};
 
 use crate::machine::step;
-use crate::state::{Frame, Frames, LIMIT, Mode, State, Step};
+use crate::state::{Frame, Frames, HeadMode, LIMIT, Mode, State, Step};
 use clmodel::text::Name;
 use clmodel::tree::Function;
 use clsyntax_lex::token::{SyntaxFault, Token};
@@ -19,14 +19,12 @@ fn begin(alloc: Global) -> Result<Box<State>, AllocError>
     ensures { IfOk result (λ state. state_of state.value ≡ begun) }
 {
     let below = Box::new(alloc, Frames::Empty)?;
-    let program = Frame::InProgram {
-        functions: Vec::new(alloc),
-    };
+    let program = Frame::InProgram(Vec::new(alloc));
     let frames = Box::new(alloc, Frames::Inside(program, below))?;
     let state = Box::new(
         alloc,
         State {
-            mode: Mode::Top,
+            mode: Mode::Head(HeadMode::Top),
             frames,
         },
     )?;
@@ -75,7 +73,7 @@ fn program_of(frames: Frames, length: u32) -> Result<Vec<Function>, SyntaxFault>
 {
     match frames {
         Frames::Inside(frame, below) => match frame {
-            Frame::InProgram { functions } => whole(functions, Box::into_inner(below), length),
+            Frame::InProgram(functions) => whole(functions, Box::into_inner(below), length),
             _ => Err(SyntaxFault::Unexpected { at: length }),
         },
         Frames::Empty => Err(SyntaxFault::Unexpected { at: length }),
@@ -88,7 +86,7 @@ fn finish(state: Box<State>, length: u32) -> Result<Vec<Function>, SyntaxFault>
 {
     let State { mode, frames } = Box::into_inner(state);
     match mode {
-        Mode::Top => program_of(Box::into_inner(frames), length),
+        Mode::Head(HeadMode::Top) => program_of(Box::into_inner(frames), length),
         _ => Err(SyntaxFault::Unexpected { at: length }),
     }
 }

@@ -1,15 +1,66 @@
-//! What the parser holds between two tokens.
+//! What the parser holds between two tokens. A `nesting` is that of the next token, with something open that outside of it.
 #![tactic(auto)]
 
-ghost use Rattle.std.specs.Prelude.{◌≡◌, ◌∷◌, suc, ◌<◌, IfOk, MatchOption};
+ghost use Rattle.std.specs.Prelude.{◌≡◌, [], ◌∷◌, suc, ◌<◌, IfOk, MatchOption};
+ghost use Rattle.clmodel.specs.Tree.{term, NoTerm};
+ghost use Rattle.clsyntax.specs.Grammar as grammar;
 ghost use Rattle.clsyntax.specs.Machine as machine;
-ghost use Rattle.clsyntax.specs.Views.{frames_of, frame_of, mode_of, state_of, Steps};
+ghost use Rattle.clsyntax.specs.Views.{opened, frame_of, mode_of, purpose, Steps};
 
-use clmodel::tree::{Expression, Function, InfixOperator, Parameter, Statement, Target};
+use clmodel::tree::{
+    Expression, Function, InfixOperator, Parameter, Statement, Target, VariableType,
+};
+use clnum::{BinaryOperator, IntType, UnaryOperator};
 use std::alloc::{AllocError, Global};
 
 /// How deep tokens may be nested.
 pub(crate) const LIMIT: u32 = 64;
+
+/// What stands before an operand (C99 6.5.3.2, 6.5.3.3 and 6.5.4).
+#[derive(Clone, Copy)]
+pub(crate) enum Prefix {
+    Operator(UnaryOperator),
+    /// `*`
+    Fetch,
+    /// `(type)`
+    Convert(IntType),
+}
+
+/// What a type is read for.
+#[derive(Clone, Copy)]
+pub(crate) enum Purpose {
+    Parameter,
+    Declaration { at: u32, nesting: u32 },
+}
+
+impl Purpose {
+    /// The nesting of a type's tokens.
+    pub(crate) fn nesting(self) -> u32
+        ensures { result ≡ machine.nesting_of (purpose self) }
+    {
+        match self {
+            Purpose::Parameter => 1,
+            Purpose::Declaration { nesting, .. } => nesting,
+        }
+    }
+
+    /// Whether the type may be `size_t` (OpenCL 1.2, section 6.9).
+    pub(crate) fn takes_size(self) -> bool
+        ensures { result ≡ machine.takes_size (purpose self) }
+    {
+        matches!(self, Purpose::Declaration { .. })
+    }
+}
+
+/// A type and a name of that type; `at` is where the type begins.
+#[derive(Clone, Copy)]
+pub(crate) struct Declared {
+    pub nesting: u32,
+    pub at: u32,
+    pub kind: VariableType,
+    pub name_at: u32,
+    pub name: u32,
+}
 
 /// What stands before a function's body.
 #[derive(Drop)]
@@ -19,71 +70,54 @@ pub(crate) struct Head {
     pub parameters: Vec<Parameter>,
 }
 
-/// Something open. `nesting` is that outside of it.
+/// `name(` and the arguments so far.
+#[derive(Drop)]
+pub(crate) struct Call {
+    pub is_statement: bool,
+    pub at: u32,
+    pub name: u32,
+    pub nesting: u32,
+    pub arguments: Vec<Expression>,
+}
+
+/// Something open.
 #[derive(Drop)]
 pub(crate) enum Frame {
-    /// An operator that waits for its right operand; `from` is where its left operand begins
-    After {
-        from: u32,
-        operator: InfixOperator,
-        left: Box<Expression>,
-    },
+    /// An operator that waits for its right operand, and where its left one begins
+    After(u32, InfixOperator, Box<Expression>),
+    /// A prefix that waits for its operand
+    Before { at: u32, prefix: Prefix },
+    /// `condition ?`, and where it begins
+    Asked(u32, Box<Expression>),
+    /// `condition ? chosen :`, and where it begins
+    Chosen(u32, Box<Expression>, Box<Expression>),
     /// `(`
-    InRound {
-        at: u32,
-        nesting: u32,
-    },
+    InRound { at: u32, nesting: u32 },
     /// `name[` in an expression
-    InElement {
-        at: u32,
-        name: u32,
-        nesting: u32,
-    },
-    /// `&name[`
-    InAddress {
-        at: u32,
-        name_at: u32,
-        name: u32,
-        nesting: u32,
-    },
-    /// `name(` and the arguments so far
-    InCall {
-        is_statement: bool,
-        at: u32,
-        name: u32,
-        nesting: u32,
-        arguments: Vec<Expression>,
-    },
-    /// `name[` at a statement's begin
-    InPart {
-        at: u32,
-        name: u32,
-        nesting: u32,
-    },
-    /// `target =`
-    InAssign {
-        at: u32,
-        nesting: u32,
-        target: Box<Target>,
-    },
+    InElement { at: u32, name: u32, nesting: u32 },
+    /// `&name[`: where it and its name begin, the name, and the nesting
+    InAddress(u32, u32, u32, u32),
+    InCall(Call),
+    /// `name[` of a target, whether `++` or `--` stands before it
+    InPart(bool, u32, u32, u32),
+    /// `*` of a target, whether `++` or `--` stands before it
+    InBehind(bool, u32, u32),
+    /// `++` or `--`
+    InStep(u32, u32, bool),
+    /// `target =`, or with an operator
+    InAssign(u32, u32, Box<Target>, Option<BinaryOperator>),
+    /// `type name =`
+    InDeclare(Declared),
     /// The statements so far of a block
-    InItems {
-        nesting: u32,
-        body: Vec<Statement>,
-    },
+    InItems(u32, Vec<Statement>),
+    /// A block that is a statement
+    InBlock { at: u32, nesting: u32 },
     /// The block of a function
-    InBody {
-        head: Head,
-        at: u32,
-    },
+    InBody(Head, u32),
     /// The brackets of a function's head
-    InHead {
-        head: Head,
-    },
+    InHead(Head),
     /// The functions so far
-    InProgram {
-        functions: Vec<Function>,
-    },
+    InProgram(Vec<Function>),
 }
 
 /// What is open, from the innermost outwards.
@@ -93,97 +127,69 @@ pub(crate) enum Frames {
     Inside(Frame, Box<Frames>),
 }
 
-/// What was read last, and so what may come. `nesting` is that of the next token.
+/// What was read last, and so what may come.
 #[derive(Drop)]
 pub(crate) enum Mode {
     /// An operand is wanted
-    Operand {
-        nesting: u32,
-    },
-    /// An expression was read
-    Have {
-        nesting: u32,
-        from: u32,
-        value: Box<Expression>,
-    },
+    Operand { nesting: u32 },
+    /// An expression was read, which begins at an offset
+    Have(u32, u32, Box<Expression>),
     /// In an expression a name was read
-    Named {
-        nesting: u32,
-        at: u32,
-        name: u32,
-    },
+    Named { nesting: u32, at: u32, name: u32 },
+    /// Where an operand was wanted, `(` was read
+    Opened { nesting: u32, at: u32 },
+    /// `(type` of a cast was read
+    CastType(u32, u32, IntType),
     /// `&` was read
-    AfterAnd {
-        nesting: u32,
-        at: u32,
-    },
-    /// `&name` was read
-    AndName {
-        nesting: u32,
-        at: u32,
-        name_at: u32,
-        name: u32,
-    },
+    AfterAnd { nesting: u32, at: u32 },
+    /// `&name` was read: the nesting, where it and its name begin, and the name
+    AndName(u32, u32, u32, u32),
     /// The bracket of a call was read
-    CallOpen {
-        nesting: u32,
-    },
-    /// A statement or the block's end is wanted
-    Item {
-        nesting: u32,
-    },
-    /// A statement's first name was read
-    BeginName {
-        nesting: u32,
-        at: u32,
-        name: u32,
-    },
-    /// What is assigned to was read
-    Aimed {
-        nesting: u32,
-        at: u32,
-        target: Box<Target>,
-    },
+    CallOpen { nesting: u32 },
+    /// A statement, a declaration or the block's end is wanted
+    Item { nesting: u32 },
+    /// The target of `++` or `--` is wanted
+    Aim { nesting: u32 },
+    /// A target's or a call's first name was read, whether behind `++` or `--`
+    BeginName(bool, u32, u32, u32),
+    /// What is assigned to was read, whether behind `++` or `--`
+    Aimed(bool, u32, u32, Box<Target>),
     /// A statement but its semicolon was read
-    Ended {
-        nesting: u32,
-        statement: Box<Statement>,
-    },
+    Ended(u32, Box<Statement>),
     /// A statement was read
-    Did {
-        nesting: u32,
-        statement: Box<Statement>,
-    },
-    /// A function or the program's end is wanted
+    Did(u32, Box<Statement>),
+    /// A pointer's address space was read
+    AfterSpace(Purpose),
+    AfterConst(Purpose),
+    /// A pointer's type but its star was read, whether with `const`
+    AfterElement(Purpose, bool, IntType),
+    /// A type was read
+    AfterTyping(Purpose, VariableType),
+    /// A type and a name were read
+    Declared(Declared),
+    Head(HeadMode),
+}
+
+/// What was read last of a function's head.
+#[derive(Clone, Copy)]
+pub(crate) enum HeadMode {
+    /// Nothing: a function or the program's end is wanted
     Top,
     AfterKernel,
     AfterVoid,
-    AfterName {
-        at: u32,
-        name: u32,
-    },
-    /// The bracket of a function's head was read
+    AfterName { at: u32, name: u32 },
+    /// The bracket
     HeadOpen,
+    /// A comma
     WantParameter,
-    AfterSpace,
-    AfterType,
-    AfterStar,
     AfterParameter,
-    /// A function's head was read
+    /// The whole head
     HeadDone,
 }
 
 #[derive(Drop)]
 pub(crate) struct State {
     pub mode: Mode,
-    pub frames: Box<Frames>,
-}
-
-/// An expression, where it begins, and the frames behind it.
-#[derive(Drop)]
-pub(crate) struct Folded {
-    pub from: u32,
-    pub value: Box<Expression>,
     pub frames: Box<Frames>,
 }
 
@@ -198,30 +204,8 @@ pub(crate) enum Step {
     To { nesting: u32, state: Box<State> },
 }
 
-/// The step to this mode.
-pub(crate) fn go(
-    alloc: Global,
-    nesting: u32,
-    mode: Mode,
-    frames: Box<Frames>,
-) -> Result<Step, AllocError>
-    ensures { Steps result (machine.go nesting (mode_of mode) (frames_of frames.value)) }
-{
-    let state = Box::new(alloc, State { mode, frames })?;
-    Ok(Step::To { nesting, state })
-}
-
-/// The frames with one more.
-pub(crate) fn push(
-    alloc: Global,
-    frame: Frame,
-    frames: Box<Frames>,
-) -> Result<Box<Frames>, AllocError>
-    ensures { IfOk result (λ pushed. frames_of pushed.value ≡ frame_of frame ∷ frames_of frames.value) }
-{
-    let pushed = Box::new(alloc, Frames::Inside(frame, frames))?;
-    Ok(pushed)
-}
+/// What a token does, if memory suffices.
+pub(crate) type Moved = Result<Step, AllocError>;
 
 /// The nesting one further in, but none where a token of this nesting is too deep itself.
 pub(crate) fn deeper(nesting: u32) -> Option<u32>
@@ -231,5 +215,117 @@ pub(crate) fn deeper(nesting: u32) -> Option<u32>
         None
     } else {
         Some(nesting + 1)
+    }
+}
+
+/// What is open, and where memory for more comes from.
+#[derive(Drop)]
+pub(crate) struct Stack {
+    pub alloc: Global,
+    pub frames: Box<Frames>,
+}
+
+impl Stack {
+    /// The step of a token with this nesting to a mode.
+    pub(crate) fn go(self, nesting: u32, mode: Mode) -> Moved
+        ensures { Steps result (machine.go nesting (mode_of mode) (opened self)) }
+    {
+        let state = Box::new(
+            self.alloc,
+            State {
+                mode,
+                frames: self.frames,
+            },
+        )?;
+        Ok(Step::To { nesting, state })
+    }
+
+    /// The stack with one more frame.
+    pub(crate) fn push(self, frame: Frame) -> Result<Stack, AllocError>
+        ensures { IfOk result (λ pushed. opened pushed ≡ frame_of frame ∷ opened self) }
+    {
+        let frames = Box::new(self.alloc, Frames::Inside(frame, self.frames))?;
+        Ok(Stack {
+            alloc: self.alloc,
+            frames,
+        })
+    }
+
+    /// The frame in front, and the stack without it.
+    pub(crate) fn pop(self) -> Option<(Frame, Stack)>
+        ensures { MatchOption result (opened self ≡ []) (λ popped. opened self ≡ frame_of popped.0 ∷ opened popped.1) }
+    {
+        match Box::into_inner(self.frames) {
+            Frames::Inside(frame, frames) => Some((
+                frame,
+                Stack {
+                    alloc: self.alloc,
+                    frames,
+                },
+            )),
+            Frames::Empty => None,
+        }
+    }
+
+    /// The step to an operand in a frame.
+    pub(crate) fn want(self, nesting: u32, frame: Frame) -> Moved
+        ensures { Steps result (machine.go nesting (machine.Operand nesting) (frame_of frame ∷ opened self)) }
+    {
+        self.push(frame)?.go(nesting, Mode::Operand { nesting })
+    }
+
+    /// The step to an operand in a frame, one deeper.
+    pub(crate) fn open(self, nesting: u32, frame: Frame) -> Moved
+        ensures { Steps result (machine.go nesting (machine.Operand (suc nesting)) (frame_of frame ∷ opened self)) }
+    {
+        let stack = self.push(frame)?;
+        match deeper(nesting) {
+            Some(inner) => stack.go(nesting, Mode::Operand { nesting: inner }),
+            None => Ok(Step::Deep),
+        }
+    }
+
+    /// The step of a bracket's end, at which an expression was read that begins at an offset.
+    pub(crate) fn close(self, nesting: u32, from: u32, value: Box<Expression>) -> Moved
+        ensures { Steps result (machine.go (suc nesting) (machine.Have nesting from (term value.value)) (opened self)) }
+    {
+        match deeper(nesting) {
+            Some(inner) => self.go(inner, Mode::Have(nesting, from, value)),
+            None => Ok(Step::Deep),
+        }
+    }
+
+    /// The step of a call's bracket.
+    pub(crate) fn call(self, is_statement: bool, at: u32, name: u32, nesting: u32) -> Moved
+        ensures { Steps result (machine.go nesting (machine.CallOpen (suc nesting)) (machine.InCall is_statement at name nesting NoTerm ∷ opened self)) }
+    {
+        let Some(inner) = deeper(nesting) else {
+            return Ok(Step::Deep);
+        };
+        let arguments = Vec::new(self.alloc);
+        let stack = self.push(Frame::InCall(Call {
+            is_statement,
+            at,
+            name,
+            nesting,
+            arguments,
+        }))?;
+        stack.go(nesting, Mode::CallOpen { nesting: inner })
+    }
+
+    /// The step of the bracket behind the type of a cast.
+    pub(crate) fn cast(self, nesting: u32, at: u32, target: IntType) -> Moved
+        ensures { Steps result (machine.go (suc nesting) (machine.Operand (suc nesting)) (machine.Before at (grammar.Convert target) ∷ opened self)) }
+    {
+        match deeper(nesting) {
+            Some(inner) => self.want(
+                inner,
+                Frame::Before {
+                    at,
+                    prefix: Prefix::Convert(target),
+                },
+            ),
+            None => Ok(Step::Deep),
+        }
     }
 }

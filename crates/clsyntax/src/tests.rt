@@ -108,6 +108,33 @@ fn expressions(rt: HostRuntime) -> Result<(), Fail> {
     Ok(())
 }
 
+/// Each form of a declaration, a statement and an expression.
+#[test]
+fn every_form(rt: HostRuntime) -> Result<(), Fail> {
+    let source =
+        b"kernel void f(global const char *p, ulong n) { size_t i = n; global int *q; ; { n = 1; } ++n; q[2]--; *q <<= 3; q[0] = n ? -n : ~i; n = (char)n * 2 + !*q; g(&p[n], (5)); }";
+    let tree = read(rt.alloc(), source)?;
+    assert_eq!(rt; tree.functions.len(), 1);
+    let body = &tree.functions[0].body;
+    let texts = [
+        "Declare { at: 47, kind: Integer(Ulong), name_at: 54, name: 29, value: Some(Variable { at: 58, name: 28 }) }",
+        "Declare { at: 61, kind: Pointer(PointerType { space: Global, is_const: false, element: Int }), name_at: 73, name: 30, value: None }",
+        "Empty { at: 76 }",
+        "Block { at: 78, body: [Assign { at: 80, target: Variable { at: 80, name: 28 }, operator: None, value: Number { at: 84, value: Value { kind: Int, number: 1 } } }] }",
+        "Step { at: 89, target: Variable { at: 91, name: 28 }, is_increment: true }",
+        "Step { at: 94, target: Element { at: 94, name: 30, index: Number { at: 96, value: Value { kind: Int, number: 2 } } }, is_increment: false }",
+        "Assign { at: 102, target: Dereference { at: 102, pointer: Variable { at: 103, name: 30 } }, operator: Some(ShiftLeft), value: Number { at: 109, value: Value { kind: Int, number: 3 } } }",
+        "Assign { at: 112, target: Element { at: 112, name: 30, index: Number { at: 114, value: Value { kind: Int, number: 0 } } }, operator: None, value: Choice { at: 119, condition: Variable { at: 119, name: 28 }, chosen: Unary { at: 123, operator: Negate, operand: Variable { at: 124, name: 28 } }, otherwise: Unary { at: 128, operator: Complement, operand: Variable { at: 129, name: 29 } } } }",
+        "Assign { at: 132, target: Variable { at: 132, name: 28 }, operator: None, value: Binary { at: 136, operator: Arithmetic(Add), left: Binary { at: 136, operator: Arithmetic(Multiply), left: Cast { at: 136, target: Char, operand: Variable { at: 142, name: 28 } }, right: Number { at: 146, value: Value { kind: Int, number: 2 } } }, right: Unary { at: 150, operator: Not, operand: Dereference { at: 151, pointer: Variable { at: 152, name: 30 } } } } }",
+        "Call { at: 155, name: 31, arguments: [ElementAddress { at: 157, name_at: 158, name: 27, index: Variable { at: 160, name: 28 } }, Number { at: 165, value: Value { kind: Int, number: 5 } }] }",
+    ];
+    assert_eq!(rt; body.len(), texts.len());
+    for (statement, text) in body.iter().zip(texts.iter()) {
+        assert_eq!(rt; format!(in rt.alloc(); "{statement:?}")?.as_str(), *text);
+    }
+    Ok(())
+}
+
 fn fault_of(rt: &impl AllocGlobal, source: &str) -> Option<SyntaxFault> {
     match read(rt.alloc(), source.as_bytes()) {
         Ok(_) => None,
