@@ -5,6 +5,7 @@ use crate::{Command, Device, Refusal, Reply};
 use clmodel::setup::{Argument, Range};
 use clmodel::text::{Bytes, Name, Numbers};
 use std::alloc::{AllocError, Global};
+use std::process::Abort;
 use std::test::Fail;
 
 const TWO_STORES: &[u8] = b"__kernel void f(__global int *a) { a[0] = 7; a[1] = 9; }";
@@ -80,11 +81,11 @@ fn kernel(alloc: Global, text: &str, function: &str) -> Result<Command, AllocErr
     })
 }
 
-fn argument(alloc: Global, index: u64, text: &str) -> Result<Command, AllocError> {
+fn argument(alloc: Global, index: u64, argument: Argument) -> Result<Command, AllocError> {
     Ok(Command::Arg {
         kernel: name(alloc, "k")?,
         index,
-        argument: Argument::Buffer(name(alloc, text)?),
+        argument,
     })
 }
 
@@ -93,12 +94,13 @@ fn reply(device: &mut Device, command: Command) -> Reply {
     device.apply(command)
 }
 
-/// The refusal of a command, if it is refused.
-fn refusal(device: &mut Device, command: Command) -> Option<Refusal> {
-    match device.apply(command) {
+/// The device refuses a command so.
+fn refuses(rt: &impl Abort, device: &mut Device, command: Command, wanted: Refusal) {
+    let refusal = match reply(device, command) {
         Reply::Refused(refusal) => Some(refusal),
         _ => None,
-    }
+    };
+    assert_eq!(rt; refusal, Some(wanted));
 }
 
 /// A device with a buffer a of so many bytes and a kernel k that has it as its argument.
@@ -107,7 +109,8 @@ fn ready(alloc: Global, size: u64, source: &[u8]) -> Result<Device, AllocError> 
     let _ = reply(&mut device, buffer(alloc, "a", size)?);
     let _ = reply(&mut device, program(alloc, "p", source)?);
     let _ = reply(&mut device, kernel(alloc, "k", "f")?);
-    let _ = reply(&mut device, argument(alloc, 0, "a")?);
+    let first = Argument::Buffer(name(alloc, "a")?);
+    let _ = reply(&mut device, argument(alloc, 0, first)?);
     Ok(device)
 }
 
@@ -162,34 +165,44 @@ fn a_fault_leaves_the_buffers(rt: HostRuntime) -> Result<(), Fail> {
 fn refuses_buffers(rt: HostRuntime) -> Result<(), Fail> {
     let alloc = rt.alloc();
     let mut device = Device::new(alloc, 1);
-    assert_eq!(rt; refusal(&mut device, buffer(alloc, "a", 1048576)?), None);
-    assert_eq!(rt;
-        refusal(&mut device, buffer(alloc, "a", 0)?),
-        Some(Refusal::NameInUse)
+    let made = reply(&mut device, buffer(alloc, "a", 1048576)?);
+    assert!(rt; matches!(made, Reply::Done));
+    refuses(&rt, &mut device, buffer(alloc, "a", 0)?, Refusal::NameInUse);
+    refuses(
+        &rt,
+        &mut device,
+        buffer(alloc, "b", 1048577)?,
+        Refusal::BadSize,
     );
-    assert_eq!(rt;
-        refusal(&mut device, buffer(alloc, "b", 1048577)?),
-        Some(Refusal::BadSize)
+    refuses(
+        &rt,
+        &mut device,
+        read(alloc, "b", 0, 0)?,
+        Refusal::NoSuchName,
     );
-    assert_eq!(rt;
-        refusal(&mut device, read(alloc, "b", 0, 0)?),
-        Some(Refusal::NoSuchName)
+    refuses(
+        &rt,
+        &mut device,
+        read(alloc, "a", 1048577, 0)?,
+        Refusal::BadSize,
     );
-    assert_eq!(rt;
-        refusal(&mut device, read(alloc, "a", 1048577, 0)?),
-        Some(Refusal::BadSize)
+    refuses(
+        &rt,
+        &mut device,
+        read(alloc, "a", 1048576, 1)?,
+        Refusal::OutOfRange,
     );
-    assert_eq!(rt;
-        refusal(&mut device, read(alloc, "a", 1048576, 1)?),
-        Some(Refusal::OutOfRange)
+    refuses(
+        &rt,
+        &mut device,
+        write(alloc, 1048577, &[])?,
+        Refusal::BadSize,
     );
-    assert_eq!(rt;
-        refusal(&mut device, write(alloc, 1048577, &[])?),
-        Some(Refusal::BadSize)
-    );
-    assert_eq!(rt;
-        refusal(&mut device, write(alloc, u64::MAX, &[1])?),
-        Some(Refusal::OutOfRange)
+    refuses(
+        &rt,
+        &mut device,
+        write(alloc, u64::MAX, &[1])?,
+        Refusal::OutOfRange,
     );
     Ok(())
 }
@@ -198,20 +211,30 @@ fn refuses_buffers(rt: HostRuntime) -> Result<(), Fail> {
 fn refuses_kernels(rt: HostRuntime) -> Result<(), Fail> {
     let alloc = rt.alloc();
     let mut device = ready(alloc, 8, TWO_STORES)?;
-    let fault = refusal(&mut device, program(alloc, "q", b"x")?);
-    assert!(rt; matches!(fault, Some(Refusal::BuildFailed(_))));
-    assert_eq!(rt;
-        refusal(&mut device, kernel(alloc, "l", "g")?),
-        Some(Refusal::NoSuchKernel)
+    let fault = reply(&mut device, program(alloc, "q", b"x")?);
+    assert!(rt; matches!(fault, Reply::Refused(Refusal::BuildFailed(_))));
+    refuses(
+        &rt,
+        &mut device,
+        kernel(alloc, "l", "g")?,
+        Refusal::NoSuchKernel,
     );
-    assert_eq!(rt;
-        refusal(&mut device, argument(alloc, 9, "zz")?),
-        Some(Refusal::BadArgument)
+    let absent = Argument::Buffer(name(alloc, "zz")?);
+    refuses(
+        &rt,
+        &mut device,
+        argument(alloc, 9, absent)?,
+        Refusal::BadArgument,
     );
-    assert_eq!(rt;
-        refusal(&mut device, argument(alloc, 0, "zz")?),
-        Some(Refusal::NoSuchName)
+    let absent = Argument::Buffer(name(alloc, "zz")?);
+    refuses(
+        &rt,
+        &mut device,
+        argument(alloc, 0, absent)?,
+        Refusal::NoSuchName,
     );
+    let number = argument(alloc, 0, Argument::Value(1))?;
+    refuses(&rt, &mut device, number, Refusal::BadArgument);
     Ok(())
 }
 
@@ -220,24 +243,21 @@ fn refuses_launches(rt: HostRuntime) -> Result<(), Fail> {
     let alloc = rt.alloc();
     let mut device = ready(alloc, 8, TWO_STORES)?;
     let end = launch(alloc, &[u64::MAX], &[0], 1)?;
-    assert_eq!(rt; refusal(&mut device, end), Some(Refusal::BadDimension));
+    refuses(&rt, &mut device, end, Refusal::BadDimension);
     let dimensions = launch(alloc, &[0, 0, 0, 0], &[1], 0)?;
-    assert_eq!(rt;
-        refusal(&mut device, dimensions),
-        Some(Refusal::BadDimension)
-    );
+    refuses(&rt, &mut device, dimensions, Refusal::BadDimension);
     let lists = launch(alloc, &[4], &[1, 1], 0)?;
-    assert_eq!(rt; refusal(&mut device, lists), Some(Refusal::BadDimension));
+    refuses(&rt, &mut device, lists, Refusal::BadDimension);
     let uneven = launch(alloc, &[3], &[2], 0)?;
-    assert_eq!(rt; refusal(&mut device, uneven), Some(Refusal::BadGroupSize));
+    refuses(&rt, &mut device, uneven, Refusal::BadGroupSize);
     let huge = launch(
         alloc,
         &[4294967296, 4294967296],
         &[4294967296, 4294967296],
         0,
     )?;
-    assert_eq!(rt; refusal(&mut device, huge), Some(Refusal::BadGroupSize));
+    refuses(&rt, &mut device, huge, Refusal::BadGroupSize);
     let groups = launch(alloc, &[2], &[1], 0)?;
-    assert_eq!(rt; refusal(&mut device, groups), Some(Refusal::TooManyItems));
+    refuses(&rt, &mut device, groups, Refusal::TooManyItems);
     Ok(())
 }

@@ -174,7 +174,7 @@ pub fn suits(kind: VariableType, argument: &Argument) -> bool
         (VariableType::Pointer(p), Argument::Local(size)) => {
             p.space == AddressSpace::Local && *size >= 1 && *size <= MAX_LOCAL
         }
-        (VariableType::Integer(kind), Argument::Value(n)) => { is_in_range(kind, *n) }
+        (VariableType::Integer(kind), Argument::Value(n)) => is_in_range(kind, *n),
         _ => false,
     }
 }
