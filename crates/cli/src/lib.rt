@@ -5,9 +5,9 @@ pub mod checking;
 pub mod command_line;
 pub mod memory;
 pub mod session;
+pub mod streams;
 
 pub use checking::check_file;
 pub use command_line::command;
 pub use session::{run, status};
 pub use simfile::ends;
-pub use simfile::streams;

@@ -7,4 +7,3 @@ pub mod laws;
 pub mod pieces;
 pub mod replies;
 pub mod script;
-pub mod streams;

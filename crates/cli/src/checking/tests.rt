@@ -3,7 +3,7 @@
 use super::check_file;
 use crate::memory::{MemoryReader, MemoryWriter};
 use crate::session::RunFault;
-use simfile::streams::{Input, Output};
+use crate::streams::{Input, Output};
 use std::alloc::Global;
 use std::io::BufWriter;
 

@@ -3,7 +3,7 @@
 use super::{Options, RunEnd, RunFault, run, status};
 use crate::command_line::{Invocation, command};
 use crate::memory::{MemoryReader, MemoryWriter};
-use simfile::streams::{Input, Output};
+use crate::streams::{Input, Output};
 use std::alloc::Global;
 use std::io::BufWriter;
 use std::test::Fail;

@@ -1,9 +1,8 @@
 //! The lines of replies, against the text that the format gives.
 
-use super::{write_reply, write_turns};
+use super::{write_check, write_reply, write_turns};
 
-use crate::ends::Write;
-use crate::streams::Output;
+use crate::ends::{Write, WriteFailed};
 use clmodel::access::{AccessKind, Clash, Class};
 use clmodel::action::{Instance, Stop, Turns};
 use clmodel::fault::{Fault, Location};
@@ -13,14 +12,47 @@ use clmodel::type_fault::TypeFault;
 use clsyntax_lex::token::SyntaxFault;
 use device_store::command::{BuildFault, Refusal, Reply};
 use std::alloc::{AllocError, Global};
-use std::io::BufWriter;
 use std::test::Fail;
 
+/// A writer into memory.
+#[derive(Drop)]
+struct Page {
+    bytes: Vec<u8>,
+    failed: u64,
+}
+
+impl Page {
+    fn new(alloc: Global) -> Self {
+        Page {
+            bytes: Vec::new(alloc),
+            failed: 0,
+        }
+    }
+}
+
+impl Write for Page {
+    ghost use Rattle.std.specs.Prelude.{Some, []};
+    ghost use Rattle.simfile.specs.Sink.{Sink};
+
+    ghost sink = { λ page. record { written = Some page.bytes.items; held = []; failed = page.failed } };
+
+    fn write(&mut self, bytes: &[u8]) -> Result<(), WriteFailed> {
+        if self.bytes.extend_from_slice(bytes).is_err() {
+            self.failed = self.failed.saturating_add(1);
+            return Err(WriteFailed);
+        }
+        Ok(())
+    }
+
+    fn flush(&mut self) -> Result<(), WriteFailed> {
+        Ok(())
+    }
+}
+
 fn text_of(alloc: Global, reply: Reply) -> Option<Vec<u8>> {
-    let mut writer = Output::new(BufWriter::new(alloc, Vec::new(alloc)).ok()?);
-    write_reply(&reply, &mut writer).ok()?;
-    writer.flush().ok()?;
-    Some(writer.into_inner())
+    let mut page = Page::new(alloc);
+    write_reply(&reply, &mut page).ok()?;
+    Some(page.bytes)
 }
 
 fn is_line(alloc: Global, reply: Reply, line: &str) -> bool {
@@ -39,6 +71,25 @@ fn fault(alloc: Global, fault: Fault, runs: &[Run]) -> Result<Reply, AllocError>
         fault,
         schedule: Schedule::new(runs.to_vec(alloc)?),
     })
+}
+
+#[test]
+fn checks(rt: HostRuntime) {
+    for (fault, line) in [
+        (None, "ok\n"),
+        (
+            Some(BuildFault::Syntax(SyntaxFault::BadByte { at: 29 })),
+            "syntax 1 BadByte at 29\n",
+        ),
+        (
+            Some(BuildFault::Type(TypeFault::MissingReturn { at: 7 })),
+            "type 12 MissingReturn at 7\n",
+        ),
+    ] {
+        let mut page = Page::new(rt.alloc());
+        assert!(rt; write_check(fault, &mut page).is_ok());
+        assert_eq!(rt; page.bytes.as_slice(), line.as_bytes());
+    }
 }
 
 #[test]
@@ -142,10 +193,9 @@ fn stops(rt: HostRuntime) -> Result<(), Fail> {
     };
     let line = "fault 3 divergence item 0 barrier 1 item 1 end schedule -\n";
     assert!(rt; is_line(alloc, fault(alloc, divergence, &[])?, line));
-    let mut writer = Output::new(BufWriter::new(alloc, Vec::new(alloc))?);
-    assert!(rt; write_turns(&[2, 0, 11], &mut writer).is_ok());
-    assert!(rt; writer.flush().is_ok());
-    assert_eq!(rt; writer.into_inner().as_slice(), b" turns 2,0,11".as_slice());
+    let mut page = Page::new(alloc);
+    assert!(rt; write_turns(&[2, 0, 11], &mut page).is_ok());
+    assert_eq!(rt; page.bytes.as_slice(), b" turns 2,0,11".as_slice());
     Ok(())
 }
 

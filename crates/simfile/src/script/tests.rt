@@ -1,7 +1,7 @@
 //! Scripts and bad lines, by the format's rules.
 
 use super::{ScriptFault, read_script};
-use clmodel::setup::{Argument, Range};
+use clmodel::setup::Argument;
 use device_store::command::Command;
 use std::test::Fail;
 
@@ -30,57 +30,64 @@ fn good_lines(rt: HostRuntime) -> Result<(), Fail> {
     Ok(())
 }
 
-/// The only command of a script.
-fn only_command(rt: &HostRuntime, text: &str) -> Option<Command> {
-    read_script(rt.alloc(), text.as_bytes()).ok()?.pop()
+/// The last command of a script.
+fn only_command(rt: &HostRuntime, text: &str) -> Result<Command, Fail> {
+    let mut commands = read_script(rt.alloc(), text.as_bytes()).map_err(|_| "no script")?;
+    Ok(commands.pop().ok_or("no command")?)
+}
+
+fn is_value(command: &Command, wanted: i128) -> bool {
+    match command {
+        Command::Arg { argument: Argument::Value(value), .. } => *value == wanted,
+        _ => false,
+    }
+}
+
+fn is_write(command: &Command, at: u64, wanted: &[u8]) -> bool {
+    match command {
+        Command::Write { offset, bytes, .. } => *offset == at && bytes.as_slice() == wanted,
+        _ => false,
+    }
+}
+
+fn is_launch(command: &Command, global: &[u64], local: &[u64], offset: &[u64]) -> bool {
+    match command {
+        Command::Launch { range, .. } => {
+            range.global.as_slice() == global
+                && range.local.as_slice() == local
+                && range.offset.as_slice() == offset
+        }
+        _ => false,
+    }
 }
 
 #[test]
-fn values(rt: HostRuntime) {
+fn values(rt: HostRuntime) -> Result<(), Fail> {
     for (text, wanted) in [
         ("arg k 3 value -7\n", -7i128),
         ("arg k 3 value 7\n", 7),
         ("arg k 3 value -9223372036854775808\n", -9223372036854775808),
         ("arg k 3 value 18446744073709551615\n", 18446744073709551615),
     ] {
-        match only_command(&rt, text) {
-            Some(Command::Arg { argument: Argument::Value(value), .. }) => {
-                assert_eq!(rt; value, wanted)
-            }
-            _ => assert!(rt; false, "{text}"),
-        }
+        assert!(rt; is_value(&only_command(&rt, text)?, wanted), "{text}");
     }
+    Ok(())
 }
 
 #[test]
-fn written_bytes(rt: HostRuntime) {
-    match only_command(&rt, "write a 5 00ff10a9\n") {
-        Some(Command::Write { offset, bytes, .. }) => {
-            assert_eq!(rt; offset, 5);
-            assert_eq!(rt; bytes.as_slice(), [0, 255, 16, 169].as_slice());
-        }
-        _ => assert!(rt; false),
-    }
-}
-
-fn are(range: &Range, global: &[u64], local: &[u64], offset: &[u64]) -> bool {
-    range.global.as_slice() == global
-        && range.local.as_slice() == local
-        && range.offset.as_slice() == offset
+fn bytes(rt: HostRuntime) -> Result<(), Fail> {
+    let command = only_command(&rt, "write a 5 00ff10a9\n")?;
+    assert!(rt; is_write(&command, 5, &[0, 255, 16, 169]));
+    Ok(())
 }
 
 #[test]
-fn lists(rt: HostRuntime) {
-    match only_command(&rt, "launch k 4,20,1 2,5,1 7,0,8\n") {
-        Some(Command::Launch { range, .. }) => {
-            assert!(rt; are(&range, &[4, 20, 1], &[2, 5, 1], &[7, 0, 8]));
-        }
-        _ => assert!(rt; false),
-    }
-    match only_command(&rt, "launch k 4,2 2\n") {
-        Some(Command::Launch { range, .. }) => assert!(rt; are(&range, &[4, 2], &[2], &[0, 0])),
-        _ => assert!(rt; false),
-    }
+fn lists(rt: HostRuntime) -> Result<(), Fail> {
+    let command = only_command(&rt, "launch k 4,20,1 2,5,1 7,0,8\n")?;
+    assert!(rt; is_launch(&command, &[4, 20, 1], &[2, 5, 1], &[7, 0, 8]));
+    let command = only_command(&rt, "launch k 4,2 2\n")?;
+    assert!(rt; is_launch(&command, &[4, 2], &[2], &[0, 0]));
+    Ok(())
 }
 
 #[test]

@@ -5,7 +5,7 @@ ghost use Rattle.std.specs.Prelude.{◌≡◌};
 ghost use Rattle.std.specs.Io.Buffered.{writer_inner};
 ghost use Rattle.simfile.specs.Sink.{Pushes};
 
-use crate::ends::{Read, ReadFault, Write, WriteFailed};
+use simfile::ends::{Read, ReadFault, Write, WriteFailed};
 use std::alloc::Global;
 use std::io;
 use std::io::Write as _;

@@ -1,6 +1,6 @@
 use Rattle.simfile.proofs.Puts.{pushed_slice, pushed_kept}
-use Rattle.simfile.proofs.streams.push_all.Goals as goal
-use Rattle.simfile.proofs.streams.push_all.Goals.{in-Ok, in-Err+else-ne}
+use Rattle.cli.proofs.streams.push_all.Goals as goal
+use Rattle.cli.proofs.streams.push_all.Goals.{in-Ok, in-Err+else-ne}
 
 pub loop-preserved : goal.loop-preserved
 loop-preserved g c =
