@@ -1,8 +1,10 @@
 pub mod Moves
 pub mod Levels
+pub mod Takes
 pub mod Complete
 pub mod Stands
 pub mod SoundExpressions
+pub mod SoundStatements
 pub mod Sound
 pub mod Ends
 pub mod ReadingLaws

@@ -1,6 +1,5 @@
 -- What a source's bytes stand for.
-use Rattle.std.proofs.Common.{◌≡◌, ◌≢◌, ℕ, List, Result, Ok, Err, sym, ◌∙◌, ap, subst}
-use Rattle.clmodel.specs.Tree.{Program}
+use Rattle.std.proofs.Common.{◌≡◌, ◌≢◌, ℕ, List, Ok, Err, sym, ◌∙◌, ap, subst}
 use Rattle.clsyntax_lex.specs.declared.token.SyntaxFault.{SyntaxFault}
 use Rattle.clsyntax_lex.specs.declared.token.SyntaxFault.TheVariants.{BadByte, NumberTooLarge, Unexpected, TooDeep, TooLong, OutOfMemory}
 use Rattle.clsyntax_lex.specs.Tokens.{Text}

@@ -1,28 +1,27 @@
 -- What the machine holds stands for the tokens that were read.
-use Rattle.std.proofs.Common.{◌≡◌, ℕ, suc, ◌+◌, ◌≤◌, ◌<◌, List, [], ◌∷◌, Bool, true, false, Option, Some, None, cond, refl, sym, subst, arith}
-use Rattle.std.specs.Prelude.{nat_lt}
-use Rattle.std.proofs.lemmas.Bool.{ltb-true, ltb-false}
+use Rattle.std.proofs.Common.{◌≡◌, ℕ, suc, ◌≤◌, List, [], ◌∷◌, Bool, true, false, Option, Some, None}
 use Rattle.clnum.specs.declared.int_type.IntType.{IntType}
-use Rattle.clnum.specs.declared.int_type.IntType.TheVariants.{Int}
+use Rattle.clnum.specs.declared.operators.BinaryOperator.{BinaryOperator}
 use Rattle.clmodel.specs.declared.tree.InfixOperator.{InfixOperator}
-use Rattle.clmodel.specs.declared.tree.AddressSpace.{AddressSpace}
 use Rattle.clmodel.specs.declared.tree.AddressSpace.TheVariants.{Global}
+use Rattle.clmodel.specs.declared.tree.VariableType.{VariableType}
 use Rattle.clmodel.specs.declared.tree.Parameter.{Parameter}
-use Rattle.clmodel.specs.Tree.{Term, Variable, Element, ElementAddress, Call, Binary, Terms, NoTerm, ThenTerm, Place, Part, Stmt, Assign, CallOnly, Stmts, NoStmt, ThenStmt, Funcs, ThenFunc}
+use Rattle.clmodel.specs.Tree.{Term, Terms, NoTerm, ThenTerm, Place, Stmt, Stmts, Funcs}
 use Rattle.clsyntax_lex.specs.declared.token.Token.{Token}
 use Rattle.clsyntax_lex.specs.declared.token.TokenKind.{TokenKind}
 use Rattle.clsyntax_lex.specs.declared.token.TokenKind.TheVariants as kinds
-use Rattle.clsyntax.specs.Grammar.{Placed, put, start, Head, kernel, pointer_parameter, infix_of, level, Expr, Arguments, Target, Statement, Items, Parameters, Heading, Program, Reads, number, variable, element, address, bare_call, call, round, binary, one_argument, next_argument, part, assign, bare_call_only, call_only, no_items, item, pointer, first_parameter, next_parameter, bare_heading, heading, no_functions, function}
-use Rattle.clsyntax.specs.Machine.{Frame, After, InRound, InElement, InAddress, InCall, InPart, InAssign, InItems, InBody, InHead, InProgram, Mode, Operand, Have, Named, AfterAnd, AndName, CallOpen, Item, BeginName, Aimed, Ended, Did, Top, AfterKernel, AfterVoid, AfterName, HeadOpen, WantParameter, AfterSpace, AfterType, AfterStar, AfterParameter, HeadDone, State, in_mode, Moved, Folded, folded, close, on_operand, on_close_round, on_comma, on_close_square, on_semicolon, end_expression, close_call, after_operand, on_close_brace, on_item, on_parameter_name, on_open_brace, add_parameter, step, begun}
-use Rattle.clsyntax.proofs.Moves.{Runs, stop, onward}
-use Rattle.clsyntax.proofs.Levels.{reach, no_less}
-use Rattle.clsyntax.proofs.Complete.{head_of}
+use Rattle.clsyntax.specs.Grammar as grammar
+use Rattle.clsyntax.specs.Grammar.{Placed, put, start, Head, Prefix, infix_of, level, type_of, assign_of, step_of, IsNamed, Expr, Arguments, Target, Simple, Statement, Typing, Items, Parameters, Heading, Program, Reads, one_argument, next_argument}
+use Rattle.clsyntax.specs.Machine.{Frame, After, Before, Asked, Chosen, InRound, InElement, InAddress, InCall, InPart, InBehind, InStep, InAssign, InDeclare, InItems, InBlock, InBody, InHead, InProgram, Purpose, ForParameter, ForDeclaration, takes_size, nesting_of, Mode, Operand, Have, Named, Opened, CastType, AfterAnd, AndName, CallOpen, Item, Aim, BeginName, Aimed, Ended, Did, AfterSpace, AfterConst, AfterElement, AfterTyping, Declared, Top, AfterKernel, AfterVoid, AfterName, HeadOpen, WantParameter, AfterParameter, HeadDone, State, in_mode, Moved, step}
+use Rattle.clsyntax.proofs.Levels.{reach}
+use Rattle.clsyntax.proofs.Takes.{head_of}
 
 -- what the innermost frame waits for, and its nesting
 pub data Need : Type 0 where
   AnExpr : (n : ℕ) → Need
   SomeArguments : (n : ℕ) → Need
   AStatement : (n : ℕ) → Need
+  AStepTarget : (n : ℕ) → Need
   SomeItems : (n : ℕ) → Need
   ABody : Need
   AHead : Need
@@ -38,6 +37,25 @@ opening a b c d x ps = put 0 kinds.Kernel a ∷ put 0 kinds.Void b ∷ put 0 (ki
 abbrev pub call_need : Bool → ℕ → Need
 call_need false n = AnExpr n
 call_need true n = AStatement n
+
+-- a target begins a statement, or stands behind a step
+abbrev pub target_need : Bool → ℕ → Need
+target_need false n = AStatement n
+target_need true n = AStepTarget n
+
+abbrev pub purpose_need : Purpose → Need
+purpose_need ForParameter = AParameter
+purpose_need (ForDeclaration at n) = AStatement n
+
+-- the offset at which a type begins: a declaration's is kept
+abbrev pub at_of : Purpose → ℕ → ℕ
+at_of ForParameter a = a
+at_of (ForDeclaration at n) a = at
+
+-- `const` or nothing
+abbrev pub const_word : Bool → (n a : ℕ) → List Placed → List Placed
+const_word false n a ps = ps
+const_word true n a ps = put n kinds.Const a ∷ ps
 
 -- the arguments before the next
 pub data ArgumentsSoFar : ℕ → Terms → List Placed → List Placed → Type 0 where
@@ -59,10 +77,23 @@ pub data Stands : List Placed → Need → List Frame → List Placed → Type 0
       → Stands w AFunction fs (opening a b c d x ps) → Reads (Parameters xs) ps qs → Stands w AfterOne (InHead (head_of c x xs) ∷ fs) qs
   head_read : {w ps qs : List Placed} {fs : List Frame} {h : Head} → Stands w AFunction fs ps → Reads (Heading h) ps qs → Stands w ABody (InHead h ∷ fs) qs
   in_body : {w ps qs : List Placed} {fs : List Frame} {h : Head} {a : ℕ} → Stands w AFunction fs ps → Reads (Heading h) ps (put 0 kinds.OpenBrace a ∷ qs) → Stands w (SomeItems 1) (InBody h a ∷ fs) qs
+  in_block : {w qs : List Placed} {fs : List Frame} {n a : ℕ} → Stands w (AStatement n) fs (put n kinds.OpenBrace a ∷ qs) → Stands w (SomeItems (suc n)) (InBlock a n ∷ fs) qs
   in_items : {w ps qs : List Placed} {fs : List Frame} {n : ℕ} {ss : Stmts} → Stands w (SomeItems n) fs ps → Reads (Items n ss) ps qs → Stands w (AStatement n) (InItems n ss ∷ fs) qs
-  in_part : {w qs : List Placed} {fs : List Frame} {n a b x : ℕ} → Stands w (AStatement n) fs (put n (kinds.Name x) a ∷ put n kinds.OpenSquare b ∷ qs) → Stands w (AnExpr (suc n)) (InPart a x n ∷ fs) qs
+  in_step : {w qs : List Placed} {fs : List Frame} {n a : ℕ} {k : TokenKind} {up : Bool}
+      → Stands w (AStatement n) fs (put n k a ∷ qs) → step_of k ≡ Some up → Stands w (AStepTarget (suc n)) (InStep a n up ∷ fs) qs
+  in_part : {w qs : List Placed} {fs : List Frame} {u : Bool} {n a b x : ℕ} → Stands w (target_need u n) fs (put n (kinds.Name x) a ∷ put n kinds.OpenSquare b ∷ qs) → Stands w (AnExpr (suc n)) (InPart u a x n ∷ fs) qs
+  in_behind : {w qs : List Placed} {fs : List Frame} {u : Bool} {n a : ℕ} → Stands w (target_need u n) fs (put n kinds.Star a ∷ qs) → Stands w (AnExpr (suc n)) (InBehind u a n ∷ fs) qs
+  in_assign : {w ps qs : List Placed} {fs : List Frame} {n b : ℕ} {k : TokenKind} {op : Option BinaryOperator} {t : Place}
+      → Stands w (AStatement n) fs ps → assign_of k ≡ Some op → Reads (Target n t) ps (put n k b ∷ qs) → Stands w (AnExpr n) (InAssign (start ps) n t op ∷ fs) qs
+  in_declare : {w ps qs : List Placed} {fs : List Frame} {n b c x : ℕ} {kind : VariableType}
+      → Stands w (AStatement n) fs ps → Reads (Typing true n kind) ps (put n (kinds.Name x) b ∷ put n kinds.Assign c ∷ qs) → Stands w (AnExpr n) (InDeclare (start ps) n kind b x ∷ fs) qs
   in_after : {w ps qs : List Placed} {fs : List Frame} {n m b : ℕ} {k : TokenKind} {op : InfixOperator} {d : Term}
       → Stands w (AnExpr n) fs ps → reach fs ≤ level op → infix_of k ≡ Some op → Reads (Expr (level op) n d m) ps (put m k b ∷ qs) → Stands w (AnExpr (suc m)) (After (start ps) op d ∷ fs) qs
+  in_before : {w ps qs : List Placed} {fs : List Frame} {n : ℕ} {p : Prefix} → Stands w (AnExpr n) fs ps → Reads (grammar.Before n p) ps qs → Stands w (AnExpr (suc n)) (Before (start ps) p ∷ fs) qs
+  in_asked : {w ps qs : List Placed} {fs : List Frame} {n m b : ℕ} {d : Term}
+      → Stands w (AnExpr n) fs ps → reach fs ≤ 0 → Reads (Expr 1 n d m) ps (put m kinds.Question b ∷ qs) → Stands w (AnExpr (suc m)) (Asked (start ps) d ∷ fs) qs
+  in_chosen : {w ps qs rs : List Placed} {fs : List Frame} {n m o b c : ℕ} {d e : Term}
+      → Stands w (AnExpr n) fs ps → reach fs ≤ 0 → Reads (Expr 1 n d m) ps (put m kinds.Question b ∷ qs) → Reads (Expr 0 (suc m) e o) qs (put o kinds.Colon c ∷ rs) → Stands w (AnExpr o) (Chosen (start ps) d e ∷ fs) rs
   in_round : {w qs : List Placed} {fs : List Frame} {n a : ℕ} → Stands w (AnExpr n) fs (put n kinds.OpenRound a ∷ qs) → Stands w (AnExpr (suc n)) (InRound a n ∷ fs) qs
   in_element : {w qs : List Placed} {fs : List Frame} {n a b x : ℕ} → Stands w (AnExpr n) fs (put n (kinds.Name x) a ∷ put n kinds.OpenSquare b ∷ qs) → Stands w (AnExpr (suc n)) (InElement a x n ∷ fs) qs
   in_address : {w qs : List Placed} {fs : List Frame} {n a b c x : ℕ}
@@ -70,14 +101,14 @@ pub data Stands : List Placed → Need → List Frame → List Placed → Type 0
   call_open : {w qs : List Placed} {fs : List Frame} {u : Bool} {n a b x : ℕ} → Stands w (call_need u n) fs (put n (kinds.Name x) a ∷ put n kinds.OpenRound b ∷ qs) → Stands w (SomeArguments (suc n)) (InCall u a x n NoTerm ∷ fs) qs
   in_call : {w ps qs : List Placed} {fs : List Frame} {u : Bool} {n a b x : ℕ} {es : Terms}
       → Stands w (call_need u n) fs (put n (kinds.Name x) a ∷ put n kinds.OpenRound b ∷ ps) → ArgumentsSoFar n es ps qs → Stands w (AnExpr (suc n)) (InCall u a x n es ∷ fs) qs
-  in_assign : {w ps qs : List Placed} {fs : List Frame} {n b : ℕ} {t : Place} → Stands w (AStatement n) fs ps → Reads (Target n t) ps (put n kinds.Assign b ∷ qs) → Stands w (AnExpr n) (InAssign (start ps) n t ∷ fs) qs
 
 -- an expression was read
 pub data HasExpr (w : List Placed) (m : ℕ) : (from : ℕ) → Term → List Frame → List Placed → Type 0 where
   has_expr : {ps qs : List Placed} {fs : List Frame} {n : ℕ} {e : Term} → Stands w (AnExpr n) fs ps → ((l : ℕ) → Reads (Expr l n e m) ps qs) → HasExpr w m (start ps) e fs qs
 
-pub data HasTarget (w : List Placed) (n : ℕ) : (from : ℕ) → Place → List Frame → List Placed → Type 0 where
-  has_target : {ps qs : List Placed} {fs : List Frame} {t : Place} → Stands w (AStatement n) fs ps → Reads (Target n t) ps qs → HasTarget w n (start ps) t fs qs
+-- a name or an element that is a target was read
+pub data HasTarget (w : List Placed) (u : Bool) (n : ℕ) : (from : ℕ) → Place → List Frame → List Placed → Type 0 where
+  has_target : {ps qs : List Placed} {fs : List Frame} {t : Place} → Stands w (target_need u n) fs ps → IsNamed t → Reads (Target n t) ps qs → HasTarget w u n (start ps) t fs qs
 
 pub record HasStatement (w : List Placed) (n : ℕ) (s : Stmt) (fs : List Frame) (qs : List Placed) : Type 0 where
   pub from : List Placed
@@ -88,7 +119,7 @@ pub record HasStatement (w : List Placed) (n : ℕ) (s : Stmt) (fs : List Frame)
 pub record HasEnded (w : List Placed) (n : ℕ) (s : Stmt) (fs : List Frame) (qs : List Placed) : Type 0 where
   pub from : List Placed
   pub stands : Stands w (AStatement n) fs from
-  pub closes : (d : ℕ) (rest : List Placed) → qs ≡ put n kinds.Semicolon d ∷ rest → Reads (Statement n s) from rest
+  pub reads : Reads (Simple n s) from qs
 
 pub data HasAnd (w : List Placed) : (k a : ℕ) → List Frame → List Placed → Type 0 where
   has_and : {qs : List Placed} {fs : List Frame} {n a : ℕ} → Stands w (AnExpr n) fs (put n kinds.And a ∷ qs) → HasAnd w (suc n) a fs qs
@@ -96,27 +127,60 @@ pub data HasAnd (w : List Placed) : (k a : ℕ) → List Frame → List Placed �
 pub data HasAndName (w : List Placed) : (k a b x : ℕ) → List Frame → List Placed → Type 0 where
   has_and_name : {qs : List Placed} {fs : List Frame} {n a b x : ℕ} → Stands w (AnExpr n) fs (put n kinds.And a ∷ put (suc n) (kinds.Name x) b ∷ qs) → HasAndName w (suc n) a b x fs qs
 
+-- `(` and a type were read
+pub record HasCast (w : List Placed) (n a : ℕ) (type : IntType) (fs : List Frame) (qs : List Placed) : Type 0 where
+  pub at : ℕ
+  pub word : TokenKind
+  pub names : type_of true word ≡ Some type
+  pub stands : Stands w (AnExpr n) fs (put n kinds.OpenRound a ∷ put (suc n) word at ∷ qs)
+
+-- an address space was read, and perhaps `const`
+pub record HasSpace (w : List Placed) (p : Purpose) (c : Bool) (fs : List Frame) (qs : List Placed) : Type 0 where
+  pub at : ℕ
+  pub const_at : ℕ
+  pub stands : Stands w (purpose_need p) fs (put (nesting_of p) (kinds.Space Global) (at_of p at) ∷ const_word c (nesting_of p) const_at qs)
+
+-- so, and the elements' type
+pub record HasElement (w : List Placed) (p : Purpose) (c : Bool) (type : IntType) (fs : List Frame) (qs : List Placed) : Type 0 where
+  pub at : ℕ
+  pub word : TokenKind
+  pub names : type_of (takes_size p) word ≡ Some type
+  pub space : HasSpace w p c fs (put (nesting_of p) word at ∷ qs)
+
+-- a type was read
+pub data HasTyping (w : List Placed) : Purpose → VariableType → List Frame → List Placed → Type 0 where
+  parameter_typing : {ps qs : List Placed} {fs : List Frame} {kind : VariableType} → Stands w AParameter fs ps → Reads (Typing false 1 kind) ps qs → HasTyping w ForParameter kind fs qs
+  declaration_typing : {ps qs : List Placed} {fs : List Frame} {n : ℕ} {kind : VariableType} → Stands w (AStatement n) fs ps → Reads (Typing true n kind) ps qs → HasTyping w (ForDeclaration (start ps) n) kind fs qs
+
+pub data HasDeclared (w : List Placed) (n : ℕ) : (a : ℕ) → VariableType → (b x : ℕ) → List Frame → List Placed → Type 0 where
+  has_declared : {ps qs : List Placed} {fs : List Frame} {b x : ℕ} {kind : VariableType} → Stands w (AStatement n) fs ps → Reads (Typing true n kind) ps (put n (kinds.Name x) b ∷ qs) → HasDeclared w n (start ps) kind b x fs qs
+
 abbrev pub GoodIn : List Placed → Mode → List Frame → List Placed → Type 0
 GoodIn w (Operand n) fs qs = Stands w (AnExpr n) fs qs
 GoodIn w (Have n from e) fs qs = HasExpr w n from e fs qs
 GoodIn w (Named n a x) fs qs = Stands w (AnExpr n) fs (put n (kinds.Name x) a ∷ qs)
+GoodIn w (Opened n a) fs qs = Stands w (AnExpr n) fs (put n kinds.OpenRound a ∷ qs)
+GoodIn w (CastType n a type) fs qs = HasCast w n a type fs qs
 GoodIn w (AfterAnd k a) fs qs = HasAnd w k a fs qs
 GoodIn w (AndName k a b x) fs qs = HasAndName w k a b x fs qs
 GoodIn w (CallOpen k) fs qs = Stands w (SomeArguments k) fs qs
 GoodIn w (Item n) fs qs = Stands w (AStatement n) fs qs
-GoodIn w (BeginName n a x) fs qs = Stands w (AStatement n) fs (put n (kinds.Name x) a ∷ qs)
-GoodIn w (Aimed n a t) fs qs = HasTarget w n a t fs qs
+GoodIn w (Aim n) fs qs = Stands w (AStepTarget n) fs qs
+GoodIn w (BeginName u n a x) fs qs = Stands w (target_need u n) fs (put n (kinds.Name x) a ∷ qs)
+GoodIn w (Aimed u n a t) fs qs = HasTarget w u n a t fs qs
 GoodIn w (Ended n s) fs qs = HasEnded w n s fs qs
 GoodIn w (Did n s) fs qs = HasStatement w n s fs qs
+GoodIn w (AfterSpace p) fs qs = HasSpace w p false fs qs
+GoodIn w (AfterConst p) fs qs = HasSpace w p true fs qs
+GoodIn w (AfterElement p c type) fs qs = HasElement w p c type fs qs
+GoodIn w (AfterTyping p kind) fs qs = HasTyping w p kind fs qs
+GoodIn w (Declared n a kind b x) fs qs = HasDeclared w n a kind b x fs qs
 GoodIn w Top fs qs = Stands w AFunction fs qs
 GoodIn w AfterKernel fs qs = (a : ℕ) × Stands w AFunction fs (put 0 kinds.Kernel a ∷ qs)
 GoodIn w AfterVoid fs qs = (a : ℕ) × (b : ℕ) × Stands w AFunction fs (put 0 kinds.Kernel a ∷ put 0 kinds.Void b ∷ qs)
 GoodIn w (AfterName c x) fs qs = (a : ℕ) × (b : ℕ) × Stands w AFunction fs (put 0 kinds.Kernel a ∷ put 0 kinds.Void b ∷ put 0 (kinds.Name x) c ∷ qs)
 GoodIn w HeadOpen fs qs = Stands w AHead fs qs
 GoodIn w WantParameter fs qs = Stands w AParameter fs qs
-GoodIn w AfterSpace fs qs = (a : ℕ) × Stands w AParameter fs (put 1 (kinds.Space Global) a ∷ qs)
-GoodIn w AfterType fs qs = (a : ℕ) × (b : ℕ) × Stands w AParameter fs (put 1 (kinds.Space Global) a ∷ put 1 (kinds.Type Int) b ∷ qs)
-GoodIn w AfterStar fs qs = (a : ℕ) × (b : ℕ) × (c : ℕ) × Stands w AParameter fs (put 1 (kinds.Space Global) a ∷ put 1 (kinds.Type Int) b ∷ put 1 kinds.Star c ∷ qs)
 GoodIn w AfterParameter fs qs = Stands w AfterOne fs qs
 GoodIn w HeadDone fs qs = Stands w ABody fs qs
 

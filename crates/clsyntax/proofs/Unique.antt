@@ -1,24 +1,22 @@
 -- A text has one reading.
-use Rattle.std.proofs.Common.{◌≡◌, ℕ, ◌≤◌, ◌<◌, List, [], ◌∷◌, ◌++◌, Option, Some, None, true, false, cond, Result, Ok, Err, refl, sym, ◌∙◌, ap, subst, append_assoc}
+use Rattle.std.proofs.Common.{◌≡◌, ℕ, List, [], ◌∷◌, ◌++◌, Option, Some, None, true, false, cond, Result, Ok, Err, refl, sym, ◌∙◌, ap, subst}
 use Rattle.std.proofs.lemmas.Bool.{lt-ltb, le-ltb}
-use Rattle.std.proofs.lemmas.List.{append-nil}
 use Rattle.std.specs.Prelude.{nat_lt}
-use Rattle.clmodel.specs.Tree.{Funcs, NoFunc, ThenFunc, Program}
+use Rattle.clmodel.specs.Tree.{Funcs, Program}
 use Rattle.clmodel.specs.declared.tree.Tree as rust_tree
 use Rattle.clsyntax_lex.specs.Tokens.{Text}
 use Rattle.clsyntax_lex.specs.declared.token.Token.{Token}
 use Rattle.clsyntax_lex.specs.declared.token.SyntaxFault.{SyntaxFault}
-use Rattle.clsyntax_lex.specs.declared.token.SyntaxFault.TheVariants.{BadByte, NumberTooLarge, Unexpected, TooDeep, TooLong, OutOfMemory}
-use Rattle.clsyntax.specs.Grammar.{Placed, no_functions}
+use Rattle.clsyntax_lex.specs.declared.token.SyntaxFault.TheVariants.{Unexpected, TooDeep}
+use Rattle.clsyntax.specs.Grammar.{Placed}
 use Rattle.clsyntax.specs.Machine.{InProgram, Top, State, in_mode, Moved, step, ended, begun}
-use Rattle.clsyntax.specs.Correct.{limit, tokens, IsProgram, IsWithin, IsFront, BeginsNone, IsNone, Ends, next_at, IsUnexpected, IsTooDeep, IsFault, IsProgramOf, IsReading, UnlessMemory, GivesAs}
+use Rattle.clsyntax.specs.Correct.{limit, tokens, IsWithin, IsFront, BeginsNone, IsNone, Ends, next_at, IsUnexpected, IsTooDeep, IsFault, IsReading, GivesAs}
 use Rattle.clsyntax.specs.Reading.{at_end, moved, read_from}
 use Rattle.clsyntax.proofs.Moves.{Runs, stop, onward}
 use Rattle.clsyntax.proofs.Complete.{complete}
 use Rattle.clsyntax.proofs.Sound.{sound}
 use Rattle.clsyntax.proofs.ReadingLaws.{run_nil, run_cons, behind, front_of, EndedIn, ended_is, reads_only}
 use Rattle.clsyntax.proofs.Loop.{read_next, read_nothing, unless_memory}
-use Rattle.clsyntax.proofs.ParseLaws.{read_text}
 
 -- a run over some tokens of a longer one
 record FrontRun (a : State) (ps rs : List Placed) (u : State) : Type 0 where

@@ -1,0 +1,266 @@
+-- How the machine's states move at the tokens of the grammar's rules.
+use Rattle.std.proofs.Common.{◌≡◌, ℕ, suc, ◌≤◌, List, [], ◌∷◌, Bool, true, false, Option, Some, None, refl, ◌∙◌, ap, arith}
+use Rattle.clnum.specs.declared.int_type.IntType.{IntType}
+use Rattle.clnum.specs.declared.int_type.IntType.TheVariants.{Ulong}
+use Rattle.clnum.specs.declared.operators.BinaryOperator.{BinaryOperator}
+use Rattle.clmodel.specs.declared.tree.InfixOperator.{InfixOperator}
+use Rattle.clmodel.specs.declared.tree.AddressSpace.TheVariants.{Global}
+use Rattle.clmodel.specs.declared.tree.VariableType.TheVariants.{Integer}
+use Rattle.clmodel.specs.declared.tree.Parameter.{Parameter}
+use Rattle.clmodel.specs.Tree.{Term, Variable, Binary, Choice, Place, Whole, Behind, Stmt, Assign, Step, Stmts, ThenStmt}
+use Rattle.clsyntax_lex.specs.declared.token.Token.{Token}
+use Rattle.clsyntax_lex.specs.declared.token.TokenKind.{TokenKind}
+use Rattle.clsyntax_lex.specs.declared.token.TokenKind.TheVariants as kinds
+use Rattle.clsyntax.specs.Grammar.{Placed, put, level, tight, Prefix, prefix_of, prefixed_by, type_of, assign_of, step_of, IsNamed, pointer_to, Head}
+use Rattle.clsyntax.specs.Machine.{Frame, After, Before, Chosen, InRound, InPart, InBehind, InStep, InAssign, InItems, Purpose, ForParameter, ForDeclaration, takes_size, nesting_of, Mode, Operand, Have, Named, Opened, CastType, CallOpen, Item, Aim, BeginName, Aimed, Ended, Did, AfterElement, AfterTyping, HeadOpen, WantParameter, State, in_mode, go, when, on_operand, on_prefix, on_opened, on_have, on_named, on_call_open, on_typing, on_after_const, on_after_space, on_head_open, on_item, on_placed, on_aimed, on_begin_name, step}
+use Rattle.clsyntax.proofs.Moves.{Runs, stop, onward, Alike}
+use Rattle.clsyntax.proofs.Levels.{asks, IsNoOpening, Follows, taken, chosen_taken}
+
+abbrev pub head_of : ℕ → ℕ → List Parameter → Head
+head_of a x xs = record { name_at = a; name = x; parameters = xs }
+
+abbrev token_of : TokenKind → ℕ → Token
+token_of kind at = record { kind = kind; at = at }
+
+-- ---- operands
+
+-- a state takes what an operand's state takes
+pub record TakesOperand (s : State) (n : ℕ) (fs : List Frame) : Type 0 where
+  pub takes : (t : Token) (x : ℕ × State) → on_operand n fs t ≡ Some x → step s t ≡ Some x
+
+pub at_operand : (n : ℕ) (fs : List Frame) → TakesOperand (in_mode (Operand n) fs) n fs
+at_operand n fs = record { takes = λ t x e. e }
+
+call_takes : (n : ℕ) (fs : List Frame) (kind : TokenKind) (at : ℕ) (x : ℕ × State) → on_operand n fs (token_of kind at) ≡ Some x → on_call_open n fs (token_of kind at) ≡ Some x
+call_takes n fs kinds.CloseRound at x e = let clash : None ≡ Some x = e in cc
+call_takes n fs _ at x e = e
+
+pub at_call : (n : ℕ) (fs : List Frame) → TakesOperand (in_mode (CallOpen n) fs) n fs
+at_call n fs = record { takes = λ t x e. call_takes n fs t.kind t.at x e }
+
+opened_takes : (n a : ℕ) (fs : List Frame) (kind : TokenKind) (at : ℕ) (x : ℕ × State) → on_operand (suc n) (InRound a n ∷ fs) (token_of kind at) ≡ Some x → on_opened n a fs (token_of kind at) ≡ Some x
+opened_takes n a fs (kinds.Type type) at x e = let clash : None ≡ Some x = e in cc
+opened_takes n a fs kinds.SizeT at x e = let clash : None ≡ Some x = e in cc
+opened_takes n a fs _ at x e = e
+
+pub at_opened : (n a : ℕ) (fs : List Frame) → TakesOperand (in_mode (Opened n a) fs) (suc n) (InRound a n ∷ fs)
+at_opened n a fs = record { takes = λ t x e. opened_takes n a fs t.kind t.at x e }
+
+pub prefix_step : (n : ℕ) (fs : List Frame) (k : TokenKind) (p : Prefix) (at : ℕ) → prefix_of k ≡ Some p → on_operand n fs (token_of k at) ≡ go n (Operand (suc n)) (Before at p ∷ fs)
+prefix_step n fs (kinds.Number v) p at e = let clash : None ≡ Some p = e in cc
+prefix_step n fs (kinds.Name x) p at e = let clash : None ≡ Some p = e in cc
+prefix_step n fs kinds.And p at e = let clash : None ≡ Some p = e in cc
+prefix_step n fs kinds.OpenRound p at e = let clash : None ≡ Some p = e in cc
+prefix_step n fs _ p at e = ap (λ o. on_prefix o n at fs) e
+
+pub cast_step : (n a : ℕ) (fs : List Frame) (k : TokenKind) (type : IntType) (at : ℕ) → type_of true k ≡ Some type → on_opened n a fs (token_of k at) ≡ go (suc n) (CastType n a type) fs
+cast_step n a fs (kinds.Type word) type at e = let same : word ≡ type = cc in ap (λ z. go (suc n) (CastType n a z) fs) same
+cast_step n a fs kinds.SizeT type at e = let f : Some _ ≡ Some type = e in let same : _ ≡ type = cc in ap (λ z. go (suc n) (CastType n a z) fs) same
+cast_step n a fs _ type at e = let clash : None ≡ Some type = e in cc
+
+-- a name moves as an expression does, but at an opening bracket
+named_same : (n a x : ℕ) (fs : List Frame) (kind : TokenKind) (at : ℕ) → IsNoOpening kind → on_named n a x fs (token_of kind at) ≡ on_have n a (Variable a x) fs (token_of kind at)
+named_same n a x fs kinds.OpenRound at h = absurd h
+named_same n a x fs kinds.OpenSquare at h = absurd h
+named_same n a x fs _ at h = refl
+
+pub named_alike : (l n a x : ℕ) (fs : List Frame) (qs : List Placed) → Follows l qs → Alike (in_mode (Named n a x) fs) (in_mode (Have n a (Variable a x)) fs) qs
+named_alike l n a x fs [] f = tt
+named_alike l n a x fs (q ∷ qs) f = named_same n a x fs q.token.kind q.token.at f.no_opening
+
+-- ---- what an expression is read for takes it at the next token
+
+pub prefixed_alike : (m b from : ℕ) (p : Prefix) (e : Term) (fs : List Frame) (qs : List Placed) → Alike (in_mode (Have m from e) (Before b p ∷ fs)) (in_mode (Have m b (prefixed_by p b e)) fs) qs
+prefixed_alike m b from p e fs [] = tt
+prefixed_alike m b from p e fs (q ∷ qs) = refl
+
+pub taken_alike : (l m b from : ℕ) (op : InfixOperator) (d e : Term) (fs : List Frame) (qs : List Placed) → Follows l qs → l ≤ level op
+    → Alike (in_mode (Have m from e) (After b op d ∷ fs)) (in_mode (Have m b (Binary b op d e)) fs) qs
+taken_alike l m b from op d e fs [] f h = tt
+taken_alike l m b from op d e fs (q ∷ qs) f h = taken m b from op d e fs q.token (let g = f.level_ in omega arith)
+
+pub chosen_alike : (m b from : ℕ) (c d e : Term) (fs : List Frame) (qs : List Placed) → Follows 0 qs → Alike (in_mode (Have m from e) (Chosen b c d ∷ fs)) (in_mode (Have m b (Choice b c d e)) fs) qs
+chosen_alike m b from c d e fs [] f = tt
+chosen_alike m b from c d e fs (q ∷ qs) f = chosen_taken m b from c d e fs q.token f.level_
+
+-- ---- targets
+
+-- where a target is read: at a statement's begin, or behind the step before it
+pub data TargetFrom : Bool → Mode → ℕ → Type 0 where
+  from_item : {n : ℕ} → TargetFrom false (Item n) n
+  from_aim : {n : ℕ} → TargetFrom true (Aim n) n
+
+-- what follows a target: an assignment or a step; behind a step before it, the semicolon
+pub data AfterTarget : Bool → Place → List Placed → Type 0 where
+  assigns : {n d : ℕ} {k : TokenKind} {op : Option BinaryOperator} {t : Place} {rest : List Placed} → assign_of k ≡ Some op → AfterTarget false t (put n k d ∷ rest)
+  steps : {n d : ℕ} {k : TokenKind} {up : Bool} {t : Place} {rest : List Placed} → step_of k ≡ Some up → IsNamed t → AfterTarget false t (put n k d ∷ rest)
+  stops : {n d : ℕ} {t : Place} {rest : List Placed} → AfterTarget true t (put n kinds.Semicolon d ∷ rest)
+
+pub data AtSemicolon : List Placed → Type 0 where
+  at_semicolon : {n d : ℕ} {rest : List Placed} → AtSemicolon (put n kinds.Semicolon d ∷ rest)
+
+pub semicolon_stops : {t : Place} {qs : List Placed} → AtSemicolon qs → AfterTarget true t qs
+semicolon_stops at_semicolon = stops
+
+pub semicolon_ends : (qs : List Placed) → AtSemicolon qs → Follows 0 qs
+semicolon_ends _ at_semicolon = record { level_ = omega arith; no_opening = tt }
+
+assign_no_opening : (k : TokenKind) (op : Option BinaryOperator) → assign_of k ≡ Some op → IsNoOpening k
+assign_no_opening kinds.OpenRound op e = let clash : None ≡ Some op = e in cc
+assign_no_opening kinds.OpenSquare op e = let clash : None ≡ Some op = e in cc
+assign_no_opening _ op e = tt
+
+step_no_opening : (k : TokenKind) (up : Bool) → step_of k ≡ Some up → IsNoOpening k
+step_no_opening kinds.OpenRound up e = let clash : None ≡ Some up = e in cc
+step_no_opening kinds.OpenSquare up e = let clash : None ≡ Some up = e in cc
+step_no_opening _ up e = tt
+
+begin_same : (u : Bool) (n a x : ℕ) (fs : List Frame) (k : TokenKind) (at : ℕ) → IsNoOpening k → on_begin_name u n a x fs (token_of k at) ≡ on_aimed u n a (Whole a x) fs k
+begin_same u n a x fs kinds.OpenRound at h = absurd h
+begin_same u n a x fs kinds.OpenSquare at h = absurd h
+begin_same u n a x fs _ at h = refl
+
+pub begin_alike : (u : Bool) (n a x : ℕ) (fs : List Frame) {t : Place} (qs : List Placed) → AfterTarget u t qs → Alike (in_mode (BeginName u n a x) fs) (in_mode (Aimed u n a (Whole a x)) fs) qs
+begin_alike u n a x fs _ (assigns {d = d} {k = k} {op = op} e) = begin_same false n a x fs k d (assign_no_opening k op e)
+begin_alike u n a x fs _ (steps {d = d} {k = k} {up = up} e g) = begin_same false n a x fs k d (step_no_opening k up e)
+begin_alike u n a x fs _ stops = refl
+
+-- an assignment asks nothing of the operators before it
+assign_asks : (k : TokenKind) (op : Option BinaryOperator) → assign_of k ≡ Some op → asks k ≡ 0
+assign_asks kinds.Assign op e = refl
+assign_asks kinds.PlusAssign op e = refl
+assign_asks kinds.MinusAssign op e = refl
+assign_asks kinds.StarAssign op e = refl
+assign_asks kinds.SlashAssign op e = refl
+assign_asks kinds.PercentAssign op e = refl
+assign_asks kinds.ShiftLeftAssign op e = refl
+assign_asks kinds.ShiftRightAssign op e = refl
+assign_asks kinds.AndAssign op e = refl
+assign_asks kinds.CaretAssign op e = refl
+assign_asks kinds.OrAssign op e = refl
+assign_asks _ op e = let clash : None ≡ Some op = e in absurd cc
+
+pub target_ends : (t : Place) (u : Bool) (qs : List Placed) → AfterTarget u t qs → (IsNamed t → ⊥) → Follows tight qs
+target_ends t u _ (assigns {k = k} {op = op} e) h = record { level_ = (let g = assign_asks k op e in omega arith); no_opening = assign_no_opening k op e }
+target_ends t u _ (steps e g) h = absurd (h g)
+target_ends t u _ stops h = record { level_ = omega arith; no_opening = tt }
+
+behind_assign : (n m a from d : ℕ) (e : Term) (fs : List Frame) (k : TokenKind) (op : Option BinaryOperator) → assign_of k ≡ Some op
+    → on_have m from e (InBehind false a n ∷ fs) (token_of k d) ≡ on_aimed false n a (Behind a e) fs k
+behind_assign n m a from d e fs kinds.Assign op h = refl
+behind_assign n m a from d e fs kinds.PlusAssign op h = refl
+behind_assign n m a from d e fs kinds.MinusAssign op h = refl
+behind_assign n m a from d e fs kinds.StarAssign op h = refl
+behind_assign n m a from d e fs kinds.SlashAssign op h = refl
+behind_assign n m a from d e fs kinds.PercentAssign op h = refl
+behind_assign n m a from d e fs kinds.ShiftLeftAssign op h = refl
+behind_assign n m a from d e fs kinds.ShiftRightAssign op h = refl
+behind_assign n m a from d e fs kinds.AndAssign op h = refl
+behind_assign n m a from d e fs kinds.CaretAssign op h = refl
+behind_assign n m a from d e fs kinds.OrAssign op h = refl
+behind_assign n m a from d e fs _ op h = let clash : None ≡ Some op = h in absurd cc
+
+pub behind_alike : (u : Bool) (n m a from : ℕ) (e : Term) (fs : List Frame) (qs : List Placed) → AfterTarget u (Behind a e) qs
+    → Alike (in_mode (Have m from e) (InBehind u a n ∷ fs)) (in_mode (Aimed u n a (Behind a e)) fs) qs
+behind_alike u n m a from e fs _ (assigns {d = d} {k = k} {op = op} h) = behind_assign n m a from d e fs k op h
+behind_alike u n m a from e fs _ (steps h g) = absurd g
+behind_alike u n m a from e fs _ stops = refl
+
+pub name_begins : {u : Bool} {m : Mode} {n : ℕ} (a x : ℕ) (fs : List Frame) (ps : List Placed) → TargetFrom u m n → Runs (in_mode m fs) (put n (kinds.Name x) a ∷ ps) (in_mode (BeginName u n a x) fs) ps
+name_begins a x fs ps from_item = onward refl stop
+name_begins a x fs ps from_aim = onward refl stop
+
+pub part_begins : {u : Bool} {m : Mode} {n : ℕ} (a x b : ℕ) (fs : List Frame) (ps : List Placed) → TargetFrom u m n
+    → Runs (in_mode m fs) (put n (kinds.Name x) a ∷ put n kinds.OpenSquare b ∷ ps) (in_mode (Operand (suc n)) (InPart u a x n ∷ fs)) ps
+part_begins a x b fs ps from_item = onward refl (onward refl stop)
+part_begins a x b fs ps from_aim = onward refl (onward refl stop)
+
+pub star_begins : {u : Bool} {m : Mode} {n : ℕ} (a : ℕ) (fs : List Frame) (ps : List Placed) → TargetFrom u m n → Runs (in_mode m fs) (put n kinds.Star a ∷ ps) (in_mode (Operand (suc n)) (InBehind u a n ∷ fs)) ps
+star_begins a fs ps from_item = onward refl stop
+star_begins a fs ps from_aim = onward refl stop
+
+-- ---- simple statements
+
+pub assign_step : (n a : ℕ) (p : Place) (fs : List Frame) (k : TokenKind) (op : Option BinaryOperator) → assign_of k ≡ Some op → on_aimed false n a p fs k ≡ go n (Operand n) (InAssign a n p op ∷ fs)
+assign_step n a p fs k op e = ap (λ o. on_placed o (step_of k) n a p fs) e
+
+pub assign_alike : (n m from a : ℕ) (p : Place) (op : Option BinaryOperator) (e : Term) (fs : List Frame) (qs : List Placed) → AtSemicolon qs
+    → Alike (in_mode (Have m from e) (InAssign a n p op ∷ fs)) (in_mode (Ended n (Assign a p op e)) fs) qs
+assign_alike n m from a p op e fs _ at_semicolon = refl
+
+pub step_begins : (n a : ℕ) (fs : List Frame) (k : TokenKind) (up : Bool) → step_of k ≡ Some up → on_item n fs (token_of k a) ≡ go n (Aim (suc n)) (InStep a n up ∷ fs)
+step_begins n a fs kinds.PlusPlus up e = let same : true ≡ up = cc in ap (λ z. go n (Aim (suc n)) (InStep a n z ∷ fs)) same
+step_begins n a fs kinds.MinusMinus up e = let same : false ≡ up = cc in ap (λ z. go n (Aim (suc n)) (InStep a n z ∷ fs)) same
+step_begins n a fs _ up e = let clash : None ≡ Some up = e in absurd cc
+
+pub step_ends : (n a : ℕ) (p : Place) (fs : List Frame) (k : TokenKind) (up : Bool) → step_of k ≡ Some up → on_aimed false n a p fs k ≡ go n (Ended n (Step a p up)) fs
+step_ends n a p fs kinds.PlusPlus up e = let same : true ≡ up = cc in ap (λ z. go n (Ended n (Step a p z)) fs) same
+step_ends n a p fs kinds.MinusMinus up e = let same : false ≡ up = cc in ap (λ z. go n (Ended n (Step a p z)) fs) same
+step_ends n a p fs _ up e = let clash : None ≡ Some up = e in absurd cc
+
+pub step_alike : (n k a b : ℕ) (p : Place) (up : Bool) (fs : List Frame) (qs : List Placed) → AtSemicolon qs → Alike (in_mode (Aimed true k b p) (InStep a n up ∷ fs)) (in_mode (Ended n (Step a p up)) fs) qs
+step_alike n k a b p up fs _ at_semicolon = refl
+
+-- a statement is added to those before it at the next token
+pub did_then : (n : ℕ) (ss : Stmts) (s : Stmt) (fs : List Frame) (ps : List Placed) → Alike (in_mode (Did n s) (InItems n ss ∷ fs)) (in_mode (Item n) (InItems n (ThenStmt ss s) ∷ fs)) ps
+did_then n ss s fs [] = tt
+did_then n ss s fs (p ∷ ps) = refl
+
+-- ---- types
+
+-- where a type is read, which begins at an offset
+pub data TypingFrom : Purpose → Mode → Bool → ℕ → ℕ → Type 0 where
+  of_first : {a : ℕ} → TypingFrom ForParameter HeadOpen false 1 a
+  of_next : {a : ℕ} → TypingFrom ForParameter WantParameter false 1 a
+  of_declaration : {n a : ℕ} → TypingFrom (ForDeclaration a n) (Item n) true n a
+
+typing_word : (p : Purpose) (fs : List Frame) (k : TokenKind) (type : IntType) (u : Bool) → takes_size p ≡ u → type_of u k ≡ Some type → on_typing p fs k ≡ go (nesting_of p) (AfterTyping p (Integer type)) fs
+typing_word p fs (kinds.Type word) type u h e = let same : word ≡ type = cc in ap (λ z. go (nesting_of p) (AfterTyping p (Integer z)) fs) same
+typing_word p fs kinds.SizeT type true h e = let f : Some Ulong ≡ Some type = e in let same : Ulong ≡ type = cc in ap (λ b. when b (go (nesting_of p) (AfterTyping p (Integer Ulong)) fs)) h ∙ ap (λ z. go (nesting_of p) (AfterTyping p (Integer z)) fs) same
+typing_word p fs kinds.SizeT type false h e = let clash : None ≡ Some type = e in absurd cc
+typing_word p fs _ type u h e = let clash : None ≡ Some type = e in absurd cc
+
+element_word : (p : Purpose) (c : Bool) (fs : List Frame) (k : TokenKind) (type : IntType) (u : Bool) → takes_size p ≡ u → type_of u k ≡ Some type → on_after_const p c fs k ≡ go (nesting_of p) (AfterElement p c type) fs
+element_word p c fs (kinds.Type word) type u h e = let same : word ≡ type = cc in ap (λ z. go (nesting_of p) (AfterElement p c z) fs) same
+element_word p c fs kinds.SizeT type true h e = let f : Some Ulong ≡ Some type = e in let same : Ulong ≡ type = cc in ap (λ b. when b (go (nesting_of p) (AfterElement p c Ulong) fs)) h ∙ ap (λ z. go (nesting_of p) (AfterElement p c z) fs) same
+element_word p c fs kinds.SizeT type false h e = let clash : None ≡ Some type = e in absurd cc
+element_word p c fs _ type u h e = let clash : None ≡ Some type = e in absurd cc
+
+space_word : (p : Purpose) (fs : List Frame) (k : TokenKind) (type : IntType) (u : Bool) → takes_size p ≡ u → type_of u k ≡ Some type → on_after_space p fs k ≡ go (nesting_of p) (AfterElement p false type) fs
+space_word p fs kinds.Const type u h e = let clash : None ≡ Some type = e in absurd cc
+space_word p fs k type u h e = element_word p false fs k type u h e
+
+head_same : (fs : List Frame) (k : TokenKind) (a : ℕ) (type : IntType) → type_of false k ≡ Some type → on_head_open fs (token_of k a) ≡ on_typing ForParameter fs k
+head_same fs kinds.CloseRound a type e = let clash : None ≡ Some type = e in absurd cc
+head_same fs _ a type e = refl
+
+item_same : (n : ℕ) (fs : List Frame) (k : TokenKind) (a : ℕ) (type : IntType) → type_of true k ≡ Some type → on_item n fs (token_of k a) ≡ on_typing (ForDeclaration a n) fs k
+item_same n fs (kinds.Type word) a type e = refl
+item_same n fs kinds.SizeT a type e = refl
+item_same n fs _ a type e = let clash : None ≡ Some type = e in absurd cc
+
+pub word_begins : {p : Purpose} {m : Mode} {u : Bool} {n a : ℕ} (k : TokenKind) (type : IntType) (fs : List Frame) (ps : List Placed) → TypingFrom p m u n a → type_of u k ≡ Some type
+    → Runs (in_mode m fs) (put n k a ∷ ps) (in_mode (AfterTyping p (Integer type)) fs) ps
+word_begins {a = a} k type fs ps of_first e = onward (head_same fs k a type e ∙ typing_word ForParameter fs k type false refl e) stop
+word_begins {a = a} k type fs ps of_next e = onward (typing_word ForParameter fs k type false refl e) stop
+word_begins {n = n} {a = a} k type fs ps of_declaration e = onward (item_same n fs k a type e ∙ typing_word (ForDeclaration a n) fs k type true refl e) stop
+
+pub pointer_begins : {p : Purpose} {m : Mode} {u : Bool} {n a : ℕ} (b c : ℕ) (k : TokenKind) (type : IntType) (fs : List Frame) (ps : List Placed) → TypingFrom p m u n a → type_of u k ≡ Some type
+    → Runs (in_mode m fs) (put n (kinds.Space Global) a ∷ put n k b ∷ put n kinds.Star c ∷ ps) (in_mode (AfterTyping p (pointer_to false type)) fs) ps
+pointer_begins b c k type fs ps of_first e = onward refl (onward (space_word ForParameter fs k type false refl e) (onward refl stop))
+pointer_begins b c k type fs ps of_next e = onward refl (onward (space_word ForParameter fs k type false refl e) (onward refl stop))
+pointer_begins {n = n} {a = a} b c k type fs ps of_declaration e = onward refl (onward (space_word (ForDeclaration a n) fs k type true refl e) (onward refl stop))
+
+pub const_begins : {p : Purpose} {m : Mode} {u : Bool} {n a : ℕ} (b c d : ℕ) (k : TokenKind) (type : IntType) (fs : List Frame) (ps : List Placed) → TypingFrom p m u n a → type_of u k ≡ Some type
+    → Runs (in_mode m fs) (put n (kinds.Space Global) a ∷ put n kinds.Const b ∷ put n k c ∷ put n kinds.Star d ∷ ps) (in_mode (AfterTyping p (pointer_to true type)) fs) ps
+const_begins b c d k type fs ps of_first e = onward refl (onward refl (onward (element_word ForParameter true fs k type false refl e) (onward refl stop)))
+const_begins b c d k type fs ps of_next e = onward refl (onward refl (onward (element_word ForParameter true fs k type false refl e) (onward refl stop)))
+const_begins {n = n} {a = a} b c d k type fs ps of_declaration e = onward refl (onward refl (onward (element_word (ForDeclaration a n) true fs k type true refl e) (onward refl stop)))
+
+pub data WantsParameter : Mode → Type 0 where
+  as_first : WantsParameter HeadOpen
+  as_next : WantsParameter WantParameter
+
+pub parameter_from : {m : Mode} (a : ℕ) → WantsParameter m → TypingFrom ForParameter m false 1 a
+parameter_from a as_first = of_first
+parameter_from a as_next = of_next
