@@ -20,6 +20,8 @@ use Rattle.clsyntax.specs.declared.state.Prefix.{Prefix}
 use Rattle.clsyntax.specs.declared.state.Prefix.TheVariants as prefixes
 use Rattle.clsyntax.specs.declared.state.Purpose.{Purpose}
 use Rattle.clsyntax.specs.declared.state.Purpose.TheVariants as purposes
+use Rattle.clsyntax.specs.declared.state.TypeMode.{TypeMode}
+use Rattle.clsyntax.specs.declared.state.TypeMode.TheVariants as types
 use Rattle.clsyntax.specs.declared.state.HeadMode.{HeadMode}
 use Rattle.clsyntax.specs.declared.state.HeadMode.TheVariants as heads
 use Rattle.clsyntax.specs.declared.state.Frame.{Frame}
@@ -92,6 +94,12 @@ head_mode_of heads.WantParameter = machine.WantParameter
 head_mode_of heads.AfterParameter = machine.AfterParameter
 head_mode_of heads.HeadDone = machine.HeadDone
 
+abbrev pub type_mode_of : Purpose → TypeMode → machine.Mode
+type_mode_of p types.AfterSpace = machine.AfterSpace (purpose p)
+type_mode_of p types.AfterConst = machine.AfterConst (purpose p)
+type_mode_of p (types.AfterElement is_const type) = machine.AfterElement (purpose p) is_const type
+type_mode_of p (types.Whole kind) = machine.AfterTyping (purpose p) kind
+
 abbrev pub mode_of : Mode → machine.Mode
 mode_of (modes.Operand nesting) = machine.Operand nesting
 mode_of (modes.Have nesting from value) = machine.Have nesting from (term value.value)
@@ -107,10 +115,7 @@ mode_of (modes.BeginName is_step nesting at name) = machine.BeginName is_step ne
 mode_of (modes.Aimed is_step nesting at target) = machine.Aimed is_step nesting at (place target.value)
 mode_of (modes.Ended nesting statement) = machine.Ended nesting (stmt statement.value)
 mode_of (modes.Did nesting statement) = machine.Did nesting (stmt statement.value)
-mode_of (modes.AfterSpace p) = machine.AfterSpace (purpose p)
-mode_of (modes.AfterConst p) = machine.AfterConst (purpose p)
-mode_of (modes.AfterElement p is_const type) = machine.AfterElement (purpose p) is_const type
-mode_of (modes.AfterTyping p kind) = machine.AfterTyping (purpose p) kind
+mode_of (modes.Typing p t) = type_mode_of p t
 mode_of (modes.Declared d) = machine.Declared d.nesting d.at d.kind d.name_at d.name
 mode_of (modes.Head h) = head_mode_of h
 

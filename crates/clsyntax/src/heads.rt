@@ -1,86 +1,37 @@
 //! Types, and the head of a function.
 #![tactic(auto)]
 
+ghost use Rattle.std.specs.Prelude.{◌≡◌};
+ghost use Rattle.clsyntax.specs.Grammar as grammar;
 ghost use Rattle.clsyntax.specs.Machine as machine;
-ghost use Rattle.clsyntax.specs.Views.{opened, purpose, head_mode_of, Steps};
+ghost use Rattle.clsyntax.specs.Views.{opened, purpose, type_mode_of, head_mode_of, Steps};
 
-use crate::state::{Declared, Frame, Head, HeadMode, Mode, Moved, Purpose, Stack, Step};
+use crate::state::{Declared, Frame, Head, HeadMode, Mode, Moved, Purpose, Stack, Step, TypeMode};
 use clmodel::tree::{AddressSpace, Parameter, PointerType, VariableType};
 use clnum::IntType;
 use clsyntax_lex::token::{Token, TokenKind};
+
+/// The integer type that a word names, where a type is read for a purpose.
+fn type_of(wanted: Purpose, kind: TokenKind) -> Option<IntType>
+    ensures { result ≡ grammar.type_of (machine.takes_size (purpose wanted)) kind }
+{
+    match (kind, wanted) {
+        (TokenKind::Type(integer), _) => Some(integer),
+        (TokenKind::SizeT, Purpose::Declaration { .. }) => Some(IntType::Ulong),
+        _ => None,
+    }
+}
 
 /// Where a type may begin.
 pub(crate) fn on_typing(wanted: Purpose, stack: Stack, kind: TokenKind) -> Moved
     ensures { Steps result (machine.on_typing (purpose wanted) (opened stack) kind) }
 {
-    let integer = match kind {
-        TokenKind::Type(integer) => integer,
-        TokenKind::SizeT if wanted.takes_size() => IntType::Ulong,
-        TokenKind::Space(AddressSpace::Global) => {
-            return stack.go(wanted.nesting(), Mode::AfterSpace(wanted));
-        }
+    let mode = match (kind, type_of(wanted, kind)) {
+        (TokenKind::Space(AddressSpace::Global), _) => TypeMode::AfterSpace,
+        (_, Some(integer)) => TypeMode::Whole(VariableType::Integer(integer)),
         _ => return Ok(Step::Refused),
     };
-    stack.go(
-        wanted.nesting(),
-        Mode::AfterTyping(wanted, VariableType::Integer(integer)),
-    )
-}
-
-/// Where the type of a pointer's elements is wanted.
-pub(crate) fn on_after_const(
-    wanted: Purpose,
-    is_const: bool,
-    stack: Stack,
-    kind: TokenKind,
-) -> Moved
-    ensures { Steps result (machine.on_after_const (purpose wanted) is_const (opened stack) kind) }
-{
-    let element = match kind {
-        TokenKind::Type(element) => element,
-        TokenKind::SizeT if wanted.takes_size() => IntType::Ulong,
-        _ => return Ok(Step::Refused),
-    };
-    stack.go(
-        wanted.nesting(),
-        Mode::AfterElement(wanted, is_const, element),
-    )
-}
-
-/// After a pointer's address space.
-pub(crate) fn on_after_space(wanted: Purpose, stack: Stack, kind: TokenKind) -> Moved
-    ensures { Steps result (machine.on_after_space (purpose wanted) (opened stack) kind) }
-{
-    match kind {
-        TokenKind::Const => stack.go(wanted.nesting(), Mode::AfterConst(wanted)),
-        _ => on_after_const(wanted, false, stack, kind),
-    }
-}
-
-/// After a pointer's type but its star.
-pub(crate) fn on_after_element(
-    wanted: Purpose,
-    is_const: bool,
-    element: IntType,
-    stack: Stack,
-    kind: TokenKind,
-) -> Moved
-    ensures { Steps result (machine.on_after_element (purpose wanted) is_const element (opened stack) kind) }
-{
-    match kind {
-        TokenKind::Star => {
-            let pointer = PointerType {
-                space: AddressSpace::Global,
-                is_const,
-                element,
-            };
-            stack.go(
-                wanted.nesting(),
-                Mode::AfterTyping(wanted, VariableType::Pointer(pointer)),
-            )
-        }
-        _ => Ok(Step::Refused),
-    }
+    stack.go(wanted.nesting(), Mode::Typing(wanted, mode))
 }
 
 /// One more parameter of the head.
@@ -101,38 +52,65 @@ fn on_parameter_name(parameter: Parameter, stack: Stack) -> Moved
     }
 }
 
-/// After a type.
-pub(crate) fn on_after_typing(
+/// The name of what a type was read for.
+fn on_typed_name(
     wanted: Purpose,
     kind: VariableType,
+    name_at: u32,
+    name: u32,
     stack: Stack,
-    token: Token,
 ) -> Moved
-    ensures { Steps result (machine.on_after_typing (purpose wanted) kind (opened stack) token) }
+    ensures { Steps result (machine.on_typed_name (purpose wanted) kind name_at name (opened stack)) }
 {
-    match (token.kind, wanted) {
-        (TokenKind::Name(name), Purpose::Parameter) => {
-            on_parameter_name(
-                Parameter {
-                    name_at: token.at,
-                    name,
-                    kind,
-                },
-                stack,
-            )
-        }
-        (TokenKind::Name(name), Purpose::Declaration { at, nesting }) => {
+    match wanted {
+        Purpose::Parameter => on_parameter_name(
+            Parameter {
+                name_at,
+                name,
+                kind,
+            },
+            stack,
+        ),
+        Purpose::Declaration { at, nesting } => {
             let declared = Declared {
                 nesting,
                 at,
                 kind,
-                name_at: token.at,
+                name_at,
                 name,
             };
             stack.go(nesting, Mode::Declared(declared))
         }
-        _ => Ok(Step::Refused),
     }
+}
+
+/// In a type, or after it.
+pub(crate) fn on_type(wanted: Purpose, mode: TypeMode, stack: Stack, token: Token) -> Moved
+    ensures { Steps result (machine.step_in (type_mode_of wanted mode) (opened stack) token) }
+{
+    let next = match (mode, token.kind) {
+        (TypeMode::AfterSpace, TokenKind::Const) => TypeMode::AfterConst,
+        (TypeMode::AfterSpace | TypeMode::AfterConst, kind) => {
+            let Some(element) = type_of(wanted, kind) else {
+                return Ok(Step::Refused);
+            };
+            TypeMode::AfterElement(matches!(mode, TypeMode::AfterConst), element)
+        }
+        (TypeMode::AfterElement(is_const, element), TokenKind::Star) => {
+            let space = AddressSpace::Global;
+            let pointer = PointerType {
+                space,
+                is_const,
+                element,
+            };
+            TypeMode::Whole(VariableType::Pointer(pointer))
+        }
+        (TypeMode::Whole(kind), TokenKind::Name(name)) => return on_typed_name(
+            wanted, kind, token.at, name, stack,
+        ),
+        _ => return Ok(Step::Refused),
+    };
+    stack.go(wanted.nesting(), Mode::Typing(wanted, next))
 }
 
 /// Where a function's body begins.

@@ -5,7 +5,7 @@ ghost use Rattle.clsyntax.specs.Machine as machine;
 ghost use Rattle.clsyntax.specs.Views.{state_of, Steps};
 
 use crate::expressions::{on_call_open, on_have, on_named, on_opened, on_operand};
-use crate::heads::{on_after_const, on_after_element, on_after_space, on_after_typing, on_head};
+use crate::heads::{on_head, on_type};
 use crate::state::{Frame, Mode, Moved, Stack, State, Step};
 use crate::statements::{on_aim, on_aimed, on_begin_name, on_declared, on_did, on_item};
 use clsyntax_lex::token::{Token, TokenKind};
@@ -17,8 +17,7 @@ pub(crate) fn step(alloc: Global, state: Box<State>, token: Token) -> Moved
 {
     let State { mode, frames } = Box::into_inner(state);
     let stack = Stack { alloc, frames };
-    let kind = token.kind;
-    match (mode, kind) {
+    match (mode, token.kind) {
         (Mode::Operand { nesting }, _) => on_operand(nesting, stack, token),
         (Mode::Have(nesting, from, value), _) => on_have(nesting, from, value, stack, token),
         (Mode::Named { nesting, at, name }, _) => on_named(nesting, at, name, stack, token),
@@ -45,12 +44,7 @@ pub(crate) fn step(alloc: Global, state: Box<State>, token: Token) -> Moved
             stack.go(nesting, Mode::Did(nesting, statement))
         }
         (Mode::Did(nesting, statement), _) => on_did(nesting, statement, stack, token),
-        (Mode::AfterSpace(purpose), _) => on_after_space(purpose, stack, kind),
-        (Mode::AfterConst(purpose), _) => on_after_const(purpose, true, stack, kind),
-        (Mode::AfterElement(purpose, is_const, element), _) => {
-            on_after_element(purpose, is_const, element, stack, kind)
-        }
-        (Mode::AfterTyping(purpose, typing), _) => on_after_typing(purpose, typing, stack, token),
+        (Mode::Typing(purpose, mode), _) => on_type(purpose, mode, stack, token),
         (Mode::Declared(declared), _) => on_declared(declared, stack, token),
         (Mode::Head(head), _) => on_head(head, stack, token),
         _ => Ok(Step::Refused),

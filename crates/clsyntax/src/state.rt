@@ -43,13 +43,6 @@ impl Purpose {
             Purpose::Declaration { nesting, .. } => nesting,
         }
     }
-
-    /// Whether the type may be `size_t` (OpenCL 1.2, section 6.9).
-    pub(crate) fn takes_size(self) -> bool
-        ensures { result ≡ machine.takes_size (purpose self) }
-    {
-        matches!(self, Purpose::Declaration { .. })
-    }
 }
 
 /// A type and a name of that type; `at` is where the type begins.
@@ -158,16 +151,23 @@ pub(crate) enum Mode {
     Ended(u32, Box<Statement>),
     /// A statement was read
     Did(u32, Box<Statement>),
-    /// A pointer's address space was read
-    AfterSpace(Purpose),
-    AfterConst(Purpose),
-    /// A pointer's type but its star was read, whether with `const`
-    AfterElement(Purpose, bool, IntType),
-    /// A type was read
-    AfterTyping(Purpose, VariableType),
+    /// Some of a type was read
+    Typing(Purpose, TypeMode),
     /// A type and a name were read
     Declared(Declared),
     Head(HeadMode),
+}
+
+/// What was read of a type.
+#[derive(Clone, Copy)]
+pub(crate) enum TypeMode {
+    /// A pointer's address space
+    AfterSpace,
+    /// That and `const`
+    AfterConst,
+    /// All but the star of a pointer, whether with `const`
+    AfterElement(bool, IntType),
+    Whole(VariableType),
 }
 
 /// What was read last of a function's head.
@@ -230,13 +230,8 @@ impl Stack {
     pub(crate) fn go(self, nesting: u32, mode: Mode) -> Moved
         ensures { Steps result (machine.go nesting (mode_of mode) (opened self)) }
     {
-        let state = Box::new(
-            self.alloc,
-            State {
-                mode,
-                frames: self.frames,
-            },
-        )?;
+        let Stack { alloc, frames } = self;
+        let state = Box::new(alloc, State { mode, frames })?;
         Ok(Step::To { nesting, state })
     }
 
@@ -244,25 +239,18 @@ impl Stack {
     pub(crate) fn push(self, frame: Frame) -> Result<Stack, AllocError>
         ensures { IfOk result (λ pushed. opened pushed ≡ frame_of frame ∷ opened self) }
     {
-        let frames = Box::new(self.alloc, Frames::Inside(frame, self.frames))?;
-        Ok(Stack {
-            alloc: self.alloc,
-            frames,
-        })
+        let alloc = self.alloc;
+        let frames = Box::new(alloc, Frames::Inside(frame, self.frames))?;
+        Ok(Stack { alloc, frames })
     }
 
     /// The frame in front, and the stack without it.
     pub(crate) fn pop(self) -> Option<(Frame, Stack)>
         ensures { MatchOption result (opened self ≡ []) (λ popped. opened self ≡ frame_of popped.0 ∷ opened popped.1) }
     {
+        let alloc = self.alloc;
         match Box::into_inner(self.frames) {
-            Frames::Inside(frame, frames) => Some((
-                frame,
-                Stack {
-                    alloc: self.alloc,
-                    frames,
-                },
-            )),
+            Frames::Inside(frame, frames) => Some((frame, Stack { alloc, frames })),
             Frames::Empty => None,
         }
     }
@@ -317,14 +305,9 @@ impl Stack {
     pub(crate) fn cast(self, nesting: u32, at: u32, target: IntType) -> Moved
         ensures { Steps result (machine.go (suc nesting) (machine.Operand (suc nesting)) (machine.Before at (grammar.Convert target) ∷ opened self)) }
     {
+        let prefix = Prefix::Convert(target);
         match deeper(nesting) {
-            Some(inner) => self.want(
-                inner,
-                Frame::Before {
-                    at,
-                    prefix: Prefix::Convert(target),
-                },
-            ),
+            Some(inner) => self.want(inner, Frame::Before { at, prefix }),
             None => Ok(Step::Deep),
         }
     }

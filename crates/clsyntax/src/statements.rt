@@ -3,7 +3,7 @@
 
 ghost use Rattle.std.specs.Prelude.{◌≡◌, ◌∷◌, suc, false};
 ghost use Rattle.clmodel.specs.Tree as tree;
-ghost use Rattle.clmodel.specs.Tree.{place, stmt, NoStmt, declared, func};
+ghost use Rattle.clmodel.specs.Tree.{place, stmt, NoStmt, func};
 ghost use Rattle.clsyntax.specs.Machine as machine;
 ghost use Rattle.clsyntax.specs.Views.{opened, stmts_of, Steps};
 
@@ -38,31 +38,28 @@ pub(crate) fn end_step(target: Box<Target>, stack: Stack) -> Moved
 
 /// Where a declaration ends.
 #[tactic(auto, using(crate::proofs::Lists::stmts_then))]
-pub(crate) fn end_declaration(name: Declared, value: Option<Box<Expression>>, stack: Stack) -> Moved
-    ensures { Steps result (machine.end_declaration name.nesting (declared name.at name.kind name.name_at name.name value) (opened stack)) }
+pub(crate) fn end_declaration(
+    declared: Declared,
+    value: Option<Box<Expression>>,
+    stack: Stack,
+) -> Moved
+    ensures { Steps result (machine.end_declaration declared.nesting (tree.declared declared.at declared.kind declared.name_at declared.name value) (opened stack)) }
 {
-    let Declared {
-        nesting,
-        at,
-        kind,
-        name_at,
-        name,
-    } = name;
     let Some((frame, stack)) = stack.pop() else {
         return Ok(Step::Refused);
     };
     match frame {
         Frame::InItems(outer, mut body) => {
             body.push(Statement::Declare {
-                at,
-                kind,
-                name_at,
-                name,
+                at: declared.at,
+                kind: declared.kind,
+                name_at: declared.name_at,
+                name: declared.name,
                 value,
             })?;
-            stack
-                .push(Frame::InItems(outer, body))?
-                .go(nesting, Mode::Item { nesting })
+            let nesting = declared.nesting;
+            let stack = stack.push(Frame::InItems(outer, body))?;
+            stack.go(nesting, Mode::Item { nesting })
         }
         _ => Ok(Step::Refused),
     }
@@ -192,17 +189,11 @@ fn on_begin(nesting: u32, stack: Stack, token: Token) -> Moved
 pub(crate) fn on_item(nesting: u32, stack: Stack, token: Token) -> Moved
     ensures { Steps result (machine.on_item nesting (opened stack) token) }
 {
-    match token.kind {
+    let Token { kind, at } = token;
+    match kind {
         TokenKind::CloseBrace => on_close_brace(stack),
         TokenKind::Type(_) | TokenKind::SizeT | TokenKind::Space(_) => {
-            on_typing(
-                Purpose::Declaration {
-                    at: token.at,
-                    nesting,
-                },
-                stack,
-                token.kind,
-            )
+            on_typing(Purpose::Declaration { at, nesting }, stack, kind)
         }
         _ => on_begin(nesting, stack, token),
     }
