@@ -1,5 +1,5 @@
 -- What an item does next: plain evaluation of the kernel's tree, as a tree of actions (OpenCL 1.2, 6.3 to 6.12; C99 6.5 and 6.8).
-use Rattle.std.specs.Prelude.{◌≡◌, ℕ, zero, suc, ◌+◌, ◌-◌, ◌==◌, ℤ, pos, negsuc, ◌+ℤ◌, ◌-ℤ◌, neg_ℤ, Bool, true, false, not, if◌then◌else◌, Option, None, Some, List, [], ◌∷◌, ◌++◌, length, drop, Result, Ok, Err, map}
+use Rattle.std.specs.Prelude.{◌≡◌, ℕ, zero, suc, ◌+◌, ◌-◌, ◌==◌, ℤ, pos, ◌+ℤ◌, ◌-ℤ◌, Bool, true, false, not, if◌then◌else◌, Option, None, Some, List, [], ◌∷◌, ◌++◌, length, drop, Result, Ok, Err, map}
 use Rattle.std.specs.Ordering.{int_eq}
 use Rattle.clnum.specs.Integer.{Integer, bits_of, wrap, converted, is_signed}
 use Rattle.clnum.specs.Conversions.{common, unsigned_of}
@@ -12,6 +12,7 @@ use Rattle.clnum.specs.declared.operators.ArithFault.TheVariants as arith_fault
 use Rattle.clnum.specs.declared.operators.BinaryOperator.{BinaryOperator}
 use Rattle.clnum.specs.declared.operators.BinaryOperator.TheVariants as binary_operator
 use Rattle.clnum.specs.declared.operators.UnaryOperator.{UnaryOperator}
+use Rattle.clnum.specs.declared.operators.UnaryOperator.TheVariants as unary_operator
 use Rattle.clnum.specs.declared.operators.Builtin.{Builtin}
 use Rattle.clnum.specs.declared.operators.Builtin.TheVariants as builtin
 use Rattle.clmodel.specs.BuiltIns.{built_in}
@@ -162,27 +163,21 @@ class_of atomic.Xor kind = class.Xor
 class_of atomic.Inc kind = class.Add
 class_of atomic.Dec kind = class.Add
 
--- what an atomic function brings to its element, given a number of the element's type: `inc` and `dec` are given none
-abbrev pub amount : AtomicFunction → ℤ → ℤ
-amount atomic.Add n = n
-amount atomic.Sub n = neg_ℤ n
-amount atomic.Min n = n
-amount atomic.Max n = n
-amount atomic.And n = n
-amount atomic.Or n = n
-amount atomic.Xor n = n
-amount atomic.Inc n = pos 1
-amount atomic.Dec n = negsuc 0
+-- what an atomic function brings to its element, given a number of the element's type
+abbrev pub amount : AtomicFunction → Integer → Integer
+amount atomic.Sub v = unary_value unary_operator.Negate v
+amount atomic.Dec v = unary_value unary_operator.Negate v
+amount _ v = v
 
 -- an atomic update of 32 bits through a pointer
-abbrev pub update : AtomicFunction → Pointer → ℤ → Run → Run
-update function p n after =
-    ask (action.Access p.object p.offset (operation.Update (class_of function p.element) (bits_of Uint (amount function n)))) (λ _. after)
+abbrev pub update : AtomicFunction → Pointer → Integer → Run → Run
+update function p v after =
+    ask (action.Access p.object p.offset (operation.Update (class_of function p.element) (bits_of Uint (amount function v).number))) (λ _. after)
 
--- an atomic function, whose number is converted to the element's type
+-- A call of an atomic function. Its number is converted to the element's type; `inc` and `dec` are given none, and it is 1.
 abbrev pub atomic_call : AtomicFunction → List Operand → Run → Run
-atomic_call function (Pointed p ∷ []) after = update function p (pos 0) after
-atomic_call function (Pointed p ∷ Integral v ∷ []) after = update function p (converted v p.element).number after
+atomic_call function (Pointed p ∷ []) after = update function p (wrapped p.element (pos 1)) after
+atomic_call function (Pointed p ∷ Integral v ∷ []) after = update function p (converted v p.element) after
 atomic_call function _ after = finish
 
 abbrev pub arithmetic : Result Integer ArithFault → (Operand → Run) → Run
@@ -276,7 +271,19 @@ abbrev mutual
   argument_type variables NoTerm = Int
   argument_type variables (ThenTerm terms term) = base_type (type_of variables term)
 
--- a chosen value in the common type of it and of the other branch
+-- What follows the left operand: that of `&&` or `||` may settle the value, and else more follows (6.3.g).
+abbrev pub settle : InfixOperator → Operand → (Operand → Run) → Run → Run
+settle (Arithmetic operator) v after more = more
+settle LogicalAnd v after more = test v (λ holds. if holds then more else after (Integral (truth false)))
+settle LogicalOr v after more = test v (λ holds. if holds then after (Integral (truth true)) else more)
+
+-- an operator's value on both operands
+abbrev pub join : InfixOperator → Operand → Operand → (Operand → Run) → Run
+join (Arithmetic operator) v w after = combined operator v w after
+join LogicalAnd v w after = test w (λ holds. after (Integral (truth holds)))
+join LogicalOr v w after = test w (λ holds. after (Integral (truth holds)))
+
+-- the value of a chosen branch in the common type of it and of the other branch (6.3.i)
 abbrev pub chosen_value : Operand → VariableType → (Operand → Run) → Run
 chosen_value v other after = number v (λ n. after (Integral (converted n (common n.kind (base_type other)))))
 
@@ -293,18 +300,12 @@ abbrev mutual
   eval here (Call at name arguments) variables after = eval_all here arguments variables (λ values. call here (built_in name) values after)
   eval here (Unary at operator operand) variables after = eval here operand variables (λ v. number v (λ n. after (Integral (unary_value operator n))))
   eval here (Cast at target operand) variables after = eval here operand variables (λ v. number v (λ n. after (Integral (converted n target))))
-  eval here (Binary at (Arithmetic operator) left right) variables after =
-      eval here left variables (λ v. eval here right variables (λ w. combined operator v w after))
-  eval here (Binary at LogicalAnd left right) variables after =
-      eval here left variables (λ v. test v (λ first.
-      if first then eval here right variables (λ w. test w (λ second. after (Integral (truth second)))) else after (Integral (truth false))))
-  eval here (Binary at LogicalOr left right) variables after =
-      eval here left variables (λ v. test v (λ first.
-      if first then after (Integral (truth true)) else eval here right variables (λ w. test w (λ second. after (Integral (truth second))))))
+  eval here (Binary at operator left right) variables after =
+      eval here left variables (λ v. settle operator v after (eval here right variables (λ w. join operator v w after)))
   eval here (Choice at condition chosen otherwise) variables after =
       eval here condition variables (λ v. test v (λ holds.
-      if holds then eval here chosen variables (λ w. chosen_value w (type_of variables otherwise) after)
-      else eval here otherwise variables (λ w. chosen_value w (type_of variables chosen) after)))
+        if holds then eval here chosen variables (λ w. chosen_value w (type_of variables otherwise) after)
+        else eval here otherwise variables (λ w. chosen_value w (type_of variables chosen) after)))
 
   -- arguments, from left to right
   pub eval_all : Here → Terms → Variables → (List Operand → Run) → Run

@@ -1,5 +1,1 @@
-pub mod Finds
-pub mod Lists
-pub mod Statements
-pub mod Kernels
-pub mod Nexts
+pub mod Places

@@ -1,4 +1,3 @@
 pub mod Evaluation
-pub mod Contents
 pub mod Context
-pub mod Setups
+pub mod Places

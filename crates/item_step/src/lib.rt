@@ -1,12 +1,8 @@
 //! One work-item: what it does next.
 #![tactic(auto)]
 
-mod answers;
-mod context;
-mod evaluation;
-mod execution;
-mod halt;
-mod launch;
-mod memory;
-
-pub use launch::Launch;
+pub mod answers;
+pub mod context;
+pub mod halt;
+pub mod pointers;
+pub mod variables;
