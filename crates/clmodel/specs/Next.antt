@@ -134,6 +134,11 @@ moved_back (Pointed p) (Integral i) after = after (at_offset p (p.offset -ℤ i.
 moved_back (Pointed p) (Pointed q) after = finish
 moved_back (Integral v) i after = finish
 
+-- a value that is a number
+abbrev pub number : Operand → (Integer → Run) → Run
+number (Integral v) after = after v
+number (Pointed p) after = finish
+
 -- a value that is a pointer
 abbrev pub pointing : Operand → (Pointer → Run) → Run
 pointing (Pointed p) after = after p
@@ -176,8 +181,8 @@ update function p v after =
 
 -- A call of an atomic function. Its number is converted to the element's type; `inc` and `dec` are given none, and it is 1.
 abbrev pub atomic_call : AtomicFunction → List Operand → Run → Run
-atomic_call function (Pointed p ∷ []) after = update function p (wrapped p.element (pos 1)) after
-atomic_call function (Pointed p ∷ Integral v ∷ []) after = update function p (converted v p.element) after
+atomic_call function (p ∷ []) after = pointing p (λ q. update function q (wrapped q.element (pos 1)) after)
+atomic_call function (p ∷ v ∷ []) after = pointing p (λ q. number v (λ n. update function q (converted n q.element) after))
 atomic_call function _ after = finish
 
 abbrev pub arithmetic : Result Integer ArithFault → (Operand → Run) → Run
@@ -192,11 +197,6 @@ combined binary_operator.Add (Pointed p) w after = moved (Pointed p) w (λ q. af
 combined binary_operator.Add (Integral v) (Pointed p) after = moved (Pointed p) (Integral v) (λ q. after (Pointed q))
 combined binary_operator.Subtract (Pointed p) w after = moved_back (Pointed p) w (λ q. after (Pointed q))
 combined _ _ _ after = finish
-
--- a value that is a number
-abbrev pub number : Operand → (Integer → Run) → Run
-number (Integral v) after = after v
-number (Pointed p) after = finish
 
 -- whether a number isn't zero
 abbrev pub test : Operand → (Bool → Run) → Run
@@ -217,13 +217,18 @@ abbrev pub given_value : Option Integer → (Operand → Run) → Run
 given_value (Some v) after = after (Integral v)
 given_value None after = finish
 
+-- a function of one integer or of two
+abbrev pub integer_call : Builtin → List Operand → (Operand → Run) → Run
+integer_call function (a ∷ []) after = number a (λ m. given_value (builtin_value function (m ∷ [])) after)
+integer_call function (a ∷ b ∷ []) after = number a (λ m. number b (λ n. given_value (builtin_value function (m ∷ n ∷ [])) after))
+integer_call function _ after = finish
+
 -- a built-in function that gives a value
 abbrev pub call : Here → Option BuiltIn → List Operand → (Operand → Run) → Run
 call here (Some built_in_function.WorkDim) [] after = after (Integral (wrapped Uint (pos (length here.range.global))))
 call here (Some (built_in_function.WorkItem function)) (d ∷ []) after =
     after (Integral (wrapped Ulong (pos (work_item_value here.range here.item function (dimension d)))))
-call here (Some (built_in_function.Integer function)) (Integral a ∷ []) after = given_value (builtin_value function (a ∷ [])) after
-call here (Some (built_in_function.Integer function)) (Integral a ∷ Integral b ∷ []) after = given_value (builtin_value function (a ∷ b ∷ [])) after
+call here (Some (built_in_function.Integer function)) values after = integer_call function values after
 call here _ _ after = finish
 
 -- a call that is a whole statement: an atomic function, or one whose value is dropped

@@ -20,6 +20,13 @@ pub enum Operand {
     Pointed(Pointer),
 }
 
+impl Default for Operand {
+    /// The int 0.
+    fn default() -> Self {
+        Operand::Integral(Value::new(IntType::Int, 0))
+    }
+}
+
 /// A variable in scope: its name, its declared type, and what it holds, if it is set.
 #[derive(Clone, Copy, Debug, PartialEq, Eq)]
 pub struct Binding {

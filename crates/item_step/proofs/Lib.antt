@@ -1,1 +1,7 @@
 pub mod Places
+pub mod Counts
+pub mod Lists
+pub mod Statements
+pub mod Bindings
+pub mod Kernels
+pub mod Nexts

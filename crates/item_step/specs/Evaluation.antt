@@ -1,5 +1,5 @@
 -- How an evaluation that runs against a list of answers stands for a tree of actions.
-use Rattle.std.specs.Prelude.{◌≡◌, ℕ, List, [], ◌∷◌, ◌++◌, Option, None, Some, Result, Ok, Err}
+use Rattle.std.specs.Prelude.{◌≡◌, List, [], ◌∷◌, ◌++◌, Option, None, Some, Result, Ok, Err}
 use Rattle.clmodel.specs.Next.{Run, walk, Here, Variables, eval, exec}
 use Rattle.clmodel.specs.Tree.{Term, Stmt}
 use Rattle.clmodel.specs.declared.action.Action.{Action}

@@ -1,3 +1,4 @@
 pub mod Evaluation
 pub mod Context
 pub mod Places
+pub mod Setups

@@ -1,8 +1,16 @@
 //! One work-item: what it does next.
 #![tactic(auto)]
 
-pub mod answers;
-pub mod context;
-pub mod halt;
-pub mod pointers;
-pub mod variables;
+mod answers;
+mod context;
+mod evaluation;
+mod execution;
+mod halt;
+mod launch;
+mod operators;
+mod parameters;
+mod pointers;
+mod types;
+mod variables;
+
+pub use launch::Launch;

@@ -1,8 +1,8 @@
 //! What pointers do: they move, and items load, store and update through them (OpenCL 1.2, sections 6.5 and 6.12.11).
 #![tactic(auto)]
 
-ghost use Rattle.std.specs.Prelude.{◌≡◌, ℤ, pos, List, ◌+ℤ◌, ◌-ℤ◌};
-ghost use Rattle.clnum.specs.Integer.{bits_of};
+ghost use Rattle.std.specs.Prelude.{◌≡◌, ℤ, pos, List, [], ◌∷◌, ◌+ℤ◌, ◌-ℤ◌};
+ghost use Rattle.clnum.specs.Integer.{Integer, bits_of, wrap};
 ghost use Rattle.clnum.specs.Operations.{wrapped};
 ghost use Rattle.clnum.specs.declared.int_type.IntType.TheVariants as int_type;
 ghost use Rattle.clmodel.specs.Next as next;
@@ -75,15 +75,22 @@ fn forward(pointer: Pointer, by: Value) -> Pointer
     }
 }
 
-/// A pointer some elements back: the low 64 bits of the difference, read as signed.
+/// An offset that many elements back: the low 64 bits of the difference, read as signed.
+fn offset_back(offset: i64, by: Value) -> i64
+    ensures { result ≡ wrap int_type.Long (offset -ℤ by.number) }
+{
+    let difference = i128::from(offset) - by.number();
+    Value::wrapped(IntType::Long, difference).number() as i64
+}
+
+/// A pointer some elements back.
 fn backward(pointer: Pointer, by: Value) -> Pointer
     ensures { result ≡ next.at_offset pointer (pointer.offset -ℤ by.number) }
 {
-    let difference = i128::from(pointer.offset) - by.number();
     Pointer {
         object: pointer.object,
         element: pointer.element,
-        offset: Value::wrapped(IntType::Long, difference).number() as i64,
+        offset: offset_back(pointer.offset, by),
     }
 }
 
@@ -113,6 +120,16 @@ pub fn moved_back(pointer: Operand, index: Operand) -> Result<Pointer, Halt>
     }
 }
 
+/// A value that is a number.
+pub fn number(value: Operand) -> Result<Value, Halt>
+    ensures { (after : Integer → Run) (left : Left) → Went result (made (next.number value after) left) (λ n. made (after n) left) }
+{
+    match value {
+        Operand::Integral(number) => Ok(number),
+        Operand::Pointed(_) => Err(Halt::Finish),
+    }
+}
+
 /// A value that is a pointer.
 pub fn pointing(value: Operand) -> Result<Pointer, Halt>
     ensures { (after : Pointer → Run) (left : Left) → Went result (made (next.pointing value after) left) (λ p. made (after p) left) }
@@ -133,6 +150,22 @@ pub fn load(pointer: Pointer, left: &mut Left<'_>) -> Result<Operand, Halt>
     }
 }
 
+/// Loads the element at an index.
+pub fn load_element(pointer: Operand, index: Operand, left: &mut Left<'_>) -> Result<Operand, Halt>
+    ensures { (after : Operand → Run) → Went result (made (next.moved pointer index (λ q. next.load q after)) left.old) (λ v. made (after v) left.new) }
+{
+    let element = moved(pointer, index)?;
+    load(element, left)
+}
+
+/// Loads through a value that is a pointer.
+pub fn load_behind(pointer: Operand, left: &mut Left<'_>) -> Result<Operand, Halt>
+    ensures { (after : Operand → Run) → Went result (made (next.pointing pointer (λ q. next.load q after)) left.old) (λ v. made (after v) left.new) }
+{
+    let pointer = pointing(pointer)?;
+    load(pointer, left)
+}
+
 /// Stores the low bits of a number through a pointer.
 pub fn store(pointer: Pointer, value: Operand, left: &mut Left<'_>) -> Result<(), Halt>
     ensures { (after : Run) → Went result (made (next.store pointer value after) left.old) (λ _. made after left.new) }
@@ -151,10 +184,8 @@ fn class_of(function: AtomicFunction, kind: IntType) -> Class
     ensures { result ≡ next.class_of function kind }
 {
     match function {
-        AtomicFunction::Add
-        | AtomicFunction::Sub
-        | AtomicFunction::Inc
-        | AtomicFunction::Dec => Class::Add,
+        AtomicFunction::Add | AtomicFunction::Sub | AtomicFunction::Inc | AtomicFunction::Dec =>
+            Class::Add,
         AtomicFunction::Min if kind.is_signed() => Class::SignedMin,
         AtomicFunction::Min => Class::UnsignedMin,
         AtomicFunction::Max if kind.is_signed() => Class::SignedMax,
@@ -198,8 +229,33 @@ fn update(
     }
 }
 
-/// A call of an atomic function (OpenCL 1.2, section 6.12.11). Its number is converted to the element's type, and is 1 for `inc` and
-/// `dec`, which are given none.
+/// An atomic function that is given no number, which is 1 then.
+fn update_by_one(
+    function: AtomicFunction,
+    pointer: Operand,
+    left: &mut Left<'_>,
+) -> Result<(), Halt>
+    ensures { (after : Run) → Went result (made (next.atomic_call function (pointer ∷ []) after) left.old) (λ _. made after left.new) }
+{
+    let pointer = pointing(pointer)?;
+    update(function, pointer, Value::wrapped(pointer.element, 1), left)
+}
+
+/// An atomic function that is given a number, which is converted to the element's type.
+fn update_by(
+    function: AtomicFunction,
+    pointer: Operand,
+    value: Operand,
+    left: &mut Left<'_>,
+) -> Result<(), Halt>
+    ensures { (after : Run) → Went result (made (next.atomic_call function (pointer ∷ value ∷ []) after) left.old) (λ _. made after left.new) }
+{
+    let pointer = pointing(pointer)?;
+    let value = number(value)?;
+    update(function, pointer, convert(value, pointer.element), left)
+}
+
+/// A call of an atomic function (OpenCL 1.2, section 6.12.11).
 pub fn atomic_call(
     function: AtomicFunction,
     values: &[Operand],
@@ -208,12 +264,8 @@ pub fn atomic_call(
     ensures { (after : Run) → Went result (made (next.atomic_call function values.now after) left.old) (λ _. made after left.new) }
 {
     match values {
-        [Operand::Pointed(pointer)] => {
-            update(function, *pointer, Value::wrapped(pointer.element, 1), left)
-        }
-        [Operand::Pointed(pointer), Operand::Integral(value)] => {
-            update(function, *pointer, convert(*value, pointer.element), left)
-        }
+        [pointer] => update_by_one(function, *pointer, left),
+        [pointer, value] => update_by(function, *pointer, *value, left),
         _ => Err(Halt::Finish),
     }
 }
