@@ -1,5 +1,3 @@
-pub mod Places
-pub mod Counts
 pub mod Lists
 pub mod Statements
 pub mod Bindings

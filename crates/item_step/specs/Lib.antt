@@ -1,4 +1,2 @@
 pub mod Evaluation
-pub mod Context
-pub mod Places
 pub mod Setups

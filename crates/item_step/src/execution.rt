@@ -1,7 +1,7 @@
 //! Execution of statements against a list of answers (OpenCL 1.2, sections 6.3 and 6.11; C99 6.5.16 and 6.8).
 #![tactic(auto)]
 
-ghost use Rattle.std.specs.Prelude.{◌≡◌, ℕ, [], map, Some, None};
+ghost use Rattle.std.specs.Prelude.{◌≡◌, ℕ, [], ◌∷◌, map, Some, None, IfOk, IfErr};
 ghost use Rattle.clmodel.specs.Next as next;
 ghost use Rattle.clmodel.specs.Next.{Run};
 ghost use Rattle.clmodel.specs.BuiltIns.{built_in};
@@ -9,17 +9,17 @@ ghost use Rattle.clmodel.specs.Tree as tree;
 ghost use Rattle.clmodel.specs.Tree.{stmt, term};
 ghost use Rattle.clmodel.specs.declared.operand.Destination.{Destination};
 ghost use Rattle.clmodel.specs.declared.operand.Operand.{Operand};
-ghost use Rattle.item_step.specs.Context.{here};
+ghost use Rattle.item_state.specs.Context.{here};
 ghost use Rattle.item_step.specs.declared.answers.Left.{Left};
 ghost use Rattle.item_step.specs.Evaluation.{Went, made, eval_list, exec_list};
 
 use crate::answers::Left;
-use crate::context::Context;
+use item_state::context::Context;
 use crate::evaluation::{value_of, values_of};
 use crate::halt::Halt;
 use crate::operators::{call, combined, known};
 use crate::pointers::{atomic_call, load, moved, pointing, store};
-use crate::variables::Variables;
+use item_state::variables::Variables;
 use clmodel::operand::{Destination, Operand};
 use clmodel::setup::{BuiltIn, built_in_named};
 use clmodel::tree::{Expression, Statement, Target, VariableType};
@@ -143,8 +143,19 @@ fn step(
     put(to, new, variables, left)
 }
 
-/// A declaration: the variable is unset, and then its initialiser is evaluated.
-fn declare(
+/// A declaration, which leaves the variable unset.
+fn declare(variables: &mut Variables, kind: VariableType, name: u32) -> Result<(), Halt>
+    ensures ok { IfOk result (λ _. variables.new ≡ record { name = name; kind = kind; content = None } ∷ variables.old) }
+    ensures err { IfErr result (λ halt. halt ≡ Halt.Memory) }
+{
+    match variables.declare(name, kind, None) {
+        Ok(()) => Ok(()),
+        Err(_) => Err(Halt::Memory),
+    }
+}
+
+/// A declaration with an initialiser, which is evaluated when the variable is declared and unset.
+fn declare_as(
     context: &Context<'_>,
     variables: &mut Variables,
     kind: VariableType,
@@ -154,7 +165,7 @@ fn declare(
 ) -> Result<(), Halt>
     ensures { (at name_at : ℕ) (after : next.Variables → Run) → Went result (made (next.exec (here context.now) (tree.DeclareAs at kind name_at name (term value.now)) after variables.old) left.old) (λ _. made (after variables.new) left.new) }
 {
-    variables.declare(name, kind, None)?;
+    declare(variables, kind, name)?;
     let value = value_of(context, variables, value, left)?;
     variables.assign(name, value);
     Ok(())
@@ -232,8 +243,8 @@ fn execute(
             value,
             ..
         } => match value {
-            None => variables.declare(*name, *kind, None),
-            Some(value) => declare(context, variables, *kind, *name, value, left),
+            None => declare(variables, *kind, *name),
+            Some(value) => declare_as(context, variables, *kind, *name, value, left),
         },
         Statement::Assign {
             target,

@@ -12,7 +12,7 @@ ghost use Rattle.clmodel.specs.declared.action.Action.TheVariants as action;
 ghost use Rattle.item_step.specs.Evaluation.{Went};
 
 use crate::answers::Left;
-use crate::context::{Context, group_counts};
+use item_state::context::{Context, group_counts};
 use crate::execution::execute_all;
 use crate::halt::Halt;
 use crate::parameters::bound;
@@ -163,9 +163,7 @@ impl NextAction for Launch<'_> {
         };
         let buffers = self.buffers.as_slice();
         let parameters = kernel.parameters.as_slice();
-        let Ok(mut variables) = bound(alloc, buffers, parameters, self.arguments) else {
-            return Err(AllocError);
-        };
+        let mut variables = bound(alloc, buffers, parameters, self.arguments)?;
         let mut left = Left {
             ticks: self.budget,
             answers,

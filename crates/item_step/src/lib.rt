@@ -2,7 +2,6 @@
 #![tactic(auto)]
 
 mod answers;
-mod context;
 mod evaluation;
 mod execution;
 mod halt;
@@ -11,6 +10,5 @@ mod operators;
 mod parameters;
 mod pointers;
 mod types;
-mod variables;
 
 pub use launch::Launch;

@@ -10,11 +10,11 @@ ghost use Rattle.clmodel.specs.Next.{Run};
 ghost use Rattle.clmodel.specs.Setup.{work_item_value};
 ghost use Rattle.clmodel.specs.declared.operand.Operand.{Operand};
 ghost use Rattle.clmodel.specs.declared.operand.Operand.TheVariants as operand;
-ghost use Rattle.item_step.specs.Context.{here};
+ghost use Rattle.item_state.specs.Context.{here};
 ghost use Rattle.item_step.specs.Evaluation.{Went, made, value_or};
 ghost use Rattle.item_step.specs.declared.answers.Left.{Left};
 
-use crate::context::Context;
+use item_state::context::Context;
 use crate::halt::Halt;
 use crate::pointers::{moved, moved_back, number};
 use crate::types::base_type;

@@ -5,15 +5,14 @@ ghost use Rattle.std.specs.Prelude.{◌≡◌, ◌<◌, ◌≤◌, ◌^◌, [], 
 ghost use Rattle.clmodel.specs.Setup.{place_of};
 ghost use Rattle.clmodel.specs.Next as next;
 
-use crate::halt::Halt;
-use crate::variables::Variables;
+use item_state::variables::Variables;
 use clmodel::access::Object;
 use clmodel::operand::{Operand, Pointer};
 use clmodel::setup::Argument;
 use clmodel::text::Name;
 use clmodel::tree::{Parameter, VariableType};
 use clnum::Value;
-use std::alloc::Global;
+use std::alloc::{AllocError, Global};
 
 /// The place of a name among others, or their count where it isn't there.
 fn place(names: &[Name], name: &Name) -> usize
@@ -57,7 +56,7 @@ pub fn bound(
     buffers: &[Name],
     parameters: &[Parameter],
     arguments: &[Option<Argument>],
-) -> Result<Variables, Halt>
+) -> Result<Variables, AllocError>
     requires { length buffers.now < 2 ^ 32 }
     ensures { IfOk result (λ variables. variables ≡ next.bound buffers.now parameters.now arguments.now []) }
 {

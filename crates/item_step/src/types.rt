@@ -6,7 +6,7 @@ ghost use Rattle.clnum.specs.Operations as operations;
 ghost use Rattle.clmodel.specs.Next as next;
 ghost use Rattle.clmodel.specs.Tree.{term};
 
-use crate::variables::Variables;
+use item_state::variables::Variables;
 use clmodel::setup::{BuiltIn, built_in_named};
 use clmodel::tree::{Expression, InfixOperator, VariableType};
 use clnum::{BinaryOperator, Builtin, IntType, UnaryOperator};

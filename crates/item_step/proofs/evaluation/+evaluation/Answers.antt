@@ -4,7 +4,7 @@ use Rattle.clmodel.specs.Next.{Run, call}
 use Rattle.clmodel.specs.Tree.{term}
 use Rattle.clmodel.specs.declared.action.Action.{Action}
 use Rattle.clmodel.specs.declared.operand.Operand.{Operand}
-use Rattle.item_step.specs.Context.{here}
+use Rattle.item_state.specs.Context.{here}
 use Rattle.item_step.specs.Evaluation.{Stops, Went, made, eval_list}
 use Rattle.item_step.proofs.Lists.{call_run, eval_at}
 use Rattle.item_step.proofs.evaluation.+evaluation.Goals as goal

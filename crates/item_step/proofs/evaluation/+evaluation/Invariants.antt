@@ -2,7 +2,7 @@ use Rattle.std.proofs.Common.{◌≡◌, List, [], map, drop}
 use Rattle.clmodel.specs.Next.{Run}
 use Rattle.clmodel.specs.Tree.{term}
 use Rattle.clmodel.specs.declared.operand.Operand.{Operand}
-use Rattle.item_step.specs.Context.{here}
+use Rattle.item_state.specs.Context.{here}
 use Rattle.item_step.specs.Evaluation.{made, eval_list}
 use Rattle.item_step.proofs.evaluation.+evaluation.Given as goal
 

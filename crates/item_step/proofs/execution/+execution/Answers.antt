@@ -2,7 +2,7 @@ use Rattle.std.proofs.Common.{◌≡◌, ◌+◌, arith, suc, ℕ, ap, sym, subs
 use Rattle.clmodel.specs.Next.{Run, Variables, exec, leave}
 use Rattle.clmodel.specs.Tree.{Stmt, stmt}
 use Rattle.clmodel.specs.declared.action.Action.{Action}
-use Rattle.item_step.specs.Context.{here}
+use Rattle.item_state.specs.Context.{here}
 use Rattle.item_step.specs.Evaluation.{Stops, Went, made, exec_list}
 use Rattle.item_step.proofs.Lists.{exec_at, block_run}
 use Rattle.item_step.proofs.Statements.{assign_is, step_is, declare_is, call_only_run}
@@ -45,9 +45,9 @@ execute-returns-in-Step t c after =
 
 pub execute-returns-in-Some : goal.execute-returns-in-Some
 execute-returns-in-Some t c after =
-    subst (λ (x : Stmt). Went c.declare-in-Some.result (made (exec (here c.args.context.now) x after c.args.variables.now) c.args.left.now) (λ _. made (after c.declare-in-Some.new.variables) c.declare-in-Some.new.left))
+    subst (λ (x : Stmt). Went c.declare_as.result (made (exec (here c.args.context.now) x after c.args.variables.now) c.args.left.now) (λ _. made (after c.declare_as.new.variables) c.declare_as.new.left))
     (declare_is c.args.statement.now c.in-Declare.at c.in-Declare.kind c.in-Declare.name_at c.in-Declare.name c.in-Declare.value c.in-Some.value c.deref-in-Some.result.now c.in-Declare.is c.in-Some.is c.deref-in-Some.ensures)
-    (c.declare-in-Some.ensures c.in-Declare.at c.in-Declare.name_at after)
+    (c.declare_as.ensures c.in-Declare.at c.in-Declare.name_at after)
 
 pub execute-returns-in-Ok : goal.execute-returns-in-Ok
 execute-returns-in-Ok t c after =

@@ -1,7 +1,7 @@
 use Rattle.std.proofs.Common.{◌≡◌, map, drop}
 use Rattle.clmodel.specs.Next.{Run, Variables}
 use Rattle.clmodel.specs.Tree.{stmt}
-use Rattle.item_step.specs.Context.{here}
+use Rattle.item_state.specs.Context.{here}
 use Rattle.item_step.specs.Evaluation.{made, exec_list}
 use Rattle.item_step.proofs.execution.+execution.Given as goal
 

@@ -9,9 +9,9 @@ loop-i-preserved c =
       | then-i-arguments+in_ok-declare w ↦
           c.loop-i.invariant
           ∙ bound_given c.args.buffers.now c.args.parameters.now c.args.arguments.now c.loop-i.variables c.if-i-arguments.variables c.loop-i.i _ w.index-arguments-i.result w.content-content.result
-          c.loop-i-test.true w.if-i-arguments.true w.index-arguments-i.is w.content-content.ensures (w.variables-is ∙ w.in_ok-declare.ensures.ok)
+          c.loop-i-test.true w.if-i-arguments.true w.index-arguments-i.is w.content-content.ensures (w.variables-is ∙ w.in_ok-declare.ensures)
       | else-i-arguments+in_ok-declare-2 w ↦
           c.loop-i.invariant
           ∙ bound_missing c.args.buffers.now c.args.parameters.now c.args.arguments.now c.loop-i.variables c.if-i-arguments.variables c.loop-i.i _
-          c.loop-i-test.true w.if-i-arguments.false (w.variables-is ∙ w.in_ok-declare-2.ensures.ok)
+          c.loop-i-test.true w.if-i-arguments.false (w.variables-is ∙ w.in_ok-declare-2.ensures)
     ]
