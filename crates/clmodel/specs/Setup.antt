@@ -1,11 +1,13 @@
--- What a launch runs: a kernel of a program with a range, arguments and a budget (OpenCL 1.2, 3.2 and 6.7).
-use Rattle.std.specs.Prelude.{◌≡◌, ℕ, ◌*◌, ◌/◌, ◌%◌, ◌==◌, suc, Bool, true, false, ◌&&◌, not, if◌then◌else◌, Option, None, Some, List, [], ◌∷◌, ◌++◌, map, slice_index, slice_index_or, nat_eq}
+-- What a launch runs: a kernel of a program with a range, arguments and a budget (OpenCL 1.2, 3.2, 6.7 and 6.12.1).
+use Rattle.std.specs.Prelude.{◌≡◌, ℕ, ◌+◌, ◌*◌, ◌/◌, ◌%◌, ◌==◌, suc, Bool, true, false, ◌&&◌, not, if◌then◌else◌, Option, None, Some, List, [], ◌∷◌, ◌++◌, map, slice_index, slice_index_or, nat_eq}
 use Rattle.std.specs.List.{list_any}
 use Rattle.std.specs.Cmp.Lexicographic.{pointwise}
 use Rattle.clmodel.specs.Tree.{Program, Func, Funcs, NoFunc, ThenFunc}
 use Rattle.clmodel.specs.declared.setup.Range.{Range}
 use Rattle.clmodel.specs.declared.setup.Argument.{Argument}
 use Rattle.clmodel.specs.declared.setup.Argument.TheVariants as argument
+use Rattle.clmodel.specs.declared.setup.WorkItemFunction.{WorkItemFunction}
+use Rattle.clmodel.specs.declared.setup.WorkItemFunction.TheVariants as work_item
 
 -- a kernel by its name's number, with an argument for each parameter, or None where it was not given
 pub record Setup : Type 0 where
@@ -34,6 +36,34 @@ digits n (size ∷ sizes) = n % size ∷ digits (n / size) sizes
 -- an item's local id in a dimension, 0 where there is no such dimension
 abbrev pub local_id : Range → ℕ → ℕ → ℕ
 local_id range item dimension = slice_index (digits (item % group_items range) range.local) dimension
+
+-- how many groups there are in each dimension
+abbrev pub quotients : List ℕ → List ℕ → List ℕ
+quotients [] sizes = []
+quotients (n ∷ ns) [] = []
+quotients (n ∷ ns) (size ∷ sizes) = n / size ∷ quotients ns sizes
+
+abbrev pub group_counts : Range → List ℕ
+group_counts range = quotients range.global range.local
+
+-- the id of an item's group in a dimension
+abbrev pub group_id : Range → ℕ → ℕ → ℕ
+group_id range item dimension = slice_index (digits (item / group_items range) (group_counts range)) dimension
+
+-- an item's global id in a dimension
+abbrev pub global_id : Range → ℕ → ℕ → ℕ
+global_id range item dimension =
+    slice_index range.offset dimension + group_id range item dimension * slice_index_or range.local dimension 1 + local_id range item dimension
+
+-- what a work-item function gives an item in a dimension: an id or an offset is 0 where there is no such dimension, a size or a count 1
+abbrev pub work_item_value : Range → ℕ → WorkItemFunction → ℕ → ℕ
+work_item_value range item work_item.GlobalId dimension = global_id range item dimension
+work_item_value range item work_item.LocalId dimension = local_id range item dimension
+work_item_value range item work_item.GroupId dimension = group_id range item dimension
+work_item_value range item work_item.GlobalOffset dimension = slice_index range.offset dimension
+work_item_value range item work_item.GlobalSize dimension = slice_index_or range.global dimension 1
+work_item_value range item work_item.LocalSize dimension = slice_index_or range.local dimension 1
+work_item_value range item work_item.NumGroups dimension = slice_index_or (group_counts range) dimension 1
 
 -- two names are the same text
 abbrev pub same_text : List ℕ → List ℕ → Bool

@@ -1,5 +1,5 @@
-pub mod Finds
 pub mod Lists
 pub mod Statements
+pub mod Bindings
 pub mod Kernels
 pub mod Nexts

@@ -1,13 +1,17 @@
 -- Arguments and statements as lists.
-use Rattle.std.proofs.Common.{◌≡◌, ℕ, zero, suc, ◌+◌, ◌<◌, List, [], ◌∷◌, ◌++◌, map, length, drop, get_or, refl, sym, ap, ◌∙◌, Vec, arith}
+use Rattle.std.proofs.Common.{◌≡◌, ℕ, zero, suc, ◌-◌, ◌<◌, List, [], ◌∷◌, ◌++◌, map, length, drop, get_or, refl, sym, ap, ◌∙◌, Vec, arith, ◌==◌, true, false}
+use Rattle.std.proofs.lemmas.Bool.Decides.{nat_tests}
 use Rattle.std.specs.declared.alloc.Global.{Global}
 use mathlib.Core.Former.{Count}
 use Rattle.clmodel.specs.declared.tree.Expression as rust_expression
+use Rattle.clmodel.specs.declared.tree.Statement as rust_statement
 use Rattle.clmodel.specs.declared.tree.Statement.{Statement}
 use Rattle.clmodel.specs.declared.operand.Operand.{Operand}
-use Rattle.clmodel.specs.Tree.{Term, term, terms, row_terms, then_all, Terms, NoTerm, ThenTerm, Call, Stmt, Stmts, NoStmt, ThenStmt, stmt, then_stmts}
-use Rattle.clmodel.specs.Next.{Run, Here, Variables, eval, eval_all, exec, exec_all, call}
+use Rattle.clmodel.specs.Tree.{Term, term, terms, row_terms, then_all, Terms, NoTerm, ThenTerm, Call, Block, row_stmts, Stmt, Stmts, NoStmt, ThenStmt, stmt, then_stmts}
+use Rattle.clmodel.specs.Next.{Run, Here, Variables, eval, eval_all, exec, exec_all, call, type_of, argument_type, call_type, base_type, leave}
 use Rattle.clmodel.specs.BuiltIns.{built_in}
+use Rattle.clmodel.specs.declared.tree.VariableType.TheVariants.{Integer}
+use Rattle.clnum.specs.declared.int_type.IntType.TheVariants.{Int}
 use Rattle.item_step.specs.Evaluation.{eval_list, exec_list}
 
 row_same : (ts : Terms) (n : _) (row : rust_expression.Row_of-Expression n) → row_terms ts row ≡ then_all ts (map term (rust_expression.items-the_row-Expression n row))
@@ -84,3 +88,54 @@ pub call_run : (here : Here) (variables : Variables) (e : rust_expression.Expres
 call_run here variables e at name es xs after p q =
     ap (λ t. eval here (term t) variables after) p ∙ eval_call here variables at name es after
     ∙ ap (λ ys. eval_list here (map term ys) variables [] (λ values. call here (built_in name) values after)) (sym q)
+
+pub is_zero : (n : ℕ) → (n == 0) ≡ true → n ≡ 0
+is_zero n h = grind (arith, nat_tests)
+
+pub is_more : (n : ℕ) → (n == 0) ≡ false → 0 < n
+is_more n h = grind (arith, nat_tests)
+
+-- the type of a call, by its arguments
+pub call_type_is : (vs : Variables) (e : rust_expression.Expression) (at name : ℕ) (es : Vec rust_expression.Expression Global) → e ≡ rust_expression.Call at name es
+    → type_of vs (term e) ≡ Integer (call_type (built_in name) (argument_type vs (terms es.items)))
+call_type_is vs e at name es p = ap (λ x. type_of vs (term x)) p ∙ ap (λ t. type_of vs t) (calls at name es)
+
+pub argument_none : (vs : Variables) (es : List rust_expression.Expression) → length es ≡ 0 → argument_type vs (terms es) ≡ Int
+argument_none vs [] h = refl
+argument_none vs (e ∷ es) h = absurd (omega arith)
+
+last_behind : (vs : Variables) (ts : Terms) (es : List rust_expression.Expression) (d : rust_expression.Expression) → 0 < length es
+    → argument_type vs (then_all ts (map term es)) ≡ base_type (type_of vs (term (get_or es (length es - 1) d)))
+last_behind vs ts [] d h = absurd (omega arith)
+last_behind vs ts (x ∷ []) d h = refl
+last_behind vs ts (x ∷ y ∷ ys) d h =
+    let e : suc (length (y ∷ ys) - 1) ≡ length (x ∷ y ∷ ys) - 1 = omega arith in
+    last_behind vs (ThenTerm ts (term x)) (y ∷ ys) d (omega arith)
+    ∙ ap (λ k. base_type (type_of vs (term (get_or (x ∷ y ∷ ys) k d)))) e
+
+pub argument_last : (vs : Variables) (es : List rust_expression.Expression) (e : rust_expression.Expression) → 0 < length es → e ≡ get_or es (length es - 1) e
+    → argument_type vs (terms es) ≡ base_type (type_of vs (term e))
+argument_last vs es e h p = last_behind vs NoTerm es e h ∙ ap (λ x. base_type (type_of vs (term x))) (sym p)
+
+stmt_rows : (ss : Stmts) (n : _) (row : rust_statement.Row_of-Statement n) → row_stmts ss row ≡ then_stmts ss (map stmt (rust_statement.items-the_row-Statement n row))
+stmt_rows ss n rust_statement.end_of-Statement = refl
+stmt_rows ss n (rust_statement.more_of-Statement s rest) = stmt_rows (ThenStmt ss (stmt s)) _ rest
+
+abbrev stmt_row_of : rust_statement.Statement → (n : Count) × rust_statement.Row_of-Statement n
+stmt_row_of (rust_statement.Block' at n row) = (_, row)
+stmt_row_of _ = (_, rust_statement.end_of-Statement)
+
+-- a block is of its statements
+blocks : (at : ℕ) (ss : Vec rust_statement.Statement Global) → stmt (rust_statement.Block at ss) ≡ Block at (then_stmts NoStmt (map stmt ss.items))
+blocks at ss =
+    let row = stmt_row_of (rust_statement.Block at ss) in
+    let same = rust_statement.items_hidden-the_row-Statement-0 ss in
+    ap (Block at) (stmt_rows NoStmt row.0 row.1 ∙ ap (λ ds. then_stmts NoStmt (map stmt ds)) same)
+
+pub block_run : (here : Here) (vs : Variables) (s : Statement) (at : ℕ) (ss : Vec Statement Global) (xs : List Statement) (after : Variables → Run)
+    → s ≡ rust_statement.Block at ss → xs ≡ ss.items
+    → exec here (stmt s) after vs ≡ exec_list here (map stmt xs) (λ now. after (leave (length vs) now)) vs
+block_run here vs s at ss xs after p q =
+    ap (λ x. exec here (stmt x) after vs) p ∙ ap (λ t. exec here t after vs) (blocks at ss)
+    ∙ exec_stmts here ss.items (λ now. after (leave (length vs) now)) vs
+    ∙ ap (λ ys. exec_list here (map stmt ys) (λ now. after (leave (length vs) now)) vs) (sym q)

@@ -1,26 +1,34 @@
--- What each kind of statement does.
-use Rattle.std.proofs.Common.{◌≡◌, ℕ, List, [], map, Option, None, refl, sym, ap, ap₂, ◌∙◌, Vec, Box}
+-- What each kind of statement stands for.
+use Rattle.std.proofs.Common.{◌≡◌, ℕ, Bool, List, [], map, Option, Some, sym, ap, ap₂, ◌∙◌, Vec, Box}
 use Rattle.std.specs.declared.alloc.Global.{Global}
 use Rattle.clnum.specs.declared.operators.BinaryOperator.{BinaryOperator}
 use Rattle.clmodel.specs.declared.tree.Expression.{Expression}
 use Rattle.clmodel.specs.declared.tree.Statement as rust_statement
 use Rattle.clmodel.specs.declared.tree.Target.{Target}
-use Rattle.clmodel.specs.declared.tree.Target.TheVariants as target
-use Rattle.clmodel.specs.declared.operand.Operand.{Operand}
-use Rattle.clmodel.specs.Tree.{Term, term, stmt}
+use Rattle.clmodel.specs.declared.tree.VariableType.{VariableType}
+use Rattle.clmodel.specs.Tree.{Assign, Step, DeclareAs, place, term, stmt}
 use Rattle.clmodel.specs.Next.{Run, Here, Variables, exec, call_only}
 use Rattle.clmodel.specs.BuiltIns.{built_in}
-use Rattle.item_step.specs.Evaluation.{eval_list, assigned}
+use Rattle.item_step.specs.Evaluation.{eval_list}
 use Rattle.item_step.proofs.Lists.{eval_terms}
 
-pub assign_run : (here : Here) (variables : Variables) (s : rust_statement.Statement) (at : ℕ) (to : Box Target Global) (operator : Option BinaryOperator) (value : Box Expression Global) (at_name name : ℕ) (index : Box Expression Global) (t : Target) (i v : Expression) (after : Variables → Run)
-    → s ≡ rust_statement.Assign at to operator value → operator ≡ None → t ≡ to.value → t ≡ target.Element at_name name index → i ≡ index.value → v ≡ value.value
-    → exec here (stmt s) after variables ≡ assigned here name (term i) (term v) variables (after variables)
-assign_run here variables s at to operator value at_name name index t i v after s_is none t_is element i_is v_is =
-    ap (λ x. exec here (stmt x) after variables) s_is
-    ∙ ap (λ o. exec here (stmt (rust_statement.Assign at to o value)) after variables) none
-    ∙ ap (λ x. exec here (stmt (rust_statement.Assign at (record to { value = x }) None value)) after variables) (sym t_is ∙ element)
-    ∙ ap₂ (λ x y. assigned here name (term x) (term y) variables (after variables)) (sym i_is) (sym v_is)
+pub assign_is : (s : rust_statement.Statement) (at : ℕ) (to : Box Target Global) (operator : Option BinaryOperator) (value : Box Expression Global) (o : Option BinaryOperator) (t : Target) (v : Expression)
+    → s ≡ rust_statement.Assign at to operator value → operator ≡ o → t ≡ to.value → v ≡ value.value → Assign at (place t) o (term v) ≡ stmt s
+assign_is s at to operator value o t v s_is o_is t_is v_is =
+    ap₂ (λ (x : Target) (e : Expression). Assign at (place x) o (term e)) t_is v_is
+    ∙ ap (λ (p : Option BinaryOperator). Assign at (place to.value) p (term value.value)) (sym o_is)
+    ∙ ap stmt (sym s_is)
+
+pub step_is : (s : rust_statement.Statement) (at : ℕ) (to : Box Target Global) (is_increment : Bool) (t : Target)
+    → s ≡ rust_statement.Step at to is_increment → t ≡ to.value → Step at (place t) is_increment ≡ stmt s
+step_is s at to is_increment t s_is t_is = ap (λ (x : Target). Step at (place x) is_increment) t_is ∙ ap stmt (sym s_is)
+
+pub declare_is : (s : rust_statement.Statement) (at : ℕ) (kind : VariableType) (name_at name : ℕ) (o : Option (Box Expression Global)) (value : Box Expression Global) (v : Expression)
+    → s ≡ rust_statement.Declare at kind name_at name o → o ≡ Some value → v ≡ value.value → DeclareAs at kind name_at name (term v) ≡ stmt s
+declare_is s at kind name_at name o value v s_is o_is v_is =
+    ap (λ (e : Expression). DeclareAs at kind name_at name (term e)) v_is
+    ∙ ap (λ (p : Option (Box Expression Global)). stmt (rust_statement.Declare at kind name_at name p)) (sym o_is)
+    ∙ ap stmt (sym s_is)
 
 pub call_only_run : (here : Here) (variables : Variables) (s : rust_statement.Statement) (at name : ℕ) (es : Vec Expression Global) (xs : List Expression) (after : Variables → Run)
     → s ≡ rust_statement.Call at name es → xs ≡ es.items

@@ -1,10 +1,9 @@
 -- How an evaluation that runs against a list of answers stands for a tree of actions.
-use Rattle.std.specs.Prelude.{◌≡◌, ℕ, List, [], ◌∷◌, ◌++◌, Result, Ok, Err, drop}
-use Rattle.clmodel.specs.Next.{Run, walk, Here, Variables, eval, exec, known, look, moved, store}
+use Rattle.std.specs.Prelude.{◌≡◌, List, [], ◌∷◌, ◌++◌, Option, None, Some, Result, Ok, Err}
+use Rattle.clmodel.specs.Next.{Run, walk, Here, Variables, eval, exec}
 use Rattle.clmodel.specs.Tree.{Term, Stmt}
 use Rattle.clmodel.specs.declared.action.Action.{Action}
 use Rattle.clmodel.specs.declared.action.Action.TheVariants as action
-use Rattle.clmodel.specs.declared.action.Answer.{Answer}
 use Rattle.clmodel.specs.declared.operand.Operand.{Operand}
 use Rattle.item_step.specs.declared.halt.Halt.{Halt}
 use Rattle.item_step.specs.declared.halt.Halt.TheVariants as halt
@@ -23,8 +22,8 @@ Went (Ok value) made following = made ≡ following value
 Went (Err h) made following = Stops h made
 
 -- the action that a run makes with what is left of ticks and answers
-abbrev pub made : Run → List Answer → Left → Action
-made run answers left = walk run left.ticks (drop left.used answers)
+abbrev pub made : Run → Left → Action
+made run left = walk run left.ticks left.answers.now
 
 -- expressions of a list, from left to right, behind values
 abbrev pub eval_list : Here → List Term → Variables → List Operand → (List Operand → Run) → Run
@@ -36,7 +35,7 @@ abbrev pub exec_list : Here → List Stmt → (Variables → Run) → Variables 
 exec_list here [] after variables = after variables
 exec_list here (s ∷ ss) after variables = exec here s (λ now. exec_list here ss after now) variables
 
--- an assignment to an element of what a name points to
-abbrev pub assigned : Here → ℕ → Term → Term → Variables → Run → Run
-assigned here name index value variables after =
-    known name (look variables name) (λ p. eval here index variables (λ i. moved p i (λ q. eval here value variables (λ v. store q v after))))
+-- a value, or what follows where there is none yet
+abbrev pub value_or : Option Operand → (Operand → Run) → Run → Run
+value_or (Some v) after more = after v
+value_or None after more = more

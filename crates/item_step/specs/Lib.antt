@@ -1,4 +1,2 @@
 pub mod Evaluation
-pub mod Contents
-pub mod Context
 pub mod Setups

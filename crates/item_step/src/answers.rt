@@ -12,31 +12,26 @@ use clmodel::access::Operation;
 use clmodel::action::{Answer, Cause};
 use clmodel::operand::Pointer;
 
-/// The ticks that are left, and how many answers are used up.
-#[derive(Clone, Copy, Debug, PartialEq, Eq)]
-pub struct Left {
+/// The ticks and the answers that are left.
+#[derive(Clone, Copy)]
+pub struct Left<'a> {
     pub ticks: u32,
-    pub used: usize,
+    pub answers: &'a [Answer],
 }
 
 /// Makes an access: gives its answer where there is one, and else stops at it, or where no tick is left.
-pub fn ask(
-    pointer: Pointer,
-    operation: Operation,
-    answers: &[Answer],
-    left: &mut Left,
-) -> Result<Answer, Halt>
-    ensures { (after : Answer → Run) → Went result (made (next.ask (action.Access pointer.object pointer.offset operation) after) answers.now left.old)
-        (λ answer. made (after answer) answers.now left.new) }
+pub fn ask(pointer: Pointer, operation: Operation, left: &mut Left<'_>) -> Result<Answer, Halt>
+    ensures { (after : Answer → Run) → Went result (made (next.ask (action.Access pointer.object pointer.offset operation) after) left.old) (λ answer. made (after answer) left.new) }
 {
     if left.ticks == 0 {
         return Err(Halt::Fail(Cause::Budget));
     }
-    if left.used >= answers.len() {
-        return Err(Halt::Access { pointer, operation });
+    match left.answers {
+        [] => Err(Halt::Access { pointer, operation }),
+        [answer, rest @ ..] => {
+            left.ticks -= 1;
+            left.answers = rest;
+            Ok(*answer)
+        }
     }
-    let answer = answers[left.used];
-    left.ticks -= 1;
-    left.used += 1;
-    Ok(answer)
 }

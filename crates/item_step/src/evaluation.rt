@@ -5,181 +5,141 @@ ghost use Rattle.std.specs.Prelude.{◌≡◌, List, [], ◌∷◌, ◌++◌, ma
 ghost use Rattle.clmodel.specs.Next as next;
 ghost use Rattle.clmodel.specs.Next.{Run};
 ghost use Rattle.clmodel.specs.Tree.{term};
-ghost use Rattle.clmodel.specs.declared.action.Answer.{Answer};
 ghost use Rattle.clmodel.specs.declared.operand.Operand.{Operand};
-ghost use Rattle.item_step.specs.Context.{here, variables};
+ghost use Rattle.item_state.specs.Context.{here};
 ghost use Rattle.item_step.specs.Evaluation.{Went, made, eval_list};
-ghost use Rattle.item_step.specs.declared.answers.Left.{Left};
 
 use crate::answers::Left;
-use crate::context::Context;
+use item_state::context::Context;
 use crate::halt::Halt;
-use crate::memory::{load, moved};
-use clmodel::action::{Answer, Cause};
+use crate::operators::{call, chosen_value, joined, known, settled, test};
+use crate::pointers::{load_behind, load_element, moved, number};
+use crate::types::type_of;
+use item_state::variables::Variables;
 use clmodel::operand::Operand;
-use clmodel::setup::{BuiltIn, built_in_named};
-use clmodel::tree::{Expression, InfixOperator};
-use clnum::{ArithFault, BinaryOperator, IntType, Value, binary};
-use std::alloc::Global;
+use clmodel::setup::built_in_named;
+use clmodel::tree::Expression;
+use clnum::{convert, unary};
+use smallvec::SmallVec;
 
-/// The value of a name, which must be set.
-pub fn known(name: u32, found: Option<Operand>) -> Result<Operand, Halt>
-    ensures { (after : Operand → Run) (answers : List Answer) (left : Left) → Went result (made (next.known name found after) answers left) (λ v. made (after v) answers left) }
-{
-    match found {
-        Some(value) => Ok(value),
-        None => Err(Halt::Fail(Cause::UnsetVariable { variable: name })),
-    }
-}
-
-/// An operator on two values.
-fn combined(operator: BinaryOperator, left: Operand, right: Operand) -> Result<Operand, Halt>
-    ensures { (after : Operand → Run) (answers : List Answer) (state : Left) → Went result (made (next.combined operator left right after) answers state) (λ v. made (after v) answers state) }
-{
-    match left {
-        Operand::Integral(v) => match right {
-            Operand::Integral(w) => arithmetic(binary(operator, v, w)),
-            Operand::Pointed(p) => match operator {
-                BinaryOperator::Add => moved(Operand::Pointed(p), Operand::Integral(v)),
-                _ => Err(Halt::Finish),
-            },
-        },
-        Operand::Pointed(p) => match right {
-            Operand::Integral(w) => match operator {
-                BinaryOperator::Add => moved(Operand::Pointed(p), Operand::Integral(w)),
-                _ => Err(Halt::Finish),
-            },
-            Operand::Pointed(_) => Err(Halt::Finish),
-        },
-    }
-}
-
-/// What an operator on integers gave.
-fn arithmetic(outcome: Result<Value, ArithFault>) -> Result<Operand, Halt>
-    ensures { (after : Operand → Run) (answers : List Answer) (state : Left) → Went result (made (next.arithmetic outcome after) answers state) (λ v. made (after v) answers state) }
-{
-    match outcome {
-        Ok(value) => Ok(Operand::Integral(value)),
-        Err(ArithFault::DivideByZero) => Err(Halt::Fail(Cause::DivideByZero)),
-        Err(ArithFault::DivideOverflow) => Err(Halt::Fail(Cause::DivideOverflow)),
-    }
-}
-
-/// A built-in function that gives a value.
-fn call(
-    context: &Context<'_>,
-    built_in: Option<BuiltIn>,
-    values: &[Operand],
-) -> Result<Operand, Halt>
-    ensures { (after : Operand → Run) (answers : List Answer) (state : Left) → Went result (made (next.call (here context.now) built_in values.now after) answers state) (λ v. made (after v) answers state) }
-{
-    match built_in {
-        Some(BuiltIn::LocalId) => match values {
-            [d] => {
-                let id = context.local_id(dimension(*d));
-                Ok(Operand::Integral(Value::from_bits(IntType::Ulong, id)))
-            }
-            _ => Err(Halt::Finish),
-        },
-        _ => Err(Halt::Finish),
-    }
-}
-
-/// A dimension: a number as a uint.
-fn dimension(value: Operand) -> usize
-    ensures { result ≡ next.dimension value }
-{
-    match value {
-        Operand::Integral(value) => value.bits_in(IntType::Uint) as usize,
-        Operand::Pointed(_) => 0,
-    }
-}
+/// The values of arguments; no function has more than two.
+pub type Values = SmallVec<Operand, 2>;
 
 /// The value of an expression.
 #[cycle(evaluation)]
 pub fn value_of(
-    alloc: Global,
     context: &Context<'_>,
+    variables: &Variables,
     expression: &Expression,
-    answers: &[Answer],
-    left: &mut Left,
+    left: &mut Left<'_>,
 ) -> Result<Operand, Halt>
-    ensures { (after : Operand → Run) → Went result (made (next.eval (here context.now) (term expression.now) (variables context.now) after) answers.now left.old) (λ v. made (after v) answers.now left.new) }
+    ensures { (after : Operand → Run) → Went result (made (next.eval (here context.now) (term expression.now) variables.now after) left.old) (λ v. made (after v) left.new) }
 {
     match expression {
-        Expression::Number { at: _, value } => Ok(Operand::Integral(*value)),
-        Expression::Variable { at: _, name } => known(*name, context.find(*name)),
-        Expression::Element { at: _, name, index } => {
-            let pointer = known(*name, context.find(*name))?;
-            let index = value_of(alloc, context, index, answers, left)?;
-            load(moved(pointer, index)?, answers, left)
+        Expression::Number { value, .. } => Ok(Operand::Integral(*value)),
+        Expression::Variable { name, .. } => known(*name, variables.find(*name)),
+        Expression::Element { name, index, .. } => {
+            let pointer = known(*name, variables.find(*name))?;
+            let index = value_of(context, variables, index, left)?;
+            load_element(pointer, index, left)
         }
-        Expression::ElementAddress {
-            at: _,
-            name_at: _,
-            name,
-            index,
-        } => {
-            let pointer = known(*name, context.find(*name))?;
-            let index = value_of(alloc, context, index, answers, left)?;
-            moved(pointer, index)
+        Expression::ElementAddress { name, index, .. } => {
+            let pointer = known(*name, variables.find(*name))?;
+            let index = value_of(context, variables, index, left)?;
+            Ok(Operand::Pointed(moved(pointer, index)?))
+        }
+        Expression::Dereference { pointer, .. } => {
+            let pointer = value_of(context, variables, pointer, left)?;
+            load_behind(pointer, left)
         }
         Expression::Call {
-            at: _,
             name,
             arguments,
+            ..
+        } => match values_of(context, variables, arguments, left) {
+            Ok(values) => call(context, built_in_named(*name), values.as_slice()),
+            Err(halt) => Err(halt),
+        },
+        Expression::Unary {
+            operator,
+            operand,
+            ..
         } => {
-            match values_of(alloc, context, arguments, answers, left) {
-                Ok(values) => call(context, built_in_named(*name), values.as_slice()),
-                Err(halt) => Err(halt),
-            }
+            let operand = value_of(context, variables, operand, left)?;
+            Ok(Operand::Integral(unary(*operator, number(operand)?)))
+        }
+        Expression::Cast {
+            target,
+            operand,
+            ..
+        } => {
+            let operand = value_of(context, variables, operand, left)?;
+            Ok(Operand::Integral(convert(number(operand)?, *target)))
         }
         Expression::Binary {
-            at: _,
-            operator: InfixOperator::Arithmetic(operator),
+            operator,
             left: first,
             right: second,
+            ..
         } => {
-            let first = value_of(alloc, context, first, answers, left)?;
-            let second = value_of(alloc, context, second, answers, left)?;
-            combined(*operator, first, second)
+            let first = value_of(context, variables, first, left)?;
+            match settled(*operator, first)? {
+                Some(value) => Ok(value),
+                None => {
+                    let second = value_of(context, variables, second, left)?;
+                    joined(*operator, first, second)
+                }
+            }
         }
-        _ => Err(Halt::Finish),
+        Expression::Choice {
+            condition,
+            chosen,
+            otherwise,
+            ..
+        } => {
+            let condition = value_of(context, variables, condition, left)?;
+            if test(condition)? {
+                let value = value_of(context, variables, chosen, left)?;
+                chosen_value(value, type_of(variables, otherwise))
+            } else {
+                let value = value_of(context, variables, otherwise, left)?;
+                chosen_value(value, type_of(variables, chosen))
+            }
+        }
     }
 }
 
 /// The values of arguments, from left to right.
 #[cycle(evaluation)]
 pub fn values_of(
-    alloc: Global,
     context: &Context<'_>,
+    variables: &Variables,
     arguments: &[Expression],
-    answers: &[Answer],
-    left: &mut Left,
-) -> Result<Vec<Operand>, Halt>
-    ensures { (after : List Operand → Run) → Went result (made (eval_list (here context.now) (map term arguments.now) (variables context.now) [] after) answers.now left.old) (λ values. made (after values.items) answers.now left.new) }
+    left: &mut Left<'_>,
+) -> Result<Values, Halt>
+    ensures { (after : List Operand → Run) → Went result (made (eval_list (here context.now) (map term arguments.now) variables.now [] after) left.old) (λ values. made (after values.items) left.new) }
 {
-    let mut values = Vec::new(alloc);
+    let mut values = SmallVec::new(context.alloc);
     for i in 0..arguments.len() {
-        let value = match value_of(alloc, context, &arguments[i], answers, left) {
+        let value = match value_of(context, variables, &arguments[i], left) {
             Ok(value) => value,
             Err(halt) => return Err(halt),
         };
-        match pushed(values, value) {
-            Ok(longer) => values = longer,
+        match push(&mut values, value) {
+            Ok(()) => {}
             Err(halt) => return Err(halt),
         }
     }
     Ok(values)
 }
 
-/// Values with one more at the end.
-fn pushed(mut values: Vec<Operand>, value: Operand) -> Result<Vec<Operand>, Halt>
-    ensures ok { IfOk result (λ longer. longer.items ≡ values.items ++ value ∷ []) }
+/// Adds a value at the end.
+fn push(values: &mut Values, value: Operand) -> Result<(), Halt>
+    ensures ok { IfOk result (λ _. values.new.items ≡ values.old.items ++ value ∷ []) }
     ensures err { IfErr result (λ halt. halt ≡ Halt.Memory) }
 {
     match values.push(value) {
-        Ok(()) => Ok(values),
+        Ok(()) => Ok(()),
         Err(_) => Err(Halt::Memory),
     }
 }

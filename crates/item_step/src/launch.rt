@@ -4,6 +4,7 @@
 ghost use Rattle.std.specs.Prelude.{◌≡◌, ◌<◌, ◌^◌, [], length, map, All, IfOk};
 ghost use Rattle.std.specs.Option.{option_map};
 ghost use Rattle.std.specs.List.{list_any};
+ghost use Rattle.clmodel.specs.Setup as setup;
 ghost use Rattle.clmodel.specs.Setup.{names_among, same_text, group_items, kernel_in};
 ghost use Rattle.clmodel.specs.Tree.{NoFunc, then_funcs, func};
 ghost use Rattle.clmodel.specs.declared.action.Action.{Action};
@@ -11,9 +12,10 @@ ghost use Rattle.clmodel.specs.declared.action.Action.TheVariants as action;
 ghost use Rattle.item_step.specs.Evaluation.{Went};
 
 use crate::answers::Left;
-use crate::context::Context;
+use item_state::context::{Context, group_counts};
 use crate::execution::execute_all;
 use crate::halt::Halt;
+use crate::parameters::bound;
 use clmodel::action::{Action, Answer};
 use clmodel::next_action::NextAction;
 use clmodel::setup::{Argument, Range};
@@ -32,11 +34,12 @@ pub struct Launch<'a> {
     budget: u32,
     group_size: u32,
     buffers: Vec<Name>,
+    group_counts: Vec<u64>,
     ghost named: { buffers.items ≡ names_among [] arguments.now },
     ghost few: { length buffers.items < 2 ^ 32 },
+    ghost counted: { group_counts.items ≡ setup.group_counts range.now },
     ghost grouped: { group_size ≡ group_items range.now },
     ghost some: { 0 < group_size },
-    ghost sized: { All (λ size. 0 < size) range.now.local },
 }
 
 /// The kernel of a name: the last function of the name that is one.
@@ -115,6 +118,7 @@ impl<'a> Launch<'a> {
         if buffers.len() > u32::MAX as usize {
             return Err(AllocError);
         }
+        let group_counts = group_counts(alloc, range.global.as_slice(), range.local.as_slice())?;
         Ok(Launch {
             tree,
             kernel,
@@ -123,6 +127,7 @@ impl<'a> Launch<'a> {
             budget,
             group_size,
             buffers,
+            group_counts,
         })
     }
 
@@ -150,17 +155,20 @@ impl NextAction for Launch<'_> {
             return Ok(Action::End);
         };
         let context = Context {
-            parameters: kernel.parameters.as_slice(),
-            arguments: self.arguments,
-            buffers: self.buffers.as_slice(),
-            local_sizes: self.range.local.as_slice(),
-            number_in_group: u64::from(item % self.group_size),
+            alloc,
+            item,
+            range: self.range,
+            group_counts: self.group_counts.as_slice(),
+            group_size: self.group_size,
         };
+        let buffers = self.buffers.as_slice();
+        let parameters = kernel.parameters.as_slice();
+        let mut variables = bound(alloc, buffers, parameters, self.arguments)?;
         let mut left = Left {
             ticks: self.budget,
-            used: 0,
+            answers,
         };
         let body = kernel.body.as_slice();
-        action_at(execute_all(alloc, &context, body, answers, &mut left))
+        action_at(execute_all(&context, &mut variables, body, &mut left))
     }
 }

@@ -2,11 +2,13 @@
 #![tactic(auto)]
 
 mod answers;
-mod context;
 mod evaluation;
 mod execution;
 mod halt;
 mod launch;
-mod memory;
+mod operators;
+mod parameters;
+mod pointers;
+mod types;
 
 pub use launch::Launch;

@@ -1,4 +1,4 @@
-use Rattle.std.proofs.Common.{refl, sym, ◌∙◌}
+use Rattle.std.proofs.Common.{sym, ◌∙◌}
 use Rattle.std.proofs.lemmas.Result.{IfOk-weaker}
 use Rattle.clmodel.specs.Next.{finish, Variables}
 use Rattle.item_step.proofs.Nexts.{next_none, next_some}
@@ -12,6 +12,6 @@ returns c =
     IfOk-weaker c.action_at.result _ _
     (λ wanted h. sym (h _ (c.execute_all.ensures (λ (_ : Variables). finish)))
     ∙ sym (next_some c.args.self.now c.args.item c.args.answers.now c.as_slice.result.now c.in-Some.kernel.now c.as_slice.ensures.value c.in-Some.ensures
-    c.as_slice-body.result.now c.from.result c.as_slice-4.result.now c.as_slice-3.result.now c.as_slice-2.result.now c.args.self.now.arguments.now
-    c.as_slice-body.ensures.value c.from.ensures c.args.self.now.grouped c.as_slice-4.ensures c.as_slice-3.ensures.value c.args.self.now.named c.as_slice-2.ensures.value refl))
+    c.as_slice-body.result.now c.as_slice-buffers.result.now c.as_slice-parameters.result.now c.in_ok-variables.variables
+    c.as_slice-body.ensures.value c.as_slice-buffers.ensures.value c.args.self.now.named c.as_slice-parameters.ensures.value c.in_ok-variables.ensures))
     c.action_at.ensures
