@@ -76,43 +76,11 @@ fn a_kernel(rt: HostRuntime) -> Result<(), Fail> {
     Ok(())
 }
 
-/// Where the operands of a sum of three begin, and the sums, if it was taken from left to right.
-fn sum_of_three(expression: &Expression) -> Option<(u32, u32, Option<(u32, i128)>)> {
-    match expression {
-        Expression::Binary {
-            at,
-            left,
-            right,
-            ..
-        } => match &**left {
-            Expression::Binary { at: inner, .. } => Some((*at, *inner, number_of(right))),
-            _ => None,
-        },
-        _ => None,
-    }
-}
-
-#[test]
-fn expressions(rt: HostRuntime) -> Result<(), Fail> {
-    let source = b"kernel void f(global int *a) { a[(a[0])] = f(1, 2) + &a[3] + 4; g(); g(5); }";
-    let tree = read(rt.alloc(), source)?;
-    assert_eq!(rt; tree.functions.len(), 1);
-    let body = &tree.functions[0].body;
-    assert_eq!(rt; body.len(), 3);
-    if let Statement::Assign { value, .. } = &body[0] {
-        assert_eq!(rt; sum_of_three(value), Some((43, 43, Some((61, 4)))));
-    }
-    assert!(rt; matches!(&body[0], Statement::Assign { at: 31, .. }));
-    assert!(rt; matches!(&body[1], Statement::Call { at: 64, .. }));
-    assert!(rt; matches!(&body[2], Statement::Call { at: 69, .. }));
-    Ok(())
-}
-
 /// Each form of a declaration, a statement and an expression.
 #[test]
 fn every_form(rt: HostRuntime) -> Result<(), Fail> {
     let source =
-        b"kernel void f(global const char *p, ulong n) { size_t i = n; global int *q; ; { n = 1; } ++n; q[2]--; *q <<= 3; q[0] = n ? -n : ~i; n = (char)n * 2 + !*q; g(&p[n], (5)); }";
+        b"kernel void f(global const char *p, ulong n) { size_t i = n; global int *q; ; { n = 1; } ++n; q[2]--; *q <<= 3; q[0] = n ? -n : ~i; n = (char)n * 2 + !*q; g(&p[n], (5)); q[(q[0])] = f(1, 2) + 3 + 4; g(); }";
     let tree = read(rt.alloc(), source)?;
     assert_eq!(rt; tree.functions.len(), 1);
     let body = &tree.functions[0].body;
@@ -127,6 +95,8 @@ fn every_form(rt: HostRuntime) -> Result<(), Fail> {
         "Assign { at: 112, target: Element { at: 112, name: 30, index: Number { at: 114, value: Value { kind: Int, number: 0 } } }, operator: None, value: Choice { at: 119, condition: Variable { at: 119, name: 28 }, chosen: Unary { at: 123, operator: Negate, operand: Variable { at: 124, name: 28 } }, otherwise: Unary { at: 128, operator: Complement, operand: Variable { at: 129, name: 29 } } } }",
         "Assign { at: 132, target: Variable { at: 132, name: 28 }, operator: None, value: Binary { at: 136, operator: Arithmetic(Add), left: Binary { at: 136, operator: Arithmetic(Multiply), left: Cast { at: 136, target: Char, operand: Variable { at: 142, name: 28 } }, right: Number { at: 146, value: Value { kind: Int, number: 2 } } }, right: Unary { at: 150, operator: Not, operand: Dereference { at: 151, pointer: Variable { at: 152, name: 30 } } } } }",
         "Call { at: 155, name: 31, arguments: [ElementAddress { at: 157, name_at: 158, name: 27, index: Variable { at: 160, name: 28 } }, Number { at: 165, value: Value { kind: Int, number: 5 } }] }",
+        "Assign { at: 170, target: Element { at: 170, name: 30, index: Element { at: 173, name: 30, index: Number { at: 175, value: Value { kind: Int, number: 0 } } } }, operator: None, value: Binary { at: 182, operator: Arithmetic(Add), left: Binary { at: 182, operator: Arithmetic(Add), left: Call { at: 182, name: 26, arguments: [Number { at: 184, value: Value { kind: Int, number: 1 } }, Number { at: 187, value: Value { kind: Int, number: 2 } }] }, right: Number { at: 192, value: Value { kind: Int, number: 3 } } }, right: Number { at: 196, value: Value { kind: Int, number: 4 } } } }",
+        "Call { at: 199, name: 31, arguments: [] }",
     ];
     assert_eq!(rt; body.len(), texts.len());
     for (statement, text) in body.iter().zip(texts.iter()) {
