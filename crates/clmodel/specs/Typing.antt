@@ -8,6 +8,7 @@ pub mod Least
 pub mod Context
 pub mod Rules
 pub mod Faults
+pub mod Sizes
 pub mod Functions
 
 -- a program that meets the rules of types

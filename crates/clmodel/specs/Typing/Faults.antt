@@ -1,22 +1,32 @@
 -- The faults of a tree: for each place the list of its faults, in no order, and the places in the order of the text, children before parents.
-use Rattle.std.specs.Prelude.{ℕ, Bool, true, false, not, ◌||◌, ◌&&◌, nat_eq, List, [], ◌∷◌, ◌++◌, Option, None, Some, is_some, length}
+use Rattle.std.specs.Prelude.{ℕ, suc, Bool, true, false, not, ◌||◌, nat_eq, List, [], ◌∷◌, ◌++◌, Option, None, Some, length}
 use Rattle.std.specs.List.{slice_get}
-use Rattle.clnum.specs.Conversions.{common}
-use Rattle.clnum.specs.declared.int_type.IntType.TheVariants.{Int}
-use Rattle.clnum.specs.declared.operators.BinaryOperator.TheVariants.{Add}
+use Rattle.clnum.specs.Builtins.{is_same}
+use Rattle.clnum.specs.Conversions.{common, unsigned_of}
+use Rattle.clnum.specs.Operations.{unary_kind, binary_kind}
+use Rattle.clnum.specs.declared.int_type.IntType.{IntType}
+use Rattle.clnum.specs.declared.int_type.IntType.TheVariants.{Int, Uint, Ulong}
+use Rattle.clnum.specs.declared.operators.BinaryOperator.{BinaryOperator}
+use Rattle.clnum.specs.declared.operators.BinaryOperator.TheVariants.{Add, Subtract}
+use Rattle.clnum.specs.declared.operators.UnaryOperator.{UnaryOperator}
+use Rattle.clnum.specs.declared.operators.Builtin.{Builtin}
+use Rattle.clnum.specs.declared.operators.Builtin.TheVariants as integer
 use Rattle.clmodel.specs.declared.setup.BuiltIn.{BuiltIn}
+use Rattle.clmodel.specs.declared.setup.BuiltIn.TheVariants as built_in
+use Rattle.clmodel.specs.declared.tree.AddressSpace.{AddressSpace}
+use Rattle.clmodel.specs.declared.tree.AddressSpace.TheVariants.{Global, Local, Constant}
+use Rattle.clmodel.specs.declared.tree.InfixOperator.{InfixOperator}
+use Rattle.clmodel.specs.declared.tree.InfixOperator.TheVariants.{Arithmetic, LogicalAnd, LogicalOr}
 use Rattle.clmodel.specs.declared.tree.PointerType.{PointerType}
 use Rattle.clmodel.specs.declared.tree.VariableType.{VariableType}
-use Rattle.clmodel.specs.declared.tree.VariableType.TheVariants as kind
-use Rattle.clmodel.specs.declared.tree.InfixOperator.{InfixOperator}
-use Rattle.clmodel.specs.declared.tree.InfixOperator.TheVariants.{Arithmetic}
+use Rattle.clmodel.specs.declared.tree.VariableType.TheVariants.{Integer as Number, Pointer}
 use Rattle.clmodel.specs.declared.type_fault.TypeFault.{TypeFault}
 use Rattle.clmodel.specs.declared.type_fault.TypeFault.TheVariants as fault
 use Rattle.clmodel.specs.Tree as tree
 use Rattle.clmodel.specs.Tree.{Term, Terms, NoTerm, ThenTerm, Place, Stmt, Stmts, NoStmt, ThenStmt}
-use Rattle.clmodel.specs.Typing.Context.{Context, Meaning, meaning, Bound, Callable, BuiltInFunction, Unknown}
+use Rattle.clmodel.specs.Typing.Context.{Context, Meaning, meaning, Bound, Callable, BuiltInFunction, Unknown, is_free, bind, enter, after_all}
 use Rattle.clmodel.specs.Typing.Least.{Places, node}
-use Rattle.clmodel.specs.Typing.Rules.{Want, AnInteger, AnAtomicPointer, wants, gives, count, is_constant, is_writable, is_atomic}
+use Rattle.clmodel.specs.Typing.Rules.{is_constant, is_writable, is_atomic, has_operand}
 
 abbrev pub unless : Bool → TypeFault → List TypeFault
 unless true f = []
@@ -35,12 +45,38 @@ start (tree.Cast a t e) = a
 start (tree.Binary a op d e) = a
 start (tree.Choice a e d f) = a
 
+-- where what is assigned to begins
+abbrev pub place_start : Place → ℕ
+place_start (tree.Whole a x) = a
+place_start (tree.Part a x e) = a
+place_start (tree.Behind a e) = a
+
 -- where an integer is wanted
 abbrev pub integer_faults : VariableType → ℕ → List TypeFault
-integer_faults (kind.Integer t) a = []
-integer_faults (kind.Pointer p) a = fault.TypeMismatch a ∷ []
+integer_faults (Number t) a = []
+integer_faults (Pointer p) a = fault.TypeMismatch a ∷ []
 
--- a name as a value
+-- where a pointer is wanted
+abbrev pub pointer_faults : VariableType → ℕ → List TypeFault
+pointer_faults (Number t) a = fault.TypeMismatch a ∷ []
+pointer_faults (Pointer p) a = []
+
+abbrev pub is_same_space : AddressSpace → AddressSpace → Bool
+is_same_space Global Global = true
+is_same_space Local Local = true
+is_same_space Constant Constant = true
+is_same_space _ _ = false
+
+-- a value of the second type given to what has the first
+abbrev pub passing_faults : VariableType → VariableType → ℕ → List TypeFault
+passing_faults (Number t) k a = integer_faults k a
+passing_faults (Pointer p) (Number u) a = fault.TypeMismatch a ∷ []
+passing_faults (Pointer p) (Pointer q) a =
+    unless (is_same p.element q.element) (fault.TypeMismatch a)
+    ++ unless (p.is_const || not q.is_const) (fault.NotAssignable a)
+    ++ unless (is_same_space p.space q.space) (fault.WrongSpace a)
+
+-- a name as a value, or assigned to
 abbrev pub name_faults : Meaning → ℕ → List TypeFault
 name_faults (Bound k) a = []
 name_faults Callable a = fault.TypeMismatch a ∷ []
@@ -49,20 +85,71 @@ name_faults Unknown a = fault.UnknownName a ∷ []
 
 -- a name in front of an index
 abbrev pub front_faults : Meaning → ℕ → List TypeFault
-front_faults (Bound (kind.Pointer p)) a = []
-front_faults Unknown a = fault.UnknownName a ∷ []
-front_faults _ a = fault.TypeMismatch a ∷ []
+front_faults (Bound k) a = pointer_faults k a
+front_faults m a = name_faults m a
 
--- the two operands, and where they and the whole begin
-abbrev pub operand_faults : InfixOperator → VariableType → VariableType → (left right whole : ℕ) → List TypeFault
-operand_faults (Arithmetic Add) (kind.Integer t) k a b w = []
-operand_faults (Arithmetic Add) (kind.Pointer p) k a b w = integer_faults k b
-operand_faults _ k j a b w = fault.TypeMismatch w ∷ []
+-- operators that move the pointer on their left, and that one that moves a pointer on its right
+abbrev pub moves : BinaryOperator → Bool
+moves Add = true
+moves Subtract = true
+moves _ = false
+
+abbrev pub takes_pointer : InfixOperator → Bool
+takes_pointer (Arithmetic op) = moves op
+takes_pointer _ = false
+
+abbrev pub is_sum : InfixOperator → Bool
+is_sum (Arithmetic Add) = true
+is_sum _ = false
+
+-- the two operands, and where they begin
+abbrev pub operand_faults : InfixOperator → VariableType → VariableType → (left right : ℕ) → List TypeFault
+operand_faults op (Number t) (Number u) a b = []
+operand_faults op (Number t) (Pointer q) a b = unless (is_sum op) (fault.TypeMismatch b)
+operand_faults op (Pointer p) k a b = unless (takes_pointer op) (fault.TypeMismatch a) ++ integer_faults k b
+
+-- an operator that assigns: what is assigned to, the value, and where they begin
+abbrev pub assigning_faults : BinaryOperator → VariableType → VariableType → (to value : ℕ) → List TypeFault
+assigning_faults op (Number t) k a b = integer_faults k b
+assigning_faults op (Pointer p) k a b = unless (moves op) (fault.TypeMismatch a) ++ integer_faults k b
+
+-- what an argument of a built-in function has to be
+pub data Want : Type 0 where
+  AnInteger : Want
+  OfTypeBefore : Want  -- of the type of the argument before it
+  AnAtomicPointer : Want
+
+-- the parameters of a function on integers
+abbrev pub integer_wants : Builtin → List Want
+integer_wants integer.Min = AnInteger ∷ OfTypeBefore ∷ []
+integer_wants integer.Max = AnInteger ∷ OfTypeBefore ∷ []
+integer_wants integer.Rotate = AnInteger ∷ OfTypeBefore ∷ []
+integer_wants _ = AnInteger ∷ []
+
+abbrev pub atomic_wants : (has_operand : Bool) → List Want
+atomic_wants true = AnAtomicPointer ∷ AnInteger ∷ []
+atomic_wants false = AnAtomicPointer ∷ []
+
+-- the parameters of a built-in function
+abbrev pub wants : BuiltIn → List Want
+wants built_in.WorkDim = []
+wants (built_in.WorkItem f) = AnInteger ∷ []
+wants (built_in.Integer f) = integer_wants f
+wants (built_in.Atomic f) = atomic_wants (has_operand f)
+
+-- whether its call has a value
+abbrev pub has_value : BuiltIn → Bool
+has_value (built_in.Atomic f) = false
+has_value _ = true
+
+abbrev pub count : Terms → ℕ
+count NoTerm = 0
+count (ThenTerm es e) = suc (count es)
 
 -- what is called: whether it is a whole statement, where, and with how many arguments
 abbrev pub callee_faults : (whole : Bool) → Meaning → (at arguments : ℕ) → List TypeFault
 callee_faults whole (BuiltInFunction f) a n =
-    unless (nat_eq n (length (wants f))) (fault.WrongArgumentCount a) ++ unless (whole || is_some (gives f)) (fault.AtomicValueUsed a)
+    unless (nat_eq n (length (wants f))) (fault.WrongArgumentCount a) ++ unless (whole || has_value f) (fault.AtomicValueUsed a)
 callee_faults whole Unknown a n = fault.UnknownName a ∷ []
 callee_faults whole _ a n = fault.TypeMismatch a ∷ []
 
@@ -71,52 +158,93 @@ abbrev pub wanted : Meaning → List Want
 wanted (BuiltInFunction f) = wants f
 wanted _ = []
 
+-- an integer of the type of the one before it
+abbrev pub same_faults : VariableType → VariableType → ℕ → List TypeFault
+same_faults (Number t) (Number u) a = unless (is_same t u) (fault.TypeMismatch a)
+same_faults _ k a = integer_faults k a
+
 -- a pointer for an atomic function
-abbrev pub atomic_faults : PointerType → ℕ → List TypeFault
-atomic_faults p a =
+abbrev pub atomic_faults : VariableType → ℕ → List TypeFault
+atomic_faults (Number t) a = fault.TypeMismatch a ∷ []
+atomic_faults (Pointer p) a =
     unless (is_atomic p.element) (fault.TypeMismatch a) ++ unless (not p.is_const) (fault.NotAssignable a) ++ unless (not (is_constant p.space)) (fault.WrongSpace a)
 
--- an argument, and what is wanted in its place
-abbrev pub argument_faults : Option Want → VariableType → ℕ → List TypeFault
-argument_faults None k a = []
-argument_faults (Some AnInteger) k a = integer_faults k a
-argument_faults (Some AnAtomicPointer) (kind.Pointer p) a = atomic_faults p a
-argument_faults (Some AnAtomicPointer) (kind.Integer t) a = fault.TypeMismatch a ∷ []
+-- an argument: what is wanted in its place, the type of the one before it, its own, and where it begins
+abbrev pub argument_faults : Option Want → VariableType → VariableType → ℕ → List TypeFault
+argument_faults None j k a = []
+argument_faults (Some AnInteger) j k a = integer_faults k a
+argument_faults (Some OfTypeBefore) j k a = same_faults j k a
+argument_faults (Some AnAtomicPointer) j k a = atomic_faults k a
 
 -- The type of an expression, if it has no faults.
 abbrev pub name_kind : Meaning → VariableType
 name_kind (Bound k) = k
-name_kind _ = kind.Integer Int
+name_kind _ = Number Int
 
-abbrev pub element_kind : Meaning → VariableType
-element_kind (Bound (kind.Pointer p)) = kind.Integer p.element
-element_kind _ = kind.Integer Int
+-- the type of what a value of this type points to
+abbrev pub element_kind : VariableType → VariableType
+element_kind (Number t) = Number t
+element_kind (Pointer p) = Number p.element
 
-abbrev pub given_kind : Option VariableType → VariableType
-given_kind (Some k) = k
-given_kind None = kind.Integer Int
+abbrev pub unary_type : UnaryOperator → VariableType → VariableType
+unary_type op (Number t) = Number (unary_kind op t)
+unary_type op (Pointer p) = Pointer p
 
-abbrev pub call_kind : Meaning → VariableType
-call_kind (BuiltInFunction f) = given_kind (gives f)
-call_kind _ = kind.Integer Int
+abbrev pub number_kind : InfixOperator → IntType → IntType → IntType
+number_kind (Arithmetic op) t u = binary_kind op t u
+number_kind LogicalAnd t u = Int
+number_kind LogicalOr t u = Int
 
-abbrev pub sum_kind : VariableType → VariableType → VariableType
-sum_kind (kind.Integer t) (kind.Integer u) = kind.Integer (common t u)
-sum_kind (kind.Integer t) (kind.Pointer p) = kind.Pointer p
-sum_kind (kind.Pointer p) k = kind.Pointer p
+abbrev pub binary_type : InfixOperator → VariableType → VariableType → VariableType
+binary_type op (Number t) (Number u) = Number (number_kind op t u)
+binary_type op (Number t) (Pointer p) = Pointer p
+binary_type op (Pointer p) k = Pointer p
 
-abbrev pub kind_of : Context → Term → VariableType
-kind_of c (tree.Number a v) = kind.Integer v.kind
-kind_of c (tree.Variable a x) = name_kind (meaning c x)
-kind_of c (tree.Element a x e) = element_kind (meaning c x)
-kind_of c (tree.ElementAddress a b x e) = name_kind (meaning c x)
-kind_of c (tree.Call a x es) = call_kind (meaning c x)
-kind_of c (tree.Binary a op d e) = sum_kind (kind_of c d) (kind_of c e)
-kind_of c _ = kind.Integer Int
+abbrev pub choice_type : VariableType → VariableType → VariableType
+choice_type (Number t) (Number u) = Number (common t u)
+choice_type k _ = k
+
+abbrev pub unsigned_type : VariableType → VariableType
+unsigned_type (Number t) = Number (unsigned_of t)
+unsigned_type (Pointer p) = Pointer p
+
+abbrev pub integer_call_kind : Builtin → VariableType → VariableType
+integer_call_kind integer.Abs k = unsigned_type k
+integer_call_kind _ k = k
+
+-- a call, by the type of its last argument
+abbrev pub call_kind : Meaning → VariableType → VariableType
+call_kind (BuiltInFunction built_in.WorkDim) k = Number Uint
+call_kind (BuiltInFunction (built_in.WorkItem f)) k = Number Ulong
+call_kind (BuiltInFunction (built_in.Integer f)) k = integer_call_kind f k
+call_kind _ k = Number Int
+
+abbrev mutual
+  pub kind_of : Context → Term → VariableType
+  kind_of c (tree.Number a v) = Number v.kind
+  kind_of c (tree.Variable a x) = name_kind (meaning c x)
+  kind_of c (tree.Element a x e) = element_kind (name_kind (meaning c x))
+  kind_of c (tree.ElementAddress a b x e) = name_kind (meaning c x)
+  kind_of c (tree.Dereference a e) = element_kind (kind_of c e)
+  kind_of c (tree.Call a x es) = call_kind (meaning c x) (last_kind c es)
+  kind_of c (tree.Unary a op e) = unary_type op (kind_of c e)
+  kind_of c (tree.Cast a t e) = Number t
+  kind_of c (tree.Binary a op d e) = binary_type op (kind_of c d) (kind_of c e)
+  kind_of c (tree.Choice a e d f) = choice_type (kind_of c d) (kind_of c f)
+
+  -- the type of the last of these arguments
+  pub last_kind : Context → Terms → VariableType
+  last_kind c NoTerm = Number Int
+  last_kind c (ThenTerm es e) = kind_of c e
 
 abbrev pub arguments_faults : Context → List Want → Terms → List TypeFault
 arguments_faults c ws NoTerm = []
-arguments_faults c ws (ThenTerm es e) = arguments_faults c ws es ++ argument_faults (slice_get ws (count es)) (kind_of c e) (start e)
+arguments_faults c ws (ThenTerm es e) =
+    arguments_faults c ws es ++ argument_faults (slice_get ws (count es)) (last_kind c es) (kind_of c e) (start e)
+
+-- a call's own faults
+abbrev pub call_faults : Context → (whole : Bool) → Meaning → (at : ℕ) → Terms → List TypeFault
+call_faults c whole m a es = callee_faults whole m a (count es) ++ arguments_faults c (wanted m) es
 
 -- An expression's places: its parts from left to right, then itself.
 abbrev mutual
@@ -125,26 +253,40 @@ abbrev mutual
   term_faults c (tree.Variable a x) = name_faults (meaning c x) a ∷ []
   term_faults c (tree.Element a x e) = node (term_faults c e) (front_faults (meaning c x) a ++ integer_faults (kind_of c e) (start e))
   term_faults c (tree.ElementAddress a b x e) = node (term_faults c e) (front_faults (meaning c x) b ++ integer_faults (kind_of c e) (start e))
-  term_faults c (tree.Call a x es) =
-      node (terms_faults c es) (callee_faults false (meaning c x) a (count es) ++ arguments_faults c (wanted (meaning c x)) es)
+  term_faults c (tree.Dereference a e) = node (term_faults c e) (pointer_faults (kind_of c e) (start e))
+  term_faults c (tree.Call a x es) = node (terms_faults c es) (call_faults c false (meaning c x) a es)
+  term_faults c (tree.Unary a op e) = node (term_faults c e) (integer_faults (kind_of c e) (start e))
+  term_faults c (tree.Cast a t e) = node (term_faults c e) (integer_faults (kind_of c e) (start e))
   term_faults c (tree.Binary a op d e) =
-      node (term_faults c d ++ term_faults c e) (operand_faults op (kind_of c d) (kind_of c e) (start d) (start e) a)
-  term_faults c e = (fault.TypeMismatch (start e) ∷ []) ∷ []
+      node (term_faults c d ++ term_faults c e) (operand_faults op (kind_of c d) (kind_of c e) (start d) (start e))
+  term_faults c (tree.Choice a e d f) =
+      node (term_faults c e ++ term_faults c d ++ term_faults c f)
+      (integer_faults (kind_of c e) (start e) ++ integer_faults (kind_of c d) (start d) ++ integer_faults (kind_of c f) (start f))
 
   pub terms_faults : Context → Terms → Places
   terms_faults c NoTerm = []
   terms_faults c (ThenTerm es e) = terms_faults c es ++ term_faults c e
 
--- a name in front of the index of what is stored to
-abbrev pub target_faults : Meaning → ℕ → List TypeFault
-target_faults (Bound (kind.Pointer p)) a = unless (is_writable p) (fault.NotAssignable a)
-target_faults Unknown a = fault.UnknownName a ∷ []
-target_faults _ a = fault.TypeMismatch a ∷ []
+-- what a value of this type points to, stored to at this offset
+abbrev pub store_faults : VariableType → ℕ → List TypeFault
+store_faults (Number t) a = []
+store_faults (Pointer p) a = unless (is_writable p) (fault.NotAssignable a)
 
+-- a name in front of the index of what is assigned to
+abbrev pub target_faults : Meaning → ℕ → List TypeFault
+target_faults m a = front_faults m a ++ store_faults (name_kind m) a
+
+-- What is assigned to: its parts, then itself.
 abbrev pub place_faults : Context → Place → Places
-place_faults c (tree.Whole a x) = (fault.TypeMismatch a ∷ []) ∷ []
+place_faults c (tree.Whole a x) = name_faults (meaning c x) a ∷ []
 place_faults c (tree.Part a x e) = node (term_faults c e) (target_faults (meaning c x) a ++ integer_faults (kind_of c e) (start e))
-place_faults c (tree.Behind a e) = (fault.TypeMismatch a ∷ []) ∷ []
+place_faults c (tree.Behind a e) = node (term_faults c e) (pointer_faults (kind_of c e) (start e) ++ store_faults (kind_of c e) a)
+
+-- its type, if it has no faults
+abbrev pub place_kind : Context → Place → VariableType
+place_kind c (tree.Whole a x) = name_kind (meaning c x)
+place_kind c (tree.Part a x e) = element_kind (name_kind (meaning c x))
+place_kind c (tree.Behind a e) = element_kind (kind_of c e)
 
 -- where a statement begins
 abbrev pub beginning : Stmt → ℕ
@@ -166,12 +308,30 @@ beginning (tree.Continue a) = a
 beginning (tree.Return a) = a
 beginning (tree.ReturnValue a e) = a
 
--- A statement's places.
-abbrev pub faults : Context → Stmt → Places
-faults c (tree.Assign a p None e) = node (place_faults c p ++ term_faults c e) (integer_faults (kind_of c e) (start e))
-faults c (tree.CallOnly a x es) = node (terms_faults c es) (callee_faults true (meaning c x) a (count es) ++ arguments_faults c (wanted (meaning c x)) es)
-faults c s = (fault.TypeMismatch (beginning s) ∷ []) ∷ []
+abbrev pub declared_faults : Context → (at name : ℕ) → List TypeFault
+declared_faults c b x = unless (is_free c x) (fault.Redeclared b)
 
-abbrev pub row_faults : Context → Stmts → Places
-row_faults c NoStmt = []
-row_faults c (ThenStmt ss s) = row_faults c ss ++ faults c s
+-- an initialiser
+abbrev pub initial_faults : Context → VariableType → Term → Places
+initial_faults c k e = node (term_faults c e) (passing_faults k (kind_of c e) (start e))
+
+-- the own faults of an assignment
+abbrev pub assignment_faults : Context → Place → Option BinaryOperator → Term → List TypeFault
+assignment_faults c p None e = passing_faults (place_kind c p) (kind_of c e) (start e)
+assignment_faults c p (Some op) e = assigning_faults op (place_kind c p) (kind_of c e) (place_start p) (start e)
+
+-- A statement's places. A declared name has its own place before those of its initialiser, and is in scope there.
+abbrev mutual
+  pub faults : Context → Stmt → Places
+  faults c (tree.Empty a) = []
+  faults c (tree.Block a ss) = row_faults (enter c) ss
+  faults c (tree.Declare a k b x) = declared_faults c b x ∷ []
+  faults c (tree.DeclareAs a k b x e) = declared_faults c b x ∷ initial_faults (bind c x k) k e
+  faults c (tree.Assign a p op e) = node (place_faults c p ++ term_faults c e) (assignment_faults c p op e)
+  faults c (tree.Step a p is_increment) = place_faults c p
+  faults c (tree.CallOnly a x es) = node (terms_faults c es) (call_faults c true (meaning c x) a es)
+  faults c s = (fault.TypeMismatch (beginning s) ∷ []) ∷ []
+
+  pub row_faults : Context → Stmts → Places
+  row_faults c NoStmt = []
+  row_faults c (ThenStmt ss s) = row_faults c ss ++ faults (after_all c ss) s

@@ -1,5 +1,5 @@
 -- The rules and the faults of functions and of programs (OpenCL 1.2, 6.7.1 and 6.9; C99 6.9).
-use Rattle.std.specs.Prelude.{◌≡◌, ℕ, Bool, true, false, not, ◌&&◌, List, [], ◌∷◌, ◌++◌}
+use Rattle.std.specs.Prelude.{◌≡◌, ℕ, ◌≤◌, Bool, true, false, not, ◌&&◌, nat_le, List, [], ◌∷◌, ◌++◌}
 use Rattle.clmodel.specs.declared.tree.Parameter.{Parameter}
 use Rattle.clmodel.specs.declared.type_fault.TypeFault.{TypeFault}
 use Rattle.clmodel.specs.declared.type_fault.TypeFault.TheVariants as fault
@@ -7,7 +7,8 @@ use Rattle.clmodel.specs.Tree.{Func, Funcs, NoFunc, ThenFunc, Program}
 use Rattle.clmodel.specs.Typing.Context.{Context, among, is_reserved, is_free, bind}
 use Rattle.clmodel.specs.Typing.Least.{Places}
 use Rattle.clmodel.specs.Typing.Rules.{AreTyped}
-use Rattle.clmodel.specs.Typing.Faults.{unless, row_faults}
+use Rattle.clmodel.specs.Typing.Faults.{unless, declared_faults, row_faults}
+use Rattle.clmodel.specs.Typing.Sizes.{row_nodes, node_limit}
 
 -- names of functions, in the order of the text
 abbrev pub names : Funcs → List ℕ
@@ -37,6 +38,7 @@ pub record IsTypedFunction (all : List ℕ) (fs : Funcs) (f : Func) : Type 0 whe
   pub name : is_new fs f.name ≡ true
   pub parameters : AreParams (begin all fs f) f.parameters
   pub body : AreTyped (with_params (begin all fs f) f.parameters) f.body
+  pub size : row_nodes f.body ≤ node_limit
 
 abbrev pub AreTypedFunctions : List ℕ → Funcs → Type 0
 AreTypedFunctions all NoFunc = Unit {0}
@@ -44,12 +46,19 @@ AreTypedFunctions all (ThenFunc fs f) = AreTypedFunctions all fs × IsTypedFunct
 
 abbrev pub params_faults : Context → List Parameter → Places
 params_faults c [] = []
-params_faults c (p ∷ ps) = unless (is_free c p.name) (fault.Redeclared p.name_at) ∷ params_faults (bind c p.name p.kind) ps
+params_faults c (p ∷ ps) = declared_faults c p.name_at p.name ∷ params_faults (bind c p.name p.kind) ps
 
+abbrev pub heading_faults : Funcs → Func → List TypeFault
+heading_faults fs f = unless (is_new fs f.name) (fault.Redeclared f.name_at) ++ unless f.is_kernel (fault.TypeMismatch f.name_at)
+
+-- behind the body, at the function's name
+abbrev pub size_faults : Func → List TypeFault
+size_faults f = unless (nat_le (row_nodes f.body) node_limit) (fault.TooLarge f.name_at)
+
+-- a function's name, its parameters, its body, and its size
 abbrev pub function_faults : List ℕ → Funcs → Func → Places
 function_faults all fs f =
-    (unless (is_new fs f.name) (fault.Redeclared f.name_at) ++ unless f.is_kernel (fault.TypeMismatch f.name_at))
-    ∷ (params_faults (begin all fs f) f.parameters ++ row_faults (with_params (begin all fs f) f.parameters) f.body)
+    heading_faults fs f ∷ (params_faults (begin all fs f) f.parameters ++ row_faults (with_params (begin all fs f) f.parameters) f.body ++ size_faults f ∷ [])
 
 abbrev pub functions_faults : List ℕ → Funcs → Places
 functions_faults all NoFunc = []

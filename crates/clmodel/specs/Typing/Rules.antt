@@ -1,29 +1,36 @@
--- The rules of types (OpenCL 1.2, 6.1 to 6.12; C99 6.5).
-use Rattle.std.specs.Prelude.{◌≡◌, ℕ, suc, Bool, true, false, not, ◌&&◌, List, [], ◌∷◌, Option, None, Some, length}
-use Rattle.std.specs.List.{slice_get}
+-- The rules of types (OpenCL 1.2, 6.1 to 6.12; C99 6.5, 6.7 and 6.8).
+use Rattle.std.specs.Prelude.{◌≡◌, ℕ, Bool, true, false, not, ◌&&◌, List, [], ◌∷◌, ◌++◌, Option, None, Some}
 use Rattle.clnum.specs.Integer.{Integer}
-use Rattle.clnum.specs.Conversions.{common}
+use Rattle.clnum.specs.Conversions.{common, unsigned_of}
+use Rattle.clnum.specs.Operations.{unary_kind, binary_kind}
 use Rattle.clnum.specs.declared.int_type.IntType.{IntType}
 use Rattle.clnum.specs.declared.int_type.IntType.TheVariants.{Int, Uint, Ulong}
-use Rattle.clnum.specs.declared.operators.BinaryOperator.TheVariants.{Add}
+use Rattle.clnum.specs.declared.operators.BinaryOperator.{BinaryOperator}
+use Rattle.clnum.specs.declared.operators.BinaryOperator.TheVariants.{Add, Subtract}
+use Rattle.clnum.specs.declared.operators.UnaryOperator.{UnaryOperator}
+use Rattle.clnum.specs.declared.operators.Builtin.TheVariants as integer
+use Rattle.clmodel.specs.declared.setup.AtomicFunction.{AtomicFunction}
+use Rattle.clmodel.specs.declared.setup.AtomicFunction.TheVariants.{Inc, Dec}
 use Rattle.clmodel.specs.declared.setup.BuiltIn.{BuiltIn}
 use Rattle.clmodel.specs.declared.setup.BuiltIn.TheVariants as built_in
+use Rattle.clmodel.specs.declared.setup.WorkItemFunction.{WorkItemFunction}
 use Rattle.clmodel.specs.declared.tree.AddressSpace.{AddressSpace}
 use Rattle.clmodel.specs.declared.tree.AddressSpace.TheVariants.{Global, Local, Constant}
+use Rattle.clmodel.specs.declared.tree.InfixOperator.{InfixOperator}
+use Rattle.clmodel.specs.declared.tree.InfixOperator.TheVariants.{Arithmetic, LogicalAnd, LogicalOr}
 use Rattle.clmodel.specs.declared.tree.PointerType.{PointerType}
 use Rattle.clmodel.specs.declared.tree.VariableType.{VariableType}
-use Rattle.clmodel.specs.declared.tree.VariableType.TheVariants as kind
-use Rattle.clmodel.specs.declared.tree.InfixOperator.TheVariants.{Arithmetic}
+use Rattle.clmodel.specs.declared.tree.VariableType.TheVariants.{Integer as Number, Pointer}
 use Rattle.clmodel.specs.Tree as tree
 use Rattle.clmodel.specs.Tree.{Term, Terms, NoTerm, ThenTerm, Place, Stmt, Stmts, NoStmt, ThenStmt}
-use Rattle.clmodel.specs.Typing.Context.{Context, meaning, Bound, BuiltInFunction}
+use Rattle.clmodel.specs.Typing.Context.{Context, meaning, Bound, BuiltInFunction, is_free, bind, enter, after_all}
 
 abbrev pub is_constant : AddressSpace → Bool
 is_constant Global = false
 is_constant Local = false
 is_constant Constant = true
 
--- whether a pointer of this type can be stored through
+-- whether what a pointer of this type points to can be stored to (6.5.3, 6.8.f)
 abbrev pub is_writable : PointerType → Bool
 is_writable p = not p.is_const && not (is_constant p.space)
 
@@ -33,71 +40,91 @@ is_atomic Int = true
 is_atomic Uint = true
 is_atomic _ = false
 
--- what an argument of a built-in function has to be
-pub data Want : Type 0 where
-  AnInteger : Want
-  AnAtomicPointer : Want
+-- whether an atomic function has an operand beside its pointer
+abbrev pub has_operand : AtomicFunction → Bool
+has_operand Inc = false
+has_operand Dec = false
+has_operand _ = true
 
--- the parameters of a built-in function
-abbrev pub wants : BuiltIn → List Want
-wants built_in.WorkDim = []
-wants (built_in.WorkItem f) = AnInteger ∷ []
-wants (built_in.Integer f) = AnInteger ∷ []
-wants (built_in.Atomic f) = AnAtomicPointer ∷ AnInteger ∷ []
+-- A value of the second type can be given to what has the first: as an initialiser, an assignment or an argument (C99 6.5.16.1).
+pub data Passes : VariableType → VariableType → Type 0 where
+  number : {t u : IntType} → Passes (Number t) (Number u)
+  pointer : {p q : PointerType} → p.element ≡ q.element → (q.is_const ≡ true → p.is_const ≡ true) → p.space ≡ q.space → Passes (Pointer p) (Pointer q)
 
--- the type of its value; an atomic function's value can't be used
-abbrev pub gives : BuiltIn → Option VariableType
-gives built_in.WorkDim = Some (kind.Integer Uint)
-gives (built_in.WorkItem f) = Some (kind.Integer Ulong)
-gives (built_in.Integer f) = None
-gives (built_in.Atomic f) = None
+-- An operator on operands of two types, and the type of its value (6.3; C99 6.5.5 to 6.5.14).
+pub data Operates : InfixOperator → VariableType → VariableType → VariableType → Type 0 where
+  arithmetic : {op : BinaryOperator} {t u : IntType} → Operates (Arithmetic op) (Number t) (Number u) (Number (binary_kind op t u))
+  logical_and : {t u : IntType} → Operates LogicalAnd (Number t) (Number u) (Number Int)
+  logical_or : {t u : IntType} → Operates LogicalOr (Number t) (Number u) (Number Int)
+  pointer_sum : {p : PointerType} {u : IntType} → Operates (Arithmetic Add) (Pointer p) (Number u) (Pointer p)
+  pointer_difference : {p : PointerType} {u : IntType} → Operates (Arithmetic Subtract) (Pointer p) (Number u) (Pointer p)
+  sum_pointer : {t : IntType} {p : PointerType} → Operates (Arithmetic Add) (Number t) (Pointer p) (Pointer p)
 
-abbrev pub count : Terms → ℕ
-count NoTerm = 0
-count (ThenTerm es e) = suc (count es)
-
--- An argument of this type is what is wanted.
-pub data Fits : Want → VariableType → Type 0 where
-  integer : {t : IntType} → Fits AnInteger (kind.Integer t)
-  atomic_pointer : {p : PointerType} → is_atomic p.element ≡ true → is_writable p ≡ true → Fits AnAtomicPointer (kind.Pointer p)
+-- A built-in function with arguments of these types, and the type of its value, if it has one (6.12.1, 6.12.3, 6.12.11).
+pub data Calls : BuiltIn → List VariableType → Option VariableType → Type 0 where
+  work_dim : Calls built_in.WorkDim [] (Some (Number Uint))
+  work_item : {f : WorkItemFunction} {t : IntType} → Calls (built_in.WorkItem f) (Number t ∷ []) (Some (Number Ulong))
+  min : {t : IntType} → Calls (built_in.Integer integer.Min) (Number t ∷ Number t ∷ []) (Some (Number t))
+  max : {t : IntType} → Calls (built_in.Integer integer.Max) (Number t ∷ Number t ∷ []) (Some (Number t))
+  rotate : {t : IntType} → Calls (built_in.Integer integer.Rotate) (Number t ∷ Number t ∷ []) (Some (Number t))
+  abs : {t : IntType} → Calls (built_in.Integer integer.Abs) (Number t ∷ []) (Some (Number (unsigned_of t)))
+  clz : {t : IntType} → Calls (built_in.Integer integer.Clz) (Number t ∷ []) (Some (Number t))
+  popcount : {t : IntType} → Calls (built_in.Integer integer.Popcount) (Number t ∷ []) (Some (Number t))
+  atomic : {f : AtomicFunction} {p : PointerType} {t : IntType}
+      → has_operand f ≡ true → is_atomic p.element ≡ true → is_writable p ≡ true → Calls (built_in.Atomic f) (Pointer p ∷ Number t ∷ []) None
+  atomic_alone : {f : AtomicFunction} {p : PointerType}
+      → has_operand f ≡ false → is_atomic p.element ≡ true → is_writable p ≡ true → Calls (built_in.Atomic f) (Pointer p ∷ []) None
 
 mutual
   -- An expression and its type.
   pub data Types (c : Context) : Term → VariableType → Type 0 where
-    number : {a : ℕ} {v : Integer} → Types c (tree.Number a v) (kind.Integer v.kind)
+    number : {a : ℕ} {v : Integer} → Types c (tree.Number a v) (Number v.kind)
     variable : {a x : ℕ} {k : VariableType} → meaning c x ≡ Bound k → Types c (tree.Variable a x) k
     element : {a x : ℕ} {p : PointerType} {u : IntType} {e : Term}
-        → meaning c x ≡ Bound (kind.Pointer p) → Types c e (kind.Integer u) → Types c (tree.Element a x e) (kind.Integer p.element)
+        → meaning c x ≡ Bound (Pointer p) → Types c e (Number u) → Types c (tree.Element a x e) (Number p.element)
     address : {a b x : ℕ} {p : PointerType} {u : IntType} {e : Term}
-        → meaning c x ≡ Bound (kind.Pointer p) → Types c e (kind.Integer u) → Types c (tree.ElementAddress a b x e) (kind.Pointer p)
-    sum : {a : ℕ} {t u : IntType} {d e : Term}
-        → Types c d (kind.Integer t) → Types c e (kind.Integer u) → Types c (tree.Binary a (Arithmetic Add) d e) (kind.Integer (common t u))
-    pointer_sum : {a : ℕ} {p : PointerType} {u : IntType} {d e : Term}
-        → Types c d (kind.Pointer p) → Types c e (kind.Integer u) → Types c (tree.Binary a (Arithmetic Add) d e) (kind.Pointer p)
-    sum_pointer : {a : ℕ} {p : PointerType} {t : IntType} {d e : Term}
-        → Types c d (kind.Integer t) → Types c e (kind.Pointer p) → Types c (tree.Binary a (Arithmetic Add) d e) (kind.Pointer p)
-    call : {a x : ℕ} {f : BuiltIn} {k : VariableType} {es : Terms}
-        → meaning c x ≡ BuiltInFunction f → gives f ≡ Some k → count es ≡ length (wants f) → TypesAll c (wants f) es
-        → Types c (tree.Call a x es) k
+        → meaning c x ≡ Bound (Pointer p) → Types c e (Number u) → Types c (tree.ElementAddress a b x e) (Pointer p)
+    dereference : {a : ℕ} {p : PointerType} {e : Term} → Types c e (Pointer p) → Types c (tree.Dereference a e) (Number p.element)
+    call : {a x : ℕ} {f : BuiltIn} {es : Terms} {ks : List VariableType} {k : VariableType}
+        → meaning c x ≡ BuiltInFunction f → TypesAll c es ks → Calls f ks (Some k) → Types c (tree.Call a x es) k
+    unary : {a : ℕ} {op : UnaryOperator} {t : IntType} {e : Term} → Types c e (Number t) → Types c (tree.Unary a op e) (Number (unary_kind op t))
+    cast : {a : ℕ} {t u : IntType} {e : Term} → Types c e (Number u) → Types c (tree.Cast a t e) (Number t)
+    binary : {a : ℕ} {op : InfixOperator} {d e : Term} {j k r : VariableType}
+        → Types c d j → Types c e k → Operates op j k r → Types c (tree.Binary a op d e) r
+    choice : {a : ℕ} {s t u : IntType} {e d f : Term}
+        → Types c e (Number s) → Types c d (Number t) → Types c f (Number u) → Types c (tree.Choice a e d f) (Number (common t u))
 
-  -- Arguments that are what is wanted.
-  pub data TypesAll (c : Context) : List Want → Terms → Type 0 where
-    no_argument : {ws : List Want} → TypesAll c ws NoTerm
-    argument : {ws : List Want} {es : Terms} {e : Term} {w : Want} {k : VariableType}
-        → TypesAll c ws es → Types c e k → slice_get ws (count es) ≡ Some w → Fits w k → TypesAll c ws (ThenTerm es e)
+  -- Arguments and their types.
+  pub data TypesAll (c : Context) : Terms → List VariableType → Type 0 where
+    no_argument : TypesAll c NoTerm []
+    argument : {es : Terms} {e : Term} {ks : List VariableType} {k : VariableType}
+        → TypesAll c es ks → Types c e k → TypesAll c (ThenTerm es e) (ks ++ k ∷ [])
 
--- What can be stored to.
-pub data IsTarget (c : Context) : Place → Type 0 where
+-- What can be assigned to, and its type.
+pub data TypesPlace (c : Context) : Place → VariableType → Type 0 where
+  whole : {a x : ℕ} {k : VariableType} → meaning c x ≡ Bound k → TypesPlace c (tree.Whole a x) k
   part : {a x : ℕ} {p : PointerType} {u : IntType} {e : Term}
-      → meaning c x ≡ Bound (kind.Pointer p) → is_writable p ≡ true → Types c e (kind.Integer u) → IsTarget c (tree.Part a x e)
+      → meaning c x ≡ Bound (Pointer p) → is_writable p ≡ true → Types c e (Number u) → TypesPlace c (tree.Part a x e) (Number p.element)
+  behind : {a : ℕ} {p : PointerType} {e : Term} → is_writable p ≡ true → Types c e (Pointer p) → TypesPlace c (tree.Behind a e) (Number p.element)
 
--- A statement.
-pub data IsTyped (c : Context) : Stmt → Type 0 where
-  assign : {a : ℕ} {p : Place} {u : IntType} {e : Term}
-      → IsTarget c p → Types c e (kind.Integer u) → IsTyped c (tree.Assign a p None e)
-  call_only : {a x : ℕ} {f : BuiltIn} {es : Terms}
-      → meaning c x ≡ BuiltInFunction f → count es ≡ length (wants f) → TypesAll c (wants f) es → IsTyped c (tree.CallOnly a x es)
+mutual
+  -- A statement or a declaration. What is declared is in scope in its own initialiser (C99 6.2.1, paragraph 7).
+  pub data IsTyped : Context → Stmt → Type 0 where
+    empty : {c : Context} {a : ℕ} → IsTyped c (tree.Empty a)
+    block : {c : Context} {a : ℕ} {ss : Stmts} → AreTyped (enter c) ss → IsTyped c (tree.Block a ss)
+    declare : {c : Context} {a b x : ℕ} {k : VariableType} → is_free c x ≡ true → IsTyped c (tree.Declare a k b x)
+    declare_as : {c : Context} {a b x : ℕ} {k j : VariableType} {e : Term}
+        → is_free c x ≡ true → Types (bind c x k) e j → Passes k j → IsTyped c (tree.DeclareAs a k b x e)
+    assign : {c : Context} {a : ℕ} {p : Place} {e : Term} {k j : VariableType}
+        → TypesPlace c p k → Types c e j → Passes k j → IsTyped c (tree.Assign a p None e)
+    -- as the operator's value assigned (C99 6.5.16.2)
+    assign_by : {c : Context} {a : ℕ} {p : Place} {op : BinaryOperator} {e : Term} {k j r : VariableType}
+        → TypesPlace c p k → Types c e j → Operates (Arithmetic op) k j r → Passes k r → IsTyped c (tree.Assign a p (Some op) e)
+    step : {c : Context} {a : ℕ} {p : Place} {is_increment : Bool} {k : VariableType} → TypesPlace c p k → IsTyped c (tree.Step a p is_increment)
+    call_only : {c : Context} {a x : ℕ} {f : BuiltIn} {es : Terms} {ks : List VariableType} {r : Option VariableType}
+        → meaning c x ≡ BuiltInFunction f → TypesAll c es ks → Calls f ks r → IsTyped c (tree.CallOnly a x es)
 
-pub data AreTyped (c : Context) : Stmts → Type 0 where
-  no_statement : AreTyped c NoStmt
-  statement : {ss : Stmts} {s : Stmt} → AreTyped c ss → IsTyped c s → AreTyped c (ThenStmt ss s)
+  -- Statements one after the other.
+  pub data AreTyped : Context → Stmts → Type 0 where
+    no_statement : {c : Context} → AreTyped c NoStmt
+    statement : {c : Context} {ss : Stmts} {s : Stmt} → AreTyped c ss → IsTyped (after_all c ss) s → AreTyped c (ThenStmt ss s)
