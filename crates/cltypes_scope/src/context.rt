@@ -43,6 +43,7 @@ fn last_holder(scopes: &[Scope], name: u32) -> Option<&Scope>
 /// of each scope around the place. Names are their places in a tree's table of names.
 #[derive(Debug, Drop)]
 pub struct Context {
+    alloc: Global,
     all: IndexSet<u32>,
     begun: IndexSet<u32>,
     inner: Scope,
@@ -64,6 +65,7 @@ impl Context {
         ensures { result ≡ nowhere }
     {
         Context {
+            alloc,
             all: IndexSet::new(alloc),
             begun: IndexSet::new(alloc),
             inner: IndexMap::new(alloc),
@@ -154,12 +156,12 @@ impl Context {
     }
 
     /// Enters a block: a new scope with no variables, inside the others. Err where memory is wanting: nothing changes then.
-    pub fn enter(&mut self, alloc: Global) -> Result<(), AllocError>
+    pub fn enter(&mut self) -> Result<(), AllocError>
         ensures entered { OnOk result (self.new ≡ enter self.old) }
         ensures err { OnErr result (self.new ≡ self.old) }
     {
         self.outer.reserve(1)?;
-        let scope = replace(&mut self.inner, IndexMap::new(alloc));
+        let scope = replace(&mut self.inner, IndexMap::new(self.alloc));
         self.outer.push(scope)?;
         Ok(())
     }
