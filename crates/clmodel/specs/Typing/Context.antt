@@ -37,6 +37,10 @@ variable (scope ∷ scopes) x = option_or (declared scope x) (variable scopes x)
 abbrev pub among : ℕ → List ℕ → Bool
 among x names = list_any (nat_eq x) names
 
+-- names with one more, if it isn't among them
+abbrev pub with_name : List ℕ → ℕ → List ℕ
+with_name names x = if among x names then names else names ++ x ∷ []
+
 abbrev pub called : Option BuiltIn → Meaning
 called None = Unknown
 called (Some f) = BuiltInFunction f

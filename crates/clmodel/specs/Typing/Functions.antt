@@ -4,20 +4,20 @@ use Rattle.clmodel.specs.declared.tree.Parameter.{Parameter}
 use Rattle.clmodel.specs.declared.type_fault.TypeFault.{TypeFault}
 use Rattle.clmodel.specs.declared.type_fault.TypeFault.TheVariants as fault
 use Rattle.clmodel.specs.Tree.{Func, Funcs, NoFunc, ThenFunc, Program}
-use Rattle.clmodel.specs.Typing.Context.{Context, among, is_reserved, is_free, bind}
+use Rattle.clmodel.specs.Typing.Context.{Context, among, with_name, is_reserved, is_free, bind}
 use Rattle.clmodel.specs.Typing.Least.{Places}
 use Rattle.clmodel.specs.Typing.Rules.{AreTyped}
 use Rattle.clmodel.specs.Typing.Faults.{unless, declared_faults, row_faults}
 use Rattle.clmodel.specs.Typing.Sizes.{row_nodes, node_limit}
 
--- names of functions, in the order of the text
+-- names of functions, each once, in the order of the text
 abbrev pub names : Funcs → List ℕ
 names NoFunc = []
-names (ThenFunc fs f) = names fs ++ f.name ∷ []
+names (ThenFunc fs f) = with_name (names fs) f.name
 
 -- where a function's text begins, with these before it
 abbrev pub begin : List ℕ → Funcs → Func → Context
-begin all fs f = record { all = all; begun = names fs ++ f.name ∷ []; inner = []; outer = [] }
+begin all fs f = record { all = all; begun = with_name (names fs) f.name; inner = []; outer = [] }
 
 abbrev pub with_params : Context → List Parameter → Context
 with_params c [] = c

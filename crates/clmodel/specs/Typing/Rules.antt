@@ -48,8 +48,8 @@ has_operand _ = true
 
 -- A value of the second type can be given to what has the first: as an initialiser, an assignment or an argument (C99 6.5.16.1).
 pub data Passes : VariableType → VariableType → Type 0 where
-  number : {t u : IntType} → Passes (Number t) (Number u)
-  pointer : {p q : PointerType} → p.element ≡ q.element → (q.is_const ≡ true → p.is_const ≡ true) → p.space ≡ q.space → Passes (Pointer p) (Pointer q)
+  integers : {t u : IntType} → Passes (Number t) (Number u)
+  pointers : {p q : PointerType} → p.element ≡ q.element → (q.is_const ≡ true → p.is_const ≡ true) → p.space ≡ q.space → Passes (Pointer p) (Pointer q)
 
 -- An operator on operands of two types, and the type of its value (6.3; C99 6.5.5 to 6.5.14).
 pub data Operates : InfixOperator → VariableType → VariableType → VariableType → Type 0 where
