@@ -1,10 +1,5 @@
 pub mod Least
 pub mod Views
-pub mod Texts
-pub mod Headings
-pub mod Bodies
-pub mod Arguments
 pub mod Follows
-pub mod Scopes
-pub mod Exact
-pub mod Programs
+pub mod Arguments
+pub mod Calls

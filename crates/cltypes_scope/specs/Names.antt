@@ -1,7 +1,7 @@
 -- What the values of this crate stand for, and what leaving a block does.
-use Rattle.std.specs.Prelude.{ℕ, List, [], ◌∷◌, ◌++◌, if◌then◌else◌}
+use Rattle.std.specs.Prelude.{ℕ, List, [], ◌∷◌}
 use Rattle.clmodel.specs.Typing.Context as typing
-use Rattle.clmodel.specs.Typing.Context.{Context, Scope, among}
+use Rattle.clmodel.specs.Typing.Context.{Context, Scope, with_name}
 use Rattle.cltypes_scope.specs.declared.meaning.Meaning.{Meaning}
 use Rattle.cltypes_scope.specs.declared.meaning.Meaning.TheVariants.{Bound, Callable, BuiltInFunction, Unknown}
 
@@ -14,10 +14,6 @@ meaning_of Unknown = typing.Unknown
 -- with no function and no variable
 abbrev pub nowhere : Context
 nowhere = record { all = []; begun = []; inner = []; outer = [] }
-
--- names with one more, if it isn't there
-abbrev pub with_name : List ℕ → ℕ → List ℕ
-with_name names x = if among x names then names else names ++ x ∷ []
 
 -- with one more function of the text
 abbrev pub with_function : Context → ℕ → Context

@@ -1,9 +1,0 @@
-//! The laws of types, each the contract of a function that does nothing.
-#![tactic(auto)]
-
-ghost use Rattle.cltypes.specs.Answers.{IsTypedExactly};
-
-/// A program is typed exactly where it has no fault, and it has one fault at most.
-pub fn typed_exactly()
-    ensures { IsTypedExactly }
-{}
