@@ -29,7 +29,7 @@ then_rest ts (e ∷ es) (suc i) = then_rest (ThenTerm ts (term e)) es i
 first_of_them : (c : Context) (es : List Expression) (i : ℕ) (f : TypeFault) → first (terms_faults c (terms (take i es))) ≡ Some f → first (terms_faults c (terms es)) ≡ Some f
 first_of_them c es i f h = ap (λ ts. first (terms_faults c ts)) (then_rest NoTerm es i) ∙ ahead c (terms (take i es)) (drop i es) f h
 
-next_argument : (es : List Expression) (i : ℕ) (e : Expression) → i < length es → e ≡ get_or es i e → terms (take (i + 1) es) ≡ ThenTerm (terms (take i es)) (term e)
+pub next_argument : (es : List Expression) (i : ℕ) (e : Expression) → i < length es → e ≡ get_or es i e → terms (take (i + 1) es) ≡ ThenTerm (terms (take i es)) (term e)
 next_argument es i e h g = terms_more es i e h ∙ ap (λ d. ThenTerm (terms (take i es)) (term d)) (sym g)
 
 pub argument_inside : (c : Context) (es : List Expression) (i : ℕ) (e : Expression) (f : TypeFault) → i < length es → e ≡ get_or es i e

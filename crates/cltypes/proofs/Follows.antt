@@ -63,3 +63,14 @@ pub three_here : (ps qs rs : Places) (owns : Operand → Operand → Operand →
     → Checks r (first (node (ps ++ qs ++ rs) (owns j k l))) (outcome j k l)
 three_here ps qs rs owns outcome t j u k v l r n m p x =
     two_here (ps ++ qs) rs (owns j) (outcome j) u k v l r (neither_of ps qs n.0 m.0, m.1) p (subst (λ z. Checks r (least (owns z u v)) (outcome z u v)) n.1 x)
+
+-- and the fault that is found as its own
+
+pub own_of_one : {A : Type 0} (ps : Places) (owns : A → List TypeFault) (t j : A) (o : Option TypeFault)
+    → Checks (Ok t) (first ps) j → o ≡ least (owns t) → o ≡ first (node ps (owns j))
+own_of_one ps owns t j o n h = h ∙ ap (λ z. least (owns z)) n.1 ∙ sym (own_fault ps (owns j) n.0)
+
+pub own_of_two : (ps qs : Places) (owns : Operand → Operand → List TypeFault) (t j u k : Operand) (o : Option TypeFault)
+    → Checks (Ok t) (first ps) j → Checks (Ok u) (first qs) k → o ≡ least (owns t u) → o ≡ first (node (ps ++ qs) (owns j k))
+own_of_two ps qs owns t j u k o n m h =
+    h ∙ ap (λ z. least (owns z u)) n.1 ∙ ap (λ z. least (owns j z)) m.1 ∙ sym (own_fault (ps ++ qs) (owns j k) (neither_of ps qs n.0 m.0))

@@ -3,3 +3,4 @@ pub mod Views
 pub mod Follows
 pub mod Arguments
 pub mod Calls
+pub mod Bodies

@@ -3,3 +3,5 @@
 
 pub mod expressions;
 pub mod faults;
+mod sizes;
+pub mod statements;
