@@ -11,7 +11,7 @@ pub enum TypeFault {
     Redeclared { at: u32 },
     /// 3: an operand, condition, argument or value of a wrong kind
     TypeMismatch { at: u32 },
-    /// 4: a store to what is constant
+    /// 4: a store to what is constant, or a `const` that is dropped
     NotAssignable { at: u32 },
     /// 5: a call of a function in its own body
     Recursion { at: u32 },

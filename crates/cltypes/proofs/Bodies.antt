@@ -54,7 +54,7 @@ left_after c (tree.Continue a) = refl
 left_after c (tree.Return a) = refl
 left_after c (tree.ReturnValue a e) = refl
 
-left_all : (c : Context) (ss : Stmts) → left (after_all c ss) ≡ left c
+pub left_all : (c : Context) (ss : Stmts) → left (after_all c ss) ≡ left c
 left_all c NoStmt = refl
 left_all c (ThenStmt ss s) = left_after (after_all c ss) s ∙ left_all c ss
 

@@ -1,7 +1,64 @@
 //! The type checker: which programs are typed, and the fault of one that isn't (OpenCL 1.2, sections 6.1 to 6.12).
 #![tactic(auto)]
 
-pub mod expressions;
-pub mod faults;
+ghost use Rattle.std.specs.Prelude.{◌≡◌, [], IfOk, IfErr};
+ghost use Rattle.clmodel.specs.Tree.{program};
+ghost use Rattle.clmodel.specs.Typing.{IsTypedProgram};
+ghost use Rattle.clmodel.specs.Typing.Functions.{names, functions_faults};
+ghost use Rattle.clmodel.specs.Typing.Least.{first};
+ghost use Rattle.cltypes.specs.Answers.{IsFaultOf, Ends};
+ghost use Rattle.cltypes.specs.Views.{functions_of};
+
+pub mod checked;
+mod expressions;
+mod faults;
+mod functions;
+pub mod laws;
 mod sizes;
-pub mod statements;
+mod statements;
+
+pub use checked::Checked;
+use clmodel::tree::{Function, Tree};
+pub use clmodel::type_fault::TypeFault;
+use cltypes_scope::Context;
+use functions::check_function;
+use std::alloc::{AllocError, Global};
+
+/// What is known before the first function: the names of all functions.
+fn context_before(alloc: Global, functions: &[Function]) -> Result<Context, AllocError>
+    ensures { IfOk result (λ context. context ≡ record { all = names (functions_of functions.now); begun = []; inner = []; outer = [] }) }
+{
+    let mut context = Context::new(alloc);
+    for function in functions {
+        context.add_function(function.name)?;
+    }
+    Ok(context)
+}
+
+/// The first fault of functions in the order of their text; Err(OutOfMemory) may come at any time.
+fn check_functions(alloc: Global, functions: &[Function]) -> Result<(), TypeFault>
+    ensures { Ends result (first (functions_faults (names (functions_of functions.now)) (functions_of functions.now))) }
+{
+    let Ok(mut context) = context_before(alloc, functions) else {
+        return Err(TypeFault::OutOfMemory);
+    };
+    for function in functions {
+        if let Err(fault) = check_function(&mut context, function) {
+            return Err(fault);
+        }
+    }
+    Ok(())
+}
+
+/// Checks the types of a tree. The fault is the first one in the order of the text, children before parents, and of one place the
+/// one of the least number; Err(OutOfMemory) may come at any time, and nothing else for a typed program.
+pub fn check(alloc: Global, tree: Tree) -> Result<Checked, TypeFault>
+    ensures typed { IfOk result (λ checked. (checked.tree ≡ tree) × IsTypedProgram (program tree)) }
+    ensures fault { IfErr result (IsFaultOf (program tree)) }
+    ensures typed_only { IsTypedProgram (program tree) → IfErr result (λ f. f ≡ TypeFault.OutOfMemory) }
+{
+    match check_functions(alloc, &tree.functions) {
+        Err(fault) => Err(fault),
+        Ok(()) => Ok(Checked { tree }),
+    }
+}

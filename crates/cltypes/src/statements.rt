@@ -95,7 +95,7 @@ fn initial_fault(context: &Context, kind: VariableType, value: &Expression) -> O
 }
 
 /// The end of what has this fault.
-fn ended(fault: Option<TypeFault>) -> Result<(), TypeFault>
+pub fn ended(fault: Option<TypeFault>) -> Result<(), TypeFault>
     ensures none { IfOk result (λ _. fault ≡ None) }
     ensures fault { IfErr result (λ f. fault ≡ Some f) }
 {

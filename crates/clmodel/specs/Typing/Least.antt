@@ -1,5 +1,5 @@
 -- Faults of a tree in the order in which they are answered.
-use Rattle.std.specs.Prelude.{◌≡◌, ℕ, suc, ◌<◌, ◌≤◌, ◌⊎◌, Bool, true, false, ◌||◌, ◌&&◌, nat_lt, nat_le, nat_eq, List, [], ◌∷◌, ◌++◌, Option, None, Some, cond}
+use Rattle.std.specs.Prelude.{◌≡◌, ℕ, suc, ◌<◌, ◌≤◌, ◌⊎◌, Bool, ◌||◌, ◌&&◌, nat_lt, nat_le, nat_eq, List, [], ◌∷◌, ◌++◌, Option, None, Some, cond}
 use Rattle.clmodel.specs.declared.type_fault.TypeFault.{TypeFault}
 use Rattle.clmodel.specs.declared.type_fault.TypeFault.TheVariants as fault
 

@@ -1,0 +1,111 @@
+-- A program is typed exactly where none of its places has a fault.
+use Rattle.std.proofs.Common.{◌≡◌, ℕ, ◌≤◌, true, nat_le, List, [], ◌∷◌, ◌++◌, Option, None, Some, refl, arith}
+use Rattle.std.proofs.lemmas.Bool.Decides.{nat_tests}
+use Rattle.clmodel.specs.declared.tree.Parameter.{Parameter}
+use Rattle.clmodel.specs.declared.type_fault.TypeFault.{TypeFault}
+use Rattle.clmodel.specs.declared.type_fault.TypeFault.TheVariants as fault
+use Rattle.clmodel.specs.Tree.{Func, Funcs, NoFunc, ThenFunc, Program}
+use Rattle.clmodel.specs.Typing.Context.{Context, is_free, bind}
+use Rattle.clmodel.specs.Typing.Least.{least, first}
+use Rattle.clmodel.specs.Typing.Faults.{unless, declared_faults, row_faults}
+use Rattle.clmodel.specs.Typing.Sizes.{row_nodes, node_limit}
+use Rattle.clmodel.specs.Typing.Functions.{names, begin, with_params, AreParams, is_new, IsTypedFunction, AreTypedFunctions, params_faults, heading_faults, size_faults, function_faults, functions_faults, program_faults}
+use Rattle.clmodel.specs.Typing.{IsTypedProgram, IsTypeFault}
+use Rattle.cltypes.specs.Answers.{IsExactlyTyped}
+use Rattle.cltypes.proofs.Least.{earlier_none, first_none, first_some, one_least}
+use Rattle.cltypes.proofs.Splits.{none_split, none_joined, places_split, places_joined, one_place, place_then, unless_none, unless_true}
+use Rattle.cltypes.proofs.Exact.{row_sound, row_complete}
+
+params_sound : (c : Context) (ps : List Parameter) → first (params_faults c ps) ≡ None → AreParams c ps
+params_sound c [] n = tt
+params_sound c (p ∷ ps) n =
+    let r = earlier_none (least (declared_faults c p.name_at p.name)) (first (params_faults (bind c p.name p.kind) ps)) n in
+    (unless_none (is_free c p.name) (fault.Redeclared p.name_at) r.0, params_sound (bind c p.name p.kind) ps r.1)
+
+params_complete : (c : Context) (ps : List Parameter) → AreParams c ps → first (params_faults c ps) ≡ None
+params_complete c [] h = refl
+params_complete c (p ∷ ps) h =
+    place_then (declared_faults c p.name_at p.name) (params_faults (bind c p.name p.kind) ps)
+    (unless_true (is_free c p.name) (fault.Redeclared p.name_at) h.0) (params_complete (bind c p.name p.kind) ps h.1)
+
+same_le : (m n : ℕ) → nat_le m n ≡ true → m ≤ n
+same_le m n e = grind (arith, nat_tests)
+
+le_test : (m n : ℕ) → m ≤ n → nat_le m n ≡ true
+le_test m n e = grind (arith, nat_tests)
+
+heading_sound : (fs : Funcs) (f : Func) → least (heading_faults fs f) ≡ None → (is_new fs f.name ≡ true) × (f.is_kernel ≡ true)
+heading_sound fs f n =
+    let r = none_split (unless (is_new fs f.name) (fault.Redeclared f.name_at)) (unless f.is_kernel (fault.TypeMismatch f.name_at)) n in
+    (unless_none (is_new fs f.name) (fault.Redeclared f.name_at) r.0, unless_none f.is_kernel (fault.TypeMismatch f.name_at) r.1)
+
+heading_complete : (fs : Funcs) (f : Func) → is_new fs f.name ≡ true → f.is_kernel ≡ true → least (heading_faults fs f) ≡ None
+heading_complete fs f n k =
+    none_joined (unless (is_new fs f.name) (fault.Redeclared f.name_at)) (unless f.is_kernel (fault.TypeMismatch f.name_at))
+    (unless_true (is_new fs f.name) (fault.Redeclared f.name_at) n) (unless_true f.is_kernel (fault.TypeMismatch f.name_at) k)
+
+function_sound : (all : List ℕ) (fs : Funcs) (f : Func) → first (function_faults all fs f) ≡ None → IsTypedFunction all fs f
+function_sound all fs f n =
+    let params = params_faults (begin all fs f) f.parameters in
+    let body = row_faults (with_params (begin all fs f) f.parameters) f.body in
+    let r = earlier_none (least (heading_faults fs f)) (first (params ++ body ++ size_faults f ∷ [])) n in
+    let s = heading_sound fs f r.0 in
+    let t = places_split (params ++ body) (size_faults f ∷ []) r.1 in
+    let u = places_split params body t.0 in
+    record {
+      kernel = s.1;
+      name = s.0;
+      parameters = params_sound (begin all fs f) f.parameters u.0;
+      body = row_sound (with_params (begin all fs f) f.parameters) f.body u.1;
+      size = same_le (row_nodes f.body) node_limit (unless_none (nat_le (row_nodes f.body) node_limit) (fault.TooLarge f.name_at) (one_place (size_faults f) t.1));
+    }
+
+function_complete : (all : List ℕ) (fs : Funcs) (f : Func) → IsTypedFunction all fs f → first (function_faults all fs f) ≡ None
+function_complete all fs f h =
+    let params = params_faults (begin all fs f) f.parameters in
+    let body = row_faults (with_params (begin all fs f) f.parameters) f.body in
+    place_then (heading_faults fs f) (params ++ body ++ size_faults f ∷ []) (heading_complete fs f h.name h.kernel)
+    (places_joined (params ++ body) (size_faults f ∷ [])
+    (places_joined params body (params_complete (begin all fs f) f.parameters h.parameters) (row_complete (with_params (begin all fs f) f.parameters) f.body h.body))
+    (place_then (size_faults f) [] (unless_true (nat_le (row_nodes f.body) node_limit) (fault.TooLarge f.name_at) (le_test (row_nodes f.body) node_limit h.size)) refl))
+
+functions_sound : (all : List ℕ) (fs : Funcs) → first (functions_faults all fs) ≡ None → AreTypedFunctions all fs
+functions_sound all NoFunc n = tt
+functions_sound all (ThenFunc fs f) n =
+    let r = places_split (functions_faults all fs) (function_faults all fs f) n in
+    (functions_sound all fs r.0, function_sound all fs f r.1)
+
+functions_complete : (all : List ℕ) (fs : Funcs) → AreTypedFunctions all fs → first (functions_faults all fs) ≡ None
+functions_complete all NoFunc h = refl
+functions_complete all (ThenFunc fs f) h =
+    places_joined (functions_faults all fs) (function_faults all fs f) (functions_complete all fs h.0) (function_complete all fs f h.1)
+
+pub program_sound : (p : Program) → first (program_faults p) ≡ None → IsTypedProgram p
+unfolding IsTypedProgram
+program_sound p n = functions_sound (names p.functions) p.functions n
+
+pub program_complete : (p : Program) → IsTypedProgram p → first (program_faults p) ≡ None
+unfolding IsTypedProgram
+program_complete p h = functions_complete (names p.functions) p.functions h
+
+pub program_fault : (p : Program) (f : TypeFault) → first (program_faults p) ≡ Some f → IsTypeFault p f
+unfolding IsTypeFault
+program_fault p f e = first_some (program_faults p) f e
+
+typed_or_fault : (p : Program) (o : Option TypeFault) → first (program_faults p) ≡ o → ((f : TypeFault) → IsTypeFault p f → ⊥) → first (program_faults p) ≡ None
+typed_or_fault p None e h = e
+typed_or_fault p (Some f) e h = absurd (h f (program_fault p f e))
+
+pub typed_has_none : (p : Program) → IsTypedProgram p → (f : TypeFault) → IsTypeFault p f → ⊥
+unfolding IsTypeFault
+typed_has_none p h f l = first_none (program_faults p) (program_complete p h) l.0 f l.1.has
+
+one_fault : (p : Program) (f g : TypeFault) → IsTypeFault p f → IsTypeFault p g → f ≡ g
+unfolding IsTypeFault
+one_fault p f g k l = one_least (program_faults p) k.0 l.0 f g k.1 l.1
+
+pub exactly_typed : (p : Program) → IsExactlyTyped p
+exactly_typed p = record {
+  typed = (λ h. typed_has_none p h, λ h. program_sound p (typed_or_fault p (first (program_faults p)) refl h));
+  one_fault = one_fault p;
+}
