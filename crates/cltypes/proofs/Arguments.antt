@@ -1,12 +1,12 @@
 -- The arguments of a call, one after the other.
-use Rattle.std.proofs.Common.{◌≡◌, ℕ, ◌+◌, ◌<◌, ◌≤◌, List, [], ◌∷◌, ◌++◌, length, map, take, drop, get_or, Option, None, Some, Result, Ok, refl, sym, ap, ◌∙◌, subst, arith}
+use Rattle.std.proofs.Common.{◌≡◌, ℕ, ◌+◌, ◌<◌, List, [], ◌∷◌, length, map, take, drop, get_or, Option, None, Some, refl, sym, ap, ◌∙◌, arith}
 use Rattle.std.proofs.lemmas.List.{length-take-le}
 use Prim.Native.Nat.{zero, suc}
 use Rattle.std.specs.List.{slice_get}
 use Rattle.clmodel.specs.declared.tree.VariableType.{VariableType}
 use Rattle.clmodel.specs.declared.tree.Expression.{Expression}
 use Rattle.clmodel.specs.declared.type_fault.TypeFault.{TypeFault}
-use Rattle.clmodel.specs.Tree.{Term, Terms, NoTerm, ThenTerm, then_all, term, terms}
+use Rattle.clmodel.specs.Tree.{Terms, NoTerm, ThenTerm, then_all, term, terms}
 use Rattle.clmodel.specs.Typing.Context.{Context}
 use Rattle.clmodel.specs.Typing.Least.{lesser, least, first}
 use Rattle.clmodel.specs.Typing.Faults.{Want, count, last_kind}

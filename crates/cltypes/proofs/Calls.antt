@@ -1,11 +1,11 @@
 -- What the checker's steps say of a call's places.
-use Rattle.std.proofs.Common.{◌≡◌, ℕ, Bool, true, false, List, ◌++◌, Option, None, Some, Result, Ok, sym, ap, ◌∙◌}
+use Rattle.std.proofs.Common.{◌≡◌, ℕ, Bool, false, Option, Some, Result, Ok, sym, ap, ◌∙◌}
 use Rattle.clmodel.specs.declared.tree.VariableType.{VariableType}
 use Rattle.clmodel.specs.declared.type_fault.TypeFault.{TypeFault}
 use Rattle.clmodel.specs.Tree as tree
 use Rattle.clmodel.specs.Tree.{Term, Terms}
 use Rattle.clmodel.specs.Typing.Context.{Context, Meaning, meaning}
-use Rattle.clmodel.specs.Typing.Least.{lesser, least, first, node}
+use Rattle.clmodel.specs.Typing.Least.{lesser, least, first}
 use Rattle.clmodel.specs.Typing.Faults.{count, callee_faults, wanted, last_kind, call_kind, arguments_faults, call_faults, term_faults, terms_faults}
 use Rattle.cltypes.specs.declared.faults.Operand.{Operand}
 use Rattle.cltypes.specs.declared.faults.Arguments.{Arguments}

@@ -1,21 +1,20 @@
 -- What the checker's steps say of a function's places.
-use Rattle.std.proofs.Common.{◌≡◌, ℕ, ◌+◌, ◌<◌, ◌⊎◌, inl, inr, Bool, true, false, not, ◌&&◌, List, [], ◌∷◌, ◌++◌, length, map, take, drop, get_or, drop-cons, add-one, Option, None, Some, Result, Ok, Err, refl, sym, ap, ◌∙◌}
+use Rattle.std.proofs.Common.{◌≡◌, ℕ, ◌+◌, ◌<◌, inr, Bool, true, false, not, ◌&&◌, List, [], ◌∷◌, ◌++◌, length, take, drop, get_or, Option, None, Some, Result, Ok, Err, refl, sym, ap, ◌∙◌}
 use Prim.Native.Nat.{zero, suc}
 use Rattle.std.proofs.lemmas.List.{take_more}
 use Rattle.clmodel.specs.declared.tree.Parameter.{Parameter}
 use Rattle.clnum.specs.declared.int_type.IntType.TheVariants.{Char}
-use Rattle.clmodel.specs.declared.tree.VariableType.{VariableType}
 use Rattle.clmodel.specs.declared.tree.VariableType.TheVariants as kind
 use Rattle.clmodel.specs.declared.type_fault.TypeFault.{TypeFault}
 use Rattle.clmodel.specs.declared.type_fault.TypeFault.TheVariants as fault
-use Rattle.clmodel.specs.Tree.{Func, Funcs, NoFunc, ThenFunc}
+use Rattle.clmodel.specs.Tree.{Func, Funcs}
 use Rattle.clmodel.specs.Tree.{Stmts}
 use Rattle.clmodel.specs.Typing.Context.{Context, Scope, among, with_name, is_reserved, is_free, bind, after_all}
 use Rattle.clmodel.specs.Typing.Least.{Places, least, earlier, first}
 use Rattle.clmodel.specs.Typing.Faults.{unless, row_faults}
 use Rattle.clmodel.specs.Typing.Functions.{names, begin, with_params, is_new, params_faults, heading_faults, size_faults, function_faults}
 use Rattle.cltypes.proofs.Bodies.{left_all}
-use Rattle.cltypes_scope.specs.Names.{left, without_innermost, begun}
+use Rattle.cltypes_scope.specs.Names.{without_innermost, begun}
 use Rattle.std.specs.Prelude.{IfOk, IfErr}
 use Rattle.cltypes.specs.Answers.{Ends}
 use Rattle.cltypes.proofs.Follows.{inside_first, inside_second, neither_of}

@@ -1,5 +1,5 @@
 -- Calls and lists of arguments as the plain tree has them.
-use Rattle.std.proofs.Common.{◌≡◌, ℕ, suc, ◌+◌, ◌<◌, List, [], ◌∷◌, ◌++◌, length, map, take, get_or, Vec, refl, sym, ap, ◌∙◌, arith}
+use Rattle.std.proofs.Common.{◌≡◌, ℕ, ◌+◌, ◌<◌, List, [], ◌∷◌, ◌++◌, length, map, take, get_or, Vec, refl, ap, ◌∙◌, arith}
 use mathlib.Core.Former.{Count}
 use Rattle.std.proofs.lemmas.List.{take_more}
 use Rattle.std.specs.declared.alloc.Global.{Global}

@@ -1,5 +1,5 @@
 -- What the checker's values stand for.
-use Rattle.std.specs.Prelude.{List, map, Option}
+use Rattle.std.specs.Prelude.{List, map}
 use Rattle.clmodel.specs.Tree.{Term, Terms, Place, Stmts, NoStmt, then_stmts, stmt, Funcs, NoFunc, then_funcs, func}
 use Rattle.clmodel.specs.declared.tree.Function.{Function}
 use Rattle.clmodel.specs.declared.tree.Statement.{Statement}

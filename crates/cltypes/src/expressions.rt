@@ -10,14 +10,16 @@ ghost use Rattle.cltypes.specs.Answers.{Checks};
 ghost use Rattle.cltypes.specs.Views.{operand_of, arguments_of};
 
 use crate::faults::{
-    Arguments, Operand, argument_fault, call_fault, choice_fault, element_fault, integer_fault, lesser,
-    name_fault, operand_fault, pointer_fault, wanted,
+    Arguments, Operand, argument_fault, call_fault, choice_fault, element_fault, integer_fault,
+    lesser, name_fault, operand_fault, pointer_fault, wanted,
 };
 use clmodel::tree::{Expression, VariableType};
 use clmodel::type_fault::TypeFault;
-use cltypes_scope::kinds::{binary_type, call_kind, choice_type, element_kind, name_kind, unary_type};
-use cltypes_scope::{Context, Meaning};
 use clnum::IntType;
+use cltypes_scope::kinds::{
+    binary_type, call_kind, choice_type, element_kind, name_kind, unary_type,
+};
+use cltypes_scope::{Context, Meaning};
 
 /// What has a type and begins at `at`, where it has no fault.
 pub fn checked(fault: Option<TypeFault>, kind: VariableType, at: u32) -> Result<Operand, TypeFault>
@@ -44,7 +46,11 @@ pub fn check_expression(context: &Context, expression: &Expression) -> Result<Op
             Err(fault) => Err(fault),
             Ok(index) => {
                 let meaning = context.meaning(*name);
-                checked(element_fault(meaning, *at, index), element_kind(name_kind(meaning)), *at)
+                checked(
+                    element_fault(meaning, *at, index),
+                    element_kind(name_kind(meaning)),
+                    *at,
+                )
             }
         },
         Expression::ElementAddress {
@@ -56,7 +62,11 @@ pub fn check_expression(context: &Context, expression: &Expression) -> Result<Op
             Err(fault) => Err(fault),
             Ok(index) => {
                 let meaning = context.meaning(*name);
-                checked(element_fault(meaning, *name_at, index), name_kind(meaning), *at)
+                checked(
+                    element_fault(meaning, *name_at, index),
+                    name_kind(meaning),
+                    *at,
+                )
             }
         },
         Expression::Dereference { at, pointer } => match check_expression(context, pointer) {
@@ -84,7 +94,11 @@ pub fn check_expression(context: &Context, expression: &Expression) -> Result<Op
             operand,
         } => match check_expression(context, operand) {
             Err(fault) => Err(fault),
-            Ok(operand) => checked(integer_fault(operand), unary_type(*operator, operand.kind), *at),
+            Ok(operand) => checked(
+                integer_fault(operand),
+                unary_type(*operator, operand.kind),
+                *at,
+            ),
         },
         Expression::Cast {
             at,
@@ -150,7 +164,10 @@ pub fn check_arguments(
         match check_expression(context, argument) {
             Err(fault) => return Err(fault),
             Ok(argument) => {
-                least = lesser(least, argument_fault(wanted(meaning, index), last, argument));
+                least = lesser(
+                    least,
+                    argument_fault(wanted(meaning, index), last, argument),
+                );
                 last = argument.kind;
             }
         }

@@ -14,9 +14,9 @@ ghost use Rattle.cltypes.specs.Views.{want_of};
 use clmodel::setup::{AtomicFunction, BuiltIn};
 use clmodel::tree::{AddressSpace, InfixOperator, PointerType, VariableType};
 use clmodel::type_fault::TypeFault;
+use clnum::{BinaryOperator, Builtin, IntType};
 use cltypes_scope::Meaning;
 use cltypes_scope::kinds::name_kind;
-use clnum::{BinaryOperator, Builtin, IntType};
 
 /// What an argument of a built-in function has to be.
 #[derive(Clone, Copy, Debug, PartialEq, Eq)]
@@ -295,11 +295,7 @@ fn argument_count(function: BuiltIn) -> usize
         BuiltIn::WorkItem(_) => 1,
         BuiltIn::Integer(Builtin::Min | Builtin::Max | Builtin::Rotate) => 2,
         BuiltIn::Integer(_) => 1,
-        BuiltIn::Atomic(function) => if has_operand(function) {
-            2
-        } else {
-            1
-        },
+        BuiltIn::Atomic(function) => if has_operand(function) { 2 } else { 1 },
     }
 }
 
@@ -347,7 +343,10 @@ pub fn call_fault(
 ) -> Option<TypeFault>
     ensures { result ≡ lesser (least (callee_faults is_statement (meaning_of meaning) at count)) arguments.fault }
 {
-    lesser(callee_fault(is_statement, meaning, at, count), arguments.fault)
+    lesser(
+        callee_fault(is_statement, meaning, at, count),
+        arguments.fault,
+    )
 }
 
 /// What the argument of an index has to be, where what is called wants one there.
@@ -418,7 +417,11 @@ fn atomic_fault(argument: Operand) -> Option<TypeFault>
 }
 
 /// An argument: what is wanted in its place, and the type of the one before it.
-pub fn argument_fault(want: Option<Want>, before: VariableType, argument: Operand) -> Option<TypeFault>
+pub fn argument_fault(
+    want: Option<Want>,
+    before: VariableType,
+    argument: Operand,
+) -> Option<TypeFault>
     ensures { result ≡ least (argument_faults (option_map want_of want) before argument.kind argument.at) }
 {
     match want {
@@ -434,7 +437,8 @@ fn store_fault(kind: VariableType, at: u32) -> Option<TypeFault>
     ensures { result ≡ least (store_faults kind at) }
 {
     match kind {
-        VariableType::Pointer(pointer) if pointer.is_const || pointer.space == AddressSpace::Constant => Some(
+        VariableType::Pointer(pointer)
+            if pointer.is_const || pointer.space == AddressSpace::Constant => Some(
             TypeFault::NotAssignable { at },
         ),
         _ => None,
@@ -447,7 +451,10 @@ pub fn target_fault(meaning: Meaning, at: u32, index: Operand) -> Option<TypeFau
     ensures { result ≡ least (target_faults (meaning_of meaning) at ++ integer_faults index.kind index.at) }
 {
     lesser(
-        lesser(front_fault(meaning, at), store_fault(name_kind(meaning), at)),
+        lesser(
+            front_fault(meaning, at),
+            store_fault(name_kind(meaning), at),
+        ),
         integer_fault(index),
     )
 }

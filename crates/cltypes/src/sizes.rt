@@ -42,7 +42,10 @@ fn expression_nodes(expression: &Expression) -> u32
             otherwise,
             ..
         } => plus(
-            plus(plus(1, expression_nodes(condition)), expression_nodes(chosen)),
+            plus(
+                plus(1, expression_nodes(condition)),
+                expression_nodes(chosen),
+            ),
             expression_nodes(otherwise),
         ),
     }
@@ -95,7 +98,8 @@ fn statement_nodes(statement: &Statement) -> u32
         | Statement::Return { value: None, .. } => 1,
         Statement::Block { body, .. } => plus(1, row_nodes(body)),
         Statement::Declare {
-            value: Some(value), ..
+            value: Some(value),
+            ..
         } => plus(1, expression_nodes(value)),
         Statement::Assign { target, value, .. } => plus(
             plus(1, target_nodes(target)),
@@ -104,22 +108,34 @@ fn statement_nodes(statement: &Statement) -> u32
         Statement::Step { target, .. } => plus(1, target_nodes(target)),
         Statement::Call { arguments, .. } => plus(1, arguments_nodes(arguments)),
         Statement::If {
-            condition, chosen, ..
-        } => plus(plus(1, expression_nodes(condition)), statement_nodes(chosen)),
+            condition,
+            chosen,
+            ..
+        } => plus(
+            plus(1, expression_nodes(condition)),
+            statement_nodes(chosen),
+        ),
         Statement::IfElse {
             condition,
             chosen,
             otherwise,
             ..
         } => plus(
-            plus(plus(1, expression_nodes(condition)), statement_nodes(chosen)),
+            plus(
+                plus(1, expression_nodes(condition)),
+                statement_nodes(chosen),
+            ),
             statement_nodes(otherwise),
         ),
         Statement::While {
-            condition, body, ..
+            condition,
+            body,
+            ..
         } => plus(plus(1, expression_nodes(condition)), statement_nodes(body)),
         Statement::DoWhile {
-            body, condition, ..
+            body,
+            condition,
+            ..
         } => plus(plus(1, statement_nodes(body)), expression_nodes(condition)),
         Statement::For {
             first,
@@ -135,7 +151,8 @@ fn statement_nodes(statement: &Statement) -> u32
             statement_nodes(body),
         ),
         Statement::Return {
-            value: Some(value), ..
+            value: Some(value),
+            ..
         } => plus(1, expression_nodes(value)),
     }
 }

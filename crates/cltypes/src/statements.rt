@@ -15,9 +15,9 @@ use crate::faults::{
 };
 use clmodel::tree::{Expression, Statement, Target, VariableType};
 use clmodel::type_fault::TypeFault;
+use clnum::BinaryOperator;
 use cltypes_scope::Context;
 use cltypes_scope::kinds::{element_kind, name_kind};
-use clnum::BinaryOperator;
 
 /// The type of what is assigned to and where it begins, or its first fault.
 fn check_target(context: &Context, target: &Target) -> Result<Operand, TypeFault>
@@ -32,7 +32,11 @@ fn check_target(context: &Context, target: &Target) -> Result<Operand, TypeFault
             Err(fault) => Err(fault),
             Ok(index) => {
                 let meaning = context.meaning(*name);
-                checked(target_fault(meaning, *at, index), element_kind(name_kind(meaning)), *at)
+                checked(
+                    target_fault(meaning, *at, index),
+                    element_kind(name_kind(meaning)),
+                    *at,
+                )
             }
         },
         Target::Dereference { at, pointer } => match check_expression(context, pointer) {

@@ -1,7 +1,6 @@
 -- Names that are free, and names that scopes have.
-use Rattle.std.proofs.Common.{◌≡◌, ℕ, unwrap_or, Bool, true, false, not, ◌&&◌, nat_eq, Option, None, Some, is_some, refl, sym, ap, ◌∙◌, true≢false, List, [], ◌∷◌, map, cond}
+use Rattle.std.proofs.Common.{◌≡◌, ℕ, unwrap_or, Bool, true, false, not, ◌&&◌, Option, None, Some, is_some, refl, sym, ap, ◌∙◌, true≢false, List, [], ◌∷◌, map, cond}
 use Rattle.std.specs.List.{find}
-use Rattle.std.specs.Map.{lookup}
 use Rattle.std.specs.Option.{option_or}
 use Rattle.clmodel.specs.declared.tree.VariableType.{VariableType}
 use Rattle.clmodel.specs.Typing.Context.{Context, Scope, declared, variable, is_free, is_reserved, among}

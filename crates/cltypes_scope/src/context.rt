@@ -33,10 +33,7 @@ type Scope = IndexMap<u32, VariableType>;
 fn last_holder(scopes: &[Scope], name: u32) -> Option<&Scope>
     ensures { option_copied result ≡ find (λ scope. is_some (declared scope.entries name)) (reverse scopes.now) }
 {
-    scopes
-        .iter()
-        .rev()
-        .find(|scope| scope.contains_key(&name))
+    scopes.iter().rev().find(|scope| scope.contains_key(&name))
 }
 
 /// The names that are known at a place of a program: those of all its functions and of those whose text has begun, and the variables

@@ -17,7 +17,8 @@ pub fn unary_kind(operator: UnaryOperator, operand: IntType) -> IntType
     ensures { result ≡ unary_kind operator operand }
 {
     match operator {
-        UnaryOperator::Plus | UnaryOperator::Negate | UnaryOperator::Complement => operand.promoted(),
+        UnaryOperator::Plus | UnaryOperator::Negate | UnaryOperator::Complement =>
+            operand.promoted(),
         UnaryOperator::Not => IntType::Int,
     }
 }

@@ -1,4 +1,4 @@
-use Rattle.std.proofs.Common.{rules, ◌≡◌, take, inl, inr, refl, sym, ap, ◌∙◌}
+use Rattle.std.proofs.Common.{take, inl, inr, ◌∙◌}
 use Rattle.clmodel.specs.Typing.Functions.{names}
 use Rattle.cltypes.specs.Views.{functions_of}
 use Rattle.cltypes.proofs.Texts.{names_more, function_inside, functions_more}

@@ -1,11 +1,10 @@
-use Rattle.std.proofs.Common.{◌≡◌, ◌++◌, Some, option_map, refl, sym, ap, ◌∙◌}
+use Rattle.std.proofs.Common.{◌++◌, option_map, refl, sym, ap, ◌∙◌}
 use Rattle.clmodel.specs.declared.tree.VariableType.TheVariants.{Integer}
 use Rattle.clmodel.specs.Tree as tree
 use Rattle.clmodel.specs.Tree.{term, terms}
 use Rattle.clmodel.specs.Typing.Context.{meaning}
 use Rattle.clmodel.specs.Typing.Least.{least}
-use Rattle.clmodel.specs.Typing.Faults as rule
-use Rattle.clmodel.specs.Typing.Faults.{front_faults, integer_faults, pointer_faults, operand_faults, term_faults, terms_faults, name_kind, element_kind, unary_type, binary_type, choice_type, wanted}
+use Rattle.clmodel.specs.Typing.Faults.{front_faults, integer_faults, pointer_faults, operand_faults, term_faults, name_kind, element_kind, unary_type, binary_type, choice_type, wanted}
 use Rattle.cltypes_scope.specs.Names.{meaning_of}
 use Rattle.cltypes.specs.Views.{operand_of, want_of}
 use Rattle.cltypes.proofs.Follows.{inside, inside_first, inside_second, neither_of, checks_as, operand, along, fault_along, one_here, two_here, three_here}

@@ -1,6 +1,5 @@
 use Rattle.std.proofs.Common.{rules, ◌≡◌, inl, inr, sym, ap, ◌∙◌}
 use Rattle.clmodel.specs.Tree.{func}
-use Rattle.clmodel.specs.Typing.Context.{after_all}
 use Rattle.clmodel.specs.Typing.Faults.{row_faults}
 use Rattle.clmodel.specs.Typing.Functions.{with_params, params_faults, function_faults}
 use Rattle.clmodel.specs.Typing.Least.{first}

@@ -2,7 +2,7 @@ use Rattle.std.proofs.Common.{rules, ◌≡◌, sym, ap, ◌∙◌, subst}
 use Rattle.clmodel.specs.Tree as tree
 use Rattle.clmodel.specs.Tree.{stmt}
 use Rattle.clmodel.specs.Typing.Context.{enter, after_all}
-use Rattle.clmodel.specs.Typing.Faults.{faults, row_faults}
+use Rattle.clmodel.specs.Typing.Faults.{faults}
 use Rattle.clmodel.specs.Typing.Least.{first}
 use Rattle.cltypes_scope.specs.Names.{left}
 use Rattle.cltypes.specs.Answers.{Ends}

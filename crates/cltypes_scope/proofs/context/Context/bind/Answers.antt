@@ -1,4 +1,4 @@
-use Rattle.std.proofs.Common.{◌≡◌, sym, ap, ◌∙◌, nat_eq, map, reverse}
+use Rattle.std.proofs.Common.{ap, ◌∙◌, nat_eq, map, reverse}
 use Rattle.clmodel.specs.Typing.Context.{bind, declared}
 use Rattle.indexmap.proofs.CallerLemmas.{insert_entry-new}
 use Rattle.cltypes_scope.proofs.Declaring.{undeclared}

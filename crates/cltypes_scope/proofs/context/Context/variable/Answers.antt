@@ -1,4 +1,4 @@
-use Rattle.std.proofs.Common.{◌≡◌, ◌∷◌, Some, None, is_some, map, reverse, sym, ap, ◌∙◌}
+use Rattle.std.proofs.Common.{◌≡◌, ◌∷◌, None, is_some, map, reverse, sym, ap, ◌∙◌}
 use Rattle.std.specs.List.{find}
 use Rattle.std.specs.Option.{option_or, option_copied}
 use Rattle.clmodel.specs.Typing.Context.{declared, variable}
@@ -11,7 +11,7 @@ returns-in-Some-last_holder c =
     let x = c.args.name in
     let none : declared s.inner.entries x ≡ None = sym c.get.ensures.value ∙ ap option_copied c.in_default.is in
     let outer = held (λ scope. scope.entries) x (reverse s.outer.items) c.in-Some-last_holder.scope.now
-        (sym (c.in-Some-last_holder.ensures ∙ ap (λ xs. find (λ scope. is_some (declared scope.entries x)) (reverse xs)) c.deref.ensures.value)) in
+    (sym (c.in-Some-last_holder.ensures ∙ ap (λ xs. find (λ scope. is_some (declared scope.entries x)) (reverse xs)) c.deref.ensures.value)) in
     c.copied.ensures ∙ c.get-in-Some-last_holder.ensures.value ∙ sym outer ∙ sym (ap (λ o. option_or o (variable (map (λ scope. scope.entries) (reverse s.outer.items)) x)) none)
     ∙ ap (λ v. variable (v.inner ∷ v.outer) x) c.self.view_is
 
@@ -21,6 +21,6 @@ returns-in-None c =
     let x = c.args.name in
     let none : declared s.inner.entries x ≡ None = sym c.get.ensures.value ∙ ap option_copied c.in_default.is in
     let outer = unheld (λ scope. scope.entries) x (reverse s.outer.items)
-        (sym (c.in-None.ensures ∙ ap (λ xs. find (λ scope. is_some (declared scope.entries x)) (reverse xs)) c.deref.ensures.value)) in
+    (sym (c.in-None.ensures ∙ ap (λ xs. find (λ scope. is_some (declared scope.entries x)) (reverse xs)) c.deref.ensures.value)) in
     sym outer ∙ sym (ap (λ o. option_or o (variable (map (λ scope. scope.entries) (reverse s.outer.items)) x)) none)
     ∙ ap (λ v. variable (v.inner ∷ v.outer) x) c.self.view_is
