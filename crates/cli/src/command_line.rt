@@ -17,7 +17,9 @@ pub enum Invocation<'a> {
 /// Reads the words of a command line, the program's name first. The forms are `clsim run FILE` and `clsim check FILE`.
 pub fn command<'a>(alloc: Global, words: &'a [&'a str]) -> Result<Invocation<'a>, Error> {
     let script = Arg::new(alloc, "FILE").required(true).help("The script");
-    let source = Arg::new(alloc, "FILE").required(true).help("The source, in OpenCL C");
+    let source = Arg::new(alloc, "FILE")
+        .required(true)
+        .help("The source, in OpenCL C");
     let run = Command::new(alloc, "run")
         .about("Runs a script and prints its replies")
         .arg(script)?;

@@ -5,11 +5,11 @@ ghost use Rattle.std.specs.Prelude.{◌≡◌, IfOk, IfErr, OnErr};
 ghost use Rattle.device.specs.Machine.{machine_of};
 ghost use Rattle.cli.specs.Session.{one_end, AnswersOne, BreaksOne, Answered, Broken, Ran, Failed, status_of};
 
+use device::Device;
+use device_store::command::{Command, Reply};
 use simfile::ends::{Read, ReadFault, Write, WriteFailed};
 use simfile::replies::write_reply;
 use simfile::script::{ScriptFault, read_script};
-use device::Device;
-use device_store::command::{Command, Reply};
 use std::alloc::Global;
 use thiserror::Error;
 

@@ -8,8 +8,7 @@ ghost use Rattle.simfile.specs.Sink.{Pushes};
 use simfile::ends::{Read, ReadFault, Write, WriteFailed};
 use std::alloc::Global;
 use std::io;
-use std::io::Write as _;
-use std::io::{BufWriter, ErrorKind};
+use std::io::{BufWriter, ErrorKind, Write as _};
 
 /// A writer of the standard library behind a buffer, whose failed calls are counted.
 #[derive(Drop)]

@@ -15,7 +15,7 @@ use Rattle.simfile.proofs.FieldLemmas.{front_within}
 use Rattle.std.specs.Str.{all_ascii_digits}
 use Rattle.std.specs.Char.{is_ascii_digit}
 use lib.Pointwise.{pointwise, bytes_decides}
-use Rattle.simfile.specs.Fields.{is_name, is_first, is_later, is_number, value_of, value_behind, IsList, list_text, is_listed, is_list, between_commas, number_of, numbers_of, AreBytes, hex_digit, byte_text, hex, is_hex_digit, hex_value, bytes_of, IsValue}
+use Rattle.simfile.specs.Fields.{is_name, is_first, is_later, is_number, value_of, value_behind, IsList, list_text, is_listed, is_list, between_commas, number_of, numbers_of, AreBytes, hex_digit, hex, is_hex_digit, hex_value, bytes_of, IsValue}
 use Rattle.simfile.specs.Reading.{after, name_at, number_at, list_at, hex_at, negative_at, positive_at, value_at, front_length, lines_end, lines_at, source_at, or_else, ◌>>=◌}
 use Rattle.simfile.specs.Script.{line_feeds, AreLines}
 

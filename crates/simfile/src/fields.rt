@@ -179,7 +179,8 @@ fn list_length(bytes: &[u8]) -> usize
 fn is_list(text: &[u8]) -> bool
     ensures { result ≡ is_list text.now }
 {
-    text.split(|byte| *byte == b',').all(|digits| number_of(digits).is_some())
+    text.split(|byte| *byte == b',')
+        .all(|digits| number_of(digits).is_some())
 }
 
 /// A list of numbers in front, and the rest.

@@ -169,11 +169,7 @@ pub fn write_check<W: Write>(fault: Option<BuildFault>, writer: &mut W) -> Resul
     };
     let (words, at) = fault_in_source(fault);
     write_pieces(
-        &[
-            Piece::Text(words),
-            Piece::Index(at),
-            Piece::Text("\n"),
-        ],
+        &[Piece::Text(words), Piece::Index(at), Piece::Text("\n")],
         writer,
     )
 }

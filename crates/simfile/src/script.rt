@@ -9,7 +9,9 @@ ghost use Rattle.simfile.specs.Script.{IsScript, line_feeds};
 ghost use Rattle.simfile.specs.Faults.{NoScript};
 ghost use Rattle.device_store.specs.declared.command.Command.{Command};
 
-use crate::fields::{after, bytes_of, hex_at, lines_at, list_at, name_at, number_at, numbers_of, value_at};
+use crate::fields::{
+    after, bytes_of, hex_at, lines_at, list_at, name_at, number_at, numbers_of, value_at,
+};
 use clmodel::setup::{Argument, Range};
 use clmodel::text::{Bytes, Name, Numbers};
 use device_store::command::Command;

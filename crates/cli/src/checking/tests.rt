@@ -25,9 +25,21 @@ fn check_over(
 #[test]
 fn sources(rt: HostRuntime) {
     for (source, good, line) in [
-        ("__kernel void f(__global int *a) { a[0] = 7; }", true, "ok\n"),
-        ("__kernel void f(size_t n) { }", false, "syntax 3 Unexpected at 16\n"),
-        ("__kernel void f() { y[0] = 1; }", false, "type 1 UnknownName at 20\n"),
+        (
+            "__kernel void f(__global int *a) { a[0] = 7; }",
+            true,
+            "ok\n",
+        ),
+        (
+            "__kernel void f(size_t n) { }",
+            false,
+            "syntax 3 Unexpected at 16\n",
+        ),
+        (
+            "__kernel void f() { y[0] = 1; }",
+            false,
+            "type 1 UnknownName at 20\n",
+        ),
     ] {
         let (outcome, text) = check_over(rt.alloc(), source, 1000, 1000);
         assert_eq!(rt; outcome, Ok(good));

@@ -1,7 +1,6 @@
 //! The lines of replies, against the text that the format gives.
 
 use super::{write_check, write_reply, write_turns};
-
 use crate::ends::{Write, WriteFailed};
 use clmodel::access::{AccessKind, Clash, Class};
 use clmodel::action::{Instance, Stop, Turns};

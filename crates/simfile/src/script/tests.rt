@@ -38,7 +38,10 @@ fn only_command(rt: &HostRuntime, text: &str) -> Result<Command, Fail> {
 
 fn is_value(command: &Command, wanted: i128) -> bool {
     match command {
-        Command::Arg { argument: Argument::Value(value), .. } => *value == wanted,
+        Command::Arg {
+            argument: Argument::Value(value),
+            ..
+        } => *value == wanted,
         _ => false,
     }
 }

@@ -1,6 +1,5 @@
 use Rattle.std.proofs.Common.{[], ◌++◌}
 use Rattle.std.proofs.lemmas.List.{append-nil}
-use Rattle.std.proofs.lemmas.Result.{err_from_is_err_and}
 use Rattle.simfile.specs.Sink.{Puts}
 use Rattle.simfile.specs.Lines.{check_line}
 use Rattle.simfile.proofs.Puts.{puts_then}

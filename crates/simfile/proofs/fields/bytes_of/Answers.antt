@@ -1,6 +1,5 @@
-use Rattle.std.proofs.Common.{◌≡◌, ◌<◌, ◌+◌, ◌-◌, ◌*◌, ◌/◌, [], ◌∷◌, ◌++◌, ap, sym, ◌∙◌, append_assoc, arith, rules, get_or, drop, length, length-drop}
+use Rattle.std.proofs.Common.{◌<◌, ◌+◌, ◌*◌, ◌/◌, ◌++◌, ap, sym, ◌∙◌, append_assoc, arith, rules, drop, length, length-drop}
 use Rattle.std.proofs.lemmas.List.{append-nil}
-use Rattle.simfile.specs.Fields.{bytes_of, hex_value}
 use Rattle.simfile.proofs.FieldLemmas.{bytes_more, bytes_last}
 use Rattle.simfile.proofs.fields.bytes_of.Goals as goal
 

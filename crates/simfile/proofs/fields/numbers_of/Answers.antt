@@ -1,4 +1,4 @@
-use Rattle.std.proofs.Common.{◌≡◌, ◌==◌, ◌∙◌, ℕ, Ok, rules, tests}
+use Rattle.std.proofs.Common.{◌∙◌, ℕ, Ok, rules, tests}
 use Rattle.std.proofs.lemmas.Iterator.{items_from_collect, YieldsList-from_map}
 use Rattle.std.proofs.lemmas.Iterator.Consumers.{YieldsList-at}
 use Rattle.std.proofs.lemmas.Iterator.Splits.{YieldsList-from_slice_split}
