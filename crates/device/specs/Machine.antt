@@ -2,7 +2,7 @@
 use Rattle.std.specs.Prelude.{◌≡◌, ℕ, ◌+◌, ◌==◌, ◌⊎◌, Bool, true, false, not, ◌&&◌, ◌||◌, nat_le, nat_lt, if◌then◌else◌, IsTrue, List, [], ◌∷◌, ◌++◌, length, map, take, drop, replicate, slice_get, Option, None, Some, is_some, Result, Ok, Err}
 use Rattle.std.specs.List.{list_any}
 use Rattle.std.specs.Map.{set_value}
-use Rattle.std.specs.Option.{option_map, option_and_then, option_map_or, unwrap_or, MatchOption}
+use Rattle.std.specs.Option.{option_map_or, unwrap_or, MatchOption}
 use Rattle.clmodel.specs.Law.{CleanWith, Reaches, RunsIntoFault}
 use Rattle.clmodel.specs.Launch.{Launch}
 use Rattle.clmodel.specs.Run.{Events, State}

@@ -6,7 +6,6 @@ use clmodel::setup::{Argument, Range};
 use clmodel::text::{Bytes, Name, Numbers};
 use std::alloc::{AllocError, Global};
 use std::process::Abort;
-use std::test::Fail;
 
 const TWO_STORES: &[u8] = b"__kernel void f(__global int *a) { a[0] = 7; a[1] = 9; }";
 
@@ -25,19 +24,19 @@ fn numbers(alloc: Global, numbers: &[u64]) -> Result<Numbers, AllocError> {
     Ok(Numbers::new(numbers.to_vec(alloc)?))
 }
 
-/// A launch of the kernel k from one offset in all dimensions.
+/// A launch of the kernel k.
 fn launch(
     alloc: Global,
     global: &[u64],
     local: &[u64],
-    offset: u64,
+    offset: &[u64],
 ) -> Result<Command, AllocError> {
     Ok(Command::Launch {
         kernel: name(alloc, "k")?,
         range: Range {
             global: numbers(alloc, global)?,
             local: numbers(alloc, local)?,
-            offset: Numbers::new(vec![in alloc; offset; global.len()]?),
+            offset: numbers(alloc, offset)?,
         },
     })
 }
@@ -81,183 +80,189 @@ fn kernel(alloc: Global, text: &str, function: &str) -> Result<Command, AllocErr
     })
 }
 
-fn argument(alloc: Global, index: u64, argument: Argument) -> Result<Command, AllocError> {
+/// Sets an argument of the kernel k to a buffer.
+fn argument(alloc: Global, index: u64, text: &str) -> Result<Command, AllocError> {
     Ok(Command::Arg {
         kernel: name(alloc, "k")?,
         index,
-        argument,
+        argument: Argument::Buffer(name(alloc, text)?),
     })
 }
 
-/// What the device answers, of which the tests are to know nothing beforehand.
-fn reply(device: &mut Device, command: Command) -> Reply {
-    device.apply(command)
+/// Sets an argument of the kernel k to a number.
+fn number(alloc: Global, index: u64, number: i128) -> Result<Command, AllocError> {
+    Ok(Command::Arg {
+        kernel: name(alloc, "k")?,
+        index,
+        argument: Argument::Value(number),
+    })
+}
+
+/// What the device answers to a command.
+fn reply(rt: &impl Abort, device: &mut Device, command: Result<Command, AllocError>) -> Reply {
+    device.apply(command.expect(rt, "no memory"))
+}
+
+/// The device does a command.
+fn does(rt: &impl Abort, device: &mut Device, command: Result<Command, AllocError>) {
+    let answer = reply(rt, device, command);
+    assert!(rt; matches!(answer, Reply::Done));
 }
 
 /// The device refuses a command so.
-fn refuses(rt: &impl Abort, device: &mut Device, command: Command, wanted: Refusal) {
-    let refusal = match reply(device, command) {
+fn refuses(
+    rt: &impl Abort,
+    device: &mut Device,
+    command: Result<Command, AllocError>,
+    wanted: Refusal,
+) {
+    let refusal = match reply(rt, device, command) {
         Reply::Refused(refusal) => Some(refusal),
         _ => None,
     };
     assert_eq!(rt; refusal, Some(wanted));
 }
 
+/// The buffer a begins with these bytes.
+fn holds(rt: &impl Abort, alloc: Global, device: &mut Device, wanted: &[u8]) {
+    let count = wanted.len() as u64;
+    let found = match reply(rt, device, read(alloc, "a", 0, count)) {
+        Reply::Data(bytes) => Some(bytes),
+        _ => None,
+    };
+    let found = found.expect(rt, "no bytes");
+    assert_eq!(rt; found.as_slice(), wanted);
+}
+
 /// A device with a buffer a of so many bytes and a kernel k that has it as its argument.
-fn ready(alloc: Global, size: u64, source: &[u8]) -> Result<Device, AllocError> {
+fn ready(rt: &impl Abort, alloc: Global, size: u64, source: &[u8]) -> Device {
     let mut device = Device::new(alloc, 100000);
-    let _ = reply(&mut device, buffer(alloc, "a", size)?);
-    let _ = reply(&mut device, program(alloc, "p", source)?);
-    let _ = reply(&mut device, kernel(alloc, "k", "f")?);
-    let first = Argument::Buffer(name(alloc, "a")?);
-    let _ = reply(&mut device, argument(alloc, 0, first)?);
-    Ok(device)
-}
-
-/// What the buffer a of so many bytes holds.
-fn contents(alloc: Global, device: &mut Device, size: u64) -> Result<Bytes, AllocError> {
-    match reply(device, read(alloc, "a", 0, size)?) {
-        Reply::Data(bytes) => Ok(bytes),
-        _ => Err(AllocError),
-    }
+    does(rt, &mut device, buffer(alloc, "a", size));
+    does(rt, &mut device, program(alloc, "p", source));
+    does(rt, &mut device, kernel(alloc, "k", "f"));
+    does(rt, &mut device, argument(alloc, 0, "a"));
+    device
 }
 
 #[test]
-fn runs_a_kernel(rt: HostRuntime) -> Result<(), Fail> {
+fn runs_a_kernel(rt: HostRuntime) {
     let alloc = rt.alloc();
-    let mut device = ready(alloc, 8, TWO_STORES)?;
-    let launched = reply(&mut device, launch(alloc, &[1], &[1], 0)?);
+    let mut device = ready(&rt, alloc, 8, TWO_STORES);
+    let launched = reply(&rt, &mut device, launch(alloc, &[1], &[1], &[0]));
     assert!(rt; matches!(launched, Reply::Clean));
-    let bytes = contents(alloc, &mut device, 8)?;
-    assert_eq!(rt; bytes.as_slice(), [7, 0, 0, 0, 9, 0, 0, 0].as_slice());
+    holds(&rt, alloc, &mut device, &[7, 0, 0, 0, 9, 0, 0, 0]);
     assert_eq!(rt; device.buffers().len(), 1);
-    Ok(())
 }
 
 #[test]
-fn writes_and_runs_in_two_dimensions(rt: HostRuntime) -> Result<(), Fail> {
+fn writes_and_runs_in_two_dimensions(rt: HostRuntime) {
     let alloc = rt.alloc();
-    let mut device = ready(alloc, 16, TWO_DIMENSIONS)?;
-    let written = reply(&mut device, write(alloc, 7, &[1, 2, 0, 0, 0, 255])?);
-    assert!(rt; matches!(written, Reply::Done));
-    let launched = reply(&mut device, launch(alloc, &[2, 2], &[2, 2], 0)?);
+    let mut device = ready(&rt, alloc, 16, TWO_DIMENSIONS);
+    does(&rt, &mut device, write(alloc, 7, &[1, 2, 0, 0, 0, 255]));
+    let launched = reply(&rt, &mut device, launch(alloc, &[2, 2], &[2, 2], &[0, 0]));
     assert!(rt; matches!(launched, Reply::Clean));
-    let bytes = contents(alloc, &mut device, 16)?;
-    assert_eq!(rt;
-        bytes.as_slice(),
-        [5, 0, 0, 0, 5, 0, 0, 1, 7, 0, 0, 0, 4, 1, 0, 0].as_slice()
+    holds(
+        &rt,
+        alloc,
+        &mut device,
+        &[5, 0, 0, 0, 5, 0, 0, 1, 7, 0, 0, 0, 4, 1, 0, 0],
     );
-    Ok(())
 }
 
 #[test]
-fn a_fault_leaves_the_buffers(rt: HostRuntime) -> Result<(), Fail> {
+fn a_fault_leaves_the_buffers(rt: HostRuntime) {
     let alloc = rt.alloc();
-    let mut device = ready(alloc, 8, STORE_PAST_THE_END)?;
-    let launched = reply(&mut device, launch(alloc, &[1], &[1], 0)?);
+    let mut device = ready(&rt, alloc, 8, STORE_PAST_THE_END);
+    let launched = reply(&rt, &mut device, launch(alloc, &[1], &[1], &[0]));
     assert!(rt; matches!(launched, Reply::Fault { .. }));
-    let bytes = contents(alloc, &mut device, 8)?;
-    assert_eq!(rt; bytes.as_slice(), [0; 8].as_slice());
-    Ok(())
+    holds(&rt, alloc, &mut device, &[0; 8]);
 }
 
 #[test]
-fn refuses_buffers(rt: HostRuntime) -> Result<(), Fail> {
+fn refuses_buffers(rt: HostRuntime) {
     let alloc = rt.alloc();
     let mut device = Device::new(alloc, 1);
-    let made = reply(&mut device, buffer(alloc, "a", 1048576)?);
-    assert!(rt; matches!(made, Reply::Done));
-    refuses(&rt, &mut device, buffer(alloc, "a", 0)?, Refusal::NameInUse);
+    does(&rt, &mut device, buffer(alloc, "a", 1048576));
+    refuses(&rt, &mut device, buffer(alloc, "a", 0), Refusal::NameInUse);
     refuses(
         &rt,
         &mut device,
-        buffer(alloc, "b", 1048577)?,
+        buffer(alloc, "b", 1048577),
         Refusal::BadSize,
     );
     refuses(
         &rt,
         &mut device,
-        read(alloc, "b", 0, 0)?,
+        read(alloc, "b", 0, 0),
         Refusal::NoSuchName,
     );
     refuses(
         &rt,
         &mut device,
-        read(alloc, "a", 1048577, 0)?,
+        read(alloc, "a", 1048577, 0),
         Refusal::BadSize,
     );
     refuses(
         &rt,
         &mut device,
-        read(alloc, "a", 1048576, 1)?,
+        read(alloc, "a", 1048576, 1),
         Refusal::OutOfRange,
     );
     refuses(
         &rt,
         &mut device,
-        write(alloc, 1048577, &[])?,
+        write(alloc, 1048577, &[]),
         Refusal::BadSize,
     );
     refuses(
         &rt,
         &mut device,
-        write(alloc, u64::MAX, &[1])?,
+        write(alloc, u64::MAX, &[1]),
         Refusal::OutOfRange,
     );
-    Ok(())
 }
 
 #[test]
-fn refuses_kernels(rt: HostRuntime) -> Result<(), Fail> {
+fn refuses_kernels(rt: HostRuntime) {
     let alloc = rt.alloc();
-    let mut device = ready(alloc, 8, TWO_STORES)?;
-    let fault = reply(&mut device, program(alloc, "q", b"x")?);
+    let mut device = ready(&rt, alloc, 8, TWO_STORES);
+    let fault = reply(&rt, &mut device, program(alloc, "q", b"x"));
     assert!(rt; matches!(fault, Reply::Refused(Refusal::BuildFailed(_))));
     refuses(
         &rt,
         &mut device,
-        kernel(alloc, "l", "g")?,
+        kernel(alloc, "l", "g"),
         Refusal::NoSuchKernel,
     );
-    let absent = Argument::Buffer(name(alloc, "zz")?);
     refuses(
         &rt,
         &mut device,
-        argument(alloc, 9, absent)?,
+        argument(alloc, 9, "zz"),
         Refusal::BadArgument,
     );
-    let absent = Argument::Buffer(name(alloc, "zz")?);
     refuses(
         &rt,
         &mut device,
-        argument(alloc, 0, absent)?,
+        argument(alloc, 0, "zz"),
         Refusal::NoSuchName,
     );
-    let number = argument(alloc, 0, Argument::Value(1))?;
-    refuses(&rt, &mut device, number, Refusal::BadArgument);
-    Ok(())
+    refuses(&rt, &mut device, number(alloc, 0, 1), Refusal::BadArgument);
 }
 
 #[test]
-fn refuses_launches(rt: HostRuntime) -> Result<(), Fail> {
+fn refuses_launches(rt: HostRuntime) {
     let alloc = rt.alloc();
-    let mut device = ready(alloc, 8, TWO_STORES)?;
-    let end = launch(alloc, &[u64::MAX], &[0], 1)?;
+    let mut device = ready(&rt, alloc, 8, TWO_STORES);
+    let end = launch(alloc, &[u64::MAX], &[0], &[1]);
     refuses(&rt, &mut device, end, Refusal::BadDimension);
-    let dimensions = launch(alloc, &[0, 0, 0, 0], &[1], 0)?;
+    let dimensions = launch(alloc, &[0, 0, 0, 0], &[1], &[0]);
     refuses(&rt, &mut device, dimensions, Refusal::BadDimension);
-    let lists = launch(alloc, &[4], &[1, 1], 0)?;
+    let lists = launch(alloc, &[4], &[1, 1], &[0]);
     refuses(&rt, &mut device, lists, Refusal::BadDimension);
-    let uneven = launch(alloc, &[3], &[2], 0)?;
+    let uneven = launch(alloc, &[3], &[2], &[0]);
     refuses(&rt, &mut device, uneven, Refusal::BadGroupSize);
-    let huge = launch(
-        alloc,
-        &[4294967296, 4294967296],
-        &[4294967296, 4294967296],
-        0,
-    )?;
+    let huge = launch(alloc, &[4294967296; 2], &[4294967296; 2], &[0; 2]);
     refuses(&rt, &mut device, huge, Refusal::BadGroupSize);
-    let groups = launch(alloc, &[2], &[1], 0)?;
+    let groups = launch(alloc, &[2], &[1], &[0]);
     refuses(&rt, &mut device, groups, Refusal::TooManyItems);
-    Ok(())
 }

@@ -1,7 +1,7 @@
 -- One function more.
 use Rattle.std.proofs.Common.{◌≡◌, ℕ, ◌+◌, ◌<◌, List, [], ◌∷◌, ◌++◌, length, take, get_or, map, refl, ap, sym, ◌∙◌}
 use Rattle.std.proofs.lemmas.List.{take_more}
-use Rattle.clmodel.specs.Tree.{Func, Funcs, func, then_funcs, NoFunc, ThenFunc}
+use Rattle.clmodel.specs.Tree.{Funcs, func, then_funcs, NoFunc, ThenFunc}
 use Rattle.clmodel.specs.declared.tree.Function.{Function}
 
 then_last : (fs : Funcs) (gs : List Function) (g : Function) → then_funcs fs (map func (gs ++ g ∷ [])) ≡ ThenFunc (then_funcs fs (map func gs)) (func g)

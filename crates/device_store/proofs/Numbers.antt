@@ -1,5 +1,5 @@
 -- Numbers in the range of a type.
-use Rattle.std.proofs.Common.{◌≡◌, ℤ, Bool, true, ◌&&◌, ◌≤ℤ◌, subst, rules}
+use Rattle.std.proofs.Common.{◌≡◌, ℤ, ◌≤ℤ◌, subst, rules}
 use Rattle.std.specs.Prelude.{int_le}
 use Rattle.std.specs.Bool.{Decides}
 use Rattle.std.specs.Ordering.{int_eq}

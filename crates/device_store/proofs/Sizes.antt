@@ -1,5 +1,5 @@
 -- Sizes of an index space.
-use Rattle.std.proofs.Common.{◌≡◌, ℕ, zero, suc, ◌+◌, ◌*◌, ◌-◌, ◌^◌, ◌%◌, ◌==◌, ◌≤◌, ◌<◌, min, Bool, true, false, not, ◌||◌, nat_lt, List, [], ◌∷◌, length, All, refl, ap, sym, ◌∙◌, subst, arith}
+use Rattle.std.proofs.Common.{◌≡◌, ℕ, zero, suc, ◌+◌, ◌*◌, ◌-◌, ◌^◌, ◌%◌, ◌==◌, ◌≤◌, ◌<◌, min, Bool, true, false, not, ◌||◌, nat_lt, List, [], ◌∷◌, length, All, refl, ap, ◌∙◌, arith}
 use Rattle.std.specs.List.{list_any, zip}
 use Rattle.std.proofs.Math.Nat.{mod_self}
 use Rattle.std.proofs.lemmas.List.Elements.{All-nil, All-cons}
@@ -7,7 +7,7 @@ use Rattle.std.proofs.lemmas.Bool.{eqb-true}
 use Rattle.std.proofs.lemmas.Bool.Decides.{nat_tests}
 use Rattle.clmodel.specs.Setup.{product, item_count, group_items}
 use Rattle.clmodel.specs.declared.setup.Range.{Range}
-use Rattle.device_store.specs.Ranges.{is_bad_dimension, is_bad_group, is_too_many, IsLaunchable}
+use Rattle.device_store.specs.Ranges.{is_bad_dimension, IsLaunchable}
 
 pub clipped : (n p m : ℕ) → min (n * min p m) m ≡ min (n * p) m
 clipped zero p m = omega arith

@@ -1,6 +1,6 @@
 -- Names that a table doesn't have.
-use Rattle.std.proofs.Common.{◌≡◌, ℕ, Bool, true, false, cond, nat_eq, List, [], ◌∷◌, ◌++◌, Option, None, Some, refl, ap, sym, length, ◌+◌, ◌<◌, ◌≤◌, get_or, min, append_assoc, length-append, ◌∙◌, arith}
-use Rattle.std.specs.Map.{lookup, set_value}
+use Rattle.std.proofs.Common.{◌≡◌, ℕ, Bool, true, false, cond, nat_eq, List, [], ◌∷◌, ◌++◌, None, Some, refl, ap, sym, length, ◌+◌, ◌<◌, ◌≤◌, get_or, min, length-append, ◌∙◌, arith}
+use Rattle.std.specs.Map.{set_value}
 use Rattle.indexmap.specs.IndexMap.{insert_entry}
 use Rattle.std.specs.Cmp.Lexicographic.{pointwise}
 use Rattle.device_store.specs.Tables.{is, find, with_values}

@@ -1,9 +1,9 @@
 -- Kernels with their arguments (OpenCL 1.2, 5.7).
-use Rattle.std.specs.Prelude.{ℕ, ℤ, Bool, true, false, not, ◌&&◌, nat_le, int_le, List, Option, None, Some, position, slice_set, [], replicate, length}
+use Rattle.std.specs.Prelude.{ℕ, ℤ, Bool, true, false, not, ◌&&◌, nat_le, int_le, List, Option, None, Some, position, slice_set, [], replicate}
 use Rattle.std.specs.Option.{option_map, option_and_then, option_map_or}
 use Rattle.clnum.specs.Integer.{least, greatest}
 use Rattle.clnum.specs.declared.int_type.IntType.{IntType}
-use Rattle.clmodel.specs.Tree.{Program, Func}
+use Rattle.clmodel.specs.Tree.{Program}
 use Rattle.clmodel.specs.Setup.{kernel_in}
 use Rattle.clmodel.specs.declared.setup.Argument.{Argument}
 use Rattle.clmodel.specs.declared.setup.Argument.TheVariants as argument

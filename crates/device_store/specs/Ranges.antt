@@ -1,7 +1,7 @@
 -- Which index spaces a launch may have (OpenCL 1.2, 5.8, the errors of clEnqueueNDRangeKernel).
-use Rattle.std.specs.Prelude.{◌≡◌, ℕ, ◌+◌, ◌-◌, ◌%◌, ◌^◌, ◌==◌, Bool, false, not, ◌||◌, nat_lt, length}
+use Rattle.std.specs.Prelude.{◌≡◌, ◌+◌, ◌-◌, ◌%◌, ◌^◌, ◌==◌, Bool, false, not, ◌||◌, nat_lt, length}
 use Rattle.std.specs.List.{list_any, zip}
-use Rattle.clmodel.specs.Setup.{item_count, group_items}
+use Rattle.clmodel.specs.Setup.{group_items}
 use Rattle.clmodel.specs.declared.setup.Range.{Range}
 
 -- not 1 to 3 dimensions, lists of unequal length, or an offset and a size that pass 2^64 - 1 together

@@ -1,10 +1,9 @@
 //! Buffers by their names.
 #![tactic(auto)]
 
-ghost use Rattle.std.specs.Prelude.{◌≡◌, ◌≤◌, ◌+◌, [], length};
+ghost use Rattle.std.specs.Prelude.{◌≡◌, ◌≤◌, ◌+◌, length};
 ghost use Rattle.std.specs.Map.{set_value};
-ghost use Rattle.std.specs.Option.{unwrap_or};
-ghost use Rattle.device_store.specs.Tables.{is, find};
+ghost use Rattle.device_store.specs.Tables.{is};
 ghost use Rattle.device_store.specs.Buffers.{bytes_in, with_bytes};
 
 use crate::table::Table;

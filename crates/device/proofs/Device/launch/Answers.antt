@@ -1,5 +1,4 @@
-use Rattle.std.proofs.Common.{◌≡◌, Ok, refl, ap, ◌∙◌}
-use Rattle.device_store.specs.Tables.{with_values}
+use Rattle.std.proofs.Common.{Ok, refl}
 use Rattle.device.specs.Machine.{machine_of}
 use Rattle.device.specs.Prepared.{Starts}
 use Rattle.device.proofs.Launches.{clean_answers, fault_answers}

@@ -1,4 +1,4 @@
-use Rattle.std.proofs.Common.{rules, ◌≡◌, ◌∙◌, Bool, nat_eq, of_z}
+use Rattle.std.proofs.Common.{rules, ◌≡◌, ◌∙◌, nat_eq, of_z}
 use Rattle.std.specs.Ordering.{int_eq}
 use Rattle.clnum.specs.Integer.{wrap}
 use Rattle.device_store.proofs.Numbers.{ranged}

@@ -1,4 +1,4 @@
-use Rattle.std.proofs.Common.{◌≡◌, ◌<◌, ◌≤◌, arith, ap}
+use Rattle.std.proofs.Common.{◌<◌, arith, ap}
 use Rattle.clmodel.specs.Setup.{group_items, product}
 use Rattle.device_store.proofs.Sizes.{Sizes, sizes}
 use Rattle.device_store.proofs.ranges.group_items.Goals as goal

@@ -1,7 +1,6 @@
-use Rattle.std.proofs.Common.{◌≡◌, ◌<◌, ◌^◌, refl, sym, ap, ◌∙◌, arith}
-use Rattle.clmodel.specs.Setup.{Setup, buffer_names}
+use Rattle.std.proofs.Common.{◌≡◌, ◌<◌, ◌^◌, refl, ◌∙◌, arith}
 use Rattle.item_step.specs.Setups.{setup_of}
-use Rattle.device.specs.Prepared.{prepared_setup, Came}
+use Rattle.device.specs.Prepared.{prepared_setup}
 use Rattle.device_store.specs.Buffers.{bytes_in}
 use Rattle.device.proofs.Runs.{ready, concluded, names_of}
 use Rattle.device.proofs.prepared.Prepared.run.Goals as goal
