@@ -1,0 +1,175 @@
+//! The names that are known at a place of a program.
+#![tactic(auto)]
+
+ghost use Rattle.std.specs.Prelude.{◌≡◌, ◌&&◌, not, [], ◌∷◌, true, reverse, is_some, OnOk, OnErr};
+ghost use Rattle.std.specs.List.{find};
+ghost use Rattle.std.specs.Option.{option_copied};
+ghost use Rattle.clmodel.specs.Typing.Context.{among, declared, variable, function_meaning, meaning, is_free, is_reserved, bind, enter};
+ghost use Rattle.cltypes_scope.specs.Names.{meaning_of, nowhere, with_function, begun, left};
+
+use crate::meaning::Meaning;
+use clmodel::setup::built_in_named;
+use clmodel::tree::VariableType;
+use indexmap::{IndexMap, IndexSet};
+use std::alloc::{AllocError, Global};
+use std::marker::Model;
+use std::mem::replace;
+
+/// How many names a table of names begins with that nothing else can have: those of the built-in functions and of the fences of
+/// a barrier.
+const RESERVED_NAMES: u32 = 26;
+
+/// Whether nothing else can have this name, since it is a built-in function's or a fence's.
+pub fn is_reserved(name: u32) -> bool
+    ensures { result ≡ is_reserved name }
+{
+    name < RESERVED_NAMES
+}
+
+/// The variables of a scope, in the order of their declarations.
+type Scope = IndexMap<u32, VariableType>;
+
+/// The last of these scopes that has a variable of this name.
+fn last_holder(scopes: &[Scope], name: u32) -> Option<&Scope>
+    ensures { option_copied result ≡ find (λ scope. is_some (declared scope.entries name)) (reverse scopes.now) }
+{
+    scopes.iter().rev().find(|scope| scope.contains_key(&name))
+}
+
+/// The names that are known at a place of a program: those of all its functions and of those whose text has begun, and the variables
+/// of each scope around the place. Names are their places in a tree's table of names.
+#[derive(Debug, Drop)]
+pub struct Context {
+    alloc: Global,
+    all: IndexSet<u32>,
+    begun: IndexSet<u32>,
+    inner: Scope,
+    outer: Vec<Scope>,
+}
+
+impl Model for Context {
+    ghost use Rattle.std.specs.Prelude.{map, reverse};
+    ghost use Rattle.clmodel.specs.Typing.Context.{Context};
+
+    ghost Value = { Context };
+
+    ghost view = { λ c. record { all = c.all.keys; begun = c.begun.keys; inner = c.inner.entries; outer = map (λ scope. scope.entries) (reverse c.outer.items) } };
+}
+
+impl Context {
+    /// Where nothing is known, in the outermost scope.
+    pub fn new(alloc: Global) -> Context
+        ensures { result ≡ nowhere }
+    {
+        Context {
+            alloc,
+            all: IndexSet::new(alloc),
+            begun: IndexSet::new(alloc),
+            inner: IndexMap::new(alloc),
+            outer: Vec::new(alloc),
+        }
+    }
+
+    /// Notes that the text has a function of this name. Err where memory is wanting: nothing changes then.
+    pub fn add_function(&mut self, name: u32) -> Result<(), AllocError>
+        ensures added { OnOk result (self.new ≡ with_function self.old name) }
+        ensures err { OnErr result (self.new ≡ self.old) }
+    {
+        self.all.insert(name)?;
+        Ok(())
+    }
+
+    /// Begins the text of a function of this name, in its outermost scope with no variables. Err where memory is wanting: nothing
+    /// changes then.
+    pub fn begin(&mut self, name: u32) -> Result<(), AllocError>
+        ensures begun { OnOk result (self.new ≡ begun self.old name) }
+        ensures err { OnErr result (self.new ≡ self.old) }
+    {
+        self.begun.insert(name)?;
+        self.inner.clear();
+        self.outer.clear();
+        Ok(())
+    }
+
+    /// The type of the variable of a name, in the innermost scope that has it.
+    fn variable(&self, name: u32) -> Option<VariableType>
+        ensures { result ≡ variable (self.now.inner ∷ self.now.outer) name }
+    {
+        if let Some(kind) = self.inner.get(&name) {
+            return Some(*kind);
+        }
+        match last_holder(&self.outer, name) {
+            Some(scope) => scope.get(&name).copied(),
+            None => None,
+        }
+    }
+
+    /// What a name stands for that no variable has: a function of the text, or a built-in function.
+    fn function_meaning(&self, name: u32) -> Meaning
+        ensures { meaning_of result ≡ function_meaning self.now name }
+    {
+        if self.begun.contains(&name) {
+            return Meaning::Callable;
+        }
+        match built_in_named(name) {
+            Some(function) => Meaning::BuiltInFunction(function),
+            None => Meaning::Unknown,
+        }
+    }
+
+    /// What a name stands for here: the variable of the innermost scope that has one of this name, or a function.
+    pub fn meaning(&self, name: u32) -> Meaning
+        ensures { meaning_of result ≡ meaning self.now name }
+    {
+        match self.variable(name) {
+            Some(kind) => Meaning::Bound(kind),
+            None => self.function_meaning(name),
+        }
+    }
+
+    /// Whether a variable of this name may be declared here: neither the innermost scope has one, nor has a function of the text,
+    /// a built-in one or a fence this name.
+    pub fn is_free(&self, name: u32) -> bool
+        ensures { result ≡ is_free self.now name }
+    {
+        !is_reserved(name) && !self.inner.contains_key(&name) && !self.all.contains(&name)
+    }
+
+    /// Whether a function of this name may begin.
+    pub fn is_new(&self, name: u32) -> bool
+        ensures { result ≡ (not (is_reserved name) && not (among name self.now.begun)) }
+    {
+        !is_reserved(name) && !self.begun.contains(&name)
+    }
+
+    /// Declares a variable in the innermost scope, where its name is free. Err where memory is wanting: nothing changes then.
+    pub fn bind(&mut self, name: u32, kind: VariableType) -> Result<(), AllocError>
+        requires { is_free self.old name ≡ true }
+        ensures bound { OnOk result (self.new ≡ bind self.old name kind) }
+        ensures err { OnErr result (self.new ≡ self.old) }
+    {
+        self.inner.insert(name, kind)?;
+        Ok(())
+    }
+
+    /// Enters a block: a new scope with no variables, inside the others. Err where memory is wanting: nothing changes then.
+    pub fn enter(&mut self) -> Result<(), AllocError>
+        ensures entered { OnOk result (self.new ≡ enter self.old) }
+        ensures err { OnErr result (self.new ≡ self.old) }
+    {
+        self.outer.reserve(1)?;
+        let scope = replace(&mut self.inner, IndexMap::new(self.alloc));
+        self.outer.push(scope)?;
+        Ok(())
+    }
+
+    /// Leaves a block: the variables of the innermost scope are forgotten, and the scope around it is the innermost one.
+    pub fn leave(&mut self)
+        ensures { self.new ≡ left self.old }
+    {
+        match self.outer.pop() {
+            Some(scope) => self.inner = scope,
+            None => self.inner.clear(),
+        }
+    }
+}

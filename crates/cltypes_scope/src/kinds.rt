@@ -1,0 +1,135 @@
+//! The types of expressions from those of their parts, where these have no fault (OpenCL 1.2, sections 6.2.6, 6.3 and 6.12; C99 6.3.1).
+#![tactic(auto)]
+
+ghost use Rattle.std.specs.Prelude.{◌≡◌};
+ghost use Rattle.clnum.specs.Operations.{unary_kind, binary_kind};
+ghost use Rattle.clmodel.specs.Typing.Faults.{name_kind, element_kind, unary_type, number_kind, binary_type, choice_type, integer_call_kind, call_kind};
+ghost use Rattle.cltypes_scope.specs.Names.{meaning_of};
+
+use crate::meaning::Meaning;
+use clmodel::setup::BuiltIn;
+use clmodel::tree::{InfixOperator, VariableType};
+use clnum::{BinaryOperator, Builtin, IntType, UnaryOperator};
+
+/// The type of a value of an operator on one integer: its type is promoted, but `!` gives int.
+#[tactic(auto, unfolding(clnum::specs::Operations::unary_kind))]
+pub fn unary_kind(operator: UnaryOperator, operand: IntType) -> IntType
+    ensures { result ≡ unary_kind operator operand }
+{
+    match operator {
+        UnaryOperator::Plus | UnaryOperator::Negate | UnaryOperator::Complement =>
+            operand.promoted(),
+        UnaryOperator::Not => IntType::Int,
+    }
+}
+
+/// The type of a value of an operator on two integers: their common type, the promoted left one of a shift, and int of a comparison.
+#[tactic(auto, unfolding(clnum::specs::Operations::binary_kind))]
+pub fn binary_kind(operator: BinaryOperator, left: IntType, right: IntType) -> IntType
+    ensures { result ≡ binary_kind operator left right }
+{
+    match operator {
+        BinaryOperator::Add
+        | BinaryOperator::Subtract
+        | BinaryOperator::Multiply
+        | BinaryOperator::Divide
+        | BinaryOperator::Remainder
+        | BinaryOperator::BitAnd
+        | BinaryOperator::BitXor
+        | BinaryOperator::BitOr => left.common(right),
+        BinaryOperator::ShiftLeft | BinaryOperator::ShiftRight => left.promoted(),
+        BinaryOperator::Less
+        | BinaryOperator::Greater
+        | BinaryOperator::LessOrEqual
+        | BinaryOperator::GreaterOrEqual
+        | BinaryOperator::Equal
+        | BinaryOperator::NotEqual => IntType::Int,
+    }
+}
+
+/// The type of a name: that of the variable that it stands for.
+pub fn name_kind(meaning: Meaning) -> VariableType
+    ensures { result ≡ name_kind (meaning_of meaning) }
+{
+    match meaning {
+        Meaning::Bound(kind) => kind,
+        _ => VariableType::Integer(IntType::Int),
+    }
+}
+
+/// The type of what a pointer of this type points to.
+pub fn element_kind(kind: VariableType) -> VariableType
+    ensures { result ≡ element_kind kind }
+{
+    match kind {
+        VariableType::Integer(_) => kind,
+        VariableType::Pointer(pointer) => VariableType::Integer(pointer.element),
+    }
+}
+
+/// The type of an operator before an operand of this type.
+pub fn unary_type(operator: UnaryOperator, operand: VariableType) -> VariableType
+    ensures { result ≡ unary_type operator operand }
+{
+    match operand {
+        VariableType::Integer(kind) => VariableType::Integer(unary_kind(operator, kind)),
+        VariableType::Pointer(_) => operand,
+    }
+}
+
+/// The type of an operator between two integers.
+fn number_kind(operator: InfixOperator, left: IntType, right: IntType) -> IntType
+    ensures { result ≡ number_kind operator left right }
+{
+    match operator {
+        InfixOperator::Arithmetic(operator) => binary_kind(operator, left, right),
+        InfixOperator::LogicalAnd | InfixOperator::LogicalOr => IntType::Int,
+    }
+}
+
+/// The type of an operator between two operands: that of a pointer among them, which it moves.
+pub fn binary_type(operator: InfixOperator, left: VariableType, right: VariableType) -> VariableType
+    ensures { result ≡ binary_type operator left right }
+{
+    match (left, right) {
+        (VariableType::Integer(left), VariableType::Integer(right)) => VariableType::Integer(
+            number_kind(operator, left, right),
+        ),
+        (VariableType::Pointer(_), _) => left,
+        (_, VariableType::Pointer(_)) => right,
+    }
+}
+
+/// The type of `condition ? chosen : otherwise`.
+pub fn choice_type(chosen: VariableType, otherwise: VariableType) -> VariableType
+    ensures { result ≡ choice_type chosen otherwise }
+{
+    match (chosen, otherwise) {
+        (VariableType::Integer(chosen), VariableType::Integer(otherwise)) => VariableType::Integer(
+            chosen.common(otherwise),
+        ),
+        _ => chosen,
+    }
+}
+
+/// The type of a call of a function on integers: that of its arguments, of which `abs` gives the unsigned one.
+fn integer_call_kind(function: Builtin, last: VariableType) -> VariableType
+    ensures { result ≡ integer_call_kind function last }
+{
+    match (function, last) {
+        (Builtin::Abs, VariableType::Integer(kind)) => VariableType::Integer(kind.unsigned()),
+        _ => last,
+    }
+}
+
+/// The type of a call, by that of its last argument.
+pub fn call_kind(meaning: Meaning, last: VariableType) -> VariableType
+    ensures { result ≡ call_kind (meaning_of meaning) last }
+{
+    match meaning {
+        Meaning::BuiltInFunction(BuiltIn::WorkDim) => VariableType::Integer(IntType::Uint),
+        Meaning::BuiltInFunction(BuiltIn::WorkItem(_)) => VariableType::Integer(IntType::Ulong),
+        Meaning::BuiltInFunction(BuiltIn::Integer(function)) => integer_call_kind(function, last),
+        _ => VariableType::Integer(IntType::Int),
+    }
+}
