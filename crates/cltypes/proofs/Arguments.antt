@@ -1,17 +1,18 @@
 -- The arguments of a call, one after the other.
-use Rattle.std.proofs.Common.{◌≡◌, ℕ, ◌+◌, ◌<◌, ◌≤◌, List, [], ◌∷◌, ◌++◌, length, map, take, drop, get_or, Option, None, Some, Result, Ok, refl, sym, ap, ◌∙◌, subst, arith}
+use Rattle.std.proofs.Common.{◌≡◌, ℕ, ◌+◌, ◌<◌, List, [], ◌∷◌, length, map, take, drop, get_or, Option, None, Some, refl, sym, ap, ◌∙◌, arith}
 use Rattle.std.proofs.lemmas.List.{length-take-le}
 use Prim.Native.Nat.{zero, suc}
 use Rattle.std.specs.List.{slice_get}
 use Rattle.clmodel.specs.declared.tree.VariableType.{VariableType}
 use Rattle.clmodel.specs.declared.tree.Expression.{Expression}
 use Rattle.clmodel.specs.declared.type_fault.TypeFault.{TypeFault}
-use Rattle.clmodel.specs.Tree.{Term, Terms, NoTerm, ThenTerm, then_all, term, terms}
+use Rattle.clmodel.specs.Tree.{Terms, NoTerm, ThenTerm, then_all, term, terms}
 use Rattle.clmodel.specs.Typing.Context.{Context}
 use Rattle.clmodel.specs.Typing.Least.{lesser, least, first}
-use Rattle.clmodel.specs.Typing.Rules.{Want, count}
+use Rattle.clmodel.specs.Typing.Faults.{Want, count, last_kind}
 use Rattle.clmodel.specs.Typing.Faults.{start, argument_faults, kind_of, arguments_faults, term_faults, terms_faults}
-use Rattle.cltypes.specs.Answers.{Checks}
+use Rattle.cltypes.specs.declared.faults.Operand.{Operand}
+use Rattle.cltypes.specs.Views.{operand_of}
 use Rattle.cltypes.proofs.Least.{least_append}
 use Rattle.cltypes.proofs.Follows.{inside_first, inside_second, neither_of}
 use Rattle.cltypes.proofs.Views.{count_terms, terms_more}
@@ -28,7 +29,7 @@ then_rest ts (e ∷ es) (suc i) = then_rest (ThenTerm ts (term e)) es i
 first_of_them : (c : Context) (es : List Expression) (i : ℕ) (f : TypeFault) → first (terms_faults c (terms (take i es))) ≡ Some f → first (terms_faults c (terms es)) ≡ Some f
 first_of_them c es i f h = ap (λ ts. first (terms_faults c ts)) (then_rest NoTerm es i) ∙ ahead c (terms (take i es)) (drop i es) f h
 
-next_argument : (es : List Expression) (i : ℕ) (e : Expression) → i < length es → e ≡ get_or es i e → terms (take (i + 1) es) ≡ ThenTerm (terms (take i es)) (term e)
+pub next_argument : (es : List Expression) (i : ℕ) (e : Expression) → i < length es → e ≡ get_or es i e → terms (take (i + 1) es) ≡ ThenTerm (terms (take i es)) (term e)
 next_argument es i e h g = terms_more es i e h ∙ ap (λ d. ThenTerm (terms (take i es)) (term d)) (sym g)
 
 pub argument_inside : (c : Context) (es : List Expression) (i : ℕ) (e : Expression) (f : TypeFault) → i < length es → e ≡ get_or es i e
@@ -45,15 +46,19 @@ arguments_inside c es i e h g n s =
 counted : (es : List Expression) (i : ℕ) → i < length es → count (terms (take i es)) ≡ i
 counted es i h = count_terms (take i es) ∙ length-take-le i es (omega arith)
 
-pub arguments_own : (c : Context) (ws : List Want) (es : List Expression) (i : ℕ) (e : Expression) (k : VariableType) (b : ℕ) (w : Option Want) (own one now : Option TypeFault)
-    → i < length es → e ≡ get_or es i e → own ≡ least (arguments_faults c ws (terms (take i es))) → k ≡ kind_of c (term e) → b ≡ start (term e)
-    → w ≡ slice_get ws i → one ≡ least (argument_faults w k b) → now ≡ lesser own one → now ≡ least (arguments_faults c ws (terms (take (i + 1) es)))
-arguments_own c ws es i e k b w own one now h g o p q r s t =
+pub arguments_own : (c : Context) (ws : List Want) (es : List Expression) (i : ℕ) (e : Expression) (t : Operand) (last : VariableType) (w : Option Want) (own one now : Option TypeFault)
+    → i < length es → e ≡ get_or es i e → own ≡ least (arguments_faults c ws (terms (take i es))) → last ≡ last_kind c (terms (take i es)) → t ≡ operand_of c (term e)
+    → w ≡ slice_get ws i → one ≡ least (argument_faults w last t.kind t.at) → now ≡ lesser own one → now ≡ least (arguments_faults c ws (terms (take (i + 1) es)))
+arguments_own c ws es i e t last w own one now h g o l p r s n =
     let ts = terms (take i es) in
-    t
+    n
     ∙ ap (λ z. lesser z one) o
     ∙ ap (λ z. lesser (least (arguments_faults c ws ts)) z)
-    (s ∙ ap (λ z. least (argument_faults z k b)) (r ∙ ap (λ z. slice_get ws z) (sym (counted es i h)))
-    ∙ ap (λ z. least (argument_faults (slice_get ws (count ts)) z b)) p ∙ ap (λ z. least (argument_faults (slice_get ws (count ts)) (kind_of c (term e)) z)) q)
-    ∙ sym (least_append (arguments_faults c ws ts) (argument_faults (slice_get ws (count ts)) (kind_of c (term e)) (start (term e))))
+    (s ∙ ap (λ z. least (argument_faults z last t.kind t.at)) (r ∙ ap (λ z. slice_get ws z) (sym (counted es i h)))
+    ∙ ap (λ z. least (argument_faults (slice_get ws (count ts)) z t.kind t.at)) l ∙ ap (λ z. least (argument_faults (slice_get ws (count ts)) (last_kind c ts) z.kind z.at)) p)
+    ∙ sym (least_append (arguments_faults c ws ts) (argument_faults (slice_get ws (count ts)) (last_kind c ts) (kind_of c (term e)) (start (term e))))
     ∙ ap (λ z. least (arguments_faults c ws z)) (sym (next_argument es i e h g))
+
+pub arguments_last : (c : Context) (es : List Expression) (i : ℕ) (e : Expression) (t : Operand) → i < length es → e ≡ get_or es i e → t ≡ operand_of c (term e)
+    → t.kind ≡ last_kind c (terms (take (i + 1) es))
+arguments_last c es i e t h g p = ap (λ z. z.kind) p ∙ ap (λ z. last_kind c z) (sym (next_argument es i e h g))

@@ -1,76 +1,83 @@
--- What the checker's steps say of a statement's places.
-use Rattle.std.proofs.Common.{◌≡◌, ℕ, ◌+◌, ◌<◌, Bool, true, List, [], ◌∷◌, ◌++◌, length, map, take, drop, get_or, Option, None, Some, Result, Ok, refl, sym, ap, ◌∙◌}
+-- What the checker's steps say of the places of statements, one after the other.
+use Rattle.std.proofs.Common.{◌≡◌, ℕ, ◌+◌, ◌<◌, ◌⊎◌, inl, inr, List, [], ◌∷◌, ◌++◌, length, map, take, drop, get_or, None, Some, Result, Vec, refl, sym, ap, ◌∙◌, subst}
+use mathlib.Core.Former.{Count}
 use Prim.Native.Nat.{zero, suc}
 use Rattle.std.proofs.lemmas.List.{take_more}
+use Rattle.std.specs.declared.alloc.Global.{Global}
+use Rattle.clmodel.specs.declared.tree.Statement as rust
+use Rattle.clmodel.specs.declared.tree.Statement.{Statement, items-the_row-Statement, items_hidden-the_row-Statement-0}
+use Rattle.clmodel.specs.declared.tree.Statement.TheBlock.{hidden-the_row-Statement-0}
 use Rattle.clmodel.specs.declared.tree.VariableType.{VariableType}
-use Rattle.clmodel.specs.declared.tree.Statement.{Statement}
 use Rattle.clmodel.specs.declared.type_fault.TypeFault.{TypeFault}
+use Rattle.clmodel.specs.declared.type_fault.TypeFault.TheVariants as fault
 use Rattle.clmodel.specs.Tree as tree
-use Rattle.clmodel.specs.Tree.{Term, Terms, Place, Stmt, Stmts, NoStmt, ThenStmt, then_stmts, stmt}
-use Rattle.clmodel.specs.Typing.Context.{Context, Meaning, meaning}
-use Rattle.clmodel.specs.Typing.Least.{lesser, least, first, node}
-use Rattle.clmodel.specs.Typing.Rules.{count}
-use Rattle.clmodel.specs.Typing.Faults.{start, integer_faults, target_faults, callee_faults, wanted, kind_of, arguments_faults, term_faults, terms_faults, place_faults, faults, row_faults}
-use Rattle.cltypes.specs.Answers.{Checks, ChecksArguments}
-use Rattle.cltypes.specs.Views.{statements}
-use Rattle.cltypes.proofs.Follows.{inside, own_fault, own_two, inside_first, inside_second, neither_of, own_call}
+use Rattle.clmodel.specs.Tree.{Place, Stmt, Stmts, NoStmt, ThenStmt, then_stmts, stmt, row_stmts}
+use Rattle.clmodel.specs.Typing.Context.{Context, Scope, bind, enter, after, after_all}
+use Rattle.clmodel.specs.Typing.Least.{first}
+use Rattle.clmodel.specs.Typing.Faults.{place_faults, faults, row_faults}
+use Rattle.cltypes_scope.specs.Names.{left, without_innermost}
+use Rattle.cltypes.specs.declared.faults.Operand.{Operand}
+use Rattle.cltypes.specs.Answers.{Checks}
+use Rattle.cltypes.specs.Views.{target_of, statements}
+use Rattle.cltypes.proofs.Follows.{inside_first, inside_second, neither_of}
 
--- what is stored to
+-- what is assigned to, and that is another
 
-pub target_inside : (c : Context) (p : Place) (i : Term) (a x : ℕ) (f : TypeFault) → p ≡ tree.Part a x i → first (term_faults c i) ≡ Some f → Some f ≡ first (place_faults c p)
-target_inside c p i a x f h n =
-    sym (ap (λ v. first (place_faults c v)) h ∙ inside (term_faults c i) (target_faults (meaning c x) a ++ integer_faults (kind_of c i) (start i)) f n)
+pub place_along : (c : Context) (p q : Place) (r : Result Operand TypeFault) → q ≡ p → Checks r (first (place_faults c p)) (target_of c p) → Checks r (first (place_faults c q)) (target_of c q)
+place_along c p q r h x = subst (λ z. Checks r (first (place_faults c z)) (target_of c z)) (sym h) x
 
-pub target_here : (c : Context) (p : Place) (i : Term) (a x b : ℕ) (k : VariableType) (m : Meaning) (own front index : Option TypeFault)
-    → p ≡ tree.Part a x i → Checks (Ok k) (first (term_faults c i)) (kind_of c i) → m ≡ meaning c x → b ≡ start i
-    → front ≡ least (target_faults m a) → index ≡ least (integer_faults k b) → own ≡ lesser front index → own ≡ first (place_faults c p)
-target_here c p i a x b k m own front index h n q s t u v =
-    v
-    ∙ ap (λ z. lesser z index) (t ∙ ap (λ z. least (target_faults z a)) q)
-    ∙ ap (λ z. lesser (least (target_faults (meaning c x) a)) z) (u ∙ ap (λ z. least (integer_faults z b)) n.1 ∙ ap (λ z. least (integer_faults (kind_of c i) z)) s)
-    ∙ sym (own_two (term_faults c i) (target_faults (meaning c x) a) (integer_faults (kind_of c i) (start i)) n.0)
-    ∙ ap (λ z. first (place_faults c z)) (sym h)
+pub place_fault_along : (c : Context) (p q : Place) (f : TypeFault) → q ≡ p → first (place_faults c p) ≡ Some f → first (place_faults c q) ≡ Some f
+place_fault_along c p q f h x = ap (λ z. first (place_faults c z)) h ∙ x
 
--- an assignment
+-- a block leaves what was known before it
 
-abbrev pub assignment : Context → Place → Term → Option TypeFault
-assignment c p e = first (node (place_faults c p ++ term_faults c e) (integer_faults (kind_of c e) (start e)))
+left_around : (c : Context) (x : ℕ) (k : VariableType) (scopes : List Scope) → without_innermost (bind c x k) scopes ≡ without_innermost c scopes
+left_around c x k [] = refl
+left_around c x k (scope ∷ scopes) = refl
 
-pub target_first : (c : Context) (p : Place) (e : Term) (f : TypeFault) → Some f ≡ first (place_faults c p) → Some f ≡ assignment c p e
-target_first c p e f h =
-    sym (inside (place_faults c p ++ term_faults c e) (integer_faults (kind_of c e) (start e)) f (inside_first (place_faults c p) (term_faults c e) f (sym h)))
+left_after : (c : Context) (s : Stmt) → left (after c s) ≡ left c
+left_after c (tree.Empty a) = refl
+left_after c (tree.Block a ss) = refl
+left_after c (tree.Declare a k b x) = left_around c x k c.outer
+left_after c (tree.DeclareAs a k b x e) = left_around c x k c.outer
+left_after c (tree.DeclareArray a is_local t b x d n) = refl
+left_after c (tree.Assign a p op e) = refl
+left_after c (tree.Step a p is_increment) = refl
+left_after c (tree.CallOnly a x es) = refl
+left_after c (tree.If a e s) = refl
+left_after c (tree.IfElse a e s r) = refl
+left_after c (tree.While a e s) = refl
+left_after c (tree.DoWhile a s e) = refl
+left_after c (tree.For a s e r t) = refl
+left_after c (tree.Break a) = refl
+left_after c (tree.Continue a) = refl
+left_after c (tree.Return a) = refl
+left_after c (tree.ReturnValue a e) = refl
 
-pub value_second : (c : Context) (p : Place) (e : Term) (f : TypeFault) → None ≡ first (place_faults c p) → first (term_faults c e) ≡ Some f → Some f ≡ assignment c p e
-value_second c p e f h n =
-    sym (inside (place_faults c p ++ term_faults c e) (integer_faults (kind_of c e) (start e)) f (inside_second (place_faults c p) (term_faults c e) f (sym h) n))
+pub left_all : (c : Context) (ss : Stmts) → left (after_all c ss) ≡ left c
+left_all c NoStmt = refl
+left_all c (ThenStmt ss s) = left_after (after_all c ss) s ∙ left_all c ss
 
-pub assignment_here : (c : Context) (p : Place) (e : Term) (k : VariableType) (b : ℕ) (own : Option TypeFault) → None ≡ first (place_faults c p)
-    → Checks (Ok k) (first (term_faults c e)) (kind_of c e) → b ≡ start e → own ≡ least (integer_faults k b) → own ≡ assignment c p e
-assignment_here c p e k b own h n q o =
-    o
-    ∙ ap (λ z. least (integer_faults z b)) n.1
-    ∙ ap (λ z. least (integer_faults (kind_of c e) z)) q
-    ∙ sym (own_fault (place_faults c p ++ term_faults c e) (integer_faults (kind_of c e) (start e)) (neither_of (place_faults c p) (term_faults c e) (sym h) n.0))
+pub left_block : (c : Context) (ss : Stmts) → left (after_all (enter c) ss) ≡ c
+left_block c ss = left_all (enter c) ss
 
--- a call
+-- a block as the plain tree has it
 
-abbrev pub statement_call : Context → ℕ → ℕ → Terms → Option TypeFault
-statement_call c a x es = first (node (terms_faults c es) (callee_faults true (meaning c x) a (count es) ++ arguments_faults c (wanted (meaning c x)) es))
+row_list : (ss : Stmts) (m : Count) (row : rust.Row_of-Statement m) → row_stmts ss row ≡ then_stmts ss (map stmt (items-the_row-Statement m row))
+row_list ss _ rust.end_of-Statement = refl
+row_list ss _ (rust.more_of-Statement s rest) = row_list (ThenStmt ss (stmt s)) _ rest
 
-pub arguments_first : (c : Context) (a x : ℕ) (es : Terms) (f : TypeFault) → first (terms_faults c es) ≡ Some f → Some f ≡ statement_call c a x es
-arguments_first c a x es f n =
-    sym (inside (terms_faults c es) (callee_faults true (meaning c x) a (count es) ++ arguments_faults c (wanted (meaning c x)) es) f n)
+from_items : (m : Count) (row : rust.Row_of-Statement m) (ss : List Statement) → items-the_row-Statement m row ≡ ss → row_stmts NoStmt row ≡ statements ss
+from_items m row ss e = row_list NoStmt m row ∙ ap (λ xs. then_stmts NoStmt (map stmt xs)) e
 
-pub statement_call_here : (c : Context) (a x n : ℕ) (es : Terms) (m : Meaning) (own callee arguments : Option TypeFault)
-    → ChecksArguments (Ok arguments) (first (terms_faults c es)) (least (arguments_faults c (wanted m) es)) → m ≡ meaning c x → n ≡ count es
-    → callee ≡ least (callee_faults true m a n) → own ≡ lesser callee arguments → own ≡ statement_call c a x es
-statement_call_here c a x n es m own callee arguments k q s u v = own_call c true es a x n m own callee arguments k.0 q s k.1 u v
+pub block_view : (at : ℕ) (v : Vec Statement Global) → stmt (rust.Block at v) ≡ tree.Block at (statements v.items)
+block_view at v = ap (λ ss. tree.Block at ss) (from_items _ (hidden-the_row-Statement-0 v) v.items (items_hidden-the_row-Statement-0 v))
 
 -- a row of statements
 
 ahead : (c : Context) (ss : Stmts) (rest : List Statement) (f : TypeFault) → first (row_faults c ss) ≡ Some f → first (row_faults c (then_stmts ss (map stmt rest))) ≡ Some f
 ahead c ss [] f h = h
-ahead c ss (s ∷ rest) f h = ahead c (ThenStmt ss (stmt s)) rest f (inside_first (row_faults c ss) (faults c (stmt s)) f h)
+ahead c ss (s ∷ rest) f h = ahead c (ThenStmt ss (stmt s)) rest f (inside_first (row_faults c ss) (faults (after_all c ss) (stmt s)) f h)
 
 then_rest : (ts : Stmts) (ss : List Statement) (i : ℕ) → then_stmts ts (map stmt ss) ≡ then_stmts (then_stmts ts (map stmt (take i ss))) (map stmt (drop i ss))
 then_rest ts ss zero = refl
@@ -81,18 +88,28 @@ then_one : (ts : Stmts) (ss : List Statement) (s : Statement) → then_stmts ts 
 then_one ts [] s = refl
 then_one ts (t ∷ ss) s = then_one (ThenStmt ts (stmt t)) ss s
 
-next_statement : (ss : List Statement) (i : ℕ) (s : Statement) → i < length ss → s ≡ get_or ss i s → statements (take (i + 1) ss) ≡ ThenStmt (statements (take i ss)) (stmt s)
+pub next_statement : (ss : List Statement) (i : ℕ) (s : Statement) → i < length ss → s ≡ get_or ss i s → statements (take (i + 1) ss) ≡ ThenStmt (statements (take i ss)) (stmt s)
 next_statement ss i s h g =
     ap statements (take_more ss i s h) ∙ then_one NoStmt (take i ss) (get_or ss i s) ∙ ap (λ t. ThenStmt (statements (take i ss)) (stmt t)) (sym g)
 
-pub statement_inside : (c : Context) (ss : List Statement) (i : ℕ) (s : Statement) (f : TypeFault) → i < length ss → s ≡ get_or ss i s
-    → first (row_faults c (statements (take i ss))) ≡ None → Some f ≡ first (faults c (stmt s)) → Some f ≡ first (row_faults c (statements ss))
-statement_inside c ss i s f h g n k =
-    sym (ap (λ t. first (row_faults c t)) (then_rest NoStmt ss (i + 1))
+pub statement_inside : (c d : Context) (ss : List Statement) (i : ℕ) (s : Statement) (f : TypeFault) → i < length ss → s ≡ get_or ss i s
+    → d ≡ after_all c (statements (take i ss)) → first (row_faults c (statements (take i ss))) ≡ None
+    → (f ≡ fault.OutOfMemory) ⊎ (first (faults d (stmt s)) ≡ Some f) → (f ≡ fault.OutOfMemory) ⊎ (first (row_faults c (statements ss)) ≡ Some f)
+statement_inside c d ss i s f h g w n (inl k) = inl k
+statement_inside c d ss i s f h g w n (inr k) =
+    let before = statements (take i ss) in
+    inr (ap (λ t. first (row_faults c t)) (then_rest NoStmt ss (i + 1))
     ∙ ahead c (statements (take (i + 1) ss)) (drop (i + 1) ss) f
-    (ap (λ t. first (row_faults c t)) (next_statement ss i s h g) ∙ inside_second (row_faults c (statements (take i ss))) (faults c (stmt s)) f n (sym k)))
+    (ap (λ t. first (row_faults c t)) (next_statement ss i s h g)
+    ∙ inside_second (row_faults c before) (faults (after_all c before) (stmt s)) f n (ap (λ z. first (faults z (stmt s))) (sym w) ∙ k)))
 
-pub statement_more : (c : Context) (ss : List Statement) (i : ℕ) (s : Statement) → i < length ss → s ≡ get_or ss i s
-    → first (row_faults c (statements (take i ss))) ≡ None → None ≡ first (faults c (stmt s)) → first (row_faults c (statements (take (i + 1) ss))) ≡ None
-statement_more c ss i s h g n k =
-    ap (λ t. first (row_faults c t)) (next_statement ss i s h g) ∙ neither_of (row_faults c (statements (take i ss))) (faults c (stmt s)) n (sym k)
+pub statement_more : (c d : Context) (ss : List Statement) (i : ℕ) (s : Statement) → i < length ss → s ≡ get_or ss i s → d ≡ after_all c (statements (take i ss))
+    → first (row_faults c (statements (take i ss))) ≡ None → first (faults d (stmt s)) ≡ None → first (row_faults c (statements (take (i + 1) ss))) ≡ None
+statement_more c d ss i s h g w n k =
+    let before = statements (take i ss) in
+    ap (λ t. first (row_faults c t)) (next_statement ss i s h g)
+    ∙ neither_of (row_faults c before) (faults (after_all c before) (stmt s)) n (ap (λ z. first (faults z (stmt s))) (sym w) ∙ k)
+
+pub statement_after : (c d e : Context) (ss : List Statement) (i : ℕ) (s : Statement) → i < length ss → s ≡ get_or ss i s → d ≡ after_all c (statements (take i ss))
+    → e ≡ after d (stmt s) → e ≡ after_all c (statements (take (i + 1) ss))
+statement_after c d e ss i s h g w k = k ∙ ap (λ z. after z (stmt s)) w ∙ ap (after_all c) (sym (next_statement ss i s h g))

@@ -1,5 +1,5 @@
 -- The functions of a text, one after the other.
-use Rattle.std.proofs.Common.{◌≡◌, ℕ, ◌+◌, ◌<◌, ◌⊎◌, inl, inr, List, [], ◌∷◌, ◌++◌, length, map, take, drop, get_or, Option, None, Some, refl, sym, ap, ◌∙◌, append_assoc, append-nil, subst}
+use Rattle.std.proofs.Common.{◌≡◌, ℕ, ◌+◌, ◌<◌, ◌⊎◌, inl, inr, List, [], ◌∷◌, ◌++◌, length, map, take, drop, get_or, Option, None, Some, refl, sym, ap, ◌∙◌, subst}
 use Prim.Native.Nat.{zero, suc}
 use Rattle.std.proofs.lemmas.List.{take_more}
 use Rattle.clmodel.specs.declared.tree.Function.{Function}
@@ -8,8 +8,10 @@ use Rattle.clmodel.specs.declared.type_fault.TypeFault.{TypeFault}
 use Rattle.clmodel.specs.declared.type_fault.TypeFault.TheVariants as fault
 use Rattle.clmodel.specs.Tree.{Funcs, NoFunc, ThenFunc, then_funcs, func, Program, program}
 use Rattle.clmodel.specs.Typing.{IsTypedProgram, IsTypeFault}
+use Rattle.clmodel.specs.Typing.Context.{Context, with_name}
 use Rattle.clmodel.specs.Typing.Least.{first}
 use Rattle.clmodel.specs.Typing.Functions.{names, function_faults, functions_faults, program_faults}
+use Rattle.cltypes_scope.specs.Names.{with_function}
 use Rattle.cltypes.specs.Answers.{IsFaultOf}
 use Rattle.cltypes.specs.Views.{functions_of}
 use Rattle.cltypes.proofs.Follows.{inside_first, inside_second, neither_of}
@@ -17,12 +19,9 @@ use Rattle.cltypes.proofs.Programs.{program_sound, program_fault, typed_has_none
 
 -- their names
 
-names_then : (gs : Funcs) (fs : List Function) → names (then_funcs gs (map func fs)) ≡ names gs ++ map (λ f. f.name) fs
-names_then gs [] = sym (append-nil (names gs))
-names_then gs (f ∷ fs) = names_then (ThenFunc gs (func f)) fs ∙ append_assoc (names gs) (f.name ∷ []) (map (λ g. g.name) fs)
-
-pub names_all : (fs : List Function) → names (functions_of fs) ≡ map (λ f. f.name) fs
-names_all fs = names_then NoFunc fs
+-- where the text's functions have these names
+abbrev pub known : List ℕ → Context
+known all = record { all = all; begun = []; inner = []; outer = [] }
 
 then_one : (gs : Funcs) (fs : List Function) (f : Function) → then_funcs gs (map func (fs ++ f ∷ [])) ≡ ThenFunc (then_funcs gs (map func fs)) (func f)
 then_one gs [] f = refl
@@ -33,17 +32,12 @@ next_function fs i f h g =
     ap functions_of (take_more fs i f h) ∙ then_one NoFunc (take i fs) (get_or fs i f) ∙ ap (λ z. ThenFunc (functions_of (take i fs)) (func z)) (sym g)
 
 pub names_more : (fs : List Function) (i : ℕ) (f : Function) (begun now : List ℕ) → i < length fs → f ≡ get_or fs i f → names (functions_of (take i fs)) ≡ begun
-    → now ≡ begun ++ f.name ∷ [] → names (functions_of (take (i + 1) fs)) ≡ now
-names_more fs i f begun now h g n e = ap names (next_function fs i f h g) ∙ ap (λ z. z ++ f.name ∷ []) n ∙ sym e
+    → now ≡ with_name begun f.name → names (functions_of (take (i + 1) fs)) ≡ now
+names_more fs i f begun now h g n e = ap names (next_function fs i f h g) ∙ ap (λ z. with_name z f.name) n ∙ sym e
 
-map_one : (fs : List Function) (f : Function) → map (λ g. g.name) (fs ++ f ∷ []) ≡ map (λ g. g.name) fs ++ f.name ∷ []
-map_one [] f = refl
-map_one (g ∷ fs) f = ap (λ z. g.name ∷ z) (map_one fs f)
-
-pub named_more : (fs : List Function) (i : ℕ) (f : Function) (names now : List ℕ) → i < length fs → f ≡ get_or fs i f → names ≡ map (λ g. g.name) (take i fs)
-    → now ≡ names ++ f.name ∷ [] → now ≡ map (λ g. g.name) (take (i + 1) fs)
-named_more fs i f names now h g n e =
-    e ∙ ap (λ z. z ++ f.name ∷ []) n ∙ sym (map_one (take i fs) f) ∙ ap (λ z. map (λ g. g.name) (take i fs ++ z ∷ [])) g ∙ ap (map (λ g. g.name)) (sym (take_more fs i f h))
+pub known_more : (c d : Context) (fs : List Function) (i : ℕ) (f : Function) → i < length fs → f ≡ get_or fs i f → c ≡ known (names (functions_of (take i fs)))
+    → d ≡ with_function c f.name → d ≡ known (names (functions_of (take (i + 1) fs)))
+known_more c d fs i f h g n e = e ∙ ap (λ z. with_function z f.name) n ∙ ap (λ z. known (names z)) (sym (next_function fs i f h g))
 
 -- their faults
 

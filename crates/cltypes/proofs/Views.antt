@@ -1,5 +1,5 @@
 -- Calls and lists of arguments as the plain tree has them.
-use Rattle.std.proofs.Common.{◌≡◌, ℕ, suc, ◌+◌, ◌<◌, List, [], ◌∷◌, ◌++◌, length, map, take, get_or, Vec, refl, sym, ap, ◌∙◌, arith}
+use Rattle.std.proofs.Common.{◌≡◌, ℕ, ◌+◌, ◌<◌, List, [], ◌∷◌, ◌++◌, length, map, take, get_or, Vec, refl, ap, ◌∙◌, arith}
 use mathlib.Core.Former.{Count}
 use Rattle.std.proofs.lemmas.List.{take_more}
 use Rattle.std.specs.declared.alloc.Global.{Global}
@@ -8,7 +8,7 @@ use Rattle.clmodel.specs.declared.tree.Expression.{Expression, items-the_row-Exp
 use Rattle.clmodel.specs.declared.tree.Expression.TheBlock.{hidden-the_row-Expression-0}
 use Rattle.clmodel.specs.Tree as tree
 use Rattle.clmodel.specs.Tree.{Term, Terms, NoTerm, ThenTerm, then_all, term, terms, row_terms}
-use Rattle.clmodel.specs.Typing.Rules.{count}
+use Rattle.clmodel.specs.Typing.Faults.{count}
 
 row_list : (ts : Terms) (m : Count) (row : rust.Row_of-Expression m) → row_terms ts row ≡ then_all ts (map term (items-the_row-Expression m row))
 row_list ts _ rust.end_of-Expression = refl

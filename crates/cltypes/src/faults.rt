@@ -1,24 +1,45 @@
 //! The faults of one place: of its faults the one of the least number, and of one number the one of the least offset.
 #![tactic(auto)]
 
-ghost use Rattle.std.specs.Prelude.{◌≡◌, length, option_map};
+ghost use Rattle.std.specs.Prelude.{◌≡◌, ◌++◌, length, option_map};
 ghost use Rattle.std.specs.List.{slice_get};
 ghost use Rattle.clmodel.specs.Typing.Least.{number, offset, is_up_to, lesser, least};
-ghost use Rattle.clmodel.specs.Typing.Rules.{wants, gives};
-ghost use Rattle.clmodel.specs.Typing.Faults.{integer_faults, name_faults, front_faults, target_faults, operand_faults, callee_faults, atomic_faults, argument_faults, wanted, name_kind, element_kind, call_kind, sum_kind};
-ghost use Rattle.cltypes.specs.Views.{meaning_of, want_of};
+ghost use Rattle.clmodel.specs.Typing.Faults.{is_same_space, moves, takes_pointer, is_sum, integer_faults, pointer_faults, passing_faults, name_faults, front_faults, operand_faults, assigning_faults, wants, has_value, callee_faults, wanted, same_faults, atomic_faults, argument_faults, integer_wants, atomic_wants, store_faults, target_faults};
+ghost use Rattle.clmodel.specs.Typing.Rules.{has_operand};
+ghost use Rattle.clnum.specs.Builtins.{is_same};
+ghost use Rattle.clmodel.specs.declared.tree.VariableType.TheVariants.{Pointer};
+ghost use Rattle.cltypes_scope.specs.Names.{meaning_of};
+ghost use Rattle.cltypes.specs.Views.{want_of};
 
-use crate::scope::Meaning;
-use clmodel::setup::BuiltIn;
+use clmodel::setup::{AtomicFunction, BuiltIn};
 use clmodel::tree::{AddressSpace, InfixOperator, PointerType, VariableType};
 use clmodel::type_fault::TypeFault;
-use clnum::{BinaryOperator, IntType};
+use clnum::{BinaryOperator, Builtin, IntType};
+use cltypes_scope::Meaning;
+use cltypes_scope::kinds::name_kind;
 
 /// What an argument of a built-in function has to be.
 #[derive(Clone, Copy, Debug, PartialEq, Eq)]
 pub enum Want {
     Integer,
+    /// An integer of the type of the argument before it
+    OfTypeBefore,
     AtomicPointer,
+}
+
+/// A part of an expression or a statement that has no fault: its type, and where it begins.
+#[derive(Clone, Copy, Debug, PartialEq, Eq)]
+pub struct Operand {
+    pub kind: VariableType,
+    pub at: u32,
+}
+
+/// Arguments that have no fault inside: the least of those that they have as the arguments of what is called, and the type of the
+/// last one.
+#[derive(Clone, Copy, Debug, PartialEq, Eq)]
+pub struct Arguments {
+    pub fault: Option<TypeFault>,
+    pub last: VariableType,
 }
 
 /// A fault's number.
@@ -87,16 +108,73 @@ pub fn lesser(fault: Option<TypeFault>, other: Option<TypeFault>) -> Option<Type
 }
 
 /// Where an integer is wanted.
-pub fn integer_fault(kind: VariableType, at: u32) -> Option<TypeFault>
-    ensures { result ≡ least (integer_faults kind at) }
+pub fn integer_fault(operand: Operand) -> Option<TypeFault>
+    ensures { result ≡ least (integer_faults operand.kind operand.at) }
 {
-    match kind {
+    match operand.kind {
         VariableType::Integer(_) => None,
-        VariableType::Pointer(_) => Some(TypeFault::TypeMismatch { at }),
+        VariableType::Pointer(_) => Some(TypeFault::TypeMismatch { at: operand.at }),
     }
 }
 
-/// A name as a value.
+/// Where a pointer is wanted.
+pub fn pointer_fault(operand: Operand) -> Option<TypeFault>
+    ensures { result ≡ least (pointer_faults operand.kind operand.at) }
+{
+    match operand.kind {
+        VariableType::Integer(_) => Some(TypeFault::TypeMismatch { at: operand.at }),
+        VariableType::Pointer(_) => None,
+    }
+}
+
+/// Whether two address spaces are one.
+fn is_same_space(space: AddressSpace, other: AddressSpace) -> bool
+    ensures { result ≡ is_same_space space other }
+{
+    match (space, other) {
+        (AddressSpace::Global, AddressSpace::Global)
+        | (AddressSpace::Local, AddressSpace::Local)
+        | (AddressSpace::Constant, AddressSpace::Constant) => true,
+        _ => false,
+    }
+}
+
+/// Whether two types of integers are one.
+fn is_same(kind: IntType, other: IntType) -> bool
+    ensures { result ≡ is_same kind other }
+{
+    kind.bits() == other.bits() && kind.is_signed() == other.is_signed()
+}
+
+/// A pointer given to what has the type of another.
+fn pointer_passing_fault(to: PointerType, given: PointerType, at: u32) -> Option<TypeFault>
+    ensures { result ≡ least (passing_faults (Pointer to) (Pointer given) at) }
+{
+    if !is_same(to.element, given.element) {
+        Some(TypeFault::TypeMismatch { at })
+    } else if given.is_const && !to.is_const {
+        Some(TypeFault::NotAssignable { at })
+    } else if !is_same_space(to.space, given.space) {
+        Some(TypeFault::WrongSpace { at })
+    } else {
+        None
+    }
+}
+
+/// A value given to what has this type.
+pub fn passing_fault(to: VariableType, value: Operand) -> Option<TypeFault>
+    ensures { result ≡ least (passing_faults to value.kind value.at) }
+{
+    match (to, value.kind) {
+        (VariableType::Integer(_), _) => integer_fault(value),
+        (VariableType::Pointer(_), VariableType::Integer(_)) => pointer_fault(value),
+        (VariableType::Pointer(to), VariableType::Pointer(given)) => pointer_passing_fault(
+            to, given, value.at,
+        ),
+    }
+}
+
+/// A name as a value, or assigned to.
 pub fn name_fault(meaning: Meaning, at: u32) -> Option<TypeFault>
     ensures { result ≡ least (name_faults (meaning_of meaning) at) }
 {
@@ -108,50 +186,103 @@ pub fn name_fault(meaning: Meaning, at: u32) -> Option<TypeFault>
 }
 
 /// A name in front of an index.
-pub fn front_fault(meaning: Meaning, at: u32) -> Option<TypeFault>
+fn front_fault(meaning: Meaning, at: u32) -> Option<TypeFault>
     ensures { result ≡ least (front_faults (meaning_of meaning) at) }
 {
     match meaning {
-        Meaning::Bound(VariableType::Pointer(_)) => None,
-        Meaning::Unknown => Some(TypeFault::UnknownName { at }),
-        _ => Some(TypeFault::TypeMismatch { at }),
+        Meaning::Bound(kind) => pointer_fault(Operand { kind, at }),
+        _ => name_fault(meaning, at),
     }
 }
 
-/// A name in front of the index of what is stored to.
-pub fn target_fault(meaning: Meaning, at: u32) -> Option<TypeFault>
-    ensures { result ≡ least (target_faults (meaning_of meaning) at) }
+/// An element, or its address: the name in front, and the index.
+#[tactic(auto, using(crate::proofs::Least::least_append))]
+pub fn element_fault(meaning: Meaning, at: u32, index: Operand) -> Option<TypeFault>
+    ensures { result ≡ least (front_faults (meaning_of meaning) at ++ integer_faults index.kind index.at) }
 {
-    match meaning {
-        Meaning::Bound(VariableType::Pointer(pointer)) => {
-            if pointer.is_const || pointer.space == AddressSpace::Constant {
-                Some(TypeFault::NotAssignable { at })
-            } else {
-                None
-            }
-        }
-        Meaning::Unknown => Some(TypeFault::UnknownName { at }),
-        _ => Some(TypeFault::TypeMismatch { at }),
+    lesser(front_fault(meaning, at), integer_fault(index))
+}
+
+/// Whether an operator moves a pointer on its left.
+fn moves(operator: BinaryOperator) -> bool
+    ensures { result ≡ moves operator }
+{
+    match operator {
+        BinaryOperator::Add | BinaryOperator::Subtract => true,
+        _ => false,
     }
 }
 
-/// The two operands of an operator; the right one begins at `right_at`, and the whole at `at`.
-pub fn operand_fault(
-    operator: InfixOperator,
-    left: VariableType,
-    right: VariableType,
-    left_at: u32,
-    right_at: u32,
-    at: u32,
-) -> Option<TypeFault>
-    ensures { result ≡ least (operand_faults operator left right left_at right_at at) }
+/// Whether an operator takes a pointer on its left.
+fn takes_pointer(operator: InfixOperator) -> bool
+    ensures { result ≡ takes_pointer operator }
 {
-    match (operator, left) {
-        (InfixOperator::Arithmetic(BinaryOperator::Add), VariableType::Integer(_)) => None,
-        (InfixOperator::Arithmetic(BinaryOperator::Add), VariableType::Pointer(_)) => integer_fault(
-            right, right_at,
+    match operator {
+        InfixOperator::Arithmetic(operator) => moves(operator),
+        _ => false,
+    }
+}
+
+/// Whether an operator takes a pointer on its right.
+fn is_sum(operator: InfixOperator) -> bool
+    ensures { result ≡ is_sum operator }
+{
+    match operator {
+        InfixOperator::Arithmetic(BinaryOperator::Add) => true,
+        _ => false,
+    }
+}
+
+/// The two operands of an operator.
+pub fn operand_fault(operator: InfixOperator, left: Operand, right: Operand) -> Option<TypeFault>
+    ensures { result ≡ least (operand_faults operator left.kind right.kind left.at right.at) }
+{
+    match left.kind {
+        VariableType::Integer(_) if is_sum(operator) => None,
+        VariableType::Integer(_) => integer_fault(right),
+        VariableType::Pointer(_) if takes_pointer(operator) => integer_fault(right),
+        VariableType::Pointer(_) => lesser(
+            Some(TypeFault::TypeMismatch { at: left.at }),
+            integer_fault(right),
         ),
-        _ => Some(TypeFault::TypeMismatch { at }),
+    }
+}
+
+/// What an operator assigns to, and the value.
+pub fn assigning_fault(operator: BinaryOperator, to: Operand, value: Operand) -> Option<TypeFault>
+    ensures { result ≡ least (assigning_faults operator to.kind value.kind to.at value.at) }
+{
+    match to.kind {
+        VariableType::Pointer(_) if !moves(operator) => lesser(
+            Some(TypeFault::TypeMismatch { at: to.at }),
+            integer_fault(value),
+        ),
+        _ => integer_fault(value),
+    }
+}
+
+/// The three parts of `condition ? chosen : otherwise`.
+#[tactic(auto, using(crate::proofs::Least::least_append))]
+pub fn choice_fault(condition: Operand, chosen: Operand, otherwise: Operand) -> Option<TypeFault>
+    ensures { result
+        ≡ least
+        (integer_faults condition.kind condition.at
+        ++ integer_faults chosen.kind chosen.at
+        ++ integer_faults otherwise.kind otherwise.at) }
+{
+    lesser(
+        lesser(integer_fault(condition), integer_fault(chosen)),
+        integer_fault(otherwise),
+    )
+}
+
+/// Whether an atomic function has an operand beside its pointer.
+fn has_operand(function: AtomicFunction) -> bool
+    ensures { result ≡ has_operand function }
+{
+    match function {
+        AtomicFunction::Inc | AtomicFunction::Dec => false,
+        _ => true,
     }
 }
 
@@ -160,23 +291,26 @@ fn argument_count(function: BuiltIn) -> usize
     ensures { result ≡ length (wants function) }
 {
     match function {
-        BuiltIn::LocalId => 1,
-        BuiltIn::AtomicAdd | BuiltIn::AtomicMin => 2,
+        BuiltIn::WorkDim => 0,
+        BuiltIn::WorkItem(_) => 1,
+        BuiltIn::Integer(Builtin::Min | Builtin::Max | Builtin::Rotate) => 2,
+        BuiltIn::Integer(_) => 1,
+        BuiltIn::Atomic(function) => if has_operand(function) { 2 } else { 1 },
     }
 }
 
-/// The type of a built-in function's value; None where it can't be used.
-pub fn given(function: BuiltIn) -> Option<VariableType>
-    ensures { result ≡ gives function }
+/// Whether the call of a built-in function has a value.
+fn has_value(function: BuiltIn) -> bool
+    ensures { result ≡ has_value function }
 {
     match function {
-        BuiltIn::LocalId => Some(VariableType::Integer(IntType::Ulong)),
-        BuiltIn::AtomicAdd | BuiltIn::AtomicMin => None,
+        BuiltIn::Atomic(_) => false,
+        _ => true,
     }
 }
 
 /// What is called at `at`, with so many arguments, as a whole statement or inside an expression.
-pub fn callee_fault(
+fn callee_fault(
     is_statement: bool,
     meaning: Meaning,
     at: u32,
@@ -188,7 +322,7 @@ pub fn callee_fault(
         Meaning::BuiltInFunction(function) => {
             if arguments != argument_count(function) {
                 Some(TypeFault::WrongArgumentCount { at })
-            } else if !is_statement && given(function).is_none() {
+            } else if !is_statement && !has_value(function) {
                 Some(TypeFault::AtomicValueUsed { at })
             } else {
                 None
@@ -199,90 +333,136 @@ pub fn callee_fault(
     }
 }
 
+/// A call: what is called at `at`, and so many arguments.
+pub fn call_fault(
+    is_statement: bool,
+    meaning: Meaning,
+    at: u32,
+    count: usize,
+    arguments: Arguments,
+) -> Option<TypeFault>
+    ensures { result ≡ lesser (least (callee_faults is_statement (meaning_of meaning) at count)) arguments.fault }
+{
+    lesser(
+        callee_fault(is_statement, meaning, at, count),
+        arguments.fault,
+    )
+}
+
 /// What the argument of an index has to be, where what is called wants one there.
 pub fn wanted(meaning: Meaning, index: usize) -> Option<Want>
     ensures { option_map want_of result ≡ slice_get (wanted (meaning_of meaning)) index }
 {
     match meaning {
-        Meaning::BuiltInFunction(function) => match (function, index) {
-            (BuiltIn::LocalId, 0) | (BuiltIn::AtomicAdd | BuiltIn::AtomicMin, 1) => Some(
-                Want::Integer,
-            ),
-            (BuiltIn::AtomicAdd | BuiltIn::AtomicMin, 0) => Some(Want::AtomicPointer),
-            _ => None,
-        },
+        Meaning::BuiltInFunction(BuiltIn::WorkItem(_)) if index == 0 => Some(Want::Integer),
+        Meaning::BuiltInFunction(BuiltIn::Integer(function)) => integer_wanted(function, index),
+        Meaning::BuiltInFunction(BuiltIn::Atomic(function)) => atomic_wanted(function, index),
         _ => None,
     }
 }
 
+fn integer_wanted(function: Builtin, index: usize) -> Option<Want>
+    ensures { option_map want_of result ≡ slice_get (integer_wants function) index }
+{
+    match (function, index) {
+        (_, 0) => Some(Want::Integer),
+        (Builtin::Min | Builtin::Max | Builtin::Rotate, 1) => Some(Want::OfTypeBefore),
+        _ => None,
+    }
+}
+
+fn atomic_wanted(function: AtomicFunction, index: usize) -> Option<Want>
+    ensures { option_map want_of result ≡ slice_get (atomic_wants (has_operand function)) index }
+{
+    match index {
+        0 => Some(Want::AtomicPointer),
+        1 if has_operand(function) => Some(Want::Integer),
+        _ => None,
+    }
+}
+
+/// An integer of the type of the one before it.
+fn same_fault(before: VariableType, argument: Operand) -> Option<TypeFault>
+    ensures { result ≡ least (same_faults before argument.kind argument.at) }
+{
+    match (before, argument.kind) {
+        (VariableType::Integer(before), VariableType::Integer(kind)) => if is_same(before, kind) {
+            None
+        } else {
+            Some(TypeFault::TypeMismatch { at: argument.at })
+        },
+        _ => integer_fault(argument),
+    }
+}
+
 /// A pointer for an atomic function: to int or uint, not constant, and not to constant memory.
-fn atomic_fault(pointer: PointerType, at: u32) -> Option<TypeFault>
-    ensures { result ≡ least (atomic_faults pointer at) }
+fn atomic_fault(argument: Operand) -> Option<TypeFault>
+    ensures { result ≡ least (atomic_faults argument.kind argument.at) }
 {
-    if pointer.element != IntType::Int && pointer.element != IntType::Uint {
-        Some(TypeFault::TypeMismatch { at })
-    } else if pointer.is_const {
-        Some(TypeFault::NotAssignable { at })
-    } else if pointer.space == AddressSpace::Constant {
-        Some(TypeFault::WrongSpace { at })
-    } else {
-        None
+    let at = argument.at;
+    match argument.kind {
+        VariableType::Integer(_) => Some(TypeFault::TypeMismatch { at }),
+        VariableType::Pointer(pointer) => {
+            if pointer.element != IntType::Int && pointer.element != IntType::Uint {
+                Some(TypeFault::TypeMismatch { at })
+            } else if pointer.is_const {
+                Some(TypeFault::NotAssignable { at })
+            } else if pointer.space == AddressSpace::Constant {
+                Some(TypeFault::WrongSpace { at })
+            } else {
+                None
+            }
+        }
     }
 }
 
-/// An argument of a type, and what is wanted in its place.
-pub fn argument_fault(want: Option<Want>, kind: VariableType, at: u32) -> Option<TypeFault>
-    ensures { result ≡ least (argument_faults (option_map want_of want) kind at) }
+/// An argument: what is wanted in its place, and the type of the one before it.
+pub fn argument_fault(
+    want: Option<Want>,
+    before: VariableType,
+    argument: Operand,
+) -> Option<TypeFault>
+    ensures { result ≡ least (argument_faults (option_map want_of want) before argument.kind argument.at) }
 {
-    match (want, kind) {
-        (None, _) => None,
-        (Some(Want::Integer), kind) => integer_fault(kind, at),
-        (Some(Want::AtomicPointer), VariableType::Pointer(pointer)) => atomic_fault(pointer, at),
-        (Some(Want::AtomicPointer), VariableType::Integer(_)) => Some(TypeFault::TypeMismatch {
-            at,
-        }),
+    match want {
+        None => None,
+        Some(Want::Integer) => integer_fault(argument),
+        Some(Want::OfTypeBefore) => same_fault(before, argument),
+        Some(Want::AtomicPointer) => atomic_fault(argument),
     }
 }
 
-/// The type of a name that has no fault.
-pub fn name_kind(meaning: Meaning) -> VariableType
-    ensures { result ≡ name_kind (meaning_of meaning) }
+/// What a pointer of this type points to, stored to at `at`.
+fn store_fault(kind: VariableType, at: u32) -> Option<TypeFault>
+    ensures { result ≡ least (store_faults kind at) }
 {
-    match meaning {
-        Meaning::Bound(kind) => kind,
-        _ => VariableType::Integer(IntType::Int),
+    match kind {
+        VariableType::Pointer(pointer)
+            if pointer.is_const || pointer.space == AddressSpace::Constant => Some(
+            TypeFault::NotAssignable { at },
+        ),
+        _ => None,
     }
 }
 
-/// The type of an element of what a name stands for, if it has no fault.
-pub fn element_kind(meaning: Meaning) -> VariableType
-    ensures { result ≡ element_kind (meaning_of meaning) }
+/// An element that is assigned to: the name in front, and the index.
+#[tactic(auto, using(crate::proofs::Least::least_append))]
+pub fn target_fault(meaning: Meaning, at: u32, index: Operand) -> Option<TypeFault>
+    ensures { result ≡ least (target_faults (meaning_of meaning) at ++ integer_faults index.kind index.at) }
 {
-    match meaning {
-        Meaning::Bound(VariableType::Pointer(pointer)) => VariableType::Integer(pointer.element),
-        _ => VariableType::Integer(IntType::Int),
-    }
+    lesser(
+        lesser(
+            front_fault(meaning, at),
+            store_fault(name_kind(meaning), at),
+        ),
+        integer_fault(index),
+    )
 }
 
-/// The type of a call's value, if the call has no fault.
-pub fn call_kind(meaning: Meaning) -> VariableType
-    ensures { result ≡ call_kind (meaning_of meaning) }
+/// What a pointer points to, assigned to at `at`.
+#[tactic(auto, using(crate::proofs::Least::least_append))]
+pub fn behind_fault(pointer: Operand, at: u32) -> Option<TypeFault>
+    ensures { result ≡ least (pointer_faults pointer.kind pointer.at ++ store_faults pointer.kind at) }
 {
-    match meaning {
-        Meaning::BuiltInFunction(function) => given(function).unwrap_or(VariableType::Integer(
-            IntType::Int,
-        )),
-        _ => VariableType::Integer(IntType::Int),
-    }
-}
-
-/// The type of a sum whose operands have no fault.
-pub fn sum_kind(left: VariableType, right: VariableType) -> VariableType
-    ensures { result ≡ sum_kind left right }
-{
-    match (left, right) {
-        (VariableType::Integer(a), VariableType::Integer(b)) => VariableType::Integer(a.common(b)),
-        (VariableType::Pointer(pointer), _) | (_, VariableType::Pointer(pointer)) =>
-            VariableType::Pointer(pointer),
-    }
+    lesser(pointer_fault(pointer), store_fault(pointer.kind, at))
 }

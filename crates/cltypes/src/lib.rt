@@ -1,7 +1,7 @@
 //! The type checker: which programs are typed, and the fault of one that isn't (OpenCL 1.2, sections 6.1 to 6.12).
 #![tactic(auto)]
 
-ghost use Rattle.std.specs.Prelude.{◌≡◌, IfOk, IfErr, map};
+ghost use Rattle.std.specs.Prelude.{◌≡◌, [], IfOk, IfErr};
 ghost use Rattle.clmodel.specs.Tree.{program};
 ghost use Rattle.clmodel.specs.Typing.{IsTypedProgram};
 ghost use Rattle.clmodel.specs.Typing.Functions.{names, functions_faults};
@@ -14,41 +14,38 @@ mod expressions;
 mod faults;
 mod functions;
 pub mod laws;
-mod scope;
+mod sizes;
 mod statements;
+#[cfg(test)]
+mod tests;
 
 pub use checked::Checked;
 use clmodel::tree::{Function, Tree};
 pub use clmodel::type_fault::TypeFault;
+use cltypes_scope::Context;
 use functions::check_function;
-use scope::Scope;
 use std::alloc::{AllocError, Global};
 
-/// The names of functions, in the order of the text.
-fn function_names(alloc: Global, functions: &[Function]) -> Result<Vec<u32>, AllocError>
-    ensures { IfOk result (λ names. names.items ≡ map (λ f. f.name) functions.now) }
+/// What is known before the first function: the names of all functions.
+fn context_before(alloc: Global, functions: &[Function]) -> Result<Context, AllocError>
+    ensures { IfOk result (λ context. context ≡ record { all = names (functions_of functions.now); begun = []; inner = []; outer = [] }) }
 {
-    let mut names = Vec::new(alloc);
+    let mut context = Context::new(alloc);
     for function in functions {
-        names.push(function.name)?;
+        context.add_function(function.name)?;
     }
-    Ok(names)
+    Ok(context)
 }
 
 /// The first fault of functions in the order of their text; Err(OutOfMemory) may come at any time.
 fn check_functions(alloc: Global, functions: &[Function]) -> Result<(), TypeFault>
     ensures { Ends result (first (functions_faults (names (functions_of functions.now)) (functions_of functions.now))) }
 {
-    let Ok(names) = function_names(alloc, functions) else {
+    let Ok(mut context) = context_before(alloc, functions) else {
         return Err(TypeFault::OutOfMemory);
     };
-    let mut scope = Scope {
-        functions: names,
-        begun: Vec::new(alloc),
-        variables: Vec::new(alloc),
-    };
     for function in functions {
-        if let Err(fault) = check_function(&mut scope, function) {
+        if let Err(fault) = check_function(&mut context, function) {
             return Err(fault);
         }
     }
