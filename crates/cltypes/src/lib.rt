@@ -16,6 +16,8 @@ mod functions;
 pub mod laws;
 mod sizes;
 mod statements;
+#[cfg(test)]
+mod tests;
 
 pub use checked::Checked;
 use clmodel::tree::{Function, Tree};
