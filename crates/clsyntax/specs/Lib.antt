@@ -4,3 +4,4 @@ pub mod Reading
 pub mod Correct
 pub mod Source
 pub mod Views
+pub mod Printing
