@@ -2,39 +2,9 @@
 #![tactic(auto)]
 
 use crate::{SyntaxFault, read};
-use clmodel::tree::{
-    AddressSpace, Expression, Parameter, PointerType, Statement, Target, VariableType,
-};
+use clmodel::tree::{AddressSpace, Parameter, PointerType, VariableType};
 use clnum::IntType;
 use std::test::Fail;
-
-fn number_of(expression: &Expression) -> Option<(u32, i128)> {
-    match expression {
-        Expression::Number { at, value } => Some((*at, value.number())),
-        _ => None,
-    }
-}
-
-/// Of `name[number] = number;` its offset, its name and the two numbers with theirs.
-fn store_of(statement: &Statement) -> Option<(u32, u32, Option<(u32, i128)>, Option<(u32, i128)>)> {
-    match statement {
-        Statement::Assign {
-            at,
-            target,
-            operator: None,
-            value,
-        } => match &**target {
-            Target::Element { at: _, name, index } => Some((
-                *at,
-                *name,
-                number_of(index),
-                number_of(value),
-            )),
-            _ => None,
-        },
-        _ => None,
-    }
-}
 
 #[test]
 fn a_kernel(rt: HostRuntime) -> Result<(), Fail> {
@@ -65,14 +35,6 @@ fn a_kernel(rt: HostRuntime) -> Result<(), Fail> {
         .as_slice()
     );
     assert_eq!(rt; function.body.len(), 2);
-    assert_eq!(rt;
-        store_of(&function.body[0]),
-        Some((35, 27, Some((37, 0)), Some((42, 7))))
-    );
-    assert_eq!(rt;
-        store_of(&function.body[1]),
-        Some((45, 27, Some((47, 1)), Some((52, 9))))
-    );
     Ok(())
 }
 
@@ -131,6 +93,10 @@ fn faults(rt: HostRuntime) -> Result<(), Fail> {
     assert_eq!(rt;
         fault_of(&rt, "__kernel void f(__global int *a) { a[0] = 7 }"),
         Some(SyntaxFault::Unexpected { at: 44 })
+    );
+    assert_eq!(rt;
+        fault_of(&rt, "kernel void f(global int *p) { *p++; }"),
+        Some(SyntaxFault::Unexpected { at: 33 })
     );
     Ok(())
 }

@@ -1,9 +1,8 @@
 -- By the laws of reading.
-use Rattle.std.proofs.Common.{◌≡◌, Result, Ok, Err, sym, ◌∙◌, ap, subst}
+use Rattle.std.proofs.Common.{◌≡◌, Ok, ◌∙◌}
 use Rattle.std.proofs.lemmas.Result.{err_from_is_err_and}
 use Rattle.clmodel.specs.Tree.{Program, program}
-use Rattle.clsyntax_lex.specs.declared.token.SyntaxFault.{SyntaxFault}
-use Rattle.clsyntax.specs.Correct.{IsReading, GivesAs}
+use Rattle.clsyntax.specs.Correct.{IsReading}
 use Rattle.clsyntax.proofs.ReadingLaws as laws
 use Rattle.clsyntax.proofs.Loop.{unless_memory}
 use Rattle.clsyntax.proofs.ParseLaws.{read_text, of_values, exact_program, exact_fault}

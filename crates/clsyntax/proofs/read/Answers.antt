@@ -1,7 +1,6 @@
 -- What the tokens stand for, the source does.
-use Rattle.std.proofs.Common.{◌≡◌, Result, Ok, Err, sym, ◌∙◌, ap, subst}
 use Rattle.std.proofs.lemmas.Result.{err_from_is_err_and}
-use Rattle.clsyntax.specs.Correct.{IsReading, GivesAs}
+use Rattle.clsyntax.specs.Correct.{IsReading}
 use Rattle.clsyntax.specs.Source.{IsSource, read}
 use Rattle.clsyntax.proofs.Unique.{gives_map}
 use Rattle.clsyntax.proofs.SourceLaws.{refused_unless}
