@@ -9,9 +9,10 @@ use std::process::Abort;
 
 const TWO_STORES: &[u8] = b"__kernel void f(__global int *a) { a[0] = 7; a[1] = 9; }";
 
-/// Adds 5 to the element of the item's number, in a group of two items a row.
-const TWO_DIMENSIONS: &[u8] = b"__kernel void f(__global int *a) {
-    a[get_local_id(0) + get_local_id(1) + get_local_id(1)] = a[get_local_id(0) + get_local_id(1) + get_local_id(1)] + 5;
+/// Adds a number to the element of the item's number, in a group of two items a row.
+const TWO_DIMENSIONS: &[u8] = b"__kernel void f(__global int *a, int n) {
+    int i = get_local_id(0) + 2 * get_local_id(1);
+    a[i] = a[i] + n;
 }";
 
 const STORE_PAST_THE_END: &[u8] = b"__kernel void f(__global int *a) { a[0] = 7; a[2] = 1; }";
@@ -155,9 +156,16 @@ fn runs_a_kernel(rt: HostRuntime) {
 }
 
 #[test]
-fn writes_and_runs_in_two_dimensions(rt: HostRuntime) {
+fn writes_sets_a_number_and_runs_in_two_dimensions(rt: HostRuntime) {
     let alloc = rt.alloc();
     let mut device = ready(&rt, alloc, 16, TWO_DIMENSIONS);
+    refuses(
+        &rt,
+        &mut device,
+        number(alloc, 1, 2147483648),
+        Refusal::BadArgument,
+    );
+    does(&rt, &mut device, number(alloc, 1, -2));
     does(&rt, &mut device, write(alloc, 7, &[1, 2, 0, 0, 0, 255]));
     let launched = reply(&rt, &mut device, launch(alloc, &[2, 2], &[2, 2], &[0, 0]));
     assert!(rt; matches!(launched, Reply::Clean));
@@ -165,7 +173,9 @@ fn writes_and_runs_in_two_dimensions(rt: HostRuntime) {
         &rt,
         alloc,
         &mut device,
-        &[5, 0, 0, 0, 5, 0, 0, 1, 7, 0, 0, 0, 4, 1, 0, 0],
+        &[
+            254, 255, 255, 255, 254, 255, 255, 0, 0, 0, 0, 0, 253, 0, 0, 0,
+        ],
     );
 }
 
