@@ -309,8 +309,8 @@ abbrev mutual
       eval here left variables (λ v. settle operator v after (eval here right variables (λ w. join operator v w after)))
   eval here (Choice at condition chosen otherwise) variables after =
       eval here condition variables (λ v. test v (λ holds.
-        if holds then eval here chosen variables (λ w. chosen_value w (type_of variables otherwise) after)
-        else eval here otherwise variables (λ w. chosen_value w (type_of variables chosen) after)))
+      if holds then eval here chosen variables (λ w. chosen_value w (type_of variables otherwise) after)
+      else eval here otherwise variables (λ w. chosen_value w (type_of variables chosen) after)))
 
   -- arguments, from left to right
   pub eval_all : Here → Terms → Variables → (List Operand → Run) → Run

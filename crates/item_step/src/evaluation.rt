@@ -10,16 +10,16 @@ ghost use Rattle.item_state.specs.Context.{here};
 ghost use Rattle.item_step.specs.Evaluation.{Went, made, eval_list};
 
 use crate::answers::Left;
-use item_state::context::Context;
 use crate::halt::Halt;
 use crate::operators::{call, chosen_value, joined, known, settled, test};
 use crate::pointers::{load_behind, load_element, moved, number};
 use crate::types::type_of;
-use item_state::variables::Variables;
 use clmodel::operand::Operand;
 use clmodel::setup::built_in_named;
 use clmodel::tree::Expression;
 use clnum::{convert, unary};
+use item_state::context::Context;
+use item_state::variables::Variables;
 use smallvec::SmallVec;
 
 /// The values of arguments; no function has more than two.

@@ -14,16 +14,16 @@ ghost use Rattle.item_step.specs.declared.answers.Left.{Left};
 ghost use Rattle.item_step.specs.Evaluation.{Went, made, eval_list, exec_list};
 
 use crate::answers::Left;
-use item_state::context::Context;
 use crate::evaluation::{value_of, values_of};
 use crate::halt::Halt;
 use crate::operators::{call, combined, known};
 use crate::pointers::{atomic_call, load, moved, pointing, store};
-use item_state::variables::Variables;
 use clmodel::operand::{Destination, Operand};
 use clmodel::setup::{BuiltIn, built_in_named};
 use clmodel::tree::{Expression, Statement, Target, VariableType};
 use clnum::{BinaryOperator, IntType, Value};
+use item_state::context::Context;
+use item_state::variables::Variables;
 
 /// What a target stands for: its pointer is read, and then its index evaluated.
 fn reach(

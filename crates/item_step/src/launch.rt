@@ -12,7 +12,6 @@ ghost use Rattle.clmodel.specs.declared.action.Action.TheVariants as action;
 ghost use Rattle.item_step.specs.Evaluation.{Went};
 
 use crate::answers::Left;
-use item_state::context::{Context, group_counts};
 use crate::execution::execute_all;
 use crate::halt::Halt;
 use crate::parameters::bound;
@@ -21,6 +20,7 @@ use clmodel::next_action::NextAction;
 use clmodel::setup::{Argument, Range};
 use clmodel::text::Name;
 use clmodel::tree::{Function, Tree};
+use item_state::context::{Context, group_counts};
 use std::alloc::{AllocError, Global};
 
 /// A kernel that is ready to run: the tree of its program, its name's number, the range, the arguments by the parameters' places, the

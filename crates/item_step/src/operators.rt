@@ -14,7 +14,6 @@ ghost use Rattle.item_state.specs.Context.{here};
 ghost use Rattle.item_step.specs.Evaluation.{Went, made, value_or};
 ghost use Rattle.item_step.specs.declared.answers.Left.{Left};
 
-use item_state::context::Context;
 use crate::halt::Halt;
 use crate::pointers::{moved, moved_back, number};
 use crate::types::base_type;
@@ -23,6 +22,7 @@ use clmodel::operand::Operand;
 use clmodel::setup::{BuiltIn, WorkItemFunction};
 use clmodel::tree::{InfixOperator, VariableType};
 use clnum::{ArithFault, BinaryOperator, Builtin, IntType, Value, binary, builtin, convert};
+use item_state::context::Context;
 
 /// The value of a name, which must be set.
 pub fn known(name: u32, found: Option<Operand>) -> Result<Operand, Halt>

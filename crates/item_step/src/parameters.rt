@@ -5,13 +5,13 @@ ghost use Rattle.std.specs.Prelude.{◌≡◌, ◌<◌, ◌≤◌, ◌^◌, [], 
 ghost use Rattle.clmodel.specs.Setup.{place_of};
 ghost use Rattle.clmodel.specs.Next as next;
 
-use item_state::variables::Variables;
 use clmodel::access::Object;
 use clmodel::operand::{Operand, Pointer};
 use clmodel::setup::Argument;
 use clmodel::text::Name;
 use clmodel::tree::{Parameter, VariableType};
 use clnum::Value;
+use item_state::variables::Variables;
 use std::alloc::{AllocError, Global};
 
 /// The place of a name among others, or their count where it isn't there.

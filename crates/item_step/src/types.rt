@@ -6,10 +6,10 @@ ghost use Rattle.clnum.specs.Operations as operations;
 ghost use Rattle.clmodel.specs.Next as next;
 ghost use Rattle.clmodel.specs.Tree.{term};
 
-use item_state::variables::Variables;
 use clmodel::setup::{BuiltIn, built_in_named};
 use clmodel::tree::{Expression, InfixOperator, VariableType};
 use clnum::{BinaryOperator, Builtin, IntType, UnaryOperator};
+use item_state::variables::Variables;
 
 /// The integer type of a type, or of what it points to.
 pub fn base_type(kind: VariableType) -> IntType
