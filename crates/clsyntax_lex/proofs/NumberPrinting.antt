@@ -92,19 +92,39 @@ ends_number types.Uchar n behind is below = absurd is
 ends_number types.Short n behind is below = absurd is
 ends_number types.Ushort n behind is below = absurd is
 ends_number types.Int n behind is below = record {
-  ending = behind; byte = 32; is = refl; stops = refl; suffix_is = refl; len_is = refl;
+  ending = behind;
+  byte = 32;
+  is = refl;
+  stops = refl;
+  suffix_is = refl;
+  len_is = refl;
   value_is = ap (λ b. cond b (Some (record { kind = types.Int; number = pos n })) (first_holding Decimal (suffix false false 0) (types.Uint ∷ types.Long ∷ types.Ulong ∷ []) n)) (lt-ltb n (bound types.Int) below);
 }
 ends_number types.Uint n behind is below = record {
-  ending = 32 ∷ behind; byte = 117; is = refl; stops = refl; suffix_is = refl; len_is = refl;
+  ending = 32 ∷ behind;
+  byte = 117;
+  is = refl;
+  stops = refl;
+  suffix_is = refl;
+  len_is = refl;
   value_is = ap (λ b. cond b (Some (record { kind = types.Uint; number = pos n })) (first_holding Decimal (suffix true false 1) (types.Long ∷ types.Ulong ∷ []) n)) (lt-ltb n (bound types.Uint) below);
 }
 ends_number types.Long n behind is below = record {
-  ending = 32 ∷ behind; byte = 108; is = refl; stops = refl; suffix_is = refl; len_is = refl;
+  ending = 32 ∷ behind;
+  byte = 108;
+  is = refl;
+  stops = refl;
+  suffix_is = refl;
+  len_is = refl;
   value_is = ap (λ b. cond b (Some (record { kind = types.Long; number = pos n })) (first_holding Decimal (suffix false true 1) (types.Ulong ∷ []) n)) (lt-ltb n (bound types.Long) below);
 }
 ends_number types.Ulong n behind is below = record {
-  ending = 108 ∷ 32 ∷ behind; byte = 117; is = refl; stops = refl; suffix_is = refl; len_is = refl;
+  ending = 108 ∷ 32 ∷ behind;
+  byte = 117;
+  is = refl;
+  stops = refl;
+  suffix_is = refl;
+  len_is = refl;
   value_is = ap (λ b. cond b (Some (record { kind = types.Ulong; number = pos n })) None) (lt-ltb n (bound types.Ulong) below);
 }
 

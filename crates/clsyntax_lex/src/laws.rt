@@ -29,8 +29,6 @@ pub fn tokens_are_writable()
 /// that can be written. What they are printed as, each token with a space behind it, is read as these tokens with the same table
 /// of names.
 pub fn printed_tokens_are_read_back()
-    ensures {
-        (source : List ℕ) (text : Text) (tokens : List TokenKind) → Lexes source (Ok text) → All IsWritable tokens
-            → names_in tokens ≡ names_in (kinds_of text.tokens) → ReadsAs (text_of text.names tokens) tokens text.names
-    }
+    ensures { (source : List ℕ) (text : Text) (tokens : List TokenKind) → Lexes source (Ok text) → All IsWritable tokens
+        → names_in tokens ≡ names_in (kinds_of text.tokens) → ReadsAs (text_of text.names tokens) tokens text.names }
 {}
