@@ -8,3 +8,7 @@ mod NumberSpelling
 mod SpellingLemmas
 mod TableLemmas
 mod ReadingLemmas
+mod WordPrinting
+mod NamePrinting
+mod NumberPrinting
+mod PrintedLemmas

@@ -30,7 +30,7 @@ bytes_same : (a b : List ℕ) → a ≡ b → bytes_eq a b ≡ true
 bytes_same a b = (slice_eq-Decides Decides-eqb a b (bytes_eq a b) refl).1
 
 -- a look-up finds an entry with the text, and finds one where there is one
-word_in-HasEntry : (table : Table) (text : List ℕ) (kind : TokenKind) → word_in table text ≡ Some kind → HasEntry table text kind
+pub word_in-HasEntry : (table : Table) (text : List ℕ) (kind : TokenKind) → word_in table text ≡ Some kind → HasEntry table text kind
 word_in-HasEntry [] text kind e = cc
 word_in-HasEntry (entry ∷ table) text kind e = by (bytes_eq entry.0 text) refl (word_in-HasEntry table text kind) e
   where
@@ -153,7 +153,7 @@ is_ordered : Table → Bool
 is_ordered [] = true
 is_ordered (entry ∷ table) = list_all (λ later. not (starts_with nat_eq later.0 entry.0)) table && is_ordered table
 
-passes : (p : List ℕ × TokenKind → Bool) (table : Table) (text : List ℕ) (kind : TokenKind) → list_all p table ≡ true → HasEntry table text kind → p (text, kind) ≡ true
+pub passes : (p : List ℕ × TokenKind → Bool) (table : Table) (text : List ℕ) (kind : TokenKind) → list_all p table ≡ true → HasEntry table text kind → p (text, kind) ≡ true
 passes p [] text kind all has = absurd has
 passes p (entry ∷ table) text kind all (inl here) = subst (λ text. p (text, kind) ≡ true) here.0 (subst (λ kind. p (entry.0, kind) ≡ true) here.1 (both (p entry) (list_all p table) all).0)
 passes p (entry ∷ table) text kind all (inr later) = passes p table text kind (both (p entry) (list_all p table) all).1 later

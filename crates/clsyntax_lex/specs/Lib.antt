@@ -5,3 +5,4 @@ pub mod Pieces
 pub mod Lexing
 pub mod Progress
 pub mod Spelling
+pub mod Printed
