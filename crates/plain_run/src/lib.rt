@@ -2,14 +2,16 @@
 //! and what faster programs are measured by.
 #![tactic(auto)]
 
-pub mod canonical;
-pub mod compare;
+mod canonical;
+mod compare;
+#[cfg(test)]
+mod interleavings;
 mod launch;
 mod memory;
-pub mod search;
-pub mod state;
-pub mod step;
-pub mod turn;
+mod search;
+mod state;
+mod step;
+mod turn;
 
 pub use canonical::run;
 use clmodel::text::{Bytes, Name};

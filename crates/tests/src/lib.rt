@@ -2,6 +2,4 @@
 #![tactic(auto)]
 
 #[cfg(test)]
-mod interleavings;
-#[cfg(test)]
 mod rows;

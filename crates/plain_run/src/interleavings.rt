@@ -3,21 +3,22 @@
 #![tactic(auto)]
 
 ghost use Rattle.std.specs.Prelude.{◌≡◌, ℕ, ◌<◌, ◌%◌, ◌==◌, nat_lt, length, slice_index_or, if◌then◌else◌, IfOk, IfSome};
-ghost use Rattle.plain_run.specs.Plain.{launch_of, IsKept, IsReady};
+ghost use Rattle.clmodel.specs.Outcome.{IsReady};
+ghost use Rattle.plain_run.specs.Plain.{launch_of, IsKept};
 
+use crate::PlainLaunch;
+use crate::canonical::{buffers_after, run};
+use crate::compare::newest_conflict;
+use crate::search::lowest_unended;
+use crate::state::PlainState;
+use crate::step::step;
+use crate::turn::{PlainTurn, turn};
 use clmodel::access::{Class, Object, Operation, Width};
 use clmodel::action::{Action, Answer, Cause, Fences, Instance, Turns};
 use clmodel::next_action::NextAction;
 use clmodel::outcome::Outcome;
 use clmodel::schedule::{Event, Run};
 use clmodel::text::{Bytes, Name};
-use plain_run::PlainLaunch;
-use plain_run::canonical::{buffers_after, run};
-use plain_run::compare::newest_conflict;
-use plain_run::search::lowest_unended;
-use plain_run::state::PlainState;
-use plain_run::step::step;
-use plain_run::turn::{PlainTurn, turn};
 use std::alloc::{AllocError, Global};
 use std::process::Abort;
 use std::test::Fail;
@@ -48,7 +49,7 @@ struct Script {
 impl NextAction for Script {
     ghost use Rattle.std.specs.Prelude.{[], ◌==◌, nat_lt, length, slice_index_or, if◌then◌else◌};
     ghost use Rattle.clmodel.specs.declared.action.Action.TheVariants as action;
-    ghost use Rattle.tests.specs.declared.interleavings.Move.TheVariants as move;
+    ghost use Rattle.plain_run.specs.declared.interleavings.Move.TheVariants as move;
 
     ghost next = { λ s item answers. elim (if nat_lt (length answers) 4 then slice_index_or (if item == 0 then s.first else if item == 1 then s.second else s.third) (length answers) move.End else move.End) [
       | move.Access object element operation ↦ action.Access object element operation

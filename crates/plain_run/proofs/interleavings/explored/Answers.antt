@@ -1,9 +1,9 @@
 use Rattle.std.proofs.Common.{◌≡◌, ◌==◌, nat_lt, Bool, true, false, [], length, slice_index_or, if◌then◌else◌, refl, sym, subst, arith, le-ltb}
 use Rattle.clmodel.specs.Law.{is_over}
 use Rattle.clmodel.specs.declared.action.Action.TheVariants as action
-use Rattle.tests.specs.declared.interleavings.Move.{Move}
-use Rattle.tests.specs.declared.interleavings.Move.TheVariants as move
-use Rattle.tests.proofs.interleavings.explored.Goals as goal
+use Rattle.plain_run.specs.declared.interleavings.Move.{Move}
+use Rattle.plain_run.specs.declared.interleavings.Move.TheVariants as move
+use Rattle.plain_run.proofs.interleavings.explored.Goals as goal
 
 -- an item is over where its script has no further move
 over : (b : Bool) (m : Move) → false ≡ b
