@@ -7,10 +7,10 @@ use Rattle.device.specs.Machine.{Machine, Step, opening}
 use Rattle.device_store.specs.declared.command.Command.{Command}
 use Rattle.device_store.specs.declared.command.Reply.{Reply}
 use Rattle.cli.specs.declared.session.RunEnd.{RunEnd}
-use Rattle.simfile.specs.Sink.{Sink, Wrote, Stopped}
+use Rattle.ends.specs.Sink.{Sink, Wrote, Stopped}
 use Rattle.simfile.specs.Lines.{line, lines}
 use Rattle.cli.specs.Session.{Plays, one_end, end_of, AnswersOne, BreaksOne, Answered, Broken}
-use Rattle.simfile.proofs.Puts.{wrote_none, wrote_then, stopped_then}
+use Rattle.ends.proofs.Puts.{wrote_none, wrote_then, stopped_then}
 
 -- the commands so far were answered
 pub record HasAnswered (budget : ℕ) (done : List Command) (now : Machine) (old new : Sink) (end : RunEnd) : Type 0 where

@@ -5,8 +5,8 @@ use Rattle.device_store.specs.Builds.{Builds}
 use Rattle.device_store.specs.declared.command.BuildFault.{BuildFault}
 use Rattle.cli.specs.declared.session.RunFault.{RunFault}
 use Rattle.cli.specs.declared.session.RunFault.TheVariants as fault
-use Rattle.simfile.specs.Sink.{Sink, Wrote, Stopped, CountsUp}
-use Rattle.simfile.specs.Source.{Are}
+use Rattle.ends.specs.Sink.{Sink, Wrote, Stopped, CountsUp}
+use Rattle.ends.specs.Source.{Are}
 use Rattle.simfile.specs.Lines.{check_line}
 
 abbrev pub fault_of : Result Program BuildFault → Option BuildFault

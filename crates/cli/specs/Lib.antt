@@ -1,6 +1,7 @@
 pub mod Session
 pub mod Checking
-pub use Rattle.simfile.specs.Sink
-pub use Rattle.simfile.specs.Source
+pub mod CommandLine
+pub use Rattle.ends.specs.Sink
+pub use Rattle.ends.specs.Source
 pub use Rattle.simfile.specs.Script
 pub use Rattle.simfile.specs.Lines

@@ -8,8 +8,8 @@ use Rattle.device_store.specs.declared.command.Reply.TheVariants as reply
 use Rattle.cli.specs.declared.session.RunEnd.{RunEnd}
 use Rattle.cli.specs.declared.session.RunFault.{RunFault}
 use Rattle.cli.specs.declared.session.RunFault.TheVariants as fault
-use Rattle.simfile.specs.Sink.{Sink, Wrote, Stopped, CountsUp}
-use Rattle.simfile.specs.Source.{Are}
+use Rattle.ends.specs.Sink.{Sink, Wrote, Stopped, CountsUp}
+use Rattle.ends.specs.Source.{Are}
 use Rattle.simfile.specs.Script.{IsScript, IsBadLine}
 use Rattle.simfile.specs.Lines.{line, lines}
 

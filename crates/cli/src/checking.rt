@@ -2,14 +2,14 @@
 #![tactic(auto)]
 
 ghost use Rattle.std.specs.Prelude.{◌≡◌, [], IfOk, IfErr, OnOk};
-ghost use Rattle.simfile.specs.Sink.{Puts};
+ghost use Rattle.ends.specs.Sink.{Puts};
 ghost use Rattle.simfile.specs.Lines.{check_line};
 ghost use Rattle.cli.specs.Checking.{Checked, Unchecked};
 
 use crate::session::RunFault;
 use device_store::build::build;
 use device_store::command::BuildFault;
-use simfile::ends::{Read, ReadFault, Write, WriteFailed};
+use ends::{Read, ReadFault, Write, WriteFailed};
 use simfile::replies::write_check;
 use std::alloc::{AllocError, Global};
 

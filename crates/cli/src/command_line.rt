@@ -1,44 +1,112 @@
 //! The command line of the program.
 #![tactic(auto)]
 
+ghost use Rattle.std.specs.Prelude.{◌≡◌, false, map, codes, IfOk, IfSome};
+ghost use Rattle.clap.specs.Words.{app_of, found_of, rows_of, subcommand_rows_of};
+ghost use Rattle.clap.specs.declared.builder.command.Command.TheViews.{out-Command};
+ghost use Rattle.cli.specs.CommandLine.{run_form, check_form, GivesBudget, IsRun, IsCheck, Holds, AsksFor};
+
+use crate::session::Options;
+use clap::builder::ValueParser;
 use clap::error::ErrorKind;
-use clap::{Arg, Command, Error};
-use std::alloc::Global;
+use clap::{Arg, ArgMatches, Command, Error};
+use std::alloc::{AllocError, Global};
 
 /// What a command line asks for.
 #[derive(Clone, Copy, Debug, PartialEq, Eq)]
 pub enum Invocation<'a> {
     /// Runs the script of a file
-    Run { file: &'a str },
+    Run { file: &'a str, options: Options },
     /// Checks the source of a file
     Check { file: &'a str },
 }
 
-/// Reads the words of a command line, the program's name first. The forms are `clsim run FILE` and `clsim check FILE`.
-pub fn command<'a>(alloc: Global, words: &'a [&'a str]) -> Result<Invocation<'a>, Error> {
+/// The greatest budget of a run.
+const MAX_BUDGET: u32 = 1_000_000;
+
+/// The form `run FILE [--budget N]`.
+fn run_form<'a>(alloc: Global) -> Result<Command<'a>, AllocError>
+    ensures form { IfOk result (λ form. app_of form ≡ run_form) }
+    ensures local { IfOk result (λ form. (out-Command form).has_globals ≡ false) }
+{
     let script = Arg::new(alloc, "FILE").required(true).help("The script");
+    let budget = Arg::new(alloc, "budget")
+        .long("budget")
+        .value_name("N")
+        .value_parser(ValueParser::unsigned(1, MAX_BUDGET as u64))
+        .help("The most ticks of a work-item: accesses, barriers and turns of loops");
+    Command::new(alloc, "run")
+        .about("Runs a script and prints its replies")
+        .arg(script)?
+        .arg(budget)
+}
+
+/// The form `check FILE`.
+fn check_form<'a>(alloc: Global) -> Result<Command<'a>, AllocError>
+    ensures form { IfOk result (λ form. app_of form ≡ check_form) }
+    ensures local { IfOk result (λ form. (out-Command form).has_globals ≡ false) }
+{
     let source = Arg::new(alloc, "FILE")
         .required(true)
         .help("The source, in OpenCL C");
-    let run = Command::new(alloc, "run")
-        .about("Runs a script and prints its replies")
-        .arg(script)?;
-    let check = Command::new(alloc, "check")
+    Command::new(alloc, "check")
         .about("Checks a source and prints ok or its first fault")
-        .arg(source)?;
+        .arg(source)
+}
+
+/// The budget of a run, the default where the option isn't there, and `None` where it is no budget.
+fn budget_of(run: &ArgMatches<'_>) -> Option<u32>
+    ensures { IfSome result (λ n. GivesBudget (rows_of (found_of run.now)) n) }
+{
+    match run.try_get_one::<u32>("budget") {
+        Ok(None) => Some(Options::DEFAULT_BUDGET),
+        Ok(Some(budget)) if budget >= 1 && budget <= MAX_BUDGET => Some(budget),
+        Ok(Some(_)) | Err(_) => None,
+    }
+}
+
+/// What the matches of `run` ask for.
+fn run_of<'a>(run: &ArgMatches<'a>) -> Option<Invocation<'a>>
+    ensures { IfSome result (λ asked. IsRun (rows_of (found_of run.now)) asked) }
+{
+    let file = run.get_str("FILE")?;
+    let budget = budget_of(run)?;
+    Some(Invocation::Run {
+        file,
+        options: Options { budget },
+    })
+}
+
+/// What the matches of `check` ask for.
+fn check_of<'a>(check: &ArgMatches<'a>) -> Option<Invocation<'a>>
+    ensures { IfSome result (λ asked. IsCheck (rows_of (found_of check.now)) asked) }
+{
+    let file = check.get_str("FILE")?;
+    Some(Invocation::Check { file })
+}
+
+/// What the matches of a command line ask for, by the form that they hold.
+fn asked<'a>(matches: &ArgMatches<'a>) -> Option<Invocation<'a>>
+    ensures { IfSome result (λ asked. Holds (subcommand_rows_of matches.now) asked) }
+{
+    if let Some(run) = matches.subcommand_matches("run") {
+        return run_of(run);
+    }
+    check_of(matches.subcommand_matches("check")?)
+}
+
+/// Reads the words of a command line, the program's name first. The forms are `clsim run FILE [--budget N]` and `clsim check FILE`.
+pub fn command<'a>(alloc: Global, words: &'a [&'a str]) -> Result<Invocation<'a>, Error>
+    ensures { IfOk result (λ asked. AsksFor (map (λ word. word.now) words.entry.now) asked) }
+{
     let mut program = Command::new(alloc, "clsim")
         .about("A simulated OpenCL 1.2 device")
         .subcommand_required(true)
-        .subcommand(run)?
-        .subcommand(check)?;
+        .subcommand(run_form(alloc)?)?
+        .subcommand(check_form(alloc)?)?;
     let matches = program.try_get_matches_from_mut(words)?;
-    let run = matches.subcommand_matches("run");
-    if let Some(file) = run.and_then(|run| run.get_str("FILE")) {
-        return Ok(Invocation::Run { file });
+    match asked(&matches) {
+        Some(asked) => Ok(asked),
+        None => Err(program.error(ErrorKind::MissingSubcommand, "a command is missing")?),
     }
-    let check = matches.subcommand_matches("check");
-    if let Some(file) = check.and_then(|check| check.get_str("FILE")) {
-        return Ok(Invocation::Check { file });
-    }
-    Err(program.error(ErrorKind::MissingSubcommand, "a command is missing")?)
 }

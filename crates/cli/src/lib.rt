@@ -9,5 +9,5 @@ pub mod streams;
 
 pub use checking::check_file;
 pub use command_line::command;
+pub use ends::{Read, ReadFault, Write, WriteFailed};
 pub use session::{run, status};
-pub use simfile::ends;

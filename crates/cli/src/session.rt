@@ -7,7 +7,7 @@ ghost use Rattle.cli.specs.Session.{one_end, AnswersOne, BreaksOne, Answered, Br
 
 use device::Device;
 use device_store::command::{Command, Reply};
-use simfile::ends::{Read, ReadFault, Write, WriteFailed};
+use ends::{Read, ReadFault, Write, WriteFailed};
 use simfile::replies::write_reply;
 use simfile::script::{ScriptFault, read_script};
 use std::alloc::Global;

@@ -1,4 +1,5 @@
 pub mod NextLaws
+pub mod Examples
 pub mod Bytes
 pub mod Steps
 pub mod CellLaws
@@ -10,3 +11,4 @@ pub mod Canonical
 pub mod Rows
 pub mod Ending
 pub mod Reports
+pub mod Trees

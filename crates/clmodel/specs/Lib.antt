@@ -4,7 +4,9 @@ pub mod Launch
 pub mod Run
 pub mod Law
 pub mod BuiltIns
+pub mod Barrier
 pub mod Setup
 pub mod Next
 pub mod Typing
 pub mod Outcome
+pub mod Examples

@@ -1,5 +1,5 @@
 -- What a launch runs: a kernel of a program with a range, arguments and a budget (OpenCL 1.2, 3.2, 6.7 and 6.12.1).
-use Rattle.std.specs.Prelude.{◌≡◌, ℕ, ◌+◌, ◌*◌, ◌/◌, ◌%◌, ◌==◌, suc, Bool, true, false, ◌&&◌, not, if◌then◌else◌, Option, None, Some, List, [], ◌∷◌, ◌++◌, map, slice_index, slice_index_or, nat_eq}
+use Rattle.std.specs.Prelude.{ℕ, ◌+◌, ◌*◌, ◌/◌, ◌%◌, ◌==◌, suc, Bool, ◌&&◌, if◌then◌else◌, Option, None, Some, List, [], ◌∷◌, ◌++◌, slice_index, slice_index_or, nat_eq}
 use Rattle.std.specs.List.{list_any}
 use Rattle.std.specs.Cmp.Lexicographic.{pointwise}
 use Rattle.clmodel.specs.Tree.{Program, Func, Funcs, NoFunc, ThenFunc}
@@ -94,3 +94,8 @@ place_of (other ∷ others) name = if same_text name other then 0 else suc (plac
 abbrev pub kernel_in : Funcs → ℕ → Option Func
 kernel_in NoFunc name = None
 kernel_in (ThenFunc fs f) name = if f.is_kernel && (f.name == name) then Some f else kernel_in fs name
+
+-- the functions before the kernel of a name
+abbrev pub functions_before : Funcs → ℕ → Funcs
+functions_before NoFunc name = NoFunc
+functions_before (ThenFunc fs f) name = if f.is_kernel && (f.name == name) then fs else functions_before fs name

@@ -1,11 +1,11 @@
 //! What a work-item does next, and what it is answered.
 #![tactic(auto)]
 
-ghost use Rattle.std.specs.Prelude.{◌≡◌, []};
+ghost use Rattle.std.specs.Prelude.{◌≡◌, ◌≤◌, [], ◌∷◌, ◌++◌, length, IfOk};
 
 use crate::access::{Object, Operation};
 use smallvec::SmallVec;
-use std::alloc::Global;
+use std::alloc::{AllocError, Global};
 use std::marker::Model;
 
 /// The numbers of the turns of the loops round a barrier, the outermost loop first.
@@ -29,6 +29,37 @@ impl Turns {
     {
         Turns {
             counts: SmallVec::new(alloc),
+        }
+    }
+
+    /// These numbers.
+    pub fn copy_of(alloc: Global, counts: &[u32]) -> Result<Self, AllocError>
+        ensures { IfOk result (λ turns. turns ≡ counts.now) }
+    {
+        Ok(Turns {
+            counts: SmallVec::from_slice(alloc, counts)?,
+        })
+    }
+
+    /// The numbers with one more, of the innermost loop.
+    pub fn inside(&self, alloc: Global, turn: u32) -> Result<Self, AllocError>
+        ensures { IfOk result (λ turns. turns ≡ self.now ++ turn ∷ []) }
+    {
+        let mut turns = Turns::copy_of(alloc, self.as_slice())?;
+        match turns.counts.push(turn) {
+            Ok(()) => Ok(turns),
+            Err(_) => Err(AllocError),
+        }
+    }
+
+    /// These numbers, at most eight.
+    pub fn of(alloc: Global, counts: &[u32]) -> Self
+        requires { length counts.now ≤ 8 }
+        ensures { result ≡ counts.now }
+    {
+        match SmallVec::from_slice(alloc, counts) {
+            Ok(counts) => Turns { counts },
+            Err(_) => unreachable!(),
         }
     }
 

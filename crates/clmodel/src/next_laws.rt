@@ -1,12 +1,32 @@
 //! Laws of an item's next action.
 #![tactic(auto)]
 
-ghost use Rattle.std.specs.Prelude.{ℕ, List};
-ghost use Rattle.clmodel.specs.Next.{launch_of};
+ghost use Rattle.std.specs.Prelude.{◌≡◌, ℕ, List, [], ◌∷◌};
+ghost use Rattle.clmodel.specs.Examples.{sum_by_helper, three_turns, continues, three_barriers, nested, stores, waits};
+ghost use Rattle.clmodel.specs.Next.{launch_of, next};
 ghost use Rattle.clmodel.specs.Law.{IsBounded};
 ghost use Rattle.clmodel.specs.Setup.{Setup};
+ghost use Rattle.clmodel.specs.declared.action.Action.TheVariants as action;
+ghost use Rattle.clmodel.specs.declared.action.Answer.TheVariants.{Done};
+ghost use Rattle.clmodel.specs.declared.action.Cause.TheVariants as cause;
 
 /// An item that has been answered as often as the budget allows makes no further action: each action is a tick.
 pub fn budget_bounds()
     ensures { (setup : Setup) (bytes : List ℕ → List ℕ) → IsBounded (launch_of setup bytes) setup.budget }
+{}
+
+/// What items of small kernels do (OpenCL 1.2, sections 6.9, 6.11 and 6.12.8; C99 6.8.5 and 6.8.6).
+pub fn small_kernels()
+    ensures helper_returns { next (sum_by_helper 5) 0 [] ≡ stores 10 }
+    ensures turns_are_ticks { next (sum_by_helper 4) 0 [] ≡ action.Fault cause.Budget }
+    ensures three_turns { next (three_turns 6) 0 (Done ∷ Done ∷ Done ∷ []) ≡ action.End }
+    ensures third_turn { next (three_turns 5) 0 (Done ∷ Done ∷ []) ≡ action.Fault cause.Budget }
+    ensures continued { next (continues 2) 0 [] ≡ action.End }
+    ensures first_part { next (three_barriers 9) 0 [] ≡ waits 0 [] }
+    ensures body { next (three_barriers 9) 0 (Done ∷ []) ≡ waits 2 (1 ∷ []) }
+    ensures third_part { next (three_barriers 9) 0 (Done ∷ Done ∷ []) ≡ waits 1 (1 ∷ []) }
+    ensures body_again { next (three_barriers 9) 0 (Done ∷ Done ∷ Done ∷ []) ≡ waits 2 (2 ∷ []) }
+    ensures broken { next (nested 20) 0 (Done ∷ []) ≡ waits 1 (1 ∷ 1 ∷ []) }
+    ensures second_call { next (nested 20) 0 (Done ∷ Done ∷ []) ≡ waits 2 (1 ∷ 1 ∷ []) }
+    ensures outer_turn { next (nested 20) 0 (Done ∷ Done ∷ Done ∷ []) ≡ waits 0 (2 ∷ 1 ∷ []) }
 {}

@@ -11,7 +11,11 @@ use std::rt::Files;
 use std::{env, fs, io};
 
 /// Runs the script of a file, with the replies on standard output.
-fn run_script<R: Files + Print + AllocGlobal>(rt: &R, file: &str) -> Result<RunEnd, RunFault> {
+fn run_script<R: Files + Print + AllocGlobal>(
+    rt: &R,
+    file: &str,
+    options: Options,
+) -> Result<RunEnd, RunFault> {
     let Ok(script) = fs::open(rt, file) else {
         return Err(RunFault::Read);
     };
@@ -20,7 +24,7 @@ fn run_script<R: Files + Print + AllocGlobal>(rt: &R, file: &str) -> Result<RunE
     };
     let mut reader = Input::new(script);
     let mut writer = Output::new(replies);
-    run(rt.alloc(), &mut reader, &mut writer, Options::default())
+    run(rt.alloc(), &mut reader, &mut writer, options)
 }
 
 /// Checks the source of a file, with the line that tells what was found on standard output.
@@ -53,8 +57,8 @@ fn perform(rt: &HostRuntime) -> io::Result<u8> {
         texts.push(word.as_str())?;
     }
     match command(rt.alloc(), texts.as_slice()) {
-        Ok(Invocation::Run { file }) => {
-            let outcome = run_script(rt, file);
+        Ok(Invocation::Run { file, options }) => {
+            let outcome = run_script(rt, file, options);
             if let Err(fault) = outcome {
                 tell(rt, fault, file)?;
             }

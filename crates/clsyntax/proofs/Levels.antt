@@ -9,8 +9,8 @@ use Rattle.clmodel.specs.Tree.{Term, Binary, Choice}
 use Rattle.clsyntax_lex.specs.declared.token.Token.{Token}
 use Rattle.clsyntax_lex.specs.declared.token.TokenKind.{TokenKind}
 use Rattle.clsyntax_lex.specs.declared.token.TokenKind.TheVariants as kinds
-use Rattle.clsyntax.specs.Grammar.{Placed, infix_of, arithmetic_level, level, tight}
-use Rattle.clsyntax.specs.Machine.{Frame, After, Before, Asked, Chosen, InBehind, Operand, Moved, go, folded, close, asked_level, after_folded, on_have, unless_behind, wait, ask}
+use Rattle.clsyntax_terms.specs.Grammar.{Placed, infix_of, arithmetic_level, level, tight}
+use Rattle.clsyntax_terms.specs.Machine.{Frame, After, Before, Asked, Chosen, InBehind, Operand, Moved, go, folded, close, asked_level, after_folded, on_have, unless_behind, wait, ask}
 
 -- An operand behind these frames is of this level at least.
 abbrev pub reach : List Frame → ℕ

@@ -13,6 +13,3 @@ pub mod Loop
 pub mod ParseLaws
 pub mod Unique
 pub mod SourceLaws
-pub mod PrintedTerms
-pub mod PrintedPrograms
-pub mod PrintedWords

@@ -1,22 +1,18 @@
--- Lists of statements and functions that grow at their end, and how they end.
+-- Lists of functions that grow at their end, and how they end; blocks.
 use Rattle.std.proofs.Common.{◌≡◌, ℕ, true, false, List, [], ◌∷◌, ◌++◌, map, length, Some, Ok, refl, ap, ◌∙◌, Vec}
 use Rattle.std.specs.declared.alloc.Global.{Global}
 use Rattle.std.specs.Bool.{◌==◌}
-use Rattle.clsyntax.specs.Machine.{Top, InProgram, ended_in}
-use Rattle.clsyntax.specs.Reading.{at_end}
+use mathlib.Core.Former.{Count}
 use Rattle.clmodel.specs.declared.tree.Statement as rust_statement
 use Rattle.clmodel.specs.declared.tree.Function as rust_function
-use mathlib.Core.Former.{Count}
-use Rattle.clmodel.specs.declared.tree.Expression as rust_expression
-use Rattle.clmodel.specs.Tree.{term, terms, row_terms, then_all, Terms, NoTerm, ThenTerm, Call, Block, Stmts, NoStmt, ThenStmt, stmt, row_stmts, then_stmts, Func, Funcs, NoFunc, ThenFunc, func, then_funcs}
-use Rattle.clsyntax.specs.Views.{stmts_of, funcs_of}
-
-stmts_behind : (ss : Stmts) (ts : List rust_statement.Statement) (t : rust_statement.Statement) → then_stmts ss (map stmt (ts ++ t ∷ [])) ≡ ThenStmt (then_stmts ss (map stmt ts)) (stmt t)
-stmts_behind ss [] t = refl
-stmts_behind ss (u ∷ us) t = stmts_behind (ThenStmt ss (stmt u)) us t
+use Rattle.clmodel.specs.Tree.{Block, Stmts, NoStmt, ThenStmt, stmt, row_stmts, then_stmts, Func, Funcs, NoFunc, ThenFunc, func, then_funcs}
+use Rattle.clsyntax_terms.specs.Machine.{Top, InProgram, ended_in}
+use Rattle.clsyntax_terms.specs.Views.{stmts_of, funcs_of}
+use Rattle.clsyntax.specs.Reading.{at_end}
+use Rattle.clsyntax_terms.proofs.Lists as lists
 
 pub stmts_then : (ts : List rust_statement.Statement) (t : rust_statement.Statement) → stmts_of (ts ++ t ∷ []) ≡ ThenStmt (stmts_of ts) (stmt t)
-stmts_then ts t = stmts_behind NoStmt ts t
+stmts_then = lists.stmts_then
 
 funcs_behind : (fs : Funcs) (gs : List rust_function.Function) (g : rust_function.Function) → then_funcs fs (map func (gs ++ g ∷ [])) ≡ ThenFunc (then_funcs fs (map func gs)) (func g)
 funcs_behind fs [] g = refl
@@ -33,28 +29,6 @@ some_funcs fs f (g ∷ gs) = some_funcs (ThenFunc fs f) (func g) gs
 pub program_ends : (gs : List rust_function.Function) (n : ℕ) → (length gs == 0) ≡ false → at_end (ended_in Top (InProgram (funcs_of gs) ∷ [])) n ≡ Ok (funcs_of gs)
 program_ends [] n h = absurd (let clash : true ≡ false = h in cc)
 program_ends (g ∷ gs) n h = ap (λ o. at_end o n) (some_funcs NoFunc (func g) gs)
-
-terms_behind : (ts : Terms) (es : List rust_expression.Expression) (e : rust_expression.Expression) → then_all ts (map term (es ++ e ∷ [])) ≡ ThenTerm (then_all ts (map term es)) (term e)
-terms_behind ts [] e = refl
-terms_behind ts (d ∷ ds) e = terms_behind (ThenTerm ts (term d)) ds e
-
-pub terms_then : (es : List rust_expression.Expression) (e : rust_expression.Expression) → terms (es ++ e ∷ []) ≡ ThenTerm (terms es) (term e)
-terms_then es e = terms_behind NoTerm es e
-
-row_same : (ts : Terms) (n : _) (row : rust_expression.Row_of-Expression n) → row_terms ts row ≡ then_all ts (map term (rust_expression.items-the_row-Expression n row))
-row_same ts n rust_expression.end_of-Expression = refl
-row_same ts n (rust_expression.more_of-Expression e rest) = row_same (ThenTerm ts (term e)) _ rest
-
-abbrev row_of : rust_expression.Expression → (n : Count) × rust_expression.Row_of-Expression n
-row_of (rust_expression.Call' at name n row) = (_, row)
-row_of _ = (_, rust_expression.end_of-Expression)
-
--- a call is read as its arguments
-pub calls : (at name : ℕ) (es : Vec rust_expression.Expression Global) → term (rust_expression.Call at name es) ≡ Call at name (terms es.items)
-calls at name es =
-    let row = row_of (rust_expression.Call at name es) in
-    let same = rust_expression.items_hidden-the_row-Expression-0 es in
-    ap (Call at name) (row_same NoTerm row.0 row.1 ∙ ap (λ ds. then_all NoTerm (map term ds)) same)
 
 stmt_row_same : (ss : Stmts) (n : _) (row : rust_statement.Row_of-Statement n) → row_stmts ss row ≡ then_stmts ss (map stmt (rust_statement.items-the_row-Statement n row))
 stmt_row_same ss n rust_statement.end_of-Statement = refl

@@ -5,7 +5,7 @@ use Rattle.clmodel.specs.Tree.{Funcs}
 use Rattle.clsyntax_lex.specs.declared.token.Token.{Token}
 use Rattle.clsyntax_lex.specs.declared.token.SyntaxFault.{SyntaxFault}
 use Rattle.clsyntax_lex.specs.declared.token.SyntaxFault.TheVariants.{BadByte, NumberTooLarge, Unexpected, TooDeep, TooLong, OutOfMemory}
-use Rattle.clsyntax.specs.Machine.{State, step, ended}
+use Rattle.clsyntax_terms.specs.Machine.{State, step, ended}
 use Rattle.clsyntax.specs.Correct.{UnlessMemory}
 use Rattle.clsyntax.specs.Reading.{at_end, moved, read_from}
 

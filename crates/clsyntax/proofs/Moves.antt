@@ -1,7 +1,7 @@
 -- Runs of the machine over placed tokens.
 use Rattle.std.proofs.Common.{◌≡◌, List, [], ◌∷◌, Some, refl, ◌∙◌}
-use Rattle.clsyntax.specs.Grammar.{Placed}
-use Rattle.clsyntax.specs.Machine.{State, step}
+use Rattle.clsyntax_terms.specs.Grammar.{Placed}
+use Rattle.clsyntax_terms.specs.Machine.{State, step}
 
 -- from a state at ps to one at qs, each token with its nesting
 pub data Runs : State → List Placed → State → List Placed → Type 0 where

@@ -4,7 +4,7 @@ use Rattle.clmodel.specs.Tree.{Funcs, Program}
 use Rattle.clsyntax_lex.specs.Tokens.{Text}
 use Rattle.clsyntax_lex.specs.declared.token.Token.{Token}
 use Rattle.clsyntax_lex.specs.declared.token.SyntaxFault.{SyntaxFault}
-use Rattle.clsyntax.specs.Machine.{begun}
+use Rattle.clsyntax_terms.specs.Machine.{begun}
 use Rattle.clsyntax.specs.Correct.{IsFault, IsProgramOf}
 use Rattle.clsyntax.specs.Reading.{read_from}
 use Rattle.clsyntax.proofs.ReadingLaws.{Tells, reads_so, reads_only}

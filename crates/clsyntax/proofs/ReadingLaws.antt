@@ -7,16 +7,16 @@ use Rattle.clmodel.specs.Tree.{Funcs, NoFunc, ThenFunc}
 use Rattle.clsyntax_lex.specs.declared.token.Token.{Token}
 use Rattle.clsyntax_lex.specs.declared.token.SyntaxFault.{SyntaxFault}
 use Rattle.clsyntax_lex.specs.declared.token.SyntaxFault.TheVariants.{TooDeep}
-use Rattle.clsyntax.specs.Grammar.{Placed}
-use Rattle.clsyntax.specs.Machine.{Frame, InProgram, Mode, Top, State, in_mode, Moved, step, ended_in, ended, begun}
-use Rattle.clsyntax.specs.Correct.{limit, tokens, IsNonEmpty, IsWithin, IsFront, IsNone, Succeeds, IsFault, IsOne}
+use Rattle.clsyntax_terms.specs.Grammar.{limit, Placed}
+use Rattle.clsyntax_terms.specs.Machine.{Frame, InProgram, Mode, Top, State, in_mode, Moved, step, ended_in, ended, begun}
+use Rattle.clsyntax.specs.Correct.{tokens, IsNonEmpty, IsWithin, IsFront, IsNone, Succeeds, IsFault, IsOne}
 use Rattle.clsyntax.specs.Reading.{at_end, moved, read_from}
 use Rattle.clsyntax.proofs.Moves.{Runs, stop, onward, joined}
 use Rattle.clsyntax.proofs.Complete.{complete}
 use Rattle.clsyntax.proofs.Stands.{in_program}
 use Rattle.clsyntax.proofs.Sound.{stay_good, sound}
 use Rattle.clsyntax.proofs.Ends.{Done, finishes}
-use Rattle.clsyntax.specs.Grammar.{no_functions}
+use Rattle.clsyntax_terms.specs.Grammar.{no_functions}
 
 -- what follows doesn't matter
 widened : {s t : State} {ps qs : List Placed} (rs : List Placed) → Runs s ps t qs → Runs s (ps ++ rs) t (qs ++ rs)

@@ -1,18 +1,18 @@
 -- In expressions, what the machine reads is in the grammar.
-use Rattle.std.proofs.Common.{◌≡◌, ℕ, zero, suc, ◌+◌, ◌≤◌, List, ◌∷◌, Bool, true, false, Option, Some, None, cond, refl, arith}
+use Rattle.std.proofs.Common.{◌≡◌, ℕ, zero, suc, ◌+◌, ◌≤◌, List, ◌∷◌, Bool, true, false, Option, Some, None, cond, refl, subst, arith}
 use Rattle.std.specs.Prelude.{nat_lt}
 use Rattle.std.proofs.lemmas.Bool.{ltb-true, ltb-false}
 use Rattle.clnum.specs.declared.int_type.IntType.{IntType}
 use Rattle.clnum.specs.declared.operators.BinaryOperator.{BinaryOperator}
 use Rattle.clmodel.specs.declared.tree.InfixOperator.{InfixOperator}
 use Rattle.clmodel.specs.declared.tree.VariableType.{VariableType}
-use Rattle.clmodel.specs.Tree.{Term, Variable, Element, ElementAddress, Call, Binary, Choice, Terms, ThenTerm, Place, Part, Behind, Stmt, DeclareAs, Assign, Step, CallOnly, Stmts, ThenStmt}
+use Rattle.clmodel.specs.Tree.{Term, Variable, Element, ElementAddress, Call, Binary, Choice, Terms, ThenTerm, Place, Part, Behind, Stmt, DeclareAs, Assign, Step, CallOnly, DoWhile, ReturnValue, Return, Stmts, ThenStmt, MaybeStmt, With, MaybeTerm, While_, Always}
 use Rattle.clsyntax_lex.specs.declared.token.TokenKind.{TokenKind}
 use Rattle.clsyntax_lex.specs.declared.token.TokenKind.TheVariants as kinds
-use Rattle.clsyntax.specs.Grammar.{Placed, put, start, prefixed_by, infix_of, level, tight, assign_of, Expr, Declaration, Reads, number, variable, element, address, bare_call, call, round, operator, cast, prefixed, binary, choice, part, behind_star, assign, step_before, bare_call_only, call_only, simple, declare_as, declaration}
-use Rattle.clsyntax.specs.Machine.{Frame, After, Before, Asked, Chosen, InRound, InElement, InAddress, InCall, InPart, InBehind, InStep, InAssign, InDeclare, InItems, Operand, Have, Named, Opened, CastType, AfterAnd, AndName, CallOpen, Moved, go, Folded, folded, close, on_operand, on_close_round, on_comma, on_close_square, on_colon, end_step, end_declaration, on_semicolon, on_assignment, unless_behind, end_expression, asked_level, after_folded, close_call}
+use Rattle.clsyntax_terms.specs.Grammar.{Placed, put, start, prefixed_by, infix_of, level, tight, assign_of, Expr, Simple, Statement, Declaration, Reads, number, variable, element, address, bare_call, call, round, operator, cast, prefixed, binary, choice, part, behind_star, assign, step_before, bare_call_only, call_only, simple, do_loop, simple_initial, declared_initial, no_condition, condition, simple_final, return_only, return_value, declare_as, declaration}
+use Rattle.clsyntax_terms.specs.Machine.{Frame, After, Before, Asked, Chosen, InRound, InElement, InAddress, InCall, InPart, InBehind, InStep, InAssign, InDeclare, InReturn, InIf, InWhile, InDo, InInitial, InCondition, InFinal, Then, Turns, ForTurns, InItems, Operand, Have, Named, Opened, CastType, AfterAnd, AndName, CallOpen, Optional, Moved, go, Folded, folded, close, on_operand, on_close_round, on_comma, on_close_square, on_colon, end_simple, end_final, ends_simple, end_step, add_declaration, end_declaration, without, on_semicolon, on_assignment, unless_behind, end_expression, asked_level, after_folded, close_call}
 use Rattle.clsyntax.proofs.Levels.{reach, level_low}
-use Rattle.clsyntax.proofs.Stands.{AnExpr, SomeArguments, AStatement, none_yet, some_yet, arguments_then, Stands, in_items, in_step, in_part, in_behind, in_assign, in_declare, in_after, in_before, in_asked, in_chosen, in_round, in_element, in_address, call_open, in_call, HasExpr, has_expr, HasTarget, has_target, HasStatement, HasEnded, HasAnd, has_and, HasAndName, has_and_name, KeepsFrom, Keeps, Safe, kept}
+use Rattle.clsyntax.proofs.Stands.{AnExpr, SomeArguments, AnItem, AStatement, ASimple, none_yet, some_yet, arguments_then, Stands, in_items, as_item, as_statement, as_initial, in_then, in_turns, in_for_turns, in_initial, in_condition, in_final, in_if, in_while, in_do, in_return, declared_initially, in_step, in_part, in_behind, in_assign, in_declare, in_after, in_before, in_asked, in_chosen, in_round, in_element, in_address, call_open, in_call, HasExpr, has_expr, HasTarget, has_target, HasStatement, HasEnded, HasClosing, HasAnd, has_and, HasAndName, has_and_name, KeepsFrom, Keeps, Safe, kept}
 
 pub safe_operand : (n : ℕ) (fs : List Frame) (kind : TokenKind) → Safe (Operand n) fs kind
 safe_operand n fs (kinds.Number v) = λ w qs a h. has_expr h (λ l. number)
@@ -137,19 +137,82 @@ part_end (has_folded (in_part s) g h f r) = has_target s tt (part (r 0 f))
 colon_end : {w qs : List Placed} {fs : List Frame} {m from b c : ℕ} {d e : Term} → HasFolded w 0 m from e (Asked b d ∷ fs) (put m kinds.Colon c ∷ qs) → Stands w (AnExpr m) (Chosen b d e ∷ fs) qs
 colon_end (has_folded (in_asked s y q) g h f r) = in_chosen s y q (r 0 f)
 
-assigned_end : {w qs : List Placed} {fs : List Frame} {a n m from c : ℕ} {p : Place} {op : Option BinaryOperator} {e : Term} → HasFolded w 0 m from e (InAssign a n p op ∷ fs) (put n kinds.Semicolon c ∷ qs) → HasStatement w n (Assign a p op e) fs qs
-assigned_end (has_folded (in_assign {ps = ps} s i r) g h f q) = record { from = ps; stands = s; reads = simple (assign i r (q 0 f)) }
+assigned : {w qs : List Placed} {fs : List Frame} {a n m from : ℕ} {p : Place} {op : Option BinaryOperator} {e : Term} → HasFolded w 0 m from e (InAssign a n p op ∷ fs) qs → HasEnded w n (Assign a p op e) fs qs
+assigned (has_folded (in_assign {ps = ps} s i r) g h f q) = record { from = ps; stands = s; reads = assign i r (q 0 f) }
 
-stepped_end : {w qs : List Placed} {fs : List Frame} {a n b k m from c : ℕ} {up : Bool} {e : Term} → HasFolded w 0 m from e (InBehind true a n ∷ InStep b k up ∷ fs) (put k kinds.Semicolon c ∷ qs) → HasStatement w k (Step b (Behind a e) up) fs qs
-stepped_end (has_folded (in_behind (in_step s i)) g h f r) = record { from = _; stands = s; reads = simple (step_before i (behind_star (r tight h))) }
+stepped : {w qs : List Placed} {fs : List Frame} {a n b k m from : ℕ} {up : Bool} {e : Term} → HasFolded w 0 m from e (InBehind true a n ∷ InStep b k up ∷ fs) qs → HasEnded w k (Step b (Behind a e) up) fs qs
+stepped (has_folded (in_behind (in_step s i)) g h f r) = record { from = _; stands = s; reads = step_before i (behind_star (r tight h)) }
+
+-- ---- where a simple statement ends
+
+-- frames in which a simple statement is a whole one
+abbrev pub IsOpenToAll : List Frame → Type 0
+IsOpenToAll (InInitial a ∷ fs) = ⊥
+IsOpenToAll (InFinal a i c ∷ fs) = ⊥
+IsOpenToAll _ = Unit {0}
+
+plainly : {w qs : List Placed} {fs : List Frame} {n : ℕ} → Stands w (ASimple n) fs qs → IsOpenToAll fs → Stands w (AStatement n) fs qs
+plainly (as_statement s) h = s
+plainly (as_initial (in_initial s)) h = absurd h
+plainly (in_final s r q) h = absurd h
+
+initial_end : {w from qs : List Placed} {fs : List Frame} {n b c : ℕ} {s : Stmt} → Stands w (ASimple n) (InInitial b ∷ fs) from → Reads (Simple n s) from (put n kinds.Semicolon c ∷ qs) → Stands w (AnExpr n) (InCondition b n (With s) ∷ fs) qs
+initial_end (as_initial (in_initial s)) r = in_condition s (simple_initial r)
+initial_end (as_statement (as_item h)) r = elim h [ ]
+
+final_end : {w from qs : List Placed} {fs : List Frame} {n b d : ℕ} {i : MaybeStmt} {c : MaybeTerm} {s : Stmt} → Stands w (ASimple n) (InFinal b i c ∷ fs) from → Reads (Simple n s) from (put n kinds.CloseRound d ∷ qs)
+    → Stands w (AStatement n) (ForTurns b i c (With s) ∷ fs) qs
+final_end (in_final s r q) z = in_for_turns s r q (simple_final z)
+final_end (as_statement (as_item h)) z = elim h [ ]
+final_end (as_initial h) z = elim h [ ]
+
+abbrev pub end_kind : Bool → TokenKind
+end_kind false = kinds.Semicolon
+end_kind true = kinds.CloseRound
+
+safe_end_simple : (n : ℕ) (s : Stmt) (fs : List Frame) (w qs : List Placed) (a : ℕ) → KeepsFrom w qs (λ k. HasEnded w n s fs (put k kinds.Semicolon a ∷ qs)) (end_simple n s fs)
+safe_end_simple n s (InInitial b ∷ fs) w qs a = λ h. initial_end h.stands h.reads
+safe_end_simple n s (InFinal b i c ∷ fs) w qs a = tt
+safe_end_simple n s fs w qs a = λ h. record { n = n; from = h.from; stands = plainly h.stands tt; reads = simple h.reads }
+
+safe_end_final : (n : ℕ) (s : Stmt) (fs : List Frame) (w qs : List Placed) (a : ℕ) → KeepsFrom w qs (λ k. HasEnded w n s fs (put k kinds.CloseRound a ∷ qs)) (end_final n s fs)
+safe_end_final n s (InFinal b i c ∷ fs) w qs a = λ h. final_end h.stands h.reads
+safe_end_final n s _ w qs a = tt
+
+pub safe_ends_simple : (u : Bool) (n : ℕ) (s : Stmt) (fs : List Frame) (w qs : List Placed) (a : ℕ) → KeepsFrom w qs (λ k. HasEnded w n s fs (put k (end_kind u) a ∷ qs)) (ends_simple u n s fs)
+safe_ends_simple false n s fs w qs a = safe_end_simple n s fs w qs a
+safe_ends_simple true n s fs w qs a = safe_end_final n s fs w qs a
 
 -- a declaration behind the items before it
-pub declared_added : {w qs : List Placed} {fs : List Frame} {n m : ℕ} {s : Stmt} {ss : Stmts} {from : List Placed} → Stands w (AStatement n) (InItems m ss ∷ fs) from → Reads (Declaration n s) from qs → Stands w (AStatement n) (InItems m (ThenStmt ss s) ∷ fs) qs
+pub declared_added : {w qs : List Placed} {fs : List Frame} {n m : ℕ} {s : Stmt} {ss : Stmts} {from : List Placed} → Stands w (AnItem n) (InItems m ss ∷ fs) from → Reads (Declaration n s) from qs → Stands w (AnItem n) (InItems m (ThenStmt ss s) ∷ fs) qs
 declared_added (in_items h i) r = in_items h (declaration i r)
 
 declared_end : {w qs : List Placed} {fs : List Frame} {a n b x k m from c : ℕ} {kind : VariableType} {ss : Stmts} {e : Term} → HasFolded w 0 m from e (InDeclare a n kind b x ∷ InItems k ss ∷ fs) (put n kinds.Semicolon c ∷ qs)
-    → Stands w (AStatement n) (InItems k (ThenStmt ss (DeclareAs a kind b x e)) ∷ fs) qs
+    → Stands w (AnItem n) (InItems k (ThenStmt ss (DeclareAs a kind b x e)) ∷ fs) qs
 declared_end (has_folded (in_declare s r) g h f q) = declared_added s (declare_as r (q 0 f))
+declared_end (has_folded (declared_initially s i) g h f q) = elim s [ ]
+
+initially_end : {w qs : List Placed} {fs : List Frame} {a n b x d m from c : ℕ} {kind : VariableType} {e : Term} → HasFolded w 0 m from e (InDeclare a n kind b x ∷ InInitial d ∷ fs) (put n kinds.Semicolon c ∷ qs)
+    → Stands w (AnExpr n) (InCondition d n (With (DeclareAs a kind b x e)) ∷ fs) qs
+initially_end (has_folded (declared_initially (in_initial s) i) g h f q) = in_condition s (declared_initial i (q 0 f))
+initially_end (has_folded (in_declare s r) g h f q) = elim s [ ]
+
+return_end : {w qs : List Placed} {fs : List Frame} {a n m from c : ℕ} {e : Term} → HasFolded w 0 m from e (InReturn a n ∷ fs) (put n kinds.Semicolon c ∷ qs) → HasStatement w (ReturnValue a e) fs qs
+return_end (has_folded (in_return {n = n} s) g h f r) = record { n = n; from = _; stands = s; reads = return_value (r 0 f) }
+
+condition_end : {w qs : List Placed} {fs : List Frame} {a n m from d : ℕ} {i : MaybeStmt} {e : Term} → HasFolded w 0 m from e (InCondition a n i ∷ fs) (put n kinds.Semicolon d ∷ qs) → Stands w (ASimple n) (InFinal a i (While_ e) ∷ fs) qs
+condition_end (has_folded (in_condition s q) g h f r) = in_final s q (condition (r 0 f))
+
+if_end : {w qs : List Placed} {fs : List Frame} {a n m from c : ℕ} {e : Term} → HasFolded w 0 m from e (InIf a n ∷ fs) (put (suc n) kinds.CloseRound c ∷ qs) → Stands w (AStatement (suc n)) (Then a n e ∷ fs) qs
+if_end (has_folded (in_if s) g h f r) = in_then s (r 0 f)
+
+while_end : {w qs : List Placed} {fs : List Frame} {a n m from c : ℕ} {e : Term} → HasFolded w 0 m from e (InWhile a n ∷ fs) (put (suc n) kinds.CloseRound c ∷ qs) → Stands w (AStatement (suc n)) (Turns a e ∷ fs) qs
+while_end (has_folded (in_while s) g h f r) = in_turns s (r 0 f)
+
+do_end : {w qs : List Placed} {fs : List Frame} {a n m from c : ℕ} {s : Stmt} {e : Term} → HasFolded w 0 m from e (InDo a n s ∷ fs) (put (suc n) kinds.CloseRound c ∷ qs) → HasClosing w n (DoWhile a s e) fs qs
+do_end {n = n} {m = m} {c = d} {e = e} (has_folded {ps = ps} (in_do s q) g h f r) =
+    let R : List Placed → Type 0 = λ z. Reads (Expr 0 (suc n) e m) ps (put (suc n) kinds.CloseRound d ∷ z) in
+    record { from = _; stands = s; reads = λ b rs same. do_loop q (subst R same (r 0 f)) }
 
 behind_end : {w qs : List Placed} {fs : List Frame} {a n m from c : ℕ} {k : TokenKind} {op : Option BinaryOperator} {e : Term} → HasFolded w 0 m from e (InBehind false a n ∷ fs) (put n k c ∷ qs) → assign_of k ≡ Some op
     → Stands w (AnExpr n) (InAssign a n (Behind a e) op ∷ fs) qs
@@ -158,10 +221,26 @@ behind_end (has_folded (in_behind s) g h f r) i = in_assign s i (behind_star (r 
 abbrev Ending : (m from : ℕ) → Term → List Frame → TokenKind → (w qs : List Placed) → ℕ → Moved → Type 0
 Ending m from e fs kind w qs a x = KeepsFrom w qs (λ k. HasFolded w 0 m from e fs (put k kind a ∷ qs)) x
 
+safe_assigned : (u : Bool) (m from b n : ℕ) (p : Place) (op : Option BinaryOperator) (e : Term) (fs : List Frame) (w qs : List Placed) (a : ℕ) → Ending m from e (InAssign b n p op ∷ fs) (end_kind u) w qs a (ends_simple u n (Assign b p op e) fs)
+safe_assigned u m from b n p op e fs w qs a =
+    kept w qs (λ k. HasEnded w n (Assign b p op e) fs (put k (end_kind u) a ∷ qs)) (λ k. HasFolded w 0 m from e (InAssign b n p op ∷ fs) (put k (end_kind u) a ∷ qs)) (ends_simple u n (Assign b p op e) fs)
+    (λ k g. assigned g) (safe_ends_simple u n (Assign b p op e) fs w qs a)
+
+safe_end_step : (u : Bool) (m from b n : ℕ) (e : Term) (fs : List Frame) (w qs : List Placed) (a : ℕ) → Ending m from e (InBehind true b n ∷ fs) (end_kind u) w qs a (end_step u (Behind b e) fs)
+safe_end_step u m from b n e (InStep c j up ∷ fs) w qs a =
+    kept w qs (λ k. HasEnded w j (Step c (Behind b e) up) fs (put k (end_kind u) a ∷ qs)) (λ k. HasFolded w 0 m from e (InBehind true b n ∷ InStep c j up ∷ fs) (put k (end_kind u) a ∷ qs)) (ends_simple u j (Step c (Behind b e) up) fs)
+    (λ k g. stepped g) (safe_ends_simple u j (Step c (Behind b e) up) fs w qs a)
+safe_end_step u m from b n e _ w qs a = tt
+
 safe_round : (m from : ℕ) (e : Term) (fs : List Frame) (w qs : List Placed) (a : ℕ) → Ending m from e fs kinds.CloseRound w qs a (on_close_round e fs)
 safe_round m from e (InRound b n ∷ fs) w qs a = round_end
 safe_round m from e (InCall false b x n es ∷ fs) w qs a = call_end
 safe_round m from e (InCall true b x n es ∷ fs) w qs a = call_only_end
+safe_round m from e (InIf b n ∷ fs) w qs a = if_end
+safe_round m from e (InWhile b n ∷ fs) w qs a = while_end
+safe_round m from e (InDo b n s ∷ fs) w qs a = do_end
+safe_round m from e (InAssign b n p op ∷ fs) w qs a = safe_assigned true m from b n p op e fs w qs a
+safe_round m from e (InBehind true b n ∷ fs) w qs a = safe_end_step true m from b n e fs w qs a
 safe_round m from e _ w qs a = tt
 
 safe_comma : (m from : ℕ) (e : Term) (fs : List Frame) (w qs : List Placed) (a : ℕ) → Ending m from e fs kinds.Comma w qs a (on_comma e fs)
@@ -178,19 +257,18 @@ safe_colon : (m from : ℕ) (e : Term) (fs : List Frame) (w qs : List Placed) (a
 safe_colon m from e (Asked b d ∷ fs) w qs a = colon_end
 safe_colon m from e _ w qs a = tt
 
-safe_end_step : (m from b n : ℕ) (e : Term) (fs : List Frame) (w qs : List Placed) (a : ℕ) → Ending m from e (InBehind true b n ∷ fs) kinds.Semicolon w qs a (end_step (Behind b e) fs)
-safe_end_step m from b n e (InStep c k up ∷ fs) w qs a = stepped_end
-safe_end_step m from b n e _ w qs a = tt
-
 safe_end_declaration : (m from b n c x : ℕ) (kind : VariableType) (e : Term) (fs : List Frame) (w qs : List Placed) (a : ℕ)
     → Ending m from e (InDeclare b n kind c x ∷ fs) kinds.Semicolon w qs a (end_declaration n (DeclareAs b kind c x e) fs)
 safe_end_declaration m from b n c x kind e (InItems k ss ∷ fs) w qs a = declared_end
+safe_end_declaration m from b n c x kind e (InInitial d ∷ fs) w qs a = initially_end
 safe_end_declaration m from b n c x kind e _ w qs a = tt
 
 safe_semicolon : (m from : ℕ) (e : Term) (fs : List Frame) (w qs : List Placed) (a : ℕ) → Ending m from e fs kinds.Semicolon w qs a (on_semicolon e fs)
-safe_semicolon m from e (InAssign b n p op ∷ fs) w qs a = assigned_end
-safe_semicolon m from e (InBehind true b n ∷ fs) w qs a = safe_end_step m from b n e fs w qs a
+safe_semicolon m from e (InAssign b n p op ∷ fs) w qs a = safe_assigned false m from b n p op e fs w qs a
+safe_semicolon m from e (InBehind true b n ∷ fs) w qs a = safe_end_step false m from b n e fs w qs a
 safe_semicolon m from e (InDeclare b n kind c x ∷ fs) w qs a = safe_end_declaration m from b n c x kind e fs w qs a
+safe_semicolon m from e (InReturn b n ∷ fs) w qs a = return_end
+safe_semicolon m from e (InCondition b n i ∷ fs) w qs a = condition_end
 safe_semicolon m from e _ w qs a = tt
 
 safe_assignment : (m from : ℕ) (e : Term) (fs : List Frame) (kind : TokenKind) (o : Option (Option BinaryOperator)) → assign_of kind ≡ o → (w qs : List Placed) (a : ℕ) → Ending m from e fs kind w qs a (on_assignment o e fs)
@@ -268,3 +346,20 @@ safe_call_open k fs kinds.CloseRound = safe_close_call k fs
 safe_call_open k fs kind = λ w qs a.
     kept w qs (λ n. Stands w (AnExpr k) fs (put n kind a ∷ qs)) (λ n. Stands w (SomeArguments k) fs (put n kind a ∷ qs)) (on_operand k fs (record { kind = kind; at = a }))
     (λ n s. as_argument s) (safe_operand k fs kind w qs a)
+
+-- ---- an expression, or a semicolon in its place
+
+no_value : {w qs : List Placed} {fs : List Frame} {k a n c : ℕ} → Stands w (AnExpr k) (InReturn a n ∷ fs) (put n kinds.Semicolon c ∷ qs) → HasStatement w (Return a) fs qs
+no_value (in_return {n = n} s) = record { n = n; from = _; stands = s; reads = return_only }
+
+always : {w qs : List Placed} {fs : List Frame} {k a n d : ℕ} {i : MaybeStmt} → Stands w (AnExpr k) (InCondition a n i ∷ fs) (put n kinds.Semicolon d ∷ qs) → Stands w (ASimple n) (InFinal a i Always ∷ fs) qs
+always (in_condition s q) = in_final s q no_condition
+
+safe_without : (k : ℕ) (fs : List Frame) (w qs : List Placed) (a : ℕ) → Keeps w (Optional k) fs (record { kind = kinds.Semicolon; at = a }) qs (without fs)
+safe_without k (InReturn b n ∷ fs) w qs a = no_value
+safe_without k (InCondition b n i ∷ fs) w qs a = always
+safe_without k _ w qs a = tt
+
+pub safe_optional : (k : ℕ) (fs : List Frame) (kind : TokenKind) → Safe (Optional k) fs kind
+safe_optional k fs kinds.Semicolon = safe_without k fs
+safe_optional k fs kind = λ w qs a. safe_operand k fs kind w qs a

@@ -1,5 +1,5 @@
 -- How the machine's states move at the tokens of the grammar's rules.
-use Rattle.std.proofs.Common.{◌≡◌, ℕ, suc, ◌≤◌, List, [], ◌∷◌, Bool, true, false, Option, Some, None, refl, ◌∙◌, ap, arith}
+use Rattle.std.proofs.Common.{◌≡◌, ℕ, suc, ◌≤◌, List, [], ◌∷◌, Bool, true, false, Option, Some, None, refl, sym, ◌∙◌, ap, arith}
 use Rattle.clnum.specs.declared.int_type.IntType.{IntType}
 use Rattle.clnum.specs.declared.int_type.IntType.TheVariants.{Ulong}
 use Rattle.clnum.specs.declared.operators.BinaryOperator.{BinaryOperator}
@@ -7,17 +7,14 @@ use Rattle.clmodel.specs.declared.tree.InfixOperator.{InfixOperator}
 use Rattle.clmodel.specs.declared.tree.AddressSpace.TheVariants.{Global}
 use Rattle.clmodel.specs.declared.tree.VariableType.TheVariants.{Integer}
 use Rattle.clmodel.specs.declared.tree.Parameter.{Parameter}
-use Rattle.clmodel.specs.Tree.{Term, Variable, Binary, Choice, Place, Whole, Behind, Stmt, Assign, Step, Stmts, ThenStmt}
+use Rattle.clmodel.specs.Tree.{Term, Variable, Binary, Choice, Place, Whole, Behind, Stmt, If, IfElse, While, For, Assign, Step, Stmts, ThenStmt, MaybeStmt, MaybeTerm}
 use Rattle.clsyntax_lex.specs.declared.token.Token.{Token}
 use Rattle.clsyntax_lex.specs.declared.token.TokenKind.{TokenKind}
 use Rattle.clsyntax_lex.specs.declared.token.TokenKind.TheVariants as kinds
-use Rattle.clsyntax.specs.Grammar.{Placed, put, level, tight, Prefix, prefix_of, prefixed_by, type_of, assign_of, step_of, IsNamed, pointer_to, Head}
-use Rattle.clsyntax.specs.Machine.{Frame, After, Before, Chosen, InRound, InPart, InBehind, InStep, InAssign, InItems, Purpose, ForParameter, ForDeclaration, takes_size, nesting_of, Mode, Operand, Have, Named, Opened, CastType, CallOpen, Item, Aim, BeginName, Aimed, Ended, Did, AfterElement, AfterTyping, HeadOpen, WantParameter, State, in_mode, go, when, on_operand, on_prefix, on_opened, on_have, on_named, on_call_open, on_typing, on_after_const, on_after_space, on_head_open, on_item, on_placed, on_aimed, on_begin_name, step}
+use Rattle.clsyntax_terms.specs.Grammar.{Placed, put, level, tight, Prefix, prefix_of, prefixed_by, type_of, assign_of, step_of, IsNamed, IsNoElse, pointer_to}
+use Rattle.clsyntax_terms.specs.Machine.{Frame, After, Before, Chosen, InRound, InPart, InBehind, InStep, InAssign, InItems, Then, Otherwise, Turns, ForTurns, Purpose, ForParameter, ForDeclaration, takes_size, nesting_of, Mode, Operand, Have, Named, Opened, CastType, CallOpen, Optional, Item, Begin, Initial, Final, Aim, BeginName, Aimed, Ended, Did, AfterElement, AfterTyping, Top, AfterReturning, HeadOpen, WantParameter, State, in_mode, Moved, go, when, on_operand, on_prefix, on_opened, on_have, on_named, on_call_open, end_simple, on_optional, on_typing, on_after_const, on_after_space, on_head_open, on_top, on_simple, on_begin, on_item, on_initial, on_final, is_else, Settled, settle, on_settled, on_placed, on_aimed, on_begin_name, step}
 use Rattle.clsyntax.proofs.Moves.{Runs, stop, onward, Alike}
 use Rattle.clsyntax.proofs.Levels.{asks, IsNoOpening, Follows, taken, chosen_taken}
-
-abbrev pub head_of : ℕ → ℕ → List Parameter → Head
-head_of a x xs = record { name_at = a; name = x; parameters = xs }
 
 abbrev token_of : TokenKind → ℕ → Token
 token_of kind at = record { kind = kind; at = at }
@@ -45,6 +42,13 @@ opened_takes n a fs _ at x e = e
 
 pub at_opened : (n a : ℕ) (fs : List Frame) → TakesOperand (in_mode (Opened n a) fs) (suc n) (InRound a n ∷ fs)
 at_opened n a fs = record { takes = λ t x e. opened_takes n a fs t.kind t.at x e }
+
+optional_takes : (n : ℕ) (fs : List Frame) (kind : TokenKind) (at : ℕ) (x : ℕ × State) → on_operand n fs (token_of kind at) ≡ Some x → on_optional n fs (token_of kind at) ≡ Some x
+optional_takes n fs kinds.Semicolon at x e = let clash : None ≡ Some x = e in cc
+optional_takes n fs _ at x e = e
+
+pub at_optional : (n : ℕ) (fs : List Frame) → TakesOperand (in_mode (Optional n) fs) n fs
+at_optional n fs = record { takes = λ t x e. optional_takes n fs t.kind t.at x e }
 
 pub prefix_step : (n : ℕ) (fs : List Frame) (k : TokenKind) (p : Prefix) (at : ℕ) → prefix_of k ≡ Some p → on_operand n fs (token_of k at) ≡ go n (Operand (suc n)) (Before at p ∷ fs)
 prefix_step n fs (kinds.Number v) p at e = let clash : None ≡ Some p = e in cc
@@ -83,27 +87,83 @@ pub chosen_alike : (m b from : ℕ) (c d e : Term) (fs : List Frame) (qs : List 
 chosen_alike m b from c d e fs [] f = tt
 chosen_alike m b from c d e fs (q ∷ qs) f = chosen_taken m b from c d e fs q.token f.level_
 
+-- ---- statements begin
+
+-- a simple statement in front of these frames is a whole one at its semicolon
+abbrev pub IsPlain : List Frame → Type 0
+IsPlain fs = (n : ℕ) (s : Stmt) → end_simple n s fs ≡ go n (Did s) fs
+
+-- a state takes what a statement's state takes; so for a simple one
+pub record TakesStatement (s : State) (n : ℕ) (fs : List Frame) : Type 0 where
+  pub plain : IsPlain fs
+  pub takes : (t : Token) (x : ℕ × State) → on_begin n fs t ≡ Some x → step s t ≡ Some x
+
+pub record TakesSimple (s : State) (n : ℕ) (fs : List Frame) : Type 0 where
+  pub takes : (t : Token) (x : ℕ × State) → on_simple n fs t ≡ Some x → step s t ≡ Some x
+
+pub at_begin : (n : ℕ) (fs : List Frame) → IsPlain fs → TakesStatement (in_mode (Begin n) fs) n fs
+at_begin n fs h = record { plain = h; takes = λ t x e. e }
+
+item_takes : (n : ℕ) (fs : List Frame) (kind : TokenKind) (at : ℕ) (x : ℕ × State) → on_begin n fs (token_of kind at) ≡ Some x → on_item n fs (token_of kind at) ≡ Some x
+item_takes n fs kinds.CloseBrace at x e = let clash : None ≡ Some x = e in cc
+item_takes n fs (kinds.Type type) at x e = let clash : None ≡ Some x = e in cc
+item_takes n fs kinds.SizeT at x e = let clash : None ≡ Some x = e in cc
+item_takes n fs (kinds.Space space) at x e = let clash : None ≡ Some x = e in cc
+item_takes n fs _ at x e = e
+
+pub at_item : (n : ℕ) (fs : List Frame) → IsPlain fs → TakesStatement (in_mode (Item n) fs) n fs
+at_item n fs h = record { plain = h; takes = λ t x e. item_takes n fs t.kind t.at x e }
+
+begin_takes : (n : ℕ) (fs : List Frame) (kind : TokenKind) (at : ℕ) (x : ℕ × State) → on_simple n fs (token_of kind at) ≡ Some x → on_begin n fs (token_of kind at) ≡ Some x
+begin_takes n fs (kinds.Name y) at x e = e
+begin_takes n fs kinds.Star at x e = e
+begin_takes n fs kinds.PlusPlus at x e = e
+begin_takes n fs kinds.MinusMinus at x e = e
+begin_takes n fs _ at x e = let clash : None ≡ Some x = e in absurd cc
+
+pub simply : {s : State} {n : ℕ} {fs : List Frame} → TakesStatement s n fs → TakesSimple s n fs
+simply {n = n} {fs = fs} h = record { takes = λ t x e. h.takes t x (begin_takes n fs t.kind t.at x e) }
+
+initial_takes : (n : ℕ) (fs : List Frame) (kind : TokenKind) (at : ℕ) (x : ℕ × State) → on_simple n fs (token_of kind at) ≡ Some x → on_initial n fs (token_of kind at) ≡ Some x
+initial_takes n fs (kinds.Type type) at x e = let clash : None ≡ Some x = e in cc
+initial_takes n fs kinds.SizeT at x e = let clash : None ≡ Some x = e in cc
+initial_takes n fs kinds.Semicolon at x e = let clash : None ≡ Some x = e in cc
+initial_takes n fs _ at x e = e
+
+pub at_initial : (n : ℕ) (fs : List Frame) → TakesSimple (in_mode (Initial n) fs) n fs
+at_initial n fs = record { takes = λ t x e. initial_takes n fs t.kind t.at x e }
+
+final_takes : (n : ℕ) (fs : List Frame) (kind : TokenKind) (at : ℕ) (x : ℕ × State) → on_simple n fs (token_of kind at) ≡ Some x → on_final n fs (token_of kind at) ≡ Some x
+final_takes n fs kinds.CloseRound at x e = let clash : None ≡ Some x = e in cc
+final_takes n fs _ at x e = e
+
+pub at_final : (n : ℕ) (fs : List Frame) → TakesSimple (in_mode (Final n) fs) n fs
+at_final n fs = record { takes = λ t x e. final_takes n fs t.kind t.at x e }
+
 -- ---- targets
 
 -- where a target is read: at a statement's begin, or behind the step before it
-pub data TargetFrom : Bool → Mode → ℕ → Type 0 where
-  from_item : {n : ℕ} → TargetFrom false (Item n) n
-  from_aim : {n : ℕ} → TargetFrom true (Aim n) n
+pub data TargetFrom : Bool → State → ℕ → List Frame → Type 0 where
+  from_simple : {s : State} {n : ℕ} {fs : List Frame} → TakesSimple s n fs → TargetFrom false s n fs
+  from_aim : {n : ℕ} {fs : List Frame} → TargetFrom true (in_mode (Aim n) fs) n fs
 
--- what follows a target: an assignment or a step; behind a step before it, the semicolon
+-- where a simple statement ends: at a semicolon, or the bracket of a `for`
+pub data AtEnd : List Placed → Type 0 where
+  at_semicolon : {n d : ℕ} {rest : List Placed} → AtEnd (put n kinds.Semicolon d ∷ rest)
+  at_bracket : {n d : ℕ} {rest : List Placed} → AtEnd (put n kinds.CloseRound d ∷ rest)
+
+-- what follows a target: an assignment or a step; behind a step before it, the end of a simple statement
 pub data AfterTarget : Bool → Place → List Placed → Type 0 where
   assigns : {n d : ℕ} {k : TokenKind} {op : Option BinaryOperator} {t : Place} {rest : List Placed} → assign_of k ≡ Some op → AfterTarget false t (put n k d ∷ rest)
   steps : {n d : ℕ} {k : TokenKind} {up : Bool} {t : Place} {rest : List Placed} → step_of k ≡ Some up → IsNamed t → AfterTarget false t (put n k d ∷ rest)
-  stops : {n d : ℕ} {t : Place} {rest : List Placed} → AfterTarget true t (put n kinds.Semicolon d ∷ rest)
+  stops : {t : Place} {qs : List Placed} → AtEnd qs → AfterTarget true t qs
 
-pub data AtSemicolon : List Placed → Type 0 where
-  at_semicolon : {n d : ℕ} {rest : List Placed} → AtSemicolon (put n kinds.Semicolon d ∷ rest)
+pub end_stops : {t : Place} {qs : List Placed} → AtEnd qs → AfterTarget true t qs
+end_stops h = stops h
 
-pub semicolon_stops : {t : Place} {qs : List Placed} → AtSemicolon qs → AfterTarget true t qs
-semicolon_stops at_semicolon = stops
-
-pub semicolon_ends : (qs : List Placed) → AtSemicolon qs → Follows 0 qs
-semicolon_ends _ at_semicolon = record { level_ = omega arith; no_opening = tt }
+pub end_follows : (l : ℕ) (qs : List Placed) → AtEnd qs → Follows l qs
+end_follows l _ at_semicolon = record { level_ = omega arith; no_opening = tt }
+end_follows l _ at_bracket = record { level_ = omega arith; no_opening = tt }
 
 assign_no_opening : (k : TokenKind) (op : Option BinaryOperator) → assign_of k ≡ Some op → IsNoOpening k
 assign_no_opening kinds.OpenRound op e = let clash : None ≡ Some op = e in cc
@@ -123,7 +183,8 @@ begin_same u n a x fs _ at h = refl
 pub begin_alike : (u : Bool) (n a x : ℕ) (fs : List Frame) {t : Place} (qs : List Placed) → AfterTarget u t qs → Alike (in_mode (BeginName u n a x) fs) (in_mode (Aimed u n a (Whole a x)) fs) qs
 begin_alike u n a x fs _ (assigns {d = d} {k = k} {op = op} e) = begin_same false n a x fs k d (assign_no_opening k op e)
 begin_alike u n a x fs _ (steps {d = d} {k = k} {up = up} e g) = begin_same false n a x fs k d (step_no_opening k up e)
-begin_alike u n a x fs _ stops = refl
+begin_alike u n a x fs _ (stops at_semicolon) = refl
+begin_alike u n a x fs _ (stops at_bracket) = refl
 
 -- an assignment asks nothing of the operators before it
 assign_asks : (k : TokenKind) (op : Option BinaryOperator) → assign_of k ≡ Some op → asks k ≡ 0
@@ -143,7 +204,7 @@ assign_asks _ op e = let clash : None ≡ Some op = e in absurd cc
 pub target_ends : (t : Place) (u : Bool) (qs : List Placed) → AfterTarget u t qs → (IsNamed t → ⊥) → Follows tight qs
 target_ends t u _ (assigns {k = k} {op = op} e) h = record { level_ = (let g = assign_asks k op e in omega arith); no_opening = assign_no_opening k op e }
 target_ends t u _ (steps e g) h = absurd (h g)
-target_ends t u _ stops h = record { level_ = omega arith; no_opening = tt }
+target_ends t u qs (stops f) h = end_follows tight qs f
 
 behind_assign : (n m a from d : ℕ) (e : Term) (fs : List Frame) (k : TokenKind) (op : Option BinaryOperator) → assign_of k ≡ Some op
     → on_have m from e (InBehind false a n ∷ fs) (token_of k d) ≡ on_aimed false n a (Behind a e) fs k
@@ -164,31 +225,33 @@ pub behind_alike : (u : Bool) (n m a from : ℕ) (e : Term) (fs : List Frame) (q
     → Alike (in_mode (Have m from e) (InBehind u a n ∷ fs)) (in_mode (Aimed u n a (Behind a e)) fs) qs
 behind_alike u n m a from e fs _ (assigns {d = d} {k = k} {op = op} h) = behind_assign n m a from d e fs k op h
 behind_alike u n m a from e fs _ (steps h g) = absurd g
-behind_alike u n m a from e fs _ stops = refl
+behind_alike u n m a from e fs _ (stops at_semicolon) = refl
+behind_alike u n m a from e fs _ (stops at_bracket) = refl
 
-pub name_begins : {u : Bool} {m : Mode} {n : ℕ} (a x : ℕ) (fs : List Frame) (ps : List Placed) → TargetFrom u m n → Runs (in_mode m fs) (put n (kinds.Name x) a ∷ ps) (in_mode (BeginName u n a x) fs) ps
-name_begins a x fs ps from_item = onward refl stop
-name_begins a x fs ps from_aim = onward refl stop
+pub name_begins : {u : Bool} {s : State} {n : ℕ} {fs : List Frame} (a x : ℕ) (ps : List Placed) → TargetFrom u s n fs → Runs s (put n (kinds.Name x) a ∷ ps) (in_mode (BeginName u n a x) fs) ps
+name_begins a x ps (from_simple h) = onward (h.takes (token_of (kinds.Name x) a) _ refl) stop
+name_begins a x ps from_aim = onward refl stop
 
-pub part_begins : {u : Bool} {m : Mode} {n : ℕ} (a x b : ℕ) (fs : List Frame) (ps : List Placed) → TargetFrom u m n
-    → Runs (in_mode m fs) (put n (kinds.Name x) a ∷ put n kinds.OpenSquare b ∷ ps) (in_mode (Operand (suc n)) (InPart u a x n ∷ fs)) ps
-part_begins a x b fs ps from_item = onward refl (onward refl stop)
-part_begins a x b fs ps from_aim = onward refl (onward refl stop)
+pub part_begins : {u : Bool} {s : State} {n : ℕ} {fs : List Frame} (a x b : ℕ) (ps : List Placed) → TargetFrom u s n fs
+    → Runs s (put n (kinds.Name x) a ∷ put n kinds.OpenSquare b ∷ ps) (in_mode (Operand (suc n)) (InPart u a x n ∷ fs)) ps
+part_begins a x b ps (from_simple h) = onward (h.takes (token_of (kinds.Name x) a) _ refl) (onward refl stop)
+part_begins a x b ps from_aim = onward refl (onward refl stop)
 
-pub star_begins : {u : Bool} {m : Mode} {n : ℕ} (a : ℕ) (fs : List Frame) (ps : List Placed) → TargetFrom u m n → Runs (in_mode m fs) (put n kinds.Star a ∷ ps) (in_mode (Operand (suc n)) (InBehind u a n ∷ fs)) ps
-star_begins a fs ps from_item = onward refl stop
-star_begins a fs ps from_aim = onward refl stop
+pub star_begins : {u : Bool} {s : State} {n : ℕ} {fs : List Frame} (a : ℕ) (ps : List Placed) → TargetFrom u s n fs → Runs s (put n kinds.Star a ∷ ps) (in_mode (Operand (suc n)) (InBehind u a n ∷ fs)) ps
+star_begins a ps (from_simple h) = onward (h.takes (token_of kinds.Star a) _ refl) stop
+star_begins a ps from_aim = onward refl stop
 
 -- ---- simple statements
 
 pub assign_step : (n a : ℕ) (p : Place) (fs : List Frame) (k : TokenKind) (op : Option BinaryOperator) → assign_of k ≡ Some op → on_aimed false n a p fs k ≡ go n (Operand n) (InAssign a n p op ∷ fs)
 assign_step n a p fs k op e = ap (λ o. on_placed o (step_of k) n a p fs) e
 
-pub assign_alike : (n m from a : ℕ) (p : Place) (op : Option BinaryOperator) (e : Term) (fs : List Frame) (qs : List Placed) → AtSemicolon qs
+pub assign_alike : (n m from a : ℕ) (p : Place) (op : Option BinaryOperator) (e : Term) (fs : List Frame) (qs : List Placed) → AtEnd qs
     → Alike (in_mode (Have m from e) (InAssign a n p op ∷ fs)) (in_mode (Ended n (Assign a p op e)) fs) qs
 assign_alike n m from a p op e fs _ at_semicolon = refl
+assign_alike n m from a p op e fs _ at_bracket = refl
 
-pub step_begins : (n a : ℕ) (fs : List Frame) (k : TokenKind) (up : Bool) → step_of k ≡ Some up → on_item n fs (token_of k a) ≡ go n (Aim (suc n)) (InStep a n up ∷ fs)
+pub step_begins : (n a : ℕ) (fs : List Frame) (k : TokenKind) (up : Bool) → step_of k ≡ Some up → on_simple n fs (token_of k a) ≡ go n (Aim (suc n)) (InStep a n up ∷ fs)
 step_begins n a fs kinds.PlusPlus up e = let same : true ≡ up = cc in ap (λ z. go n (Aim (suc n)) (InStep a n z ∷ fs)) same
 step_begins n a fs kinds.MinusMinus up e = let same : false ≡ up = cc in ap (λ z. go n (Aim (suc n)) (InStep a n z ∷ fs)) same
 step_begins n a fs _ up e = let clash : None ≡ Some up = e in absurd cc
@@ -198,20 +261,46 @@ step_ends n a p fs kinds.PlusPlus up e = let same : true ≡ up = cc in ap (λ z
 step_ends n a p fs kinds.MinusMinus up e = let same : false ≡ up = cc in ap (λ z. go n (Ended n (Step a p z)) fs) same
 step_ends n a p fs _ up e = let clash : None ≡ Some up = e in absurd cc
 
-pub step_alike : (n k a b : ℕ) (p : Place) (up : Bool) (fs : List Frame) (qs : List Placed) → AtSemicolon qs → Alike (in_mode (Aimed true k b p) (InStep a n up ∷ fs)) (in_mode (Ended n (Step a p up)) fs) qs
+pub step_alike : (n k a b : ℕ) (p : Place) (up : Bool) (fs : List Frame) (qs : List Placed) → AtEnd qs → Alike (in_mode (Aimed true k b p) (InStep a n up ∷ fs)) (in_mode (Ended n (Step a p up)) fs) qs
 step_alike n k a b p up fs _ at_semicolon = refl
+step_alike n k a b p up fs _ at_bracket = refl
 
--- a statement is added to those before it at the next token
-pub did_then : (n : ℕ) (ss : Stmts) (s : Stmt) (fs : List Frame) (ps : List Placed) → Alike (in_mode (Did n s) (InItems n ss ∷ fs)) (in_mode (Item n) (InItems n (ThenStmt ss s) ∷ fs)) ps
+-- ---- what a statement stands in takes it at the next token
+
+-- a statement is added to those before it
+pub did_then : (n : ℕ) (ss : Stmts) (s : Stmt) (fs : List Frame) (ps : List Placed) → Alike (in_mode (Did s) (InItems n ss ∷ fs)) (in_mode (Item n) (InItems n (ThenStmt ss s) ∷ fs)) ps
 did_then n ss s fs [] = tt
 did_then n ss s fs (p ∷ ps) = refl
+
+pub not_else : (k : TokenKind) → (k ≡ kinds.Else → ⊥) → is_else k ≡ false
+not_else kinds.Else h = absurd (h refl)
+not_else _ h = refl
+
+pub if_alike : (a n : ℕ) (e : Term) (s : Stmt) (fs : List Frame) (ps : List Placed) → IsNoElse ps → Alike (in_mode (Did s) (Then a n e ∷ fs)) (in_mode (Did (If a e s)) fs) ps
+if_alike a n e s fs [] h = tt
+if_alike a n e s fs (p ∷ ps) h =
+    let k = not_else p.token.kind h in
+    let on : Settled → Moved = λ x. on_settled x.statement x.rest p.token in
+    ap (λ b. on (settle b s (Then a n e ∷ fs))) k ∙ ap (λ b. on (settle b (If a e s) fs)) (sym k)
+
+pub else_alike : (a : ℕ) (e : Term) (s t : Stmt) (fs : List Frame) (ps : List Placed) → Alike (in_mode (Did t) (Otherwise a e s ∷ fs)) (in_mode (Did (IfElse a e s t)) fs) ps
+else_alike a e s t fs [] = tt
+else_alike a e s t fs (p ∷ ps) = refl
+
+pub while_alike : (a : ℕ) (e : Term) (s : Stmt) (fs : List Frame) (ps : List Placed) → Alike (in_mode (Did s) (Turns a e ∷ fs)) (in_mode (Did (While a e s)) fs) ps
+while_alike a e s fs [] = tt
+while_alike a e s fs (p ∷ ps) = refl
+
+pub for_alike : (a : ℕ) (i f : MaybeStmt) (c : MaybeTerm) (s : Stmt) (fs : List Frame) (ps : List Placed) → Alike (in_mode (Did s) (ForTurns a i c f ∷ fs)) (in_mode (Did (For a i c f s)) fs) ps
+for_alike a i f c s fs [] = tt
+for_alike a i f c s fs (p ∷ ps) = refl
 
 -- ---- types
 
 -- where a type is read, which begins at an offset
 pub data TypingFrom : Purpose → Mode → Bool → ℕ → ℕ → Type 0 where
-  of_first : {a : ℕ} → TypingFrom ForParameter HeadOpen false 1 a
-  of_next : {a : ℕ} → TypingFrom ForParameter WantParameter false 1 a
+  of_first : {u : Bool} {a : ℕ} → TypingFrom (ForParameter u) (HeadOpen u) u 1 a
+  of_next : {u : Bool} {a : ℕ} → TypingFrom (ForParameter u) (WantParameter u) u 1 a
   of_declaration : {n a : ℕ} → TypingFrom (ForDeclaration a n) (Item n) true n a
 
 typing_word : (p : Purpose) (fs : List Frame) (k : TokenKind) (type : IntType) (u : Bool) → takes_size p ≡ u → type_of u k ≡ Some type → on_typing p fs k ≡ go (nesting_of p) (AfterTyping p (Integer type)) fs
@@ -230,37 +319,52 @@ space_word : (p : Purpose) (fs : List Frame) (k : TokenKind) (type : IntType) (u
 space_word p fs kinds.Const type u h e = let clash : None ≡ Some type = e in absurd cc
 space_word p fs k type u h e = element_word p false fs k type u h e
 
-head_same : (fs : List Frame) (k : TokenKind) (a : ℕ) (type : IntType) → type_of false k ≡ Some type → on_head_open fs (token_of k a) ≡ on_typing ForParameter fs k
-head_same fs kinds.CloseRound a type e = let clash : None ≡ Some type = e in absurd cc
-head_same fs _ a type e = refl
+head_same : (u : Bool) (fs : List Frame) (k : TokenKind) (a : ℕ) (type : IntType) → type_of u k ≡ Some type → on_head_open u fs (token_of k a) ≡ on_typing (ForParameter u) fs k
+head_same u fs kinds.CloseRound a type e = let clash : None ≡ Some type = e in absurd cc
+head_same u fs _ a type e = refl
 
 item_same : (n : ℕ) (fs : List Frame) (k : TokenKind) (a : ℕ) (type : IntType) → type_of true k ≡ Some type → on_item n fs (token_of k a) ≡ on_typing (ForDeclaration a n) fs k
 item_same n fs (kinds.Type word) a type e = refl
 item_same n fs kinds.SizeT a type e = refl
 item_same n fs _ a type e = let clash : None ≡ Some type = e in absurd cc
 
+initial_same : (n : ℕ) (fs : List Frame) (k : TokenKind) (a : ℕ) (type : IntType) → type_of true k ≡ Some type → on_initial n fs (token_of k a) ≡ on_typing (ForDeclaration a n) fs k
+initial_same n fs (kinds.Type word) a type e = refl
+initial_same n fs kinds.SizeT a type e = refl
+initial_same n fs _ a type e = let clash : None ≡ Some type = e in absurd cc
+
+-- the type of what a `for` declares
+pub initial_begins : (n a : ℕ) (k : TokenKind) (type : IntType) (fs : List Frame) (ps : List Placed) → type_of true k ≡ Some type → Runs (in_mode (Initial n) fs) (put n k a ∷ ps) (in_mode (AfterTyping (ForDeclaration a n) (Integer type)) fs) ps
+initial_begins n a k type fs ps e = onward (initial_same n fs k a type e ∙ typing_word (ForDeclaration a n) fs k type true refl e) stop
+
+-- the type of what a function gives back
+pub top_word : (fs : List Frame) (k : TokenKind) (a : ℕ) (type : IntType) → type_of true k ≡ Some type → on_top fs (token_of k a) ≡ go 0 (AfterReturning false (Some type)) fs
+top_word fs (kinds.Type word) a type e = let same : word ≡ type = cc in ap (λ z. go 0 (AfterReturning false (Some z)) fs) same
+top_word fs kinds.SizeT a type e = let f : Some Ulong ≡ Some type = e in let same : Ulong ≡ type = cc in ap (λ z. go 0 (AfterReturning false (Some z)) fs) same
+top_word fs _ a type e = let clash : None ≡ Some type = e in absurd cc
+
 pub word_begins : {p : Purpose} {m : Mode} {u : Bool} {n a : ℕ} (k : TokenKind) (type : IntType) (fs : List Frame) (ps : List Placed) → TypingFrom p m u n a → type_of u k ≡ Some type
     → Runs (in_mode m fs) (put n k a ∷ ps) (in_mode (AfterTyping p (Integer type)) fs) ps
-word_begins {a = a} k type fs ps of_first e = onward (head_same fs k a type e ∙ typing_word ForParameter fs k type false refl e) stop
-word_begins {a = a} k type fs ps of_next e = onward (typing_word ForParameter fs k type false refl e) stop
+word_begins {a = a} k type fs ps (of_first {u = u}) e = onward (head_same u fs k a type e ∙ typing_word (ForParameter u) fs k type u refl e) stop
+word_begins {a = a} k type fs ps (of_next {u = u}) e = onward (typing_word (ForParameter u) fs k type u refl e) stop
 word_begins {n = n} {a = a} k type fs ps of_declaration e = onward (item_same n fs k a type e ∙ typing_word (ForDeclaration a n) fs k type true refl e) stop
 
 pub pointer_begins : {p : Purpose} {m : Mode} {u : Bool} {n a : ℕ} (b c : ℕ) (k : TokenKind) (type : IntType) (fs : List Frame) (ps : List Placed) → TypingFrom p m u n a → type_of u k ≡ Some type
     → Runs (in_mode m fs) (put n (kinds.Space Global) a ∷ put n k b ∷ put n kinds.Star c ∷ ps) (in_mode (AfterTyping p (pointer_to false type)) fs) ps
-pointer_begins b c k type fs ps of_first e = onward refl (onward (space_word ForParameter fs k type false refl e) (onward refl stop))
-pointer_begins b c k type fs ps of_next e = onward refl (onward (space_word ForParameter fs k type false refl e) (onward refl stop))
+pointer_begins b c k type fs ps (of_first {u = u}) e = onward refl (onward (space_word (ForParameter u) fs k type u refl e) (onward refl stop))
+pointer_begins b c k type fs ps (of_next {u = u}) e = onward refl (onward (space_word (ForParameter u) fs k type u refl e) (onward refl stop))
 pointer_begins {n = n} {a = a} b c k type fs ps of_declaration e = onward refl (onward (space_word (ForDeclaration a n) fs k type true refl e) (onward refl stop))
 
 pub const_begins : {p : Purpose} {m : Mode} {u : Bool} {n a : ℕ} (b c d : ℕ) (k : TokenKind) (type : IntType) (fs : List Frame) (ps : List Placed) → TypingFrom p m u n a → type_of u k ≡ Some type
     → Runs (in_mode m fs) (put n (kinds.Space Global) a ∷ put n kinds.Const b ∷ put n k c ∷ put n kinds.Star d ∷ ps) (in_mode (AfterTyping p (pointer_to true type)) fs) ps
-const_begins b c d k type fs ps of_first e = onward refl (onward refl (onward (element_word ForParameter true fs k type false refl e) (onward refl stop)))
-const_begins b c d k type fs ps of_next e = onward refl (onward refl (onward (element_word ForParameter true fs k type false refl e) (onward refl stop)))
+const_begins b c d k type fs ps (of_first {u = u}) e = onward refl (onward refl (onward (element_word (ForParameter u) true fs k type u refl e) (onward refl stop)))
+const_begins b c d k type fs ps (of_next {u = u}) e = onward refl (onward refl (onward (element_word (ForParameter u) true fs k type u refl e) (onward refl stop)))
 const_begins {n = n} {a = a} b c d k type fs ps of_declaration e = onward refl (onward refl (onward (element_word (ForDeclaration a n) true fs k type true refl e) (onward refl stop)))
 
-pub data WantsParameter : Mode → Type 0 where
-  as_first : WantsParameter HeadOpen
-  as_next : WantsParameter WantParameter
+pub data WantsParameter : Bool → Mode → Type 0 where
+  as_first : {u : Bool} → WantsParameter u (HeadOpen u)
+  as_next : {u : Bool} → WantsParameter u (WantParameter u)
 
-pub parameter_from : {m : Mode} (a : ℕ) → WantsParameter m → TypingFrom ForParameter m false 1 a
+pub parameter_from : {u : Bool} {m : Mode} (a : ℕ) → WantsParameter u m → TypingFrom (ForParameter u) m u 1 a
 parameter_from a as_first = of_first
 parameter_from a as_next = of_next

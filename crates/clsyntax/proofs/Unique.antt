@@ -8,9 +8,9 @@ use Rattle.clsyntax_lex.specs.Tokens.{Text}
 use Rattle.clsyntax_lex.specs.declared.token.Token.{Token}
 use Rattle.clsyntax_lex.specs.declared.token.SyntaxFault.{SyntaxFault}
 use Rattle.clsyntax_lex.specs.declared.token.SyntaxFault.TheVariants.{Unexpected, TooDeep}
-use Rattle.clsyntax.specs.Grammar.{Placed}
-use Rattle.clsyntax.specs.Machine.{InProgram, Top, State, in_mode, Moved, step, ended, begun}
-use Rattle.clsyntax.specs.Correct.{limit, tokens, IsWithin, IsFront, BeginsNone, IsNone, Ends, next_at, IsUnexpected, IsTooDeep, IsFault, IsReading, GivesAs}
+use Rattle.clsyntax_terms.specs.Grammar.{limit, Placed}
+use Rattle.clsyntax_terms.specs.Machine.{InProgram, Top, State, in_mode, Moved, step, ended, begun}
+use Rattle.clsyntax.specs.Correct.{tokens, IsWithin, IsFront, BeginsNone, IsNone, Ends, next_at, IsUnexpected, IsTooDeep, IsFault, IsReading, GivesAs}
 use Rattle.clsyntax.specs.Reading.{at_end, moved, read_from}
 use Rattle.clsyntax.proofs.Moves.{Runs, stop, onward}
 use Rattle.clsyntax.proofs.Complete.{complete}

@@ -7,12 +7,8 @@ use Rattle.clsyntax_lex.specs.Tokens.{Text}
 use Rattle.clsyntax_lex.specs.declared.token.Token.{Token}
 use Rattle.clsyntax_lex.specs.declared.token.SyntaxFault.{SyntaxFault}
 use Rattle.clsyntax_lex.specs.declared.token.SyntaxFault.TheVariants.{BadByte, NumberTooLarge, Unexpected, TooDeep, TooLong, OutOfMemory}
-use Rattle.clsyntax.specs.Grammar.{Placed, Reads}
-use Rattle.clsyntax.specs.Grammar as grammar
-
--- how deep tokens may be nested
-abbrev pub limit : ℕ
-limit = 64
+use Rattle.clsyntax_terms.specs.Grammar.{Placed, Reads, limit}
+use Rattle.clsyntax_terms.specs.Grammar as grammar
 
 abbrev pub tokens : List Placed → List Token
 tokens ps = map (λ p. p.token) ps

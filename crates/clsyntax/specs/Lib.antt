@@ -1,7 +1,5 @@
-pub mod Grammar
-pub mod Machine
 pub mod Reading
 pub mod Correct
 pub mod Source
 pub mod Views
-pub mod Printing
+pub use Rattle.clsyntax_terms.specs.Grammar

@@ -4,8 +4,8 @@ use Rattle.clmodel.specs.Tree.{Funcs}
 use Rattle.clsyntax_lex.specs.declared.token.Token.{Token}
 use Rattle.clsyntax_lex.specs.declared.token.SyntaxFault.{SyntaxFault}
 use Rattle.clsyntax_lex.specs.declared.token.SyntaxFault.TheVariants.{Unexpected, TooDeep}
-use Rattle.clsyntax.specs.Machine.{State, Moved, step, ended}
-use Rattle.clsyntax.specs.Correct.{limit}
+use Rattle.clsyntax_terms.specs.Machine.{State, Moved, step, ended}
+use Rattle.clsyntax_terms.specs.Grammar.{limit}
 
 abbrev pub at_end : Option Funcs → ℕ → Result Funcs SyntaxFault
 at_end None length = Err (Unexpected length)

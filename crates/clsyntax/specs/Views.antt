@@ -1,169 +1,27 @@
--- What the parser holds, as the machine sees it.
-use Rattle.std.specs.Prelude.{◌≡◌, ℕ, Bool, true, false, nat_le, ◌<◌, List, [], ◌∷◌, map, Option, None, Some, Result, Ok, Err, is_some, IfOk, Box, Vec}
+-- What the parser holds and answers, as the machine and the reading see it.
+use Rattle.std.specs.Prelude.{◌≡◌, ℕ, Bool, true, false, not, List, ◌∷◌, Result, Ok, Err, Box, Vec}
 use Rattle.std.specs.declared.alloc.Global.{Global}
-use Rattle.std.specs.declared.alloc.AllocError.{AllocError}
-use Rattle.clsyntax_lex.specs.declared.token.TokenKind.{TokenKind}
-use Rattle.clsyntax_lex.specs.declared.token.TokenKind.TheVariants as kinds
-use Rattle.clsyntax_lex.specs.declared.token.SyntaxFault.{SyntaxFault}
-use Rattle.clmodel.specs.declared.tree.Statement as rust_statement
 use Rattle.clmodel.specs.declared.tree.Function as rust_function
-use Rattle.clmodel.specs.Tree.{term, terms, place, Stmts, NoStmt, stmt, then_stmts, Funcs, NoFunc, func, then_funcs}
-use Rattle.clsyntax.specs.Grammar as grammar
-use Rattle.clsyntax.specs.Grammar.{level}
-use Rattle.clsyntax.specs.Machine as machine
-use Rattle.clsyntax.specs.Machine.{Moved}
-use Rattle.clsyntax.specs.Correct.{limit, UnlessMemory}
+use Rattle.clmodel.specs.Tree.{stmt, Funcs}
+use Rattle.clsyntax_lex.specs.declared.token.SyntaxFault.{SyntaxFault}
+use Rattle.clsyntax_terms.specs.Machine as machine
+use Rattle.clsyntax_terms.specs.Machine.{Moved}
+use Rattle.clsyntax_terms.specs.Views.{opened, funcs_of, state_of}
+use Rattle.clsyntax_terms.specs.declared.state.State.{State}
+use Rattle.clsyntax.specs.Correct.{UnlessMemory}
 use Rattle.clsyntax.specs.Reading.{moved}
-use Rattle.clsyntax.specs.declared.state.Head.{Head}
-use Rattle.clsyntax.specs.declared.state.Call.{Call}
-use Rattle.clsyntax.specs.declared.state.Prefix.{Prefix}
-use Rattle.clsyntax.specs.declared.state.Prefix.TheVariants as prefixes
-use Rattle.clsyntax.specs.declared.state.Purpose.{Purpose}
-use Rattle.clsyntax.specs.declared.state.Purpose.TheVariants as purposes
-use Rattle.clsyntax.specs.declared.state.TypeMode.{TypeMode}
-use Rattle.clsyntax.specs.declared.state.TypeMode.TheVariants as types
-use Rattle.clsyntax.specs.declared.state.HeadMode.{HeadMode}
-use Rattle.clsyntax.specs.declared.state.HeadMode.TheVariants as heads
-use Rattle.clsyntax.specs.declared.state.Frame.{Frame}
-use Rattle.clsyntax.specs.declared.state.Frame.TheVariants as frames
-use Rattle.clsyntax.specs.declared.state.Frames.{Frames, Empty, Inside'}
-use Rattle.clsyntax.specs.declared.state.Mode.{Mode}
-use Rattle.clsyntax.specs.declared.state.Mode.TheVariants as modes
-use Rattle.clsyntax.specs.declared.state.State.{State}
-use Rattle.clsyntax.specs.declared.operators.Folded.{Folded}
-use Rattle.clsyntax.specs.declared.state.Stack.{Stack}
-use Rattle.clsyntax.specs.declared.state.Step.{Step}
-use Rattle.clsyntax.specs.declared.state.Step.TheVariants.{Refused, Deep, To}
+use Rattle.clsyntax.specs.declared.control.Settled.{Settled}
 
-abbrev pub stmts_of : List rust_statement.Statement → Stmts
-stmts_of ss = then_stmts NoStmt (map stmt ss)
+abbrev pub settled_of : Settled → machine.Settled
+settled_of x = machine.settled (stmt x.statement.value) (opened x.stack)
 
-abbrev pub funcs_of : List rust_function.Function → Funcs
-funcs_of fs = then_funcs NoFunc (map func fs)
-
-abbrev pub head_of : Head → grammar.Head
-head_of h = record { name_at = h.name_at; name = h.name; parameters = h.parameters.items }
-
-abbrev pub prefix : Prefix → grammar.Prefix
-prefix (prefixes.Operator operator) = grammar.Operator operator
-prefix prefixes.Fetch = grammar.Fetch
-prefix (prefixes.Convert type) = grammar.Convert type
-
-abbrev pub maybe_prefix : Option Prefix → Option grammar.Prefix
-maybe_prefix None = None
-maybe_prefix (Some p) = Some (prefix p)
-
-abbrev pub purpose : Purpose → machine.Purpose
-purpose purposes.Parameter = machine.ForParameter
-purpose (purposes.Declaration at nesting) = machine.ForDeclaration at nesting
-
-abbrev pub in_call : Call → machine.Frame
-in_call c = machine.InCall c.is_statement c.at c.name c.nesting (terms c.arguments.items)
-
-abbrev pub frame_of : Frame → machine.Frame
-frame_of (frames.After from operator left) = machine.After from operator (term left.value)
-frame_of (frames.Before at p) = machine.Before at (prefix p)
-frame_of (frames.Asked from condition) = machine.Asked from (term condition.value)
-frame_of (frames.Chosen from condition chosen) = machine.Chosen from (term condition.value) (term chosen.value)
-frame_of (frames.InRound at nesting) = machine.InRound at nesting
-frame_of (frames.InElement at name nesting) = machine.InElement at name nesting
-frame_of (frames.InAddress at name_at name nesting) = machine.InAddress at name_at name nesting
-frame_of (frames.InCall call) = in_call call
-frame_of (frames.InPart is_step at name nesting) = machine.InPart is_step at name nesting
-frame_of (frames.InBehind is_step at nesting) = machine.InBehind is_step at nesting
-frame_of (frames.InStep at nesting is_increment) = machine.InStep at nesting is_increment
-frame_of (frames.InAssign at nesting target operator) = machine.InAssign at nesting (place target.value) operator
-frame_of (frames.InDeclare d) = machine.InDeclare d.at d.nesting d.kind d.name_at d.name
-frame_of (frames.InItems nesting body) = machine.InItems nesting (stmts_of body.items)
-frame_of (frames.InBlock at nesting) = machine.InBlock at nesting
-frame_of (frames.InBody head at) = machine.InBody (head_of head) at
-frame_of (frames.InHead head) = machine.InHead (head_of head)
-frame_of (frames.InProgram functions) = machine.InProgram (funcs_of functions.items)
-
-abbrev pub frames_of : Frames → List machine.Frame
-frames_of Empty = []
-frames_of (Inside' frame p rest) = frame_of frame ∷ frames_of rest
-
-abbrev pub head_mode_of : HeadMode → machine.Mode
-head_mode_of heads.Top = machine.Top
-head_mode_of heads.AfterKernel = machine.AfterKernel
-head_mode_of heads.AfterVoid = machine.AfterVoid
-head_mode_of (heads.AfterName at name) = machine.AfterName at name
-head_mode_of heads.HeadOpen = machine.HeadOpen
-head_mode_of heads.WantParameter = machine.WantParameter
-head_mode_of heads.AfterParameter = machine.AfterParameter
-head_mode_of heads.HeadDone = machine.HeadDone
-
-abbrev pub type_mode_of : Purpose → TypeMode → machine.Mode
-type_mode_of p types.AfterSpace = machine.AfterSpace (purpose p)
-type_mode_of p types.AfterConst = machine.AfterConst (purpose p)
-type_mode_of p (types.AfterElement is_const type) = machine.AfterElement (purpose p) is_const type
-type_mode_of p (types.Whole kind) = machine.AfterTyping (purpose p) kind
-
-abbrev pub mode_of : Mode → machine.Mode
-mode_of (modes.Operand nesting) = machine.Operand nesting
-mode_of (modes.Have nesting from value) = machine.Have nesting from (term value.value)
-mode_of (modes.Named nesting at name) = machine.Named nesting at name
-mode_of (modes.Opened nesting at) = machine.Opened nesting at
-mode_of (modes.CastType nesting at type) = machine.CastType nesting at type
-mode_of (modes.AfterAnd nesting at) = machine.AfterAnd nesting at
-mode_of (modes.AndName nesting at name_at name) = machine.AndName nesting at name_at name
-mode_of (modes.CallOpen nesting) = machine.CallOpen nesting
-mode_of (modes.Item nesting) = machine.Item nesting
-mode_of (modes.Aim nesting) = machine.Aim nesting
-mode_of (modes.BeginName is_step nesting at name) = machine.BeginName is_step nesting at name
-mode_of (modes.Aimed is_step nesting at target) = machine.Aimed is_step nesting at (place target.value)
-mode_of (modes.Ended nesting statement) = machine.Ended nesting (stmt statement.value)
-mode_of (modes.Did nesting statement) = machine.Did nesting (stmt statement.value)
-mode_of (modes.Typing p t) = type_mode_of p t
-mode_of (modes.Declared d) = machine.Declared d.nesting d.at d.kind d.name_at d.name
-mode_of (modes.Head h) = head_mode_of h
-
-abbrev pub state_of : State → machine.State
-state_of s = machine.in_mode (mode_of s.mode) (frames_of s.frames.value)
-
-abbrev pub opened : Stack → List machine.Frame
-opened s = frames_of s.frames.value
-
-abbrev pub folded_of : Folded → machine.Folded
-folded_of f = machine.folded f.from (term f.value.value) (opened f.stack)
-
--- an expression takes the frame in front, where operators bind at least so tightly
-abbrev pub takes_front : ℕ → List machine.Frame → Bool
-takes_front k (machine.After b op d ∷ fs) = nat_le k (level op)
-takes_front k (machine.Before b p ∷ fs) = true
-takes_front k (machine.Chosen b c d ∷ fs) = nat_le k 0
-takes_front k _ = false
-
--- an operand or the type of a cast begins with the token
-abbrev pub is_operand : TokenKind → Bool
-is_operand (kinds.Type type) = true
-is_operand kinds.SizeT = true
-is_operand (kinds.Number v) = true
-is_operand (kinds.Name x) = true
-is_operand kinds.And = true
-is_operand kinds.OpenRound = true
-is_operand kind = is_some (grammar.prefix_of kind)
-
--- the frame in front is `*` at a statement's begin
-abbrev pub is_behind : List machine.Frame → Bool
-is_behind (machine.InBehind is_step a n ∷ fs) = true
-is_behind _ = false
-
--- a move, at a token that is nested too deep
-abbrev pub IsDeep : Moved → Type 0
-IsDeep None = ⊥
-IsDeep (Some x) = limit < x.0
-
--- a step is the machine's
-abbrev pub IsStep : Step → Moved → Type 0
-IsStep Refused m = m ≡ None
-IsStep Deep m = IsDeep m
-IsStep (To nesting state) m = m ≡ Some (nesting, state_of state.value)
-
--- the step that was made, if memory sufficed
-abbrev pub Steps : Result Step AllocError → Moved → Type 0
-Steps result m = IfOk result (λ step. IsStep step m)
+-- a statement ends the frame in front, which controls it
+abbrev pub ends_front : (before_else : Bool) → List machine.Frame → Bool
+ends_front b (machine.Otherwise a e s ∷ fs) = true
+ends_front b (machine.Turns a e ∷ fs) = true
+ends_front b (machine.ForTurns a i c f ∷ fs) = true
+ends_front b (machine.Then a n e ∷ fs) = not b
+ends_front b _ = false
 
 -- the state after a token at the offset, however one goes on
 abbrev pub IsAdvance : Result (Box State Global) SyntaxFault → Moved → ℕ → Type 0

@@ -1,15 +1,17 @@
 //! Types, and the head of a function.
 #![tactic(auto)]
 
-ghost use Rattle.std.specs.Prelude.{◌≡◌};
-ghost use Rattle.clsyntax.specs.Grammar as grammar;
-ghost use Rattle.clsyntax.specs.Machine as machine;
-ghost use Rattle.clsyntax.specs.Views.{opened, purpose, type_mode_of, head_mode_of, Steps};
+ghost use Rattle.std.specs.Prelude.{◌≡◌, [], ◌∷◌, not};
+ghost use Rattle.clsyntax_terms.specs.Grammar as grammar;
+ghost use Rattle.clsyntax_terms.specs.Machine as machine;
+ghost use Rattle.clsyntax_terms.specs.Views.{opened, purpose, type_mode_of, head_mode_of, Steps};
 
-use crate::state::{Declared, Frame, Head, HeadMode, Mode, Moved, Purpose, Stack, Step, TypeMode};
 use clmodel::tree::{AddressSpace, Parameter, PointerType, VariableType};
 use clnum::IntType;
 use clsyntax_lex::token::{Token, TokenKind};
+use clsyntax_terms::state::{
+    Declared, Frame, Head, HeadMode, Mode, Moved, Purpose, Stack, Step, TypeMode,
+};
 
 /// The integer type that a word names, where a type is read for a purpose.
 fn type_of(wanted: Purpose, kind: TokenKind) -> Option<IntType>
@@ -17,7 +19,8 @@ fn type_of(wanted: Purpose, kind: TokenKind) -> Option<IntType>
 {
     match (kind, wanted) {
         (TokenKind::Type(integer), _) => Some(integer),
-        (TokenKind::SizeT, Purpose::Declaration { .. }) => Some(IntType::Ulong),
+        (TokenKind::SizeT, Purpose::Declaration { .. } | Purpose::Parameter { takes_size: true }) =>
+            Some(IntType::Ulong),
         _ => None,
     }
 }
@@ -35,8 +38,8 @@ pub(crate) fn on_typing(wanted: Purpose, stack: Stack, kind: TokenKind) -> Moved
 }
 
 /// One more parameter of the head.
-fn on_parameter_name(parameter: Parameter, stack: Stack) -> Moved
-    ensures { Steps result (machine.on_parameter_name parameter (opened stack)) }
+fn on_parameter_name(takes_size: bool, parameter: Parameter, stack: Stack) -> Moved
+    ensures { Steps result (machine.on_parameter_name takes_size parameter (opened stack)) }
 {
     let Some((frame, stack)) = stack.pop() else {
         return Ok(Step::Refused);
@@ -46,7 +49,7 @@ fn on_parameter_name(parameter: Parameter, stack: Stack) -> Moved
             head.parameters.push(parameter)?;
             stack
                 .push(Frame::InHead(head))?
-                .go(1, Mode::Head(HeadMode::AfterParameter))
+                .go(1, Mode::Head(HeadMode::AfterParameter { takes_size }))
         }
         _ => Ok(Step::Refused),
     }
@@ -63,7 +66,8 @@ fn on_typed_name(
     ensures { Steps result (machine.on_typed_name (purpose wanted) kind name_at name (opened stack)) }
 {
     match wanted {
-        Purpose::Parameter => on_parameter_name(
+        Purpose::Parameter { takes_size } => on_parameter_name(
+            takes_size,
             Parameter {
                 name_at,
                 name,
@@ -132,33 +136,91 @@ fn on_open_brace(at: u32, stack: Stack) -> Moved
     }
 }
 
+/// Where a function may begin.
+fn on_top(stack: Stack, token: Token) -> Moved
+    ensures { Steps result (machine.on_top (opened stack) token) }
+{
+    let result = match token.kind {
+        TokenKind::Kernel => return stack.go(0, Mode::Head(HeadMode::AfterKernel)),
+        TokenKind::Void => None,
+        TokenKind::Type(integer) => Some(integer),
+        TokenKind::SizeT => Some(IntType::Ulong),
+        _ => return Ok(Step::Refused),
+    };
+    let is_kernel = false;
+    stack.go(
+        0,
+        Mode::Head(HeadMode::AfterReturning { is_kernel, result }),
+    )
+}
+
+/// Where the bracket of a function's head opens.
+fn open_head(
+    is_kernel: bool,
+    returned: Option<IntType>,
+    name_at: u32,
+    name: u32,
+    stack: Stack,
+) -> Moved
+    ensures { Steps result (machine.go 0 (machine.HeadOpen (not is_kernel)) (machine.InHead (grammar.head is_kernel returned name_at name []) ∷ opened stack)) }
+{
+    let parameters = Vec::new(stack.alloc);
+    let head = Frame::InHead(Head {
+        is_kernel,
+        result: returned,
+        name_at,
+        name,
+        parameters,
+    });
+    let takes_size = !is_kernel;
+    stack
+        .push(head)?
+        .go(0, Mode::Head(HeadMode::HeadOpen { takes_size }))
+}
+
 /// In the head of a function.
 pub(crate) fn on_head(mode: HeadMode, stack: Stack, token: Token) -> Moved
     ensures { Steps result (machine.step_in (head_mode_of mode) (opened stack) token) }
 {
     match (mode, token.kind) {
-        (HeadMode::Top, TokenKind::Kernel) => stack.go(0, Mode::Head(HeadMode::AfterKernel)),
-        (HeadMode::AfterKernel, TokenKind::Void) => stack.go(0, Mode::Head(HeadMode::AfterVoid)),
-        (HeadMode::AfterVoid, TokenKind::Name(name)) => {
-            stack.go(0, Mode::Head(HeadMode::AfterName { at: token.at, name }))
+        (HeadMode::Top, _) => on_top(stack, token),
+        (HeadMode::AfterKernel, TokenKind::Void) => {
+            stack.go(
+                0,
+                Mode::Head(HeadMode::AfterReturning {
+                    is_kernel: true,
+                    result: None,
+                }),
+            )
         }
-        (HeadMode::AfterName { at, name }, TokenKind::OpenRound) => {
-            let parameters = Vec::new(stack.alloc);
-            let head = Frame::InHead(Head {
-                name_at: at,
+        (HeadMode::AfterReturning { is_kernel, result }, TokenKind::Name(name)) => {
+            stack.go(
+                0,
+                Mode::Head(HeadMode::AfterName {
+                    is_kernel,
+                    result,
+                    at: token.at,
+                    name,
+                }),
+            )
+        }
+        (
+            HeadMode::AfterName {
+                is_kernel,
+                result,
+                at,
                 name,
-                parameters,
-            });
-            stack.push(head)?.go(0, Mode::Head(HeadMode::HeadOpen))
-        }
-        (HeadMode::HeadOpen | HeadMode::AfterParameter, TokenKind::CloseRound) => {
+            },
+            TokenKind::OpenRound,
+        ) => { open_head(is_kernel, result, at, name, stack) }
+        (HeadMode::HeadOpen { .. } | HeadMode::AfterParameter { .. }, TokenKind::CloseRound) => {
             stack.go(1, Mode::Head(HeadMode::HeadDone))
         }
-        (HeadMode::AfterParameter, TokenKind::Comma) => {
-            stack.go(1, Mode::Head(HeadMode::WantParameter))
+        (HeadMode::AfterParameter { takes_size }, TokenKind::Comma) => {
+            stack.go(1, Mode::Head(HeadMode::WantParameter { takes_size }))
         }
-        (HeadMode::HeadOpen | HeadMode::WantParameter, kind) => {
-            on_typing(Purpose::Parameter, stack, kind)
+        (HeadMode::HeadOpen { takes_size } | HeadMode::WantParameter { takes_size }, kind) => {
+            on_typing(Purpose::Parameter { takes_size }, stack, kind)
         }
         (HeadMode::HeadDone, TokenKind::OpenBrace) => on_open_brace(token.at, stack),
         _ => Ok(Step::Refused),

@@ -6,14 +6,11 @@ ghost use Rattle.clmodel.specs.Tree.{Program};
 ghost use Rattle.clsyntax_lex.specs.declared.token.SyntaxFault.{SyntaxFault};
 ghost use Rattle.clsyntax.specs.Correct.{IsReading, IsOne, GivesAs, Gives};
 ghost use Rattle.clsyntax.specs.Source.{IsSource, IsOneSource};
-ghost use Rattle.clsyntax.specs.Printing.{IsPrinted, HasWords};
 
-mod expressions;
+mod control;
 mod heads;
 mod machine;
-mod operators;
 mod parser;
-mod state;
 mod statements;
 #[cfg(test)]
 mod tests;
@@ -51,11 +48,4 @@ pub fn read(alloc: Global, source: &[u8]) -> Result<Tree, SyntaxFault>
 /// A source stands for one tree, or has one fault.
 pub fn one_source()
     ensures { IsOneSource }
-{}
-
-/// The tokens that a program's tree is printed as, wherever they begin, are a program with the same tree, offsets aside. They have
-/// the program's names and numbers, in their order. The limit of nesting is set aside.
-pub fn printed_again()
-    ensures tree { IsPrinted }
-    ensures words { HasWords }
 {}

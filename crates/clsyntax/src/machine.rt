@@ -1,14 +1,18 @@
 //! One step of the parser.
 #![tactic(auto)]
 
-ghost use Rattle.clsyntax.specs.Machine as machine;
-ghost use Rattle.clsyntax.specs.Views.{state_of, Steps};
+ghost use Rattle.clsyntax_terms.specs.Machine as machine;
+ghost use Rattle.clsyntax_terms.specs.Views.{state_of, Steps};
 
-use crate::expressions::{on_call_open, on_have, on_named, on_opened, on_operand};
+use crate::control::{on_did, on_final, on_initial, open_for};
 use crate::heads::{on_head, on_type};
-use crate::state::{Frame, Mode, Moved, Stack, State, Step};
-use crate::statements::{on_aim, on_aimed, on_begin_name, on_declared, on_did, on_item};
+use crate::statements::{on_aim, on_aimed, on_begin, on_begin_name, on_declared, on_item};
 use clsyntax_lex::token::{Token, TokenKind};
+use clsyntax_terms::closing::on_ended;
+use clsyntax_terms::expressions::{
+    on_call_open, on_have, on_named, on_opened, on_operand, on_optional,
+};
+use clsyntax_terms::state::{Frame, Mode, Moved, Stack, State, Step};
 use std::alloc::Global;
 
 /// What a token does.
@@ -32,7 +36,11 @@ pub(crate) fn step(alloc: Global, state: Box<State>, token: Token) -> Moved
             stack.open(nesting, Frame::InAddress(at, name_at, name, nesting))
         }
         (Mode::CallOpen { nesting }, _) => on_call_open(nesting, stack, token),
+        (Mode::Optional { nesting }, _) => on_optional(nesting, stack, token),
         (Mode::Item { nesting }, _) => on_item(nesting, stack, token),
+        (Mode::Begin { nesting }, _) => on_begin(nesting, stack, token),
+        (Mode::Initial { nesting }, _) => on_initial(nesting, stack, token),
+        (Mode::Final { nesting }, _) => on_final(nesting, stack, token),
         (Mode::Aim { nesting }, _) => on_aim(nesting, stack, token),
         (Mode::BeginName(is_step, nesting, at, name), _) => {
             on_begin_name(is_step, nesting, at, name, stack, token)
@@ -40,10 +48,21 @@ pub(crate) fn step(alloc: Global, state: Box<State>, token: Token) -> Moved
         (Mode::Aimed(is_step, nesting, at, target), _) => {
             on_aimed(is_step, nesting, at, target, stack, token)
         }
-        (Mode::Ended(nesting, statement), TokenKind::Semicolon) => {
-            stack.go(nesting, Mode::Did(nesting, statement))
+        (Mode::Ended(nesting, statement), kind) => on_ended(nesting, statement, stack, kind),
+        (Mode::Closing(nesting, statement), TokenKind::Semicolon) => {
+            stack.go(nesting, Mode::Did(statement))
         }
-        (Mode::Did(nesting, statement), _) => on_did(nesting, statement, stack, token),
+        (Mode::Did(statement), _) => on_did(statement, stack, token),
+        (Mode::AfterIf { nesting, at }, TokenKind::OpenRound) => {
+            stack.open(nesting, Frame::InIf { at, nesting })
+        }
+        (Mode::AfterWhile { nesting, at }, TokenKind::OpenRound) => {
+            stack.open(nesting, Frame::InWhile { at, nesting })
+        }
+        (Mode::AfterFor { nesting, at }, TokenKind::OpenRound) => open_for(nesting, at, stack),
+        (Mode::AfterDo(nesting, at, body), TokenKind::OpenRound) => {
+            stack.open(nesting, Frame::InDo(at, nesting, body))
+        }
         (Mode::Typing(purpose, mode), _) => on_type(purpose, mode, stack, token),
         (Mode::Declared(declared), _) => on_declared(declared, stack, token),
         (Mode::Head(head), _) => on_head(head, stack, token),

@@ -2,16 +2,17 @@
 #![tactic(auto)]
 
 ghost use Rattle.std.specs.Prelude.{◌≡◌, ◌∷◌, IfOk};
-ghost use Rattle.clsyntax.specs.Machine as machine;
-ghost use Rattle.clsyntax.specs.Machine.{ended, ended_in, begun};
+ghost use Rattle.clsyntax_terms.specs.Machine as machine;
+ghost use Rattle.clsyntax_terms.specs.Machine.{ended, ended_in, begun};
 ghost use Rattle.clsyntax.specs.Reading.{at_end, read_from};
-ghost use Rattle.clsyntax.specs.Views.{funcs_of, frames_of, state_of, IsAdvance, IsRead};
+ghost use Rattle.clsyntax_terms.specs.Views.{funcs_of, frames_of, state_of};
+ghost use Rattle.clsyntax.specs.Views.{IsAdvance, IsRead};
 
 use crate::machine::step;
-use crate::state::{Frame, Frames, HeadMode, LIMIT, Mode, State, Step};
 use clmodel::text::Name;
 use clmodel::tree::Function;
 use clsyntax_lex::token::{SyntaxFault, Token};
+use clsyntax_terms::state::{Frame, Frames, HeadMode, LIMIT, Mode, State, Step};
 use std::alloc::{AllocError, Global};
 
 /// The state before the first token.

@@ -4,66 +4,15 @@
 ghost use Rattle.std.specs.Prelude.{◌≡◌, ◌∷◌, suc, false};
 ghost use Rattle.clmodel.specs.Tree as tree;
 ghost use Rattle.clmodel.specs.Tree.{place, stmt, NoStmt, func};
-ghost use Rattle.clsyntax.specs.Machine as machine;
-ghost use Rattle.clsyntax.specs.Views.{opened, stmts_of, Steps};
+ghost use Rattle.clsyntax_terms.specs.Machine as machine;
+ghost use Rattle.clsyntax_terms.specs.Views.{opened, stmts_of, Steps};
 
 use crate::heads::on_typing;
-use crate::operators::{assign_of, step_of};
-use crate::state::{Declared, Frame, HeadMode, Mode, Moved, Purpose, Stack, Step, deeper};
 use clmodel::tree::{Expression, Function, Statement, Target};
 use clsyntax_lex::token::{Token, TokenKind};
-
-/// Where `++` or `--` and its target end.
-pub(crate) fn end_step(target: Box<Target>, stack: Stack) -> Moved
-    ensures { Steps result (machine.end_step (place target.value) (opened stack)) }
-{
-    let Some((frame, stack)) = stack.pop() else {
-        return Ok(Step::Refused);
-    };
-    match frame {
-        Frame::InStep(at, nesting, is_increment) => {
-            let statement = Box::new(
-                stack.alloc,
-                Statement::Step {
-                    at,
-                    target,
-                    is_increment,
-                },
-            )?;
-            stack.go(nesting, Mode::Did(nesting, statement))
-        }
-        _ => Ok(Step::Refused),
-    }
-}
-
-/// Where a declaration ends.
-#[tactic(auto, using(crate::proofs::Lists::stmts_then))]
-pub(crate) fn end_declaration(
-    declared: Declared,
-    value: Option<Box<Expression>>,
-    stack: Stack,
-) -> Moved
-    ensures { Steps result (machine.end_declaration declared.nesting (tree.declared declared.at declared.kind declared.name_at declared.name value) (opened stack)) }
-{
-    let Some((frame, stack)) = stack.pop() else {
-        return Ok(Step::Refused);
-    };
-    match frame {
-        Frame::InItems(outer, mut body) => {
-            body.push(Statement::Declare {
-                at: declared.at,
-                kind: declared.kind,
-                name_at: declared.name_at,
-                name: declared.name,
-                value,
-            })?;
-            let nesting = declared.nesting;
-            let stack = stack.push(Frame::InItems(outer, body))?;
-            stack.go(nesting, Mode::Item { nesting })
-        }
-        _ => Ok(Step::Refused),
-    }
-}
+use clsyntax_terms::closing::{add_declaration, declaration, end_step};
+use clsyntax_terms::operators::{assign_of, step_of};
+use clsyntax_terms::state::{Declared, Frame, HeadMode, Mode, Moved, Purpose, Stack, Step, deeper};
 
 /// After a declared name.
 pub(crate) fn on_declared(name: Declared, stack: Stack, token: Token) -> Moved
@@ -71,7 +20,10 @@ pub(crate) fn on_declared(name: Declared, stack: Stack, token: Token) -> Moved
 {
     match token.kind {
         TokenKind::Assign => stack.want(name.nesting, Frame::InDeclare(name)),
-        TokenKind::Semicolon => end_declaration(name, None, stack),
+        TokenKind::Semicolon => {
+            let statement = declaration(stack.alloc, name, None)?;
+            add_declaration(name.nesting, statement, stack)
+        }
         _ => Ok(Step::Refused),
     }
 }
@@ -111,8 +63,8 @@ fn end_items(nesting: u32, body: Vec<Statement>, stack: Stack) -> Moved
     match frame {
         Frame::InBody(head, at) => {
             let function = Function {
-                is_kernel: true,
-                result: None,
+                is_kernel: head.is_kernel,
+                result: head.result,
                 name_at: head.name_at,
                 name: head.name,
                 parameters: head.parameters,
@@ -121,9 +73,9 @@ fn end_items(nesting: u32, body: Vec<Statement>, stack: Stack) -> Moved
             };
             end_function(nesting, function, stack)
         }
-        Frame::InBlock { at, nesting: outer } => {
+        Frame::InBlock { at, .. } => {
             let statement = Box::new(stack.alloc, block_of(at, body))?;
-            stack.go(nesting, Mode::Did(outer, statement))
+            stack.go(nesting, Mode::Did(statement))
         }
         _ => Ok(Step::Refused),
     }
@@ -166,9 +118,9 @@ fn begin_step(nesting: u32, at: u32, is_increment: bool, stack: Stack) -> Moved
     stack.go(nesting, Mode::Aim { nesting: inner })
 }
 
-/// Where a statement may begin.
-fn on_begin(nesting: u32, stack: Stack, token: Token) -> Moved
-    ensures { Steps result (machine.on_begin nesting (opened stack) token) }
+/// Where a simple statement may begin.
+pub(crate) fn on_simple(nesting: u32, stack: Stack, token: Token) -> Moved
+    ensures { Steps result (machine.on_simple nesting (opened stack) token) }
 {
     let Token { kind, at } = token;
     match kind {
@@ -176,12 +128,40 @@ fn on_begin(nesting: u32, stack: Stack, token: Token) -> Moved
         TokenKind::Star => stack.open(nesting, Frame::InBehind(false, at, nesting)),
         TokenKind::PlusPlus => begin_step(nesting, at, true, stack),
         TokenKind::MinusMinus => begin_step(nesting, at, false, stack),
+        _ => Ok(Step::Refused),
+    }
+}
+
+/// The step of a word that is a statement but for its semicolon.
+fn close_word(nesting: u32, word: Statement, stack: Stack) -> Moved
+    ensures { Steps result (machine.go nesting (machine.Closing nesting (stmt word)) (opened stack)) }
+{
+    let statement = Box::new(stack.alloc, word)?;
+    stack.go(nesting, Mode::Closing(nesting, statement))
+}
+
+/// Where a statement may begin.
+pub(crate) fn on_begin(nesting: u32, stack: Stack, token: Token) -> Moved
+    ensures { Steps result (machine.on_begin nesting (opened stack) token) }
+{
+    let Token { kind, at } = token;
+    match kind {
         TokenKind::OpenBrace => open_block(nesting, at, stack),
         TokenKind::Semicolon => {
             let statement = Box::new(stack.alloc, Statement::Empty { at })?;
-            stack.go(nesting, Mode::Did(nesting, statement))
+            stack.go(nesting, Mode::Did(statement))
         }
-        _ => Ok(Step::Refused),
+        TokenKind::If => stack.go(nesting, Mode::AfterIf { nesting, at }),
+        TokenKind::While => stack.go(nesting, Mode::AfterWhile { nesting, at }),
+        TokenKind::Do => stack.control(nesting, Frame::DoTurns { at, nesting }),
+        TokenKind::For => stack.go(nesting, Mode::AfterFor { nesting, at }),
+        TokenKind::Break => close_word(nesting, Statement::Break { at }, stack),
+        TokenKind::Continue => close_word(nesting, Statement::Continue { at }, stack),
+        TokenKind::Return => {
+            let stack = stack.push(Frame::InReturn { at, nesting })?;
+            stack.go(nesting, Mode::Optional { nesting })
+        }
+        _ => on_simple(nesting, stack, token),
     }
 }
 
@@ -245,7 +225,8 @@ pub(crate) fn on_aimed(
 {
     match (is_step, token.kind) {
         (false, _) => on_placed(nesting, at, target, stack, token),
-        (true, TokenKind::Semicolon) => end_step(target, stack),
+        (true, TokenKind::Semicolon) => end_step(false, target, stack),
+        (true, TokenKind::CloseRound) => end_step(true, target, stack),
         (true, _) => Ok(Step::Refused),
     }
 }
@@ -269,22 +250,5 @@ pub(crate) fn on_begin_name(
             let target = Box::new(stack.alloc, Target::Variable { at, name })?;
             on_aimed(is_step, nesting, at, target, stack, token)
         }
-    }
-}
-
-/// After a statement.
-#[tactic(auto, using(crate::proofs::Lists::stmts_then))]
-pub(crate) fn on_did(nesting: u32, statement: Box<Statement>, stack: Stack, token: Token) -> Moved
-    ensures { Steps result (machine.on_did nesting (stmt statement.value) (opened stack) token) }
-{
-    let Some((frame, stack)) = stack.pop() else {
-        return Ok(Step::Refused);
-    };
-    match frame {
-        Frame::InItems(outer, mut body) => {
-            body.push(Box::into_inner(statement))?;
-            on_item(nesting, stack.push(Frame::InItems(outer, body))?, token)
-        }
-        _ => Ok(Step::Refused),
     }
 }

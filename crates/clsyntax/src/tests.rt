@@ -67,6 +67,43 @@ fn every_form(rt: HostRuntime) -> Result<(), Fail> {
     Ok(())
 }
 
+/// Each form of a statement that controls others, and each form of a function's head.
+#[test]
+fn control_flow(rt: HostRuntime) -> Result<(), Fail> {
+    let source =
+        b"int g(size_t n) { return n; } void h(uint n) { if (n) if (n) ; else ; else return; do continue; while (0); } kernel void f() { for (size_t i = 0; i; ++i) { } for (g(1); ; g(2)) while (1) break; for (;;) ; }";
+    let tree = read(rt.alloc(), source)?;
+    let bodies: [&[&str]; 3] = [
+        &["Return { at: 18, value: Some(Variable { at: 25, name: 27 }) }"],
+        &[
+            "IfElse { at: 47, condition: Variable { at: 51, name: 27 }, chosen: IfElse { at: 54, condition: Variable { at: 58, name: 27 }, chosen: Empty { at: 61 }, otherwise: Empty { at: 68 } }, otherwise: Return { at: 75, value: None } }",
+            "DoWhile { at: 83, body: Continue { at: 86 }, condition: Number { at: 103, value: Value { kind: Int, number: 0 } } }",
+        ],
+        &[
+            "For { at: 127, first: Some(Declare { at: 132, kind: Integer(Ulong), name_at: 139, name: 30, value: Some(Number { at: 143, value: Value { kind: Int, number: 0 } }) }), condition: Some(Variable { at: 146, name: 30 }), third: Some(Step { at: 149, target: Variable { at: 151, name: 30 }, is_increment: true }), body: Block { at: 154, body: [] } }",
+            "For { at: 158, first: Some(Call { at: 163, name: 26, arguments: [Number { at: 165, value: Value { kind: Int, number: 1 } }] }), condition: None, third: Some(Call { at: 171, name: 26, arguments: [Number { at: 173, value: Value { kind: Int, number: 2 } }] }), body: While { at: 177, condition: Number { at: 184, value: Value { kind: Int, number: 1 } }, body: Break { at: 187 } } }",
+            "For { at: 194, first: None, condition: None, third: None, body: Empty { at: 203 } }",
+        ],
+    ];
+    assert_eq!(rt; tree.functions.len(), 3);
+    assert_eq!(rt; tree.functions[0].result, Some(IntType::Int));
+    assert!(rt; !tree.functions[0].is_kernel);
+    assert_eq!(rt; tree.functions[0].parameters.len(), 1);
+    assert_eq!(rt;
+        tree.functions[0].parameters[0].kind,
+        VariableType::Integer(IntType::Ulong)
+    );
+    assert_eq!(rt; tree.functions[1].result, None);
+    assert!(rt; !tree.functions[1].is_kernel);
+    for (function, texts) in tree.functions.iter().zip(bodies.iter()) {
+        assert_eq!(rt; function.body.len(), texts.len());
+        for (statement, text) in function.body.iter().zip(texts.iter()) {
+            assert_eq!(rt; format!(in rt.alloc(); "{statement:?}")?.as_str(), *text);
+        }
+    }
+    Ok(())
+}
+
 fn fault_of(rt: &impl AllocGlobal, source: &str) -> Option<SyntaxFault> {
     match read(rt.alloc(), source.as_bytes()) {
         Ok(_) => None,
@@ -98,6 +135,18 @@ fn faults(rt: HostRuntime) -> Result<(), Fail> {
         fault_of(&rt, "kernel void f(global int *p) { *p++; }"),
         Some(SyntaxFault::Unexpected { at: 33 })
     );
+    assert_eq!(rt;
+        fault_of(&rt, "void f() { else ; }"),
+        Some(SyntaxFault::Unexpected { at: 11 })
+    );
+    assert_eq!(rt;
+        fault_of(&rt, "void f() { for (int i; ; ) ; }"),
+        Some(SyntaxFault::Unexpected { at: 21 })
+    );
+    assert_eq!(rt;
+        fault_of(&rt, "int f(size_t n) { if (n) int i; }"),
+        Some(SyntaxFault::Unexpected { at: 25 })
+    );
     Ok(())
 }
 
@@ -109,6 +158,13 @@ fn nesting(rt: HostRuntime) -> Result<(), Fail> {
     assert_eq!(rt;
         fault_of(&rt, source),
         Some(SyntaxFault::TooDeep { at: 100 })
+    );
+    // the statement of the 64th `do` is nested 65 deep, with the block
+    let source =
+        "void f() { do do do do do do do do do do do do do do do do do do do do do do do do do do do do do do do do do do do do do do do do do do do do do do do do do do do do do do do do do do do do do do do do ;";
+    assert_eq!(rt;
+        fault_of(&rt, source),
+        Some(SyntaxFault::TooDeep { at: 203 })
     );
     Ok(())
 }

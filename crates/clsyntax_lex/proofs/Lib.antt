@@ -11,4 +11,4 @@ mod ReadingLemmas
 mod WordPrinting
 mod NamePrinting
 mod NumberPrinting
-mod PrintedLemmas
+pub mod PrintedLemmas

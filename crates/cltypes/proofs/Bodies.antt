@@ -1,25 +1,21 @@
 -- What the checker's steps say of the places of statements, one after the other.
-use Rattle.std.proofs.Common.{◌≡◌, ℕ, ◌+◌, ◌<◌, ◌⊎◌, inl, inr, List, [], ◌∷◌, ◌++◌, length, map, take, drop, get_or, None, Some, Result, Vec, refl, sym, ap, ◌∙◌, subst}
-use mathlib.Core.Former.{Count}
-use Prim.Native.Nat.{zero, suc}
-use Rattle.std.proofs.lemmas.List.{take_more}
-use Rattle.std.specs.declared.alloc.Global.{Global}
-use Rattle.clmodel.specs.declared.tree.Statement as rust
-use Rattle.clmodel.specs.declared.tree.Statement.{Statement, items-the_row-Statement, items_hidden-the_row-Statement-0}
-use Rattle.clmodel.specs.declared.tree.Statement.TheBlock.{hidden-the_row-Statement-0}
+use Rattle.std.proofs.Common.{◌≡◌, ℕ, ◌+◌, ◌<◌, ◌⊎◌, inl, inr, List, [], ◌∷◌, length, map, take, drop, get_or, None, Some, Result, refl, sym, ap, ◌∙◌, subst}
+use Rattle.clmodel.specs.declared.tree.Statement.{Statement}
 use Rattle.clmodel.specs.declared.tree.VariableType.{VariableType}
 use Rattle.clmodel.specs.declared.type_fault.TypeFault.{TypeFault}
 use Rattle.clmodel.specs.declared.type_fault.TypeFault.TheVariants as fault
 use Rattle.clmodel.specs.Tree as tree
-use Rattle.clmodel.specs.Tree.{Place, Stmt, Stmts, NoStmt, ThenStmt, then_stmts, stmt, row_stmts}
-use Rattle.clmodel.specs.Typing.Context.{Context, Scope, bind, enter, after, after_all}
+use Rattle.clmodel.specs.Tree.{Place, Stmt, Stmts, NoStmt, ThenStmt, MaybeStmt, Without, With, then_stmts, stmt, row_stmts}
+use Rattle.clmodel.specs.Typing.Context.{Context, Scope, bind, enter, after, after_part, after_all}
 use Rattle.clmodel.specs.Typing.Least.{first}
 use Rattle.clmodel.specs.Typing.Faults.{place_faults, faults, row_faults}
 use Rattle.cltypes_scope.specs.Names.{left, without_innermost}
-use Rattle.cltypes.specs.declared.faults.Operand.{Operand}
-use Rattle.cltypes.specs.Answers.{Checks}
-use Rattle.cltypes.specs.Views.{target_of, statements}
-use Rattle.cltypes.proofs.Follows.{inside_first, inside_second, neither_of}
+use Rattle.cltypes_scope.specs.declared.faults.Operand.{Operand}
+use Rattle.cltypes_scope.specs.Answers.{Checks}
+use Rattle.cltypes_limits.specs.Limits.{statements}
+use Rattle.clmodel.proofs.Trees.{next_statement, then_rest}
+use Rattle.cltypes.specs.Views.{target_of}
+use Rattle.cltypes_scope.proofs.Follows.{inside_first, inside_second, neither_of}
 
 -- what is assigned to, and that is another
 
@@ -35,11 +31,11 @@ left_around : (c : Context) (x : ℕ) (k : VariableType) (scopes : List Scope) �
 left_around c x k [] = refl
 left_around c x k (scope ∷ scopes) = refl
 
-left_after : (c : Context) (s : Stmt) → left (after c s) ≡ left c
-left_after c (tree.Empty a) = refl
-left_after c (tree.Block a ss) = refl
+pub left_after : (c : Context) (s : Stmt) → left (after c s) ≡ left c
 left_after c (tree.Declare a k b x) = left_around c x k c.outer
 left_after c (tree.DeclareAs a k b x e) = left_around c x k c.outer
+left_after c (tree.Empty a) = refl
+left_after c (tree.Block a ss) = refl
 left_after c (tree.DeclareArray a is_local t b x d n) = refl
 left_after c (tree.Assign a p op e) = refl
 left_after c (tree.Step a p is_increment) = refl
@@ -54,6 +50,10 @@ left_after c (tree.Continue a) = refl
 left_after c (tree.Return a) = refl
 left_after c (tree.ReturnValue a e) = refl
 
+pub left_part : (c : Context) (s : MaybeStmt) → left (after_part c s) ≡ left c
+left_part c Without = refl
+left_part c (With s) = left_after c s
+
 pub left_all : (c : Context) (ss : Stmts) → left (after_all c ss) ≡ left c
 left_all c NoStmt = refl
 left_all c (ThenStmt ss s) = left_after (after_all c ss) s ∙ left_all c ss
@@ -61,36 +61,11 @@ left_all c (ThenStmt ss s) = left_after (after_all c ss) s ∙ left_all c ss
 pub left_block : (c : Context) (ss : Stmts) → left (after_all (enter c) ss) ≡ c
 left_block c ss = left_all (enter c) ss
 
--- a block as the plain tree has it
-
-row_list : (ss : Stmts) (m : Count) (row : rust.Row_of-Statement m) → row_stmts ss row ≡ then_stmts ss (map stmt (items-the_row-Statement m row))
-row_list ss _ rust.end_of-Statement = refl
-row_list ss _ (rust.more_of-Statement s rest) = row_list (ThenStmt ss (stmt s)) _ rest
-
-from_items : (m : Count) (row : rust.Row_of-Statement m) (ss : List Statement) → items-the_row-Statement m row ≡ ss → row_stmts NoStmt row ≡ statements ss
-from_items m row ss e = row_list NoStmt m row ∙ ap (λ xs. then_stmts NoStmt (map stmt xs)) e
-
-pub block_view : (at : ℕ) (v : Vec Statement Global) → stmt (rust.Block at v) ≡ tree.Block at (statements v.items)
-block_view at v = ap (λ ss. tree.Block at ss) (from_items _ (hidden-the_row-Statement-0 v) v.items (items_hidden-the_row-Statement-0 v))
-
 -- a row of statements
 
 ahead : (c : Context) (ss : Stmts) (rest : List Statement) (f : TypeFault) → first (row_faults c ss) ≡ Some f → first (row_faults c (then_stmts ss (map stmt rest))) ≡ Some f
 ahead c ss [] f h = h
 ahead c ss (s ∷ rest) f h = ahead c (ThenStmt ss (stmt s)) rest f (inside_first (row_faults c ss) (faults (after_all c ss) (stmt s)) f h)
-
-then_rest : (ts : Stmts) (ss : List Statement) (i : ℕ) → then_stmts ts (map stmt ss) ≡ then_stmts (then_stmts ts (map stmt (take i ss))) (map stmt (drop i ss))
-then_rest ts ss zero = refl
-then_rest ts [] (suc i) = refl
-then_rest ts (s ∷ ss) (suc i) = then_rest (ThenStmt ts (stmt s)) ss i
-
-then_one : (ts : Stmts) (ss : List Statement) (s : Statement) → then_stmts ts (map stmt (ss ++ s ∷ [])) ≡ ThenStmt (then_stmts ts (map stmt ss)) (stmt s)
-then_one ts [] s = refl
-then_one ts (t ∷ ss) s = then_one (ThenStmt ts (stmt t)) ss s
-
-pub next_statement : (ss : List Statement) (i : ℕ) (s : Statement) → i < length ss → s ≡ get_or ss i s → statements (take (i + 1) ss) ≡ ThenStmt (statements (take i ss)) (stmt s)
-next_statement ss i s h g =
-    ap statements (take_more ss i s h) ∙ then_one NoStmt (take i ss) (get_or ss i s) ∙ ap (λ t. ThenStmt (statements (take i ss)) (stmt t)) (sym g)
 
 pub statement_inside : (c d : Context) (ss : List Statement) (i : ℕ) (s : Statement) (f : TypeFault) → i < length ss → s ≡ get_or ss i s
     → d ≡ after_all c (statements (take i ss)) → first (row_faults c (statements (take i ss))) ≡ None

@@ -1,5 +1,5 @@
 -- A call's own faults against the rule of what is called, by the types of its arguments.
-use Rattle.std.proofs.Common.{◌≡◌, ℕ, Bool, true, false, not, ◌||◌, nat_eq, cond, List, [], ◌∷◌, ◌++◌, length, Option, None, Some, refl, sym, ap, ◌∙◌, subst, arith}
+use Rattle.std.proofs.Common.{◌≡◌, ℕ, Bool, true, false, not, ◌||◌, nat_eq, cond, ◌&&◌, ◌⊎◌, inl, inr, List, [], ◌∷◌, ◌++◌, length, Option, None, Some, refl, sym, ap, ◌∙◌, subst, arith}
 use Rattle.std.proofs.lemmas.Bool.Decides.{nat_tests}
 use Rattle.std.proofs.lemmas.List.{length-append}
 use Rattle.clnum.specs.Builtins.{is_same}
@@ -14,11 +14,11 @@ use Rattle.clmodel.specs.declared.tree.VariableType.{VariableType}
 use Rattle.clmodel.specs.declared.tree.VariableType.TheVariants.{Integer as Number, Pointer}
 use Rattle.clmodel.specs.declared.type_fault.TypeFault.TheVariants as fault
 use Rattle.clmodel.specs.Tree.{Term, Terms, NoTerm, ThenTerm}
-use Rattle.clmodel.specs.Typing.Context.{Context, Meaning, Bound, Callable, BuiltInFunction, Unknown}
+use Rattle.clmodel.specs.Typing.Context.{Context, Signature, Meaning, Bound, Callable, Current, BuiltInFunction, Unknown}
 use Rattle.clmodel.specs.Typing.Least.{least}
 use Rattle.clmodel.specs.Typing.Rules as rule
-use Rattle.clmodel.specs.Typing.Rules.{is_constant, is_writable, is_atomic, has_operand, Calls}
-use Rattle.clmodel.specs.Typing.Faults.{unless, start, integer_faults, Want, AnInteger, OfTypeBefore, AnAtomicPointer, atomic_wants, wants, has_value, count, callee_faults, same_faults, atomic_faults, argument_faults, call_kind, kind_of, last_kind, arguments_faults, call_faults}
+use Rattle.clmodel.specs.Typing.Rules.{is_constant, is_writable, is_atomic, has_operand, Calls, count}
+use Rattle.clmodel.specs.Typing.Faults.{unless, start, integer_faults, Want, AnInteger, OfTypeBefore, AnAtomicPointer, atomic_wants, wants, has_value, Spot, is_statement, takes_helper, helper_faults, callee_faults, same_faults, atomic_faults, argument_faults, call_kind, kind_of, last_kind, arguments_faults, call_faults}
 use Rattle.cltypes.proofs.Splits.{none_split, none_joined, some_fault, unless_none, unless_true, three_none, three_true, and_true, and_left, and_right}
 use Rattle.cltypes.proofs.Tables.{same_type_sound, same_type_complete}
 
@@ -56,11 +56,18 @@ counted_kinds c (ThenTerm es e) = length-append (kinds_of c es) (kind_of c e ∷
 
 -- what a call without a fault of its own is
 
-pub record IsCallee (whole : Bool) (m : Meaning) (n : ℕ) : Type 0 where
+pub record IsBuiltIn (spot : Spot) (m : Meaning) (n : ℕ) : Type 0 where
   pub function : BuiltIn
   pub is : m ≡ BuiltInFunction function
   pub counted : n ≡ length (wants function)
-  pub placed : (whole || has_value function) ≡ true
+  pub placed : (is_statement spot || has_value function) ≡ true
+
+pub record IsHelper (spot : Spot) (m : Meaning) (n : ℕ) : Type 0 where
+  pub signature : Signature
+  pub is : m ≡ Callable signature
+  pub placed : takes_helper spot ≡ true
+  pub is_helper : signature.is_kernel ≡ false
+  pub counted : n ≡ length signature.parameters
 
 same_count : (m n : ℕ) → nat_eq m n ≡ true → m ≡ n
 same_count m n e = grind (arith, nat_tests)
@@ -68,27 +75,50 @@ same_count m n e = grind (arith, nat_tests)
 count_test : (m n : ℕ) → m ≡ n → nat_eq m n ≡ true
 count_test m n e = grind (arith, nat_tests)
 
-pub callee_sound : (whole : Bool) (m : Meaning) (a n : ℕ) → least (callee_faults whole m a n) ≡ None → IsCallee whole m n
-callee_sound whole (BuiltInFunction f) a n e =
-    let r = none_split (unless (nat_eq n (length (wants f))) (fault.WrongArgumentCount a)) (unless (whole || has_value f) (fault.AtomicValueUsed a)) e in
+not_true : (b : Bool) → not b ≡ true → b ≡ false
+not_true false h = refl
+not_true true h = absurd (cc)
+
+helper_sound : (spot : Spot) (s : Signature) (a n : ℕ) → least (helper_faults spot s a n) ≡ None → IsHelper spot (Callable s) n
+helper_sound spot s a n e =
+    let r = none_split (unless (takes_helper spot && not s.is_kernel) (fault.TypeMismatch a)) (unless (nat_eq n (length s.parameters)) (fault.WrongArgumentCount a)) e in
+    let t = unless_none (takes_helper spot && not s.is_kernel) (fault.TypeMismatch a) r.0 in
     record {
+      signature = s;
+      is = refl;
+      placed = and_left (takes_helper spot) (not s.is_kernel) t;
+      is_helper = not_true s.is_kernel (and_right (takes_helper spot) (not s.is_kernel) t);
+      counted = same_count n (length s.parameters) (unless_none (nat_eq n (length s.parameters)) (fault.WrongArgumentCount a) r.1);
+    }
+
+pub callee_sound : (spot : Spot) (m : Meaning) (a n : ℕ) → least (callee_faults spot m a n) ≡ None → IsBuiltIn spot m n ⊎ IsHelper spot m n
+callee_sound spot (BuiltInFunction f) a n e =
+    let r = none_split (unless (nat_eq n (length (wants f))) (fault.WrongArgumentCount a)) (unless (is_statement spot || has_value f) (fault.AtomicValueUsed a)) e in
+    inl (record {
       function = f;
       is = refl;
       counted = same_count n (length (wants f)) (unless_none (nat_eq n (length (wants f))) (fault.WrongArgumentCount a) r.0);
-      placed = unless_none (whole || has_value f) (fault.AtomicValueUsed a) r.1;
-    }
-callee_sound whole (Bound k) a n e = absurd (some_fault (fault.TypeMismatch a) [] e)
-callee_sound whole Callable a n e = absurd (some_fault (fault.TypeMismatch a) [] e)
-callee_sound whole Unknown a n e = absurd (some_fault (fault.UnknownName a) [] e)
+      placed = unless_none (is_statement spot || has_value f) (fault.AtomicValueUsed a) r.1;
+    })
+callee_sound spot (Callable s) a n e = inr (helper_sound spot s a n e)
+callee_sound spot (Current s) a n e = absurd (some_fault (fault.Recursion a) [] (none_split (helper_faults spot s a n) (fault.Recursion a ∷ []) e).1)
+callee_sound spot (Bound k) a n e = absurd (some_fault (fault.TypeMismatch a) [] e)
+callee_sound spot Unknown a n e = absurd (some_fault (fault.UnknownName a) [] e)
 
-callee_complete : (whole : Bool) (f : BuiltIn) (a n : ℕ) → n ≡ length (wants f) → (whole || has_value f) ≡ true
-    → least (callee_faults whole (BuiltInFunction f) a n) ≡ None
-callee_complete whole f a n h p =
+callee_complete : (spot : Spot) (f : BuiltIn) (a n : ℕ) → n ≡ length (wants f) → (is_statement spot || has_value f) ≡ true
+    → least (callee_faults spot (BuiltInFunction f) a n) ≡ None
+callee_complete spot f a n h p =
     none_joined
     (unless (nat_eq n (length (wants f))) (fault.WrongArgumentCount a))
-    (unless (whole || has_value f) (fault.AtomicValueUsed a))
+    (unless (is_statement spot || has_value f) (fault.AtomicValueUsed a))
     (unless_true (nat_eq n (length (wants f))) (fault.WrongArgumentCount a) (count_test n (length (wants f)) h))
-    (unless_true (whole || has_value f) (fault.AtomicValueUsed a) p)
+    (unless_true (is_statement spot || has_value f) (fault.AtomicValueUsed a) p)
+
+pub helper_complete : (spot : Spot) (s : Signature) (a n : ℕ) → takes_helper spot ≡ true → s.is_kernel ≡ false → n ≡ length s.parameters → least (callee_faults spot (Callable s) a n) ≡ None
+helper_complete spot s a n p k h =
+    none_joined (unless (takes_helper spot && not s.is_kernel) (fault.TypeMismatch a)) (unless (nat_eq n (length s.parameters)) (fault.WrongArgumentCount a))
+    (unless_true (takes_helper spot && not s.is_kernel) (fault.TypeMismatch a) (and_true (takes_helper spot) (not s.is_kernel) p (ap not k)))
+    (unless_true (nat_eq n (length s.parameters)) (fault.WrongArgumentCount a) (count_test n (length s.parameters) h))
 
 -- the pointer of an atomic function
 
@@ -238,10 +268,10 @@ calls_complete c _ es _ _ (rule.atomic_alone {f = f} {p = p} b e w) h =
 
 -- the own faults of a call
 
-pub own_complete : (c : Context) (whole : Bool) (f : BuiltIn) (a : ℕ) (es : Terms) (r : Option VariableType) → IsCalled c f es r → (whole || has_value f) ≡ true
-    → least (call_faults c whole (BuiltInFunction f) a es) ≡ None
-own_complete c whole f a es r h p =
-    none_joined (callee_faults whole (BuiltInFunction f) a (count es)) (arguments_faults c (wants f) es) (callee_complete whole f a (count es) h.counted p) h.faultless
+pub own_complete : (c : Context) (spot : Spot) (f : BuiltIn) (a : ℕ) (es : Terms) (r : Option VariableType) → IsCalled c f es r → (is_statement spot || has_value f) ≡ true
+    → least (call_faults c spot (BuiltInFunction f) a es) ≡ None
+own_complete c spot f a es r h p =
+    none_joined (callee_faults spot (BuiltInFunction f) a (count es)) (arguments_faults c (wants f) es) (callee_complete spot f a (count es) h.counted p) h.faultless
 
 pub has_some : (f : BuiltIn) (k j : VariableType) → given f k ≡ Some j → (has_value f ≡ true) × (call_kind (BuiltInFunction f) k ≡ j)
 has_some f k j e = by (has_value f) refl e

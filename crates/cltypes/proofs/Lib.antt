@@ -1,13 +1,11 @@
-pub mod Least
 pub mod Splits
 pub mod Tables
 pub mod CallTables
 pub mod Exact
+pub mod Helpers
+pub mod ExactStatements
 pub mod Programs
-pub mod Views
-pub mod Follows
-pub mod Arguments
-pub mod Calls
 pub mod Bodies
+pub mod Control
 pub mod Headings
 pub mod Texts

@@ -1,5 +1,5 @@
 -- A program is typed exactly where none of its places has a fault.
-use Rattle.std.proofs.Common.{◌≡◌, ℕ, ◌≤◌, true, nat_le, List, [], ◌∷◌, ◌++◌, Option, None, Some, refl, arith}
+use Rattle.std.proofs.Common.{◌≡◌, ℕ, ◌≤◌, Bool, true, false, not, ◌||◌, nat_le, List, [], ◌∷◌, ◌++◌, Option, None, Some, is_some, refl, arith}
 use Rattle.std.proofs.lemmas.Bool.Decides.{nat_tests}
 use Rattle.clmodel.specs.declared.tree.Parameter.{Parameter}
 use Rattle.clmodel.specs.declared.type_fault.TypeFault.{TypeFault}
@@ -8,13 +8,13 @@ use Rattle.clmodel.specs.Tree.{Func, Funcs, NoFunc, ThenFunc, Program}
 use Rattle.clmodel.specs.Typing.Context.{Context, is_free, bind}
 use Rattle.clmodel.specs.Typing.Least.{least, first}
 use Rattle.clmodel.specs.Typing.Faults.{unless, declared_faults, row_faults}
-use Rattle.clmodel.specs.Typing.Sizes.{row_nodes, node_limit}
-use Rattle.clmodel.specs.Typing.Functions.{names, begin, with_params, AreParams, is_new, IsTypedFunction, AreTypedFunctions, params_faults, heading_faults, size_faults, function_faults, functions_faults, program_faults}
+use Rattle.clmodel.specs.Typing.Sizes.{Size, loop_limit, node_limit, row_returns}
+use Rattle.clmodel.specs.Typing.Functions.{names, begin, with_params, AreParams, is_new, size_of, IsTypedFunction, AreTypedFunctions, params_faults, heading_faults, end_faults, function_faults, functions_faults, program_faults}
 use Rattle.clmodel.specs.Typing.{IsTypedProgram, IsTypeFault}
 use Rattle.cltypes.specs.Answers.{IsExactlyTyped}
-use Rattle.cltypes.proofs.Least.{earlier_none, first_none, first_some, one_least}
-use Rattle.cltypes.proofs.Splits.{none_split, none_joined, places_split, places_joined, one_place, place_then, unless_none, unless_true}
-use Rattle.cltypes.proofs.Exact.{row_sound, row_complete}
+use Rattle.cltypes_scope.proofs.Least.{earlier_none, first_none, first_some, one_least}
+use Rattle.cltypes.proofs.Splits.{places_split, places_joined, one_place, place_then, unless_none, unless_true}
+use Rattle.cltypes.proofs.ExactStatements.{row_sound, row_complete}
 
 params_sound : (c : Context) (ps : List Parameter) → first (params_faults c ps) ≡ None → AreParams c ps
 params_sound c [] n = tt
@@ -34,40 +34,76 @@ same_le m n e = grind (arith, nat_tests)
 le_test : (m n : ℕ) → m ≤ n → nat_le m n ≡ true
 le_test m n e = grind (arith, nat_tests)
 
-heading_sound : (fs : Funcs) (f : Func) → least (heading_faults fs f) ≡ None → (is_new fs f.name ≡ true) × (f.is_kernel ≡ true)
-heading_sound fs f n =
-    let r = none_split (unless (is_new fs f.name) (fault.Redeclared f.name_at)) (unless f.is_kernel (fault.TypeMismatch f.name_at)) n in
-    (unless_none (is_new fs f.name) (fault.Redeclared f.name_at) r.0, unless_none f.is_kernel (fault.TypeMismatch f.name_at) r.1)
+-- what holds where another does
+where_it : (b d : Bool) → (not b || d) ≡ true → b ≡ true → d ≡ true
+where_it true d h e = h
+where_it false d h e = absurd (cc)
 
-heading_complete : (fs : Funcs) (f : Func) → is_new fs f.name ≡ true → f.is_kernel ≡ true → least (heading_faults fs f) ≡ None
-heading_complete fs f n k =
-    none_joined (unless (is_new fs f.name) (fault.Redeclared f.name_at)) (unless f.is_kernel (fault.TypeMismatch f.name_at))
-    (unless_true (is_new fs f.name) (fault.Redeclared f.name_at) n) (unless_true f.is_kernel (fault.TypeMismatch f.name_at) k)
+or_not : (b d : Bool) → (b ≡ true → d ≡ true) → (not b || d) ≡ true
+or_not true d h = h refl
+or_not false d h = refl
+
+-- the end of a function's body, of this size
+record HasEnd (f : Func) (s : Size) : Type 0 where
+  returns : is_some f.result ≡ true → row_returns f.body ≡ true
+  loops : f.is_kernel ≡ true → s.loops ≤ loop_limit
+  nodes : f.is_kernel ≡ true → s.nodes ≤ node_limit
+
+end_sound : (f : Func) (s : Size) → first (end_faults f s) ≡ None → HasEnd f s
+end_sound f s n =
+    let a = not (is_some f.result) || row_returns f.body in
+    let b = not f.is_kernel || nat_le s.loops loop_limit in
+    let d = not f.is_kernel || nat_le s.nodes node_limit in
+    let p = unless a (fault.MissingReturn f.name_at) in
+    let q = unless b (fault.TooManyLoops f.name_at) in
+    let r = unless d (fault.TooLarge f.name_at) in
+    let t = earlier_none (least p) (first (q ∷ r ∷ [])) n in
+    let u = earlier_none (least q) (first (r ∷ [])) t.1 in
+    record {
+      returns = where_it (is_some f.result) (row_returns f.body) (unless_none a (fault.MissingReturn f.name_at) t.0);
+      loops = λ k. same_le s.loops loop_limit (where_it f.is_kernel (nat_le s.loops loop_limit) (unless_none b (fault.TooManyLoops f.name_at) u.0) k);
+      nodes = λ k. same_le s.nodes node_limit (where_it f.is_kernel (nat_le s.nodes node_limit) (unless_none d (fault.TooLarge f.name_at) (one_place r u.1)) k);
+    }
+
+end_complete : (f : Func) (s : Size) → HasEnd f s → first (end_faults f s) ≡ None
+end_complete f s h =
+    let a = not (is_some f.result) || row_returns f.body in
+    let b = not f.is_kernel || nat_le s.loops loop_limit in
+    let d = not f.is_kernel || nat_le s.nodes node_limit in
+    let p = unless a (fault.MissingReturn f.name_at) in
+    let q = unless b (fault.TooManyLoops f.name_at) in
+    let r = unless d (fault.TooLarge f.name_at) in
+    place_then p (q ∷ r ∷ []) (unless_true a (fault.MissingReturn f.name_at) (or_not (is_some f.result) (row_returns f.body) h.returns))
+    (place_then q (r ∷ []) (unless_true b (fault.TooManyLoops f.name_at) (or_not f.is_kernel (nat_le s.loops loop_limit) (λ k. le_test s.loops loop_limit (h.loops k))))
+    (place_then r [] (unless_true d (fault.TooLarge f.name_at) (or_not f.is_kernel (nat_le s.nodes node_limit) (λ k. le_test s.nodes node_limit (h.nodes k)))) refl))
 
 function_sound : (all : List ℕ) (fs : Funcs) (f : Func) → first (function_faults all fs f) ≡ None → IsTypedFunction all fs f
 function_sound all fs f n =
     let params = params_faults (begin all fs f) f.parameters in
     let body = row_faults (with_params (begin all fs f) f.parameters) f.body in
-    let r = earlier_none (least (heading_faults fs f)) (first (params ++ body ++ size_faults f ∷ [])) n in
-    let s = heading_sound fs f r.0 in
-    let t = places_split (params ++ body) (size_faults f ∷ []) r.1 in
+    let end = end_faults f (size_of fs f) in
+    let r = earlier_none (least (heading_faults fs f)) (first (params ++ body ++ end)) n in
+    let t = places_split (params ++ body) end r.1 in
     let u = places_split params body t.0 in
+    let e = end_sound f (size_of fs f) t.1 in
     record {
-      kernel = s.1;
-      name = s.0;
+      name = unless_none (is_new fs f.name) (fault.Redeclared f.name_at) r.0;
       parameters = params_sound (begin all fs f) f.parameters u.0;
       body = row_sound (with_params (begin all fs f) f.parameters) f.body u.1;
-      size = same_le (row_nodes f.body) node_limit (unless_none (nat_le (row_nodes f.body) node_limit) (fault.TooLarge f.name_at) (one_place (size_faults f) t.1));
+      returns = e.returns;
+      loops = e.loops;
+      nodes = e.nodes;
     }
 
 function_complete : (all : List ℕ) (fs : Funcs) (f : Func) → IsTypedFunction all fs f → first (function_faults all fs f) ≡ None
 function_complete all fs f h =
     let params = params_faults (begin all fs f) f.parameters in
     let body = row_faults (with_params (begin all fs f) f.parameters) f.body in
-    place_then (heading_faults fs f) (params ++ body ++ size_faults f ∷ []) (heading_complete fs f h.name h.kernel)
-    (places_joined (params ++ body) (size_faults f ∷ [])
+    let end = end_faults f (size_of fs f) in
+    place_then (heading_faults fs f) (params ++ body ++ end) (unless_true (is_new fs f.name) (fault.Redeclared f.name_at) h.name)
+    (places_joined (params ++ body) end
     (places_joined params body (params_complete (begin all fs f) f.parameters h.parameters) (row_complete (with_params (begin all fs f) f.parameters) f.body h.body))
-    (place_then (size_faults f) [] (unless_true (nat_le (row_nodes f.body) node_limit) (fault.TooLarge f.name_at) (le_test (row_nodes f.body) node_limit h.size)) refl))
+    (end_complete f (size_of fs f) (record { returns = h.returns; loops = h.loops; nodes = h.nodes })))
 
 functions_sound : (all : List ℕ) (fs : Funcs) → first (functions_faults all fs) ≡ None → AreTypedFunctions all fs
 functions_sound all NoFunc n = tt

@@ -3,7 +3,7 @@ use Rattle.std.proofs.Common.{◌≡◌, Bool, true, false, not, ◌||◌, ◌&&
 use Rattle.clmodel.specs.declared.type_fault.TypeFault.{TypeFault}
 use Rattle.clmodel.specs.Typing.Least.{Places, head, lesser, least, earlier, first, node}
 use Rattle.clmodel.specs.Typing.Faults.{unless}
-use Rattle.cltypes.proofs.Least.{lesser_none, least_append, first_append, first_node, earlier_none, least_none}
+use Rattle.cltypes_scope.proofs.Least.{lesser_none, least_append, first_append, first_node, earlier_none, least_none}
 
 pub none_split : (fs gs : List TypeFault) → least (fs ++ gs) ≡ None → (least fs ≡ None) × (least gs ≡ None)
 none_split fs gs e = lesser_none (least fs) (least gs) (sym (least_append fs gs) ∙ e)

@@ -8,20 +8,18 @@ use Rattle.clmodel.specs.declared.type_fault.TypeFault.{TypeFault}
 use Rattle.clmodel.specs.declared.type_fault.TypeFault.TheVariants as fault
 use Rattle.clmodel.specs.Tree.{Funcs, NoFunc, ThenFunc, then_funcs, func, Program, program}
 use Rattle.clmodel.specs.Typing.{IsTypedProgram, IsTypeFault}
-use Rattle.clmodel.specs.Typing.Context.{Context, with_name}
+use Rattle.clmodel.specs.Typing.Context.{Context, Signature}
+use Rattle.clmodel.specs.Typing.Sizes.{Sizes}
+use Rattle.cltypes_limits.specs.Limits.{IsSummary}
 use Rattle.clmodel.specs.Typing.Least.{first}
-use Rattle.clmodel.specs.Typing.Functions.{names, function_faults, functions_faults, program_faults}
+use Rattle.clmodel.specs.Typing.Functions.{names, signature, signatures, function_faults, functions_faults, program_faults}
 use Rattle.cltypes_scope.specs.Names.{with_function}
 use Rattle.cltypes.specs.Answers.{IsFaultOf}
-use Rattle.cltypes.specs.Views.{functions_of}
-use Rattle.cltypes.proofs.Follows.{inside_first, inside_second, neither_of}
+use Rattle.cltypes.specs.Views.{functions_of, known}
+use Rattle.cltypes_scope.proofs.Follows.{inside_first, inside_second, neither_of}
 use Rattle.cltypes.proofs.Programs.{program_sound, program_fault, typed_has_none}
 
 -- their names
-
--- where the text's functions have these names
-abbrev pub known : List ℕ → Context
-known all = record { all = all; begun = []; inner = []; outer = [] }
 
 then_one : (gs : Funcs) (fs : List Function) (f : Function) → then_funcs gs (map func (fs ++ f ∷ [])) ≡ ThenFunc (then_funcs gs (map func fs)) (func f)
 then_one gs [] f = refl
@@ -31,9 +29,13 @@ next_function : (fs : List Function) (i : ℕ) (f : Function) → i < length fs 
 next_function fs i f h g =
     ap functions_of (take_more fs i f h) ∙ then_one NoFunc (take i fs) (get_or fs i f) ∙ ap (λ z. ThenFunc (functions_of (take i fs)) (func z)) (sym g)
 
-pub names_more : (fs : List Function) (i : ℕ) (f : Function) (begun now : List ℕ) → i < length fs → f ≡ get_or fs i f → names (functions_of (take i fs)) ≡ begun
-    → now ≡ with_name begun f.name → names (functions_of (take (i + 1) fs)) ≡ now
-names_more fs i f begun now h g n e = ap names (next_function fs i f h g) ∙ ap (λ z. with_name z f.name) n ∙ sym e
+pub signatures_more : (fs : List Function) (i : ℕ) (f : Function) (before now : List (ℕ × Signature)) → i < length fs → f ≡ get_or fs i f → signatures (functions_of (take i fs)) ≡ before
+    → now ≡ before ++ (f.name, signature (func f)) ∷ [] → signatures (functions_of (take (i + 1) fs)) ≡ now
+signatures_more fs i f before now h g n e = ap signatures (next_function fs i f h g) ∙ ap (λ z. z ++ (f.name, signature (func f)) ∷ []) n ∙ sym e
+
+pub summary_more : (fs : List Function) (i : ℕ) (f : Function) (table : Sizes) → i < length fs → f ≡ get_or fs i f → IsSummary table (ThenFunc (functions_of (take i fs)) (func f))
+    → IsSummary table (functions_of (take (i + 1) fs))
+summary_more fs i f table h g s = subst (λ z. IsSummary table z) (sym (next_function fs i f h g)) s
 
 pub known_more : (c d : Context) (fs : List Function) (i : ℕ) (f : Function) → i < length fs → f ≡ get_or fs i f → c ≡ known (names (functions_of (take i fs)))
     → d ≡ with_function c f.name → d ≡ known (names (functions_of (take (i + 1) fs)))

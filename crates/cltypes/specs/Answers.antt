@@ -18,11 +18,6 @@ pub record IsExactlyTyped (program : Program) : Type 0 where
 unfoldable pub IsTypedExactly : Type 0
 IsTypedExactly = (program : Program) → IsExactlyTyped program
 
--- the value that is wanted where there is no fault, else the fault
-abbrev pub Checks : {A : Type 0} → Result A TypeFault → Option TypeFault → A → Type 0
-Checks (Ok a) fault wanted = (fault ≡ None) × (a ≡ wanted)
-Checks (Err f) fault wanted = fault ≡ Some f
-
 -- no fault, or the fault, or want of memory
 abbrev pub Ends : {A : Type 0} → Result A TypeFault → Option TypeFault → Type 0
 Ends (Ok a) o = o ≡ None

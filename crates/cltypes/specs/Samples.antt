@@ -1,30 +1,42 @@
 -- Statements in a kernel and whole texts, each with its first fault; the offsets of statements count from the first one's start.
-use Rattle.std.specs.Prelude.{◌≡◌, ℕ, pos, true, false, List, [], ◌∷◌, map, Option, None, Some}
+use Prim.Native.Nat.{zero, suc}
+use Rattle.std.specs.Prelude.{◌≡◌, ℕ, ◌+◌, pos, true, false, List, [], ◌∷◌, map, Option, None, Some}
 use Rattle.clnum.specs.declared.int_type.IntType.{IntType}
 use Rattle.clnum.specs.declared.int_type.IntType.TheVariants.{Char, Int, Long}
-use Rattle.clnum.specs.declared.operators.BinaryOperator.TheVariants.{Add, Subtract, Multiply, Equal}
+use Rattle.clnum.specs.declared.operators.BinaryOperator.TheVariants.{Add, Subtract, Multiply, BitOr, Equal}
 use Rattle.clmodel.specs.declared.tree.AddressSpace.TheVariants.{Global, Constant}
 use Rattle.clmodel.specs.declared.tree.InfixOperator.TheVariants.{Arithmetic, LogicalAnd}
 use Rattle.clmodel.specs.declared.tree.Parameter.{Parameter}
 use Rattle.clmodel.specs.declared.tree.VariableType.{VariableType}
 use Rattle.clmodel.specs.declared.tree.VariableType.TheVariants as kind
 use Rattle.clmodel.specs.declared.type_fault.TypeFault.{TypeFault}
-use Rattle.clmodel.specs.declared.type_fault.TypeFault.TheVariants.{UnknownName, Redeclared, TypeMismatch, NotAssignable, WrongArgumentCount, WrongSpace, AtomicValueUsed}
-use Rattle.clmodel.specs.Tree.{Term, NoTerm, Number, Variable, Element, ElementAddress, Dereference, Call, Cast, Binary, Choice, Whole, Part, Behind, Stmt, Stmts, NoStmt, then_all, then_stmts, Func, Funcs, NoFunc, then_funcs, Empty, Block, Declare, DeclareAs, Assign, Step, CallOnly}
-use Rattle.clmodel.specs.Typing.Context.{Context}
+use Rattle.clmodel.specs.declared.type_fault.TypeFault.TheVariants.{UnknownName, Redeclared, TypeMismatch, NotAssignable, Recursion, WrongArgumentCount, WrongSpace, AtomicValueUsed, TooManyLoops, TooLarge, MissingReturn}
+use Rattle.clmodel.specs.Tree.{Term, NoTerm, Number, Variable, Element, ElementAddress, Dereference, Call, Cast, Binary, Choice, Whole, Part, Behind, Stmt, Stmts, NoStmt, then_all, then_stmts, Func, Funcs, NoFunc, ThenFunc, then_funcs, Empty, Block, Declare, DeclareAs, Assign, Step, CallOnly, If, IfElse, While, DoWhile, For, Break, Continue, Return, ReturnValue, Without, With, Always, While_}
+use Rattle.clmodel.specs.Typing.Context.{Context, Signature}
 use Rattle.clmodel.specs.Typing.Least.{first}
 use Rattle.clmodel.specs.Typing.Faults.{row_faults}
 use Rattle.clmodel.specs.Typing.Functions.{names, functions_faults}
-use Rattle.clmodel.specs.Typing.Sizes.{nodes}
+use Rattle.clmodel.specs.Typing.Sizes.{Sizes, size}
 
 abbrev global : IntType → VariableType
 global t = kind.Pointer (record { space = Global; is_const = false; element = t })
 
+abbrev helper : Option IntType → List VariableType → Signature
+helper result parameters = record { is_kernel = false; result = result; parameters = parameters }
+
+-- behind: int h(int); void v(); char g(__global int *); __kernel void k()
 -- the parameters: __global int *a, __global const int *c, __constant int *t, __global long *w, int n, char b
 abbrev here : Context
 here = record {
-  all = 26 ∷ [];
-  begun = 26 ∷ [];
+  all = 26 ∷ 42 ∷ 43 ∷ 44 ∷ 45 ∷ [];
+  before = (42, helper (Some Int) (kind.Integer Int ∷ []))
+      ∷ (43, helper None [])
+      ∷ (44, helper (Some Char) (global Int ∷ []))
+      ∷ (45, record { is_kernel = true; result = None; parameters = [] })
+      ∷ [];
+  current = 26;
+  signature = record { is_kernel = true; result = None; parameters = [] };
+  in_loop = false;
   inner = (27, global Int)
       ∷ (28, kind.Pointer (record { space = Global; is_const = true; element = Int }))
       ∷ (29, kind.Pointer (record { space = Constant; is_const = false; element = Int }))
@@ -158,29 +170,130 @@ samples =
     ∷ (set (Binary 4 LogicalAnd (a 4) (z 9)), Some (UnknownName 9))
     -- n = n ? 1 : a;
     ∷ (set (Choice 4 (n 4) (one 8) (a 12)), Some (TypeMismatch 12))
+    -- if (a) z = 1;  A condition comes after what it controls.
+    ∷ (only (If 0 (a 4) (Assign 7 (Whole 7 41) None (one 11))), Some (UnknownName 7))
+    -- if (a) n = 1;
+    ∷ (only (If 0 (a 4) (Assign 7 (Whole 7 31) None (one 11))), Some (TypeMismatch 4))
+    -- if (n) ; else break;
+    ∷ (only (IfElse 0 (n 4) (Empty 7) (Break 14)), Some (TypeMismatch 14))
+    -- while (n) { if (n) break; else continue; }
+    ∷ (only (While 0 (n 7) (Block 10 (then_stmts NoStmt (IfElse 12 (n 16) (Break 19) (Continue 31) ∷ [])))), None)
+    -- continue;
+    ∷ (only (Continue 0), Some (TypeMismatch 0))
+    -- do z++; while (a);
+    ∷ (only (DoWhile 0 (Step 3 (Whole 3 41) true) (a 14)), Some (UnknownName 3))
+    -- do n++; while (a);
+    ∷ (only (DoWhile 0 (Step 3 (Whole 3 31) true) (a 14)), Some (TypeMismatch 14))
+    -- for (int x = 0; x; x++) { int x = x; }
+    ∷ (
+      only (For 0 (With (DeclareAs 5 (kind.Integer Int) 9 33 (one 13))) (While_ (x 16)) (With (Step 19 (Whole 19 33) true))
+          (Block 24 (then_stmts NoStmt (DeclareAs 26 (kind.Integer Int) 30 33 (x 34) ∷ [])))),
+      None,
+    )
+    -- for (int x = 1; ; ) ; x++;
+    ∷ (
+      then_stmts NoStmt (For 0 (With (DeclareAs 5 (kind.Integer Int) 9 33 (one 13))) Always Without (Empty 20) ∷ Step 22 (Whole 22 33) true ∷ []),
+      Some (UnknownName 22),
+    )
+    -- for (; a; z++) y++;  In the order of the text, and the condition last.
+    ∷ (only (For 0 Without (While_ (a 7)) (With (Step 10 (Whole 10 41) true)) (Step 15 (Whole 15 40) true)), Some (UnknownName 10))
+    -- for (; a; n++) n++;
+    ∷ (only (For 0 Without (While_ (a 7)) (With (Step 10 (Whole 10 31) true)) (Step 15 (Whole 15 31) true)), Some (TypeMismatch 7))
+    -- return 1;
+    ∷ (only (ReturnValue 0 (one 7)), Some (TypeMismatch 0))
+    -- return;
+    ∷ (only (Return 0), None)
+    -- h(1);
+    ∷ (only (CallOnly 0 42 (then_all NoTerm (one 2 ∷ []))), None)
+    -- n = h(1);
+    ∷ (set (call 4 42 (one 6 ∷ [])), None)
+    -- n += h(1);
+    ∷ (only (Assign 0 (Whole 0 31) (Some Add) (call 5 42 (one 7 ∷ []))), None)
+    -- int x = h(1);
+    ∷ (only (DeclareAs 0 (kind.Integer Int) 4 33 (call 8 42 (one 10 ∷ []))), None)
+    -- n = h(1) + 1;  A helper isn't called inside an expression.
+    ∷ (set (Binary 4 (Arithmetic Add) (call 4 42 (one 6 ∷ [])) (one 11)), Some (TypeMismatch 4))
+    -- h(h(1));
+    ∷ (only (CallOnly 0 42 (then_all NoTerm (call 2 42 (one 4 ∷ []) ∷ []))), Some (TypeMismatch 2))
+    -- if (h(1)) ;
+    ∷ (only (If 0 (call 4 42 (one 6 ∷ [])) (Empty 10)), Some (TypeMismatch 4))
+    -- n = v();  A void value used; before that its call's own fault.
+    ∷ (set (call 4 43 []), Some (TypeMismatch 4))
+    -- n = v(1);
+    ∷ (set (call 4 43 (one 6 ∷ [])), Some (WrongArgumentCount 4))
+    -- a *= v();
+    ∷ (only (Assign 0 (Whole 0 27) (Some Multiply) (call 5 43 [])), Some (TypeMismatch 0))
+    -- v();
+    ∷ (only (CallOnly 0 43 NoTerm), None)
+    -- h();
+    ∷ (only (CallOnly 0 42 NoTerm), Some (WrongArgumentCount 0))
+    -- h(a, 1);
+    ∷ (only (CallOnly 0 42 (then_all NoTerm (a 2 ∷ one 5 ∷ []))), Some (TypeMismatch 2))
+    -- h(z);
+    ∷ (only (CallOnly 0 42 (then_all NoTerm (z 2 ∷ []))), Some (UnknownName 2))
+    -- g(c);  Passed as assigned: a const dropped, another element, another space.
+    ∷ (only (CallOnly 0 44 (then_all NoTerm (c 2 ∷ []))), Some (NotAssignable 2))
+    -- g(w);
+    ∷ (only (CallOnly 0 44 (then_all NoTerm (w 2 ∷ []))), Some (TypeMismatch 2))
+    -- g(t);
+    ∷ (only (CallOnly 0 44 (then_all NoTerm (t 2 ∷ []))), Some (WrongSpace 2))
+    -- a = g(a);
+    ∷ (only (Assign 0 (Whole 0 27) None (call 4 44 (a 6 ∷ []))), Some (TypeMismatch 4))
+    -- k();  No kernel is called, nor this one.
+    ∷ (only (CallOnly 0 45 NoTerm), Some (TypeMismatch 0))
+    -- f();
+    ∷ (only (CallOnly 0 26 NoTerm), Some (TypeMismatch 0))
+    -- n = h;
+    ∷ (set (Variable 4 42), Some (TypeMismatch 4))
+    -- n(1);
+    ∷ (only (CallOnly 0 31 (then_all NoTerm (one 2 ∷ []))), Some (TypeMismatch 0))
+    -- int h;
+    ∷ (only (Declare 0 (kind.Integer Int) 4 42), Some (Redeclared 4))
     ∷ []
 
--- statements and how many nodes they have
-abbrev pub counted : List (Stmt × ℕ)
+-- the bodies of helpers: g has two nodes, and h a loop in a loop and ten nodes
+abbrev bodies : Sizes
+bodies = (44, record { loops = 0; nodes = 2 }) ∷ (42, record { loops = 2; nodes = 10 }) ∷ []
+
+-- statements, how many nodes they have and how deep their loops are nested
+abbrev pub counted : List (Stmt × (ℕ × ℕ))
 counted =
     -- n++;
-    (Step 0 (Whole 0 31) true, 2)
+    (Step 0 (Whole 0 31) true, (2, 0))
     -- n = 1;
-    ∷ (Assign 0 (Whole 0 31) None (one 4), 3)
+    ∷ (Assign 0 (Whole 0 31) None (one 4), (3, 0))
     -- a[n] = 1;
-    ∷ (Assign 0 (Part 0 27 (n 2)) None (one 7), 4)
+    ∷ (Assign 0 (Part 0 27 (n 2)) None (one 7), (4, 0))
     -- *a = 1;
-    ∷ (Assign 0 (Behind 0 (a 1)) None (one 5), 4)
+    ∷ (Assign 0 (Behind 0 (a 1)) None (one 5), (4, 0))
+    -- abs(1);
+    ∷ (CallOnly 0 10 (then_all NoTerm (one 4 ∷ [])), (2, 0))
     -- min(1, 1);
-    ∷ (CallOnly 0 8 (then_all NoTerm (one 4 ∷ one 7 ∷ [])), 3)
+    ∷ (CallOnly 0 8 (then_all NoTerm (one 4 ∷ one 7 ∷ [])), (3, 0))
     -- ;
-    ∷ (Empty 0, 1)
+    ∷ (Empty 0, (1, 0))
+    -- { }
+    ∷ (Block 0 NoStmt, (1, 0))
     -- { ; }
-    ∷ (Block 0 (then_stmts NoStmt (Empty 2 ∷ [])), 2)
+    ∷ (Block 0 (then_stmts NoStmt (Empty 2 ∷ [])), (2, 0))
     -- int x = 1;
-    ∷ (DeclareAs 0 (kind.Integer Int) 4 33 (one 8), 2)
+    ∷ (DeclareAs 0 (kind.Integer Int) 4 33 (one 8), (2, 0))
     -- __global int *x = &a[1];
-    ∷ (DeclareAs 0 (global Int) 14 33 (ElementAddress 18 19 27 (one 21)), 3)
+    ∷ (DeclareAs 0 (global Int) 14 33 (ElementAddress 18 19 27 (one 21)), (3, 0))
+    -- barrier(CLK_LOCAL_MEM_FENCE | CLK_GLOBAL_MEM_FENCE);
+    ∷ (CallOnly 0 14 (then_all NoTerm (Binary 8 (Arithmetic BitOr) (Variable 8 24) (Variable 30 25) ∷ [])), (4, 0))
+    -- if (n) ;
+    ∷ (If 0 (n 4) (Empty 7), (3, 0))
+    -- n = g(1);
+    ∷ (Assign 0 (Whole 0 31) None (call 4 44 (one 6 ∷ [])), (6, 0))
+    -- while (n) h(1);
+    ∷ (While 0 (n 7) (CallOnly 10 42 (then_all NoTerm (one 12 ∷ []))), (14, 3))
+    -- for (h(1); n; g(1)) ;  The first part isn't in the loop, the third is.
+    ∷ (For 0 (With (CallOnly 5 42 (then_all NoTerm (one 7 ∷ [])))) (While_ (n 11)) (With (CallOnly 14 44 (then_all NoTerm (one 16 ∷ [])))) (Empty 20), (19, 2))
+    -- for (; ; h(1)) ;
+    ∷ (For 0 Without Always (With (CallOnly 9 42 (then_all NoTerm (one 11 ∷ [])))) (Empty 15), (14, 3))
+    -- do while (n) ; while (n);
+    ∷ (DoWhile 0 (While 3 (n 10) (Empty 13)) (n 22), (5, 2))
     ∷ []
 
 abbrev parameter : (at name : ℕ) → Parameter
@@ -188,6 +301,23 @@ parameter at name = record { name_at = at; name = name; kind = kind.Integer Int 
 
 abbrev kernel : (at name : ℕ) → List Parameter → List Stmt → Func
 kernel at name ps ss = record { is_kernel = true; result = None; name_at = at; name = name; parameters = ps; body_at = at; body = then_stmts NoStmt ss }
+
+abbrev function : (result : Option IntType) → (at name : ℕ) → List Parameter → List Stmt → Func
+function t at name ps ss = record { is_kernel = false; result = t; name_at = at; name = name; parameters = ps; body_at = at; body = then_stmts NoStmt ss }
+
+-- `while (1)` round a statement, so many times
+abbrev loops : ℕ → Stmt → Stmt
+loops zero s = s
+loops (suc n) s = While 0 (one 0) (loops n s)
+
+-- `int f() { }` with this body
+abbrev returning : List Stmt → Funcs
+returning ss = then_funcs NoFunc (function (Some Int) 4 26 [] ss ∷ [])
+
+-- helpers that call each other twice: the first one of this name, each with the name after, and the names from it on
+abbrev doubling : (first so_many : ℕ) → Funcs
+doubling first zero = ThenFunc NoFunc (function None 0 first [] (Empty 0 ∷ []))
+doubling first (suc n) = ThenFunc (doubling first n) (function None 0 (first + suc n) [] (CallOnly 0 (first + n) NoTerm ∷ CallOnly 0 (first + n) NoTerm ∷ []))
 
 -- whole texts, in which f is the name 26, g 27 and p 28
 abbrev pub texts : List (Funcs × Option TypeFault)
@@ -208,10 +338,44 @@ texts =
           ∷ []),
       None,
     )
+    -- void f() { f(); }
+    ∷ (then_funcs NoFunc (function None 5 26 [] (CallOnly 11 26 NoTerm ∷ []) ∷ []), Some (Recursion 11))
+    -- int f() { return f(); }  Of one node the lowest number: a helper isn't called in a `return`.
+    ∷ (returning (ReturnValue 10 (Call 17 26 NoTerm) ∷ []), Some (TypeMismatch 17))
+    -- void f(int p) { f(); }
+    ∷ (then_funcs NoFunc (function None 5 26 (parameter 11 28 ∷ []) (CallOnly 16 26 NoTerm ∷ []) ∷ []), Some (Recursion 16))
+    -- void f() { g(); } void g() { }
+    ∷ (then_funcs NoFunc (function None 5 26 [] (CallOnly 11 27 NoTerm ∷ []) ∷ function None 23 27 [] [] ∷ []), Some (UnknownName 11))
+    -- void f(int g) { } void g() { }  A parameter with the name of a later function.
+    ∷ (then_funcs NoFunc (function None 5 26 (parameter 11 27 ∷ []) [] ∷ function None 23 27 [] [] ∷ []), Some (Redeclared 11))
+    -- int f() { }
+    ∷ (returning [], Some (MissingReturn 4))
+    -- int f() { return 1; ; }
+    ∷ (returning (ReturnValue 10 (one 17) ∷ Empty 20 ∷ []), None)
+    -- int f() { if (1) return 1; }
+    ∷ (returning (If 10 (one 14) (ReturnValue 17 (one 24)) ∷ []), Some (MissingReturn 4))
+    -- int f() { if (1) return 1; else { return 1; } }
+    ∷ (returning (IfElse 10 (one 14) (ReturnValue 17 (one 24)) (Block 32 (then_stmts NoStmt (ReturnValue 34 (one 41) ∷ []))) ∷ []), None)
+    -- int f() { while (1) return 1; }
+    ∷ (returning (While 10 (one 17) (ReturnValue 20 (one 27)) ∷ []), Some (MissingReturn 4))
+    -- int f() { return; }
+    ∷ (returning (Return 10 ∷ []), Some (TypeMismatch 10))
+    -- kernel void f() { }, with eight loops, and with nine
+    ∷ (then_funcs NoFunc (kernel 12 26 [] (loops 8 (Empty 0) ∷ []) ∷ []), None)
+    ∷ (then_funcs NoFunc (kernel 12 26 [] (loops 9 (Empty 0) ∷ []) ∷ []), Some (TooManyLoops 12))
+    -- with five, and five in a helper that it calls there; the helper may have nine
+    ∷ (then_funcs NoFunc (function None 5 26 [] (loops 4 (Empty 0) ∷ []) ∷ kernel 40 27 [] (loops 4 (CallOnly 50 26 NoTerm) ∷ []) ∷ []), None)
+    ∷ (then_funcs NoFunc (function None 5 26 [] (loops 4 (Empty 0) ∷ []) ∷ kernel 40 27 [] (loops 5 (CallOnly 50 26 NoTerm) ∷ []) ∷ []), Some (TooManyLoops 40))
+    ∷ (then_funcs NoFunc (function None 5 26 [] (loops 9 (Empty 0) ∷ []) ∷ kernel 40 27 [] [] ∷ []), None)
+    -- helpers that call each other twice: the body of one of depth n has 3 · 2ⁿ - 2 nodes
+    ∷ (ThenFunc (doubling 100 11) (kernel 40 27 [] (CallOnly 50 111 NoTerm ∷ CallOnly 50 111 NoTerm ∷ CallOnly 50 111 NoTerm ∷ [])), None)
+    ∷ (ThenFunc (doubling 100 12) (kernel 40 27 [] (CallOnly 50 112 NoTerm ∷ CallOnly 50 112 NoTerm ∷ [])), Some (TooLarge 40))
+    ∷ (doubling 100 63, None)
+    ∷ (ThenFunc (doubling 100 62) (kernel 40 27 [] (CallOnly 50 162 NoTerm ∷ [])), Some (TooLarge 40))
     ∷ []
 
--- each sample has that fault, or that many nodes
+-- each sample has that fault, or that size
 pub record AreSampled : Type 0 where
   pub faults : map (λ s. first (row_faults here s.0)) samples ≡ map (λ s. s.1) samples
   pub texts : map (λ s. first (functions_faults (names s.0) s.0)) texts ≡ map (λ s. s.1) texts
-  pub nodes : map (λ s. nodes s.0) counted ≡ map (λ s. s.1) counted
+  pub sizes : map (λ s. ((size bodies s.0).nodes, (size bodies s.0).loops)) counted ≡ map (λ s. s.1) counted

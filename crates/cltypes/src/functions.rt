@@ -1,18 +1,21 @@
 //! The faults of functions.
 #![tactic(auto)]
 
-ghost use Rattle.std.specs.Prelude.{◌≡◌, IfOk};
-ghost use Rattle.clmodel.specs.Tree.{Funcs, func};
-ghost use Rattle.clmodel.specs.Typing.Context.{with_name};
-ghost use Rattle.clmodel.specs.Typing.Functions.{names, with_params, params_faults, size_faults, function_faults};
-ghost use Rattle.clmodel.specs.Typing.Least.{least, first};
+ghost use Rattle.std.specs.Prelude.{◌≡◌, ◌++◌, [], ◌∷◌, None, IfOk};
+ghost use Rattle.clmodel.specs.Tree.{Funcs, ThenFunc, func};
+ghost use Rattle.clmodel.specs.Typing.Context as typing;
+ghost use Rattle.clmodel.specs.Typing.Functions.{signature, signatures, with_params, size_of, params_faults, end_faults, function_faults};
+ghost use Rattle.clmodel.specs.Typing.Least.{first};
+ghost use Rattle.cltypes_scope.specs.Names.{signature_of, ended};
+ghost use Rattle.cltypes_limits.specs.Limits.{IsSummary};
 ghost use Rattle.cltypes.specs.Answers.{Ends};
 
-use crate::sizes::{NODE_LIMIT, row_nodes};
 use crate::statements::{check_statements, ended};
 use clmodel::tree::{Function, Parameter};
 use clmodel::type_fault::TypeFault;
-use cltypes_scope::Context;
+use cltypes_limits::{Summaries, end_fault};
+use cltypes_scope::{Context, Signature};
+use std::alloc::{AllocError, Global};
 
 /// Declares a function's parameters, or answers the first fault of one. Err(OutOfMemory) may come at any time.
 fn declare_parameters(context: &mut Context, parameters: &[Parameter]) -> Result<(), TypeFault>
@@ -32,44 +35,71 @@ fn declare_parameters(context: &mut Context, parameters: &[Parameter]) -> Result
     Ok(())
 }
 
-/// The fault of a body of too many nodes, at the function's name.
-fn size_fault(function: &Function) -> Option<TypeFault>
-    ensures { result ≡ least (size_faults (func function.now)) }
+/// What calls of a function have to know of it.
+fn signature(alloc: Global, function: &Function) -> Result<Signature, AllocError>
+    ensures { IfOk result (λ s. signature_of s ≡ signature (func function.now)) }
 {
-    if row_nodes(&function.body) > NODE_LIMIT {
-        Some(TypeFault::TooLarge {
-            at: function.name_at,
-        })
-    } else {
-        None
+    let mut parameters = Vec::new(alloc);
+    for parameter in &function.parameters {
+        parameters.push(parameter.kind)?;
     }
+    Ok(Signature {
+        is_kernel: function.is_kernel,
+        result: function.result,
+        parameters,
+    })
 }
 
-/// Checks a function whose text begins where those of the context have begun: the first of its faults is the answer, and
-/// Err(OutOfMemory) may come at any time.
-pub fn check_function(context: &mut Context, function: &Function) -> Result<(), TypeFault>
-    ensures first { (fs : Funcs) → names fs ≡ context.old.begun → Ends result (first (function_faults context.old.all fs (func function.now))) }
+/// Ends a function whose body has no fault: the first fault behind the body is the answer, and Err(OutOfMemory) may come at any time.
+fn end_function(
+    context: &mut Context,
+    summaries: &mut Summaries,
+    function: &Function,
+) -> Result<(), TypeFault>
+    requires { typing.signature_of context.old.before context.old.current ≡ None }
+    ensures first { (fs : Funcs) → IsSummary summaries.old fs → Ends result (first (end_faults (func function.now) (size_of fs (func function.now)))) }
+    ensures ended { IfOk result (λ _. context.new ≡ ended context.old) }
+    ensures summed { IfOk result (λ _. (fs : Funcs) → IsSummary summaries.old fs → IsSummary summaries.new (ThenFunc fs (func function.now))) }
+{
+    let Ok(size) = summaries.add(function) else {
+        return Err(TypeFault::OutOfMemory);
+    };
+    if context.end().is_err() {
+        return Err(TypeFault::OutOfMemory);
+    }
+    ended(end_fault(function, size))
+}
+
+/// Checks a function which those of the context and of the summaries stand before: the first of its faults is the answer, and
+/// Err(OutOfMemory) may come at any time. What comes behind it sees it.
+pub fn check_function(
+    alloc: Global,
+    context: &mut Context,
+    summaries: &mut Summaries,
+    function: &Function,
+) -> Result<(), TypeFault>
+    ensures first { (fs : Funcs)
+        → signatures fs ≡ context.old.before
+        → IsSummary summaries.old fs
+        → Ends result (first (function_faults context.old.all fs (func function.now))) }
     ensures all { IfOk result (λ _. context.new.all ≡ context.old.all) }
-    ensures begun { IfOk result (λ _. context.new.begun ≡ with_name context.old.begun function.now.name) }
+    ensures before { IfOk result (λ _. context.new.before ≡ context.old.before ++ (function.now.name, signature (func function.now)) ∷ []) }
+    ensures summed { IfOk result (λ _. (fs : Funcs) → IsSummary summaries.old fs → IsSummary summaries.new (ThenFunc fs (func function.now))) }
 {
     if !context.is_new(function.name) {
         return Err(TypeFault::Redeclared {
             at: function.name_at,
         });
     }
-    if !function.is_kernel {
-        return Err(TypeFault::TypeMismatch {
-            at: function.name_at,
-        });
-    }
-    if context.begin(function.name).is_err() {
+    let Ok(signature) = signature(alloc, function) else {
         return Err(TypeFault::OutOfMemory);
-    }
+    };
+    context.begin(function.name, signature);
     match declare_parameters(context, &function.parameters) {
         Err(fault) => Err(fault),
         Ok(()) => match check_statements(context, &function.body) {
             Err(fault) => Err(fault),
-            Ok(()) => ended(size_fault(function)),
+            Ok(()) => end_function(context, summaries, function),
         },
     }
 }

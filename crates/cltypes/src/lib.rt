@@ -1,20 +1,18 @@
 //! The type checker: which programs are typed, and the fault of one that isn't (OpenCL 1.2, sections 6.1 to 6.12).
 #![tactic(auto)]
 
-ghost use Rattle.std.specs.Prelude.{◌≡◌, [], IfOk, IfErr};
+ghost use Rattle.std.specs.Prelude.{◌≡◌, IfOk, IfErr};
 ghost use Rattle.clmodel.specs.Tree.{program};
 ghost use Rattle.clmodel.specs.Typing.{IsTypedProgram};
 ghost use Rattle.clmodel.specs.Typing.Functions.{names, functions_faults};
 ghost use Rattle.clmodel.specs.Typing.Least.{first};
 ghost use Rattle.cltypes.specs.Answers.{IsFaultOf, Ends};
-ghost use Rattle.cltypes.specs.Views.{functions_of};
+ghost use Rattle.cltypes.specs.Views.{functions_of, known};
 
+mod assignments;
 pub mod checked;
-mod expressions;
-mod faults;
 mod functions;
 pub mod laws;
-mod sizes;
 mod statements;
 #[cfg(test)]
 mod tests;
@@ -22,13 +20,14 @@ mod tests;
 pub use checked::Checked;
 use clmodel::tree::{Function, Tree};
 pub use clmodel::type_fault::TypeFault;
+use cltypes_limits::Summaries;
 use cltypes_scope::Context;
 use functions::check_function;
 use std::alloc::{AllocError, Global};
 
 /// What is known before the first function: the names of all functions.
 fn context_before(alloc: Global, functions: &[Function]) -> Result<Context, AllocError>
-    ensures { IfOk result (λ context. context ≡ record { all = names (functions_of functions.now); begun = []; inner = []; outer = [] }) }
+    ensures { IfOk result (λ context. context ≡ known (names (functions_of functions.now))) }
 {
     let mut context = Context::new(alloc);
     for function in functions {
@@ -44,8 +43,9 @@ fn check_functions(alloc: Global, functions: &[Function]) -> Result<(), TypeFaul
     let Ok(mut context) = context_before(alloc, functions) else {
         return Err(TypeFault::OutOfMemory);
     };
+    let mut summaries = Summaries::new(alloc);
     for function in functions {
-        if let Err(fault) = check_function(&mut context, function) {
+        if let Err(fault) = check_function(alloc, &mut context, &mut summaries, function) {
             return Err(fault);
         }
     }

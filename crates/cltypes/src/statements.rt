@@ -1,100 +1,76 @@
 //! The faults of statements and declarations.
 #![tactic(auto)]
 
-ghost use Rattle.std.specs.Prelude.{◌≡◌, ◌++◌, ℕ, true, None, Some, IfOk, IfErr};
-ghost use Rattle.clmodel.specs.Tree.{term, terms, place, stmt, declared};
-ghost use Rattle.clmodel.specs.Typing.Context.{bind, enter, after, after_all, meaning};
-ghost use Rattle.clmodel.specs.Typing.Least.{first, node};
-ghost use Rattle.clmodel.specs.Typing.Faults.{place_faults, term_faults, terms_faults, initial_faults, assignment_faults, call_faults, faults, row_faults};
-ghost use Rattle.cltypes.specs.Answers.{Checks, Ends};
-ghost use Rattle.cltypes.specs.Views.{target_of, statements};
+ghost use Rattle.std.specs.Prelude.{◌≡◌, ℕ, None, Some, IfOk, IfErr};
+ghost use Rattle.clmodel.specs.Tree.{If, IfElse, While, DoWhile, For, Break, term, stmt, maybe_term, declared, returned};
+ghost use Rattle.clmodel.specs.Typing.Context.{bind, enter, turning, after, after_part, after_all};
+ghost use Rattle.clmodel.specs.Typing.Least.{least, first, node};
+ghost use Rattle.clmodel.specs.Typing.Faults.{term_faults, condition_parts, condition_faults, return_faults, faults, part_faults, row_faults};
+ghost use Rattle.cltypes_scope.specs.Answers.{Checks};
+ghost use Rattle.cltypes_limits.specs.Limits.{statements};
+ghost use Rattle.cltypes.specs.Answers.{Ends};
+ghost use Rattle.cltypes.specs.Views.{held, turns_faults};
 
-use crate::expressions::{check_arguments, check_expression, checked};
-use crate::faults::{
-    Operand, assigning_fault, behind_fault, call_fault, name_fault, passing_fault, target_fault,
-};
-use clmodel::tree::{Expression, Statement, Target, VariableType};
+use crate::assignments::{assignment_fault, check_target, initial_fault};
+use clmodel::tree::{Expression, Statement, VariableType};
 use clmodel::type_fault::TypeFault;
-use clnum::BinaryOperator;
-use cltypes_scope::Context;
-use cltypes_scope::kinds::{element_kind, name_kind};
+use cltypes_scope::{Context, Spot, check_call, check_expression, integer_fault, lesser};
 
-/// The type of what is assigned to and where it begins, or its first fault.
-fn check_target(context: &Context, target: &Target) -> Result<Operand, TypeFault>
-    ensures { Checks result (first (place_faults context.now (place target.now))) (target_of context.now (place target.now)) }
-{
-    match target {
-        Target::Variable { at, name } => {
-            let meaning = context.meaning(*name);
-            checked(name_fault(meaning, *at), name_kind(meaning), *at)
-        }
-        Target::Element { at, name, index } => match check_expression(context, index) {
-            Err(fault) => Err(fault),
-            Ok(index) => {
-                let meaning = context.meaning(*name);
-                checked(
-                    target_fault(meaning, *at, index),
-                    element_kind(name_kind(meaning)),
-                    *at,
-                )
-            }
-        },
-        Target::Dereference { at, pointer } => match check_expression(context, pointer) {
-            Err(fault) => Err(fault),
-            Ok(pointer) => checked(behind_fault(pointer, *at), element_kind(pointer.kind), *at),
-        },
-    }
-}
-
-/// The first fault of an assignment.
-fn assignment_fault(
+/// What the statement of a condition that may be left out has against it, or the first fault inside.
+fn check_condition(
     context: &Context,
-    target: &Target,
-    operator: Option<BinaryOperator>,
-    value: &Expression,
-) -> Option<TypeFault>
-    ensures { let c = context.now in
-        let p = place target.now in
-        let e = term value.now in
-        result ≡ first (node (place_faults c p ++ term_faults c e) (assignment_faults c p operator e)) }
+    condition: &Option<Box<Expression>>,
+) -> Result<Option<TypeFault>, TypeFault>
+    ensures { Checks
+        result
+        (first (condition_parts context.now (maybe_term condition.now)))
+        (least (condition_faults context.now (maybe_term condition.now))) }
 {
-    match check_target(context, target) {
-        Err(fault) => Some(fault),
-        Ok(to) => match check_expression(context, value) {
-            Err(fault) => Some(fault),
-            Ok(value) => match operator {
-                None => passing_fault(to.kind, value),
-                Some(operator) => assigning_fault(operator, to, value),
-            },
+    match condition {
+        None => Ok(None),
+        Some(condition) => match check_expression(context, condition) {
+            Err(fault) => Err(fault),
+            Ok(condition) => Ok(integer_fault(condition)),
         },
     }
 }
 
-/// The first fault of a call that is a statement.
-fn statement_call_fault(
-    context: &Context,
-    at: u32,
-    name: u32,
-    arguments: &[Expression],
-) -> Option<TypeFault>
-    ensures { let c = context.now in
-        let es = terms arguments.now in
-        result ≡ first (node (terms_faults c es) (call_faults c true (meaning c name) at es)) }
+/// A `break` or a `continue`.
+fn loop_fault(context: &Context, at: u32) -> Option<TypeFault>
+    ensures { result ≡ first (faults context.now (Break at)) }
 {
-    let meaning = context.meaning(name);
-    match check_arguments(context, meaning, arguments) {
-        Err(fault) => Some(fault),
-        Ok(given) => call_fault(true, meaning, at, arguments.len(), given),
+    if context.is_in_loop() {
+        None
+    } else {
+        Some(TypeFault::TypeMismatch { at })
     }
 }
 
-/// The first fault of the initialiser of a variable of this type.
-fn initial_fault(context: &Context, kind: VariableType, value: &Expression) -> Option<TypeFault>
-    ensures { result ≡ first (initial_faults context.now kind (term value.now)) }
+/// A `return` with a value.
+fn value_return_fault(context: &Context, at: u32, value: &Expression) -> Option<TypeFault>
+    ensures { let e = term value.now in result ≡ first (node (term_faults context.now e) (return_faults context.now at e)) }
 {
     match check_expression(context, value) {
         Err(fault) => Some(fault),
-        Ok(value) => passing_fault(kind, value),
+        Ok(value) => if context.result().is_some() {
+            integer_fault(value)
+        } else {
+            lesser(Some(TypeFault::TypeMismatch { at }), integer_fault(value))
+        },
+    }
+}
+
+/// A `return`.
+fn return_fault(context: &Context, at: u32, value: &Option<Box<Expression>>) -> Option<TypeFault>
+    ensures { result ≡ first (faults context.now (returned at value.now)) }
+{
+    match value {
+        None => if context.result().is_some() {
+            Some(TypeFault::TypeMismatch { at })
+        } else {
+            None
+        },
+        Some(value) => value_return_fault(context, at, value),
     }
 }
 
@@ -148,6 +124,7 @@ fn check_statement(context: &mut Context, statement: &Statement) -> Result<(), T
             value,
             ..
         } => check_declaration(context, *kind, *name_at, *name, value),
+        Statement::DeclareArray { at, .. } => Err(TypeFault::TypeMismatch { at: *at }),
         Statement::Assign {
             target,
             operator,
@@ -162,16 +139,233 @@ fn check_statement(context: &mut Context, statement: &Statement) -> Result<(), T
             at,
             name,
             arguments,
-        } => ended(statement_call_fault(context, *at, *name, arguments)),
-        Statement::DeclareArray { at, .. }
-        | Statement::If { at, .. }
-        | Statement::IfElse { at, .. }
-        | Statement::While { at, .. }
-        | Statement::DoWhile { at, .. }
-        | Statement::For { at, .. }
-        | Statement::Break { at }
-        | Statement::Continue { at }
-        | Statement::Return { at, .. } => Err(TypeFault::TypeMismatch { at: *at }),
+        } => match check_call(context, Spot::WholeStatement, *at, *name, arguments) {
+            Err(fault) => Err(fault),
+            Ok(_) => Ok(()),
+        },
+        Statement::If {
+            condition,
+            chosen,
+            ..
+        } => check_if(context, condition, chosen),
+        Statement::IfElse {
+            condition,
+            chosen,
+            otherwise,
+            ..
+        } => check_if_else(context, condition, chosen, otherwise),
+        Statement::While {
+            condition,
+            body,
+            ..
+        } => check_while(context, condition, body),
+        Statement::DoWhile {
+            body,
+            condition,
+            ..
+        } => check_do(context, body, condition),
+        Statement::For {
+            first,
+            condition,
+            third,
+            body,
+            ..
+        } => check_for(context, first, condition, third, body),
+        Statement::Break { at } | Statement::Continue { at } => ended(loop_fault(context, *at)),
+        Statement::Return { at, value } => ended(return_fault(context, *at, value)),
+    }
+}
+
+/// Checks what is controlled, in a scope of its own, which is left behind it. Err(OutOfMemory) may come at any time.
+#[cycle(statements)]
+fn check_controlled(context: &mut Context, statement: &Statement) -> Result<(), TypeFault>
+    ensures first { Ends result (first (faults (enter context.old) (stmt statement.now))) }
+    ensures left { IfOk result (λ _. context.new ≡ context.old) }
+{
+    if context.enter().is_err() {
+        return Err(TypeFault::OutOfMemory);
+    }
+    match check_statement(context, statement) {
+        Err(fault) => Err(fault),
+        Ok(()) => {
+            context.leave();
+            Ok(())
+        }
+    }
+}
+
+/// Checks the body of a loop, in a scope of its own, which is left behind it. Err(OutOfMemory) may come at any time.
+#[cycle(statements)]
+fn check_turn(context: &mut Context, body: &Statement) -> Result<(), TypeFault>
+    ensures first { Ends result (first (faults (turning context.old) (stmt body.now))) }
+    ensures left { IfOk result (λ _. context.new ≡ context.old) }
+{
+    let was_in_loop = context.is_in_loop();
+    if context.enter().is_err() {
+        return Err(TypeFault::OutOfMemory);
+    }
+    context.set_in_loop(true);
+    match check_statement(context, body) {
+        Err(fault) => Err(fault),
+        Ok(()) => {
+            context.leave();
+            context.set_in_loop(was_in_loop);
+            Ok(())
+        }
+    }
+}
+
+/// Checks an `if` with no `else`. Err(OutOfMemory) may come at any time.
+#[cycle(statements)]
+fn check_if(
+    context: &mut Context,
+    condition: &Expression,
+    chosen: &Statement,
+) -> Result<(), TypeFault>
+    ensures first { (at : ℕ) → Ends result (first (faults context.old (If at (term condition.now) (stmt chosen.now)))) }
+    ensures left { IfOk result (λ _. context.new ≡ context.old) }
+{
+    match check_expression(context, condition) {
+        Err(fault) => Err(fault),
+        Ok(condition) => match check_controlled(context, chosen) {
+            Err(fault) => Err(fault),
+            Ok(()) => ended(integer_fault(condition)),
+        },
+    }
+}
+
+/// Checks an `if` with its `else`. Err(OutOfMemory) may come at any time.
+#[cycle(statements)]
+fn check_if_else(
+    context: &mut Context,
+    condition: &Expression,
+    chosen: &Statement,
+    otherwise: &Statement,
+) -> Result<(), TypeFault>
+    ensures first { (at : ℕ) → Ends result (first (faults context.old (IfElse at (term condition.now) (stmt chosen.now) (stmt otherwise.now)))) }
+    ensures left { IfOk result (λ _. context.new ≡ context.old) }
+{
+    match check_expression(context, condition) {
+        Err(fault) => Err(fault),
+        Ok(condition) => match check_controlled(context, chosen) {
+            Err(fault) => Err(fault),
+            Ok(()) => match check_controlled(context, otherwise) {
+                Err(fault) => Err(fault),
+                Ok(()) => ended(integer_fault(condition)),
+            },
+        },
+    }
+}
+
+/// Checks a `while`. Err(OutOfMemory) may come at any time.
+#[cycle(statements)]
+fn check_while(
+    context: &mut Context,
+    condition: &Expression,
+    body: &Statement,
+) -> Result<(), TypeFault>
+    ensures first { (at : ℕ) → Ends result (first (faults context.old (While at (term condition.now) (stmt body.now)))) }
+    ensures left { IfOk result (λ _. context.new ≡ context.old) }
+{
+    match check_expression(context, condition) {
+        Err(fault) => Err(fault),
+        Ok(condition) => match check_turn(context, body) {
+            Err(fault) => Err(fault),
+            Ok(()) => ended(integer_fault(condition)),
+        },
+    }
+}
+
+/// Checks a `do`. Err(OutOfMemory) may come at any time.
+#[cycle(statements)]
+fn check_do(
+    context: &mut Context,
+    body: &Statement,
+    condition: &Expression,
+) -> Result<(), TypeFault>
+    ensures first { (at : ℕ) → Ends result (first (faults context.old (DoWhile at (stmt body.now) (term condition.now)))) }
+    ensures left { IfOk result (λ _. context.new ≡ context.old) }
+{
+    match check_turn(context, body) {
+        Err(fault) => Err(fault),
+        Ok(()) => match check_expression(context, condition) {
+            Err(fault) => Err(fault),
+            Ok(condition) => ended(integer_fault(condition)),
+        },
+    }
+}
+
+/// Checks a part of a `for` that may be left out, and that what follows sees. Err(OutOfMemory) may come at any time.
+#[cycle(statements)]
+fn check_part(context: &mut Context, part: &Option<Box<Statement>>) -> Result<(), TypeFault>
+    ensures first { Ends result (first (part_faults context.old (held part.now))) }
+    ensures after { IfOk result (λ _. context.new ≡ after_part context.old (held part.now)) }
+{
+    match part {
+        None => Ok(()),
+        Some(part) => check_statement(context, part),
+    }
+}
+
+/// Checks the third part of a `for`, in a scope of its own, which is left behind it. Err(OutOfMemory) may come at any time.
+#[cycle(statements)]
+fn check_third(context: &mut Context, part: &Option<Box<Statement>>) -> Result<(), TypeFault>
+    ensures first { Ends result (first (part_faults (enter context.old) (held part.now))) }
+    ensures left { IfOk result (λ _. context.new ≡ context.old) }
+{
+    match part {
+        None => Ok(()),
+        Some(part) => check_controlled(context, part),
+    }
+}
+
+/// Checks the parts of a `for` behind its first one, in the scope of the `for`. Err(OutOfMemory) may come at any time.
+#[cycle(statements)]
+fn check_turns(
+    context: &mut Context,
+    condition: &Option<Box<Expression>>,
+    third: &Option<Box<Statement>>,
+    body: &Statement,
+) -> Result<(), TypeFault>
+    ensures first { Ends result (first (turns_faults context.old (maybe_term condition.now) (held third.now) (stmt body.now))) }
+    ensures left { IfOk result (λ _. context.new ≡ context.old) }
+{
+    match check_condition(context, condition) {
+        Err(fault) => Err(fault),
+        Ok(fault) => match check_third(context, third) {
+            Err(fault) => Err(fault),
+            Ok(()) => match check_turn(context, body) {
+                Err(fault) => Err(fault),
+                Ok(()) => ended(fault),
+            },
+        },
+    }
+}
+
+/// Checks a `for`, in a scope of its own, which is left behind it. Err(OutOfMemory) may come at any time.
+#[cycle(statements)]
+fn check_for(
+    context: &mut Context,
+    start: &Option<Box<Statement>>,
+    condition: &Option<Box<Expression>>,
+    third: &Option<Box<Statement>>,
+    body: &Statement,
+) -> Result<(), TypeFault>
+    ensures first { (at : ℕ) → Ends result (first (faults context.old (For at (held start.now) (maybe_term condition.now) (held third.now) (stmt body.now)))) }
+    ensures left { IfOk result (λ _. context.new ≡ context.old) }
+{
+    if context.enter().is_err() {
+        return Err(TypeFault::OutOfMemory);
+    }
+    match check_part(context, start) {
+        Err(fault) => Err(fault),
+        Ok(()) => match check_turns(context, condition, third, body) {
+            Err(fault) => Err(fault),
+            Ok(()) => {
+                context.leave();
+                Ok(())
+            }
+        },
     }
 }
 

@@ -26,6 +26,9 @@ const CONSTANT: u32 = 29;
 
 const FREE: u32 = 30;
 
+/// A helper's name.
+const HELPER: u32 = 31;
+
 fn parameter(name_at: u32, name: u32, space: AddressSpace, is_const: bool) -> Parameter {
     Parameter {
         name_at,
@@ -233,6 +236,87 @@ fn calls(rt: HostRuntime) -> Result<(), Fail> {
     assert_eq!(rt;
         fault_of(alloc, value_used)?,
         Some(TypeFault::AtomicValueUsed { at: 57 })
+    );
+    Ok(())
+}
+
+/// `int FREE = HELPER();`, which begins at `at` and calls at `call_at`
+fn call_helper(alloc: Global, at: u32, call_at: u32) -> Result<Statement, AllocError> {
+    let call = Expression::Call {
+        at: call_at,
+        name: HELPER,
+        arguments: Vec::new(alloc),
+    };
+    Ok(Statement::Declare {
+        at,
+        kind: VariableType::Integer(IntType::Int),
+        name_at: at,
+        name: FREE,
+        value: Some(Box::new(alloc, call)?),
+    })
+}
+
+/// `int HELPER() { first return 1; } kernel void KERNEL() { while (1) turn }`
+fn with_helper(alloc: Global, first: Statement, turn: Statement) -> Result<Tree, AllocError> {
+    let returned = Statement::Return {
+        at: 30,
+        value: Some(Box::new(alloc, number(37))?),
+    };
+    let helper = Function {
+        is_kernel: false,
+        result: Some(IntType::Int),
+        name_at: 4,
+        name: HELPER,
+        parameters: Vec::new(alloc),
+        body_at: 13,
+        body: vec![in alloc; first, returned]?,
+    };
+    let turns = Statement::While {
+        at: 65,
+        condition: Box::new(alloc, number(72))?,
+        body: Box::new(alloc, turn)?,
+    };
+    let kernel = Function {
+        is_kernel: true,
+        result: None,
+        name_at: 53,
+        name: KERNEL,
+        parameters: Vec::new(alloc),
+        body_at: 62,
+        body: vec![in alloc; turns]?,
+    };
+    Ok(Tree {
+        functions: vec![in alloc; helper, kernel]?,
+        names: Vec::new(alloc),
+    })
+}
+
+#[test]
+fn helpers(rt: HostRuntime) -> Result<(), Fail> {
+    let alloc = rt.alloc();
+    let called = with_helper(
+        alloc,
+        Statement::Empty { at: 15 },
+        call_helper(alloc, 75, 83)?,
+    )?;
+    assert!(rt; check(alloc, called).is_ok());
+    let recursive = with_helper(
+        alloc,
+        call_helper(alloc, 15, 23)?,
+        Statement::Break { at: 75 },
+    )?;
+    assert_eq!(rt;
+        check(alloc, recursive).err(),
+        Some(TypeFault::Recursion { at: 23 })
+    );
+    let outside = with_helper(
+        alloc,
+        Statement::Break { at: 15 },
+        Statement::Break { at: 75 },
+    )?;
+    assert_eq!(rt;
+        check(alloc, outside).err(),
+        Some(TypeFault::TypeMismatch { at: 15 })
     );
     Ok(())
 }

@@ -1,1 +1,7 @@
 mod Declaring
+mod Functions
+pub mod Least
+pub mod Views
+pub mod Follows
+pub mod Arguments
+pub mod Calls

@@ -1,1 +1,3 @@
 pub mod Names
+pub mod Answers
+pub mod Views

@@ -1,27 +1,44 @@
 -- What the values of this crate stand for, and what leaving a block does.
-use Rattle.std.specs.Prelude.{ℕ, List, [], ◌∷◌}
+use Rattle.std.specs.Prelude.{ℕ, Bool, false, List, [], ◌∷◌, ◌++◌, None}
 use Rattle.clmodel.specs.Typing.Context as typing
 use Rattle.clmodel.specs.Typing.Context.{Context, Scope, with_name}
+use Rattle.cltypes_scope.specs.declared.meaning.Signature.{Signature}
 use Rattle.cltypes_scope.specs.declared.meaning.Meaning.{Meaning}
-use Rattle.cltypes_scope.specs.declared.meaning.Meaning.TheVariants.{Bound, Callable, BuiltInFunction, Unknown}
+use Rattle.cltypes_scope.specs.declared.meaning.Meaning.TheVariants.{Bound, Callable, Current, BuiltInFunction, Unknown}
+
+abbrev pub signature_of : Signature → typing.Signature
+signature_of s = record { is_kernel = s.is_kernel; result = s.result; parameters = s.parameters.items }
 
 abbrev pub meaning_of : Meaning → typing.Meaning
 meaning_of (Bound kind) = typing.Bound kind
-meaning_of Callable = typing.Callable
+meaning_of (Callable s) = typing.Callable (signature_of s.now)
+meaning_of (Current s) = typing.Current (signature_of s.now)
 meaning_of (BuiltInFunction f) = typing.BuiltInFunction f
 meaning_of Unknown = typing.Unknown
 
+-- of no function
+abbrev pub no_signature : typing.Signature
+no_signature = record { is_kernel = false; result = None; parameters = [] }
+
 -- with no function and no variable
 abbrev pub nowhere : Context
-nowhere = record { all = []; begun = []; inner = []; outer = [] }
+nowhere = record { all = []; before = []; current = 0; signature = no_signature; in_loop = false; inner = []; outer = [] }
 
 -- with one more function of the text
 abbrev pub with_function : Context → ℕ → Context
 with_function c x = record c { all = with_name c.all x }
 
 -- where the text of a function begins
-abbrev pub begun : Context → ℕ → Context
-begun c x = record c { begun = with_name c.begun x; inner = []; outer = [] }
+abbrev pub begun : Context → ℕ → typing.Signature → Context
+begun c x s = record c { current = x; signature = s; in_loop = false; inner = []; outer = [] }
+
+-- behind the text of the function
+abbrev pub ended : Context → Context
+ended c = record c { before = c.before ++ (c.current, c.signature) ∷ []; signature = no_signature }
+
+-- in a loop, or not
+abbrev pub with_loop : Context → Bool → Context
+with_loop c in_loop = record c { in_loop = in_loop }
 
 -- after a block: without the innermost scope
 abbrev pub without_innermost : Context → List Scope → Context

@@ -1,15 +1,17 @@
 //! The names that are known at a place of a program.
 #![tactic(auto)]
 
-ghost use Rattle.std.specs.Prelude.{◌≡◌, ◌&&◌, not, [], ◌∷◌, true, reverse, is_some, OnOk, OnErr};
+ghost use Rattle.std.specs.Prelude.{◌≡◌, ◌&&◌, not, [], ◌∷◌, true, None, reverse, is_some, OnOk, OnErr};
 ghost use Rattle.std.specs.List.{find};
 ghost use Rattle.std.specs.Option.{option_copied};
-ghost use Rattle.clmodel.specs.Typing.Context.{among, declared, variable, function_meaning, meaning, is_free, is_reserved, bind, enter};
-ghost use Rattle.cltypes_scope.specs.Names.{meaning_of, nowhere, with_function, begun, left};
+ghost use Rattle.clmodel.specs.Typing.Context as typing;
+ghost use Rattle.clmodel.specs.Typing.Context.{declared, variable, function_meaning, meaning, is_free, is_reserved, bind, enter};
+ghost use Rattle.cltypes_scope.specs.Names.{signature_of, meaning_of, nowhere, with_function, begun, ended, with_loop, left, no_signature};
 
-use crate::meaning::Meaning;
+use crate::meaning::{Meaning, Signature};
 use clmodel::setup::built_in_named;
 use clmodel::tree::VariableType;
+use clnum::IntType;
 use indexmap::{IndexMap, IndexSet};
 use std::alloc::{AllocError, Global};
 use std::marker::Model;
@@ -36,13 +38,16 @@ fn last_holder(scopes: &[Scope], name: u32) -> Option<&Scope>
     scopes.iter().rev().find(|scope| scope.contains_key(&name))
 }
 
-/// The names that are known at a place of a program: those of all its functions and of those whose text has begun, and the variables
-/// of each scope around the place. Names are their places in a tree's table of names.
+/// What is known at a place of a program: the names of all its functions, the functions before this one, this function, whether the
+/// place is in a loop, and the variables of each scope around it. Names are their places in a tree's table of names.
 #[derive(Debug, Drop)]
 pub struct Context {
     alloc: Global,
     all: IndexSet<u32>,
-    begun: IndexSet<u32>,
+    before: IndexMap<u32, Signature>,
+    current: u32,
+    signature: Signature,
+    in_loop: bool,
     inner: Scope,
     outer: Vec<Scope>,
 }
@@ -50,21 +55,44 @@ pub struct Context {
 impl Model for Context {
     ghost use Rattle.std.specs.Prelude.{map, reverse};
     ghost use Rattle.clmodel.specs.Typing.Context.{Context};
+    ghost use Rattle.cltypes_scope.specs.Names.{signature_of};
 
     ghost Value = { Context };
 
-    ghost view = { λ c. record { all = c.all.keys; begun = c.begun.keys; inner = c.inner.entries; outer = map (λ scope. scope.entries) (reverse c.outer.items) } };
+    ghost view = { λ c. record {
+      all = c.all.keys;
+      before = map (λ e. (e.0, signature_of e.1)) c.before.entries;
+      current = c.current;
+      signature = signature_of c.signature;
+      in_loop = c.in_loop;
+      inner = c.inner.entries;
+      outer = map (λ scope. scope.entries) (reverse c.outer.items);
+    } };
+}
+
+/// The signature of no function.
+fn no_signature(alloc: Global) -> Signature
+    ensures { signature_of result ≡ no_signature }
+{
+    Signature {
+        is_kernel: false,
+        result: None,
+        parameters: Vec::new(alloc),
+    }
 }
 
 impl Context {
-    /// Where nothing is known, in the outermost scope.
+    /// Before the first function, where nothing is known.
     pub fn new(alloc: Global) -> Context
         ensures { result ≡ nowhere }
     {
         Context {
             alloc,
             all: IndexSet::new(alloc),
-            begun: IndexSet::new(alloc),
+            before: IndexMap::new(alloc),
+            current: 0,
+            signature: no_signature(alloc),
+            in_loop: false,
             inner: IndexMap::new(alloc),
             outer: Vec::new(alloc),
         }
@@ -79,16 +107,47 @@ impl Context {
         Ok(())
     }
 
-    /// Begins the text of a function of this name, in its outermost scope with no variables. Err where memory is wanting: nothing
-    /// changes then.
-    pub fn begin(&mut self, name: u32) -> Result<(), AllocError>
-        ensures begun { OnOk result (self.new ≡ begun self.old name) }
-        ensures err { OnErr result (self.new ≡ self.old) }
+    /// Begins the text of a function, in its outermost scope with no variables and outside loops.
+    pub fn begin(&mut self, name: u32, signature: Signature)
+        ensures { self.new ≡ begun self.old name (signature_of signature) }
     {
-        self.begun.insert(name)?;
+        self.current = name;
+        self.signature = signature;
+        self.in_loop = false;
         self.inner.clear();
         self.outer.clear();
+    }
+
+    /// Ends the text of the function, which no function before it has the name of: those behind it can call it. Err where memory is
+    /// wanting: nothing changes then but the signature of this function, which is lost.
+    pub fn end(&mut self) -> Result<(), AllocError>
+        requires { typing.signature_of self.old.before self.old.current ≡ None }
+        ensures { OnOk result (self.new ≡ ended self.old) }
+    {
+        let signature = replace(&mut self.signature, no_signature(self.alloc));
+        self.before.insert(self.current, signature)?;
         Ok(())
+    }
+
+    /// The type of the value that the function gives, if it gives one.
+    pub fn result(&self) -> Option<IntType>
+        ensures { result ≡ self.now.signature.result }
+    {
+        self.signature.result
+    }
+
+    /// Whether the place is in a loop of the function.
+    pub fn is_in_loop(&self) -> bool
+        ensures { result ≡ self.now.in_loop }
+    {
+        self.in_loop
+    }
+
+    /// Says whether the place is in a loop of the function.
+    pub fn set_in_loop(&mut self, in_loop: bool)
+        ensures { self.new ≡ with_loop self.old in_loop }
+    {
+        self.in_loop = in_loop;
     }
 
     /// The type of the variable of a name, in the innermost scope that has it.
@@ -105,11 +164,14 @@ impl Context {
     }
 
     /// What a name stands for that no variable has: a function of the text, or a built-in function.
-    fn function_meaning(&self, name: u32) -> Meaning
+    fn function_meaning(&self, name: u32) -> Meaning<'_>
         ensures { meaning_of result ≡ function_meaning self.now name }
     {
-        if self.begun.contains(&name) {
-            return Meaning::Callable;
+        if name == self.current {
+            return Meaning::Current(&self.signature);
+        }
+        if let Some(signature) = self.before.get(&name) {
+            return Meaning::Callable(signature);
         }
         match built_in_named(name) {
             Some(function) => Meaning::BuiltInFunction(function),
@@ -118,7 +180,7 @@ impl Context {
     }
 
     /// What a name stands for here: the variable of the innermost scope that has one of this name, or a function.
-    pub fn meaning(&self, name: u32) -> Meaning
+    pub fn meaning(&self, name: u32) -> Meaning<'_>
         ensures { meaning_of result ≡ meaning self.now name }
     {
         match self.variable(name) {
@@ -137,9 +199,9 @@ impl Context {
 
     /// Whether a function of this name may begin.
     pub fn is_new(&self, name: u32) -> bool
-        ensures { result ≡ (not (is_reserved name) && not (among name self.now.begun)) }
+        ensures { result ≡ (not (is_reserved name) && not (is_some (typing.signature_of self.now.before name))) }
     {
-        !is_reserved(name) && !self.begun.contains(&name)
+        !is_reserved(name) && !self.before.contains_key(&name)
     }
 
     /// Declares a variable in the innermost scope, where its name is free. Err where memory is wanting: nothing changes then.

@@ -3,7 +3,7 @@
 
 ghost use Rattle.std.specs.Prelude.{◌≡◌};
 ghost use Rattle.clnum.specs.Operations.{unary_kind, binary_kind};
-ghost use Rattle.clmodel.specs.Typing.Faults.{name_kind, element_kind, unary_type, number_kind, binary_type, choice_type, integer_call_kind, call_kind};
+ghost use Rattle.clmodel.specs.Typing.Faults.{name_kind, element_kind, unary_type, number_kind, binary_type, choice_type, integer_call_kind, result_kind, call_kind};
 ghost use Rattle.cltypes_scope.specs.Names.{meaning_of};
 
 use crate::meaning::Meaning;
@@ -48,8 +48,8 @@ pub fn binary_kind(operator: BinaryOperator, left: IntType, right: IntType) -> I
 }
 
 /// The type of a name: that of the variable that it stands for.
-pub fn name_kind(meaning: Meaning) -> VariableType
-    ensures { result ≡ name_kind (meaning_of meaning) }
+pub fn name_kind(meaning: Meaning<'_>) -> VariableType
+    ensures { result ≡ name_kind (meaning_of meaning.entry) }
 {
     match meaning {
         Meaning::Bound(kind) => kind,
@@ -122,11 +122,19 @@ fn integer_call_kind(function: Builtin, last: VariableType) -> VariableType
     }
 }
 
+/// The type of a call of a function of the text that gives a value of this type.
+fn result_kind(given: Option<IntType>) -> VariableType
+    ensures { result ≡ result_kind given }
+{
+    VariableType::Integer(given.unwrap_or(IntType::Int))
+}
+
 /// The type of a call, by that of its last argument.
-pub fn call_kind(meaning: Meaning, last: VariableType) -> VariableType
-    ensures { result ≡ call_kind (meaning_of meaning) last }
+pub fn call_kind(meaning: Meaning<'_>, last: VariableType) -> VariableType
+    ensures { result ≡ call_kind (meaning_of meaning.entry) last }
 {
     match meaning {
+        Meaning::Callable(signature) => result_kind(signature.result),
         Meaning::BuiltInFunction(BuiltIn::WorkDim) => VariableType::Integer(IntType::Uint),
         Meaning::BuiltInFunction(BuiltIn::WorkItem(_)) => VariableType::Integer(IntType::Ulong),
         Meaning::BuiltInFunction(BuiltIn::Integer(function)) => integer_call_kind(function, last),

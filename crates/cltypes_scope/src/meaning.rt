@@ -3,14 +3,27 @@
 
 use clmodel::setup::BuiltIn;
 use clmodel::tree::VariableType;
+use clnum::IntType;
+
+/// What a call of a function of the text has to know of it.
+#[derive(Debug, Drop)]
+pub struct Signature {
+    pub is_kernel: bool,
+    /// The type of the value that it gives, if it gives one
+    pub result: Option<IntType>,
+    /// The types of its parameters
+    pub parameters: Vec<VariableType>,
+}
 
 /// What a name stands for.
-#[derive(Clone, Copy, Debug, PartialEq, Eq)]
-pub enum Meaning {
+#[derive(Clone, Copy, Debug)]
+pub enum Meaning<'a> {
     /// A variable or a parameter
     Bound(VariableType),
-    /// A function of the text that has begun
-    Callable,
+    /// A function of the text before this one
+    Callable(&'a Signature),
+    /// The function whose text this is
+    Current(&'a Signature),
     BuiltInFunction(BuiltIn),
     Unknown,
 }

@@ -1,5 +1,6 @@
 pub mod Lists
+pub mod Calls
+pub mod Runs
 pub mod Statements
-pub mod Bindings
 pub mod Kernels
 pub mod Nexts

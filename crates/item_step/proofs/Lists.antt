@@ -1,121 +1,14 @@
--- Arguments and statements as lists.
-use Rattle.std.proofs.Common.{◌≡◌, ℕ, zero, suc, ◌-◌, ◌<◌, List, [], ◌∷◌, ◌++◌, map, length, drop, get_or, refl, sym, ap, ◌∙◌, Vec, arith, ◌==◌, true, false}
-use Rattle.std.proofs.lemmas.Bool.Decides.{nat_tests}
+-- Statements and functions as lists.
+use Rattle.std.proofs.Common.{◌≡◌, ℕ, zero, suc, ◌+◌, ◌<◌, ◌≤◌, cond, List, [], ◌∷◌, map, length, take, get_or, refl, sym, ap, ◌∙◌, Vec, arith, Option, None, Some, Box, Bor, eq-eqb, ne_eqb}
 use Rattle.std.specs.declared.alloc.Global.{Global}
 use mathlib.Core.Former.{Count}
-use Rattle.clmodel.specs.declared.tree.Expression as rust_expression
+use denote.Param.Weighed.{most}
+use Rattle.clmodel.specs.declared.tree.Function.{Function}
 use Rattle.clmodel.specs.declared.tree.Statement as rust_statement
-use Rattle.clmodel.specs.declared.tree.Statement.{Statement}
-use Rattle.clmodel.specs.declared.operand.Operand.{Operand}
-use Rattle.clmodel.specs.Tree.{Term, term, terms, row_terms, then_all, Terms, NoTerm, ThenTerm, Call, Block, row_stmts, Stmt, Stmts, NoStmt, ThenStmt, stmt, then_stmts}
-use Rattle.clmodel.specs.Next.{Run, Here, Variables, eval, eval_all, exec, exec_all, call, type_of, argument_type, call_type, base_type, leave}
-use Rattle.clmodel.specs.BuiltIns.{built_in}
-use Rattle.clmodel.specs.declared.tree.VariableType.TheVariants.{Integer}
-use Rattle.clnum.specs.declared.int_type.IntType.TheVariants.{Int}
-use Rattle.item_step.specs.Evaluation.{eval_list, exec_list}
-
-row_same : (ts : Terms) (n : _) (row : rust_expression.Row_of-Expression n) → row_terms ts row ≡ then_all ts (map term (rust_expression.items-the_row-Expression n row))
-row_same ts n rust_expression.end_of-Expression = refl
-row_same ts n (rust_expression.more_of-Expression e rest) = row_same (ThenTerm ts (term e)) _ rest
-
-abbrev row_of : rust_expression.Expression → (n : Count) × rust_expression.Row_of-Expression n
-row_of (rust_expression.Call' at name n row) = (_, row)
-row_of _ = (_, rust_expression.end_of-Expression)
-
--- a call is of its arguments
-pub calls : (at name : ℕ) (es : Vec rust_expression.Expression Global) → term (rust_expression.Call at name es) ≡ Call at name (terms es.items)
-calls at name es =
-    let row = row_of (rust_expression.Call at name es) in
-    let same = rust_expression.items_hidden-the_row-Expression-0 es in
-    ap (Call at name) (row_same NoTerm row.0 row.1 ∙ ap (λ ds. then_all NoTerm (map term ds)) same)
-
--- arguments that grow at their end are evaluated in their order
-eval_behind : (here : Here) (variables : Variables) (ts : Terms) (es : List Term) (after : List Operand → Run)
-    → eval_all here (then_all ts es) variables after ≡ eval_all here ts variables (λ values. eval_list here es variables values after)
-eval_behind here variables ts [] after = refl
-eval_behind here variables ts (e ∷ es) after = eval_behind here variables (ThenTerm ts e) es after
-
-pub eval_terms : (here : Here) (variables : Variables) (es : List rust_expression.Expression) (after : List Operand → Run)
-    → eval_all here (terms es) variables after ≡ eval_list here (map term es) variables [] after
-eval_terms here variables es after = eval_behind here variables NoTerm (map term es) after
-
-pub eval_call : (here : Here) (variables : Variables) (at name : ℕ) (es : Vec rust_expression.Expression Global) (after : Operand → Run)
-    → eval here (term (rust_expression.Call at name es)) variables after ≡ eval_list here (map term es.items) variables [] (λ values. call here (built_in name) values after)
-eval_call here variables at name es after =
-    ap (λ t. eval here t variables after) (calls at name es) ∙ eval_terms here variables es.items (λ values. call here (built_in name) values after)
-
--- one argument more
-pub eval_step : (here : Here) (variables : Variables) (es : List rust_expression.Expression) (i : ℕ) (d : rust_expression.Expression) (values : List Operand) (after : List Operand → Run) → i < length es
-    → eval_list here (drop i (map term es)) variables values after
-    ≡ eval here (term (get_or es i d)) variables (λ v. eval_list here (drop (suc i) (map term es)) variables (values ++ v ∷ []) after)
-eval_step here variables [] i d values after h = absurd (omega arith)
-eval_step here variables (e ∷ es) zero d values after h = refl
-eval_step here variables (e ∷ es) (suc i) d values after h = eval_step here variables es i d values after (omega arith)
-
-pub eval_at : (here : Here) (variables : Variables) (es : List rust_expression.Expression) (i : ℕ) (e : rust_expression.Expression) (values : List Operand) (after : List Operand → Run) → i < length es → e ≡ get_or es i e
-    → eval_list here (drop i (map term es)) variables values after
-    ≡ eval here (term e) variables (λ v. eval_list here (drop (suc i) (map term es)) variables (values ++ v ∷ []) after)
-eval_at here variables es i e values after h p =
-    eval_step here variables es i e values after h
-    ∙ ap (λ x. eval here (term x) variables (λ v. eval_list here (drop (suc i) (map term es)) variables (values ++ v ∷ []) after)) (sym p)
-
--- statements that grow at their end are executed in their order
-exec_behind : (here : Here) (ss : Stmts) (ts : List Stmt) (after : Variables → Run) (variables : Variables)
-    → exec_all here (then_stmts ss ts) after variables ≡ exec_all here ss (λ now. exec_list here ts after now) variables
-exec_behind here ss [] after variables = refl
-exec_behind here ss (t ∷ ts) after variables = exec_behind here (ThenStmt ss t) ts after variables
-
-pub exec_stmts : (here : Here) (ss : List Statement) (after : Variables → Run) (variables : Variables)
-    → exec_all here (then_stmts NoStmt (map stmt ss)) after variables ≡ exec_list here (map stmt ss) after variables
-exec_stmts here ss after variables = exec_behind here NoStmt (map stmt ss) after variables
-
--- one statement more
-pub exec_step : (here : Here) (ss : List Statement) (i : ℕ) (d : Statement) (after : Variables → Run) (variables : Variables) → i < length ss
-    → exec_list here (drop i (map stmt ss)) after variables
-    ≡ exec here (stmt (get_or ss i d)) (λ now. exec_list here (drop (suc i) (map stmt ss)) after now) variables
-exec_step here [] i d after variables h = absurd (omega arith)
-exec_step here (s ∷ ss) zero d after variables h = refl
-exec_step here (s ∷ ss) (suc i) d after variables h = exec_step here ss i d after variables (omega arith)
-
-pub exec_at : (here : Here) (ss : List Statement) (i : ℕ) (s : Statement) (after : Variables → Run) (variables : Variables) → i < length ss → s ≡ get_or ss i s
-    → exec_list here (drop i (map stmt ss)) after variables ≡ exec here (stmt s) (λ now. exec_list here (drop (suc i) (map stmt ss)) after now) variables
-exec_at here ss i s after variables h p =
-    exec_step here ss i s after variables h ∙ ap (λ x. exec here (stmt x) (λ now. exec_list here (drop (suc i) (map stmt ss)) after now) variables) (sym p)
-
-pub call_run : (here : Here) (variables : Variables) (e : rust_expression.Expression) (at name : ℕ) (es : Vec rust_expression.Expression Global) (xs : List rust_expression.Expression) (after : Operand → Run)
-    → e ≡ rust_expression.Call at name es → xs ≡ es.items
-    → eval here (term e) variables after ≡ eval_list here (map term xs) variables [] (λ values. call here (built_in name) values after)
-call_run here variables e at name es xs after p q =
-    ap (λ t. eval here (term t) variables after) p ∙ eval_call here variables at name es after
-    ∙ ap (λ ys. eval_list here (map term ys) variables [] (λ values. call here (built_in name) values after)) (sym q)
-
-pub is_zero : (n : ℕ) → (n == 0) ≡ true → n ≡ 0
-is_zero n h = grind (arith, nat_tests)
-
-pub is_more : (n : ℕ) → (n == 0) ≡ false → 0 < n
-is_more n h = grind (arith, nat_tests)
-
--- the type of a call, by its arguments
-pub call_type_is : (vs : Variables) (e : rust_expression.Expression) (at name : ℕ) (es : Vec rust_expression.Expression Global) → e ≡ rust_expression.Call at name es
-    → type_of vs (term e) ≡ Integer (call_type (built_in name) (argument_type vs (terms es.items)))
-call_type_is vs e at name es p = ap (λ x. type_of vs (term x)) p ∙ ap (λ t. type_of vs t) (calls at name es)
-
-pub argument_none : (vs : Variables) (es : List rust_expression.Expression) → length es ≡ 0 → argument_type vs (terms es) ≡ Int
-argument_none vs [] h = refl
-argument_none vs (e ∷ es) h = absurd (omega arith)
-
-last_behind : (vs : Variables) (ts : Terms) (es : List rust_expression.Expression) (d : rust_expression.Expression) → 0 < length es
-    → argument_type vs (then_all ts (map term es)) ≡ base_type (type_of vs (term (get_or es (length es - 1) d)))
-last_behind vs ts [] d h = absurd (omega arith)
-last_behind vs ts (x ∷ []) d h = refl
-last_behind vs ts (x ∷ y ∷ ys) d h =
-    let e : suc (length (y ∷ ys) - 1) ≡ length (x ∷ y ∷ ys) - 1 = omega arith in
-    last_behind vs (ThenTerm ts (term x)) (y ∷ ys) d (omega arith)
-    ∙ ap (λ k. base_type (type_of vs (term (get_or (x ∷ y ∷ ys) k d)))) e
-
-pub argument_last : (vs : Variables) (es : List rust_expression.Expression) (e : rust_expression.Expression) → 0 < length es → e ≡ get_or es (length es - 1) e
-    → argument_type vs (terms es) ≡ base_type (type_of vs (term e))
-argument_last vs es e h p = last_behind vs NoTerm es e h ∙ ap (λ x. base_type (type_of vs (term x))) (sym p)
+use Rattle.clmodel.specs.declared.tree.Statement.{Statement, size-Statement}
+use Rattle.clmodel.specs.Tree.{Block, row_stmts, Stmt, Stmts, NoStmt, ThenStmt, stmt, then_stmts, Funcs, NoFunc, ThenFunc, then_funcs, func}
+use Rattle.clmodel.specs.Next.{sites, all_sites, sites_in}
+use Rattle.item_step.specs.Execution.{functions_of, inside, list_sites}
 
 stmt_rows : (ss : Stmts) (n : _) (row : rust_statement.Row_of-Statement n) → row_stmts ss row ≡ then_stmts ss (map stmt (rust_statement.items-the_row-Statement n row))
 stmt_rows ss n rust_statement.end_of-Statement = refl
@@ -126,16 +19,78 @@ stmt_row_of (rust_statement.Block' at n row) = (_, row)
 stmt_row_of _ = (_, rust_statement.end_of-Statement)
 
 -- a block is of its statements
-blocks : (at : ℕ) (ss : Vec rust_statement.Statement Global) → stmt (rust_statement.Block at ss) ≡ Block at (then_stmts NoStmt (map stmt ss.items))
+pub blocks : (at : ℕ) (ss : Vec rust_statement.Statement Global) → stmt (rust_statement.Block at ss) ≡ Block at (then_stmts NoStmt (map stmt ss.items))
 blocks at ss =
     let row = stmt_row_of (rust_statement.Block at ss) in
     let same = rust_statement.items_hidden-the_row-Statement-0 ss in
     ap (Block at) (stmt_rows NoStmt row.0 row.1 ∙ ap (λ ds. then_stmts NoStmt (map stmt ds)) same)
 
-pub block_run : (here : Here) (vs : Variables) (s : Statement) (at : ℕ) (ss : Vec Statement Global) (xs : List Statement) (after : Variables → Run)
-    → s ≡ rust_statement.Block at ss → xs ≡ ss.items
-    → exec here (stmt s) after vs ≡ exec_list here (map stmt xs) (λ now. after (leave (length vs) now)) vs
-block_run here vs s at ss xs after p q =
-    ap (λ x. exec here (stmt x) after vs) p ∙ ap (λ t. exec here t after vs) (blocks at ss)
-    ∙ exec_stmts here ss.items (λ now. after (leave (length vs) now)) vs
-    ∙ ap (λ ys. exec_list here (map stmt ys) (λ now. after (leave (length vs) now)) vs) (sym q)
+-- the barriers in statements that grow at their end
+sites_behind : (f : ℕ → ℕ) (ss : Stmts) (ts : List Stmt) → all_sites f (then_stmts ss ts) ≡ all_sites f ss + list_sites f ts
+sites_behind f ss [] = omega arith
+sites_behind f ss (t ∷ ts) = sites_behind f (ThenStmt ss t) ts ∙ omega arith
+
+pub sites_listed : (f : ℕ → ℕ) (ts : List Stmt) → all_sites f (then_stmts NoStmt ts) ≡ list_sites f ts
+sites_listed f ts = sites_behind f NoStmt ts ∙ omega arith
+
+pub block_sites : (f : ℕ → ℕ) (s : Statement) (at : ℕ) (ss : Vec Statement Global) (xs : List Statement)
+    → s ≡ rust_statement.Block at ss → xs ≡ ss.items → list_sites f (map stmt xs) ≡ sites f (stmt s)
+block_sites f s at ss xs p q =
+    ap (λ ys. list_sites f (map stmt ys)) q ∙ sym (sites_listed f (map stmt ss.items)) ∙ ap (sites f) (sym (blocks at ss)) ∙ ap (λ x. sites f (stmt x)) (sym p)
+
+pub sites_more : (f : ℕ → ℕ) (ss : List Statement) (i : ℕ) (d : Statement) → i < length ss
+    → list_sites f (map stmt (take (suc i) ss)) ≡ list_sites f (map stmt (take i ss)) + sites f (stmt (get_or ss i d))
+sites_more f [] i d h = absurd (omega arith)
+sites_more f (s ∷ ss) zero d h = omega arith
+sites_more f (s ∷ ss) (suc i) d h = omega (arith, sites_more f ss i d (omega arith))
+
+funcs_more : (fs : Funcs) (gs : List Function) (i : ℕ) (d : Function) → i < length gs
+    → then_funcs fs (map func (take (suc i) gs)) ≡ ThenFunc (then_funcs fs (map func (take i gs))) (func (get_or gs i d))
+funcs_more fs [] i d h = absurd (omega arith)
+funcs_more fs (g ∷ gs) zero d h = refl
+funcs_more fs (g ∷ gs) (suc i) d h = funcs_more (ThenFunc fs (func g)) gs i d (omega arith)
+
+-- the first functions with one more
+pub functions_more : (gs : List Function) (i : ℕ) (g : Function) → i < length gs → g ≡ get_or gs i g
+    → functions_of (take (i + 1) gs) ≡ ThenFunc (functions_of (take i gs)) (func g)
+functions_more gs i g h p =
+    let e : i + 1 ≡ suc i = omega arith in
+    ap (λ n. functions_of (take n gs)) e ∙ funcs_more NoFunc gs i g h ∙ ap (λ x. ThenFunc (functions_of (take i gs)) (func x)) (sym p)
+
+-- how deep the statements of functions are, which bounds the calls in them
+abbrev pub weight : List Function → ℕ
+weight [] = 0
+weight (g ∷ gs) = 2 + most size-Statement g.body.items + weight gs
+
+pub weight_at : (gs : List Function) (i : ℕ) (d : Function) → i < length gs
+    → 2 + most size-Statement (get_or gs i d).body.items + weight (take i gs) ≤ weight gs
+weight_at [] i d h = absurd (omega arith)
+weight_at (g ∷ gs) zero d h = omega arith
+weight_at (g ∷ gs) (suc i) d h = omega (arith, weight_at gs i d (omega arith))
+
+pub weight_of : (gs : List Function) (i : ℕ) (g : Function) → i < length gs → g ≡ get_or gs i g
+    → 2 + most size-Statement g.body.items + weight (take i gs) ≤ weight gs
+weight_of gs i g h p = omega (arith, weight_at gs i g h, ap (λ x. most size-Statement x.body.items) p)
+
+-- the barriers in the helper of a name, with one function more
+pub inside_hit : (gs : List Function) (i name : ℕ) (g : Function) → i < length gs → g ≡ get_or gs i g → name ≡ g.name
+    → inside (take (i + 1) gs) name ≡ list_sites (inside (take i gs)) (map stmt g.body.items)
+inside_hit gs i name g h p t =
+    ap (λ fs. sites_in fs name) (functions_more gs i g h p)
+    ∙ ap (λ b. cond b (all_sites (inside (take i gs)) (then_stmts NoStmt (map stmt g.body.items))) (inside (take i gs) name)) (eq-eqb name g.name t)
+    ∙ sites_listed (inside (take i gs)) (map stmt g.body.items)
+
+pub inside_miss : (gs : List Function) (i name : ℕ) (g : Function) → i < length gs → g ≡ get_or gs i g → (name ≡ g.name → ⊥)
+    → inside (take (i + 1) gs) name ≡ inside (take i gs) name
+inside_miss gs i name g h p t =
+    ap (λ fs. sites_in fs name) (functions_more gs i g h p)
+    ∙ ap (λ b. cond b (all_sites (inside (take i gs)) (then_stmts NoStmt (map stmt g.body.items))) (inside (take i gs) name)) (ne_eqb name g.name t)
+
+-- how deep a part of a `for` is
+abbrev pub part_depth : Option (Bor Statement) → ℕ
+part_depth None = 0
+part_depth (Some s) = size-Statement s.now
+
+abbrev pub boxed_depth : Option (Box Statement Global) → ℕ
+boxed_depth None = 0
+boxed_depth (Some s) = size-Statement s.value

@@ -1,16 +1,13 @@
 -- What each kind of statement stands for.
-use Rattle.std.proofs.Common.{◌≡◌, ℕ, Bool, List, [], map, Option, Some, sym, ap, ap₂, ◌∙◌, Vec, Box}
+use Rattle.std.proofs.Common.{◌≡◌, ℕ, Bool, List, Option, Some, sym, ap, ap₂, ◌∙◌, Vec, Box}
 use Rattle.std.specs.declared.alloc.Global.{Global}
 use Rattle.clnum.specs.declared.operators.BinaryOperator.{BinaryOperator}
 use Rattle.clmodel.specs.declared.tree.Expression.{Expression}
 use Rattle.clmodel.specs.declared.tree.Statement as rust_statement
 use Rattle.clmodel.specs.declared.tree.Target.{Target}
 use Rattle.clmodel.specs.declared.tree.VariableType.{VariableType}
-use Rattle.clmodel.specs.Tree.{Assign, Step, DeclareAs, place, term, stmt}
-use Rattle.clmodel.specs.Next.{Run, Here, Variables, exec, call_only}
-use Rattle.clmodel.specs.BuiltIns.{built_in}
-use Rattle.item_step.specs.Evaluation.{eval_list}
-use Rattle.item_step.proofs.Lists.{eval_terms}
+use Rattle.clmodel.specs.Tree.{Assign, Step, DeclareAs, CallOnly, If, IfElse, While, DoWhile, place, term, terms, stmt}
+use Rattle.clmodel.specs.declared.tree.Statement.{Statement}
 
 pub assign_is : (s : rust_statement.Statement) (at : ℕ) (to : Box Target Global) (operator : Option BinaryOperator) (value : Box Expression Global) (o : Option BinaryOperator) (t : Target) (v : Expression)
     → s ≡ rust_statement.Assign at to operator value → operator ≡ o → t ≡ to.value → v ≡ value.value → Assign at (place t) o (term v) ≡ stmt s
@@ -30,10 +27,21 @@ declare_is s at kind name_at name o value v s_is o_is v_is =
     ∙ ap (λ (p : Option (Box Expression Global)). stmt (rust_statement.Declare at kind name_at name p)) (sym o_is)
     ∙ ap stmt (sym s_is)
 
-pub call_only_run : (here : Here) (variables : Variables) (s : rust_statement.Statement) (at name : ℕ) (es : Vec Expression Global) (xs : List Expression) (after : Variables → Run)
-    → s ≡ rust_statement.Call at name es → xs ≡ es.items
-    → exec here (stmt s) after variables ≡ eval_list here (map term xs) variables [] (λ values. call_only here (built_in name) values (after variables))
-call_only_run here variables s at name es xs after s_is xs_is =
-    ap (λ x. exec here (stmt x) after variables) s_is
-    ∙ eval_terms here variables es.items (λ values. call_only here (built_in name) values (after variables))
-    ∙ ap (λ ys. eval_list here (map term ys) variables [] (λ values. call_only here (built_in name) values (after variables))) (sym xs_is)
+pub call_is : (s : Statement) (at name : ℕ) (es : Vec Expression Global) (xs : List Expression) → s ≡ rust_statement.Call at name es → xs ≡ es.items → stmt s ≡ CallOnly at name (terms xs)
+call_is s at name es xs p q = ap stmt p ∙ ap (λ ys. CallOnly at name (terms ys)) (sym q)
+
+pub if_is : (s : Statement) (at : ℕ) (e : Box Expression Global) (chosen : Box Statement Global) (x : Expression)
+    → s ≡ rust_statement.If at e chosen → x ≡ e.value → stmt s ≡ If at (term x) (stmt chosen.value)
+if_is s at e chosen x p q = ap stmt p ∙ ap (λ y. If at (term y) (stmt chosen.value)) (sym q)
+
+pub if_else_is : (s : Statement) (at : ℕ) (e : Box Expression Global) (chosen otherwise : Box Statement Global) (x : Expression)
+    → s ≡ rust_statement.IfElse at e chosen otherwise → x ≡ e.value → stmt s ≡ IfElse at (term x) (stmt chosen.value) (stmt otherwise.value)
+if_else_is s at e chosen otherwise x p q = ap stmt p ∙ ap (λ y. IfElse at (term y) (stmt chosen.value) (stmt otherwise.value)) (sym q)
+
+pub while_is : (s : Statement) (at : ℕ) (e : Box Expression Global) (body : Box Statement Global) (x : Expression) (b : Statement)
+    → s ≡ rust_statement.While at e body → x ≡ e.value → b ≡ body.value → stmt s ≡ While at (term x) (stmt b)
+while_is s at e body x b p q r = ap stmt p ∙ ap₂ (λ y c. While at (term y) (stmt c)) (sym q) (sym r)
+
+pub do_is : (s : Statement) (at : ℕ) (body : Box Statement Global) (e : Box Expression Global) (b : Statement) (x : Expression)
+    → s ≡ rust_statement.DoWhile at body e → b ≡ body.value → x ≡ e.value → stmt s ≡ DoWhile at (stmt b) (term x)
+do_is s at body e b x p q r = ap stmt p ∙ ap₂ (λ c y. DoWhile at (stmt c) (term y)) (sym q) (sym r)

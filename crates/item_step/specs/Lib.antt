@@ -1,2 +1,3 @@
-pub mod Evaluation
+pub mod Execution
+pub mod Walk
 pub mod Setups

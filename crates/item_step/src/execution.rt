@@ -1,239 +1,170 @@
-//! Execution of statements against a list of answers (OpenCL 1.2, sections 6.3 and 6.11; C99 6.5.16 and 6.8).
+//! Execution of statements and of helper functions against a list of answers (OpenCL 1.2, section 6.9; C99 6.5.2.2 and 6.8).
 #![tactic(auto)]
 
-ghost use Rattle.std.specs.Prelude.{◌≡◌, ℕ, [], ◌∷◌, map, Some, None, IfOk, IfErr};
+ghost use Rattle.std.specs.Prelude.{◌≡◌, ◌+◌, ◌<◌, ◌^◌, ◌++◌, ◌∷◌, ℕ, Option, Some, [], map, length, IfOk, IfErr};
 ghost use Rattle.clmodel.specs.Next as next;
-ghost use Rattle.clmodel.specs.Next.{Run};
-ghost use Rattle.clmodel.specs.BuiltIns.{built_in};
+ghost use Rattle.clmodel.specs.Next.{Run, Follows, helper, as_call, leaving};
 ghost use Rattle.clmodel.specs.Tree as tree;
-ghost use Rattle.clmodel.specs.Tree.{stmt, term};
-ghost use Rattle.clmodel.specs.declared.operand.Destination.{Destination};
+ghost use Rattle.clmodel.specs.Tree.{stmt, term, terms};
 ghost use Rattle.clmodel.specs.declared.operand.Operand.{Operand};
 ghost use Rattle.item_state.specs.Context.{here};
-ghost use Rattle.item_step.specs.declared.answers.Left.{Left};
-ghost use Rattle.item_step.specs.Evaluation.{Went, made, eval_list, exec_list};
+ghost use Rattle.item_value.specs.Evaluation.{Went, made, eval_list};
+ghost use Rattle.item_step.specs.Execution.{Setting, exec_with, begun_run, functions_of, inside};
+ghost use Rattle.item_step.specs.Walk as walk;
+ghost use Rattle.item_step.specs.Walk.{follow, setting, part, boxed_part, test, list_run, turn_run, looped, for_run};
 
-use crate::answers::Left;
-use crate::evaluation::{value_of, values_of};
-use crate::halt::Halt;
-use crate::operators::{call, combined, known};
-use crate::pointers::{atomic_call, load, moved, pointing, store};
-use clmodel::operand::{Destination, Operand};
+use crate::assignments::{
+    Begun, HelperCall, Pending, assign, call_only, change, complete, declare, declare_as, step,
+};
+use crate::functions::find;
+use crate::scene::Scene;
+use crate::sites::{is_barrier, sites};
+use crate::ways::{Way, block_left, for_left, goes_on, holds, is_over, leaves_loop, loop_left};
+use clmodel::action::{Cause, Turns};
+use clmodel::operand::Operand;
 use clmodel::setup::{BuiltIn, built_in_named};
-use clmodel::tree::{Expression, Statement, Target, VariableType};
-use clnum::{BinaryOperator, IntType, Value};
+use clmodel::tree::{Expression, Function, Statement, VariableType};
+use clnum::IntType;
 use item_state::context::Context;
-use item_state::variables::Variables;
+use item_state::variables::{Variables, held};
+use item_value::answers::Left;
+use item_value::barrier::{fences, tick, wait};
+use item_value::evaluation::{value_of, values_of};
+use item_value::halt::Halt;
+use item_value::parameters::passed;
+use std::alloc::Global;
 
-/// What a target stands for: its pointer is read, and then its index evaluated.
-fn reach(
+/// A call of a built-in function that is a whole statement.
+fn call_built_in(
     context: &Context<'_>,
     variables: &Variables,
-    target: &Target,
-    left: &mut Left<'_>,
-) -> Result<Destination, Halt>
-    ensures { (after : Destination → Run) → Went result (made (next.reach (here context.now) (tree.place target.now) variables.now after) left.old) (λ to. made (after to) left.new) }
-{
-    match target {
-        Target::Variable { name, .. } => Ok(Destination::Named(*name)),
-        Target::Element { name, index, .. } => {
-            let pointer = known(*name, variables.find(*name))?;
-            let index = value_of(context, variables, index, left)?;
-            Ok(Destination::Behind(moved(pointer, index)?))
-        }
-        Target::Dereference { pointer, .. } => {
-            let pointer = value_of(context, variables, pointer, left)?;
-            Ok(Destination::Behind(pointing(pointer)?))
-        }
-    }
-}
-
-/// The value that is there.
-fn fetch(from: Destination, variables: &Variables, left: &mut Left<'_>) -> Result<Operand, Halt>
-    ensures { (after : Operand → Run) → Went result (made (next.fetch from variables.now after) left.old) (λ v. made (after v) left.new) }
-{
-    match from {
-        Destination::Named(name) => known(name, variables.find(name)),
-        Destination::Behind(pointer) => load(pointer, left),
-    }
-}
-
-/// Puts a value there.
-fn put(
-    to: Destination,
-    value: Operand,
-    variables: &mut Variables,
+    function: BuiltIn,
+    arguments: &[Expression],
     left: &mut Left<'_>,
 ) -> Result<(), Halt>
-    ensures { (after : next.Variables → Run) → Went result (made (next.put to value variables.old after) left.old) (λ _. made (after variables.new) left.new) }
+    ensures { (after : Run) → Went result (made (eval_list (here context.now) (map term arguments.now) variables.now [] (λ values. next.call_only (here context.now) (Some function) values after)) left.old) (λ _. made after left.new) }
 {
-    match to {
-        Destination::Named(name) => {
-            variables.assign(name, value);
-            Ok(())
-        }
-        Destination::Behind(pointer) => store(pointer, value, left),
+    match values_of(context, variables, arguments, left) {
+        Ok(values) => call_only(context, Some(function), values.as_slice(), left),
+        Err(halt) => Err(halt),
     }
 }
 
-/// An assignment by `=`.
-fn assign(
+/// A call that is a whole statement, whose first barrier has this number, inside loops that have made these turns.
+fn begin_call<'b>(
     context: &Context<'_>,
-    variables: &mut Variables,
-    target: &Target,
-    value: &Expression,
+    variables: &Variables,
+    site: u32,
+    turns: &Turns,
+    name: u32,
+    arguments: &'b [Expression],
     left: &mut Left<'_>,
-) -> Result<(), Halt>
-    ensures { (at : ℕ) (after : next.Variables → Run) → Went result (made (next.exec (here context.now) (tree.Assign at (tree.place target.now) None (term value.now)) after variables.old) left.old) (λ _. made (after variables.new) left.new) }
+) -> Result<Begun<'b>, Halt>
+    ensures { (s : Setting) (at : ℕ) (k : Follows) → Went result (made (exec_with (here context.now) (record s { site = site; turns = turns.now }) (tree.CallOnly at name (terms arguments.now)) k variables.now) left.old) (λ begun. made (begun_run (here context.now) (record s { site = site; turns = turns.now }) begun k.next variables.now) left.new) }
 {
-    let to = reach(context, variables, target, left)?;
-    let value = value_of(context, variables, value, left)?;
-    put(to, value, variables, left)
-}
-
-/// An assignment by another operator: the target is read before the value is evaluated.
-fn change(
-    context: &Context<'_>,
-    variables: &mut Variables,
-    target: &Target,
-    operator: BinaryOperator,
-    value: &Expression,
-    left: &mut Left<'_>,
-) -> Result<(), Halt>
-    ensures { (at : ℕ) (after : next.Variables → Run) → Went result (made (next.exec (here context.now) (tree.Assign at (tree.place target.now) (Some operator) (term value.now)) after variables.old) left.old) (λ _. made (after variables.new) left.new) }
-{
-    let to = reach(context, variables, target, left)?;
-    let old = fetch(to, variables, left)?;
-    let value = value_of(context, variables, value, left)?;
-    let new = combined(operator, old, value)?;
-    put(to, new, variables, left)
-}
-
-/// The int 1.
-fn one() -> Operand
-    ensures { result ≡ next.one }
-{
-    Operand::Integral(Value::new(IntType::Int, 1))
-}
-
-/// The operator of `++` or `--`.
-fn step_operator(is_increment: bool) -> BinaryOperator
-    ensures { result ≡ next.step_operator is_increment }
-{
-    if is_increment {
-        BinaryOperator::Add
-    } else {
-        BinaryOperator::Subtract
+    if is_barrier(name) {
+        return match wait(context.alloc, fences(arguments), site, turns, left) {
+            Ok(()) => Ok(Begun::Done),
+            Err(halt) => Err(halt),
+        };
+    }
+    match built_in_named(name) {
+        Some(function) => match call_built_in(context, variables, function, arguments, left) {
+            Ok(()) => Ok(Begun::Done),
+            Err(halt) => Err(halt),
+        },
+        None => Ok(Begun::Call {
+            call: HelperCall { name, arguments },
+            pending: Pending::Nothing,
+        }),
     }
 }
 
-/// `++` or `--`.
-fn step(
-    context: &Context<'_>,
-    variables: &mut Variables,
-    target: &Target,
-    is_increment: bool,
-    left: &mut Left<'_>,
-) -> Result<(), Halt>
-    ensures { (at : ℕ) (after : next.Variables → Run) → Went result (made (next.exec (here context.now) (tree.Step at (tree.place target.now) is_increment) after variables.old) left.old) (λ _. made (after variables.new) left.new) }
+/// What a call gives whose function's body went so.
+fn outcome(kind: Option<IntType>, way: Way) -> Option<Operand>
+    ensures { (after : Option Operand → Run) (variables : next.Variables) → follow (as_call kind after) way variables ≡ after result }
 {
-    let to = reach(context, variables, target, left)?;
-    let old = fetch(to, variables, left)?;
-    let new = combined(step_operator(is_increment), old, one())?;
-    put(to, new, variables, left)
+    match way {
+        Way::Returned(value) => match kind {
+            Some(kind) => match value {
+                Some(value) => Some(held(VariableType::Integer(kind), value)),
+                None => None,
+            },
+            None => None,
+        },
+        Way::Done | Way::Broken | Way::Continued => None,
+    }
 }
 
-/// A declaration, which leaves the variable unset.
-fn declare(variables: &mut Variables, kind: VariableType, name: u32) -> Result<(), Halt>
-    ensures ok { IfOk result (λ _. variables.new ≡ record { name = name; kind = kind; content = None } ∷ variables.old) }
+/// The number of the first barrier behind a statement.
+fn site_behind(functions: &[Function], site: u32, statement: &Statement) -> Result<u32, Halt>
+    ensures ok { IfOk result (λ next_site. next_site ≡ site + next.sites (inside functions.now) (stmt statement.now)) }
     ensures err { IfErr result (λ halt. halt ≡ Halt.Memory) }
 {
-    match variables.declare(name, kind, None) {
-        Ok(()) => Ok(()),
+    let Some(count) = sites(functions, statement) else {
+        return Err(Halt::Memory);
+    };
+    match site.checked_add(count) {
+        Some(site) => Ok(site),
+        None => Err(Halt::Memory),
+    }
+}
+
+/// The number of the first barrier behind the third part of a `for`.
+fn site_behind_part(
+    functions: &[Function],
+    site: u32,
+    part: Option<&Statement>,
+) -> Result<u32, Halt>
+    ensures ok { IfOk result (λ next_site. next_site ≡ site + next.part_sites (inside functions.now) (walk.part part.entry)) }
+    ensures err { IfErr result (λ halt. halt ≡ Halt.Memory) }
+{
+    match part {
+        None => Ok(site),
+        Some(statement) => site_behind(functions, site, statement),
+    }
+}
+
+/// The turns of a loop's body.
+fn turns_inside(alloc: Global, turns: &Turns, turn: u32) -> Result<Turns, Halt>
+    ensures ok { IfOk result (λ now. now ≡ turns.now ++ turn ∷ []) }
+    ensures err { IfErr result (λ halt. halt ≡ Halt.Memory) }
+{
+    match turns.inside(alloc, turn) {
+        Ok(turns) => Ok(turns),
         Err(_) => Err(Halt::Memory),
     }
 }
 
-/// A declaration with an initialiser, which is evaluated when the variable is declared and unset.
-fn declare_as(
-    context: &Context<'_>,
-    variables: &mut Variables,
-    kind: VariableType,
-    name: u32,
-    value: &Expression,
-    left: &mut Left<'_>,
-) -> Result<(), Halt>
-    ensures { (at name_at : ℕ) (after : next.Variables → Run) → Went result (made (next.exec (here context.now) (tree.DeclareAs at kind name_at name (term value.now)) after variables.old) left.old) (λ _. made (after variables.new) left.new) }
+/// The condition of a `for`.
+fn condition_of(condition: &Option<Box<Expression>>) -> Option<&Expression>
+    ensures { test result ≡ tree.maybe_term condition.now }
 {
-    declare(variables, kind, name)?;
-    let value = value_of(context, variables, value, left)?;
-    variables.assign(name, value);
-    Ok(())
-}
-
-/// A built-in function whose value is dropped.
-fn dropped(context: &Context<'_>, function: BuiltIn, values: &[Operand]) -> Result<(), Halt>
-    ensures { (after : Run) (left : Left) → Went result (made (next.call (here context.now) (Some function) values.now (λ _. after)) left) (λ _. made after left) }
-{
-    match call(context, Some(function), values) {
-        Ok(_) => Ok(()),
-        Err(halt) => Err(halt),
+    match condition {
+        Some(condition) => Some(condition),
+        None => None,
     }
 }
 
-/// A built-in function that is called as a whole statement: an atomic function, or one whose value is dropped.
-fn call_only(
-    context: &Context<'_>,
-    function: Option<BuiltIn>,
-    values: &[Operand],
-    left: &mut Left<'_>,
-) -> Result<(), Halt>
-    ensures { (after : Run) → Went result (made (next.call_only (here context.now) function values.now after) left.old) (λ _. made after left.new) }
-{
-    match function {
-        Some(BuiltIn::Atomic(function)) => atomic_call(function, values, left),
-        Some(BuiltIn::WorkDim) => dropped(context, BuiltIn::WorkDim, values),
-        Some(BuiltIn::WorkItem(function)) => dropped(context, BuiltIn::WorkItem(function), values),
-        Some(BuiltIn::Integer(function)) => dropped(context, BuiltIn::Integer(function), values),
-        None => Err(Halt::Finish),
-    }
-}
-
-/// A call that is a whole statement.
-fn call_statement(
-    context: &Context<'_>,
-    variables: &Variables,
-    name: u32,
-    arguments: &[Expression],
-    left: &mut Left<'_>,
-) -> Result<(), Halt>
-    ensures { (after : Run) → Went result (made (eval_list (here context.now) (map term arguments.now) variables.now [] (λ values. next.call_only (here context.now) (built_in name) values after)) left.old) (λ _. made after left.new) }
-{
-    match values_of(context, variables, arguments, left) {
-        Ok(values) => call_only(context, built_in_named(name), values.as_slice(), left),
-        Err(halt) => Err(halt),
-    }
-}
-
-/// A statement.
+/// A statement whose first barrier has this number, inside loops that have made these turns.
 #[cycle(execution)]
 fn execute(
-    context: &Context<'_>,
+    scene: &Scene<'_>,
+    site: u32,
+    turns: &Turns,
     variables: &mut Variables,
     statement: &Statement,
     left: &mut Left<'_>,
-) -> Result<(), Halt>
-    ensures { (after : next.Variables → Run) → Went result (made (next.exec (here context.now) (stmt statement.now) after variables.old) left.old) (λ _. made (after variables.new) left.new) }
+) -> Result<Way, Halt>
+    ensures { (k : Follows) → Went result (made (exec_with (here scene.now.context.now) (setting scene.now site turns.now) (stmt statement.now) k variables.old) left.old) (λ way. made (follow k way variables.new) left.new) }
 {
+    let context = scene.context;
     match statement {
-        Statement::Empty { .. } => Ok(()),
+        Statement::Empty { .. } => Ok(Way::Done),
         Statement::Block { body, .. } => {
             let count = variables.len();
-            match execute_all(context, variables, body, left) {
-                Ok(()) => {
-                    variables.leave(count);
-                    Ok(())
-                }
+            match execute_all(scene, site, turns, variables, body, left) {
+                Ok(way) => Ok(block_left(way, count, variables)),
                 Err(halt) => Err(halt),
             }
         }
@@ -243,47 +174,448 @@ fn execute(
             value,
             ..
         } => match value {
-            None => declare(variables, *kind, *name),
-            Some(value) => declare_as(context, variables, *kind, *name, value, left),
+            None => match declare(variables, *kind, *name) {
+                Ok(()) => Ok(Way::Done),
+                Err(halt) => Err(halt),
+            },
+            Some(value) => match declare_as(context, variables, *kind, *name, value, left) {
+                Ok(begun) => proceed(scene, site, turns, variables, &begun, left),
+                Err(halt) => Err(halt),
+            },
         },
+        Statement::DeclareArray { .. } => Err(Halt::Finish),
         Statement::Assign {
             target,
             operator,
             value,
             ..
         } => match operator {
-            None => assign(context, variables, target, value, left),
-            Some(operator) => change(context, variables, target, *operator, value, left),
+            None => match assign(context, variables, target, value, left) {
+                Ok(begun) => proceed(scene, site, turns, variables, &begun, left),
+                Err(halt) => Err(halt),
+            },
+            Some(operator) => match change(context, variables, target, *operator, value, left) {
+                Ok(begun) => proceed(scene, site, turns, variables, &begun, left),
+                Err(halt) => Err(halt),
+            },
         },
         Statement::Step {
             target,
             is_increment,
             ..
-        } => step(context, variables, target, *is_increment, left),
+        } => match step(context, variables, target, *is_increment, left) {
+            Ok(()) => Ok(Way::Done),
+            Err(halt) => Err(halt),
+        },
         Statement::Call {
             name,
             arguments,
             ..
-        } => call_statement(context, variables, *name, arguments, left),
-        _ => Err(Halt::Finish),
+        } => match begin_call(context, variables, site, turns, *name, arguments, left) {
+            Ok(begun) => proceed(scene, site, turns, variables, &begun, left),
+            Err(halt) => Err(halt),
+        },
+        Statement::If {
+            condition,
+            chosen,
+            ..
+        } => match holds(context, variables, condition, left) {
+            Ok(true) => execute_branch(scene, site, turns, variables, chosen, left),
+            Ok(false) => Ok(Way::Done),
+            Err(halt) => Err(halt),
+        },
+        Statement::IfElse {
+            condition,
+            chosen,
+            otherwise,
+            ..
+        } => match holds(context, variables, condition, left) {
+            Ok(true) => execute_branch(scene, site, turns, variables, chosen, left),
+            Ok(false) => match site_behind(scene.functions, site, chosen) {
+                Ok(site) => execute_branch(scene, site, turns, variables, otherwise, left),
+                Err(halt) => Err(halt),
+            },
+            Err(halt) => Err(halt),
+        },
+        Statement::While {
+            condition,
+            body,
+            ..
+        } => {
+            let count = variables.len();
+            match rounds(
+                scene,
+                site,
+                turns,
+                variables,
+                Some(condition),
+                None,
+                body,
+                count,
+                0,
+                left,
+            ) {
+                Ok(way) => Ok(loop_left(way, count, variables)),
+                Err(halt) => Err(halt),
+            }
+        }
+        Statement::DoWhile {
+            body,
+            condition,
+            ..
+        } => execute_do(scene, site, turns, variables, body, condition, left),
+        Statement::For {
+            first,
+            condition,
+            third,
+            body,
+            ..
+        } => {
+            let condition = condition_of(condition);
+            execute_for(
+                scene, site, turns, variables, first, condition, third, body, left,
+            )
+        }
+        Statement::Break { .. } => Ok(Way::Broken),
+        Statement::Continue { .. } => Ok(Way::Continued),
+        Statement::Return { value, .. } => match value {
+            None => Ok(Way::Returned(None)),
+            Some(value) => match value_of(context, variables, value, left) {
+                Ok(value) => Ok(Way::Returned(Some(value))),
+                Err(halt) => Err(halt),
+            },
+        },
+    }
+}
+
+/// A branch of an `if`.
+#[cycle(execution)]
+fn execute_branch(
+    scene: &Scene<'_>,
+    site: u32,
+    turns: &Turns,
+    variables: &mut Variables,
+    statement: &Statement,
+    left: &mut Left<'_>,
+) -> Result<Way, Halt>
+    ensures { (k : Follows) → Went result (made (exec_with (here scene.now.context.now) (setting scene.now site turns.now) (stmt statement.now) (record k { next = leaving (length variables.old) k.next }) variables.old) left.old) (λ way. made (follow k way variables.new) left.new) }
+{
+    let count = variables.len();
+    match execute(scene, site, turns, variables, statement, left) {
+        Ok(way) => Ok(block_left(way, count, variables)),
+        Err(halt) => Err(halt),
     }
 }
 
 /// Statements, in order.
 #[cycle(execution)]
 pub fn execute_all(
-    context: &Context<'_>,
+    scene: &Scene<'_>,
+    site: u32,
+    turns: &Turns,
     variables: &mut Variables,
     statements: &[Statement],
     left: &mut Left<'_>,
-) -> Result<(), Halt>
-    ensures { (after : next.Variables → Run) → Went result (made (exec_list (here context.now) (map stmt statements.now) after variables.old) left.old) (λ _. made (after variables.new) left.new) }
+) -> Result<Way, Halt>
+    ensures { (k : Follows) → Went result (made (list_run (here scene.now.context.now) (setting scene.now site turns.now) (map stmt statements.now) k variables.old) left.old) (λ way. made (follow k way variables.new) left.new) }
 {
+    let mut next = site;
     for i in 0..statements.len() {
-        match execute(context, variables, &statements[i], left) {
+        let statement = &statements[i];
+        let way = match execute(scene, next, turns, variables, statement, left) {
+            Ok(way) => way,
+            Err(halt) => return Err(halt),
+        };
+        if is_over(&way) {
+            return Ok(way);
+        }
+        next = match site_behind(scene.functions, next, statement) {
+            Ok(next) => next,
+            Err(halt) => return Err(halt),
+        };
+    }
+    Ok(Way::Done)
+}
+
+/// Goes on with a statement that calls a helper function, if it calls one.
+#[cycle(execution)]
+fn proceed(
+    scene: &Scene<'_>,
+    site: u32,
+    turns: &Turns,
+    variables: &mut Variables,
+    begun: &Begun<'_>,
+    left: &mut Left<'_>,
+) -> Result<Way, Halt>
+    ensures { (k : Follows) → Went result (made (begun_run (here scene.now.context.now) (setting scene.now site turns.now) begun.now k.next variables.old) left.old) (λ way. made (follow k way variables.new) left.new) }
+{
+    match begun {
+        Begun::Done => Ok(Way::Done),
+        Begun::Call { call, pending } => {
+            match values_of(scene.context, variables, call.arguments, left) {
+                Ok(values) => match call_helper(
+                    scene,
+                    site,
+                    turns,
+                    call.name,
+                    values.as_slice(),
+                    left,
+                ) {
+                    Ok(outcome) => match complete(*pending, outcome, variables, left) {
+                        Ok(()) => Ok(Way::Done),
+                        Err(halt) => Err(halt),
+                    },
+                    Err(halt) => Err(halt),
+                },
+                Err(halt) => Err(halt),
+            }
+        }
+    }
+}
+
+/// Runs the body of the helper function of a name.
+#[cycle(execution)]
+fn call_helper(
+    scene: &Scene<'_>,
+    site: u32,
+    turns: &Turns,
+    name: u32,
+    values: &[Operand],
+    left: &mut Left<'_>,
+) -> Result<Option<Operand>, Halt>
+    ensures { (after : Option Operand → Run) → Went result (made (helper scene.now.most (here scene.now.context.now) (functions_of scene.now.functions.now) name values.now site turns.now after) left.old) (λ v. made (after v) left.new) }
+{
+    let Some(found) = find(scene.functions, name) else {
+        return Err(Halt::Finish);
+    };
+    let parameters = found.function.parameters.as_slice();
+    let Ok(mut variables) = passed(scene.context.alloc, parameters, values) else {
+        return Err(Halt::Memory);
+    };
+    let inner = Scene {
+        context: scene.context,
+        functions: &scene.functions[..found.place],
+        most: scene.most,
+    };
+    let body = found.function.body.as_slice();
+    match execute_all(&inner, site, turns, &mut variables, body, left) {
+        Ok(way) => Ok(outcome(found.function.result, way)),
+        Err(halt) => Err(halt),
+    }
+}
+
+/// One turn of a loop: its body, and the third part of a `for`. So many variables stay.
+#[cycle(execution)]
+fn turn(
+    scene: &Scene<'_>,
+    site: u32,
+    turns: &Turns,
+    variables: &mut Variables,
+    third: Option<&Statement>,
+    body: &Statement,
+    count: usize,
+    left: &mut Left<'_>,
+) -> Result<Way, Halt>
+    ensures { (k : Follows) (again : next.Variables → Run) → Went result (made (turn_run (here scene.now.context.now) (setting scene.now site turns.now) (part third.entry) (stmt body.now) count k variables.old again) left.old) (λ way. made (follow (record k { next = again }) way variables.new) left.new) }
+{
+    let behind = match site_behind_part(scene.functions, site, third) {
+        Ok(behind) => behind,
+        Err(halt) => return Err(halt),
+    };
+    let way = match execute(scene, behind, turns, variables, body, left) {
+        Ok(way) => way,
+        Err(halt) => return Err(halt),
+    };
+    if leaves_loop(&way) {
+        return Ok(way);
+    }
+    variables.leave(count);
+    match third {
+        None => {
+            variables.leave(count);
+            Ok(Way::Done)
+        }
+        Some(third) => {
+            let way = match execute(scene, site, turns, variables, third, left) {
+                Ok(way) => way,
+                Err(halt) => return Err(halt),
+            };
+            if leaves_loop(&way) {
+                return Ok(way);
+            }
+            variables.leave(count);
+            Ok(Way::Done)
+        }
+    }
+}
+
+/// The turns of a loop that has made so many. So many variables stay.
+#[cycle(execution)]
+fn rounds(
+    scene: &Scene<'_>,
+    site: u32,
+    turns: &Turns,
+    variables: &mut Variables,
+    condition: Option<&Expression>,
+    third: Option<&Statement>,
+    body: &Statement,
+    count: usize,
+    start: u32,
+    left: &mut Left<'_>,
+) -> Result<Way, Halt>
+    requires { start + scene.now.most < 2 ^ 32 }
+    ensures { (k : Follows) → Went result (made (looped (here scene.now.context.now) (setting scene.now site turns.now) (test condition.entry) (part third.entry) (stmt body.now) count k scene.now.most start variables.old) left.old) (λ way. made (follow k way variables.new) left.new) }
+{
+    for i in 0..scene.most {
+        match goes_on(scene.context, variables, condition, left) {
+            Ok(true) => {}
+            Ok(false) => return Ok(Way::Done),
+            Err(halt) => return Err(halt),
+        }
+        match tick(left) {
             Ok(()) => {}
             Err(halt) => return Err(halt),
         }
+        let inner = match turns_inside(scene.context.alloc, turns, start + i + 1) {
+            Ok(inner) => inner,
+            Err(halt) => return Err(halt),
+        };
+        let way = match turn(scene, site, &inner, variables, third, body, count, left) {
+            Ok(way) => way,
+            Err(halt) => return Err(halt),
+        };
+        if is_over(&way) {
+            return Ok(way);
+        }
     }
-    Ok(())
+    Err(Halt::Fail(Cause::Budget))
+}
+
+/// A loop whose condition stands behind its body.
+#[cycle(execution)]
+fn execute_do(
+    scene: &Scene<'_>,
+    site: u32,
+    turns: &Turns,
+    variables: &mut Variables,
+    body: &Statement,
+    condition: &Expression,
+    left: &mut Left<'_>,
+) -> Result<Way, Halt>
+    ensures { (at : ℕ) (k : Follows) → Went result (made (exec_with (here scene.now.context.now) (setting scene.now site turns.now) (tree.DoWhile at (stmt body.now) (term condition.now)) k variables.old) left.old) (λ way. made (follow k way variables.new) left.new) }
+{
+    let count = variables.len();
+    match tick(left) {
+        Ok(()) => {}
+        Err(halt) => return Err(halt),
+    }
+    let inner = match turns_inside(scene.context.alloc, turns, 1) {
+        Ok(inner) => inner,
+        Err(halt) => return Err(halt),
+    };
+    let way = match turn(scene, site, &inner, variables, None, body, count, left) {
+        Ok(way) => way,
+        Err(halt) => return Err(halt),
+    };
+    if is_over(&way) {
+        return Ok(loop_left(way, count, variables));
+    }
+    match rounds(
+        scene,
+        site,
+        turns,
+        variables,
+        Some(condition),
+        None,
+        body,
+        count,
+        1,
+        left,
+    ) {
+        Ok(way) => Ok(loop_left(way, count, variables)),
+        Err(halt) => Err(halt),
+    }
+}
+
+/// A `for`.
+#[cycle(execution)]
+fn execute_for(
+    scene: &Scene<'_>,
+    site: u32,
+    turns: &Turns,
+    variables: &mut Variables,
+    first: &Option<Box<Statement>>,
+    condition: Option<&Expression>,
+    third: &Option<Box<Statement>>,
+    body: &Statement,
+    left: &mut Left<'_>,
+) -> Result<Way, Halt>
+    ensures { (k : Follows) → Went result (made (for_run (here scene.now.context.now) (setting scene.now site turns.now) (boxed_part first.now) (test condition.entry) (boxed_part third.now) (stmt body.now) k variables.old) left.old) (λ way. made (follow k way variables.new) left.new) }
+{
+    let outer = variables.len();
+    match first {
+        None => for_rounds(
+            scene, site, turns, variables, condition, third, body, outer, left,
+        ),
+        Some(first) => {
+            let way = match execute(scene, site, turns, variables, first, left) {
+                Ok(way) => way,
+                Err(halt) => return Err(halt),
+            };
+            if is_over(&way) {
+                return Ok(way);
+            }
+            match site_behind(scene.functions, site, first) {
+                Ok(behind) => {
+                    for_rounds(
+                        scene, behind, turns, variables, condition, third, body, outer, left,
+                    )
+                }
+                Err(halt) => Err(halt),
+            }
+        }
+    }
+}
+
+/// The turns of a `for`, behind which so many variables stay.
+#[cycle(execution)]
+fn for_rounds(
+    scene: &Scene<'_>,
+    site: u32,
+    turns: &Turns,
+    variables: &mut Variables,
+    condition: Option<&Expression>,
+    third: &Option<Box<Statement>>,
+    body: &Statement,
+    outer: usize,
+    left: &mut Left<'_>,
+) -> Result<Way, Halt>
+    ensures { (k : Follows) → Went result (made (looped (here scene.now.context.now) (setting scene.now site turns.now) (test condition.entry) (boxed_part third.now) (stmt body.now) (length variables.old) (record k { next = leaving outer k.next; broken = leaving outer k.next }) scene.now.most 0 variables.old) left.old) (λ way. made (follow k way variables.new) left.new) }
+{
+    let count = variables.len();
+    match third {
+        None => match rounds(
+            scene, site, turns, variables, condition, None, body, count, 0, left,
+        ) {
+            Ok(way) => Ok(for_left(way, outer, variables)),
+            Err(halt) => Err(halt),
+        },
+        Some(third) => {
+            match rounds(
+                scene,
+                site,
+                turns,
+                variables,
+                condition,
+                Some(third),
+                body,
+                count,
+                0,
+                left,
+            ) {
+                Ok(way) => Ok(for_left(way, outer, variables)),
+                Err(halt) => Err(halt),
+            }
+        }
+    }
 }

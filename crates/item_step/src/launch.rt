@@ -1,26 +1,28 @@
 //! A launch: a kernel of a program with its range, arguments and budget.
 #![tactic(auto)]
 
-ghost use Rattle.std.specs.Prelude.{◌≡◌, ◌<◌, ◌^◌, [], length, map, All, IfOk};
-ghost use Rattle.std.specs.Option.{option_map};
+ghost use Rattle.std.specs.Prelude.{◌≡◌, ◌<◌, ◌^◌, [], length, All, IfOk};
 ghost use Rattle.std.specs.List.{list_any};
 ghost use Rattle.clmodel.specs.Setup as setup;
-ghost use Rattle.clmodel.specs.Setup.{names_among, same_text, group_items, kernel_in};
-ghost use Rattle.clmodel.specs.Tree.{NoFunc, then_funcs, func};
+ghost use Rattle.clmodel.specs.Setup.{names_among, same_text, group_items};
 ghost use Rattle.clmodel.specs.declared.action.Action.{Action};
 ghost use Rattle.clmodel.specs.declared.action.Action.TheVariants as action;
-ghost use Rattle.item_step.specs.Evaluation.{Went};
+ghost use Rattle.item_value.specs.Evaluation.{Went};
+ghost use Rattle.item_step.specs.declared.ways.Way.{Way};
 
-use crate::answers::Left;
 use crate::execution::execute_all;
-use crate::halt::Halt;
-use crate::parameters::bound;
-use clmodel::action::{Action, Answer};
+use crate::functions::kernel_named;
+use crate::scene::Scene;
+use crate::ways::Way;
+use clmodel::action::{Action, Answer, Turns};
 use clmodel::next_action::NextAction;
 use clmodel::setup::{Argument, Range};
 use clmodel::text::Name;
-use clmodel::tree::{Function, Tree};
+use clmodel::tree::Tree;
 use item_state::context::{Context, group_counts};
+use item_value::answers::Left;
+use item_value::halt::Halt;
+use item_value::parameters::bound;
 use std::alloc::{AllocError, Global};
 
 /// A kernel that is ready to run: the tree of its program, its name's number, the range, the arguments by the parameters' places, the
@@ -40,20 +42,6 @@ pub struct Launch<'a> {
     ghost counted: { group_counts.items ≡ setup.group_counts range.now },
     ghost grouped: { group_size ≡ group_items range.now },
     ghost some: { 0 < group_size },
-}
-
-/// The kernel of a name: the last function of the name that is one.
-fn kernel_named(functions: &[Function], name: u32) -> Option<&Function>
-    ensures { option_map (λ f. func f.now) result ≡ kernel_in (then_funcs NoFunc (map func functions.now)) name }
-{
-    let mut found = None;
-    for i in 0..functions.len() {
-        let function = &functions[i];
-        if function.is_kernel && function.name == name {
-            found = Some(function);
-        }
-    }
-    found
 }
 
 /// The buffers that arguments name, each once, in the order of the first arguments that name them.
@@ -78,17 +66,18 @@ fn contains(names: &[Name], name: &Name) -> bool
     names.iter().any(|other| name == other)
 }
 
-/// The action at which an evaluation stopped.
-fn action_at(outcome: Result<(), Halt>) -> Result<Action, AllocError>
-    ensures { IfOk result (λ wanted. (made : Action) → Went outcome made (λ _. action.End) → made ≡ wanted) }
+/// The action at which an item's evaluation stopped.
+fn action_at(outcome: Result<Way, Halt>) -> Result<Action, AllocError>
+    ensures { IfOk result (λ wanted. (made : Action) (following : Way → Action) → ((way : Way) → following way ≡ action.End) → Went outcome made following → made ≡ wanted) }
 {
     match outcome {
-        Ok(()) | Err(Halt::Finish) => Ok(Action::End),
+        Ok(_) | Err(Halt::Finish) => Ok(Action::End),
         Err(Halt::Access { pointer, operation }) => Ok(Action::Access {
             object: pointer.object,
             element: pointer.offset,
             operation,
         }),
+        Err(Halt::Barrier { instance, fences }) => Ok(Action::Barrier { instance, fences }),
         Err(Halt::Fail(cause)) => Ok(Action::Fault(cause)),
         Err(Halt::Memory) => Err(AllocError),
     }
@@ -151,9 +140,13 @@ impl NextAction for Launch<'_> {
         item: u32,
         answers: &[Answer],
     ) -> Result<Action, AllocError> {
-        let Some(kernel) = kernel_named(self.tree.functions.as_slice(), self.kernel) else {
+        let functions = self.tree.functions.as_slice();
+        let Some(kernel) = kernel_named(functions, self.kernel) else {
             return Ok(Action::End);
         };
+        if self.budget > u32::MAX - 2 {
+            return Err(AllocError);
+        }
         let context = Context {
             alloc,
             item,
@@ -161,14 +154,20 @@ impl NextAction for Launch<'_> {
             group_counts: self.group_counts.as_slice(),
             group_size: self.group_size,
         };
+        let scene = Scene {
+            context: &context,
+            functions: &functions[..kernel.place],
+            most: self.budget + 1,
+        };
         let buffers = self.buffers.as_slice();
-        let parameters = kernel.parameters.as_slice();
+        let parameters = kernel.function.parameters.as_slice();
         let mut variables = bound(alloc, buffers, parameters, self.arguments)?;
         let mut left = Left {
             ticks: self.budget,
             answers,
         };
-        let body = kernel.body.as_slice();
-        action_at(execute_all(&context, &mut variables, body, &mut left))
+        let turns = Turns::new(alloc);
+        let body = kernel.function.body.as_slice();
+        action_at(execute_all(&scene, 0, &turns, &mut variables, body, &mut left))
     }
 }

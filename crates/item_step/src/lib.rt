@@ -1,14 +1,12 @@
 //! One work-item: what it does next.
 #![tactic(auto)]
 
-mod answers;
-mod evaluation;
+mod assignments;
 mod execution;
-mod halt;
+mod functions;
 mod launch;
-mod operators;
-mod parameters;
-mod pointers;
-mod types;
+mod scene;
+mod sites;
+mod ways;
 
 pub use launch::Launch;

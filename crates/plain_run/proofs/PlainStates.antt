@@ -16,6 +16,7 @@ use Rattle.clmodel.specs.declared.access.Access.{Access}
 use Rattle.clmodel.specs.declared.access.Operation.{Operation}
 use Rattle.clmodel.specs.declared.access.Operation.TheVariants.{Load, Store, Update}
 use Rattle.clmodel.specs.declared.access.Region.{Region}
+use Rattle.clmodel.specs.declared.action.Action.TheVariants as action
 use Rattle.clmodel.specs.declared.action.Answer.{Answer}
 use Rattle.clmodel.specs.declared.action.Answer.TheVariants.{Done}
 use Rattle.plain_run.specs.declared.memory.Entry.{Entry}
@@ -281,13 +282,15 @@ local_fences_le releases group = count_both (λ (r : GroupRelease). r.group == g
 pub global_fences_le : (releases : List GroupRelease) (group : ℕ) → global_fences releases group ≤ count_by (λ r. r.group == group) releases
 global_fences_le releases group = count_both (λ (r : GroupRelease). r.group == group) (λ (r : GroupRelease). r.fences.global) releases
 
-pub start_kept : (l : Launch) (s : PlainState) → s.log.items ≡ [] → s.answers.items ≡ replicate l.items [] → s.releases.items ≡ [] → IsKept l s
-start_kept l s a b c =
+pub start_kept : (l : Launch) (s : PlainState) → s.log.items ≡ [] → s.answers.items ≡ replicate l.items [] → s.releases.items ≡ [] → s.finished ≡ 0 → IsKept l s
+start_kept l s a b c f =
     record {
       listed = ap length b ∙ length-replicate l.items [];
       numbered = subst (All IsNumbered) (sym a) (All-nil IsNumbered);
       inside = subst (All (IsInside l)) (sym a) (All-nil (IsInside l));
       answered = λ item h. subst (λ z. count_by (λ (r : GroupRelease). r.group == group_of l item) z ≤ length (get_or s.answers.items item [])) (sym c) (omega arith);
+      within = omega (arith, f);
+      ended = λ item h. absurd (omega (arith, h, f));
     }
 
 longer : (lists : List (List Answer)) (item : ℕ) (a : Answer) (k : ℕ) → length (get_or lists k []) ≤ length (get_or (set lists item (get_or lists item [] ++ a ∷ [])) k [])
@@ -310,8 +313,9 @@ pub access_kept :
     (l : Launch) (s t : PlainState) (item : ℕ) (e : Entry) (a : Answer) → IsKept l s → IsNumbered e → IsInside l e
     → t.log.items ≡ s.log.items ++ e ∷ []
     → t.answers.items ≡ set s.answers.items item (get_or s.answers.items item [] ++ a ∷ [])
-    → t.releases.items ≡ s.releases.items → IsKept l t
-access_kept l s t item e a k n i p q r =
+    → t.releases.items ≡ s.releases.items
+    → t.finished ≡ s.finished → (l.next item (get_or s.answers.items item []) ≡ action.End → ⊥) → IsKept l t
+access_kept l s t item e a k n i p q r f going =
     record {
       listed = ap length q ∙ length-set s.answers.items item (get_or s.answers.items item [] ++ a ∷ []) ∙ k.listed;
       numbered = subst (All IsNumbered) (sym p) (All-push IsNumbered s.log.items e k.numbered n);
@@ -320,13 +324,22 @@ access_kept l s t item e a k n i p q r =
           let c = ap (count_by (λ (z : GroupRelease). z.group == group_of l j)) r in
           let m = ap (λ z. length (get_or z j [])) q in
           omega (arith, c, m, k.answered j h, longer s.answers.items item a j);
+      within = omega (arith, f, k.within);
+      ended = λ j h. still j (omega (arith, f, h)) (cases_eq j item);
     }
+  where
+    still : (j : ℕ) → j < s.finished → (j ≡ item) ⊎ (j ≡ item → ⊥) → l.next j (get_or t.answers.items j []) ≡ action.End
+    still j h (inl same) = absurd (going (subst (λ z. l.next z (get_or s.answers.items z []) ≡ action.End) same (k.ended j h)))
+    still j h (inr other) =
+        ap (λ z. l.next j (get_or z j [])) q
+        ∙ ap (l.next j) (get_or-set_other s.answers.items item j (get_or s.answers.items item [] ++ a ∷ []) [] other)
+        ∙ k.ended j h
 
 pub release_kept :
     (l : Launch) (s t : PlainState) (r : GroupRelease) → IsKept l s
     → t.log.items ≡ s.log.items → t.answers.items ≡ answers_released l.group_size r.group 0 s.answers.items → t.releases.items ≡ s.releases.items ++ r ∷ []
-    → IsKept l t
-release_kept l s t r k p q h =
+    → t.finished ≡ s.finished → ((item : ℕ) → item < s.finished → (group_of l item == r.group) ≡ false) → IsKept l t
+release_kept l s t r k p q h f apart =
     record {
       listed = ap length q ∙ length-answers_released l.group_size r.group 0 s.answers.items ∙ k.listed;
       numbered = subst (All IsNumbered) (sym p) k.numbered;
@@ -335,10 +348,20 @@ release_kept l s t r k p q h =
           let c = ap (count_by (λ (z : GroupRelease). z.group == group_of l j)) h ∙ sum_by_push (λ (z : GroupRelease). cond (z.group == group_of l j) 1 0) s.releases.items r in
           let m = ap (λ z. length (get_or z j [])) q ∙ ap length (released_at l.group_size r.group 0 s.answers.items j (omega (arith, b, k.listed))) in
           omega (arith, c, m, k.answered j b, grown j ((0 + j) / l.group_size == r.group) refl);
+      within = omega (arith, f, k.within);
+      ended = λ j b. still j (omega (arith, f, b));
     }
   where
     zero_more : (n : ℕ) → 0 + n ≡ n
     zero_more n = omega arith
+
+    still : (j : ℕ) → j < s.finished → l.next j (get_or t.answers.items j []) ≡ action.End
+    still j b =
+        ap (λ z. l.next j (get_or z j [])) q
+        ∙ ap (l.next j) (released_at l.group_size r.group 0 s.answers.items j (omega (arith, b, k.within, k.listed)))
+        ∙ ap (λ z. l.next j (if z / l.group_size == r.group then get_or s.answers.items j [] ++ Done ∷ [] else get_or s.answers.items j [])) (zero_more j)
+        ∙ ap (λ (z : Bool). l.next j (if z then get_or s.answers.items j [] ++ Done ∷ [] else get_or s.answers.items j [])) (apart j b)
+        ∙ k.ended j b
 
     grown :
         (j : ℕ) (b : Bool) → ((0 + j) / l.group_size == r.group) ≡ b

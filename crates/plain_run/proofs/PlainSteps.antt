@@ -1,12 +1,12 @@
 -- The plain program's events.
-use Rattle.std.proofs.Common.{◌≡◌, ℕ, ◌<◌, ◌≤◌, ◌^◌, ◌==◌, nat_lt, false, ℤ, Option, None, Some, [], ◌∷◌, ◌++◌, length, get_or, set, refl, sym, ap, ◌∙◌, arith, lt-ltb, ◌⊎◌, inl, inr}
+use Rattle.std.proofs.Common.{◌≡◌, ℕ, ◌<◌, ◌≤◌, ◌^◌, ◌==◌, ◌&&◌, not, nat_lt, Bool, true, false, ℤ, Option, None, Some, [], ◌∷◌, ◌++◌, length, get_or, set, refl, sym, ap, ◌∙◌, arith, lt-ltb, ◌⊎◌, inl, inr}
 use Rattle.std.specs.Prelude.{count_by, Result, Ok, Err, OnErr}
 use Rattle.std.proofs.lemmas.Bool.{le-ltb, false≢true, cases_lt, cond-true, cond-false}
 use Rattle.std.proofs.lemmas.Option.{none-some, same_Some}
 use Rattle.std.specs.Option.{option_map}
 use Rattle.clmodel.specs.Cells.{Outcome, width_of, found, answer_to, effect}
 use Rattle.clmodel.specs.Launch.{Launch, region_of, first_byte, kind_of, group_of}
-use Rattle.clmodel.specs.Run.{State, step, next_action, byte_at, interval_of, access_of, accessed, access_at, item_step, first_item, straggler, released, release_from, release_if, release}
+use Rattle.clmodel.specs.Run.{State, step, next_action, byte_at, interval_of, access_of, accessed, access_at, item_step, first_item, stop_of, both_stop, straggler, released, release_from, release_if, release}
 use Rattle.clmodel.specs.Law.{RegionsAreOne, is_over}
 use Rattle.clmodel.specs.Outcome.{IsReady}
 use Rattle.plain_run.specs.Plain.{written_by, access_in, fences_of, state_of, IsKept}
@@ -18,6 +18,7 @@ use Rattle.clmodel.specs.declared.access.Width.{Width}
 use Rattle.clmodel.specs.declared.action.Action.{Action}
 use Rattle.clmodel.specs.declared.action.Action.TheVariants as action
 use Rattle.clmodel.specs.declared.action.Answer.{Answer}
+use Rattle.clmodel.specs.declared.action.Stop.TheVariants.{At}
 use Rattle.clmodel.specs.declared.action.Fences.{Fences}
 use Rattle.clmodel.specs.declared.schedule.Event.TheVariants.{Item, Release}
 use Rattle.plain_run.specs.declared.memory.Entry.{Entry}
@@ -137,6 +138,22 @@ release_fences l s g first o h n e =
     from (action.Barrier instance fences) = refl
     from action.End = refl
     from (action.Fault c) = refl
+
+-- an item that ended is of no group that gathers at a barrier
+pub ended_apart :
+    (a b : Action) (of_group : Bool) (f : Fences) → fences_of a ≡ Some f → b ≡ action.End → (of_group && not (both_stop (stop_of a) (stop_of b))) ≡ false → of_group ≡ false
+ended_apart (action.Access object element operation) b g f h e n = absurd (none-some f h)
+ended_apart (action.Barrier instance fences) b g f h e n = last g (ap (λ z. g && not (both_stop (Some (At instance)) (stop_of z))) (sym e) ∙ n)
+  where
+    last : (g : Bool) → (g && true) ≡ false → g ≡ false
+    last true h = absurd (false≢true (sym h))
+    last false h = refl
+ended_apart action.End b g f h e n = absurd (none-some f h)
+ended_apart (action.Fault c) b g f h e n = absurd (none-some f h)
+
+-- an access is no end
+pub access_goes_on : (a : Action) (w : NextAccess) → access_in a ≡ Some w → a ≡ action.End → ⊥
+access_goes_on a w h e = none-some w (sym (ap access_in e) ∙ h)
 
 -- a clause on an error, where its fact holds in any case
 pub on_err : {T E : Type 0} (r : Result T E) (Q : Type 0) → Q → OnErr r Q

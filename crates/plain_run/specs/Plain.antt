@@ -116,14 +116,16 @@ abbrev pub Steps : Option State → Bool → State → State → Type 0
 Steps possible true old new = possible ≡ Some new
 Steps possible false old new = (possible ≡ None) × (new ≡ old)
 
--- what holds of each state that the program makes: one list of answers for each item, all accesses in range, and an answer of
--- each item of a group for each of its releases
+-- what holds of each state that the program makes: one list of answers for each item, all accesses in range, an answer of
+-- each item of a group for each of its releases, and all items below `finished` have ended
 pub record IsKept (launch : Launch) (s : PlainState) : Type 0 where
   pub listed : length s.answers.items ≡ launch.items
   pub numbered : All IsNumbered s.log.items
   pub inside : All (IsInside launch) s.log.items
   pub answered : (item : ℕ) → item < launch.items
       → count_by (λ r. r.group == group_of launch item) s.releases.items ≤ length (slice_index_or s.answers.items item [])
+  pub within : s.finished ≤ launch.items
+  pub ended : (item : ℕ) → item < s.finished → launch.next item (slice_index_or s.answers.items item []) ≡ action.End
 
 abbrev pub turn_of : PlainTurn → Turn
 turn_of (plain.Makes event) = Makes event

@@ -15,6 +15,7 @@ ghost use Rattle.clmodel.specs.declared.schedule.Run.TheVariants as run;
 use crate::PlainLaunch;
 use crate::launch::byte_count;
 use crate::memory::{Entry, byte_of};
+use crate::search::note_ended;
 use crate::state::PlainState;
 use crate::step::step;
 use crate::turn::{PlainTurn, turn};
@@ -223,6 +224,7 @@ pub fn run<N: NextAction>(
     while let Some(event) = next_event(alloc, launch, items, &state)? {
         step(alloc, launch, items, &mut state, event)?;
         add_event(&mut runs, event)?;
+        note_ended(alloc, launch, items, &mut state)?;
     }
     conclude(alloc, launch, items, &state, runs)
 }

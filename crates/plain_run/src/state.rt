@@ -72,12 +72,14 @@ pub struct GroupRelease {
     pub fences: Fences,
 }
 
-/// A state of a launch: the accesses and the releases that were made, the oldest first, and each item's answers.
+/// A state of a launch: the accesses and the releases that were made, the oldest first, each item's answers, and a number of items,
+/// the first ones, that are known to have ended.
 #[derive(Debug, Drop)]
 pub struct PlainState {
     pub log: Vec<Entry>,
     pub releases: Vec<GroupRelease>,
     pub answers: Vec<AnswerList>,
+    pub finished: u32,
 }
 
 /// How many releases of a group fenced local memory.
@@ -125,6 +127,7 @@ impl PlainState {
             log: Vec::new(alloc),
             releases: Vec::new(alloc),
             answers,
+            finished: 0,
         })
     }
 
@@ -148,6 +151,7 @@ impl PlainState {
         ensures answers { OnOk result (self.new.answers.items
             ≡ slice_set self.old.answers.items item (slice_index_or self.old.answers.items item [] ++ answer ∷ [])) }
         ensures releases { self.new.releases.items ≡ self.old.releases.items }
+        ensures finished { self.new.finished ≡ self.old.finished }
         ensures log_at_err { OnErr result (self.new.log.items ≡ self.old.log.items) }
         ensures answers_at_err { OnErr result (self.new.answers.items ≡ self.old.answers.items) }
     {
@@ -194,6 +198,7 @@ impl PlainState {
         ensures answers { OnOk result (self.new.answers.items
             ≡ answers_released launch.now.group_size release.group 0 self.old.answers.items) }
         ensures releases { OnOk result (self.new.releases.items ≡ self.old.releases.items ++ release ∷ []) }
+        ensures finished { self.new.finished ≡ self.old.finished }
         ensures answers_at_err { OnErr result (self.new.answers.items ≡ self.old.answers.items) }
         ensures releases_at_err { OnErr result (self.new.releases.items ≡ self.old.releases.items) }
     {

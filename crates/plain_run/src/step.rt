@@ -1,6 +1,6 @@
 //! Single events of a launch.
 
-ghost use Rattle.std.specs.Prelude.{◌≡◌, ℕ, ◌<◌, ◌^◌, ◌==◌, ◌/◌, List, length, count_by, IfOk, OnErr};
+ghost use Rattle.std.specs.Prelude.{◌≡◌, ℕ, ◌<◌, ◌^◌, ◌==◌, ◌/◌, List, [], length, slice_index_or, count_by, IfOk, OnErr};
 ghost use Rattle.clmodel.specs.Run.{step, item_step};
 ghost use Rattle.clmodel.specs.Outcome.{IsReady};
 ghost use Rattle.plain_run.specs.Plain.{launch_of, state_of, access_in, fences_of, Steps, IsKept};
@@ -44,7 +44,8 @@ fn make_access(
         made (state_of (launch_of launch.now next) state.old) (state_of (launch_of launch.now next) state.new)) }
     ensures err { OnErr result ((next : ℕ → List Answer → Action)
         → state_of (launch_of launch.now next) state.new ≡ state_of (launch_of launch.now next) state.old) }
-    ensures kept { (next : ℕ → List Answer → Action) → IsKept (launch_of launch.now next) state.old → IsKept (launch_of launch.now next) state.new }
+    ensures kept { (next : ℕ → List Answer → Action) → (next item (slice_index_or state.old.answers.items item []) ≡ Action.End → ⊥)
+        → IsKept (launch_of launch.now next) state.old → IsKept (launch_of launch.now next) state.new }
 {
     regions_are_one();
     let group = launch.group_of(item);

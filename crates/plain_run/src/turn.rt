@@ -237,7 +237,7 @@ fn group_turn<N: NextAction>(
     group: u32,
 ) -> Result<PlainTurn, AllocError>
     requires grouped { 0 < launch.now.group_size }
-    requires listed { length state.now.answers.items ≡ launch.now.items }
+    requires kept { IsKept (launch_of launch.now (N.next items.now)) state.now }
     ensures { let described = launch_of launch.now (N.next items.now) in
         IfOk result (λ turn. turn_of turn ≡ group_turn described (state_of described state.now) group (first_item described group)) }
 {

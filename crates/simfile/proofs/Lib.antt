@@ -1,4 +1,3 @@
-pub mod Puts
 pub mod FieldLemmas
 pub mod FieldLaws
 pub mod Grammar

@@ -1,5 +1,3 @@
-pub mod Sink
-pub mod Source
 pub mod Fields
 pub mod Lines
 pub mod Pieces

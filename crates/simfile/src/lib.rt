@@ -1,7 +1,6 @@
 //! The text of scripts and of replies, read and written.
 #![tactic(auto)]
 
-pub mod ends;
 mod fields;
 pub mod laws;
 pub mod pieces;

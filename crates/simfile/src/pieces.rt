@@ -4,11 +4,11 @@
 ghost use Rattle.std.specs.Prelude.{◌≡◌, ◌<◌, decimal};
 ghost use Rattle.std.specs.Fmt.{signed_decimal};
 ghost use Rattle.std.specs.List.{flat_map};
-ghost use Rattle.simfile.specs.Sink.{Puts};
+ghost use Rattle.ends.specs.Sink.{Puts};
 ghost use Rattle.simfile.specs.Pieces.{piece_text};
 ghost use Rattle.simfile.specs.Fields.{byte_text, hex_digit};
 
-use crate::ends::{Write, WriteFailed};
+use ends::{Write, WriteFailed};
 use itoa::Buffer;
 
 /// A part of a line.
@@ -30,10 +30,10 @@ pub fn write_number<W: Write>(number: u64, writer: &mut W) -> Result<(), WriteFa
     writer.write(Buffer::new().format(number).as_bytes())
 }
 
-pub fn write_signed<W: Write>(number: i64, writer: &mut W) -> Result<(), WriteFailed>
-    ensures { Puts (W.sink writer.old) result (W.sink writer.new) (signed_decimal number) }
+pub fn write_signed<W: Write>(value: i64, writer: &mut W) -> Result<(), WriteFailed>
+    ensures { Puts (W.sink writer.old) result (W.sink writer.new) (signed_decimal value) }
 {
-    writer.write(Buffer::new().format(number).as_bytes())
+    writer.write(Buffer::new().format(value).as_bytes())
 }
 
 fn write_piece<W: Write>(piece: &Piece<'_>, writer: &mut W) -> Result<(), WriteFailed>

@@ -3,11 +3,10 @@
 
 ghost use Rattle.std.specs.Prelude.{◌≡◌, codes};
 ghost use Rattle.std.specs.List.{flat_map};
-ghost use Rattle.simfile.specs.Sink.{Puts};
+ghost use Rattle.ends.specs.Sink.{Puts};
 ghost use Rattle.simfile.specs.Lines.{class_text, kind_text, clash_text, location_text, later_turn_text, turns_text, stop_text, run_text, schedule_text, fault_text, private_text, item_text, fault_line, syntax_words, syntax_place, type_words, type_place, build_words, build_place, refusal_text, line, check_line};
 ghost use Rattle.simfile.specs.Parts.{part_text};
 
-use crate::ends::{Write, WriteFailed};
 use crate::pieces::{Piece, write_hex, write_number, write_pieces, write_signed};
 use clmodel::access::{AccessKind, Clash, Class};
 use clmodel::action::Stop;
@@ -16,6 +15,7 @@ use clmodel::schedule::Run;
 use clmodel::type_fault::TypeFault;
 use clsyntax_lex::token::SyntaxFault;
 use device_store::command::{BuildFault, Refusal, Reply};
+use ends::{Write, WriteFailed};
 
 /// A part of a reply's line.
 #[derive(Clone, Copy, Debug)]

@@ -2,4 +2,8 @@
 #![tactic(auto)]
 
 #[cfg(test)]
+mod control_flow;
+#[cfg(test)]
 mod rows;
+#[cfg(test)]
+mod runs;

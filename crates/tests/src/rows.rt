@@ -1,38 +1,4 @@
-use cli::memory::{MemoryReader, MemoryWriter};
-use cli::session::{Options, RunFault, run, status};
-use cli::streams::{Input, Output};
-use std::alloc::Global;
-use std::io;
-use std::io::BufWriter;
-use std::process::Abort;
-
-/// A writer into memory that doesn't fail.
-fn writer(alloc: Global) -> io::Result<Output<MemoryWriter>> {
-    let written = MemoryWriter::new(Vec::new(alloc), 4096, u64::MAX);
-    Ok(Output::new(BufWriter::new(alloc, written)?))
-}
-
-/// Runs a script, and compares the text that was written and the status.
-fn check<R: Abort + AllocGlobal>(rt: &R, script: &str, replies: &str, wanted: u8) {
-    let mut reader = Input::new(MemoryReader::new(script.as_bytes(), 4096, u64::MAX));
-    let Ok(mut writer) = writer(rt.alloc()) else {
-        return assert!(rt; false);
-    };
-    let outcome = run(rt.alloc(), &mut reader, &mut writer, Options::default());
-    assert_eq!(rt; status(&outcome), wanted);
-    assert_eq!(rt; writer.into_inner().as_slice(), replies.as_bytes());
-}
-
-/// Runs a script that is none, and compares the line that is told.
-fn check_bad<R: Abort + AllocGlobal>(rt: &R, script: &str, line: usize) {
-    let mut reader = Input::new(MemoryReader::new(script.as_bytes(), 4096, u64::MAX));
-    let Ok(mut writer) = writer(rt.alloc()) else {
-        return assert!(rt; false);
-    };
-    let outcome = run(rt.alloc(), &mut reader, &mut writer, Options::default());
-    assert!(rt; matches!(&outcome, Err(RunFault::BadLine(number)) if *number == line));
-    assert!(rt; writer.into_inner().as_slice().is_empty());
-}
+use crate::runs::{check, check_bad};
 
 #[test]
 fn the_first_run(rt: HostRuntime) {

@@ -112,7 +112,17 @@ fn statuses(rt: HostRuntime) {
 fn command_lines(rt: HostRuntime) {
     let words = ["clsim", "run", "script.txt"];
     match command(rt.alloc(), &words) {
-        Ok(Invocation::Run { file }) => assert_eq!(rt; file, "script.txt"),
+        Ok(Invocation::Run { file, options }) => {
+            assert_eq!(rt; file, "script.txt");
+            assert_eq!(rt; options, Options::default());
+        }
+        _ => assert!(rt; false),
+    }
+    match command(rt.alloc(), &["clsim", "run", "--budget", "1000000", "s"]) {
+        Ok(Invocation::Run { file, options }) => {
+            assert_eq!(rt; file, "s");
+            assert_eq!(rt; options.budget, 1_000_000);
+        }
         _ => assert!(rt; false),
     }
     match command(rt.alloc(), &["clsim", "check", "f.cl"]) {
@@ -125,4 +135,8 @@ fn command_lines(rt: HostRuntime) {
     assert!(rt; command(rt.alloc(), &["clsim", "run"]).is_err());
     assert!(rt; command(rt.alloc(), &["clsim", "run", "a", "b"]).is_err());
     assert!(rt; command(rt.alloc(), &["clsim", "walk", "a"]).is_err());
+    for budget in ["0", "1000001", "-1", "x"] {
+        let words = ["clsim", "run", "a", "--budget", budget];
+        assert!(rt; command(rt.alloc(), &words).is_err());
+    }
 }

@@ -1,27 +1,38 @@
 -- What a name stands for (OpenCL 1.2, 6.9; C99 6.2.1 and 6.2.3).
-use Rattle.std.specs.Prelude.{ℕ, Bool, not, ◌&&◌, nat_eq, nat_lt, List, [], ◌∷◌, ◌++◌, Option, None, Some, is_some, if◌then◌else◌}
+use Rattle.std.specs.Prelude.{ℕ, Bool, true, not, ◌&&◌, nat_eq, nat_lt, List, [], ◌∷◌, ◌++◌, Option, None, Some, is_some, if◌then◌else◌}
 use Rattle.std.specs.List.{list_any}
 use Rattle.std.specs.Option.{option_or}
 use Rattle.std.specs.Map.{lookup}
+use Rattle.clnum.specs.declared.int_type.IntType.{IntType}
 use Rattle.clmodel.specs.BuiltIns.{built_in}
 use Rattle.clmodel.specs.declared.setup.BuiltIn.{BuiltIn}
 use Rattle.clmodel.specs.declared.tree.VariableType.{VariableType}
 use Rattle.clmodel.specs.Tree as tree
-use Rattle.clmodel.specs.Tree.{Stmt, Stmts, NoStmt, ThenStmt}
+use Rattle.clmodel.specs.Tree.{Stmt, Stmts, NoStmt, ThenStmt, MaybeStmt, Without, With}
 
 -- the variables of a scope with their types, in the order of their declarations
 abbrev pub Scope : Type 0
 Scope = List (ℕ × VariableType)
 
+-- what a call of a function of the text has to know of it
+pub record Signature : Type 0 where
+  pub is_kernel : Bool
+  pub result : Option IntType  -- the type of the value that it gives, if it gives one
+  pub parameters : List VariableType
+
 pub record Context : Type 0 where
   pub all : List ℕ  -- the names of the functions of the whole text
-  pub begun : List ℕ  -- the names of the functions whose text has begun
+  pub before : List (ℕ × Signature)  -- the functions before this one, by their names, in the order of the text
+  pub current : ℕ  -- this function's name
+  pub signature : Signature
+  pub in_loop : Bool
   pub inner : Scope  -- the innermost scope
   pub outer : List Scope  -- those around it, the innermost first
 
 pub data Meaning : Type 0 where
   Bound : VariableType → Meaning
-  Callable : Meaning
+  Callable : Signature → Meaning  -- a function before this one
+  Current : Signature → Meaning  -- the function itself
   BuiltInFunction : BuiltIn → Meaning
   Unknown : Meaning
 
@@ -41,17 +52,22 @@ among x names = list_any (nat_eq x) names
 abbrev pub with_name : List ℕ → ℕ → List ℕ
 with_name names x = if among x names then names else names ++ x ∷ []
 
-abbrev pub called : Option BuiltIn → Meaning
-called None = Unknown
-called (Some f) = BuiltInFunction f
+abbrev pub called : Option Signature → Option BuiltIn → Meaning
+called (Some s) f = Callable s
+called None (Some f) = BuiltInFunction f
+called None None = Unknown
+
+-- the signature of the first of these functions that has a name
+abbrev pub signature_of : List (ℕ × Signature) → ℕ → Option Signature
+signature_of functions x = lookup (nat_eq x) functions
 
 abbrev pub found : Option VariableType → Meaning → Meaning
 found None m = m
 found (Some kind) m = Bound kind
 
--- a function of the text, or a built-in one
+-- A function of the text whose text has begun, or a built-in one. Functions that come later are unknown.
 abbrev pub function_meaning : Context → ℕ → Meaning
-function_meaning c x = if among x c.begun then Callable else called (built_in x)
+function_meaning c x = if nat_eq x c.current then Current c.signature else called (signature_of c.before x) (built_in x)
 
 -- a variable, or a function
 abbrev pub meaning : Context → ℕ → Meaning
@@ -72,6 +88,10 @@ bind c x kind = record c { inner = c.inner ++ (x, kind) ∷ [] }
 abbrev pub enter : Context → Context
 enter c = record c { inner = []; outer = c.inner ∷ c.outer }
 
+-- the body of a loop: a block (C99 6.8.5, paragraph 5), in which `break` and `continue` may stand
+abbrev pub turning : Context → Context
+turning c = record c { in_loop = true; inner = []; outer = c.inner ∷ c.outer }
+
 -- What follows a statement sees what it declares.
 abbrev pub after : Context → Stmt → Context
 after c (tree.Declare a kind b x) = bind c x kind
@@ -81,3 +101,11 @@ after c _ = c
 abbrev pub after_all : Context → Stmts → Context
 after_all c NoStmt = c
 after_all c (ThenStmt ss s) = after (after_all c ss) s
+
+-- where the condition of a `for` stands: in a block of its own, which sees what the first part declares (C99 6.8.5.3)
+abbrev pub after_part : Context → MaybeStmt → Context
+after_part c Without = c
+after_part c (With s) = after c s
+
+abbrev pub for_context : Context → MaybeStmt → Context
+for_context c first = after_part (enter c) first

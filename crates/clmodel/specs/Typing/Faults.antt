@@ -1,5 +1,5 @@
 -- The faults of a tree: for each place the list of its faults, in no order, and the places in the order of the text, children before parents.
-use Rattle.std.specs.Prelude.{ℕ, suc, Bool, true, false, not, ◌||◌, nat_eq, List, [], ◌∷◌, ◌++◌, Option, None, Some, length}
+use Rattle.std.specs.Prelude.{ℕ, Bool, true, false, not, ◌||◌, ◌&&◌, nat_eq, List, [], ◌∷◌, ◌++◌, map, Option, None, Some, is_some, length}
 use Rattle.std.specs.List.{slice_get}
 use Rattle.clnum.specs.Builtins.{is_same}
 use Rattle.clnum.specs.Conversions.{common, unsigned_of}
@@ -22,10 +22,10 @@ use Rattle.clmodel.specs.declared.tree.VariableType.TheVariants.{Integer as Numb
 use Rattle.clmodel.specs.declared.type_fault.TypeFault.{TypeFault}
 use Rattle.clmodel.specs.declared.type_fault.TypeFault.TheVariants as fault
 use Rattle.clmodel.specs.Tree as tree
-use Rattle.clmodel.specs.Tree.{Term, Terms, NoTerm, ThenTerm, Place, Stmt, Stmts, NoStmt, ThenStmt}
-use Rattle.clmodel.specs.Typing.Context.{Context, Meaning, meaning, Bound, Callable, BuiltInFunction, Unknown, is_free, bind, enter, after_all}
+use Rattle.clmodel.specs.Tree.{Term, Terms, NoTerm, ThenTerm, Place, Stmt, Stmts, NoStmt, ThenStmt, MaybeStmt, Without, With, MaybeTerm, Always, While_}
+use Rattle.clmodel.specs.Typing.Context.{Context, Signature, Meaning, meaning, Bound, Callable, Current, BuiltInFunction, Unknown, is_free, bind, enter, turning, for_context, after_all}
 use Rattle.clmodel.specs.Typing.Least.{Places, node}
-use Rattle.clmodel.specs.Typing.Rules.{is_constant, is_writable, is_atomic, has_operand}
+use Rattle.clmodel.specs.Typing.Rules.{is_constant, is_writable, is_atomic, has_operand, count}
 
 abbrev pub unless : Bool → TypeFault → List TypeFault
 unless true f = []
@@ -78,7 +78,8 @@ passing_faults (Pointer p) (Pointer q) a =
 -- a name as a value, or assigned to
 abbrev pub name_faults : Meaning → ℕ → List TypeFault
 name_faults (Bound k) a = []
-name_faults Callable a = fault.TypeMismatch a ∷ []
+name_faults (Callable s) a = fault.TypeMismatch a ∷ []
+name_faults (Current s) a = fault.TypeMismatch a ∷ []
 name_faults (BuiltInFunction f) a = fault.TypeMismatch a ∷ []
 name_faults Unknown a = fault.UnknownName a ∷ []
 
@@ -112,11 +113,12 @@ abbrev pub assigning_faults : BinaryOperator → VariableType → VariableType �
 assigning_faults op (Number t) k a b = integer_faults k b
 assigning_faults op (Pointer p) k a b = unless (moves op) (fault.TypeMismatch a) ++ integer_faults k b
 
--- what an argument of a built-in function has to be
+-- what an argument has to be
 pub data Want : Type 0 where
   AnInteger : Want
   OfTypeBefore : Want  -- of the type of the argument before it
   AnAtomicPointer : Want
+  ForParameter : VariableType → Want  -- what can be given to a parameter of this type
 
 -- the parameters of a function on integers
 abbrev pub integer_wants : Builtin → List Want
@@ -141,20 +143,40 @@ abbrev pub has_value : BuiltIn → Bool
 has_value (built_in.Atomic f) = false
 has_value _ = true
 
-abbrev pub count : Terms → ℕ
-count NoTerm = 0
-count (ThenTerm es e) = suc (count es)
+-- where a call stands
+pub data Spot : Type 0 where
+  WholeStatement : Spot
+  RightSide : Spot  -- all that is assigned, or that initialises a variable
+  Inside : Spot  -- part of another expression, a condition, or what is returned
 
--- what is called: whether it is a whole statement, where, and with how many arguments
-abbrev pub callee_faults : (whole : Bool) → Meaning → (at arguments : ℕ) → List TypeFault
-callee_faults whole (BuiltInFunction f) a n =
-    unless (nat_eq n (length (wants f))) (fault.WrongArgumentCount a) ++ unless (whole || has_value f) (fault.AtomicValueUsed a)
-callee_faults whole Unknown a n = fault.UnknownName a ∷ []
-callee_faults whole _ a n = fault.TypeMismatch a ∷ []
+abbrev pub is_statement : Spot → Bool
+is_statement WholeStatement = true
+is_statement _ = false
+
+-- whether a function of the text may be called there
+abbrev pub takes_helper : Spot → Bool
+takes_helper Inside = false
+takes_helper _ = true
+
+-- a call of a function of the text with this signature: no kernel, at a spot that takes it, and with an argument for each parameter
+abbrev pub helper_faults : Spot → Signature → (at arguments : ℕ) → List TypeFault
+helper_faults spot s a n =
+    unless (takes_helper spot && not s.is_kernel) (fault.TypeMismatch a) ++ unless (nat_eq n (length s.parameters)) (fault.WrongArgumentCount a)
+
+-- what is called: at which spot, where, and with how many arguments
+abbrev pub callee_faults : Spot → Meaning → (at arguments : ℕ) → List TypeFault
+callee_faults spot (BuiltInFunction f) a n =
+    unless (nat_eq n (length (wants f))) (fault.WrongArgumentCount a) ++ unless (is_statement spot || has_value f) (fault.AtomicValueUsed a)
+callee_faults spot (Callable s) a n = helper_faults spot s a n
+callee_faults spot (Current s) a n = helper_faults spot s a n ++ fault.Recursion a ∷ []
+callee_faults spot (Bound k) a n = fault.TypeMismatch a ∷ []
+callee_faults spot Unknown a n = fault.UnknownName a ∷ []
 
 -- what arguments it wants
 abbrev pub wanted : Meaning → List Want
 wanted (BuiltInFunction f) = wants f
+wanted (Callable s) = map ForParameter s.parameters
+wanted (Current s) = map ForParameter s.parameters
 wanted _ = []
 
 -- an integer of the type of the one before it
@@ -174,6 +196,7 @@ argument_faults None j k a = []
 argument_faults (Some AnInteger) j k a = integer_faults k a
 argument_faults (Some OfTypeBefore) j k a = same_faults j k a
 argument_faults (Some AnAtomicPointer) j k a = atomic_faults k a
+argument_faults (Some (ForParameter p)) j k a = passing_faults p k a
 
 -- The type of an expression, if it has no faults.
 abbrev pub name_kind : Meaning → VariableType
@@ -211,11 +234,17 @@ abbrev pub integer_call_kind : Builtin → VariableType → VariableType
 integer_call_kind integer.Abs k = unsigned_type k
 integer_call_kind _ k = k
 
+-- what a function of the text gives
+abbrev pub result_kind : Option IntType → VariableType
+result_kind (Some t) = Number t
+result_kind None = Number Int
+
 -- a call, by the type of its last argument
 abbrev pub call_kind : Meaning → VariableType → VariableType
 call_kind (BuiltInFunction built_in.WorkDim) k = Number Uint
 call_kind (BuiltInFunction (built_in.WorkItem f)) k = Number Ulong
 call_kind (BuiltInFunction (built_in.Integer f)) k = integer_call_kind f k
+call_kind (Callable s) k = result_kind s.result
 call_kind _ k = Number Int
 
 abbrev mutual
@@ -242,8 +271,8 @@ arguments_faults c ws (ThenTerm es e) =
     arguments_faults c ws es ++ argument_faults (slice_get ws (count es)) (last_kind c es) (kind_of c e) (start e)
 
 -- a call's own faults
-abbrev pub call_faults : Context → (whole : Bool) → Meaning → (at : ℕ) → Terms → List TypeFault
-call_faults c whole m a es = callee_faults whole m a (count es) ++ arguments_faults c (wanted m) es
+abbrev pub call_faults : Context → Spot → Meaning → (at : ℕ) → Terms → List TypeFault
+call_faults c spot m a es = callee_faults spot m a (count es) ++ arguments_faults c (wanted m) es
 
 -- An expression's places: its parts from left to right, then itself.
 abbrev mutual
@@ -253,7 +282,7 @@ abbrev mutual
   term_faults c (tree.Element a x e) = node (term_faults c e) (front_faults (meaning c x) a ++ integer_faults (kind_of c e) (start e))
   term_faults c (tree.ElementAddress a b x e) = node (term_faults c e) (front_faults (meaning c x) b ++ integer_faults (kind_of c e) (start e))
   term_faults c (tree.Dereference a e) = node (term_faults c e) (pointer_faults (kind_of c e) (start e))
-  term_faults c (tree.Call a x es) = node (terms_faults c es) (call_faults c false (meaning c x) a es)
+  term_faults c (tree.Call a x es) = node (terms_faults c es) (call_faults c Inside (meaning c x) a es)
   term_faults c (tree.Unary a op e) = node (term_faults c e) (integer_faults (kind_of c e) (start e))
   term_faults c (tree.Cast a t e) = node (term_faults c e) (integer_faults (kind_of c e) (start e))
   term_faults c (tree.Binary a op d e) =
@@ -287,49 +316,73 @@ place_kind c (tree.Whole a x) = name_kind (meaning c x)
 place_kind c (tree.Part a x e) = element_kind (name_kind (meaning c x))
 place_kind c (tree.Behind a e) = element_kind (kind_of c e)
 
--- where a statement begins
-abbrev pub beginning : Stmt → ℕ
-beginning (tree.Empty a) = a
-beginning (tree.Block a ss) = a
-beginning (tree.Declare a k b x) = a
-beginning (tree.DeclareAs a k b x e) = a
-beginning (tree.DeclareArray a is_local t b x d n) = a
-beginning (tree.Assign a p op e) = a
-beginning (tree.Step a p is_increment) = a
-beginning (tree.CallOnly a x es) = a
-beginning (tree.If a e s) = a
-beginning (tree.IfElse a e s r) = a
-beginning (tree.While a e s) = a
-beginning (tree.DoWhile a s e) = a
-beginning (tree.For a s e r t) = a
-beginning (tree.Break a) = a
-beginning (tree.Continue a) = a
-beginning (tree.Return a) = a
-beginning (tree.ReturnValue a e) = a
+-- What is assigned, or initialises a variable. A helper may be called here.
+abbrev pub value_faults : Context → Term → Places
+value_faults c (tree.Call a x es) = node (terms_faults c es) (call_faults c RightSide (meaning c x) a es)
+value_faults c e = term_faults c e
+
+-- whether it has a value
+abbrev pub gives_value : Meaning → Bool
+gives_value (Callable s) = is_some s.result
+gives_value _ = true
+
+abbrev pub void_faults : Context → Term → List TypeFault
+void_faults c (tree.Call a x es) = unless (gives_value (meaning c x)) (fault.TypeMismatch a)
+void_faults c e = []
 
 abbrev pub declared_faults : Context → (at name : ℕ) → List TypeFault
 declared_faults c b x = unless (is_free c x) (fault.Redeclared b)
 
 -- an initialiser
 abbrev pub initial_faults : Context → VariableType → Term → Places
-initial_faults c k e = node (term_faults c e) (passing_faults k (kind_of c e) (start e))
+initial_faults c k e = node (value_faults c e) (void_faults c e ++ passing_faults k (kind_of c e) (start e))
 
 -- the own faults of an assignment
 abbrev pub assignment_faults : Context → Place → Option BinaryOperator → Term → List TypeFault
-assignment_faults c p None e = passing_faults (place_kind c p) (kind_of c e) (start e)
-assignment_faults c p (Some op) e = assigning_faults op (place_kind c p) (kind_of c e) (place_start p) (start e)
+assignment_faults c p None e = void_faults c e ++ passing_faults (place_kind c p) (kind_of c e) (start e)
+assignment_faults c p (Some op) e = void_faults c e ++ assigning_faults op (place_kind c p) (kind_of c e) (place_start p) (start e)
 
--- A statement's places. A declared name has its own place before those of its initialiser, and is in scope there.
+-- a condition that may be left out, as a part
+abbrev pub condition_parts : Context → MaybeTerm → Places
+condition_parts c Always = []
+condition_parts c (While_ e) = term_faults c e
+
+-- and what its statement wants of it
+abbrev pub condition_faults : Context → MaybeTerm → List TypeFault
+condition_faults c Always = []
+condition_faults c (While_ e) = integer_faults (kind_of c e) (start e)
+
+-- `return` with a value: in a function that gives one, and an integer
+abbrev pub return_faults : Context → ℕ → Term → List TypeFault
+return_faults c a e = unless (is_some c.signature.result) (fault.TypeMismatch a) ++ integer_faults (kind_of c e) (start e)
+
+-- A statement's places. A declared name has its own place before those of its initialiser, and is in scope there. A condition is a
+-- fault of its statement, and so comes after what is controlled.
 abbrev mutual
   pub faults : Context → Stmt → Places
   faults c (tree.Empty a) = []
   faults c (tree.Block a ss) = row_faults (enter c) ss
   faults c (tree.Declare a k b x) = declared_faults c b x ∷ []
   faults c (tree.DeclareAs a k b x e) = declared_faults c b x ∷ initial_faults (bind c x k) k e
-  faults c (tree.Assign a p op e) = node (place_faults c p ++ term_faults c e) (assignment_faults c p op e)
+  faults c (tree.DeclareArray a is_local t b x d n) = (fault.TypeMismatch a ∷ []) ∷ []
+  faults c (tree.Assign a p op e) = node (place_faults c p ++ value_faults c e) (assignment_faults c p op e)
   faults c (tree.Step a p is_increment) = place_faults c p
-  faults c (tree.CallOnly a x es) = node (terms_faults c es) (call_faults c true (meaning c x) a es)
-  faults c s = (fault.TypeMismatch (beginning s) ∷ []) ∷ []
+  faults c (tree.CallOnly a x es) = node (terms_faults c es) (call_faults c WholeStatement (meaning c x) a es)
+  faults c (tree.If a e s) = node (term_faults c e ++ faults (enter c) s) (condition_faults c (While_ e))
+  faults c (tree.IfElse a e s r) = node (term_faults c e ++ faults (enter c) s ++ faults (enter c) r) (condition_faults c (While_ e))
+  faults c (tree.While a e s) = node (term_faults c e ++ faults (turning c) s) (condition_faults c (While_ e))
+  faults c (tree.DoWhile a s e) = node (faults (turning c) s ++ term_faults c e) (condition_faults c (While_ e))
+  faults c (tree.For a first e third s) = let d = for_context c first in
+      node (part_faults (enter c) first ++ condition_parts d e ++ part_faults (enter d) third ++ faults (turning d) s) (condition_faults d e)
+  faults c (tree.Break a) = unless c.in_loop (fault.TypeMismatch a) ∷ []
+  faults c (tree.Continue a) = unless c.in_loop (fault.TypeMismatch a) ∷ []
+  faults c (tree.Return a) = unless (not (is_some c.signature.result)) (fault.TypeMismatch a) ∷ []
+  faults c (tree.ReturnValue a e) = node (term_faults c e) (return_faults c a e)
+
+  -- a part of a `for` that may be left out
+  pub part_faults : Context → MaybeStmt → Places
+  part_faults c Without = []
+  part_faults c (With s) = faults c s
 
   pub row_faults : Context → Stmts → Places
   row_faults c NoStmt = []

@@ -1,23 +1,31 @@
 -- The rules and the faults of functions and of programs (OpenCL 1.2, 6.7.1 and 6.9; C99 6.9).
-use Rattle.std.specs.Prelude.{◌≡◌, ℕ, ◌≤◌, Bool, true, not, ◌&&◌, nat_le, List, [], ◌∷◌, ◌++◌}
+use Rattle.std.specs.Prelude.{◌≡◌, ℕ, ◌≤◌, Bool, true, false, not, ◌&&◌, ◌||◌, nat_le, List, [], ◌∷◌, ◌++◌, map, is_some}
 use Rattle.clmodel.specs.declared.tree.Parameter.{Parameter}
 use Rattle.clmodel.specs.declared.type_fault.TypeFault.{TypeFault}
 use Rattle.clmodel.specs.declared.type_fault.TypeFault.TheVariants as fault
 use Rattle.clmodel.specs.Tree.{Func, Funcs, NoFunc, ThenFunc, Program}
-use Rattle.clmodel.specs.Typing.Context.{Context, among, with_name, is_reserved, is_free, bind}
+use Rattle.clmodel.specs.Typing.Context.{Context, Signature, signature_of, with_name, is_reserved, is_free, bind}
 use Rattle.clmodel.specs.Typing.Least.{Places}
 use Rattle.clmodel.specs.Typing.Rules.{AreTyped}
 use Rattle.clmodel.specs.Typing.Faults.{unless, declared_faults, row_faults}
-use Rattle.clmodel.specs.Typing.Sizes.{row_nodes, node_limit}
+use Rattle.clmodel.specs.Typing.Sizes.{Size, row_size, sizes_of, loop_limit, node_limit, row_returns}
 
 -- names of functions, each once, in the order of the text
 abbrev pub names : Funcs → List ℕ
 names NoFunc = []
 names (ThenFunc fs f) = with_name (names fs) f.name
 
+abbrev pub signature : Func → Signature
+signature f = record { is_kernel = f.is_kernel; result = f.result; parameters = map (λ p. p.kind) f.parameters }
+
+-- functions by their names, in the order of the text
+abbrev pub signatures : Funcs → List (ℕ × Signature)
+signatures NoFunc = []
+signatures (ThenFunc fs f) = signatures fs ++ (f.name, signature f) ∷ []
+
 -- where a function's text begins, with these before it
 abbrev pub begin : List ℕ → Funcs → Func → Context
-begin all fs f = record { all = all; begun = with_name (names fs) f.name; inner = []; outer = [] }
+begin all fs f = record { all = all; before = signatures fs; current = f.name; signature = signature f; in_loop = false; inner = []; outer = [] }
 
 abbrev pub with_params : Context → List Parameter → Context
 with_params c [] = c
@@ -30,15 +38,20 @@ AreParams c (p ∷ ps) = (is_free c p.name ≡ true) × AreParams (bind c p.name
 
 -- a name for a function, with these before it
 abbrev pub is_new : Funcs → ℕ → Bool
-is_new fs x = not (is_reserved x) && not (among x (names fs))
+is_new fs x = not (is_reserved x) && not (is_some (signature_of (signatures fs) x))
+
+-- the size of a function's body, with these functions before it
+abbrev pub size_of : Funcs → Func → Size
+size_of fs f = row_size (sizes_of fs) f.body
 
 -- A function with these before it.
 pub record IsTypedFunction (all : List ℕ) (fs : Funcs) (f : Func) : Type 0 where
-  pub kernel : f.is_kernel ≡ true
   pub name : is_new fs f.name ≡ true
   pub parameters : AreParams (begin all fs f) f.parameters
   pub body : AreTyped (with_params (begin all fs f) f.parameters) f.body
-  pub size : row_nodes f.body ≤ node_limit
+  pub returns : is_some f.result ≡ true → row_returns f.body ≡ true
+  pub loops : f.is_kernel ≡ true → (size_of fs f).loops ≤ loop_limit
+  pub nodes : f.is_kernel ≡ true → (size_of fs f).nodes ≤ node_limit
 
 abbrev pub AreTypedFunctions : List ℕ → Funcs → Type 0
 AreTypedFunctions all NoFunc = Unit {0}
@@ -49,16 +62,21 @@ params_faults c [] = []
 params_faults c (p ∷ ps) = declared_faults c p.name_at p.name ∷ params_faults (bind c p.name p.kind) ps
 
 abbrev pub heading_faults : Funcs → Func → List TypeFault
-heading_faults fs f = unless (is_new fs f.name) (fault.Redeclared f.name_at) ++ unless f.is_kernel (fault.TypeMismatch f.name_at)
+heading_faults fs f = unless (is_new fs f.name) (fault.Redeclared f.name_at)
 
--- behind the body, at the function's name
-abbrev pub size_faults : Func → List TypeFault
-size_faults f = unless (nat_le (row_nodes f.body) node_limit) (fault.TooLarge f.name_at)
+-- Behind the body, at the function's name: a value that isn't always given, then for a kernel its loops, then its nodes.
+abbrev pub end_faults : Func → Size → Places
+end_faults f s =
+    unless (not (is_some f.result) || row_returns f.body) (fault.MissingReturn f.name_at)
+    ∷ unless (not f.is_kernel || nat_le s.loops loop_limit) (fault.TooManyLoops f.name_at)
+    ∷ unless (not f.is_kernel || nat_le s.nodes node_limit) (fault.TooLarge f.name_at)
+    ∷ []
 
--- a function's name, its parameters, its body, and its size
+-- a function's name, its parameters, its body, and its end
 abbrev pub function_faults : List ℕ → Funcs → Func → Places
 function_faults all fs f =
-    heading_faults fs f ∷ (params_faults (begin all fs f) f.parameters ++ row_faults (with_params (begin all fs f) f.parameters) f.body ++ size_faults f ∷ [])
+    heading_faults fs f
+    ∷ (params_faults (begin all fs f) f.parameters ++ row_faults (with_params (begin all fs f) f.parameters) f.body ++ end_faults f (size_of fs f))
 
 abbrev pub functions_faults : List ℕ → Funcs → Places
 functions_faults all NoFunc = []

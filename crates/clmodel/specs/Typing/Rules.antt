@@ -1,5 +1,6 @@
 -- The rules of types (OpenCL 1.2, 6.1 to 6.12; C99 6.5, 6.7 and 6.8).
-use Rattle.std.specs.Prelude.{◌≡◌, ℕ, Bool, true, false, not, ◌&&◌, List, [], ◌∷◌, ◌++◌, Option, None, Some}
+use Rattle.std.specs.Prelude.{◌≡◌, ℕ, suc, Bool, true, false, not, ◌&&◌, List, [], ◌∷◌, ◌++◌, length, Option, None, Some}
+use Rattle.std.specs.List.{slice_get}
 use Rattle.clnum.specs.Integer.{Integer}
 use Rattle.clnum.specs.Conversions.{common, unsigned_of}
 use Rattle.clnum.specs.Operations.{unary_kind, binary_kind}
@@ -22,8 +23,8 @@ use Rattle.clmodel.specs.declared.tree.PointerType.{PointerType}
 use Rattle.clmodel.specs.declared.tree.VariableType.{VariableType}
 use Rattle.clmodel.specs.declared.tree.VariableType.TheVariants.{Integer as Number, Pointer}
 use Rattle.clmodel.specs.Tree as tree
-use Rattle.clmodel.specs.Tree.{Term, Terms, NoTerm, ThenTerm, Place, Stmt, Stmts, NoStmt, ThenStmt}
-use Rattle.clmodel.specs.Typing.Context.{Context, meaning, Bound, BuiltInFunction, is_free, bind, enter, after_all}
+use Rattle.clmodel.specs.Tree.{Term, Terms, NoTerm, ThenTerm, Place, Stmt, Stmts, NoStmt, ThenStmt, MaybeStmt, Without, With, MaybeTerm, Always, While_}
+use Rattle.clmodel.specs.Typing.Context.{Context, Signature, meaning, Bound, Callable, BuiltInFunction, is_free, bind, enter, turning, for_context, after_all}
 
 abbrev pub is_constant : AddressSpace → Bool
 is_constant Global = false
@@ -107,6 +108,33 @@ pub data TypesPlace (c : Context) : Place → VariableType → Type 0 where
       → meaning c x ≡ Bound (Pointer p) → is_writable p ≡ true → Types c e (Number u) → TypesPlace c (tree.Part a x e) (Number p.element)
   behind : {a : ℕ} {p : PointerType} {e : Term} → is_writable p ≡ true → Types c e (Pointer p) → TypesPlace c (tree.Behind a e) (Number p.element)
 
+abbrev pub count : Terms → ℕ
+count NoTerm = 0
+count (ThenTerm es e) = suc (count es)
+
+-- Arguments that can be given to parameters of these types, from the first on.
+pub data AreGiven (c : Context) (ps : List VariableType) : Terms → Type 0 where
+  no_argument : AreGiven c ps NoTerm
+  argument : {es : Terms} {e : Term} {p k : VariableType}
+      → AreGiven c ps es → Types c e k → slice_get ps (count es) ≡ Some p → Passes p k → AreGiven c ps (ThenTerm es e)
+
+-- A call of a function of the text that stands before and is no kernel, with one argument for each parameter (C99 6.5.2.2).
+pub record CallsHelper (c : Context) (x : ℕ) (es : Terms) (s : Signature) : Type 0 where
+  pub meaning : meaning c x ≡ Callable s
+  pub is_helper : s.is_kernel ≡ false
+  pub count : count es ≡ length s.parameters
+  pub arguments : AreGiven c s.parameters es
+
+-- What is assigned, or initialises a variable: an expression, or the call of a helper that gives a value.
+pub data Gives (c : Context) : Term → VariableType → Type 0 where
+  expression : {e : Term} {k : VariableType} → Types c e k → Gives c e k
+  helper : {a x : ℕ} {es : Terms} {s : Signature} {t : IntType} → CallsHelper c x es s → s.result ≡ Some t → Gives c (tree.Call a x es) (Number t)
+
+-- a condition, or none
+pub data IsCondition (c : Context) : MaybeTerm → Type 0 where
+  always : IsCondition c Always
+  condition : {e : Term} {t : IntType} → Types c e (Number t) → IsCondition c (While_ e)
+
 mutual
   -- A statement or a declaration. What is declared is in scope in its own initialiser (C99 6.2.1, paragraph 7).
   pub data IsTyped : Context → Stmt → Type 0 where
@@ -114,15 +142,36 @@ mutual
     block : {c : Context} {a : ℕ} {ss : Stmts} → AreTyped (enter c) ss → IsTyped c (tree.Block a ss)
     declare : {c : Context} {a b x : ℕ} {k : VariableType} → is_free c x ≡ true → IsTyped c (tree.Declare a k b x)
     declare_as : {c : Context} {a b x : ℕ} {k j : VariableType} {e : Term}
-        → is_free c x ≡ true → Types (bind c x k) e j → Passes k j → IsTyped c (tree.DeclareAs a k b x e)
+        → is_free c x ≡ true → Gives (bind c x k) e j → Passes k j → IsTyped c (tree.DeclareAs a k b x e)
     assign : {c : Context} {a : ℕ} {p : Place} {e : Term} {k j : VariableType}
-        → TypesPlace c p k → Types c e j → Passes k j → IsTyped c (tree.Assign a p None e)
+        → TypesPlace c p k → Gives c e j → Passes k j → IsTyped c (tree.Assign a p None e)
     -- as the operator's value assigned (C99 6.5.16.2)
     assign_by : {c : Context} {a : ℕ} {p : Place} {op : BinaryOperator} {e : Term} {k j r : VariableType}
-        → TypesPlace c p k → Types c e j → Operates (Arithmetic op) k j r → Passes k r → IsTyped c (tree.Assign a p (Some op) e)
+        → TypesPlace c p k → Gives c e j → Operates (Arithmetic op) k j r → Passes k r → IsTyped c (tree.Assign a p (Some op) e)
     step : {c : Context} {a : ℕ} {p : Place} {is_increment : Bool} {k : VariableType} → TypesPlace c p k → IsTyped c (tree.Step a p is_increment)
     call_only : {c : Context} {a x : ℕ} {f : BuiltIn} {es : Terms} {ks : List VariableType} {r : Option VariableType}
         → meaning c x ≡ BuiltInFunction f → TypesAll c es ks → Calls f ks r → IsTyped c (tree.CallOnly a x es)
+    call_helper : {c : Context} {a x : ℕ} {es : Terms} {s : Signature} → CallsHelper c x es s → IsTyped c (tree.CallOnly a x es)
+    -- What is controlled is a block (C99 6.8.4, paragraph 3, and 6.8.5, paragraph 5).
+    if : {c : Context} {a : ℕ} {e : Term} {s : Stmt} {t : IntType} → Types c e (Number t) → IsTyped (enter c) s → IsTyped c (tree.If a e s)
+    if_else : {c : Context} {a : ℕ} {e : Term} {s r : Stmt} {t : IntType}
+        → Types c e (Number t) → IsTyped (enter c) s → IsTyped (enter c) r → IsTyped c (tree.IfElse a e s r)
+    while : {c : Context} {a : ℕ} {e : Term} {s : Stmt} {t : IntType} → Types c e (Number t) → IsTyped (turning c) s → IsTyped c (tree.While a e s)
+    do_while : {c : Context} {a : ℕ} {e : Term} {s : Stmt} {t : IntType} → IsTyped (turning c) s → Types c e (Number t) → IsTyped c (tree.DoWhile a s e)
+    for : {c : Context} {a : ℕ} {first third : MaybeStmt} {e : MaybeTerm} {s : Stmt}
+        → IsTypedPart (enter c) first → IsCondition (for_context c first) e → IsTypedPart (enter (for_context c first)) third
+        → IsTyped (turning (for_context c first)) s → IsTyped c (tree.For a first e third s)
+    break : {c : Context} {a : ℕ} → c.in_loop ≡ true → IsTyped c (tree.Break a)
+    continue : {c : Context} {a : ℕ} → c.in_loop ≡ true → IsTyped c (tree.Continue a)
+    -- as the function gives a value or doesn't (C99 6.8.6.4)
+    return : {c : Context} {a : ℕ} → c.signature.result ≡ None → IsTyped c (tree.Return a)
+    return_value : {c : Context} {a : ℕ} {e : Term} {t u : IntType}
+        → c.signature.result ≡ Some t → Types c e (Number u) → IsTyped c (tree.ReturnValue a e)
+
+  -- a part of a `for` that may be left out
+  pub data IsTypedPart : Context → MaybeStmt → Type 0 where
+    without : {c : Context} → IsTypedPart c Without
+    part : {c : Context} {s : Stmt} → IsTyped c s → IsTypedPart c (With s)
 
   -- Statements one after the other.
   pub data AreTyped : Context → Stmts → Type 0 where

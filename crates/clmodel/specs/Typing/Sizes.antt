@@ -1,63 +1,125 @@
--- How many nodes a tree has: statements, declarations, what is assigned to, and expressions. A call that is a statement is one node.
-use Rattle.std.specs.Prelude.{ℕ, ◌+◌}
+-- What a body holds, with the bodies of the functions that it calls in place of their calls (own): how deep its loops are nested, and how
+-- many nodes it has: statements, declarations, what is assigned to, and expressions. A call that is a statement is one node.
+use Rattle.std.specs.Prelude.{ℕ, suc, ◌+◌, max, Bool, true, false, ◌||◌, ◌&&◌, nat_eq, List, [], ◌∷◌, ◌++◌, Option, None, Some}
+use Rattle.std.specs.Map.{lookup}
 use Rattle.clmodel.specs.Tree as tree
-use Rattle.clmodel.specs.Tree.{Term, Terms, NoTerm, ThenTerm, Place, Stmt, Stmts, NoStmt, ThenStmt, MaybeStmt, Without, With, MaybeTerm, Always, While_}
+use Rattle.clmodel.specs.Tree.{Term, Terms, NoTerm, ThenTerm, Place, Stmt, Stmts, NoStmt, ThenStmt, MaybeStmt, Without, With, MaybeTerm, Always, While_, Func, Funcs, NoFunc, ThenFunc}
 
-abbrev mutual
-  pub term_nodes : Term → ℕ
-  term_nodes (tree.Number a v) = 1
-  term_nodes (tree.Variable a x) = 1
-  term_nodes (tree.Element a x e) = 1 + term_nodes e
-  term_nodes (tree.ElementAddress a b x e) = 1 + term_nodes e
-  term_nodes (tree.Dereference a e) = 1 + term_nodes e
-  term_nodes (tree.Call a x es) = 1 + terms_nodes es
-  term_nodes (tree.Unary a op e) = 1 + term_nodes e
-  term_nodes (tree.Cast a t e) = 1 + term_nodes e
-  term_nodes (tree.Binary a op d e) = 1 + term_nodes d + term_nodes e
-  term_nodes (tree.Choice a e d f) = 1 + term_nodes e + term_nodes d + term_nodes f
+pub record Size : Type 0 where
+  pub loops : ℕ
+  pub nodes : ℕ
 
-  pub terms_nodes : Terms → ℕ
-  terms_nodes NoTerm = 0
-  terms_nodes (ThenTerm es e) = terms_nodes es + term_nodes e
+abbrev pub nothing : Size
+nothing = record { loops = 0; nodes = 0 }
 
-abbrev pub place_nodes : Place → ℕ
-place_nodes (tree.Whole a x) = 1
-place_nodes (tree.Part a x e) = 1 + term_nodes e
-place_nodes (tree.Behind a e) = 1 + term_nodes e
+-- one beside the other
+abbrev pub beside : Size → Size → Size
+beside s t = record { loops = max s.loops t.loops; nodes = s.nodes + t.nodes }
 
-abbrev pub condition_nodes : MaybeTerm → ℕ
-condition_nodes Always = 0
-condition_nodes (While_ e) = term_nodes e
+-- a node round what it holds
+abbrev pub one_node : Size → Size
+one_node s = record { loops = s.loops; nodes = suc s.nodes }
 
-abbrev mutual
-  pub nodes : Stmt → ℕ
-  nodes (tree.Empty a) = 1
-  nodes (tree.Block a ss) = 1 + row_nodes ss
-  nodes (tree.Declare a k b x) = 1
-  nodes (tree.DeclareAs a k b x e) = 1 + term_nodes e
-  nodes (tree.DeclareArray a is_local t b x d n) = 1
-  nodes (tree.Assign a p op e) = 1 + place_nodes p + term_nodes e
-  nodes (tree.Step a p is_increment) = 1 + place_nodes p
-  nodes (tree.CallOnly a x es) = 1 + terms_nodes es
-  nodes (tree.If a e s) = 1 + term_nodes e + nodes s
-  nodes (tree.IfElse a e s r) = 1 + term_nodes e + nodes s + nodes r
-  nodes (tree.While a e s) = 1 + term_nodes e + nodes s
-  nodes (tree.DoWhile a s e) = 1 + nodes s + term_nodes e
-  nodes (tree.For a first e third s) = 1 + part_nodes first + condition_nodes e + part_nodes third + nodes s
-  nodes (tree.Break a) = 1
-  nodes (tree.Continue a) = 1
-  nodes (tree.Return a) = 1
-  nodes (tree.ReturnValue a e) = 1 + term_nodes e
+-- a loop round what it holds
+abbrev pub one_loop : Size → Size
+one_loop s = record { loops = suc s.loops; nodes = suc s.nodes }
 
-  -- a part of a `for` between its brackets
-  pub part_nodes : MaybeStmt → ℕ
-  part_nodes Without = 0
-  part_nodes (With s) = nodes s
+-- a single node
+abbrev pub leaf : Size
+leaf = one_node nothing
 
-  pub row_nodes : Stmts → ℕ
-  row_nodes NoStmt = 0
-  row_nodes (ThenStmt ss s) = row_nodes ss + nodes s
+-- Sizes of the bodies of functions, by the functions' names.
+abbrev pub Sizes : Type 0
+Sizes = List (ℕ × Size)
+
+abbrev pub or_nothing : Option Size → Size
+or_nothing None = nothing
+or_nothing (Some s) = s
+
+-- the size of the body of the function of a name, and nothing where it isn't one of these
+abbrev pub size_in : Sizes → ℕ → Size
+size_in sizes x = or_nothing (lookup (nat_eq x) sizes)
+
+-- A body calls functions before it alone, whose sizes are these.
+module _ (sizes : Sizes) where
+  abbrev mutual
+    pub term_size : Term → Size
+    term_size (tree.Number a v) = leaf
+    term_size (tree.Variable a x) = leaf
+    term_size (tree.Element a x e) = one_node (term_size e)
+    term_size (tree.ElementAddress a b x e) = one_node (term_size e)
+    term_size (tree.Dereference a e) = one_node (term_size e)
+    term_size (tree.Call a x es) = one_node (beside (terms_size es) (size_in sizes x))
+    term_size (tree.Unary a op e) = one_node (term_size e)
+    term_size (tree.Cast a t e) = one_node (term_size e)
+    term_size (tree.Binary a op d e) = one_node (beside (term_size d) (term_size e))
+    term_size (tree.Choice a e d f) = one_node (beside (beside (term_size e) (term_size d)) (term_size f))
+
+    pub terms_size : Terms → Size
+    terms_size NoTerm = nothing
+    terms_size (ThenTerm es e) = beside (terms_size es) (term_size e)
+
+  abbrev pub place_size : Place → Size
+  place_size (tree.Whole a x) = leaf
+  place_size (tree.Part a x e) = one_node (term_size e)
+  place_size (tree.Behind a e) = one_node (term_size e)
+
+  abbrev pub condition_size : MaybeTerm → Size
+  condition_size Always = nothing
+  condition_size (While_ e) = term_size e
+
+  abbrev mutual
+    pub size : Stmt → Size
+    size (tree.Empty a) = leaf
+    size (tree.Block a ss) = one_node (row_size ss)
+    size (tree.Declare a k b x) = leaf
+    size (tree.DeclareAs a k b x e) = one_node (term_size e)
+    size (tree.DeclareArray a is_local t b x d n) = leaf
+    size (tree.Assign a p op e) = one_node (beside (place_size p) (term_size e))
+    size (tree.Step a p is_increment) = one_node (place_size p)
+    size (tree.CallOnly a x es) = one_node (beside (terms_size es) (size_in sizes x))
+    size (tree.If a e s) = one_node (beside (term_size e) (size s))
+    size (tree.IfElse a e s r) = one_node (beside (beside (term_size e) (size s)) (size r))
+    size (tree.While a e s) = one_loop (beside (term_size e) (size s))
+    size (tree.DoWhile a s e) = one_loop (beside (size s) (term_size e))
+    -- The first part runs before the loop, the third in it.
+    size (tree.For a first e third s) = beside (part_size first) (one_loop (beside (beside (condition_size e) (part_size third)) (size s)))
+    size (tree.Break a) = leaf
+    size (tree.Continue a) = leaf
+    size (tree.Return a) = leaf
+    size (tree.ReturnValue a e) = one_node (term_size e)
+
+    -- a part of a `for` between its brackets
+    pub part_size : MaybeStmt → Size
+    part_size Without = nothing
+    part_size (With s) = size s
+
+    pub row_size : Stmts → Size
+    row_size NoStmt = nothing
+    row_size (ThenStmt ss s) = beside (row_size ss) (size s)
+
+-- the sizes of the bodies of functions, each by those of the functions before it
+abbrev pub sizes_of : Funcs → Sizes
+sizes_of NoFunc = []
+sizes_of (ThenFunc fs f) = sizes_of fs ++ (f.name, row_size (sizes_of fs) f.body) ∷ []
+
+-- how deep the loops of a kernel may be nested
+abbrev pub loop_limit : ℕ
+loop_limit = 8
 
 -- how many nodes the body of a kernel may have
 abbrev pub node_limit : ℕ
 node_limit = 20000
+
+-- Whether a statement always returns (own): `return`, a block with a statement that does, or an `if` with an `else` both of whose parts do.
+abbrev mutual
+  pub always_returns : Stmt → Bool
+  always_returns (tree.Return a) = true
+  always_returns (tree.ReturnValue a e) = true
+  always_returns (tree.Block a ss) = row_returns ss
+  always_returns (tree.IfElse a e s r) = always_returns s && always_returns r
+  always_returns _ = false
+
+  pub row_returns : Stmts → Bool
+  row_returns NoStmt = false
+  row_returns (ThenStmt ss s) = row_returns ss || always_returns s

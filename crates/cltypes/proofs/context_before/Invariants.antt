@@ -1,7 +1,6 @@
 use Rattle.std.proofs.Common.{◌≡◌, take}
 use Rattle.clmodel.specs.Typing.Functions.{names}
-use Rattle.cltypes.specs.Views.{functions_of}
-use Rattle.cltypes.proofs.Texts.{known}
+use Rattle.cltypes.specs.Views.{functions_of, known}
 use Rattle.cltypes.proofs.context_before.Given as goal
 
 abbrev pub invariant-loop-function : goal.invariant-loop-function

@@ -1,7 +1,6 @@
 //! The lines of replies, against the text that the format gives.
 
 use super::{write_check, write_reply, write_turns};
-use crate::ends::{Write, WriteFailed};
 use clmodel::access::{AccessKind, Clash, Class};
 use clmodel::action::{Instance, Stop, Turns};
 use clmodel::fault::{Fault, Location};
@@ -10,6 +9,7 @@ use clmodel::text::{Bytes, Name};
 use clmodel::type_fault::TypeFault;
 use clsyntax_lex::token::SyntaxFault;
 use device_store::command::{BuildFault, Refusal, Reply};
+use ends::{Write, WriteFailed};
 use std::alloc::{AllocError, Global};
 use std::test::Fail;
 
@@ -31,7 +31,7 @@ impl Page {
 
 impl Write for Page {
     ghost use Rattle.std.specs.Prelude.{Some, []};
-    ghost use Rattle.simfile.specs.Sink.{Sink};
+    ghost use Rattle.ends.specs.Sink.{Sink};
 
     ghost sink = { λ page. record { written = Some page.bytes.items; held = []; failed = page.failed } };
 

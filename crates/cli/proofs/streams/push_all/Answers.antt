@@ -1,4 +1,4 @@
-use Rattle.simfile.proofs.Puts.{pushed_slice, pushed_kept}
+use Rattle.ends.proofs.Puts.{pushed_slice, pushed_kept}
 use Rattle.cli.proofs.streams.push_all.Goals as goal
 use Rattle.cli.proofs.streams.push_all.Goals.{in-Ok, in-Err+else-ne}
 

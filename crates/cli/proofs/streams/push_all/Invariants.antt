@@ -1,4 +1,4 @@
-use Rattle.simfile.proofs.Puts.{HasPushed}
+use Rattle.ends.proofs.Puts.{HasPushed}
 use Rattle.cli.proofs.streams.push_all.Given as goal
 
 abbrev pub invariant-loop : goal.invariant-loop

@@ -3,9 +3,10 @@ use Rattle.std.proofs.Common.{◌+◌, drop, Result, sym, ◌∙◌, subst, arit
 use Rattle.std.proofs.lemmas.Result.{err_from_is_err_and}
 use Rattle.clmodel.specs.Tree.{Funcs}
 use Rattle.clsyntax_lex.specs.declared.token.SyntaxFault.{SyntaxFault}
-use Rattle.clsyntax.specs.Machine.{begun}
+use Rattle.clsyntax_terms.specs.Machine.{begun}
 use Rattle.clsyntax.specs.Reading.{read_from}
-use Rattle.clsyntax.specs.Views.{state_of, IsRead}
+use Rattle.clsyntax_terms.specs.Views.{state_of}
+use Rattle.clsyntax.specs.Views.{IsRead}
 use Rattle.clsyntax.proofs.Loop.{reads_next, reads_end, unless_memory}
 use Rattle.clsyntax.proofs.parser.functions_of.Goals as goal
 

@@ -1,7 +1,7 @@
 use Rattle.std.proofs.Common.{◌≡◌, drop}
-use Rattle.clsyntax.specs.Machine.{begun}
+use Rattle.clsyntax_terms.specs.Machine.{begun}
 use Rattle.clsyntax.specs.Reading.{read_from}
-use Rattle.clsyntax.specs.Views.{state_of}
+use Rattle.clsyntax_terms.specs.Views.{state_of}
 use Rattle.clsyntax.proofs.parser.functions_of.Given as goal
 
 -- what is left to read decides

@@ -1,13 +1,17 @@
-use Rattle.std.proofs.Common.{rules, ◌≡◌, sym, ap, ◌∙◌, subst}
+use Rattle.std.proofs.Common.{rules, ◌≡◌, ◌++◌, true, inr, sym, ap, ◌∙◌, subst}
 use Rattle.clmodel.specs.Tree as tree
-use Rattle.clmodel.specs.Tree.{stmt}
-use Rattle.clmodel.specs.Typing.Context.{enter, after_all}
-use Rattle.clmodel.specs.Typing.Faults.{faults}
-use Rattle.clmodel.specs.Typing.Least.{first}
-use Rattle.cltypes_scope.specs.Names.{left}
+use Rattle.clmodel.specs.Tree.{term, stmt, maybe_term}
+use Rattle.clmodel.specs.Typing.Context.{enter, turning, after, after_part, after_all}
+use Rattle.clmodel.specs.Typing.Faults.{integer_faults, kind_of, start, term_faults, condition_parts, condition_faults, part_faults, faults}
+use Rattle.clmodel.specs.Typing.Least.{least, first}
+use Rattle.cltypes_scope.specs.Names.{left, with_loop}
+use Rattle.cltypes_scope.proofs.Follows.{inside, inside_first, inside_second, neither_of, own_fault}
 use Rattle.cltypes.specs.Answers.{Ends}
-use Rattle.cltypes.specs.Views.{statements}
-use Rattle.cltypes.proofs.Bodies.{left_block, block_view, statement_inside, statement_more, statement_after}
+use Rattle.cltypes.specs.Views.{held, turns_faults}
+use Rattle.cltypes.proofs.Control.{through, ends_as, for_view, for_first, in_first, in_rest}
+use Rattle.cltypes_limits.specs.Limits.{statements}
+use Rattle.clmodel.proofs.Trees.{block_view}
+use Rattle.cltypes.proofs.Bodies.{left_after, left_part, left_block, statement_inside, statement_more, statement_after}
 use Rattle.cltypes.proofs.statements.+statements.Goals as goal
 
 pub check_block-returns-in-Ok-clause-left : goal.check_block-returns-in-Ok-clause-left
@@ -40,3 +44,295 @@ check_statements-loop-statement-preserved t c =
       after = statement_after x c.loop-statement.context c.check_statement.new.context ss i s c.loop-statement-test.true c.statement-item.is
           c.loop-statement.invariant.after c.in_default.ensures.after;
     }
+
+-- what is controlled, and a loop's body
+
+pub check_controlled-returns-in-Ok-clause-left : goal.check_controlled-returns-in-Ok-clause-left
+check_controlled-returns-in-Ok-clause-left t c =
+    let s = stmt c.args.statement.now in
+    let entered : c.enter.new.self ≡ enter c.args.context.now = search rules in
+    c.leave.ensures ∙ ap left (c.in-Ok.ensures.after ∙ ap (λ z. after z s) entered) ∙ left_after (enter c.args.context.now) s
+
+pub check_turn-returns-in-Ok-clause-left : goal.check_turn-returns-in-Ok-clause-left
+check_turn-returns-in-Ok-clause-left t c =
+    let x = c.args.context.now in
+    let s = stmt c.args.body.now in
+    let entered : c.enter.new.self ≡ enter x = search rules in
+    c.set_in_loop-in-Ok.ensures ∙ ap (λ z. with_loop z c.is_in_loop-was_in_loop.result)
+    (c.leave.ensures ∙ ap left (c.in-Ok.ensures.after ∙ ap (λ z. after z s) (c.set_in_loop.ensures ∙ ap (λ z. with_loop z true) entered)) ∙ left_after (turning x) s)
+    ∙ ap (with_loop x) c.is_in_loop-was_in_loop.ensures
+
+-- `if`
+
+pub check_if-returns-in-Err-clause-first : goal.check_if-returns-in-Err-clause-first
+check_if-returns-in-Err-clause-first t c = λ at.
+    let x = c.args.context.now in
+    let p = term_faults x (term c.args.condition.now) in
+    let q = faults (enter x) (stmt c.args.chosen.now) in
+    let f = c.in-Err.fault in
+    inr (inside (p ++ q) _ f (inside_first p q f c.in-Err.ensures))
+
+pub check_if-returns-in-Err-check_controlled-clause-first : goal.check_if-returns-in-Err-check_controlled-clause-first
+check_if-returns-in-Err-check_controlled-clause-first t c = λ at.
+    let x = c.args.context.now in
+    let p = term_faults x (term c.args.condition.now) in
+    let q = faults (enter x) (stmt c.args.chosen.now) in
+    let f = c.in-Err-check_controlled.fault in
+    through (first q) _ f (λ e. inside (p ++ q) _ f (inside_second p q f c.in-Ok.ensures.0 e)) c.in-Err-check_controlled.ensures.first
+
+pub check_if-returns-in-Ok-check_controlled-clause-first : goal.check_if-returns-in-Ok-check_controlled-clause-first
+check_if-returns-in-Ok-check_controlled-clause-first t c = λ at.
+    let x = c.args.context.now in
+    let e = term c.args.condition.now in
+    let p = term_faults x e in
+    let q = faults (enter x) (stmt c.args.chosen.now) in
+    let own = integer_faults (kind_of x e) (start e) in
+    ends_as c.ended.result _ c.integer_fault.result c.ended.ensures.none c.ended.ensures.fault
+    (own_fault (p ++ q) own (neither_of p q c.in-Ok.ensures.0 c.in-Ok-check_controlled.ensures.first)
+    ∙ sym (c.integer_fault.ensures ∙ ap (λ z. least (integer_faults z.kind z.at)) c.in-Ok.ensures.1))
+
+-- `if` with `else`
+
+pub check_if_else-returns-in-Err-clause-first : goal.check_if_else-returns-in-Err-clause-first
+check_if_else-returns-in-Err-clause-first t c = λ at.
+    let x = c.args.context.now in
+    let p = term_faults x (term c.args.condition.now) in
+    let q = faults (enter x) (stmt c.args.chosen.now) in
+    let r = faults (enter x) (stmt c.args.otherwise.now) in
+    let f = c.in-Err.fault in
+    inr (inside (p ++ q ++ r) _ f (inside_first (p ++ q) r f (inside_first p q f c.in-Err.ensures)))
+
+pub check_if_else-returns-in-Err-check_controlled-clause-first : goal.check_if_else-returns-in-Err-check_controlled-clause-first
+check_if_else-returns-in-Err-check_controlled-clause-first t c = λ at.
+    let x = c.args.context.now in
+    let p = term_faults x (term c.args.condition.now) in
+    let q = faults (enter x) (stmt c.args.chosen.now) in
+    let r = faults (enter x) (stmt c.args.otherwise.now) in
+    let f = c.in-Err-check_controlled.fault in
+    through (first q) _ f (λ e. inside (p ++ q ++ r) _ f (inside_first (p ++ q) r f (inside_second p q f c.in-Ok.ensures.0 e))) c.in-Err-check_controlled.ensures.first
+
+pub check_if_else-returns-in-Err-check_controlled-2-clause-first : goal.check_if_else-returns-in-Err-check_controlled-2-clause-first
+check_if_else-returns-in-Err-check_controlled-2-clause-first t c = λ at.
+    let x = c.args.context.now in
+    let p = term_faults x (term c.args.condition.now) in
+    let q = faults (enter x) (stmt c.args.chosen.now) in
+    let r = faults (enter x) (stmt c.args.otherwise.now) in
+    let f = c.in-Err-check_controlled-2.fault in
+    let same : c.check_controlled.new.context ≡ x = c.in-Ok-check_controlled.ensures.left in
+    through (first (faults (enter c.check_controlled.new.context) (stmt c.args.otherwise.now))) _ f
+    (λ e. inside (p ++ q ++ r) _ f
+    (inside_second (p ++ q) r f (neither_of p q c.in-Ok.ensures.0 c.in-Ok-check_controlled.ensures.first)
+    (ap (λ z. first (faults (enter z) (stmt c.args.otherwise.now))) (sym same) ∙ e)))
+    c.in-Err-check_controlled-2.ensures.first
+
+pub check_if_else-returns-in-Ok-check_controlled-2-clause-first : goal.check_if_else-returns-in-Ok-check_controlled-2-clause-first
+check_if_else-returns-in-Ok-check_controlled-2-clause-first t c = λ at.
+    let x = c.args.context.now in
+    let e = term c.args.condition.now in
+    let p = term_faults x e in
+    let q = faults (enter x) (stmt c.args.chosen.now) in
+    let r = faults (enter x) (stmt c.args.otherwise.now) in
+    let own = integer_faults (kind_of x e) (start e) in
+    let same : c.check_controlled.new.context ≡ x = c.in-Ok-check_controlled.ensures.left in
+    ends_as c.ended.result _ c.integer_fault.result c.ended.ensures.none c.ended.ensures.fault
+    (own_fault (p ++ q ++ r) own (neither_of (p ++ q) r (neither_of p q c.in-Ok.ensures.0 c.in-Ok-check_controlled.ensures.first)
+    (ap (λ z. first (faults (enter z) (stmt c.args.otherwise.now))) (sym same) ∙ c.in-Ok-check_controlled-2.ensures.first))
+    ∙ sym (c.integer_fault.ensures ∙ ap (λ z. least (integer_faults z.kind z.at)) c.in-Ok.ensures.1))
+
+-- `while`
+
+pub check_while-returns-in-Err-clause-first : goal.check_while-returns-in-Err-clause-first
+check_while-returns-in-Err-clause-first t c = λ at.
+    let x = c.args.context.now in
+    let p = term_faults x (term c.args.condition.now) in
+    let q = faults (turning x) (stmt c.args.body.now) in
+    let f = c.in-Err.fault in
+    inr (inside (p ++ q) _ f (inside_first p q f c.in-Err.ensures))
+
+pub check_while-returns-in-Err-check_turn-clause-first : goal.check_while-returns-in-Err-check_turn-clause-first
+check_while-returns-in-Err-check_turn-clause-first t c = λ at.
+    let x = c.args.context.now in
+    let p = term_faults x (term c.args.condition.now) in
+    let q = faults (turning x) (stmt c.args.body.now) in
+    let f = c.in-Err-check_turn.fault in
+    through (first q) _ f (λ e. inside (p ++ q) _ f (inside_second p q f c.in-Ok.ensures.0 e)) c.in-Err-check_turn.ensures.first
+
+pub check_while-returns-in-Ok-check_turn-clause-first : goal.check_while-returns-in-Ok-check_turn-clause-first
+check_while-returns-in-Ok-check_turn-clause-first t c = λ at.
+    let x = c.args.context.now in
+    let e = term c.args.condition.now in
+    let p = term_faults x e in
+    let q = faults (turning x) (stmt c.args.body.now) in
+    let own = integer_faults (kind_of x e) (start e) in
+    ends_as c.ended.result _ c.integer_fault.result c.ended.ensures.none c.ended.ensures.fault
+    (own_fault (p ++ q) own (neither_of p q c.in-Ok.ensures.0 c.in-Ok-check_turn.ensures.first)
+    ∙ sym (c.integer_fault.ensures ∙ ap (λ z. least (integer_faults z.kind z.at)) c.in-Ok.ensures.1))
+
+-- `do`
+
+pub check_do-returns-in-Err-clause-first : goal.check_do-returns-in-Err-clause-first
+check_do-returns-in-Err-clause-first t c = λ at.
+    let x = c.args.context.now in
+    let p = faults (turning x) (stmt c.args.body.now) in
+    let q = term_faults x (term c.args.condition.now) in
+    let f = c.in-Err.fault in
+    through (first p) _ f (λ e. inside (p ++ q) _ f (inside_first p q f e)) c.in-Err.ensures.first
+
+pub check_do-returns-in-Err-check_expression-clause-first : goal.check_do-returns-in-Err-check_expression-clause-first
+check_do-returns-in-Err-check_expression-clause-first t c = λ at.
+    let x = c.args.context.now in
+    let e = term c.args.condition.now in
+    let p = faults (turning x) (stmt c.args.body.now) in
+    let q = term_faults x e in
+    let f = c.in-Err-check_expression.fault in
+    let same : c.check_turn.new.context ≡ x = c.in-Ok.ensures.left in
+    inr (inside (p ++ q) _ f (inside_second p q f c.in-Ok.ensures.first (ap (λ z. first (term_faults z e)) (sym same) ∙ c.in-Err-check_expression.ensures)))
+
+pub check_do-returns-in-Ok-check_expression-clause-first : goal.check_do-returns-in-Ok-check_expression-clause-first
+check_do-returns-in-Ok-check_expression-clause-first t c = λ at.
+    let x = c.args.context.now in
+    let e = term c.args.condition.now in
+    let p = faults (turning x) (stmt c.args.body.now) in
+    let q = term_faults x e in
+    let own = integer_faults (kind_of x e) (start e) in
+    let same : c.check_turn.new.context ≡ x = c.in-Ok.ensures.left in
+    ends_as c.ended.result _ c.integer_fault.result c.ended.ensures.none c.ended.ensures.fault
+    (own_fault (p ++ q) own (neither_of p q c.in-Ok.ensures.first (ap (λ z. first (term_faults z e)) (sym same) ∙ c.in-Ok-check_expression.ensures.0))
+    ∙ sym (c.integer_fault.ensures ∙ ap (λ z. least (integer_faults z.kind z.at)) c.in-Ok-check_expression.ensures.1 ∙ ap (λ z. least (integer_faults (kind_of z e) (start e))) same))
+
+-- `for`
+
+pub check_turns-returns-in-Err-clause-first : goal.check_turns-returns-in-Err-clause-first
+check_turns-returns-in-Err-clause-first t c =
+    let x = c.args.context.now in
+    let p = condition_parts x (maybe_term c.args.condition.now) in
+    let q = part_faults (enter x) (held c.args.third.now) in
+    let r = faults (turning x) (stmt c.args.body.now) in
+    let f = c.in-Err.fault in
+    inr (inside (p ++ q ++ r) _ f (inside_first (p ++ q) r f (inside_first p q f c.in-Err.ensures)))
+
+pub check_turns-returns-in-Err-check_third-clause-first : goal.check_turns-returns-in-Err-check_third-clause-first
+check_turns-returns-in-Err-check_third-clause-first t c =
+    let x = c.args.context.now in
+    let p = condition_parts x (maybe_term c.args.condition.now) in
+    let q = part_faults (enter x) (held c.args.third.now) in
+    let r = faults (turning x) (stmt c.args.body.now) in
+    let f = c.in-Err-check_third.fault in
+    through (first q) _ f (λ e. inside (p ++ q ++ r) _ f (inside_first (p ++ q) r f (inside_second p q f c.in-Ok.ensures.0 e))) c.in-Err-check_third.ensures.first
+
+pub check_turns-returns-in-Err-check_turn-clause-first : goal.check_turns-returns-in-Err-check_turn-clause-first
+check_turns-returns-in-Err-check_turn-clause-first t c =
+    let x = c.args.context.now in
+    let p = condition_parts x (maybe_term c.args.condition.now) in
+    let q = part_faults (enter x) (held c.args.third.now) in
+    let r = faults (turning x) (stmt c.args.body.now) in
+    let f = c.in-Err-check_turn.fault in
+    let same : c.check_third.new.context ≡ x = c.in-Ok-check_third.ensures.left in
+    through (first (faults (turning c.check_third.new.context) (stmt c.args.body.now))) _ f
+    (λ e. inside (p ++ q ++ r) _ f
+    (inside_second (p ++ q) r f (neither_of p q c.in-Ok.ensures.0 c.in-Ok-check_third.ensures.first) (ap (λ z. first (faults (turning z) (stmt c.args.body.now))) (sym same) ∙ e)))
+    c.in-Err-check_turn.ensures.first
+
+pub check_turns-returns-in-Ok-check_turn-clause-first : goal.check_turns-returns-in-Ok-check_turn-clause-first
+check_turns-returns-in-Ok-check_turn-clause-first t c =
+    let x = c.args.context.now in
+    let e = maybe_term c.args.condition.now in
+    let p = condition_parts x e in
+    let q = part_faults (enter x) (held c.args.third.now) in
+    let r = faults (turning x) (stmt c.args.body.now) in
+    let same : c.check_third.new.context ≡ x = c.in-Ok-check_third.ensures.left in
+    ends_as c.ended.result _ c.in-Ok.fault c.ended.ensures.none c.ended.ensures.fault
+    (own_fault (p ++ q ++ r) (condition_faults x e) (neither_of (p ++ q) r (neither_of p q c.in-Ok.ensures.0 c.in-Ok-check_third.ensures.first)
+    (ap (λ z. first (faults (turning z) (stmt c.args.body.now))) (sym same) ∙ c.in-Ok-check_turn.ensures.first))
+    ∙ sym c.in-Ok.ensures.1)
+
+pub check_for-returns-in-Err-clause-first : goal.check_for-returns-in-Err-clause-first
+check_for-returns-in-Err-clause-first t c = λ at.
+    let x = c.args.context.now in
+    let begin = held c.args.start.now in
+    let e = maybe_term c.args.condition.now in
+    let third = held c.args.third.now in
+    let s = stmt c.args.body.now in
+    let f = c.in-Err.fault in
+    let entered : c.enter.new.self ≡ enter x = search rules in
+    through (first (part_faults c.enter.new.self begin)) (first (faults x (tree.For at begin e third s))) f
+    (λ h. in_first _ (first (part_faults (enter x) begin)) (first (turns_faults (after_part (enter x) begin) e third s)) f (for_first x at begin e third s)
+    (ap (λ z. first (part_faults z begin)) (sym entered) ∙ h))
+    c.in-Err.ensures.first
+
+pub check_for-returns-in-Err-check_turns-clause-first : goal.check_for-returns-in-Err-check_turns-clause-first
+check_for-returns-in-Err-check_turns-clause-first t c = λ at.
+    let x = c.args.context.now in
+    let begin = held c.args.start.now in
+    let e = maybe_term c.args.condition.now in
+    let third = held c.args.third.now in
+    let s = stmt c.args.body.now in
+    let f = c.in-Err-check_turns.fault in
+    let entered : c.enter.new.self ≡ enter x = search rules in
+    let there : c.check_part.new.context ≡ after_part (enter x) begin = c.in-Ok.ensures.after ∙ ap (λ z. after_part z begin) entered in
+    through (first (turns_faults c.check_part.new.context e third s)) (first (faults x (tree.For at begin e third s))) f
+    (λ h. in_rest _ (first (part_faults (enter x) begin)) (first (turns_faults (after_part (enter x) begin) e third s)) (for_first x at begin e third s)
+    (ap (λ z. first (part_faults z begin)) (sym entered) ∙ c.in-Ok.ensures.first)
+    ∙ ap (λ z. first (turns_faults z e third s)) (sym there) ∙ h)
+    c.in-Err-check_turns.ensures.first
+
+pub check_for-returns-in-Ok-check_turns-clause-first : goal.check_for-returns-in-Ok-check_turns-clause-first
+check_for-returns-in-Ok-check_turns-clause-first t c = λ at.
+    let x = c.args.context.now in
+    let begin = held c.args.start.now in
+    let e = maybe_term c.args.condition.now in
+    let third = held c.args.third.now in
+    let s = stmt c.args.body.now in
+    let entered : c.enter.new.self ≡ enter x = search rules in
+    let there : c.check_part.new.context ≡ after_part (enter x) begin = c.in-Ok.ensures.after ∙ ap (λ z. after_part z begin) entered in
+    in_rest _ (first (part_faults (enter x) begin)) (first (turns_faults (after_part (enter x) begin) e third s)) (for_first x at begin e third s)
+    (ap (λ z. first (part_faults z begin)) (sym entered) ∙ c.in-Ok.ensures.first)
+    ∙ ap (λ z. first (turns_faults z e third s)) (sym there) ∙ c.in-Ok-check_turns.ensures.first
+
+pub check_for-returns-in-Ok-check_turns-clause-left : goal.check_for-returns-in-Ok-check_turns-clause-left
+check_for-returns-in-Ok-check_turns-clause-left t c =
+    let x = c.args.context.now in
+    let begin = held c.args.start.now in
+    let entered : c.enter.new.self ≡ enter x = search rules in
+    c.leave.ensures ∙ ap left (c.in-Ok-check_turns.ensures.left ∙ c.in-Ok.ensures.after ∙ ap (λ z. after_part z begin) entered) ∙ left_part (enter x) begin
+
+-- control statements among the others
+
+pub check_statement-returns-in-If-clause-first : goal.check_statement-returns-in-If-clause-first
+check_statement-returns-in-If-clause-first t c =
+    let s = c.in-If in
+    subst (λ z. Ends c.check_if.result (first (faults c.args.context.now z)))
+    (ap (λ z. tree.If s.at (term z) (stmt c.deref-in-If-2.result.now)) c.deref-in-If.ensures ∙ ap (λ z. tree.If s.at (term s.condition.value) (stmt z)) c.deref-in-If-2.ensures ∙ sym (ap stmt s.is))
+    (c.check_if.ensures.first s.at)
+
+pub check_statement-returns-in-IfElse-clause-first : goal.check_statement-returns-in-IfElse-clause-first
+check_statement-returns-in-IfElse-clause-first t c =
+    let s = c.in-IfElse in
+    let p = c.deref-in-IfElse-2.result.now in
+    let q = c.deref-in-IfElse-3.result.now in
+    subst (λ z. Ends c.check_if_else.result (first (faults c.args.context.now z)))
+    (ap (λ z. tree.IfElse s.at (term z) (stmt p) (stmt q)) c.deref-in-IfElse.ensures
+    ∙ ap (λ z. tree.IfElse s.at (term s.condition.value) (stmt z) (stmt q)) c.deref-in-IfElse-2.ensures
+    ∙ ap (λ z. tree.IfElse s.at (term s.condition.value) (stmt s.chosen.value) (stmt z)) c.deref-in-IfElse-3.ensures ∙ sym (ap stmt s.is))
+    (c.check_if_else.ensures.first s.at)
+
+pub check_statement-returns-in-While-clause-first : goal.check_statement-returns-in-While-clause-first
+check_statement-returns-in-While-clause-first t c =
+    let s = c.in-While in
+    subst (λ z. Ends c.check_while.result (first (faults c.args.context.now z)))
+    (ap (λ z. tree.While s.at (term z) (stmt c.deref-in-While-2.result.now)) c.deref-in-While.ensures ∙ ap (λ z. tree.While s.at (term s.condition.value) (stmt z)) c.deref-in-While-2.ensures ∙ sym (ap stmt s.is))
+    (c.check_while.ensures.first s.at)
+
+pub check_statement-returns-in-DoWhile-clause-first : goal.check_statement-returns-in-DoWhile-clause-first
+check_statement-returns-in-DoWhile-clause-first t c =
+    let s = c.in-DoWhile in
+    subst (λ z. Ends c.check_do.result (first (faults c.args.context.now z)))
+    (ap (λ z. tree.DoWhile s.at (stmt z) (term c.deref-in-DoWhile-2.result.now)) c.deref-in-DoWhile.ensures ∙ ap (λ z. tree.DoWhile s.at (stmt s.body.value) (term z)) c.deref-in-DoWhile-2.ensures ∙ sym (ap stmt s.is))
+    (c.check_do.ensures.first s.at)
+
+pub check_statement-returns-in-For-clause-first : goal.check_statement-returns-in-For-clause-first
+check_statement-returns-in-For-clause-first t c =
+    let s = c.in-For in
+    subst (λ z. Ends c.check_for.result (first (faults c.args.context.now z)))
+    (ap (λ z. tree.For s.at (held s.first) (maybe_term s.condition) (held s.third) (stmt z)) c.deref-in-For.ensures ∙ for_view s.at s.first s.third s.condition s.body ∙ sym (ap stmt s.is))
+    (c.check_for.ensures.first s.at)

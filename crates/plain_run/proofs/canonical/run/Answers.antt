@@ -34,7 +34,10 @@ pub loop-runs-smaller : goal.loop-runs-smaller
 loop-runs-smaller g c =
     let next = g.N.NextAction.next c.args.items.now in
     let l : Launch = launch_of c.args.launch.now next in
-    (goes_on c.never_sticks.ensures c.answers_run_out.ensures l (state_of l c.loop-runs.state) c.in-Some.event (state_of l c.step.new.state) c.in_ok-step.field-0 c.requires (sym c.in_ok-event.ensures ∙ c.in-Some.is) c.in_ok-step.ensures.ok).fewer
+    let goes : GoesOn l (state_of l c.loop-runs.state) c.in-Some.event (state_of l c.step.new.state)
+    = goes_on c.never_sticks.ensures c.answers_run_out.ensures l (state_of l c.loop-runs.state) c.in-Some.event (state_of l c.step.new.state) c.in_ok-step.field-0 c.requires (sym c.in_ok-event.ensures ∙ c.in-Some.is) c.in_ok-step.ensures.ok in
+    let same = ap (answers_left l (2 ^ 32)) c.note_ended.ensures.same in
+    omega (arith, goes.fewer, same)
 
 pub loop-runs-preserved : goal.loop-runs-preserved
 loop-runs-preserved g c =
@@ -43,12 +46,14 @@ loop-runs-preserved g c =
     let goes : GoesOn l (state_of l c.loop-runs.state) c.in-Some.event (state_of l c.step.new.state)
     = goes_on c.never_sticks.ensures c.answers_run_out.ensures l (state_of l c.loop-runs.state) c.in-Some.event (state_of l c.step.new.state) c.in_ok-step.field-0 c.requires (sym c.in_ok-event.ensures ∙ c.in-Some.is) c.in_ok-step.ensures.ok in
     record {
-      kept = c.step.ensures.kept;
+      kept = c.note_ended.ensures.kept;
       ran =
-          subst (λ z. RunsTo l (start l) z (state_of l c.step.new.state)) (sym c.in_ok-add_event.ensures.events)
-          (runs_more l (start l) (events_of c.loop-runs.runs.items) (state_of l c.loop-runs.state) c.in-Some.event (state_of l c.step.new.state) c.loop-runs.invariant.ran goes.makes goes.steps);
+          subst (λ z. RunsTo l (start l) (events_of c.add_event.new.runs.items) z) (sym c.note_ended.ensures.same)
+          (subst (λ z. RunsTo l (start l) z (state_of l c.step.new.state)) (sym c.in_ok-add_event.ensures.events)
+          (runs_more l (start l) (events_of c.loop-runs.runs.items) (state_of l c.loop-runs.state) c.in-Some.event (state_of l c.step.new.state) c.loop-runs.invariant.ran goes.makes goes.steps));
       merged = c.in_ok-add_event.ensures.merged c.loop-runs.invariant.merged;
       few =
           let e = ap length c.in_ok-add_event.ensures.events in
-          omega (arith, e, length-append (events_of c.loop-runs.runs.items) (c.in-Some.event ∷ []), goes.fewer, c.loop-runs.invariant.few);
+          let same = ap (answers_left l (2 ^ 32)) c.note_ended.ensures.same in
+          omega (arith, e, same, length-append (events_of c.loop-runs.runs.items) (c.in-Some.event ∷ []), goes.fewer, c.loop-runs.invariant.few);
     }

@@ -60,8 +60,8 @@ returns-clause-ok c next =
     c.requires.listed c.in_ok-record.ensures.log c.in_ok-record.ensures.answers c.record.ensures.releases
 
 pub returns-clause-kept : goal.returns-clause-kept
-returns-clause-kept c next kept =
+returns-clause-kept c next going kept =
     access_kept (launch_of c.args.launch.now next) c.args.state.now c.record.new.self c.args.item _ c.answer_to.result kept
     (omega (arith, c.in-Some.ensures.inside, c.byte_count.ensures, c.bytes_of.type_inv))
     (omega (arith, c.in-Some.ensures.inside, c.byte_count.ensures, c.bytes_of.ensures next))
-    c.in_ok-record.ensures.log c.in_ok-record.ensures.answers c.record.ensures.releases
+    c.in_ok-record.ensures.log c.in_ok-record.ensures.answers c.record.ensures.releases c.record.ensures.finished going

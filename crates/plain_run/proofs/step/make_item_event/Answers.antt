@@ -4,7 +4,7 @@ use Rattle.clmodel.specs.Launch.{Launch}
 use Rattle.clmodel.specs.Run.{State, item_step}
 use Rattle.plain_run.specs.Plain.{launch_of, state_of, Steps}
 use Rattle.clmodel.specs.declared.action.Action.TheVariants as action
-use Rattle.plain_run.proofs.PlainSteps.{item_event, no_item_event, no_access, an_access, on_err}
+use Rattle.plain_run.proofs.PlainSteps.{item_event, no_item_event, no_access, an_access, access_goes_on, on_err}
 use Rattle.plain_run.proofs.step.make_item_event.Goals as goal
 
 pub returns-then-item-launch-clause-ok : goal.returns-then-item-launch-clause-ok
@@ -26,7 +26,9 @@ pub returns-in_err-made-clause-err : goal.returns-in_err-made-clause-err
 returns-in_err-made-clause-err g c = on_err _ _ (c.in_err-made.ensures.err (g.N.NextAction.next c.args.items.now))
 
 pub returns-in_err-made-clause-kept : goal.returns-in_err-made-clause-kept
-returns-in_err-made-clause-kept g c = c.make_access.ensures.kept (g.N.NextAction.next c.args.items.now) c.requires.kept
+returns-in_err-made-clause-kept g c =
+    c.make_access.ensures.kept (g.N.NextAction.next c.args.items.now)
+    (λ e. access_goes_on c.in_ok-next_action.field-0 c.in-Some.next (sym c.in-Some.ensures) (c.in_ok-next_action.ensures ∙ e)) c.requires.kept
 
 pub returns-clause-ok : goal.returns-clause-ok
 returns-clause-ok g c =
@@ -41,4 +43,6 @@ returns-clause-ok g c =
     (c.in_ok-made.ensures.ok next)
 
 pub returns-clause-kept : goal.returns-clause-kept
-returns-clause-kept g c = c.make_access.ensures.kept (g.N.NextAction.next c.args.items.now) c.requires.kept
+returns-clause-kept g c =
+    c.make_access.ensures.kept (g.N.NextAction.next c.args.items.now)
+    (λ e. access_goes_on c.in_ok-next_action.field-0 c.in-Some.next (sym c.in-Some.ensures) (c.in_ok-next_action.ensures ∙ e)) c.requires.kept

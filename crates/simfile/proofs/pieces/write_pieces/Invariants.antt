@@ -1,6 +1,6 @@
 use Rattle.std.proofs.Common.{take}
 use Rattle.std.specs.List.{flat_map}
-use Rattle.simfile.specs.Sink.{Wrote}
+use Rattle.ends.specs.Sink.{Wrote}
 use Rattle.simfile.specs.Pieces.{piece_text}
 use Rattle.simfile.proofs.pieces.write_pieces.Given as goal
 

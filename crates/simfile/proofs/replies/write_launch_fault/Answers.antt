@@ -1,5 +1,5 @@
 use Rattle.std.proofs.lemmas.Result.{err_from_is_err_and}
-use Rattle.simfile.proofs.Puts.{stopped_more, puts_then}
+use Rattle.ends.proofs.Puts.{stopped_more, puts_then}
 use Rattle.simfile.proofs.replies.write_launch_fault.Goals as goal
 
 pub returns-in_err-write_fault : goal.returns-in_err-write_fault

@@ -1,7 +1,7 @@
 use Rattle.std.proofs.Common.{rules}
 use Rattle.std.proofs.lemmas.Result.{err_from_is_err_and}
 use Rattle.simfile.specs.Parts.{part_text}
-use Rattle.simfile.proofs.Puts.{stopped_item, wrote_item}
+use Rattle.ends.proofs.Puts.{stopped_item, wrote_item}
 use Rattle.simfile.proofs.replies.write_parts.Goals as goal
 
 pub returns-in_err-write_part : goal.returns-in_err-write_part

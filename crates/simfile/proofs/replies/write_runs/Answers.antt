@@ -1,7 +1,7 @@
 use Rattle.std.proofs.Common.{rules}
 use Rattle.std.proofs.lemmas.Result.{err_from_is_err_and}
 use Rattle.simfile.specs.Lines.{run_text}
-use Rattle.simfile.proofs.Puts.{stopped_at, wrote_more}
+use Rattle.ends.proofs.Puts.{stopped_at, wrote_more}
 use Rattle.simfile.proofs.replies.write_runs.Goals as goal
 
 pub returns-in_err-write_run : goal.returns-in_err-write_run

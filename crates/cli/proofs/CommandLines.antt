@@ -1,0 +1,50 @@
+-- What the proofs of the command line cite.
+use Rattle.std.proofs.Common.{◌≡◌, ◌≤◌, ◌∙◌, subst, sym, refl, inl, inr, Box, ℕ, List, Option, Some, None, Result, Ok, option_map, codes}
+use Rattle.std.specs.Str.Parse.{ParsesUnsigned}
+use Rattle.std.specs.Box.{box_value}
+use Rattle.clap.specs.Words.{Row, Text, TriesOne, subcommand_name_of, subcommand_rows, subcommand_rows_of}
+use Rattle.clap.specs.declared.parser.matches.ArgMatches.{ArgMatches}
+use Rattle.clap.specs.declared.parser.matches.SubCommand.{SubCommand}
+use Rattle.clap.specs.declared.parser.matches.ArgMatches.TheViews.{out-ArgMatches, out-SubCommand}
+use Rattle.cli.specs.declared.command_line.Invocation.{Invocation}
+use Rattle.cli.specs.CommandLine.{IsBudget, IsRun, IsCheck, Holds}
+
+-- no option was read where it isn't there
+pub no_option : {E : Type 0} (G : List ℕ → Result ℕ E → Type 0) (o : Option Text) (read : Option ℕ) → read ≡ None
+    → ((t : Text) → o ≡ Some t → TriesOne G t (Ok read)) → IsBudget o 100000
+no_option G None read is reads = refl
+no_option G (Some t) None is reads = absurd (reads t refl)
+no_option G (Some t) (Some n) is reads = cc
+
+-- the number that was read is the option's
+pub the_option : {E : Type 0} (G : List ℕ → Result ℕ E → Type 0) (o : Option Text) (n : ℕ) (read : Option ℕ) → read ≡ Some n
+    → (o ≡ None → ◌≡◌ {A = Result (Option ℕ) E} (Ok read) (Ok None)) → ((t : Text) → o ≡ Some t → TriesOne G t (Ok read))
+    → ((t : Text) (r : Result ℕ E) → G t r → ParsesUnsigned 32 10 t r) → 1 ≤ n → n ≤ 1000000 → IsBudget o n
+the_option G o n None is none reads only least most = cc
+the_option G None n (Some k) is none reads only least most =
+    let bad = none refl in
+    cc
+the_option G (Some t) n (Some k) is none reads only least most =
+    let same : n ≡ k = cc in
+    let parsed = only t (Ok k) (reads t refl) in
+    (parsed.0.0, same ∙ parsed.1, least, most)
+
+-- the name and the matches of a subcommand are those of its rows
+rows_named : (m : ArgMatches) (name : Text) (rows : List Row) → subcommand_name_of m ≡ Some name → option_map (λ p. p.1) (subcommand_rows_of m) ≡ Some rows
+    → subcommand_rows_of m ≡ Some (name, rows)
+rows_named m name rows = go (out-ArgMatches m).subcommand
+  where
+    go : {Z : Type 0} (o : Option (Box SubCommand Z)) → option_map (λ b. (out-SubCommand (box_value b)).name.now) o ≡ Some name
+        → option_map (λ p. p.1) (subcommand_rows o) ≡ Some rows → subcommand_rows o ≡ Some (name, rows)
+    go None named held = cc
+    go (Some b) named held = cc
+
+pub holds_run : (m : ArgMatches) (rows : List Row) (asked : Invocation) → subcommand_name_of m ≡ Some (codes "run")
+    → option_map (λ p. p.1) (subcommand_rows_of m) ≡ Some rows → IsRun rows asked → Holds (subcommand_rows_of m) asked
+holds_run m rows asked named held is =
+    subst (λ (o : Option (Text × List Row)). Holds o asked) (sym (rows_named m (codes "run") rows named held)) (inl (refl, is))
+
+pub holds_check : (m : ArgMatches) (rows : List Row) (asked : Invocation) → subcommand_name_of m ≡ Some (codes "check")
+    → option_map (λ p. p.1) (subcommand_rows_of m) ≡ Some rows → IsCheck rows asked → Holds (subcommand_rows_of m) asked
+holds_check m rows asked named held is =
+    subst (λ (o : Option (Text × List Row)). Holds o asked) (sym (rows_named m (codes "check") rows named held)) (inr (refl, is))

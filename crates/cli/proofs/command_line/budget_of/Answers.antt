@@ -1,0 +1,18 @@
+use Rattle.std.proofs.Common.{rules, arith, ◌≡◌, ◌∙◌, ap, sym, subst, codes, Option}
+use Rattle.std.specs.Str.Parse.{ParsesUnsigned, ExplainsUnsignedError, HasUnsignedDigitsIfOk}
+use Rattle.clap.specs.Words.{Text, found_of, one_text}
+use Rattle.clap.proofs.WalkLemmas.{one_text-rows}
+use Rattle.cli.specs.CommandLine.{IsBudget}
+use Rattle.cli.proofs.CommandLines.{no_option, the_option}
+use Rattle.cli.proofs.command_line.budget_of.Goals as goal
+
+pub returns-in-Ok-None : goal.returns-in-Ok-None
+returns-in-Ok-None c =
+    subst (λ (o : Option Text). IsBudget o 100000) (one_text-rows (found_of c.args.run.now) (codes "budget"))
+    (no_option (λ bs r. ParsesUnsigned 32 10 bs r × ExplainsUnsignedError 10 bs r × HasUnsignedDigitsIfOk bs r) _ c.in-Ok-None.field-0 (search rules) c.in-Ok-None.ensures.value)
+
+pub returns-in-Ok-Some : goal.returns-in-Ok-Some
+returns-in-Ok-Some c =
+    subst (λ (o : Option Text). IsBudget o c.in-Ok-Some.budget) (one_text-rows (found_of c.args.run.now) (codes "budget"))
+    (the_option (λ bs r. ParsesUnsigned 32 10 bs r × ExplainsUnsignedError 10 bs r × HasUnsignedDigitsIfOk bs r) _ c.in-Ok-Some.budget c.in-Ok-Some.field-0 (search rules)
+    c.in-Ok-Some.ensures.none c.in-Ok-Some.ensures.value (λ t r g. g.0) (omega arith) (omega arith))

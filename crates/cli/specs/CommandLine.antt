@@ -1,0 +1,60 @@
+-- The forms of the command line, and what a command line asks for.
+use Rattle.std.specs.Prelude.{◌≡◌, ◌⊎◌, ◌≤◌, ℕ, true, Option, Some, None, List, codes}
+use Rattle.std.specs.Str.Parse.{IsNumeral, digits_value, without_leading_plus}
+use Rattle.clap.specs.Simple.{on_top}
+use Rattle.clap.specs.Words.{App, Rule, Row, Text, new_app, new_rule, with_rule, with_subcommand, subcommand_of, first_of, one_of}
+use Rattle.clap.specs.declared.builder.value_parser.ValueParser.TheVariants as parser
+use Rattle.cli.specs.declared.command_line.Invocation.{Invocation}
+use Rattle.cli.specs.declared.command_line.Invocation.TheVariants as invocation
+
+-- `FILE`
+abbrev pub file : Rule
+file = record (new_rule (codes "FILE")) { required = true }
+
+-- `--budget N`, a number from 1 to 1,000,000
+abbrev pub budget : Rule
+budget = record (new_rule (codes "budget")) {
+  long = Some (codes "budget");
+  value_names = 1;
+  parser = Some (parser.Unsigned 1 1000000);
+}
+
+abbrev pub run_form : App
+run_form = with_rule (with_rule (new_app (codes "run")) file) budget
+
+abbrev pub check_form : App
+check_form = with_rule (new_app (codes "check")) file
+
+-- `clsim run FILE [--budget N]` or `clsim check FILE`
+abbrev pub program : App
+program = with_subcommand
+    (with_subcommand (on_top (λ top. record top { subcommand_required = true }) (new_app (codes "clsim"))) run_form.top)
+    check_form.top
+
+-- the number of `--budget`, or 100,000 where it isn't there
+abbrev pub IsBudget : Option Text → ℕ → Type 0
+IsBudget None n = n ≡ 100000
+IsBudget (Some text) n = IsNumeral 10 (without_leading_plus text)
+    × (n ≡ digits_value 10 (without_leading_plus text)) × (1 ≤ n) × (n ≤ 1000000)
+
+abbrev pub GivesBudget : List Row → ℕ → Type 0
+GivesBudget rows n = IsBudget (one_of (codes "budget") rows) n
+
+-- a run of the file of these matches, under their budget
+abbrev pub IsRun : List Row → Invocation → Type 0
+IsRun rows (invocation.Run path options) = (first_of (codes "FILE") rows ≡ Some path.now) × GivesBudget rows options.budget
+IsRun rows (invocation.Check path) = ⊥
+
+-- a check of the file of these matches
+abbrev pub IsCheck : List Row → Invocation → Type 0
+IsCheck rows (invocation.Run path options) = ⊥
+IsCheck rows (invocation.Check path) = first_of (codes "FILE") rows ≡ Some path.now
+
+-- the subcommand that was met, with its matches, is the form that is asked for
+abbrev pub Holds : Option (Text × List Row) → Invocation → Type 0
+Holds None asked = ⊥
+Holds (Some (name, rows)) asked = (name ≡ codes "run") × IsRun rows asked ⊎ (name ≡ codes "check") × IsCheck rows asked
+
+-- the words' matches hold what is asked for
+abbrev pub AsksFor : List Text → Invocation → Type 0
+AsksFor words asked = Holds (subcommand_of program words) asked

@@ -1,0 +1,58 @@
+-- The next action of some kernels, computed.
+use Rattle.std.proofs.Common.{◌≡◌, [], ◌∷◌, refl}
+use Rattle.clnum.specs.Conversions as conversions
+use Rattle.clnum.specs.Integer as integer
+use Rattle.clnum.specs.Operations as operations
+use Rattle.clmodel.specs.Next.{next}
+use Rattle.clmodel.specs.Examples.{stores, waits, sum_by_helper, three_turns, continues, three_barriers, nested}
+use Rattle.clmodel.specs.declared.action.Action.TheVariants as action
+use Rattle.clmodel.specs.declared.action.Answer.TheVariants.{Done}
+use Rattle.clmodel.specs.declared.action.Cause.TheVariants as cause
+
+pub sum_is_stored : next (sum_by_helper 5) 0 [] ≡ stores 10
+unfolding next operations.binary_value integer.wrap conversions.common conversions.promoted integer.converted integer.bits_of
+sum_is_stored = refl
+
+pub sum_is_over : next (sum_by_helper 4) 0 [] ≡ action.Fault cause.Budget
+unfolding next operations.binary_value integer.wrap conversions.common conversions.promoted integer.converted integer.bits_of
+sum_is_over = refl
+
+pub turns_end : next (three_turns 6) 0 (Done ∷ Done ∷ Done ∷ []) ≡ action.End
+unfolding next operations.binary_value integer.wrap conversions.common conversions.promoted integer.converted integer.bits_of
+turns_end = refl
+
+pub turns_are_over : next (three_turns 5) 0 (Done ∷ Done ∷ []) ≡ action.Fault cause.Budget
+unfolding next operations.binary_value integer.wrap conversions.common conversions.promoted integer.converted integer.bits_of
+turns_are_over = refl
+
+pub continued_twice : next (continues 2) 0 [] ≡ action.End
+unfolding next operations.binary_value integer.wrap conversions.common conversions.promoted integer.converted integer.bits_of
+continued_twice = refl
+
+pub first_part : next (three_barriers 9) 0 [] ≡ waits 0 []
+unfolding next operations.binary_value integer.wrap conversions.common conversions.promoted integer.converted integer.bits_of
+first_part = refl
+
+pub body_first : next (three_barriers 9) 0 (Done ∷ []) ≡ waits 2 (1 ∷ [])
+unfolding next operations.binary_value integer.wrap conversions.common conversions.promoted integer.converted integer.bits_of
+body_first = refl
+
+pub third_part : next (three_barriers 9) 0 (Done ∷ Done ∷ []) ≡ waits 1 (1 ∷ [])
+unfolding next operations.binary_value integer.wrap conversions.common conversions.promoted integer.converted integer.bits_of
+third_part = refl
+
+pub body_again : next (three_barriers 9) 0 (Done ∷ Done ∷ Done ∷ []) ≡ waits 2 (2 ∷ [])
+unfolding next operations.binary_value integer.wrap conversions.common conversions.promoted integer.converted integer.bits_of
+body_again = refl
+
+pub helper_turn : next (nested 20) 0 (Done ∷ []) ≡ waits 1 (1 ∷ 1 ∷ [])
+unfolding next operations.binary_value integer.wrap conversions.common conversions.promoted integer.converted integer.bits_of
+helper_turn = refl
+
+pub helper_again : next (nested 20) 0 (Done ∷ Done ∷ []) ≡ waits 2 (1 ∷ 1 ∷ [])
+unfolding next operations.binary_value integer.wrap conversions.common conversions.promoted integer.converted integer.bits_of
+helper_again = refl
+
+pub outer_turn : next (nested 20) 0 (Done ∷ Done ∷ Done ∷ []) ≡ waits 0 (2 ∷ 1 ∷ [])
+unfolding next operations.binary_value integer.wrap conversions.common conversions.promoted integer.converted integer.bits_of
+outer_turn = refl

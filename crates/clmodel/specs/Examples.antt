@@ -1,0 +1,126 @@
+-- Kernels on which the next action is computed. Names: 26 `f`, 27 `a`, 28 `g`, 29 `n`, 30 `s`, 31 `j`.
+use Rattle.std.specs.Prelude.{ℕ, pos, true, false, None, Some, List, [], ◌∷◌}
+use Rattle.clnum.specs.declared.int_type.IntType.TheVariants.{Int}
+use Rattle.clnum.specs.declared.operators.BinaryOperator.TheVariants as operator
+use Rattle.clmodel.specs.Setup.{Setup}
+use Rattle.clmodel.specs.Tree.{Term, Number, Variable, Call, Binary, NoTerm, then_all, Whole, Part, Stmt, Block, DeclareAs, Assign, Step, CallOnly, While, DoWhile, For, Break, Continue, ReturnValue, NoStmt, then_stmts, With, Always, While_, Func, NoFunc, then_funcs}
+use Rattle.clmodel.specs.declared.access.Object.TheVariants as object
+use Rattle.clmodel.specs.declared.access.Operation.TheVariants as operation
+use Rattle.clmodel.specs.declared.access.Width.TheVariants.{Four}
+use Rattle.clmodel.specs.declared.action.Action.{Action}
+use Rattle.clmodel.specs.declared.action.Action.TheVariants as action
+use Rattle.clmodel.specs.declared.setup.Argument.TheVariants as argument
+use Rattle.clmodel.specs.declared.tree.AddressSpace.TheVariants.{Global}
+use Rattle.clmodel.specs.declared.tree.InfixOperator.TheVariants.{Arithmetic}
+use Rattle.clmodel.specs.declared.tree.Parameter.{Parameter}
+use Rattle.clmodel.specs.declared.tree.VariableType.TheVariants.{Integer, Pointer}
+
+abbrev pub number : ℕ → Term
+number n = Number 0 (record { kind = Int; number = pos n })
+
+abbrev pub variable : ℕ → Term
+variable name = Variable 0 name
+
+abbrev pub block : List Stmt → Stmt
+block ss = Block 0 (then_stmts NoStmt ss)
+
+abbrev pub call : ℕ → List Term → Term
+call name es = Call 0 name (then_all NoTerm es)
+
+-- `int name = e;`
+abbrev pub declare : ℕ → Term → Stmt
+declare name e = DeclareAs 0 (Integer Int) 0 name e
+
+-- `a[0] = e;`
+abbrev pub store : Term → Stmt
+store e = Assign 0 (Part 0 27 (number 0)) None e
+
+-- `barrier(CLK_LOCAL_MEM_FENCE);`
+abbrev pub barrier : Stmt
+barrier = CallOnly 0 14 (then_all NoTerm (variable 24 ∷ []))
+
+-- `name++`
+abbrev pub increment : ℕ → Stmt
+increment name = Step 0 (Whole 0 name) true
+
+abbrev pub less : Term → Term → Term
+less = Binary 0 (Arithmetic operator.Less)
+
+-- `for (int j = first; condition; j++) body`
+abbrev pub for_j : ℕ → Term → Stmt → Stmt
+for_j first condition body = For 0 (With (declare 31 (number first))) (While_ condition) (With (increment 31)) body
+
+-- a helper: its type, its name, the names of its parameters, which are ints, and its body
+abbrev pub ints : List ℕ → List Parameter
+ints [] = []
+ints (name ∷ names) = record { name_at = 0; name = name; kind = Integer Int } ∷ ints names
+
+-- `int g(int n) { .. }`
+abbrev pub helper_g : List Stmt → Func
+helper_g body =
+    record { is_kernel = false; result = Some Int; name_at = 0; name = 28; parameters = ints (29 ∷ []); body_at = 0; body = then_stmts NoStmt body }
+
+-- `__kernel void f(__global int *a) { .. }` for one item, with helpers before it and a budget
+abbrev pub launched : List Func → List Stmt → ℕ → Setup
+launched helpers body budget =
+    record {
+      program = record {
+        functions = then_funcs (then_funcs NoFunc helpers) (record {
+          is_kernel = true;
+          result = None;
+          name_at = 0;
+          name = 26;
+          parameters = record { name_at = 0; name = 27; kind = Pointer (record { space = Global; is_const = false; element = Int }) } ∷ [];
+          body_at = 0;
+          body = then_stmts NoStmt body;
+        } ∷ []);
+        names = [];
+      };
+      kernel = 26;
+      range = record { global = 1 ∷ []; local = 1 ∷ []; offset = 0 ∷ [] };
+      arguments = Some (argument.Buffer (97 ∷ [])) ∷ [];
+      budget = budget;
+    }
+
+-- the actions of these kernels
+abbrev pub stores : ℕ → Action
+stores n = action.Access (object.Buffer 0) (pos 0) (operation.Store Four n)
+
+abbrev pub waits : ℕ → List ℕ → Action
+waits site turns = action.Barrier (record { site = site; turns = turns }) (record { local = true; global = false })
+
+-- `int g(int n) { int s = 0; for (int j = 1; j <= n; j++) s += j; return s; }`, with `a[0] = g(4);`
+abbrev pub sum_by_helper : ℕ → Setup
+sum_by_helper =
+    launched
+    (helper_g (
+    declare 30 (number 0)
+    ∷ for_j 1 (Binary 0 (Arithmetic operator.LessOrEqual) (variable 31) (variable 29)) (Assign 0 (Whole 0 30) (Some operator.Add) (variable 31))
+    ∷ ReturnValue 0 (variable 30)
+    ∷ []
+    ) ∷ [])
+    (store (call 28 (number 4 ∷ [])) ∷ [])
+
+-- `for (int j = 0; j < 3; j++) a[0] = j;`
+abbrev pub three_turns : ℕ → Setup
+three_turns = launched [] (for_j 0 (less (variable 31) (number 3)) (store (variable 31)) ∷ [])
+
+-- `for (int j = 0; j < 2; j++) { continue; a[0] = 1; }`
+abbrev pub continues : ℕ → Setup
+continues = launched [] (for_j 0 (less (variable 31) (number 2)) (block (Continue 0 ∷ store (number 1) ∷ [])) ∷ [])
+
+-- `for (barrier(..); ; barrier(..)) barrier(..);`
+abbrev pub three_barriers : ℕ → Setup
+three_barriers = launched [] (For 0 (With barrier) Always (With barrier) barrier ∷ [])
+
+-- `while (1) { do { barrier(..); break; } while (1); g(0); g(0); }`, where `g` meets a barrier in a loop
+abbrev pub nested : ℕ → Setup
+nested =
+    launched
+    (helper_g (While 0 (number 1) (block (barrier ∷ ReturnValue 0 (variable 29) ∷ [])) ∷ []) ∷ [])
+    (While 0 (number 1) (block (
+    DoWhile 0 (block (barrier ∷ Break 0 ∷ [])) (number 1)
+    ∷ CallOnly 0 28 (then_all NoTerm (number 0 ∷ []))
+    ∷ CallOnly 0 28 (then_all NoTerm (number 0 ∷ []))
+    ∷ []
+    )) ∷ [])

@@ -1,6 +1,0 @@
-use Rattle.clsyntax.specs.declared.state.Frames.{size-Frames}
-use Rattle.clsyntax.proofs.operators.+close.Given as goal
-
--- the frames that are left
-abbrev pub decreases-close : goal.decreases-close
-decreases-close l = size-Frames l.stack.frames.value

@@ -1,0 +1,183 @@
+//! Statements that control others.
+#![tactic(auto)]
+
+ghost use Rattle.std.specs.Prelude.{◌≡◌, ◌∷◌, suc, IfOk};
+ghost use Rattle.clmodel.specs.Tree as tree;
+ghost use Rattle.clmodel.specs.Tree.{stmt, maybe_term};
+ghost use Rattle.clsyntax_terms.specs.Machine as machine;
+ghost use Rattle.clsyntax_terms.specs.Views.{frames_of, opened, maybe_statement, Steps};
+ghost use Rattle.clsyntax.specs.Views.{settled_of, ends_front};
+
+use crate::heads::on_typing;
+use crate::statements::{on_item, on_simple};
+use clmodel::tree::Statement;
+use clsyntax_lex::token::{Token, TokenKind};
+use clsyntax_terms::closing::{begin_condition, begin_turns};
+use clsyntax_terms::state::{Frame, Frames, Mode, Moved, Purpose, Stack, Step, Turns, deeper};
+use std::alloc::AllocError;
+
+/// The bracket behind `for`.
+pub(crate) fn open_for(nesting: u32, at: u32, stack: Stack) -> Moved
+    ensures { Steps result (machine.go nesting (machine.Initial (suc nesting)) (machine.InInitial at ∷ opened stack)) }
+{
+    let stack = stack.push(Frame::InInitial { at })?;
+    match deeper(nesting) {
+        Some(inner) => stack.go(nesting, Mode::Initial { nesting: inner }),
+        None => Ok(Step::Deep),
+    }
+}
+
+/// The first semicolon of a `for` without a first part.
+fn no_initial(nesting: u32, stack: Stack) -> Moved
+    ensures { Steps result (machine.no_initial nesting (opened stack)) }
+{
+    let Some((frame, stack)) = stack.pop() else {
+        return Ok(Step::Refused);
+    };
+    let Frame::InInitial { at } = frame else {
+        return Ok(Step::Refused);
+    };
+    begin_condition(nesting, at, None, stack)
+}
+
+/// Where the first part of a `for` may begin.
+pub(crate) fn on_initial(nesting: u32, stack: Stack, token: Token) -> Moved
+    ensures { Steps result (machine.on_initial nesting (opened stack) token) }
+{
+    let Token { kind, at } = token;
+    match kind {
+        TokenKind::Semicolon => no_initial(nesting, stack),
+        TokenKind::Type(_) | TokenKind::SizeT => {
+            on_typing(Purpose::Declaration { at, nesting }, stack, kind)
+        }
+        _ => on_simple(nesting, stack, token),
+    }
+}
+
+/// The bracket of a `for` without a third part.
+fn no_final(nesting: u32, stack: Stack) -> Moved
+    ensures { Steps result (machine.no_final nesting (opened stack)) }
+{
+    let Some((frame, stack)) = stack.pop() else {
+        return Ok(Step::Refused);
+    };
+    match frame {
+        Frame::InFinal(turns) => begin_turns(nesting, turns, None, stack),
+        _ => Ok(Step::Refused),
+    }
+}
+
+/// Where the third part of a `for` may begin.
+pub(crate) fn on_final(nesting: u32, stack: Stack, token: Token) -> Moved
+    ensures { Steps result (machine.on_final nesting (opened stack) token) }
+{
+    match token.kind {
+        TokenKind::CloseRound => no_final(nesting, stack),
+        _ => on_simple(nesting, stack, token),
+    }
+}
+
+/// A statement, and what is open outside of it.
+#[derive(Drop)]
+pub(crate) struct Settled {
+    pub statement: Box<Statement>,
+    pub stack: Stack,
+}
+
+/// Whether a statement ends the frame in front, which controls it.
+fn ends(before_else: bool, frames: &Frames) -> bool
+    ensures { result ≡ ends_front before_else (frames_of frames.now) }
+{
+    match frames {
+        Frames::Inside(Frame::Otherwise(..), _) => true,
+        Frames::Inside(Frame::Turns(..), _) => true,
+        Frames::Inside(Frame::ForTurns(_), _) => true,
+        Frames::Inside(Frame::Then(..), _) => !before_else,
+        _ => false,
+    }
+}
+
+/// A `for` with its body.
+fn for_of(turns: Turns, body: Box<Statement>) -> Statement
+    ensures { stmt result ≡ tree.For turns.at (maybe_statement turns.initial) (maybe_term turns.condition) (maybe_statement turns.last) (stmt body.value) }
+{
+    Statement::For {
+        at: turns.at,
+        first: turns.initial,
+        condition: turns.condition,
+        third: turns.last,
+        body,
+    }
+}
+
+/// A statement with those that control it, but an `if` that an `else` follows.
+fn settle(before_else: bool, statement: Box<Statement>, stack: Stack) -> Result<Settled, AllocError>
+    ensures { IfOk result (λ settled. settled_of settled ≡ machine.settle before_else (stmt statement.value) (opened stack)) }
+{
+    if !ends(before_else, &stack.frames) {
+        return Ok(Settled { statement, stack });
+    }
+    let Frames::Inside(frame, frames) = Box::into_inner(stack.frames) else {
+        unreachable!()
+    };
+    let alloc = stack.alloc;
+    let whole = match frame {
+        Frame::Then(at, _, condition) => Statement::If {
+            at,
+            condition,
+            chosen: statement,
+        },
+        Frame::Otherwise(at, condition, chosen) => Statement::IfElse {
+            at,
+            condition,
+            chosen,
+            otherwise: statement,
+        },
+        Frame::Turns(at, condition) => Statement::While {
+            at,
+            condition,
+            body: statement,
+        },
+        Frame::ForTurns(turns) => for_of(Box::into_inner(turns), statement),
+        _ => unreachable!(),
+    };
+    settle(
+        before_else,
+        Box::new(alloc, whole)?,
+        Stack { alloc, frames },
+    )
+}
+
+/// Behind a statement that nothing more controls: the next of its block, an `else`, or the `while` of a `do`.
+#[tactic(auto, using(crate::proofs::Lists::stmts_then))]
+fn on_settled(statement: Box<Statement>, stack: Stack, token: Token) -> Moved
+    ensures { Steps result (machine.on_settled (stmt statement.value) (opened stack) token) }
+{
+    let Some((frame, stack)) = stack.pop() else {
+        return Ok(Step::Refused);
+    };
+    match frame {
+        Frame::InItems(nesting, mut body) => {
+            body.push(Box::into_inner(statement))?;
+            on_item(nesting, stack.push(Frame::InItems(nesting, body))?, token)
+        }
+        Frame::Then(at, nesting, condition) => match token.kind {
+            TokenKind::Else => stack.control(nesting, Frame::Otherwise(at, condition, statement)),
+            _ => Ok(Step::Refused),
+        },
+        Frame::DoTurns { at, nesting } => match token.kind {
+            TokenKind::While => stack.go(nesting, Mode::AfterDo(nesting, at, statement)),
+            _ => Ok(Step::Refused),
+        },
+        _ => Ok(Step::Refused),
+    }
+}
+
+/// After a statement.
+pub(crate) fn on_did(statement: Box<Statement>, stack: Stack, token: Token) -> Moved
+    ensures { Steps result (machine.on_did (stmt statement.value) (opened stack) token) }
+{
+    let before_else = matches!(token.kind, TokenKind::Else);
+    let settled = settle(before_else, statement, stack)?;
+    on_settled(settled.statement, settled.stack, token)
+}

@@ -1,0 +1,7 @@
+pub mod Joining
+pub mod Lists
+pub mod WritingLemmas
+pub mod PrintedTerms
+pub mod PrintedStatements
+pub mod PrintedPrograms
+pub mod PrintedWords

@@ -1,0 +1,20 @@
+//! Laws of printing.
+#![tactic(auto)]
+
+ghost use Rattle.std.specs.Prelude.{ℕ, List, Ok};
+ghost use Rattle.clmodel.specs.Tree.{Program};
+ghost use Rattle.clsyntax.specs.Source.{IsSource};
+ghost use Rattle.clsyntax_print.specs.Printing.{IsPrinted, HasWords};
+ghost use Rattle.clsyntax_print.specs.Text.{IsOfGrammar};
+
+/// The tokens that a program's tree is printed as, wherever they begin, are a program with the same tree, offsets aside. They have
+/// the program's names and numbers, in their order. The limit of nesting is set aside.
+pub fn printed_again()
+    ensures tree { IsPrinted }
+    ensures words { HasWords }
+{}
+
+/// What a source is read as is of the grammar, so that it can be printed.
+pub fn sources_are_of_the_grammar()
+    ensures { (source : List ℕ) (p : Program) → IsSource source (Ok p) → IsOfGrammar source p }
+{}

@@ -1,0 +1,197 @@
+-- What the parser holds, as the machine sees it.
+use Rattle.std.specs.Prelude.{◌≡◌, ℕ, Bool, true, false, nat_le, ◌<◌, List, [], ◌∷◌, map, Option, None, Some, Result, is_some, IfOk, Box}
+use Rattle.std.specs.declared.alloc.Global.{Global}
+use Rattle.std.specs.declared.alloc.AllocError.{AllocError}
+use Rattle.clsyntax_lex.specs.declared.token.TokenKind.{TokenKind}
+use Rattle.clsyntax_lex.specs.declared.token.TokenKind.TheVariants as kinds
+use Rattle.clmodel.specs.declared.tree.Statement as rust_statement
+use Rattle.clmodel.specs.declared.tree.Function as rust_function
+use Rattle.clmodel.specs.declared.tree.Statement.{Statement}
+use Rattle.clmodel.specs.Tree.{term, terms, place, maybe_term, Stmts, NoStmt, stmt, then_stmts, MaybeStmt, Without, With, Funcs, NoFunc, func, then_funcs}
+use Rattle.clsyntax_terms.specs.Grammar as grammar
+use Rattle.clsyntax_terms.specs.Grammar.{limit, level}
+use Rattle.clsyntax_terms.specs.Machine as machine
+use Rattle.clsyntax_terms.specs.Machine.{Moved}
+use Rattle.clsyntax_terms.specs.declared.state.Head.{Head}
+use Rattle.clsyntax_terms.specs.declared.state.Call.{Call}
+use Rattle.clsyntax_terms.specs.declared.state.Prefix.{Prefix}
+use Rattle.clsyntax_terms.specs.declared.state.Prefix.TheVariants as prefixes
+use Rattle.clsyntax_terms.specs.declared.state.Purpose.{Purpose}
+use Rattle.clsyntax_terms.specs.declared.state.Purpose.TheVariants as purposes
+use Rattle.clsyntax_terms.specs.declared.state.TypeMode.{TypeMode}
+use Rattle.clsyntax_terms.specs.declared.state.TypeMode.TheVariants as types
+use Rattle.clsyntax_terms.specs.declared.state.HeadMode.{HeadMode}
+use Rattle.clsyntax_terms.specs.declared.state.HeadMode.TheVariants as heads
+use Rattle.clsyntax_terms.specs.declared.state.Frame.{Frame}
+use Rattle.clsyntax_terms.specs.declared.state.Frame.TheVariants as frames
+use Rattle.clsyntax_terms.specs.declared.state.Frames.{Frames, Empty, Inside'}
+use Rattle.clsyntax_terms.specs.declared.state.Mode.{Mode}
+use Rattle.clsyntax_terms.specs.declared.state.Mode.TheVariants as modes
+use Rattle.clsyntax_terms.specs.declared.state.State.{State}
+use Rattle.clsyntax_terms.specs.declared.state.Part.{Part}
+use Rattle.clsyntax_terms.specs.declared.state.Part.TheVariants as parts
+use Rattle.clsyntax_terms.specs.declared.operators.Folded.{Folded}
+use Rattle.clsyntax_terms.specs.declared.state.Stack.{Stack}
+use Rattle.clsyntax_terms.specs.declared.state.Step.{Step}
+use Rattle.clsyntax_terms.specs.declared.state.Step.TheVariants.{Refused, Deep, To}
+
+abbrev pub stmts_of : List rust_statement.Statement → Stmts
+stmts_of ss = then_stmts NoStmt (map stmt ss)
+
+abbrev pub funcs_of : List rust_function.Function → Funcs
+funcs_of fs = then_funcs NoFunc (map func fs)
+
+abbrev pub head_of : Head → grammar.Head
+head_of h = grammar.head h.is_kernel h.result h.name_at h.name h.parameters.items
+
+abbrev pub prefix : Prefix → grammar.Prefix
+prefix (prefixes.Operator operator) = grammar.Operator operator
+prefix prefixes.Fetch = grammar.Fetch
+prefix (prefixes.Convert type) = grammar.Convert type
+
+abbrev pub maybe_prefix : Option Prefix → Option grammar.Prefix
+maybe_prefix None = None
+maybe_prefix (Some p) = Some (prefix p)
+
+abbrev pub maybe_statement : Option (Box Statement Global) → MaybeStmt
+maybe_statement None = Without
+maybe_statement (Some s) = With (stmt s.value)
+
+abbrev pub purpose : Purpose → machine.Purpose
+purpose (purposes.Parameter takes_size) = machine.ForParameter takes_size
+purpose (purposes.Declaration at nesting) = machine.ForDeclaration at nesting
+
+abbrev pub in_call : Call → machine.Frame
+in_call c = machine.InCall c.is_statement c.at c.name c.nesting (terms c.arguments.items)
+
+abbrev pub frame_of : Frame → machine.Frame
+frame_of (frames.After from operator left) = machine.After from operator (term left.value)
+frame_of (frames.Before at p) = machine.Before at (prefix p)
+frame_of (frames.Asked from condition) = machine.Asked from (term condition.value)
+frame_of (frames.Chosen from condition chosen) = machine.Chosen from (term condition.value) (term chosen.value)
+frame_of (frames.InRound at nesting) = machine.InRound at nesting
+frame_of (frames.InElement at name nesting) = machine.InElement at name nesting
+frame_of (frames.InAddress at name_at name nesting) = machine.InAddress at name_at name nesting
+frame_of (frames.InCall call) = in_call call
+frame_of (frames.InPart is_step at name nesting) = machine.InPart is_step at name nesting
+frame_of (frames.InBehind is_step at nesting) = machine.InBehind is_step at nesting
+frame_of (frames.InStep at nesting is_increment) = machine.InStep at nesting is_increment
+frame_of (frames.InAssign at nesting target operator) = machine.InAssign at nesting (place target.value) operator
+frame_of (frames.InDeclare d) = machine.InDeclare d.at d.nesting d.kind d.name_at d.name
+frame_of (frames.InReturn at nesting) = machine.InReturn at nesting
+frame_of (frames.InIf at nesting) = machine.InIf at nesting
+frame_of (frames.InWhile at nesting) = machine.InWhile at nesting
+frame_of (frames.InDo at nesting body) = machine.InDo at nesting (stmt body.value)
+frame_of (frames.InInitial at) = machine.InInitial at
+frame_of (frames.InCondition turns) = machine.InCondition turns.value.at turns.value.nesting (maybe_statement turns.value.initial)
+frame_of (frames.InFinal turns) = machine.InFinal turns.value.at (maybe_statement turns.value.initial) (maybe_term turns.value.condition)
+frame_of (frames.Then at nesting condition) = machine.Then at nesting (term condition.value)
+frame_of (frames.Otherwise at condition chosen) = machine.Otherwise at (term condition.value) (stmt chosen.value)
+frame_of (frames.Turns at condition) = machine.Turns at (term condition.value)
+frame_of (frames.DoTurns at nesting) = machine.DoTurns at nesting
+frame_of (frames.ForTurns turns) = machine.ForTurns turns.value.at (maybe_statement turns.value.initial) (maybe_term turns.value.condition) (maybe_statement turns.value.last)
+frame_of (frames.InItems nesting body) = machine.InItems nesting (stmts_of body.items)
+frame_of (frames.InBlock at nesting) = machine.InBlock at nesting
+frame_of (frames.InBody head at) = machine.InBody (head_of head) at
+frame_of (frames.InHead head) = machine.InHead (head_of head)
+frame_of (frames.InProgram functions) = machine.InProgram (funcs_of functions.items)
+
+abbrev pub frames_of : Frames → List machine.Frame
+frames_of Empty = []
+frames_of (Inside' frame p rest) = frame_of frame ∷ frames_of rest
+
+abbrev pub head_mode_of : HeadMode → machine.Mode
+head_mode_of heads.Top = machine.Top
+head_mode_of heads.AfterKernel = machine.AfterKernel
+head_mode_of (heads.AfterReturning is_kernel result) = machine.AfterReturning is_kernel result
+head_mode_of (heads.AfterName is_kernel result at name) = machine.AfterName is_kernel result at name
+head_mode_of (heads.HeadOpen takes_size) = machine.HeadOpen takes_size
+head_mode_of (heads.WantParameter takes_size) = machine.WantParameter takes_size
+head_mode_of (heads.AfterParameter takes_size) = machine.AfterParameter takes_size
+head_mode_of heads.HeadDone = machine.HeadDone
+
+abbrev pub type_mode_of : Purpose → TypeMode → machine.Mode
+type_mode_of p types.AfterSpace = machine.AfterSpace (purpose p)
+type_mode_of p types.AfterConst = machine.AfterConst (purpose p)
+type_mode_of p (types.AfterElement is_const type) = machine.AfterElement (purpose p) is_const type
+type_mode_of p (types.Whole kind) = machine.AfterTyping (purpose p) kind
+
+abbrev pub mode_of : Mode → machine.Mode
+mode_of (modes.Operand nesting) = machine.Operand nesting
+mode_of (modes.Have nesting from value) = machine.Have nesting from (term value.value)
+mode_of (modes.Named nesting at name) = machine.Named nesting at name
+mode_of (modes.Opened nesting at) = machine.Opened nesting at
+mode_of (modes.CastType nesting at type) = machine.CastType nesting at type
+mode_of (modes.AfterAnd nesting at) = machine.AfterAnd nesting at
+mode_of (modes.AndName nesting at name_at name) = machine.AndName nesting at name_at name
+mode_of (modes.CallOpen nesting) = machine.CallOpen nesting
+mode_of (modes.Optional nesting) = machine.Optional nesting
+mode_of (modes.Item nesting) = machine.Item nesting
+mode_of (modes.Begin nesting) = machine.Begin nesting
+mode_of (modes.Initial nesting) = machine.Initial nesting
+mode_of (modes.Final nesting) = machine.Final nesting
+mode_of (modes.Aim nesting) = machine.Aim nesting
+mode_of (modes.BeginName is_step nesting at name) = machine.BeginName is_step nesting at name
+mode_of (modes.Aimed is_step nesting at target) = machine.Aimed is_step nesting at (place target.value)
+mode_of (modes.Ended nesting statement) = machine.Ended nesting (stmt statement.value)
+mode_of (modes.Closing nesting statement) = machine.Closing nesting (stmt statement.value)
+mode_of (modes.Did statement) = machine.Did (stmt statement.value)
+mode_of (modes.AfterIf nesting at) = machine.AfterIf nesting at
+mode_of (modes.AfterWhile nesting at) = machine.AfterWhile nesting at
+mode_of (modes.AfterFor nesting at) = machine.AfterFor nesting at
+mode_of (modes.AfterDo nesting at body) = machine.AfterDo nesting at (stmt body.value)
+mode_of (modes.Typing p t) = type_mode_of p t
+mode_of (modes.Declared d) = machine.Declared d.nesting d.at d.kind d.name_at d.name
+mode_of (modes.Head h) = head_mode_of h
+
+abbrev pub state_of : State → machine.State
+state_of s = machine.in_mode (mode_of s.mode) (frames_of s.frames.value)
+
+abbrev pub opened : Stack → List machine.Frame
+opened s = frames_of s.frames.value
+
+abbrev pub folded_of : Folded → machine.Folded
+folded_of f = machine.folded f.from (term f.value.value) (opened f.stack)
+
+-- which part of a `for` the frame in front reads
+abbrev pub part_of : List machine.Frame → Part
+part_of (machine.InInitial a ∷ fs) = parts.Initial
+part_of (machine.InFinal a i c ∷ fs) = parts.Final
+part_of _ = parts.Other
+
+-- an expression takes the frame in front, where operators bind at least so tightly
+abbrev pub takes_front : ℕ → List machine.Frame → Bool
+takes_front k (machine.After b op d ∷ fs) = nat_le k (level op)
+takes_front k (machine.Before b p ∷ fs) = true
+takes_front k (machine.Chosen b c d ∷ fs) = nat_le k 0
+takes_front k _ = false
+
+-- an operand or the type of a cast begins with the token
+abbrev pub is_operand : TokenKind → Bool
+is_operand (kinds.Type type) = true
+is_operand kinds.SizeT = true
+is_operand (kinds.Number v) = true
+is_operand (kinds.Name x) = true
+is_operand kinds.And = true
+is_operand kinds.OpenRound = true
+is_operand kind = is_some (grammar.prefix_of kind)
+
+-- the frame in front is `*` at a statement's begin
+abbrev pub is_behind : List machine.Frame → Bool
+is_behind (machine.InBehind is_step a n ∷ fs) = true
+is_behind _ = false
+
+-- a move, at a token that is nested too deep
+abbrev pub IsDeep : Moved → Type 0
+IsDeep None = ⊥
+IsDeep (Some x) = limit < x.0
+
+-- a step is the machine's
+abbrev pub IsStep : Step → Moved → Type 0
+IsStep Refused m = m ≡ None
+IsStep Deep m = IsDeep m
+IsStep (To nesting state) m = m ≡ Some (nesting, state_of state.value)
+
+-- the step that was made, if memory sufficed
+abbrev pub Steps : Result Step AllocError → Moved → Type 0
+Steps result m = IfOk result (λ step. IsStep step m)

@@ -1,0 +1,344 @@
+//! Where statements and declarations end, and the parts of a `for`.
+#![tactic(auto)]
+
+ghost use Rattle.std.specs.Prelude.{◌≡◌, ◌∷◌, suc, IfOk};
+ghost use Rattle.clmodel.specs.Tree as tree;
+ghost use Rattle.clmodel.specs.Tree.{term, place, stmt, maybe_term, ThenStmt};
+ghost use Rattle.clsyntax_terms.specs.Machine as machine;
+ghost use Rattle.clsyntax_terms.specs.Views.{opened, frame_of, stmts_of, maybe_statement, Steps};
+
+use crate::state::{Declared, Frame, Mode, Moved, Part, Stack, Step, Turns, deeper};
+use clmodel::tree::{Expression, Statement, Target};
+use clsyntax_lex::token::TokenKind;
+use std::alloc::{AllocError, Global};
+
+/// The second part of a `for`, behind the first.
+pub fn begin_condition(
+    nesting: u32,
+    at: u32,
+    initial: Option<Box<Statement>>,
+    stack: Stack,
+) -> Moved
+    ensures { Steps result (machine.go nesting (machine.Optional nesting) (machine.InCondition at nesting (maybe_statement initial) ∷ opened stack)) }
+{
+    let turns = Turns {
+        at,
+        nesting,
+        initial,
+        condition: None,
+        last: None,
+    };
+    let turns = Box::new(stack.alloc, turns)?;
+    let stack = stack.push(Frame::InCondition(turns))?;
+    stack.go(nesting, Mode::Optional { nesting })
+}
+
+/// The third part of a `for`, behind the second.
+fn begin_final(turns: Box<Turns>, condition: Option<Box<Expression>>, stack: Stack) -> Moved
+    ensures { Steps result (machine.go turns.value.nesting (machine.Final turns.value.nesting) (machine.InFinal turns.value.at (maybe_statement turns.value.initial) (maybe_term condition) ∷ opened stack)) }
+{
+    let Turns {
+        at,
+        nesting,
+        initial,
+        last,
+        ..
+    } = Box::into_inner(turns);
+    let turns = Turns {
+        at,
+        nesting,
+        initial,
+        condition,
+        last,
+    };
+    let turns = Box::new(stack.alloc, turns)?;
+    let stack = stack.push(Frame::InFinal(turns))?;
+    stack.go(nesting, Mode::Final { nesting })
+}
+
+/// The body of a `for`, behind the third part.
+pub fn begin_turns(
+    nesting: u32,
+    turns: Box<Turns>,
+    last: Option<Box<Statement>>,
+    stack: Stack,
+) -> Moved
+    ensures { Steps result (machine.go nesting (machine.Begin nesting) (machine.ForTurns turns.value.at (maybe_statement turns.value.initial) (maybe_term turns.value.condition) (maybe_statement last) ∷ opened stack)) }
+{
+    let Turns {
+        at,
+        nesting: inner,
+        initial,
+        condition,
+        ..
+    } = Box::into_inner(turns);
+    let turns = Turns {
+        at,
+        nesting: inner,
+        initial,
+        condition,
+        last,
+    };
+    let turns = Box::new(stack.alloc, turns)?;
+    stack.begin(nesting, Frame::ForTurns(turns))
+}
+
+/// The semicolon of a simple statement.
+fn end_simple(nesting: u32, statement: Box<Statement>, stack: Stack) -> Moved
+    ensures { Steps result (machine.end_simple nesting (stmt statement.value) (opened stack)) }
+{
+    match stack.part() {
+        Part::Other => stack.go(nesting, Mode::Did(statement)),
+        Part::Final => Ok(Step::Refused),
+        Part::Initial => {
+            let Some((frame, stack)) = stack.pop() else {
+                return Ok(Step::Refused);
+            };
+            match frame {
+                Frame::InInitial { at } => begin_condition(nesting, at, Some(statement), stack),
+                _ => Ok(Step::Refused),
+            }
+        }
+    }
+}
+
+/// The bracket behind a simple statement.
+fn end_final(nesting: u32, statement: Box<Statement>, stack: Stack) -> Moved
+    ensures { Steps result (machine.end_final nesting (stmt statement.value) (opened stack)) }
+{
+    let Some((frame, stack)) = stack.pop() else {
+        return Ok(Step::Refused);
+    };
+    match frame {
+        Frame::InFinal(turns) => begin_turns(nesting, turns, Some(statement), stack),
+        _ => Ok(Step::Refused),
+    }
+}
+
+/// The semicolon or the bracket behind a simple statement.
+pub(crate) fn ends_simple(
+    is_bracket: bool,
+    nesting: u32,
+    statement: Box<Statement>,
+    stack: Stack,
+) -> Moved
+    ensures { Steps result (machine.ends_simple is_bracket nesting (stmt statement.value) (opened stack)) }
+{
+    if is_bracket {
+        end_final(nesting, statement, stack)
+    } else {
+        end_simple(nesting, statement, stack)
+    }
+}
+
+/// After a simple statement.
+pub fn on_ended(nesting: u32, statement: Box<Statement>, stack: Stack, kind: TokenKind) -> Moved
+    ensures { Steps result (machine.on_ended nesting (stmt statement.value) (opened stack) kind) }
+{
+    match kind {
+        TokenKind::Semicolon => end_simple(nesting, statement, stack),
+        TokenKind::CloseRound => end_final(nesting, statement, stack),
+        _ => Ok(Step::Refused),
+    }
+}
+
+/// Where `++` or `--` and its target end.
+pub fn end_step(is_bracket: bool, target: Box<Target>, stack: Stack) -> Moved
+    ensures { Steps result (machine.end_step is_bracket (place target.value) (opened stack)) }
+{
+    let Some((frame, stack)) = stack.pop() else {
+        return Ok(Step::Refused);
+    };
+    match frame {
+        Frame::InStep(at, nesting, is_increment) => {
+            let step = Statement::Step {
+                at,
+                target,
+                is_increment,
+            };
+            let statement = Box::new(stack.alloc, step)?;
+            ends_simple(is_bracket, nesting, statement, stack)
+        }
+        _ => Ok(Step::Refused),
+    }
+}
+
+/// Where an assignment ends.
+fn end_assign(is_bracket: bool, nesting: u32, assign: Statement, stack: Stack) -> Moved
+    ensures { Steps result (machine.ends_simple is_bracket nesting (stmt assign) (opened stack)) }
+{
+    let statement = Box::new(stack.alloc, assign)?;
+    ends_simple(is_bracket, nesting, statement, stack)
+}
+
+/// A declaration, with its value if it has one.
+pub fn declaration(
+    alloc: Global,
+    declared: Declared,
+    value: Option<Box<Expression>>,
+) -> Result<Box<Statement>, AllocError>
+    ensures { IfOk result (λ made. stmt made.value ≡ tree.declared declared.at declared.kind declared.name_at declared.name value) }
+{
+    let statement = Statement::Declare {
+        at: declared.at,
+        kind: declared.kind,
+        name_at: declared.name_at,
+        name: declared.name,
+        value,
+    };
+    Ok(Box::new(alloc, statement)?)
+}
+
+/// One more declaration of a block.
+#[tactic(auto, using(crate::proofs::Lists::stmts_then))]
+fn add_item(
+    nesting: u32,
+    outer: u32,
+    body: Vec<Statement>,
+    statement: Box<Statement>,
+    stack: Stack,
+) -> Moved
+    ensures { Steps result (machine.go nesting (machine.Item nesting) (machine.InItems outer (ThenStmt (stmts_of body.items) (stmt statement.value)) ∷ opened stack)) }
+{
+    let mut body = body;
+    body.push(Box::into_inner(statement))?;
+    let stack = stack.push(Frame::InItems(outer, body))?;
+    stack.go(nesting, Mode::Item { nesting })
+}
+
+/// Where a declaration of a block ends.
+pub fn add_declaration(nesting: u32, statement: Box<Statement>, stack: Stack) -> Moved
+    ensures { Steps result (machine.add_declaration nesting (stmt statement.value) (opened stack)) }
+{
+    let Some((frame, stack)) = stack.pop() else {
+        return Ok(Step::Refused);
+    };
+    match frame {
+        Frame::InItems(outer, body) => add_item(nesting, outer, body, statement, stack),
+        _ => Ok(Step::Refused),
+    }
+}
+
+/// Where a declaration with a value ends.
+fn end_declaration(nesting: u32, statement: Box<Statement>, stack: Stack) -> Moved
+    ensures { Steps result (machine.end_declaration nesting (stmt statement.value) (opened stack)) }
+{
+    let Some((frame, stack)) = stack.pop() else {
+        return Ok(Step::Refused);
+    };
+    match frame {
+        Frame::InItems(outer, body) => add_item(nesting, outer, body, statement, stack),
+        Frame::InInitial { at } => begin_condition(nesting, at, Some(statement), stack),
+        _ => Ok(Step::Refused),
+    }
+}
+
+/// Where a value is given back, if there is one.
+fn end_return(at: u32, nesting: u32, value: Option<Box<Expression>>, stack: Stack) -> Moved
+    ensures { Steps result (machine.go nesting (machine.Did (tree.returned at value)) (opened stack)) }
+{
+    let statement = Box::new(stack.alloc, Statement::Return { at, value })?;
+    stack.go(nesting, Mode::Did(statement))
+}
+
+/// The semicolon behind an expression.
+pub(crate) fn on_semicolon(value: Box<Expression>, stack: Stack) -> Moved
+    ensures { Steps result (machine.on_semicolon (term value.value) (opened stack)) }
+{
+    let Some((frame, stack)) = stack.pop() else {
+        return Ok(Step::Refused);
+    };
+    match frame {
+        Frame::InAssign(at, nesting, target, operator) => {
+            let assign = Statement::Assign {
+                at,
+                target,
+                operator,
+                value,
+            };
+            end_assign(false, nesting, assign, stack)
+        }
+        Frame::InBehind(true, at, _) => {
+            let target = Box::new(stack.alloc, Target::Dereference { at, pointer: value })?;
+            end_step(false, target, stack)
+        }
+        Frame::InDeclare(declared) => {
+            let statement = declaration(stack.alloc, declared, Some(value))?;
+            end_declaration(declared.nesting, statement, stack)
+        }
+        Frame::InReturn { at, nesting } => end_return(at, nesting, Some(value), stack),
+        Frame::InCondition(turns) => begin_final(turns, Some(value), stack),
+        _ => Ok(Step::Refused),
+    }
+}
+
+/// A semicolon in place of an expression.
+pub(crate) fn on_nothing(stack: Stack) -> Moved
+    ensures { Steps result (machine.without (opened stack)) }
+{
+    let Some((frame, stack)) = stack.pop() else {
+        return Ok(Step::Refused);
+    };
+    match frame {
+        Frame::InReturn { at, nesting } => end_return(at, nesting, None, stack),
+        Frame::InCondition(turns) => begin_final(turns, None, stack),
+        _ => Ok(Step::Refused),
+    }
+}
+
+/// What a condition in brackets controls.
+fn begin_body(nesting: u32, frame: Frame, stack: Stack) -> Moved
+    ensures { Steps result (machine.go (suc nesting) (machine.Begin (suc nesting)) (frame_of frame ∷ opened stack)) }
+{
+    match deeper(nesting) {
+        Some(inner) => stack.begin(inner, frame),
+        None => Ok(Step::Deep),
+    }
+}
+
+/// The bracket behind the condition of a `do`.
+fn end_do(
+    at: u32,
+    nesting: u32,
+    body: Box<Statement>,
+    condition: Box<Expression>,
+    stack: Stack,
+) -> Moved
+    ensures { Steps result (machine.go (suc nesting) (machine.Closing nesting (tree.DoWhile at (stmt body.value) (term condition.value))) (opened stack)) }
+{
+    let Some(inner) = deeper(nesting) else {
+        return Ok(Step::Deep);
+    };
+    let turns = Statement::DoWhile {
+        at,
+        body,
+        condition,
+    };
+    let statement = Box::new(stack.alloc, turns)?;
+    stack.go(inner, Mode::Closing(nesting, statement))
+}
+
+/// The bracket behind an expression of a statement.
+pub(crate) fn end_bracket(frame: Frame, value: Box<Expression>, stack: Stack) -> Moved
+    ensures { Steps result (machine.end_bracket (term value.value) (frame_of frame ∷ opened stack)) }
+{
+    match frame {
+        Frame::InIf { at, nesting } => begin_body(nesting, Frame::Then(at, nesting, value), stack),
+        Frame::InWhile { at, nesting } => begin_body(nesting, Frame::Turns(at, value), stack),
+        Frame::InDo(at, nesting, body) => end_do(at, nesting, body, value, stack),
+        Frame::InAssign(at, nesting, target, operator) => {
+            let assign = Statement::Assign {
+                at,
+                target,
+                operator,
+                value,
+            };
+            end_assign(true, nesting, assign, stack)
+        }
+        Frame::InBehind(true, at, _) => {
+            let target = Box::new(stack.alloc, Target::Dereference { at, pointer: value })?;
+            end_step(true, target, stack)
+        }
+        _ => Ok(Step::Refused),
+    }
+}

@@ -1,0 +1,303 @@
+//! Expressions.
+#![tactic(auto)]
+
+ghost use Rattle.std.specs.Prelude.{◌≡◌};
+ghost use Rattle.clmodel.specs.Tree as tree;
+ghost use Rattle.clmodel.specs.Tree.{term, terms};
+ghost use Rattle.clsyntax_terms.specs.Grammar as grammar;
+ghost use Rattle.clsyntax_terms.specs.Machine as machine;
+ghost use Rattle.clsyntax_terms.specs.Views.{opened, folded_of, is_operand, Steps};
+
+use crate::closing::{end_bracket, on_nothing, on_semicolon};
+use crate::operators::{Folded, assign_of, close, infix_of, is_star, level, prefix_of};
+use crate::state::{Call, Frame, Mode, Moved, Stack, Step, deeper};
+use clmodel::tree::{Expression, InfixOperator, Statement, Target};
+use clnum::IntType;
+use clsyntax_lex::token::{Token, TokenKind};
+
+/// Where an operand is wanted.
+pub fn on_operand(nesting: u32, stack: Stack, token: Token) -> Moved
+    ensures { Steps result (machine.on_operand nesting (opened stack) token) }
+{
+    let Token { kind, at } = token;
+    match kind {
+        TokenKind::Number(value) => {
+            let value = Box::new(stack.alloc, Expression::Number { at, value })?;
+            stack.go(nesting, Mode::Have(nesting, at, value))
+        }
+        TokenKind::Name(name) => stack.go(nesting, Mode::Named { nesting, at, name }),
+        TokenKind::And => match deeper(nesting) {
+            Some(inner) => stack.go(nesting, Mode::AfterAnd { nesting: inner, at }),
+            None => Ok(Step::Deep),
+        },
+        TokenKind::OpenRound => stack.go(nesting, Mode::Opened { nesting, at }),
+        _ => match prefix_of(kind) {
+            Some(prefix) => stack.open(nesting, Frame::Before { at, prefix }),
+            None => Ok(Step::Refused),
+        },
+    }
+}
+
+/// Whether an operand or the type of a cast begins with a token.
+fn begins_operand(kind: TokenKind) -> bool
+    ensures { result ≡ is_operand kind }
+{
+    match kind {
+        TokenKind::Type(_) | TokenKind::SizeT | TokenKind::Number(_) | TokenKind::Name(_) => true,
+        TokenKind::And | TokenKind::OpenRound => true,
+        _ => prefix_of(kind).is_some(),
+    }
+}
+
+/// After a bracket where an operand was wanted: the type of a cast, or an operand.
+pub fn on_opened(nesting: u32, at: u32, stack: Stack, token: Token) -> Moved
+    ensures { Steps result (machine.on_opened nesting at (opened stack) token) }
+{
+    if !begins_operand(token.kind) {
+        return Ok(Step::Refused);
+    }
+    let Some(inner) = deeper(nesting) else {
+        return Ok(Step::Deep);
+    };
+    match token.kind {
+        TokenKind::Type(target) => stack.go(inner, Mode::CastType(nesting, at, target)),
+        TokenKind::SizeT => stack.go(inner, Mode::CastType(nesting, at, IntType::Ulong)),
+        _ => on_operand(inner, stack.push(Frame::InRound { at, nesting })?, token),
+    }
+}
+
+fn call_of(at: u32, name: u32, arguments: Vec<Expression>) -> Expression
+    ensures { term result ≡ tree.Call at name (terms arguments.items) }
+{
+    Expression::Call {
+        at,
+        name,
+        arguments,
+    }
+}
+
+/// Where a call's bracket closes.
+fn end_call(call: Call, stack: Stack) -> Moved
+    ensures { Steps result (machine.end_call call.is_statement call.at call.name call.nesting (terms call.arguments.items) (opened stack)) }
+{
+    let Call {
+        is_statement,
+        at,
+        name,
+        nesting,
+        arguments,
+    } = call;
+    let Some(inner) = deeper(nesting) else {
+        return Ok(Step::Deep);
+    };
+    if is_statement {
+        let statement = Box::new(
+            stack.alloc,
+            Statement::Call {
+                at,
+                name,
+                arguments,
+            },
+        )?;
+        stack.go(inner, Mode::Ended(nesting, statement))
+    } else {
+        let value = Box::new(stack.alloc, call_of(at, name, arguments))?;
+        stack.go(inner, Mode::Have(nesting, at, value))
+    }
+}
+
+/// Where an expression's or an argument's bracket closes.
+#[tactic(auto, using(crate::proofs::Lists::terms_then))]
+fn on_close_round(value: Box<Expression>, stack: Stack) -> Moved
+    ensures { Steps result (machine.on_close_round (term value.value) (opened stack)) }
+{
+    let Some((frame, stack)) = stack.pop() else {
+        return Ok(Step::Refused);
+    };
+    match frame {
+        Frame::InRound { at, nesting } => stack.close(nesting, at, value),
+        Frame::InCall(mut call) => {
+            call.arguments.push(Box::into_inner(value))?;
+            end_call(call, stack)
+        }
+        _ => end_bracket(frame, value, stack),
+    }
+}
+
+/// Between two arguments.
+#[tactic(auto, using(crate::proofs::Lists::terms_then))]
+fn on_comma(value: Box<Expression>, stack: Stack) -> Moved
+    ensures { Steps result (machine.on_comma (term value.value) (opened stack)) }
+{
+    let Some((frame, stack)) = stack.pop() else {
+        return Ok(Step::Refused);
+    };
+    match frame {
+        Frame::InCall(mut call) => {
+            let Some(inner) = deeper(call.nesting) else {
+                return Ok(Step::Deep);
+            };
+            call.arguments.push(Box::into_inner(value))?;
+            stack.want(inner, Frame::InCall(call))
+        }
+        _ => Ok(Step::Refused),
+    }
+}
+
+/// Where an index ends.
+fn on_close_square(index: Box<Expression>, stack: Stack) -> Moved
+    ensures { Steps result (machine.on_close_square (term index.value) (opened stack)) }
+{
+    let Some((frame, stack)) = stack.pop() else {
+        return Ok(Step::Refused);
+    };
+    match frame {
+        Frame::InElement { at, name, nesting } => {
+            let element = Box::new(stack.alloc, Expression::Element { at, name, index })?;
+            stack.close(nesting, at, element)
+        }
+        Frame::InAddress(at, name_at, name, nesting) => {
+            let address = Expression::ElementAddress {
+                at,
+                name_at,
+                name,
+                index,
+            };
+            let address = Box::new(stack.alloc, address)?;
+            stack.close(nesting, at, address)
+        }
+        Frame::InPart(is_step, at, name, nesting) => {
+            let target = Box::new(stack.alloc, Target::Element { at, name, index })?;
+            match deeper(nesting) {
+                Some(inner) => stack.go(inner, Mode::Aimed(is_step, nesting, at, target)),
+                None => Ok(Step::Deep),
+            }
+        }
+        _ => Ok(Step::Refused),
+    }
+}
+
+/// Between the two values of a choice.
+fn on_colon(nesting: u32, chosen: Box<Expression>, stack: Stack) -> Moved
+    ensures { Steps result (machine.on_colon nesting (term chosen.value) (opened stack)) }
+{
+    let Some((frame, stack)) = stack.pop() else {
+        return Ok(Step::Refused);
+    };
+    match frame {
+        Frame::Asked(from, condition) => stack.want(
+            nesting,
+            Frame::Chosen(from, condition, chosen),
+        ),
+        _ => Ok(Step::Refused),
+    }
+}
+
+/// Where an assignment follows `*` and an operand.
+fn on_assignment(kind: TokenKind, pointer: Box<Expression>, stack: Stack) -> Moved
+    ensures { Steps result (machine.on_assignment (grammar.assign_of kind) (term pointer.value) (opened stack)) }
+{
+    let Some(operator) = assign_of(kind) else {
+        return Ok(Step::Refused);
+    };
+    let Some((frame, stack)) = stack.pop() else {
+        return Ok(Step::Refused);
+    };
+    match frame {
+        Frame::InBehind(false, at, nesting) => {
+            let target = Box::new(stack.alloc, Target::Dereference { at, pointer })?;
+            stack.want(nesting, Frame::InAssign(at, nesting, target, operator))
+        }
+        _ => Ok(Step::Refused),
+    }
+}
+
+/// After an expression, at a token that is no operator between two.
+fn end_expression(kind: TokenKind, nesting: u32, folded: Folded) -> Moved
+    ensures { Steps result (machine.end_expression kind nesting (folded_of folded)) }
+{
+    let Folded { from, value, stack } = folded;
+    match kind {
+        TokenKind::Question if is_star(&stack.frames) => Ok(Step::Refused),
+        TokenKind::Question => stack.open(nesting, Frame::Asked(from, value)),
+        TokenKind::Colon => on_colon(nesting, value, stack),
+        TokenKind::CloseRound => on_close_round(value, stack),
+        TokenKind::Comma => on_comma(value, stack),
+        TokenKind::CloseSquare => on_close_square(value, stack),
+        TokenKind::Semicolon => on_semicolon(value, stack),
+        _ => on_assignment(kind, value, stack),
+    }
+}
+
+/// How tightly the operators before an expression must bind, so that they take it in front of a token.
+fn asked_level(between: Option<InfixOperator>, kind: TokenKind) -> u32
+    ensures { result ≡ machine.asked_level between kind }
+{
+    match (between, kind) {
+        (Some(operator), _) => level(operator),
+        (None, TokenKind::Question) => 1,
+        _ => 0,
+    }
+}
+
+/// After an expression.
+pub fn on_have(nesting: u32, from: u32, value: Box<Expression>, stack: Stack, token: Token) -> Moved
+    ensures { Steps result (machine.on_have nesting from (term value.value) (opened stack) token) }
+{
+    let infix = infix_of(token.kind);
+    let folded = close(asked_level(infix, token.kind), from, value, stack)?;
+    match infix {
+        Some(_) if is_star(&folded.stack.frames) => Ok(Step::Refused),
+        Some(operator) => {
+            let Folded { from, value, stack } = folded;
+            stack.open(nesting, Frame::After(from, operator, value))
+        }
+        None => end_expression(token.kind, nesting, folded),
+    }
+}
+
+/// After a name in an expression.
+pub fn on_named(nesting: u32, at: u32, name: u32, stack: Stack, token: Token) -> Moved
+    ensures { Steps result (machine.on_named nesting at name (opened stack) token) }
+{
+    match token.kind {
+        TokenKind::OpenSquare => stack.open(nesting, Frame::InElement { at, name, nesting }),
+        TokenKind::OpenRound => stack.call(false, at, name, nesting),
+        _ => {
+            let value = Box::new(stack.alloc, Expression::Variable { at, name })?;
+            on_have(nesting, at, value, stack, token)
+        }
+    }
+}
+
+fn close_call(stack: Stack) -> Moved
+    ensures { Steps result (machine.close_call (opened stack)) }
+{
+    let Some((frame, stack)) = stack.pop() else {
+        return Ok(Step::Refused);
+    };
+    match frame {
+        Frame::InCall(call) => end_call(call, stack),
+        _ => Ok(Step::Refused),
+    }
+}
+
+/// After the bracket of a call.
+pub fn on_call_open(nesting: u32, stack: Stack, token: Token) -> Moved
+    ensures { Steps result (machine.on_call_open nesting (opened stack) token) }
+{
+    match token.kind {
+        TokenKind::CloseRound => close_call(stack),
+        _ => on_operand(nesting, stack, token),
+    }
+}
+
+/// Where an expression is wanted, or a semicolon in its place.
+pub fn on_optional(nesting: u32, stack: Stack, token: Token) -> Moved
+    ensures { Steps result (machine.on_optional nesting (opened stack) token) }
+{
+    match token.kind {
+        TokenKind::Semicolon => on_nothing(stack),
+        _ => on_operand(nesting, stack, token),
+    }
+}

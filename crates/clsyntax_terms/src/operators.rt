@@ -1,0 +1,211 @@
+//! Operators, and how tightly they bind.
+#![tactic(auto)]
+
+ghost use Rattle.std.specs.Prelude.{◌≡◌, IfOk};
+ghost use Rattle.clmodel.specs.Tree.{term};
+ghost use Rattle.clsyntax_terms.specs.Grammar as grammar;
+ghost use Rattle.clsyntax_terms.specs.Machine as machine;
+ghost use Rattle.clsyntax_terms.specs.Views.{frames_of, opened, folded_of, prefix, maybe_prefix, takes_front, is_behind};
+
+use crate::state::{Frame, Frames, Prefix, Stack};
+use clmodel::tree::{Expression, InfixOperator};
+use clnum::{BinaryOperator, IntType, UnaryOperator};
+use clsyntax_lex::token::TokenKind;
+use std::alloc::{AllocError, Global};
+
+/// The operator that a token between two expressions is (C99 6.5.5 to 6.5.14).
+pub(crate) fn infix_of(kind: TokenKind) -> Option<InfixOperator>
+    ensures { result ≡ grammar.infix_of kind }
+{
+    let arithmetic = match kind {
+        TokenKind::OrOr => return Some(InfixOperator::LogicalOr),
+        TokenKind::AndAnd => return Some(InfixOperator::LogicalAnd),
+        TokenKind::Or => BinaryOperator::BitOr,
+        TokenKind::Caret => BinaryOperator::BitXor,
+        TokenKind::And => BinaryOperator::BitAnd,
+        TokenKind::Equal => BinaryOperator::Equal,
+        TokenKind::NotEqual => BinaryOperator::NotEqual,
+        TokenKind::Less => BinaryOperator::Less,
+        TokenKind::Greater => BinaryOperator::Greater,
+        TokenKind::LessOrEqual => BinaryOperator::LessOrEqual,
+        TokenKind::GreaterOrEqual => BinaryOperator::GreaterOrEqual,
+        TokenKind::ShiftLeft => BinaryOperator::ShiftLeft,
+        TokenKind::ShiftRight => BinaryOperator::ShiftRight,
+        TokenKind::Plus => BinaryOperator::Add,
+        TokenKind::Minus => BinaryOperator::Subtract,
+        TokenKind::Star => BinaryOperator::Multiply,
+        TokenKind::Slash => BinaryOperator::Divide,
+        TokenKind::Percent => BinaryOperator::Remainder,
+        _ => return None,
+    };
+    Some(InfixOperator::Arithmetic(arithmetic))
+}
+
+/// How tightly an operator binds, from the loosest (C99 6.5.5 to 6.5.14).
+pub(crate) fn level(operator: InfixOperator) -> u32
+    ensures { result ≡ grammar.level operator }
+{
+    match operator {
+        InfixOperator::LogicalOr => 2,
+        InfixOperator::LogicalAnd => 3,
+        InfixOperator::Arithmetic(arithmetic) => match arithmetic {
+            BinaryOperator::BitOr => 4,
+            BinaryOperator::BitXor => 5,
+            BinaryOperator::BitAnd => 6,
+            BinaryOperator::Equal | BinaryOperator::NotEqual => 7,
+            BinaryOperator::Less
+            | BinaryOperator::Greater
+            | BinaryOperator::LessOrEqual
+            | BinaryOperator::GreaterOrEqual => 8,
+            BinaryOperator::ShiftLeft | BinaryOperator::ShiftRight => 9,
+            BinaryOperator::Add | BinaryOperator::Subtract => 10,
+            BinaryOperator::Multiply | BinaryOperator::Divide | BinaryOperator::Remainder => 11,
+        },
+    }
+}
+
+/// The prefix that a token is.
+pub(crate) fn prefix_of(kind: TokenKind) -> Option<Prefix>
+    ensures { maybe_prefix result ≡ grammar.prefix_of kind }
+{
+    match kind {
+        TokenKind::Plus => Some(Prefix::Operator(UnaryOperator::Plus)),
+        TokenKind::Minus => Some(Prefix::Operator(UnaryOperator::Negate)),
+        TokenKind::Tilde => Some(Prefix::Operator(UnaryOperator::Complement)),
+        TokenKind::Not => Some(Prefix::Operator(UnaryOperator::Not)),
+        TokenKind::Star => Some(Prefix::Fetch),
+        _ => None,
+    }
+}
+
+/// The operator of an assignment, if it has one (C99 6.5.16).
+pub fn assign_of(kind: TokenKind) -> Option<Option<BinaryOperator>>
+    ensures { result ≡ grammar.assign_of kind }
+{
+    let operator = match kind {
+        TokenKind::Assign => return Some(None),
+        TokenKind::PlusAssign => BinaryOperator::Add,
+        TokenKind::MinusAssign => BinaryOperator::Subtract,
+        TokenKind::StarAssign => BinaryOperator::Multiply,
+        TokenKind::SlashAssign => BinaryOperator::Divide,
+        TokenKind::PercentAssign => BinaryOperator::Remainder,
+        TokenKind::ShiftLeftAssign => BinaryOperator::ShiftLeft,
+        TokenKind::ShiftRightAssign => BinaryOperator::ShiftRight,
+        TokenKind::AndAssign => BinaryOperator::BitAnd,
+        TokenKind::CaretAssign => BinaryOperator::BitXor,
+        TokenKind::OrAssign => BinaryOperator::BitOr,
+        _ => return None,
+    };
+    Some(Some(operator))
+}
+
+/// Whether `++` or `--` goes up (C99 6.5.2.4 and 6.5.3.1).
+pub fn step_of(kind: TokenKind) -> Option<bool>
+    ensures { result ≡ grammar.step_of kind }
+{
+    match kind {
+        TokenKind::PlusPlus => Some(true),
+        TokenKind::MinusMinus => Some(false),
+        _ => None,
+    }
+}
+
+/// An operand behind a prefix that begins at the offset.
+fn prefixed(
+    alloc: Global,
+    before: Prefix,
+    at: u32,
+    operand: Box<Expression>,
+) -> Result<Box<Expression>, AllocError>
+    ensures { IfOk result (λ whole. term whole.value ≡ grammar.prefixed_by (prefix before) at (term operand.value)) }
+{
+    let whole = match before {
+        Prefix::Operator(operator) => Expression::Unary {
+            at,
+            operator,
+            operand,
+        },
+        Prefix::Fetch => Expression::Dereference {
+            at,
+            pointer: operand,
+        },
+        Prefix::Convert(target) => Expression::Cast {
+            at,
+            target,
+            operand,
+        },
+    };
+    Ok(Box::new(alloc, whole)?)
+}
+
+/// An expression, where it begins, and what is open outside of it.
+#[derive(Drop)]
+pub(crate) struct Folded {
+    pub from: u32,
+    pub value: Box<Expression>,
+    pub stack: Stack,
+}
+
+/// Whether an expression takes the frame in front, where operators bind at least so tightly.
+fn takes(least: u32, frames: &Frames) -> bool
+    ensures { result ≡ takes_front least (frames_of frames.now) }
+{
+    match frames {
+        Frames::Inside(Frame::After(_, operator, _), _) => least <= level(*operator),
+        Frames::Inside(Frame::Before { .. }, _) => true,
+        Frames::Inside(Frame::Chosen(..), _) => least == 0,
+        _ => false,
+    }
+}
+
+/// Whether the frame in front is `*` at a statement's begin.
+pub(crate) fn is_star(frames: &Frames) -> bool
+    ensures { result ≡ is_behind (frames_of frames.now) }
+{
+    matches!(frames, Frames::Inside(Frame::InBehind(..), _))
+}
+
+/// An expression with the prefixes before it, the operators that bind at least so tightly, and, at 0, a choice.
+pub(crate) fn close(
+    least: u32,
+    from: u32,
+    value: Box<Expression>,
+    stack: Stack,
+) -> Result<Folded, AllocError>
+    ensures { IfOk result (λ folded. folded_of folded ≡ machine.close least from (term value.value) (opened stack)) }
+{
+    if !takes(least, &stack.frames) {
+        return Ok(Folded { from, value, stack });
+    }
+    let Frames::Inside(frame, frames) = Box::into_inner(stack.frames) else {
+        unreachable!()
+    };
+    let stack = Stack {
+        alloc: stack.alloc,
+        frames,
+    };
+    match frame {
+        Frame::After(at, operator, left) => {
+            let whole = Expression::Binary {
+                at,
+                operator,
+                left,
+                right: value,
+            };
+            close(least, at, Box::new(stack.alloc, whole)?, stack)
+        }
+        Frame::Before { at, prefix } => {
+            close(least, at, prefixed(stack.alloc, prefix, at, value)?, stack)
+        }
+        Frame::Chosen(at, condition, chosen) => {
+            let whole = Expression::Choice {
+                at,
+                condition,
+                chosen,
+                otherwise: value,
+            };
+            close(least, at, Box::new(stack.alloc, whole)?, stack)
+        }
+        _ => unreachable!(),
+    }
+}

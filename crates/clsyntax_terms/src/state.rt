@@ -1,0 +1,420 @@
+//! What the parser holds between two tokens. A `nesting` is that of the next token, with something open that outside of it.
+#![tactic(auto)]
+
+ghost use Rattle.std.specs.Prelude.{◌≡◌, [], ◌∷◌, suc, ◌<◌, IfOk, MatchOption};
+ghost use Rattle.clmodel.specs.Tree.{term, NoTerm};
+ghost use Rattle.clsyntax_terms.specs.Grammar as grammar;
+ghost use Rattle.clsyntax_terms.specs.Machine as machine;
+ghost use Rattle.clsyntax_terms.specs.Views.{opened, frame_of, mode_of, purpose, part_of, Steps};
+
+use clmodel::tree::{
+    Expression, Function, InfixOperator, Parameter, Statement, Target, VariableType,
+};
+use clnum::{BinaryOperator, IntType, UnaryOperator};
+use std::alloc::{AllocError, Global};
+
+/// How deep tokens may be nested.
+pub const LIMIT: u32 = 64;
+
+/// What stands before an operand (C99 6.5.3.2, 6.5.3.3 and 6.5.4).
+#[derive(Clone, Copy)]
+pub enum Prefix {
+    Operator(UnaryOperator),
+    /// `*`
+    Fetch,
+    /// `(type)`
+    Convert(IntType),
+}
+
+/// What a type is read for.
+#[derive(Clone, Copy)]
+pub enum Purpose {
+    /// A parameter, which may be of type size_t or not
+    Parameter { takes_size: bool },
+    Declaration { at: u32, nesting: u32 },
+}
+
+impl Purpose {
+    /// The nesting of a type's tokens.
+    pub fn nesting(self) -> u32
+        ensures { result ≡ machine.nesting_of (purpose self) }
+    {
+        match self {
+            Purpose::Parameter { .. } => 1,
+            Purpose::Declaration { nesting, .. } => nesting,
+        }
+    }
+}
+
+/// A type and a name of that type; `at` is where the type begins.
+#[derive(Clone, Copy)]
+pub struct Declared {
+    pub nesting: u32,
+    pub at: u32,
+    pub kind: VariableType,
+    pub name_at: u32,
+    pub name: u32,
+}
+
+/// What stands before a function's body.
+#[derive(Drop)]
+pub struct Head {
+    pub is_kernel: bool,
+    pub result: Option<IntType>,
+    pub name_at: u32,
+    pub name: u32,
+    pub parameters: Vec<Parameter>,
+}
+
+/// `name(` and the arguments so far.
+#[derive(Drop)]
+pub struct Call {
+    pub is_statement: bool,
+    pub at: u32,
+    pub name: u32,
+    pub nesting: u32,
+    pub arguments: Vec<Expression>,
+}
+
+/// The parts so far of a `for`, and the nesting in its brackets.
+#[derive(Drop)]
+pub struct Turns {
+    pub at: u32,
+    pub nesting: u32,
+    pub initial: Option<Box<Statement>>,
+    pub condition: Option<Box<Expression>>,
+    pub last: Option<Box<Statement>>,
+}
+
+/// Something open.
+#[derive(Drop)]
+pub enum Frame {
+    /// An operator that waits for its right operand, and where its left one begins
+    After(u32, InfixOperator, Box<Expression>),
+    /// A prefix that waits for its operand
+    Before { at: u32, prefix: Prefix },
+    /// `condition ?`, and where it begins
+    Asked(u32, Box<Expression>),
+    /// `condition ? chosen :`, and where it begins
+    Chosen(u32, Box<Expression>, Box<Expression>),
+    /// `(`
+    InRound { at: u32, nesting: u32 },
+    /// `name[` in an expression
+    InElement { at: u32, name: u32, nesting: u32 },
+    /// `&name[`: where it and its name begin, the name, and the nesting
+    InAddress(u32, u32, u32, u32),
+    InCall(Call),
+    /// `name[` of a target, whether `++` or `--` stands before it
+    InPart(bool, u32, u32, u32),
+    /// `*` of a target, whether `++` or `--` stands before it
+    InBehind(bool, u32, u32),
+    /// `++` or `--`
+    InStep(u32, u32, bool),
+    /// `target =`, or with an operator
+    InAssign(u32, u32, Box<Target>, Option<BinaryOperator>),
+    /// `type name =`
+    InDeclare(Declared),
+    /// `return`
+    InReturn { at: u32, nesting: u32 },
+    /// `if (`
+    InIf { at: u32, nesting: u32 },
+    /// `while (`
+    InWhile { at: u32, nesting: u32 },
+    /// `do body while (`
+    InDo(u32, u32, Box<Statement>),
+    /// `for (`
+    InInitial { at: u32 },
+    /// `for (initial;`
+    InCondition(Box<Turns>),
+    /// `for (initial; condition;`
+    InFinal(Box<Turns>),
+    /// `if (condition)`
+    Then(u32, u32, Box<Expression>),
+    /// `if (condition) chosen else`
+    Otherwise(u32, Box<Expression>, Box<Statement>),
+    /// `while (condition)`
+    Turns(u32, Box<Expression>),
+    /// `do`
+    DoTurns { at: u32, nesting: u32 },
+    /// `for (initial; condition; last)`
+    ForTurns(Box<Turns>),
+    /// The statements so far of a block
+    InItems(u32, Vec<Statement>),
+    /// A block that is a statement
+    InBlock { at: u32, nesting: u32 },
+    /// The block of a function
+    InBody(Head, u32),
+    /// The brackets of a function's head
+    InHead(Head),
+    /// The functions so far
+    InProgram(Vec<Function>),
+}
+
+/// What is open, from the innermost outwards.
+#[derive(Drop)]
+pub enum Frames {
+    Empty,
+    Inside(Frame, Box<Frames>),
+}
+
+/// What was read last, and so what may come.
+#[derive(Drop)]
+pub enum Mode {
+    /// An operand is wanted
+    Operand { nesting: u32 },
+    /// An expression was read, which begins at an offset
+    Have(u32, u32, Box<Expression>),
+    /// In an expression a name was read
+    Named { nesting: u32, at: u32, name: u32 },
+    /// Where an operand was wanted, `(` was read
+    Opened { nesting: u32, at: u32 },
+    /// `(type` of a cast was read
+    CastType(u32, u32, IntType),
+    /// `&` was read
+    AfterAnd { nesting: u32, at: u32 },
+    /// `&name` was read: the nesting, where it and its name begin, and the name
+    AndName(u32, u32, u32, u32),
+    /// The bracket of a call was read
+    CallOpen { nesting: u32 },
+    /// An expression is wanted, or a semicolon in its place
+    Optional { nesting: u32 },
+    /// A statement, a declaration or the block's end is wanted
+    Item { nesting: u32 },
+    /// A statement is wanted
+    Begin { nesting: u32 },
+    /// The first part of a `for` is wanted
+    Initial { nesting: u32 },
+    /// The third part of a `for` is wanted
+    Final { nesting: u32 },
+    /// The target of `++` or `--` is wanted
+    Aim { nesting: u32 },
+    /// A target's or a call's first name was read, whether behind `++` or `--`
+    BeginName(bool, u32, u32, u32),
+    /// What is assigned to was read, whether behind `++` or `--`
+    Aimed(bool, u32, u32, Box<Target>),
+    /// A simple statement was read
+    Ended(u32, Box<Statement>),
+    /// Another statement but its semicolon was read
+    Closing(u32, Box<Statement>),
+    /// A statement was read
+    Did(Box<Statement>),
+    AfterIf { nesting: u32, at: u32 },
+    AfterWhile { nesting: u32, at: u32 },
+    AfterFor { nesting: u32, at: u32 },
+    /// `do body while` was read
+    AfterDo(u32, u32, Box<Statement>),
+    /// Some of a type was read
+    Typing(Purpose, TypeMode),
+    /// A type and a name were read
+    Declared(Declared),
+    Head(HeadMode),
+}
+
+/// What was read of a type.
+#[derive(Clone, Copy)]
+pub enum TypeMode {
+    /// A pointer's address space
+    AfterSpace,
+    /// That and `const`
+    AfterConst,
+    /// All but the star of a pointer, whether with `const`
+    AfterElement(bool, IntType),
+    Whole(VariableType),
+}
+
+/// What was read last of a function's head.
+#[derive(Clone, Copy)]
+pub enum HeadMode {
+    /// Nothing: a function or the program's end is wanted
+    Top,
+    AfterKernel,
+    /// All before the name
+    AfterReturning {
+        is_kernel: bool,
+        result: Option<IntType>,
+    },
+    AfterName {
+        is_kernel: bool,
+        result: Option<IntType>,
+        at: u32,
+        name: u32,
+    },
+    /// The bracket; parameters may be of type size_t or not
+    HeadOpen {
+        takes_size: bool,
+    },
+    /// A comma
+    WantParameter {
+        takes_size: bool,
+    },
+    AfterParameter {
+        takes_size: bool,
+    },
+    /// The whole head
+    HeadDone,
+}
+
+#[derive(Drop)]
+pub struct State {
+    pub mode: Mode,
+    pub frames: Box<Frames>,
+}
+
+/// What a token does.
+#[derive(Drop)]
+pub enum Step {
+    /// It can't come.
+    Refused,
+    /// It is nested too deep.
+    Deep,
+    /// It has this nesting, and this is the state after it.
+    To { nesting: u32, state: Box<State> },
+}
+
+/// What a token does, if memory suffices.
+pub type Moved = Result<Step, AllocError>;
+
+/// The nesting one further in, but none where a token of this nesting is too deep itself.
+pub fn deeper(nesting: u32) -> Option<u32>
+    ensures { MatchOption result (LIMIT < nesting) (λ inner. inner ≡ suc nesting) }
+{
+    if nesting > LIMIT {
+        None
+    } else {
+        Some(nesting + 1)
+    }
+}
+
+/// What is open, and where memory for more comes from.
+#[derive(Drop)]
+pub struct Stack {
+    pub alloc: Global,
+    pub frames: Box<Frames>,
+}
+
+/// What a simple statement is read for.
+#[derive(Clone, Copy)]
+pub(crate) enum Part {
+    /// The first part of a `for`
+    Initial,
+    /// The third part of a `for`
+    Final,
+    Other,
+}
+
+impl Stack {
+    /// What a simple statement in front of the frames is read for.
+    pub(crate) fn part(&self) -> Part
+        ensures { result ≡ part_of (opened self.now) }
+    {
+        match &*self.frames {
+            Frames::Inside(Frame::InInitial { .. }, _) => Part::Initial,
+            Frames::Inside(Frame::InFinal(_), _) => Part::Final,
+            _ => Part::Other,
+        }
+    }
+
+    /// The step of a token with this nesting to a mode.
+    pub fn go(self, nesting: u32, mode: Mode) -> Moved
+        ensures { Steps result (machine.go nesting (mode_of mode) (opened self)) }
+    {
+        let Stack { alloc, frames } = self;
+        let state = Box::new(alloc, State { mode, frames })?;
+        Ok(Step::To { nesting, state })
+    }
+
+    /// The stack with one more frame.
+    pub fn push(self, frame: Frame) -> Result<Stack, AllocError>
+        ensures { IfOk result (λ pushed. opened pushed ≡ frame_of frame ∷ opened self) }
+    {
+        let alloc = self.alloc;
+        let frames = Box::new(alloc, Frames::Inside(frame, self.frames))?;
+        Ok(Stack { alloc, frames })
+    }
+
+    /// The frame in front, and the stack without it.
+    pub fn pop(self) -> Option<(Frame, Stack)>
+        ensures { MatchOption result (opened self ≡ []) (λ popped. opened self ≡ frame_of popped.0 ∷ opened popped.1) }
+    {
+        let alloc = self.alloc;
+        match Box::into_inner(self.frames) {
+            Frames::Inside(frame, frames) => Some((frame, Stack { alloc, frames })),
+            Frames::Empty => None,
+        }
+    }
+
+    /// The step to an operand in a frame.
+    pub fn want(self, nesting: u32, frame: Frame) -> Moved
+        ensures { Steps result (machine.go nesting (machine.Operand nesting) (frame_of frame ∷ opened self)) }
+    {
+        self.push(frame)?.go(nesting, Mode::Operand { nesting })
+    }
+
+    /// The step to an operand in a frame, one deeper.
+    pub fn open(self, nesting: u32, frame: Frame) -> Moved
+        ensures { Steps result (machine.go nesting (machine.Operand (suc nesting)) (frame_of frame ∷ opened self)) }
+    {
+        let stack = self.push(frame)?;
+        match deeper(nesting) {
+            Some(inner) => stack.go(nesting, Mode::Operand { nesting: inner }),
+            None => Ok(Step::Deep),
+        }
+    }
+
+    /// The step to a statement that a frame controls.
+    pub(crate) fn begin(self, nesting: u32, frame: Frame) -> Moved
+        ensures { Steps result (machine.go nesting (machine.Begin nesting) (frame_of frame ∷ opened self)) }
+    {
+        self.push(frame)?.go(nesting, Mode::Begin { nesting })
+    }
+
+    /// The step of a token before a statement that a frame controls.
+    pub fn control(self, nesting: u32, frame: Frame) -> Moved
+        ensures { Steps result (machine.go nesting (machine.Begin (suc nesting)) (frame_of frame ∷ opened self)) }
+    {
+        let stack = self.push(frame)?;
+        match deeper(nesting) {
+            Some(inner) => stack.go(nesting, Mode::Begin { nesting: inner }),
+            None => Ok(Step::Deep),
+        }
+    }
+
+    /// The step of a bracket's end, at which an expression was read that begins at an offset.
+    pub(crate) fn close(self, nesting: u32, from: u32, value: Box<Expression>) -> Moved
+        ensures { Steps result (machine.go (suc nesting) (machine.Have nesting from (term value.value)) (opened self)) }
+    {
+        match deeper(nesting) {
+            Some(inner) => self.go(inner, Mode::Have(nesting, from, value)),
+            None => Ok(Step::Deep),
+        }
+    }
+
+    /// The step of a call's bracket.
+    pub fn call(self, is_statement: bool, at: u32, name: u32, nesting: u32) -> Moved
+        ensures { Steps result (machine.go nesting (machine.CallOpen (suc nesting)) (machine.InCall is_statement at name nesting NoTerm ∷ opened self)) }
+    {
+        let Some(inner) = deeper(nesting) else {
+            return Ok(Step::Deep);
+        };
+        let arguments = Vec::new(self.alloc);
+        let stack = self.push(Frame::InCall(Call {
+            is_statement,
+            at,
+            name,
+            nesting,
+            arguments,
+        }))?;
+        stack.go(nesting, Mode::CallOpen { nesting: inner })
+    }
+
+    /// The step of the bracket behind the type of a cast.
+    pub fn cast(self, nesting: u32, at: u32, target: IntType) -> Moved
+        ensures { Steps result (machine.go (suc nesting) (machine.Operand (suc nesting)) (machine.Before at (grammar.Convert target) ∷ opened self)) }
+    {
+        let prefix = Prefix::Convert(target);
+        match deeper(nesting) {
+            Some(inner) => self.want(inner, Frame::Before { at, prefix }),
+            None => Ok(Step::Deep),
+        }
+    }
+}

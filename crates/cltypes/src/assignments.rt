@@ -1,0 +1,131 @@
+//! The faults of what is assigned to, and of assignments and initialisers.
+#![tactic(auto)]
+
+ghost use Rattle.std.specs.Prelude.{◌≡◌, ◌++◌};
+ghost use Rattle.clmodel.specs.Tree.{term, place};
+ghost use Rattle.clmodel.specs.Typing.Least.{least, first, node};
+ghost use Rattle.clmodel.specs.Typing.Faults.{integer_faults, pointer_faults, assigning_faults, store_faults, target_faults, place_faults, value_faults, initial_faults, assignment_faults};
+ghost use Rattle.cltypes_scope.specs.Answers.{Checks};
+ghost use Rattle.cltypes_scope.specs.Names.{meaning_of};
+ghost use Rattle.cltypes.specs.Views.{target_of};
+
+use clmodel::tree::{AddressSpace, Expression, Target, VariableType};
+use clmodel::type_fault::TypeFault;
+use clnum::BinaryOperator;
+use cltypes_scope::kinds::{element_kind, name_kind};
+use cltypes_scope::{
+    Context, Meaning, Operand, check_expression, check_value, checked, front_fault, integer_fault,
+    lesser, moves, name_fault, passing_fault, pointer_fault, void_fault,
+};
+
+/// What an operator assigns to, and the value.
+fn assigning_fault(operator: BinaryOperator, to: Operand, value: Operand) -> Option<TypeFault>
+    ensures { result ≡ least (assigning_faults operator to.kind value.kind to.at value.at) }
+{
+    match to.kind {
+        VariableType::Pointer(_) if !moves(operator) => lesser(
+            Some(TypeFault::TypeMismatch { at: to.at }),
+            integer_fault(value),
+        ),
+        _ => integer_fault(value),
+    }
+}
+
+/// What a pointer of this type points to, stored to at `at`.
+fn store_fault(kind: VariableType, at: u32) -> Option<TypeFault>
+    ensures { result ≡ least (store_faults kind at) }
+{
+    match kind {
+        VariableType::Pointer(pointer)
+            if pointer.is_const || pointer.space == AddressSpace::Constant => Some(
+            TypeFault::NotAssignable { at },
+        ),
+        _ => None,
+    }
+}
+
+/// An element that is assigned to: the name in front, and the index.
+#[tactic(auto, using(cltypes_scope::proofs::Least::least_append))]
+fn target_fault(meaning: Meaning<'_>, at: u32, index: Operand) -> Option<TypeFault>
+    ensures { result ≡ least (target_faults (meaning_of meaning.entry) at ++ integer_faults index.kind index.at) }
+{
+    lesser(
+        lesser(
+            front_fault(meaning, at),
+            store_fault(name_kind(meaning), at),
+        ),
+        integer_fault(index),
+    )
+}
+
+/// What a pointer points to, assigned to at `at`.
+#[tactic(auto, using(cltypes_scope::proofs::Least::least_append))]
+fn behind_fault(pointer: Operand, at: u32) -> Option<TypeFault>
+    ensures { result ≡ least (pointer_faults pointer.kind pointer.at ++ store_faults pointer.kind at) }
+{
+    lesser(pointer_fault(pointer), store_fault(pointer.kind, at))
+}
+
+/// The type of what is assigned to and where it begins, or its first fault.
+pub fn check_target(context: &Context, target: &Target) -> Result<Operand, TypeFault>
+    ensures { Checks result (first (place_faults context.now (place target.now))) (target_of context.now (place target.now)) }
+{
+    match target {
+        Target::Variable { at, name } => {
+            let meaning = context.meaning(*name);
+            checked(name_fault(meaning, *at), name_kind(meaning), *at)
+        }
+        Target::Element { at, name, index } => match check_expression(context, index) {
+            Err(fault) => Err(fault),
+            Ok(index) => {
+                let meaning = context.meaning(*name);
+                checked(
+                    target_fault(meaning, *at, index),
+                    element_kind(name_kind(meaning)),
+                    *at,
+                )
+            }
+        },
+        Target::Dereference { at, pointer } => match check_expression(context, pointer) {
+            Err(fault) => Err(fault),
+            Ok(pointer) => checked(behind_fault(pointer, *at), element_kind(pointer.kind), *at),
+        },
+    }
+}
+
+/// The first fault of an assignment.
+pub fn assignment_fault(
+    context: &Context,
+    target: &Target,
+    operator: Option<BinaryOperator>,
+    value: &Expression,
+) -> Option<TypeFault>
+    ensures { let c = context.now in
+        let p = place target.now in
+        let e = term value.now in
+        result ≡ first (node (place_faults c p ++ value_faults c e) (assignment_faults c p operator e)) }
+{
+    match check_target(context, target) {
+        Err(fault) => Some(fault),
+        Ok(to) => match check_value(context, value) {
+            Err(fault) => Some(fault),
+            Ok(given) => match operator {
+                None => lesser(void_fault(context, value), passing_fault(to.kind, given)),
+                Some(operator) => lesser(
+                    void_fault(context, value),
+                    assigning_fault(operator, to, given),
+                ),
+            },
+        },
+    }
+}
+
+/// The first fault of the initialiser of a variable of this type.
+pub fn initial_fault(context: &Context, kind: VariableType, value: &Expression) -> Option<TypeFault>
+    ensures { result ≡ first (initial_faults context.now kind (term value.now)) }
+{
+    match check_value(context, value) {
+        Err(fault) => Some(fault),
+        Ok(given) => lesser(void_fault(context, value), passing_fault(kind, given)),
+    }
+}

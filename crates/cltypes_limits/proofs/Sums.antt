@@ -1,0 +1,26 @@
+-- Sizes of what lies behind a box, and sizes up to the limits.
+use Rattle.std.proofs.Common.{◌≡◌, ℕ, Option, None, Some, refl, ap, ◌∙◌}
+use Rattle.std.specs.Prelude.{Box}
+use Rattle.std.specs.declared.alloc.Global.{Global}
+use Rattle.clmodel.specs.declared.tree.Expression.{Expression}
+use Rattle.clmodel.specs.declared.tree.Statement as rust
+use Rattle.clmodel.specs.declared.tree.Statement.{Statement}
+use Rattle.clmodel.specs.Tree.{term, stmt, maybe_term}
+use Rattle.clmodel.specs.Typing.Sizes.{Sizes, term_size, condition_size, size, beside, one_loop}
+use Rattle.cltypes_limits.specs.declared.size.Size.{Size}
+use Rattle.cltypes_limits.specs.Limits.{capped, held_size}
+
+pub of_term : {e d : Expression} {s : Size} (table : Sizes) → s ≡ capped (term_size table (term e)) → e ≡ d → s ≡ capped (term_size table (term d))
+of_term table h g = h ∙ ap (λ z. capped (term_size table (term z))) g
+
+pub of_statement : {t r : Statement} {s : Size} (table : Sizes) → s ≡ capped (size table (stmt t)) → t ≡ r → s ≡ capped (size table (stmt r))
+of_statement table h g = h ∙ ap (λ z. capped (size table (stmt z))) g
+
+-- a `for`, whose first part stands before its loop
+pub for_view : (table : Sizes) (at : ℕ) (first third : Option (Box Statement Global)) (condition : Option (Box Expression Global)) (body : Box Statement Global)
+    → beside (held_size table first) (one_loop (beside (beside (condition_size table (maybe_term condition)) (held_size table third)) (size table (stmt body.value))))
+    ≡ size table (stmt (rust.For at first condition third body))
+for_view table at None None condition body = refl
+for_view table at None (Some t) condition body = refl
+for_view table at (Some s) None condition body = refl
+for_view table at (Some s) (Some t) condition body = refl

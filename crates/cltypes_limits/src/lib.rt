@@ -1,0 +1,17 @@
+//! What the bodies of functions hold, with the bodies of the functions that they call in place of the calls, and whether a kernel's is
+//! within its limits (this project's own).
+#![tactic(auto)]
+
+mod ends;
+mod expressions;
+mod returns;
+mod size;
+mod statements;
+mod summaries;
+#[cfg(test)]
+mod tests;
+
+pub use ends::end_fault;
+pub use returns::always_returns;
+pub use size::Size;
+pub use summaries::Summaries;

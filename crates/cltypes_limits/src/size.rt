@@ -1,0 +1,78 @@
+//! Sizes, counted up to one more than a kernel may have.
+#![tactic(auto)]
+
+ghost use Rattle.std.specs.Prelude.{◌≡◌};
+ghost use Rattle.clmodel.specs.Typing.Sizes as counted;
+ghost use Rattle.clmodel.specs.Typing.Sizes.{nothing, leaf, beside, one_node, one_loop};
+ghost use Rattle.cltypes_limits.specs.Limits.{capped, plain};
+
+use std::cmp::max;
+
+/// How deep the loops of a kernel may be nested.
+pub(crate) const LOOP_LIMIT: u32 = 8;
+
+/// How many nodes the body of a kernel may have.
+pub(crate) const NODE_LIMIT: u32 = 20_000;
+
+/// How deep the loops of a body are nested, and how many nodes it has; a count above its limit is one more than the limit.
+#[derive(Clone, Copy, Debug, PartialEq, Eq)]
+pub struct Size {
+    pub loops: u32,
+    pub nodes: u32,
+}
+
+impl Size {
+    /// The size of what holds no node.
+    pub(crate) fn nothing() -> Size
+        ensures { result ≡ capped nothing }
+    {
+        Size { loops: 0, nodes: 0 }
+    }
+
+    /// The size of a single node.
+    pub(crate) fn leaf() -> Size
+        ensures { result ≡ capped leaf }
+    {
+        Size { loops: 0, nodes: 1 }
+    }
+
+    /// This size, with numbers above the limits one more than these.
+    pub(crate) fn capped(self) -> Size
+        ensures { result ≡ capped (plain self) }
+    {
+        Size {
+            loops: self.loops.min(LOOP_LIMIT + 1),
+            nodes: self.nodes.min(NODE_LIMIT + 1),
+        }
+    }
+
+    /// The size of one thing beside another.
+    pub(crate) fn beside(self, other: Size) -> Size
+        ensures { (s t : counted.Size) → self ≡ capped s → other ≡ capped t → result ≡ capped (beside s t) }
+    {
+        Size {
+            loops: max(self.loops, other.loops),
+            nodes: self.nodes.saturating_add(other.nodes).min(NODE_LIMIT + 1),
+        }
+    }
+
+    /// The size of a node that holds this.
+    pub(crate) fn in_node(self) -> Size
+        ensures { (s : counted.Size) → self ≡ capped s → result ≡ capped (one_node s) }
+    {
+        Size {
+            loops: self.loops,
+            nodes: self.nodes.saturating_add(1).min(NODE_LIMIT + 1),
+        }
+    }
+
+    /// The size of a loop round this.
+    pub(crate) fn in_loop(self) -> Size
+        ensures { (s : counted.Size) → self ≡ capped s → result ≡ capped (one_loop s) }
+    {
+        Size {
+            loops: self.loops.saturating_add(1).min(LOOP_LIMIT + 1),
+            nodes: self.nodes.saturating_add(1).min(NODE_LIMIT + 1),
+        }
+    }
+}

@@ -1,0 +1,320 @@
+//! The types of expressions.
+#![tactic(auto)]
+
+ghost use Rattle.std.specs.Prelude.{◌≡◌};
+ghost use Rattle.clmodel.specs.Tree.{Element, ElementAddress, Dereference, Unary, Cast, Binary, Choice, term, terms};
+ghost use Rattle.clmodel.specs.Typing.Context.{meaning};
+ghost use Rattle.clmodel.specs.Typing.Least.{least, first, node};
+ghost use Rattle.clmodel.specs.Typing.Faults.{call_kind, last_kind, call_faults, term_faults, terms_faults, value_faults, gives_value, void_faults};
+ghost use Rattle.cltypes_scope.specs.Names.{meaning_of};
+ghost use Rattle.cltypes_scope.specs.Answers.{Checks};
+ghost use Rattle.cltypes_scope.specs.Views.{spot_of, operand_of, arguments_of};
+
+use crate::context::Context;
+use crate::faults::{
+    Arguments, Operand, Spot, argument_fault, call_fault, choice_fault, element_fault,
+    integer_fault, lesser, name_fault, operand_fault, pointer_fault, wanted,
+};
+use crate::kinds::{binary_type, call_kind, choice_type, element_kind, name_kind, unary_type};
+use crate::meaning::Meaning;
+use clmodel::tree::{Expression, InfixOperator, VariableType};
+use clmodel::type_fault::TypeFault;
+use clnum::{IntType, UnaryOperator};
+
+/// What has a type and begins at `at`, where it has no fault.
+pub fn checked(fault: Option<TypeFault>, kind: VariableType, at: u32) -> Result<Operand, TypeFault>
+    ensures { Checks result fault (record { kind = kind; at = at }) }
+{
+    match fault {
+        Some(fault) => Err(fault),
+        None => Ok(Operand { kind, at }),
+    }
+}
+
+/// An expression's type and where it begins, or its first fault.
+#[cycle(expressions)]
+pub fn check_expression(context: &Context, expression: &Expression) -> Result<Operand, TypeFault>
+    ensures { Checks result (first (term_faults context.now (term expression.now))) (operand_of context.now (term expression.now)) }
+{
+    match expression {
+        Expression::Number { at, value } => checked(None, VariableType::Integer(value.kind()), *at),
+        Expression::Variable { at, name } => {
+            let meaning = context.meaning(*name);
+            checked(name_fault(meaning, *at), name_kind(meaning), *at)
+        }
+        Expression::Element { at, name, index } => check_element(context, *at, *name, index),
+        Expression::ElementAddress {
+            at,
+            name_at,
+            name,
+            index,
+        } => check_address(context, *at, *name_at, *name, index),
+        Expression::Dereference { at, pointer } => check_dereference(context, *at, pointer),
+        Expression::Call {
+            at,
+            name,
+            arguments,
+        } => check_call(context, Spot::Inside, *at, *name, arguments),
+        Expression::Unary {
+            at,
+            operator,
+            operand,
+        } => check_unary(context, *at, *operator, operand),
+        Expression::Cast {
+            at,
+            target,
+            operand,
+        } => check_cast(context, *at, *target, operand),
+        Expression::Binary {
+            at,
+            operator,
+            left,
+            right,
+        } => check_binary(context, *at, *operator, left, right),
+        Expression::Choice {
+            at,
+            condition,
+            chosen,
+            otherwise,
+        } => check_choice(context, *at, condition, chosen, otherwise),
+    }
+}
+
+/// An element, `name[index]`.
+#[cycle(expressions)]
+fn check_element(
+    context: &Context,
+    at: u32,
+    name: u32,
+    index: &Expression,
+) -> Result<Operand, TypeFault>
+    ensures { let e = Element at name (term index.now) in Checks result (first (term_faults context.now e)) (operand_of context.now e) }
+{
+    match check_expression(context, index) {
+        Err(fault) => Err(fault),
+        Ok(index) => {
+            let meaning = context.meaning(name);
+            checked(
+                element_fault(meaning, at, index),
+                element_kind(name_kind(meaning)),
+                at,
+            )
+        }
+    }
+}
+
+/// An element's address, `&name[index]`.
+#[cycle(expressions)]
+fn check_address(
+    context: &Context,
+    at: u32,
+    name_at: u32,
+    name: u32,
+    index: &Expression,
+) -> Result<Operand, TypeFault>
+    ensures { let e = ElementAddress at name_at name (term index.now) in Checks result (first (term_faults context.now e)) (operand_of context.now e) }
+{
+    match check_expression(context, index) {
+        Err(fault) => Err(fault),
+        Ok(index) => {
+            let meaning = context.meaning(name);
+            checked(
+                element_fault(meaning, name_at, index),
+                name_kind(meaning),
+                at,
+            )
+        }
+    }
+}
+
+/// What a pointer points to.
+#[cycle(expressions)]
+fn check_dereference(context: &Context, at: u32, pointer: &Expression) -> Result<Operand, TypeFault>
+    ensures { let e = Dereference at (term pointer.now) in Checks result (first (term_faults context.now e)) (operand_of context.now e) }
+{
+    match check_expression(context, pointer) {
+        Err(fault) => Err(fault),
+        Ok(pointer) => checked(pointer_fault(pointer), element_kind(pointer.kind), at),
+    }
+}
+
+/// A call at a spot.
+#[cycle(expressions)]
+pub fn check_call(
+    context: &Context,
+    spot: Spot,
+    at: u32,
+    name: u32,
+    arguments: &[Expression],
+) -> Result<Operand, TypeFault>
+    ensures { let c = context.now in
+        let m = meaning c name in
+        let es = terms arguments.now in
+        Checks result (first (node (terms_faults c es) (call_faults c (spot_of spot) m at es))) (record { kind = call_kind m (last_kind c es); at = at }) }
+{
+    let meaning = context.meaning(name);
+    match check_arguments(context, meaning, arguments) {
+        Err(fault) => Err(fault),
+        Ok(given) => checked(
+            call_fault(spot, meaning, at, arguments.len(), given),
+            call_kind(meaning, given.last),
+            at,
+        ),
+    }
+}
+
+/// An operator before an operand.
+#[cycle(expressions)]
+fn check_unary(
+    context: &Context,
+    at: u32,
+    operator: UnaryOperator,
+    operand: &Expression,
+) -> Result<Operand, TypeFault>
+    ensures { let e = Unary at operator (term operand.now) in Checks result (first (term_faults context.now e)) (operand_of context.now e) }
+{
+    match check_expression(context, operand) {
+        Err(fault) => Err(fault),
+        Ok(operand) => checked(
+            integer_fault(operand),
+            unary_type(operator, operand.kind),
+            at,
+        ),
+    }
+}
+
+/// A cast.
+#[cycle(expressions)]
+fn check_cast(
+    context: &Context,
+    at: u32,
+    target: IntType,
+    operand: &Expression,
+) -> Result<Operand, TypeFault>
+    ensures { let e = Cast at target (term operand.now) in Checks result (first (term_faults context.now e)) (operand_of context.now e) }
+{
+    match check_expression(context, operand) {
+        Err(fault) => Err(fault),
+        Ok(operand) => checked(integer_fault(operand), VariableType::Integer(target), at),
+    }
+}
+
+/// An operator between two operands.
+#[cycle(expressions)]
+fn check_binary(
+    context: &Context,
+    at: u32,
+    operator: InfixOperator,
+    left: &Expression,
+    right: &Expression,
+) -> Result<Operand, TypeFault>
+    ensures { let e = Binary at operator (term left.now) (term right.now) in Checks result (first (term_faults context.now e)) (operand_of context.now e) }
+{
+    match check_expression(context, left) {
+        Err(fault) => Err(fault),
+        Ok(left) => match check_expression(context, right) {
+            Err(fault) => Err(fault),
+            Ok(right) => checked(
+                operand_fault(operator, left, right),
+                binary_type(operator, left.kind, right.kind),
+                at,
+            ),
+        },
+    }
+}
+
+/// `condition ? chosen : otherwise`.
+#[cycle(expressions)]
+fn check_choice(
+    context: &Context,
+    at: u32,
+    condition: &Expression,
+    chosen: &Expression,
+    otherwise: &Expression,
+) -> Result<Operand, TypeFault>
+    ensures { let e = Choice at (term condition.now) (term chosen.now) (term otherwise.now) in
+        Checks result (first (term_faults context.now e)) (operand_of context.now e) }
+{
+    match check_expression(context, condition) {
+        Err(fault) => Err(fault),
+        Ok(condition) => match check_expression(context, chosen) {
+            Err(fault) => Err(fault),
+            Ok(chosen) => match check_expression(context, otherwise) {
+                Err(fault) => Err(fault),
+                Ok(otherwise) => checked(
+                    choice_fault(condition, chosen, otherwise),
+                    choice_type(chosen.kind, otherwise.kind),
+                    at,
+                ),
+            },
+        },
+    }
+}
+
+/// The least of the faults that the arguments of a call have as such, and the type of the last one; or the first fault inside them.
+#[cycle(expressions)]
+pub fn check_arguments(
+    context: &Context,
+    meaning: Meaning<'_>,
+    arguments: &[Expression],
+) -> Result<Arguments, TypeFault>
+    ensures { Checks
+        result
+        (first (terms_faults context.now (terms arguments.now)))
+        (arguments_of context.now (meaning_of meaning.entry) (terms arguments.now)) }
+{
+    let mut least = None;
+    let mut last = VariableType::Integer(IntType::Int);
+    for (index, argument) in arguments.iter().enumerate() {
+        match check_expression(context, argument) {
+            Err(fault) => return Err(fault),
+            Ok(argument) => {
+                least = lesser(
+                    least,
+                    argument_fault(wanted(meaning, index), last, argument),
+                );
+                last = argument.kind;
+            }
+        }
+    }
+    Ok(Arguments { fault: least, last })
+}
+
+/// The type of what is assigned, or initialises a variable, and where it begins; or its first fault. A function of the text can be
+/// called there.
+pub fn check_value(context: &Context, value: &Expression) -> Result<Operand, TypeFault>
+    ensures { Checks result (first (value_faults context.now (term value.now))) (operand_of context.now (term value.now)) }
+{
+    match value {
+        Expression::Call {
+            at,
+            name,
+            arguments,
+        } => check_call(context, Spot::RightSide, *at, *name, arguments),
+        _ => check_expression(context, value),
+    }
+}
+
+/// Whether what is called has a value.
+fn gives_value(meaning: Meaning<'_>) -> bool
+    ensures { result ≡ gives_value (meaning_of meaning.entry) }
+{
+    match meaning {
+        Meaning::Callable(signature) => signature.result.is_some(),
+        _ => true,
+    }
+}
+
+/// What is assigned, or initialises a variable, where it is the call of a function that gives no value.
+pub fn void_fault(context: &Context, value: &Expression) -> Option<TypeFault>
+    ensures { result ≡ least (void_faults context.now (term value.now)) }
+{
+    match value {
+        Expression::Call { at, name, .. } => if gives_value(context.meaning(*name)) {
+            None
+        } else {
+            Some(TypeFault::TypeMismatch { at: *at })
+        },
+        _ => None,
+    }
+}

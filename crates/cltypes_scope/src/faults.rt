@@ -1,0 +1,465 @@
+//! The faults of one place: of its faults the one of the least number, and of one number the one of the least offset.
+#![tactic(auto)]
+
+ghost use Rattle.std.specs.Prelude.{◌≡◌, ◌++◌, length, map, option_map};
+ghost use Rattle.std.specs.List.{slice_get};
+ghost use Rattle.clmodel.specs.Typing.Least.{number, offset, is_up_to, lesser, least};
+ghost use Rattle.clmodel.specs.Typing.Faults.{is_same_space, moves, takes_pointer, is_sum, integer_faults, pointer_faults, passing_faults, name_faults, front_faults, operand_faults, wants, has_value, helper_faults, callee_faults, wanted, ForParameter, same_faults, atomic_faults, argument_faults, integer_wants, atomic_wants};
+ghost use Rattle.clmodel.specs.Typing.Rules.{has_operand};
+ghost use Rattle.clnum.specs.Builtins.{is_same};
+ghost use Rattle.clmodel.specs.declared.tree.VariableType.TheVariants.{Pointer};
+ghost use Rattle.clmodel.specs.Typing.Context as typing;
+ghost use Rattle.cltypes_scope.specs.Names.{signature_of, meaning_of};
+ghost use Rattle.cltypes_scope.specs.Views.{want_of, spot_of};
+
+use crate::meaning::{Meaning, Signature};
+use clmodel::setup::{AtomicFunction, BuiltIn};
+use clmodel::tree::{AddressSpace, InfixOperator, PointerType, VariableType};
+use clmodel::type_fault::TypeFault;
+use clnum::{BinaryOperator, Builtin, IntType};
+
+/// What an argument has to be.
+#[derive(Clone, Copy, Debug, PartialEq, Eq)]
+pub enum Want {
+    Integer,
+    /// An integer of the type of the argument before it
+    OfTypeBefore,
+    AtomicPointer,
+    /// What can be given to a parameter of this type
+    ForParameter(VariableType),
+}
+
+/// Where a call stands.
+#[derive(Clone, Copy, Debug, PartialEq, Eq)]
+pub enum Spot {
+    WholeStatement,
+    /// All that is assigned, or that initialises a variable
+    RightSide,
+    /// Part of another expression, a condition, or what is returned
+    Inside,
+}
+
+/// A part of an expression or a statement that has no fault: its type, and where it begins.
+#[derive(Clone, Copy, Debug, PartialEq, Eq)]
+pub struct Operand {
+    pub kind: VariableType,
+    pub at: u32,
+}
+
+/// Arguments that have no fault inside: the least of those that they have as the arguments of what is called, and the type of the
+/// last one.
+#[derive(Clone, Copy, Debug, PartialEq, Eq)]
+pub struct Arguments {
+    pub fault: Option<TypeFault>,
+    pub last: VariableType,
+}
+
+/// A fault's number.
+fn number(fault: TypeFault) -> u8
+    ensures { result ≡ number fault }
+{
+    match fault {
+        TypeFault::UnknownName { .. } => 1,
+        TypeFault::Redeclared { .. } => 2,
+        TypeFault::TypeMismatch { .. } => 3,
+        TypeFault::NotAssignable { .. } => 4,
+        TypeFault::Recursion { .. } => 5,
+        TypeFault::WrongArgumentCount { .. } => 6,
+        TypeFault::WrongSpace { .. } => 7,
+        TypeFault::BadBarrierFlags { .. } => 8,
+        TypeFault::AtomicValueUsed { .. } => 9,
+        TypeFault::TooManyLoops { .. } => 10,
+        TypeFault::TooLarge { .. } => 11,
+        TypeFault::MissingReturn { .. } => 12,
+        TypeFault::OutOfMemory => 13,
+    }
+}
+
+/// Where a fault is, 0 for want of memory.
+fn offset(fault: TypeFault) -> u32
+    ensures { result ≡ offset fault }
+{
+    match fault {
+        TypeFault::UnknownName { at }
+        | TypeFault::Redeclared { at }
+        | TypeFault::TypeMismatch { at }
+        | TypeFault::NotAssignable { at }
+        | TypeFault::Recursion { at }
+        | TypeFault::WrongArgumentCount { at }
+        | TypeFault::WrongSpace { at }
+        | TypeFault::BadBarrierFlags { at }
+        | TypeFault::AtomicValueUsed { at }
+        | TypeFault::TooManyLoops { at }
+        | TypeFault::TooLarge { at }
+        | TypeFault::MissingReturn { at } => at,
+        TypeFault::OutOfMemory => 0,
+    }
+}
+
+/// Whether a fault has a lesser number than another, or the same and an offset that is not greater.
+fn is_up_to(fault: TypeFault, other: TypeFault) -> bool
+    ensures { result ≡ is_up_to fault other }
+{
+    number(fault) < number(other)
+        || number(fault) == number(other) && offset(fault) <= offset(other)
+}
+
+/// The lesser of two faults of a place, or the one that there is.
+pub fn lesser(fault: Option<TypeFault>, other: Option<TypeFault>) -> Option<TypeFault>
+    ensures { result ≡ lesser fault other }
+{
+    match (fault, other) {
+        (Some(first), Some(second)) => Some(if is_up_to(first, second) {
+            first
+        } else {
+            second
+        }),
+        (Some(first), None) => Some(first),
+        (None, second) => second,
+    }
+}
+
+/// Where an integer is wanted.
+pub fn integer_fault(operand: Operand) -> Option<TypeFault>
+    ensures { result ≡ least (integer_faults operand.kind operand.at) }
+{
+    match operand.kind {
+        VariableType::Integer(_) => None,
+        VariableType::Pointer(_) => Some(TypeFault::TypeMismatch { at: operand.at }),
+    }
+}
+
+/// Where a pointer is wanted.
+pub fn pointer_fault(operand: Operand) -> Option<TypeFault>
+    ensures { result ≡ least (pointer_faults operand.kind operand.at) }
+{
+    match operand.kind {
+        VariableType::Integer(_) => Some(TypeFault::TypeMismatch { at: operand.at }),
+        VariableType::Pointer(_) => None,
+    }
+}
+
+/// Whether two address spaces are one.
+fn is_same_space(space: AddressSpace, other: AddressSpace) -> bool
+    ensures { result ≡ is_same_space space other }
+{
+    match (space, other) {
+        (AddressSpace::Global, AddressSpace::Global)
+        | (AddressSpace::Local, AddressSpace::Local)
+        | (AddressSpace::Constant, AddressSpace::Constant) => true,
+        _ => false,
+    }
+}
+
+/// Whether two types of integers are one.
+fn is_same(kind: IntType, other: IntType) -> bool
+    ensures { result ≡ is_same kind other }
+{
+    kind.bits() == other.bits() && kind.is_signed() == other.is_signed()
+}
+
+/// A pointer given to what has the type of another.
+fn pointer_passing_fault(to: PointerType, given: PointerType, at: u32) -> Option<TypeFault>
+    ensures { result ≡ least (passing_faults (Pointer to) (Pointer given) at) }
+{
+    if !is_same(to.element, given.element) {
+        Some(TypeFault::TypeMismatch { at })
+    } else if given.is_const && !to.is_const {
+        Some(TypeFault::NotAssignable { at })
+    } else if !is_same_space(to.space, given.space) {
+        Some(TypeFault::WrongSpace { at })
+    } else {
+        None
+    }
+}
+
+/// A value given to what has this type.
+pub fn passing_fault(to: VariableType, value: Operand) -> Option<TypeFault>
+    ensures { result ≡ least (passing_faults to value.kind value.at) }
+{
+    match (to, value.kind) {
+        (VariableType::Integer(_), _) => integer_fault(value),
+        (VariableType::Pointer(_), VariableType::Integer(_)) => pointer_fault(value),
+        (VariableType::Pointer(to), VariableType::Pointer(given)) => pointer_passing_fault(
+            to, given, value.at,
+        ),
+    }
+}
+
+/// A name as a value, or assigned to.
+pub fn name_fault(meaning: Meaning<'_>, at: u32) -> Option<TypeFault>
+    ensures { result ≡ least (name_faults (meaning_of meaning.entry) at) }
+{
+    match meaning {
+        Meaning::Bound(_) => None,
+        Meaning::Callable(_) | Meaning::Current(_) | Meaning::BuiltInFunction(_) => Some(
+            TypeFault::TypeMismatch { at },
+        ),
+        Meaning::Unknown => Some(TypeFault::UnknownName { at }),
+    }
+}
+
+/// A name in front of an index.
+pub fn front_fault(meaning: Meaning<'_>, at: u32) -> Option<TypeFault>
+    ensures { result ≡ least (front_faults (meaning_of meaning.entry) at) }
+{
+    match meaning {
+        Meaning::Bound(kind) => pointer_fault(Operand { kind, at }),
+        _ => name_fault(meaning, at),
+    }
+}
+
+/// An element, or its address: the name in front, and the index.
+#[tactic(auto, using(crate::proofs::Least::least_append))]
+pub fn element_fault(meaning: Meaning<'_>, at: u32, index: Operand) -> Option<TypeFault>
+    ensures { result ≡ least (front_faults (meaning_of meaning.entry) at ++ integer_faults index.kind index.at) }
+{
+    lesser(front_fault(meaning, at), integer_fault(index))
+}
+
+/// Whether an operator moves a pointer on its left.
+pub fn moves(operator: BinaryOperator) -> bool
+    ensures { result ≡ moves operator }
+{
+    match operator {
+        BinaryOperator::Add | BinaryOperator::Subtract => true,
+        _ => false,
+    }
+}
+
+/// Whether an operator takes a pointer on its left.
+fn takes_pointer(operator: InfixOperator) -> bool
+    ensures { result ≡ takes_pointer operator }
+{
+    match operator {
+        InfixOperator::Arithmetic(operator) => moves(operator),
+        _ => false,
+    }
+}
+
+/// Whether an operator takes a pointer on its right.
+fn is_sum(operator: InfixOperator) -> bool
+    ensures { result ≡ is_sum operator }
+{
+    match operator {
+        InfixOperator::Arithmetic(BinaryOperator::Add) => true,
+        _ => false,
+    }
+}
+
+/// The two operands of an operator.
+pub fn operand_fault(operator: InfixOperator, left: Operand, right: Operand) -> Option<TypeFault>
+    ensures { result ≡ least (operand_faults operator left.kind right.kind left.at right.at) }
+{
+    match left.kind {
+        VariableType::Integer(_) if is_sum(operator) => None,
+        VariableType::Integer(_) => integer_fault(right),
+        VariableType::Pointer(_) if takes_pointer(operator) => integer_fault(right),
+        VariableType::Pointer(_) => lesser(
+            Some(TypeFault::TypeMismatch { at: left.at }),
+            integer_fault(right),
+        ),
+    }
+}
+
+/// The three parts of `condition ? chosen : otherwise`.
+#[tactic(auto, using(crate::proofs::Least::least_append))]
+pub fn choice_fault(condition: Operand, chosen: Operand, otherwise: Operand) -> Option<TypeFault>
+    ensures { result
+        ≡ least
+        (integer_faults condition.kind condition.at
+        ++ integer_faults chosen.kind chosen.at
+        ++ integer_faults otherwise.kind otherwise.at) }
+{
+    lesser(
+        lesser(integer_fault(condition), integer_fault(chosen)),
+        integer_fault(otherwise),
+    )
+}
+
+/// Whether an atomic function has an operand beside its pointer.
+fn has_operand(function: AtomicFunction) -> bool
+    ensures { result ≡ has_operand function }
+{
+    match function {
+        AtomicFunction::Inc | AtomicFunction::Dec => false,
+        _ => true,
+    }
+}
+
+/// How many arguments a built-in function wants.
+fn argument_count(function: BuiltIn) -> usize
+    ensures { result ≡ length (wants function) }
+{
+    match function {
+        BuiltIn::WorkDim => 0,
+        BuiltIn::WorkItem(_) => 1,
+        BuiltIn::Integer(Builtin::Min | Builtin::Max | Builtin::Rotate) => 2,
+        BuiltIn::Integer(_) => 1,
+        BuiltIn::Atomic(function) => if has_operand(function) { 2 } else { 1 },
+    }
+}
+
+/// Whether the call of a built-in function has a value.
+fn has_value(function: BuiltIn) -> bool
+    ensures { result ≡ has_value function }
+{
+    match function {
+        BuiltIn::Atomic(_) => false,
+        _ => true,
+    }
+}
+
+/// A function of the text with this signature, called at `at` with so many arguments: no kernel, at a spot that takes it, and an
+/// argument for each parameter.
+fn helper_fault(spot: Spot, signature: &Signature, at: u32, arguments: usize) -> Option<TypeFault>
+    ensures { result ≡ least (helper_faults (spot_of spot) (signature_of signature.now) at arguments) }
+{
+    if spot == Spot::Inside || signature.is_kernel {
+        Some(TypeFault::TypeMismatch { at })
+    } else if arguments != signature.parameters.len() {
+        Some(TypeFault::WrongArgumentCount { at })
+    } else {
+        None
+    }
+}
+
+/// A built-in function, called at `at` with so many arguments.
+fn built_in_fault(spot: Spot, function: BuiltIn, at: u32, arguments: usize) -> Option<TypeFault>
+    ensures { result ≡ least (callee_faults (spot_of spot) (typing.BuiltInFunction function) at arguments) }
+{
+    if arguments != argument_count(function) {
+        Some(TypeFault::WrongArgumentCount { at })
+    } else if spot != Spot::WholeStatement && !has_value(function) {
+        Some(TypeFault::AtomicValueUsed { at })
+    } else {
+        None
+    }
+}
+
+/// What is called at `at`, with so many arguments.
+#[tactic(auto, using(crate::proofs::Least::least_append))]
+fn callee_fault(spot: Spot, meaning: Meaning<'_>, at: u32, arguments: usize) -> Option<TypeFault>
+    ensures { result ≡ least (callee_faults (spot_of spot) (meaning_of meaning.entry) at arguments) }
+{
+    match meaning {
+        Meaning::BuiltInFunction(function) => built_in_fault(spot, function, at, arguments),
+        Meaning::Callable(signature) => helper_fault(spot, signature, at, arguments),
+        Meaning::Current(signature) => lesser(
+            helper_fault(spot, signature, at, arguments),
+            Some(TypeFault::Recursion { at }),
+        ),
+        Meaning::Bound(_) => Some(TypeFault::TypeMismatch { at }),
+        Meaning::Unknown => Some(TypeFault::UnknownName { at }),
+    }
+}
+
+/// A call: what is called at `at`, and so many arguments.
+pub fn call_fault(
+    spot: Spot,
+    meaning: Meaning<'_>,
+    at: u32,
+    count: usize,
+    arguments: Arguments,
+) -> Option<TypeFault>
+    ensures { result ≡ lesser (least (callee_faults (spot_of spot) (meaning_of meaning.entry) at count)) arguments.fault }
+{
+    lesser(callee_fault(spot, meaning, at, count), arguments.fault)
+}
+
+/// What can be given to the parameter of an index, where the function has it.
+fn parameter_wanted(signature: &Signature, index: usize) -> Option<Want>
+    ensures { option_map want_of result ≡ slice_get (map ForParameter (signature_of signature.now).parameters) index }
+{
+    match signature.parameters.get(index) {
+        Some(kind) => Some(Want::ForParameter(*kind)),
+        None => None,
+    }
+}
+
+/// What the argument of an index has to be, where what is called wants one there.
+pub fn wanted(meaning: Meaning<'_>, index: usize) -> Option<Want>
+    ensures { option_map want_of result ≡ slice_get (wanted (meaning_of meaning.entry)) index }
+{
+    match meaning {
+        Meaning::BuiltInFunction(BuiltIn::WorkItem(_)) if index == 0 => Some(Want::Integer),
+        Meaning::BuiltInFunction(BuiltIn::Integer(function)) => integer_wanted(function, index),
+        Meaning::BuiltInFunction(BuiltIn::Atomic(function)) => atomic_wanted(function, index),
+        Meaning::Callable(signature) | Meaning::Current(signature) => parameter_wanted(
+            signature, index,
+        ),
+        _ => None,
+    }
+}
+
+fn integer_wanted(function: Builtin, index: usize) -> Option<Want>
+    ensures { option_map want_of result ≡ slice_get (integer_wants function) index }
+{
+    match (function, index) {
+        (_, 0) => Some(Want::Integer),
+        (Builtin::Min | Builtin::Max | Builtin::Rotate, 1) => Some(Want::OfTypeBefore),
+        _ => None,
+    }
+}
+
+fn atomic_wanted(function: AtomicFunction, index: usize) -> Option<Want>
+    ensures { option_map want_of result ≡ slice_get (atomic_wants (has_operand function)) index }
+{
+    match index {
+        0 => Some(Want::AtomicPointer),
+        1 if has_operand(function) => Some(Want::Integer),
+        _ => None,
+    }
+}
+
+/// An integer of the type of the one before it.
+fn same_fault(before: VariableType, argument: Operand) -> Option<TypeFault>
+    ensures { result ≡ least (same_faults before argument.kind argument.at) }
+{
+    match (before, argument.kind) {
+        (VariableType::Integer(before), VariableType::Integer(kind)) => if is_same(before, kind) {
+            None
+        } else {
+            Some(TypeFault::TypeMismatch { at: argument.at })
+        },
+        _ => integer_fault(argument),
+    }
+}
+
+/// A pointer for an atomic function: to int or uint, not constant, and not to constant memory.
+fn atomic_fault(argument: Operand) -> Option<TypeFault>
+    ensures { result ≡ least (atomic_faults argument.kind argument.at) }
+{
+    let at = argument.at;
+    match argument.kind {
+        VariableType::Integer(_) => Some(TypeFault::TypeMismatch { at }),
+        VariableType::Pointer(pointer) => {
+            if pointer.element != IntType::Int && pointer.element != IntType::Uint {
+                Some(TypeFault::TypeMismatch { at })
+            } else if pointer.is_const {
+                Some(TypeFault::NotAssignable { at })
+            } else if pointer.space == AddressSpace::Constant {
+                Some(TypeFault::WrongSpace { at })
+            } else {
+                None
+            }
+        }
+    }
+}
+
+/// An argument: what is wanted in its place, and the type of the one before it.
+pub fn argument_fault(
+    want: Option<Want>,
+    before: VariableType,
+    argument: Operand,
+) -> Option<TypeFault>
+    ensures { result ≡ least (argument_faults (option_map want_of want) before argument.kind argument.at) }
+{
+    match want {
+        None => None,
+        Some(Want::Integer) => integer_fault(argument),
+        Some(Want::OfTypeBefore) => same_fault(before, argument),
+        Some(Want::AtomicPointer) => atomic_fault(argument),
+        Some(Want::ForParameter(kind)) => passing_fault(kind, argument),
+    }
+}

@@ -1,0 +1,419 @@
+-- The turns of a group, and what its events leave as it was.
+use Rattle.std.proofs.Common.{◌≡◌, ℕ, zero, suc, ◌+◌, ◌<◌, ◌≤◌, ◌^◌, ◌⊎◌, Bool, true, false, not, ◌&&◌, ◌==◌, if◌then◌else◌, Option, None, Some, [], ◌∷◌, ◌++◌, length, refl, sym, ap, ◌∙◌, subst, inl, inr, arith, eqb-true, eq-eqb}
+use Rattle.std.proofs.lemmas.Bool.{false≢true, cases_lt}
+use Rattle.clmodel.specs.Launch.{Launch, group_of}
+use Rattle.clmodel.specs.Run.{State, Events, step, next_action, lowest, straggler, stop_of, both_stop, same_stop}
+use Rattle.clmodel.specs.Law.{Makes, Reports, Finishes, newest_conflict, conflict_turn, item_turn, divergence, has_ended, fault_of, IsBounded, answers_left}
+use Rattle.clmodel.specs.declared.action.Action.{Action}
+use Rattle.clmodel.specs.declared.action.Action.TheVariants as action
+use Rattle.clmodel.specs.declared.action.Cause.{Cause}
+use Rattle.clmodel.specs.declared.action.Instance.{Instance}
+use Rattle.clmodel.specs.declared.action.Fences.{Fences}
+use Rattle.clmodel.specs.declared.action.Stop.{Stop}
+use Rattle.clmodel.specs.declared.action.Stop.TheVariants.{At, Ended}
+use Rattle.clmodel.specs.declared.fault.Fault.{Fault}
+use Rattle.clmodel.specs.declared.fault.Fault.TheVariants as fault
+use Rattle.clmodel.specs.declared.schedule.Event.{Event}
+use Rattle.clmodel.specs.declared.schedule.Event.TheVariants.{Item, Release}
+use Rattle.clmodel.proofs.Steps.{none_some, some_inj, lowest_some, lowest_is_none, lowest_least, lowest_finds, item_inverse, ReleaseStep, release_inverse, answers_other, same_action}
+use Rattle.clmodel.proofs.Ending.{step_less}
+use Rattle.group_run.specs.Group.{Plan, IsGroup, going, turn_of, RunsIn, Reached, Reported}
+use Rattle.group_run.specs.Loops.{Accesses, Steps, IsMade, AtOneStop, Gathers, IsBrief, IsAdvanced, IsHalted, IsGathered}
+use Rattle.group_run.specs.declared.loops.Halt.{Halt}
+use Rattle.group_run.specs.declared.loops.Halt.TheVariants as halt
+use Rattle.group_run.specs.declared.machine.Made.{Made}
+use Rattle.group_run.specs.declared.machine.Made.TheVariants as made
+
+-- ---- runs with one event more
+
+pub runs_more :
+    (p : Plan) (s : State) (events : Events) (t : State) (e : Event) (u : State) → RunsIn p s events t → turn_of p t ≡ Makes e → step p.launch t e ≡ Some u
+    → RunsIn p s (events ++ e ∷ []) u
+runs_more p s [] t e u h m q =
+    (u, subst (λ z. turn_of p z ≡ Makes e) (sym h) m, subst (λ z. step p.launch z e ≡ Some u) (sym h) q, refl)
+runs_more p s (f ∷ events) t e u h m q = (h.0, h.1, h.2, runs_more p h.0 events t e u h.3 m q)
+
+-- each event leaves fewer answers to be given
+runs_left :
+    (p : Plan) (bound : ℕ) → IsBounded p.launch bound → (s : State) (events : Events) (t : State) → RunsIn p s events t
+    → length events + answers_left p.launch bound t ≤ answers_left p.launch bound s
+runs_left p bound b s [] t h = omega (arith, ap (answers_left p.launch bound) h)
+runs_left p bound b s (e ∷ events) t h =
+    omega (arith, step_less p.launch bound s e h.0 b h.2, runs_left p bound b h.0 events t h.3)
+
+pub room : (p : Plan) (origin s t : State) (events : Events) (e : Event) → IsBrief p origin → RunsIn p origin events s → step p.launch s e ≡ Some t → length events + 1 < 2 ^ 64
+room p origin s t events e brief h q =
+    omega (arith, brief.2, runs_left p brief.0 brief.1 origin events s h, step_less p.launch brief.0 s e t brief.1 q)
+
+-- ---- the item whose turn it is
+
+-- where the group's first item stops, and where another of its items does
+abbrev pub first_stop : Plan → State → Option Stop
+first_stop p s = stop_of (next_action p.launch s p.first)
+
+abbrev pub stop_at : Plan → State → ℕ → Option Stop
+stop_at p s k = stop_of (next_action p.launch s (p.first + k))
+
+straggles : Plan → State → ℕ → Bool
+straggles p s item = (group_of p.launch item == p.group) && not (both_stop (first_stop p s) (stop_of (next_action p.launch s item)))
+
+found_first : (q : ℕ → Bool) (n k : ℕ) → k < n → q k ≡ true → ((j : ℕ) → j < k → q j ≡ false) → lowest q n ≡ Some k
+found_first q n k b t below = at (lowest_finds q n k b t)
+  where
+    at : (f : (j : ℕ) × (lowest q n ≡ Some j)) → lowest q n ≡ Some k
+    at f = go (cases_lt f.0 k) (cases_lt k f.0)
+      where
+        go : (f.0 < k) ⊎ (k ≤ f.0) → (k < f.0) ⊎ (f.0 ≤ k) → lowest q n ≡ Some k
+        go (inl l) o = absurd (false≢true (sym (below f.0 l) ∙ (lowest_some q n f.0 f.1).1))
+        go (inr l) (inl m) = absurd (false≢true (sym (lowest_least q n f.0 f.1 k m) ∙ t))
+        go (inr l) (inr m) = let e : f.0 ≡ k = omega (arith, l, m) in f.1 ∙ ap Some e
+
+passed : (x y : Bool) → y ≡ true → (x && not y) ≡ false
+passed true y h = ap not h
+passed false y h = refl
+
+stays_behind : (x y : Bool) → x ≡ true → y ≡ false → (x && not y) ≡ true
+stays_behind x y h e = ap (λ z. z && not y) h ∙ ap not e
+
+-- an item below the first one that isn't at one stop, or of another group, doesn't straggle
+keeps_up : (p : Plan) → IsGroup p → (s : State) (k item : ℕ) → AtOneStop p s k → item < p.launch.items → item < p.first + k → straggles p s item ≡ false
+unfolding straggles
+keeps_up p whole s k item gathered b l = at_group (group_of p.launch item == p.group) refl
+  where
+    at_group :
+        (x : Bool) → (group_of p.launch item == p.group) ≡ x
+        → ((group_of p.launch item == p.group) && not (both_stop (first_stop p s) (stop_of (next_action p.launch s item)))) ≡ false
+    at_group false q = ap (λ z. z && not (both_stop (first_stop p s) (stop_of (next_action p.launch s item)))) q
+    at_group true q =
+        let w : (j : ℕ) × (j < p.count) × (p.first + j ≡ item) = whole.listed item b (eqb-true (group_of p.launch item) p.group q) in
+        passed (group_of p.launch item == p.group) (both_stop (first_stop p s) (stop_of (next_action p.launch s item)))
+        (subst (λ z. both_stop (first_stop p s) (stop_of (next_action p.launch s z)) ≡ true) w.2 (gathered w.0 (omega (arith, w.2, l))))
+
+pub straggler_at :
+    (p : Plan) → IsGroup p → (s : State) (k : ℕ) → k < p.count → AtOneStop p s k → both_stop (first_stop p s) (stop_at p s k) ≡ false
+    → straggler p.launch s p.group p.first ≡ Some (p.first + k)
+unfolding straggles
+straggler_at p whole s k b gathered other =
+    found_first (straggles p s) p.launch.items (p.first + k) (whole.inside k b)
+    (stays_behind (group_of p.launch (p.first + k) == p.group) (both_stop (first_stop p s) (stop_at p s k)) (eq-eqb (group_of p.launch (p.first + k)) p.group (whole.mine k b)) other)
+    (λ j l. keeps_up p whole s k j gathered (omega (arith, l, whole.inside k b)) l)
+
+pub no_straggler : (p : Plan) → IsGroup p → (s : State) → AtOneStop p s p.count → straggler p.launch s p.group p.first ≡ None
+unfolding straggles
+no_straggler p whole s gathered = lowest_is_none (straggles p s) p.launch.items (λ j l. at_group j l (group_of p.launch j == p.group) refl)
+  where
+    at_group : (j : ℕ) → j < p.launch.items → (x : Bool) → (group_of p.launch j == p.group) ≡ x → straggles p s j ≡ false
+    at_group j l false q = ap (λ z. z && not (both_stop (first_stop p s) (stop_of (next_action p.launch s j)))) q
+    at_group j l true q =
+        let w : (i : ℕ) × (i < p.count) × (p.first + i ≡ j) = whole.listed j l (eqb-true (group_of p.launch j) p.group q) in
+        keeps_up p whole s p.count j gathered l (omega (arith, w.1, w.2))
+
+-- ---- the turn of the group
+
+turn_is : (p : Plan) (s : State) (o : Option ℕ) → newest_conflict p.launch s.log ≡ None → straggler p.launch s p.group p.first ≡ o → turn_of p s ≡ going p s o
+turn_is p s o calm e = ap (λ c. conflict_turn p.launch c (going p s (straggler p.launch s p.group p.first))) calm ∙ ap (going p s) e
+
+not_stopped : (a : Option Stop) → both_stop a None ≡ false
+not_stopped None = refl
+not_stopped (Some a) = refl
+
+-- the turn of an item that is at no stop
+unstopped :
+    (p : Plan) → IsGroup p → (s : State) (k : ℕ) → k < p.count → AtOneStop p s k → newest_conflict p.launch s.log ≡ None → stop_at p s k ≡ None
+    → turn_of p s ≡ item_turn p.launch s p.first (p.first + k) (next_action p.launch s (p.first + k))
+unstopped p whole s k b gathered calm e =
+    turn_is p s (Some (p.first + k)) calm (straggler_at p whole s k b gathered (ap (both_stop (first_stop p s)) e ∙ not_stopped (first_stop p s)))
+
+accessing : (p : Plan) (s : State) (item : ℕ) → Accesses p s item → stop_of (next_action p.launch s item) ≡ None
+accessing p s item a = ap stop_of a.3
+
+-- an access leaves the actions of other items
+action_other : (p : Plan) (s t : State) (i j : ℕ) → step p.launch s (Item i) ≡ Some t → (j ≡ i → ⊥) → next_action p.launch t j ≡ next_action p.launch s j
+action_other p s t i j h ne = same_action p.launch s t j (answers_other p.launch s i t (item_inverse p.launch s i t h) j ne)
+
+still : (p : Plan) (s t : State) (k : ℕ) → AtOneStop p s k → step p.launch s (Item (p.first + k)) ≡ Some t → AtOneStop p t k
+still p s t k gathered h = λ j l.
+    ap (λ a. both_stop (stop_of a) (stop_at p t j)) (action_other p s t (p.first + k) p.first h (λ e. absurd (omega (arith, e, l))))
+    ∙ ap (λ a. both_stop (first_stop p s) (stop_of a)) (action_other p s t (p.first + k) (p.first + j) h (λ e. absurd (omega (arith, e, l))))
+    ∙ gathered j l
+
+-- ---- an access
+
+abbrev pub made_room :
+    (p : Plan) (origin s t : State) (events : Events) (item : ℕ) → IsBrief p origin → RunsIn p origin events s → Steps p s t item → length events + 1 < 2 ^ 64
+made_room p origin s t events item brief runs made = room p origin s t events (Item item) brief runs made.steps
+
+more :
+    (p : Plan) → IsGroup p → (origin s t : State) (events : Events) (k : ℕ) → k < p.count → RunsIn p origin events s → newest_conflict p.launch s.log ≡ None
+    → AtOneStop p s k → Accesses p s (p.first + k) → Steps p s t (p.first + k) → RunsIn p origin (events ++ Item (p.first + k) ∷ []) t
+more p whole origin s t events k b runs calm gathered a made =
+    runs_more p origin events s (Item (p.first + k)) t runs (unstopped p whole s k b gathered calm (accessing p s (p.first + k) a) ∙ made.makes) made.steps
+
+pub made_done :
+    (p : Plan) (old new : State → Type 0) (origin : State) (events : Events) (k : ℕ) (m : Made) → m ≡ made.Done → IsGroup p → k < p.count
+    → (g : Gathers p old origin events k) → Accesses p g.0.state (p.first + k) → IsMade p old new (p.first + k) m
+    → Gathers p new origin (events ++ Item (p.first + k) ∷ []) k
+made_done p old new origin events k m e whole b g a h =
+    let w = subst (λ z. IsMade p old new (p.first + k) z) e h g.0.state g.0.holds a in (
+      record {
+        state = w.0;
+        runs = more p whole origin g.0.state w.0 events k b g.0.runs g.0.calm g.1 a w.1;
+        holds = w.2;
+        calm = w.3;
+      },
+      still p g.0.state w.0 k g.1 w.1.steps,
+    )
+
+pub made_conflict :
+    (p : Plan) (old new : State → Type 0) (origin : State) (events : Events) (k : ℕ) (m : Made) (f : Fault) → m ≡ made.Conflicts f → IsGroup p → k < p.count
+    → (g : Gathers p old origin events k) → Accesses p g.0.state (p.first + k) → IsMade p old new (p.first + k) m
+    → Reported p new origin (events ++ Item (p.first + k) ∷ []) f
+made_conflict p old new origin events k m f e whole b g a h =
+    let w = subst (λ z. IsMade p old new (p.first + k) z) e h g.0.state g.0.holds a in
+    record {
+      state = w.0;
+      runs = more p whole origin g.0.state w.0 events k b g.0.runs g.0.calm g.1 a w.2;
+      holds = w.3;
+      reports = ap (λ c. conflict_turn p.launch c (going p w.0 (straggler p.launch w.0 p.group p.first))) w.4 ∙ ap Reports w.5;
+    }
+
+pub made_refused :
+    (p : Plan) (old new : State → Type 0) (origin : State) (events : Events) (k : ℕ) (m : Made) (f : Fault) → m ≡ made.Refused f → IsGroup p → k < p.count
+    → (g : Gathers p old origin events k) → Accesses p g.0.state (p.first + k) → IsMade p old new (p.first + k) m → Reported p new origin events f
+made_refused p old new origin events k m f e whole b g a h =
+    let w = subst (λ z. IsMade p old new (p.first + k) z) e h g.0.state g.0.holds a in
+    record {
+      state = g.0.state;
+      runs = g.0.runs;
+      holds = w.1;
+      reports = unstopped p whole g.0.state k b g.1 g.0.calm (accessing p g.0.state (p.first + k) a) ∙ w.0;
+    }
+
+-- the events stay countable
+pub room_done :
+    (p : Plan) (old new : State → Type 0) (origin : State) (events : Events) (k : ℕ) (m : Made) → m ≡ made.Done → IsBrief p origin
+    → (g : Gathers p old origin events k) → Accesses p g.0.state (p.first + k) → IsMade p old new (p.first + k) m → length events + 1 < 2 ^ 64
+room_done p old new origin events k m e brief g a h =
+    let w = subst (λ z. IsMade p old new (p.first + k) z) e h g.0.state g.0.holds a in
+    made_room p origin g.0.state w.0 events (p.first + k) brief g.0.runs w.1
+
+pub room_conflict :
+    (p : Plan) (old new : State → Type 0) (origin : State) (events : Events) (k : ℕ) (m : Made) (f : Fault) → m ≡ made.Conflicts f → IsBrief p origin
+    → (g : Gathers p old origin events k) → Accesses p g.0.state (p.first + k) → IsMade p old new (p.first + k) m → length events + 1 < 2 ^ 64
+room_conflict p old new origin events k m f e brief g a h =
+    let w = subst (λ z. IsMade p old new (p.first + k) z) e h g.0.state g.0.holds a in
+    made_room p origin g.0.state w.0 events (p.first + k) brief g.0.runs w.2
+
+-- ---- a stop
+
+pub both_some : (a b : Option Stop) → both_stop a b ≡ true → (x : Stop) × (a ≡ Some x)
+both_some None b h = absurd (false≢true h)
+both_some (Some x) b h = (x, refl)
+
+-- the first item is at a stop where another is, or where items are at one
+abbrev pub leads : (p : Plan) (s : State) (k : ℕ) (y : Stop) → AtOneStop p s k → stop_at p s k ≡ Some y → (x : Stop) × (first_stop p s ≡ Some x)
+leads p s zero y gathered e = (y, ap (λ z. stop_of (next_action p.launch s z)) (no_more p.first) ∙ e)
+  where
+    no_more : (n : ℕ) → n ≡ n + 0
+    no_more n = omega arith
+leads p s (suc k) y gathered e = both_some (first_stop p s) (stop_at p s 0) (gathered 0 (omega arith))
+
+abbrev pub gathered_stop : (p : Plan) → IsGroup p → (s : State) → AtOneStop p s p.count → (x : Stop) × (first_stop p s ≡ Some x)
+gathered_stop p whole s gathered = both_some (first_stop p s) (stop_at p s 0) (gathered 0 whole.some)
+
+pub joins :
+    (p : Plan) (s : State) (k : ℕ) (x y : Stop) → AtOneStop p s k → first_stop p s ≡ Some x → stop_at p s k ≡ Some y → same_stop x y ≡ true → AtOneStop p s (k + 1)
+joins p s k x y gathered f e same = λ j l. go j l (cases_lt j k)
+  where
+    here : both_stop (first_stop p s) (stop_at p s k) ≡ true
+    here = ap (λ z. both_stop z (stop_at p s k)) f ∙ ap (both_stop (Some x)) e ∙ same
+
+    go : (j : ℕ) → j < k + 1 → (j < k) ⊎ (k ≤ j) → both_stop (first_stop p s) (stop_at p s j) ≡ true
+    go j l (inl a) = gathered j a
+    go j l (inr a) = let i : k ≡ j = omega (arith, l, a) in subst (λ z. both_stop (first_stop p s) (stop_at p s z) ≡ true) i here
+
+stop_turn :
+    (l : Launch) (s : State) (first item : ℕ) (x y : Stop) (a : Action) → stop_of (next_action l s first) ≡ Some x → stop_of a ≡ Some y
+    → item_turn l s first item a ≡ Reports (fault.Divergence first x item y)
+stop_turn l s first item x y (action.Access o e op) f h = absurd (none_some y h)
+stop_turn l s first item x y (action.Barrier i fences) f h =
+    ap (λ z. divergence first z item (At i)) f ∙ ap (λ z. Reports (fault.Divergence first x item z)) (some_inj (At i) y h)
+stop_turn l s first item x y action.End f h =
+    ap (λ z. divergence first z item Ended) f ∙ ap (λ z. Reports (fault.Divergence first x item z)) (some_inj Ended y h)
+stop_turn l s first item x y (action.Fault c) f h = absurd (none_some y h)
+
+pub differs :
+    (p : Plan) → IsGroup p → (s : State) (k : ℕ) (x y : Stop) → k < p.count → AtOneStop p s k → newest_conflict p.launch s.log ≡ None → first_stop p s ≡ Some x
+    → stop_at p s k ≡ Some y → same_stop x y ≡ false → turn_of p s ≡ Reports (fault.Divergence p.first x (p.first + k) y)
+differs p whole s k x y b gathered calm f e other =
+    turn_is p s (Some (p.first + k)) calm
+    (straggler_at p whole s k b gathered (ap (λ z. both_stop z (stop_at p s k)) f ∙ ap (both_stop (Some x)) e ∙ other))
+    ∙ stop_turn p.launch s p.first (p.first + k) x y (next_action p.launch s (p.first + k)) f e
+
+-- ---- a failure
+
+pub fails :
+    (p : Plan) → IsGroup p → (s : State) (k : ℕ) (c : Cause) → k < p.count → AtOneStop p s k → newest_conflict p.launch s.log ≡ None
+    → next_action p.launch s (p.first + k) ≡ action.Fault c → turn_of p s ≡ Reports (fault_of p.launch (p.first + k) c)
+fails p whole s k c b gathered calm e =
+    unstopped p whole s k b gathered calm (ap stop_of e) ∙ ap (item_turn p.launch s p.first (p.first + k)) e
+
+-- ---- the end of an interval
+
+gathered_turn :
+    (p : Plan) → IsGroup p → (s : State) → AtOneStop p s p.count → newest_conflict p.launch s.log ≡ None
+    → turn_of p s ≡ (if has_ended (next_action p.launch s p.first) then Finishes else Makes (Release p.group))
+gathered_turn p whole s gathered calm = turn_is p s None calm (no_straggler p whole s gathered)
+
+ends : (a : Action) → stop_of a ≡ Some Ended → has_ended a ≡ true
+ends (action.Access o e op) h = absurd (none_some Ended h)
+ends (action.Barrier i fences) h = cc
+ends action.End h = refl
+ends (action.Fault c) h = absurd (none_some Ended h)
+
+pub at_is : (i j : Instance) → At i ≡ At j → i ≡ j
+at_is i j h = cc
+
+pub ended_at : (i : Instance) → ◌≡◌ {A = Stop} Ended (At i) → ⊥
+ended_at i h = cc
+
+abbrev pub waits : (a : Action) (i : Instance) → stop_of a ≡ Some (At i) → (fences : Fences) × (a ≡ action.Barrier i fences)
+waits (action.Access o e op) i h = absurd (none_some (At i) h)
+waits (action.Barrier j fences) i h = (fences, ap (λ z. action.Barrier z fences) (at_is j i (some_inj (At j) (At i) h)))
+waits action.End i h = absurd (ended_at i (some_inj Ended (At i) h))
+waits (action.Fault c) i h = absurd (none_some (At i) h)
+
+pub finishes :
+    (p : Plan) → IsGroup p → (s : State) → AtOneStop p s p.count → newest_conflict p.launch s.log ≡ None → first_stop p s ≡ Some Ended → turn_of p s ≡ Finishes
+finishes p whole s gathered calm e =
+    gathered_turn p whole s gathered calm
+    ∙ ap (λ (z : Bool). if z then Finishes else Makes (Release p.group)) (ends (next_action p.launch s p.first) e)
+
+-- the group once it is released
+pub released_on :
+    (p : Plan) (new : State → Type 0) (origin : State) (events : Events) (s n : State) (i : Instance) (fences : Fences) → IsGroup p → RunsIn p origin events s
+    → newest_conflict p.launch s.log ≡ None → AtOneStop p s p.count → next_action p.launch s p.first ≡ action.Barrier i fences
+    → step p.launch s (Release p.group) ≡ Some n → new n → Reached p new origin (events ++ Release p.group ∷ [])
+released_on p new origin events s n i fences whole runs calm gathered waiting h holds =
+    record {
+      state = n;
+      runs =
+          runs_more p origin events s (Release p.group) n runs
+          (gathered_turn p whole s gathered calm ∙ ap (λ a. if has_ended a then Finishes else Makes (Release p.group)) waiting) h;
+      holds = holds;
+      calm =
+          let r : ReleaseStep p.launch s p.group n = release_inverse p.launch s p.group n h in
+          subst (λ z. newest_conflict p.launch z.log ≡ None) r.gives calm;
+    }
+
+-- ---- the same by other plans, as the code has them
+
+abbrev pub moved : (p : Plan) (old new : State → Type 0) (origin : State) (events : Events) → ((s : State) → old s → new s) → Reached p old origin events → Reached p new origin events
+moved p old new origin events f r =
+    record {
+      state = r.state;
+      runs = r.runs;
+      holds = f r.state r.holds;
+      calm = r.calm;
+    }
+
+pub advance_asks :
+    (p q : Plan) (old new : State → Type 0) (origin : State) (events : Events) (k : ℕ) → q ≡ p → IsGroup p → k < p.count → IsBrief p origin
+    → (g : Gathers p old origin events k) → ((s : State) → old s → new s) → Accesses p g.0.state (p.first + k)
+    → IsGroup q × ((k < q.count) × (IsBrief q origin × ((g : Gathers q new origin events k) × Accesses q g.0.state (q.first + k))))
+advance_asks p q old new origin events k e whole b brief g f a =
+    subst (λ z. IsGroup z × ((k < z.count) × (IsBrief z origin × ((g : Gathers z new origin events k) × Accesses z g.0.state (z.first + k))))) (sym e)
+    (whole, (b, (brief, ((moved p old new origin events f g.0, g.1), a))))
+
+pub stop_asks :
+    (p q : Plan) (old new : State → Type 0) (origin : State) (events : Events) (k : ℕ) (y : Stop) → q ≡ p → IsGroup p → k < p.count
+    → (g : Gathers p old origin events k) → ((s : State) → old s → new s) → stop_at p g.0.state k ≡ Some y
+    → IsGroup q × ((k < q.count) × ((g : Gathers q new origin events k) × (stop_at q g.0.state k ≡ Some y)))
+stop_asks p q old new origin events k y e whole b g f a =
+    subst (λ z. IsGroup z × ((k < z.count) × ((g : Gathers z new origin events k) × (stop_at z g.0.state k ≡ Some y)))) (sym e)
+    (whole, (b, ((moved p old new origin events f g.0, g.1), a)))
+
+pub item_asks :
+    (p q : Plan) (fits : State → Type 0) (origin : State) (events : Events) (k : ℕ) → q ≡ p → IsGroup p → k < p.count → IsBrief p origin → Gathers p fits origin events k
+    → IsGroup q × ((k < q.count) × (IsBrief q origin × Gathers q fits origin events k))
+item_asks p q fits origin events k e whole b brief g =
+    subst (λ z. IsGroup z × ((k < z.count) × (IsBrief z origin × Gathers z fits origin events k))) (sym e) (whole, (b, (brief, g)))
+
+pub interval_asks :
+    (p q : Plan) (fits : State → Type 0) (origin : State) (events : Events) → q ≡ p → IsGroup p → IsBrief p origin → Reached p fits origin events
+    → IsGroup q × (IsBrief q origin × Reached q fits origin events)
+interval_asks p q fits origin events e whole brief r =
+    subst (λ z. IsGroup z × (IsBrief z origin × Reached z fits origin events)) (sym e) (whole, (brief, r))
+
+-- an item's next action, by the code's plan
+pub acting :
+    (p q : Plan) (s : State) (k : ℕ) (a b : Action) → q ≡ p → next_action q.launch s (q.first + k) ≡ a → a ≡ b → next_action p.launch s (p.first + k) ≡ b
+acting p q s k a b e h i = subst (λ z. next_action z.launch s (z.first + k) ≡ a) e h ∙ i
+
+-- where all have come to rest after an interval
+pub leader_asks :
+    (p q : Plan) (fits : State → Type 0) (origin : State) (events : Events) → q ≡ p → IsGroup p → Gathers p fits origin events p.count
+    → (s : State) × (x : Stop) × fits s × (first_stop q s ≡ Some x)
+leader_asks p q fits origin events e whole g =
+    let w = gathered_stop p whole g.0.state g.1 in
+    (g.0.state, w.0, g.0.holds, subst (λ z. first_stop z g.0.state ≡ Some w.0) (sym e) w.1)
+
+abbrev pub IsWaiting : Plan → (State → Type 0) → Type 0
+IsWaiting p fits =
+    (s : State) × (instance : Instance) × (fences : Fences) × (fits s) × (straggler p.launch s p.group p.first ≡ None) × (next_action p.launch s p.first ≡ action.Barrier instance fences)
+
+pub release_asks :
+    (p q : Plan) (old new : State → Type 0) (origin : State) (events : Events) (i : Instance) → q ≡ p → IsGroup p → (g : Gathers p old origin events p.count)
+    → ((s : State) → old s → new s) → first_stop p g.0.state ≡ Some (At i) → IsWaiting q new
+release_asks p q old new origin events i e whole g f h =
+    let w = waits (next_action p.launch g.0.state p.first) i h in
+    subst (λ z. IsWaiting z new) (sym e) (g.0.state, i, w.0, f g.0.state g.0.holds, no_straggler p whole g.0.state g.1, w.1)
+
+-- what a release leads to, as the code is told
+abbrev pub Releases : Plan → (State → Type 0) → (State → Type 0) → Type 0
+Releases p old new =
+    (s : State) → old s → straggler p.launch s p.group p.first ≡ None → (instance : Instance) (fences : Fences) → next_action p.launch s p.first ≡ action.Barrier instance fences
+    → (n : State) × (step p.launch s (Release p.group) ≡ Some n) × new n
+
+-- once the items were released: there is room for the event, and the run has gone on
+pub record Released (p : Plan) (new : State → Type 0) (origin : State) (events : Events) : Type 0 where
+  pub roomy : length events + 1 < 2 ^ 64
+  pub reached : Reached p new origin (events ++ Release p.group ∷ [])
+
+pub after_release :
+    (p q : Plan) (old between new : State → Type 0) (origin : State) (events : Events) (i : Instance) → q ≡ p → IsGroup p → IsBrief p origin → (g : Gathers p old origin events p.count)
+    → ((s : State) → old s → between s) → first_stop p g.0.state ≡ Some (At i) → Releases q between new → Released p new origin events
+after_release p q old between new origin events i e whole brief g f h made =
+    let s = g.0.state in
+    let w = waits (next_action p.launch s p.first) i h in
+    let m = subst (λ z. Releases z between new) e made s (f s g.0.holds) (no_straggler p whole s g.1) i w.0 w.1 in
+    record {
+      roomy = room p origin s m.0 events (Release p.group) brief g.0.runs m.1;
+      reached = released_on p new origin events s m.0 i w.0 whole g.0.runs g.0.calm g.1 w.1 m.1 m.2;
+    }
+
+-- the fault of an item, by the code's plan
+pub told : (p q : Plan) (n k : ℕ) (c : Cause) → n ≡ q.first → q ≡ p → fault_of q.launch (n + k) c ≡ fault_of p.launch (p.first + k) c
+told p q n k c h e = ap (λ z. fault_of q.launch (z + k) c) h ∙ ap (λ z. fault_of z.launch (z.first + k) c) e
+
+-- what the code's loops have come to, by the first plan
+pub advanced_on :
+    (p q : Plan) (fits : State → Type 0) (origin : State) (events : Events) (k : ℕ) (o : Option Fault) → q ≡ p → o ≡ None → IsAdvanced q fits origin events k o
+    → Gathers p fits origin events k
+advanced_on p q fits origin events k o e is h =
+    subst (λ z. Gathers z fits origin events k) e (subst (λ z. IsAdvanced q fits origin events k z) is h)
+
+pub halted_on :
+    (p q : Plan) (fits : State → Type 0) (origin : State) (events : Events) (k : ℕ) (o : Halt) → q ≡ p → o ≡ halt.Stops → IsHalted q fits origin events k o
+    → Gathers p fits origin events (k + 1)
+halted_on p q fits origin events k o e is h =
+    subst (λ z. Gathers z fits origin events (k + 1)) e (subst (λ z. IsHalted q fits origin events k z) is h)
+
+pub gathered_on :
+    (p q : Plan) (fits : State → Type 0) (origin : State) (events : Events) (o : Option Fault) → q ≡ p → o ≡ None → IsGathered q fits origin events o
+    → Gathers p fits origin events p.count
+gathered_on p q fits origin events o e is h =
+    subst (λ z. Gathers z fits origin events z.count) e (subst (λ z. IsGathered q fits origin events z) is h)
+
+pub leading : (p q : Plan) (s : State) (x y : Stop) → q ≡ p → first_stop q s ≡ Some x → x ≡ y → first_stop p s ≡ Some y
+leading p q s x y e h i = subst (λ z. first_stop z s ≡ Some x) e h ∙ ap Some i

@@ -1,0 +1,4 @@
+pub mod Group
+pub mod Loops
+pub mod Runs
+pub mod Fits

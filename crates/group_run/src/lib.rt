@@ -1,0 +1,18 @@
+//! One work-group's canonical run.
+#![tactic(auto)]
+
+mod describing;
+mod group;
+mod item;
+mod loops;
+mod machine;
+mod performing;
+mod runs;
+mod words;
+
+pub use describing::Described;
+pub use group::Group;
+pub use item::RunningItem;
+pub use loops::run_items;
+pub use machine::{Machine, Made};
+pub use runs::Runs;

@@ -1,0 +1,163 @@
+//! The run of a group: item by item to their stops, and interval by interval to its end.
+
+ghost use Rattle.std.specs.Prelude.{◌≡◌, ◌<◌, ◌≤◌, ◌+◌, ℕ, None, Some, IfOk};
+ghost use Rattle.clmodel.specs.Run.{State, next_action, stop_of};
+ghost use Rattle.group_run.specs.Group.{IsGroup, Reached, IsRun};
+ghost use Rattle.group_run.specs.Loops.{Accesses, AtOneStop, Gathers, IsBrief, IsAdvanced, IsHalted, IsGathered};
+
+use crate::machine::{Machine, Made};
+use crate::runs::Runs;
+use clmodel::action::{Action, Stop};
+use clmodel::fault::Fault;
+use clmodel::schedule::Event;
+use divergence::same_stop;
+use std::alloc::AllocError;
+
+/// Where an item comes to rest.
+#[derive(Debug, Drop)]
+pub enum Halt {
+    /// At the stop of the group's first item.
+    Stops,
+    /// The run is over with this report.
+    Reports(Fault),
+}
+
+/// The stop of the group's first item, which is at one.
+fn leader<M: Machine>(m: &mut M) -> Stop
+    requires some { 0 < (M.plan m.old).count }
+    requires stops { (s : State) × (stop : Stop) × M.fits m.old s × (stop_of (next_action (M.plan m.old).launch s (M.plan m.old).first) ≡ Some stop) }
+    ensures plan_same { M.plan m.new ≡ M.plan m.old }
+    ensures ticks_same { (j : ℕ) → M.ticks m.new j ≡ M.ticks m.old j }
+    ensures fits_same { (s : State) → M.fits m.old s → M.fits m.new s }
+    ensures value { (s : State) → M.fits m.old s → stop_of (next_action (M.plan m.old).launch s (M.plan m.old).first) ≡ Some result }
+{
+    match m.next(0) {
+        Action::Barrier { instance, .. } => Stop::At(instance),
+        Action::End => Stop::Ended,
+        _ => unreachable!(),
+    }
+}
+
+/// Judges an item's stop.
+fn stop_at<M: Machine>(m: &mut M, k: u32, stop: Stop, runs: &Runs) -> Halt
+    ghost origin: { State }
+    requires whole { IsGroup (M.plan m.old) }
+    requires inside { k < (M.plan m.old).count }
+    requires reached { (g : Gathers (M.plan m.old) (M.fits m.old) origin runs.now k) × (stop_of (next_action (M.plan m.old).launch g.0.state ((M.plan m.old).first + k)) ≡ Some stop) }
+    ensures plan_same { M.plan m.new ≡ M.plan m.old }
+    ensures ticks_same { (j : ℕ) → M.ticks m.new j ≡ M.ticks m.old j }
+    ensures halted { IsHalted (M.plan m.old) (M.fits m.new) origin runs.now k result }
+{
+    let item = m.first() + k;
+    let leading = leader(m);
+    if same_stop(&leading, &stop) {
+        Halt::Stops
+    } else {
+        Halt::Reports(Fault::Divergence {
+            item: m.first(),
+            stop: leading,
+            other_item: item,
+            other_stop: stop,
+        })
+    }
+}
+
+/// Makes the access that an item does next, and keeps its event.
+fn advance<M: Machine>(m: &mut M, k: u32, runs: &mut Runs) -> Result<Option<Fault>, AllocError>
+    ghost origin: { State }
+    requires whole { IsGroup (M.plan m.old) }
+    requires inside { k < (M.plan m.old).count }
+    requires brief { IsBrief (M.plan m.old) origin }
+    requires reached { (g : Gathers (M.plan m.old) (M.fits m.old) origin runs.old k) × Accesses (M.plan m.old) g.0.state ((M.plan m.old).first + k) }
+    ensures plan_same { M.plan m.new ≡ M.plan m.old }
+    ensures ticks_kept { (j : ℕ) → M.ticks m.new j ≤ M.ticks m.old j }
+    ensures ticks_less { IfOk result (λ report. report ≡ None → M.ticks m.new k < M.ticks m.old k) }
+    ensures advanced { IfOk result (IsAdvanced (M.plan m.old) (M.fits m.new) origin runs.new k) }
+{
+    let event = Event::Item(m.first() + k);
+    match m.access(k)? {
+        Made::Done => {
+            runs.push(event)?;
+            Ok(None)
+        }
+        Made::Conflicts(fault) => {
+            runs.push(event)?;
+            Ok(Some(fault))
+        }
+        Made::Refused(fault) => Ok(Some(fault)),
+    }
+}
+
+/// Runs an item to its stop, or to a report.
+fn run_item<M: Machine>(m: &mut M, k: u32, runs: &mut Runs) -> Result<Halt, AllocError>
+    ghost origin: { State }
+    requires whole { IsGroup (M.plan m.old) }
+    requires inside { k < (M.plan m.old).count }
+    requires brief { IsBrief (M.plan m.old) origin }
+    requires reached { Gathers (M.plan m.old) (M.fits m.old) origin runs.old k }
+    ensures plan_same { M.plan m.new ≡ M.plan m.old }
+    ensures ticks_kept { (j : ℕ) → M.ticks m.new j ≤ M.ticks m.old j }
+    ensures halted { IfOk result (IsHalted (M.plan m.old) (M.fits m.new) origin runs.new k) }
+{
+    'steps: loop {
+        match m.next(k) {
+            Action::Access { .. } => {
+                match advance(m, k, runs)? {
+                    None => {}
+                    Some(fault) => return Ok(Halt::Reports(fault)),
+                }
+            }
+            Action::Barrier { instance, .. } => {
+                return Ok(stop_at(m, k, Stop::At(instance), runs));
+            }
+            Action::End => return Ok(stop_at(m, k, Stop::Ended, runs)),
+            Action::Fault(cause) => {
+                let fault = m.fault_of(m.first() + k, cause)?;
+                return Ok(Halt::Reports(fault));
+            }
+        }
+    }
+}
+
+/// Runs all items to their stops, or to a report.
+fn run_interval<M: Machine>(m: &mut M, runs: &mut Runs) -> Result<Option<Fault>, AllocError>
+    ghost origin: { State }
+    requires whole { IsGroup (M.plan m.old) }
+    requires brief { IsBrief (M.plan m.old) origin }
+    requires reached { Reached (M.plan m.old) (M.fits m.old) origin runs.old }
+    ensures plan_same { M.plan m.new ≡ M.plan m.old }
+    ensures ticks_kept { (j : ℕ) → M.ticks m.new j ≤ M.ticks m.old j }
+    ensures gathered { IfOk result (IsGathered (M.plan m.old) (M.fits m.new) origin runs.new) }
+{
+    for k in 0..m.count() {
+        match run_item(m, k, runs)? {
+            Halt::Stops => {}
+            Halt::Reports(fault) => return Ok(Some(fault)),
+        }
+    }
+    Ok(None)
+}
+
+/// Runs a group to its end, and answers its report, if it has one. An error is want of memory.
+pub fn run_items<M: Machine>(m: &mut M, runs: &mut Runs) -> Result<Option<Fault>, AllocError>
+    ghost origin: { State }
+    requires whole { IsGroup (M.plan m.old) }
+    requires brief { IsBrief (M.plan m.old) origin }
+    requires reached { Reached (M.plan m.old) (M.fits m.old) origin runs.old }
+    ensures plan_same { M.plan m.new ≡ M.plan m.old }
+    ensures ran { IfOk result (IsRun (M.plan m.old) (M.fits m.new) origin runs.new) }
+{
+    'intervals: loop {
+        match run_interval(m, runs)? {
+            None => {}
+            Some(fault) => return Ok(Some(fault)),
+        }
+        match leader(m) {
+            Stop::Ended => return Ok(None),
+            Stop::At(_) => {
+                m.release();
+                runs.push(Event::Release(m.group()))?;
+            }
+        }
+    }
+}

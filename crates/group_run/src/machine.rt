@@ -1,0 +1,79 @@
+//! What the run of a group asks of its items and their memory.
+
+ghost use Rattle.std.specs.Prelude.{◌≡◌, ◌<◌, ◌≤◌, ◌+◌, ◌^◌, ℕ, None, IfOk};
+ghost use Rattle.clmodel.specs.Run.{State, step, next_action, straggler};
+ghost use Rattle.clmodel.specs.Law.{fault_of};
+ghost use Rattle.clmodel.specs.declared.action.Action.TheVariants.{Barrier};
+ghost use Rattle.clmodel.specs.declared.action.Fences.{Fences};
+ghost use Rattle.clmodel.specs.declared.action.Instance.{Instance};
+ghost use Rattle.clmodel.specs.declared.schedule.Event.TheVariants.{Release};
+ghost use Rattle.group_run.specs.Group.{Plan};
+ghost use Rattle.group_run.specs.Loops.{Accesses, IsMade};
+
+use clmodel::action::{Action, Cause};
+use clmodel::fault::Fault;
+use std::alloc::AllocError;
+
+/// What became of an access.
+#[derive(Debug, Drop)]
+pub enum Made {
+    /// It is done.
+    Done,
+    /// It is done, and conflicts with an earlier one.
+    Conflicts(Fault),
+    /// It can't be done: it is out of range, or reads an unset byte.
+    Refused(Fault),
+}
+
+/// The items of a group with their memory and the log of their accesses. Items are named by their place in the group.
+pub trait Machine {
+    ghost plan: { Self → Plan };
+
+    ghost fits: { Self → State → Type 0 };
+
+    ghost ticks: { Self → ℕ → ℕ };
+
+    /// The number of the group's first item.
+    fn first(&self) -> u32
+        ensures sum { result + (plan self.now).count < 2 ^ 32 }
+        ensures value { result ≡ (plan self.now).first };
+
+    /// The group's number.
+    fn group(&self) -> u32
+        ensures { result ≡ (plan self.now).group };
+
+    /// How many items there are.
+    fn count(&self) -> u32
+        ensures { result ≡ (plan self.now).count };
+
+    /// The next action of an item, which changes nothing that is seen.
+    fn next(&mut self, k: u32) -> Action
+        requires { k < (plan self.old).count }
+        ensures plan_same { plan self.new ≡ plan self.old }
+        ensures ticks_same { (j : ℕ) → ticks self.new j ≡ ticks self.old j }
+        ensures fits_same { (s : State) → fits self.old s → fits self.new s }
+        ensures value { (s : State) → fits self.old s → next_action (plan self.old).launch s ((plan self.old).first + k) ≡ result };
+
+    /// Does the access that an item does next. An error is want of memory.
+    fn access(&mut self, k: u32) -> Result<Made, AllocError>
+        requires inside { k < (plan self.old).count }
+        requires next { (s : State) × (fits self.old s) × Accesses (plan self.old) s ((plan self.old).first + k) }
+        ensures plan_same { plan self.new ≡ plan self.old }
+        ensures ticks_kept { (j : ℕ) → ticks self.new j ≤ ticks self.old j }
+        ensures ticks_less { IfOk result (λ made. made ≡ Made.Done → ticks self.new k < ticks self.old k) }
+        ensures made { IfOk result (IsMade (plan self.old) (fits self.old) (fits self.new) ((plan self.old).first + k)) };
+
+    /// Releases all items from their barrier.
+    fn release(&mut self)
+        requires { (s : State) × (instance : Instance) × (fences : Fences) × (fits self.old s) × (straggler (plan self.old).launch s (plan self.old).group (plan self.old).first ≡ None)
+            × (next_action (plan self.old).launch s (plan self.old).first ≡ Barrier instance fences) }
+        ensures plan_same { plan self.new ≡ plan self.old }
+        ensures ticks_less { ticks self.new 0 < ticks self.old 0 }
+        ensures made { (s : State) → fits self.old s → straggler (plan self.old).launch s (plan self.old).group (plan self.old).first ≡ None
+            → (instance : Instance) (fences : Fences) → next_action (plan self.old).launch s (plan self.old).first ≡ Barrier instance fences
+            → (n : State) × (step (plan self.old).launch s (Release (plan self.old).group) ≡ Some n) × (fits self.new n) };
+
+    /// The fault of an item that can do nothing more. An error is want of memory.
+    fn fault_of(&self, item: u32, cause: Cause) -> Result<Fault, AllocError>
+        ensures { IfOk result (λ fault. fault ≡ fault_of (plan self.now).launch item cause) };
+}

@@ -1,0 +1,138 @@
+//! A launch: a setup with the code of its kernel.
+#![tactic(auto)]
+
+ghost use Rattle.std.specs.Prelude.{◌≡◌, ◌<◌, ◌^◌, [], length, All, IfOk, List};
+ghost use Rattle.std.specs.List.{list_any};
+ghost use Rattle.clmodel.specs.Next.{next};
+ghost use Rattle.clmodel.specs.Setup as model;
+ghost use Rattle.clmodel.specs.Setup.{names_among, same_text, group_items};
+ghost use Rattle.clmodel.specs.declared.action.Answer.{Answer};
+ghost use Rattle.item_launch.specs.Setups.{plain, ActsAsNext};
+ghost use Rattle.item_run.specs.Running.{action_of};
+
+use crate::setup::Setup;
+use clmodel::action::{Action, Answer};
+use clmodel::next_action::NextAction;
+use clmodel::setup::Argument;
+use clmodel::text::Name;
+use item_run::{Item, Surroundings};
+use item_state::context::{Context, group_counts};
+use regcode::Code;
+use std::alloc::{AllocError, Global};
+
+/// A kernel that is ready to run: its setup with code that acts as its text. The items may be started in any order.
+#[derive(Drop)]
+pub struct Launch<'a> {
+    setup: Setup<'a>,
+    code: Code,
+    group_size: u32,
+    buffers: Vec<Name>,
+    group_counts: Vec<u64>,
+    ghost faithful: { ActsAsNext code (plain setup) },
+    ghost named: { buffers.items ≡ names_among [] setup.arguments.now },
+    ghost few: { length buffers.items < 2 ^ 32 },
+    ghost counted: { group_counts.items ≡ model.group_counts setup.range.now },
+    ghost grouped: { group_size ≡ group_items setup.range.now },
+    ghost some: { 0 < group_size },
+}
+
+/// The buffers that arguments name, each once, in the order of the first arguments that name them.
+fn buffers_of(alloc: Global, arguments: &[Option<Argument>]) -> Result<Vec<Name>, AllocError>
+    ensures { IfOk result (λ names. names.items ≡ names_among [] arguments.now) }
+{
+    let mut names = Vec::new(alloc);
+    for i in 0..arguments.len() {
+        if let Some(Argument::Buffer(name)) = &arguments[i] {
+            if !contains(names.as_slice(), name) {
+                names.push(name.copied(alloc)?)?;
+            }
+        }
+    }
+    Ok(names)
+}
+
+/// Whether a name is among others.
+fn contains(names: &[Name], name: &Name) -> bool
+    ensures { result ≡ list_any (same_text name.now) names.now }
+{
+    names.iter().any(|other| name == other)
+}
+
+impl<'a> Launch<'a> {
+    ghost use Rattle.clmodel.specs.Setup.{buffer_names};
+    ghost use Rattle.item_launch.specs.Launches.{setup_of};
+
+    /// A launch of code that acts as the setup's program. The group's size is that of the range, and no local size is 0.
+    pub fn new(
+        alloc: Global,
+        setup: Setup<'a>,
+        group_size: u32,
+        code: Code,
+    ) -> Result<Launch<'a>, AllocError>
+        requires faithful { ActsAsNext code (plain setup) }
+        requires grouped { group_size ≡ group_items setup.range.now }
+        requires some { 0 < group_size }
+        requires sized { All (λ size. 0 < size) setup.range.now.local }
+        ensures { IfOk result (λ launch. setup_of launch ≡ plain setup.entry) }
+    {
+        let buffers = buffers_of(alloc, setup.arguments)?;
+        if buffers.len() > u32::MAX as usize {
+            return Err(AllocError);
+        }
+        let range = setup.range;
+        let group_counts = group_counts(alloc, range.global.as_slice(), range.local.as_slice())?;
+        Ok(Launch {
+            setup,
+            code,
+            group_size,
+            buffers,
+            group_counts,
+        })
+    }
+
+    /// The names of its buffers, in the order of the first arguments that name them.
+    pub fn buffer_names(&self) -> &[Name]
+        ensures { result.now ≡ buffer_names (setup_of self.now) }
+    {
+        self.buffers.as_slice()
+    }
+
+    /// An item before its first action.
+    pub fn start(&self, alloc: Global, item: u32) -> Result<Item<'_>, AllocError>
+        ensures { IfOk result (λ started. (answers : List Answer) → action_of started answers ≡ next (setup_of self.now) item answers) }
+    {
+        let context = Context {
+            alloc,
+            item,
+            range: self.setup.range,
+            group_counts: self.group_counts.as_slice(),
+            group_size: self.group_size,
+        };
+        let surroundings = Surroundings {
+            context,
+            buffers: self.buffers.as_slice(),
+            arguments: self.setup.arguments,
+        };
+        Item::start(&self.code, surroundings, self.setup.budget)
+    }
+}
+
+impl NextAction for Launch<'_> {
+    ghost use Rattle.clmodel.specs.Next.{next};
+    ghost use Rattle.item_launch.specs.Launches.{setup_of};
+
+    ghost next = { λ launch. next (setup_of launch) };
+
+    fn next_action(
+        &self,
+        alloc: Global,
+        item: u32,
+        answers: &[Answer],
+    ) -> Result<Action, AllocError> {
+        let mut running = self.start(alloc, item)?;
+        for i in 0..answers.len() {
+            running.answer(answers[i]);
+        }
+        Ok(running.next())
+    }
+}

@@ -1,0 +1,10 @@
+//! A kernel that is ready to run, as verified code.
+#![tactic(auto)]
+
+mod launch;
+mod setup;
+#[cfg(test)]
+mod tests;
+
+pub use launch::Launch;
+pub use setup::Setup;

@@ -1,0 +1,29 @@
+-- The arguments of a kernel.
+use Rattle.std.proofs.Common.{◌≡◌, ℕ, zero, suc, ◌<◌, ◌≤◌, Option, None, Some, List, [], ◌∷◌, length, get_or, refl, sym, ap, ◌∙◌, arith}
+use Rattle.clmodel.specs.Next.{content}
+use Rattle.clmodel.specs.declared.operand.Operand.{Operand}
+use Rattle.clmodel.specs.declared.setup.Argument.{Argument}
+use Rattle.clmodel.specs.declared.tree.VariableType.{VariableType}
+use Rattle.clmodel.specs.declared.tree.VariableType.TheVariants.{Integer, Pointer}
+use Rattle.regcode.specs.Machine.{argument_at}
+
+content_none : (buffers : List (List ℕ)) (kind : VariableType) → content buffers kind None ≡ None
+content_none buffers (Integer t) = refl
+content_none buffers (Pointer p) = refl
+
+at_place : (arguments : List (Option Argument)) (i : ℕ) (d : Option Argument) → i < length arguments → argument_at arguments i ≡ get_or arguments i d
+at_place [] i d h = absurd (omega arith)
+at_place (v ∷ arguments) zero d h = refl
+at_place (v ∷ arguments) (suc i) d h = at_place arguments i d (omega arith)
+
+past_all : (arguments : List (Option Argument)) (i : ℕ) → length arguments ≤ i → argument_at arguments i ≡ None
+past_all [] i h = refl
+past_all (v ∷ arguments) zero h = absurd (omega arith)
+past_all (v ∷ arguments) (suc i) h = past_all arguments i (omega arith)
+
+pub content_here : (buffers : List (List ℕ)) (kind : VariableType) (arguments : List (Option Argument)) (i : ℕ) (a : Option Argument) (c : Option Operand)
+    → i < length arguments → a ≡ get_or arguments i a → c ≡ content buffers kind a → c ≡ content buffers kind (argument_at arguments i)
+content_here buffers kind arguments i a c h is e = e ∙ ap (content buffers kind) (is ∙ sym (at_place arguments i a h))
+
+pub content_past : (buffers : List (List ℕ)) (kind : VariableType) (arguments : List (Option Argument)) (i : ℕ) → length arguments ≤ i → None ≡ content buffers kind (argument_at arguments i)
+content_past buffers kind arguments i h = sym (ap (content buffers kind) (past_all arguments i h) ∙ content_none buffers kind)

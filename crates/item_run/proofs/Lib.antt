@@ -1,0 +1,4 @@
+pub mod Arguments
+pub mod Turns
+pub mod StateLaws
+pub mod AskingLaws

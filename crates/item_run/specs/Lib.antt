@@ -1,0 +1,5 @@
+pub mod Leading
+pub mod Running
+pub mod Givens
+pub mod Sound
+pub mod Asking

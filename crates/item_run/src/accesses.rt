@@ -1,0 +1,94 @@
+//! The accesses that items make, and what loads are answered (OpenCL 1.2, sections 6.5 and 6.12.11).
+#![tactic(auto)]
+
+ghost use Rattle.std.specs.Prelude.{◌≡◌, pos};
+ghost use Rattle.clnum.specs.Integer.{bits_of};
+ghost use Rattle.clnum.specs.Operations.{wrapped};
+ghost use Rattle.clnum.specs.declared.int_type.IntType.TheVariants as int_type;
+ghost use Rattle.clmodel.specs.Next as next;
+ghost use Rattle.clmodel.specs.Next.{element_width, answered};
+ghost use Rattle.clmodel.specs.declared.access.Operation.TheVariants as operation;
+ghost use Rattle.clmodel.specs.declared.operand.Operand.TheVariants as operand;
+
+use clmodel::access::{Class, Operation, Width};
+use clmodel::action::Answer;
+use clmodel::operand::Operand;
+use clmodel::setup::AtomicFunction;
+use clnum::{IntType, UnaryOperator, Value, unary};
+
+/// The width of an integer type.
+fn width(kind: IntType) -> Width
+    ensures { result ≡ element_width kind }
+{
+    match kind {
+        IntType::Char | IntType::Uchar => Width::One,
+        IntType::Short | IntType::Ushort => Width::Two,
+        IntType::Int | IntType::Uint => Width::Four,
+        IntType::Long | IntType::Ulong => Width::Eight,
+    }
+}
+
+fn number_of(answer: Answer) -> u64
+    ensures { result ≡ answered answer }
+{
+    match answer {
+        Answer::Value(number) => number,
+        Answer::Done => 0,
+    }
+}
+
+/// A load of an element.
+pub fn load_of(element: IntType) -> Operation
+    ensures { result ≡ operation.Load (element_width element) }
+{
+    Operation::Load(width(element))
+}
+
+/// The value of an element that a load was answered.
+pub fn loaded(element: IntType, answer: Answer) -> Operand
+    ensures { result ≡ operand.Integral (wrapped element (pos (answered answer))) }
+{
+    Operand::Integral(Value::from_bits(element, number_of(answer)))
+}
+
+/// A store of an element.
+pub fn store_of(element: IntType, value: Value) -> Operation
+    ensures { result ≡ operation.Store (element_width element) (bits_of element value.number) }
+{
+    Operation::Store(width(element), value.bits_in(element))
+}
+
+/// The class of an atomic function at an element type.
+fn class_of(function: AtomicFunction, kind: IntType) -> Class
+    ensures { result ≡ next.class_of function kind }
+{
+    match function {
+        AtomicFunction::Add | AtomicFunction::Sub | AtomicFunction::Inc | AtomicFunction::Dec =>
+            Class::Add,
+        AtomicFunction::Min if kind.is_signed() => Class::SignedMin,
+        AtomicFunction::Min => Class::UnsignedMin,
+        AtomicFunction::Max if kind.is_signed() => Class::SignedMax,
+        AtomicFunction::Max => Class::UnsignedMax,
+        AtomicFunction::And => Class::And,
+        AtomicFunction::Or => Class::Or,
+        AtomicFunction::Xor => Class::Xor,
+    }
+}
+
+/// What an atomic function brings to its element, given a number of the element's type.
+fn amount(function: AtomicFunction, number: Value) -> Value
+    ensures { result ≡ next.amount function number }
+{
+    match function {
+        AtomicFunction::Sub | AtomicFunction::Dec => unary(UnaryOperator::Negate, number),
+        _ => number,
+    }
+}
+
+/// An atomic update of 32 bits.
+pub fn update_of(function: AtomicFunction, element: IntType, number: Value) -> Operation
+    ensures { result ≡ operation.Update (next.class_of function element) (bits_of int_type.Uint (next.amount function number).number) }
+{
+    let bits = amount(function, number).bits_in(IntType::Uint);
+    Operation::Update(class_of(function, element), bits as u32)
+}

@@ -1,0 +1,235 @@
+-- The parts of statements: what is assigned to, the values of calls, and built-in functions.
+use Rattle.std.proofs.Common.{◌≡◌, ℕ, ◌+◌, ◌*◌, ◌≤◌, ◌≢◌, Option, None, Some, List, [], ◌∷◌, ◌++◌, length, slice_get, refl, sym, ap, ◌∙◌, subst, arith, length-append}
+use Rattle.clnum.specs.declared.operators.BinaryOperator.{BinaryOperator}
+use Rattle.clmodel.specs.Next.{Run, finish, ask, Variables, Helpers, assign, declared_type, held, known, look, load, store, combined, reach, fetch, infix_type, HelperCall, value_of, assigned, call, call_only, wait}
+use Rattle.clmodel.specs.Next as next
+use Rattle.clmodel.specs.Tree.{Variable, Terms, NoTerm, ThenTerm, Place, Whole, Part, Behind}
+use Rattle.clmodel.specs.declared.action.Action.TheVariants as action
+use Rattle.clmodel.specs.declared.action.Fences.{Fences}
+use Rattle.clmodel.specs.declared.operand.Operand.{Operand}
+use Rattle.clmodel.specs.declared.operand.Operand.TheVariants.{Pointed}
+use Rattle.clmodel.specs.declared.operand.Pointer.{Pointer}
+use Rattle.clmodel.specs.declared.operand.Destination.{Destination}
+use Rattle.clmodel.specs.declared.operand.Destination.TheVariants as destination
+use Rattle.clmodel.specs.declared.setup.BuiltIn.{BuiltIn}
+use Rattle.clmodel.specs.declared.setup.BuiltIn.TheVariants as built_in_function
+use Rattle.clmodel.specs.declared.tree.VariableType.{VariableType}
+use Rattle.regcode.specs.Machine.{State, Given, Registers, reg, with_put, passed}
+use Rattle.regcode.specs.declared.instruction.Instruction.{Instruction}
+use Rattle.regcode.specs.declared.instruction.Instruction.TheVariants as instruction
+use Rattle.regcode.proofs.Agreement.{Agree, steps, ends, hold_runs, load_runs, store_runs, update_runs, update_by_one_runs, barrier_runs}
+use Rattle.regcode.proofs.Registers.{reg_put, reg_kept}
+use Rattle.lower_expr.specs.Scope.{Scope, register_at, register_of, seen, free_level}
+use Rattle.lower_expr.specs.Expressions.{kind_named, count, place_code, place_register, register_for, registers_for, call_code, call_only_code}
+use Rattle.lower_expr.specs.Agreement.{HasAt, Reached, Hold}
+use Rattle.lower_expr.proofs.Places.{has_moved, reached_put}
+use Rattle.lower.specs.Code.{hold_code, place_type, fetch_code, put_code, wait_code}
+use Rattle.lower_expr.proofs.Expressions.{expr_runs, place_runs, call_runs}
+use Rattle.lower.proofs.Scopes.{Same, put_same, view_same, slot_between, assign_put, assign_none}
+use Rattle.lower.proofs.Stands.{Stands, put_stands, passed_stands, stands_to, here_at}
+
+-- what is assigned to, once it is reached: a variable, or what the pointer in a register points to
+abbrev pub Held : Registers → ℕ → Place → Destination → Type 0
+Held registers pointer (Whole at name) to = to ≡ destination.Named name
+Held registers pointer (Part at name index) to = (q : Pointer) × (to ≡ destination.Behind q) × (reg registers pointer ≡ Some (Pointed q))
+Held registers pointer (Behind at term) to = (q : Pointer) × (to ≡ destination.Behind q) × (reg registers pointer ≡ Some (Pointed q))
+
+-- arguments lie at a level and above, each a level above the one before
+abbrev pub Placed : ℕ → List ℕ → Type 0
+Placed level [] = Unit {0}
+Placed level (i ∷ numbers) = (16 * level ≤ i) × Placed (level + 1) numbers
+
+placed_then : (level : ℕ) (numbers : List ℕ) (i : ℕ) → Placed level numbers → 16 * (level + length numbers) ≤ i → Placed level (numbers ++ i ∷ [])
+placed_then level [] i h below = (omega arith, tt)
+placed_then level (j ∷ numbers) i h below = (h.0, placed_then (level + 1) numbers i h.1 (omega arith))
+
+count_is : (scope : Scope) (level : ℕ) (es : Terms) → length (registers_for scope level es) ≡ count es
+count_is scope level NoTerm = refl
+count_is scope level (ThenTerm es e) =
+    let is = count_is scope level es in
+    omega (arith, length-append (registers_for scope level es) (register_for scope (level + count es) e ∷ []))
+
+pub arguments_placed : (scope : Scope) (level : ℕ) (es : Terms) → Placed level (registers_for scope level es)
+arguments_placed scope level NoTerm = tt
+arguments_placed scope level (ThenTerm es e) =
+    let is = count_is scope level es in
+    placed_then level (registers_for scope level es) (register_for scope (level + count es) e) (arguments_placed scope level es) (omega arith)
+
+-- a call of a built-in function is one instruction
+call_length : (function : Option BuiltIn) (to : ℕ) (numbers : List ℕ) → length (call_code function to numbers) ≡ 1
+call_length None to numbers = refl
+call_length (Some (built_in_function.Atomic function)) to numbers = refl
+call_length (Some built_in_function.WorkDim) to [] = refl
+call_length (Some built_in_function.WorkDim) to (i ∷ numbers) = refl
+call_length (Some (built_in_function.WorkItem function)) to [] = refl
+call_length (Some (built_in_function.WorkItem function)) to (i ∷ []) = refl
+call_length (Some (built_in_function.WorkItem function)) to (i ∷ j ∷ numbers) = refl
+call_length (Some (built_in_function.Integer function)) to [] = refl
+call_length (Some (built_in_function.Integer function)) to (i ∷ []) = refl
+call_length (Some (built_in_function.Integer function)) to (i ∷ j ∷ []) = refl
+call_length (Some (built_in_function.Integer function)) to (i ∷ j ∷ k ∷ numbers) = refl
+
+module _ (given : Given) (code : List Instruction) (bound : ℕ) where
+  -- a register that has no value ends the item where it is wanted
+  pub hold_unset : (s : State) (to from : ℕ) (kind : VariableType) → slice_get code s.place ≡ Some (instruction.Hold to from kind) → reg s.registers from ≡ None → Agree given code bound s finish
+  hold_unset s to from kind here is = steps given code bound s finish _ here (λ ticks on after next. rw is (λ answers. refl))
+
+  pub store_unset : (s : State) (pointer from : ℕ) (p : Operand) → slice_get code s.place ≡ Some (instruction.Store pointer from) → reg s.registers pointer ≡ Some p → reg s.registers from ≡ None → Agree given code bound s finish
+  store_unset s pointer from p here is none = steps given code bound s finish _ here (λ ticks on after next. rw (is, none) (λ answers. refl))
+
+  pub binary_unset : (s : State) (to : ℕ) (operator : BinaryOperator) (left right : ℕ) (v : Operand) → slice_get code s.place ≡ Some (instruction.Binary to operator left right) → reg s.registers left ≡ Some v → reg s.registers right ≡ None → Agree given code bound s finish
+  binary_unset s to operator left right v here is none = steps given code bound s finish _ here (λ ticks on after next. rw (is, none) (λ answers. refl))
+
+  -- a variable is given a value
+  pub name_runs : (scope : Scope) (s : State) (ts : List ℕ) (place : ℕ) (now : State) (vs : Variables) (name level : ℕ) (from : VariableType) (v : Operand) (run : Variables → Run) → free_level scope ≤ level
+      → Stands scope.base s ts place now → seen scope now.registers ≡ vs → HasAt code place (hold_code (register_of scope name) (register_at level from) (kind_named scope name))
+      → reg now.registers (register_at level from) ≡ Some v
+      → ((last : State) (after : Variables) → Stands scope.base s ts (place + length (hold_code (register_of scope name) (register_at level from) (kind_named scope name))) last → seen scope last.registers ≡ after → Agree given code bound last (run after))
+      → Agree given code bound now (run (assign vs name v))
+  name_runs scope s ts place now vs name level from v run free stands same has is go = cases (register_of scope name) refl has go
+    where
+      cases : (o : Option ℕ) → register_of scope name ≡ o → HasAt code place (hold_code o (register_at level from) (kind_named scope name))
+          → ((last : State) (after : Variables) → Stands scope.base s ts (place + length (hold_code o (register_at level from) (kind_named scope name))) last → seen scope last.registers ≡ after → Agree given code bound last (run after))
+          → Agree given code bound now (run (assign vs name v))
+      cases None e has go =
+          let kind = kind_named scope name in
+          let last = with_put now (register_at level from) (Some (held kind v)) in
+          hold_runs given code bound now (run (assign vs name v)) (register_at level from) (register_at level from) kind v (here_at code place _ scope.base s ts now stands has.0) is
+          (go last (assign vs name v) (put_stands scope.base level from s ts place now (Some (held kind v)) (omega (arith, free)) stands)
+          (view_same scope.base scope.variables now.registers last.registers (put_same level from (free_level scope) now.registers (Some (held kind v)) free)
+          ∙ assign_none scope.base scope.variables now.registers name v e ∙ ap (λ l. assign l name v) same))
+      cases (Some r) e has go =
+          let kind = kind_named scope name in
+          let between = slot_between scope.base scope.variables name r e in
+          let last = with_put now r (Some (held kind v)) in
+          hold_runs given code bound now (run (assign vs name v)) r (register_at level from) kind v (here_at code place _ scope.base s ts now stands has.0) is
+          (go last (assign vs name v)
+          (record {
+            at = ap (λ n. n + 1) stands.at;
+            kept = λ i below. let ne : r ≢ i = λ e. absurd (omega (arith, e, between.0)) in reg_kept now.registers r (Some (held kind v)) i ne ∙ stands.kept i below;
+            turns = stands.turns;
+          })
+          (assign_put scope.base scope.variables now.registers name r v e ∙ ap (λ l. assign l name v) same))
+
+  -- what is assigned to is reached
+  pub reach_runs : (scope : Scope) (level : ℕ) (place : Place) (s : State) (vs : Variables) (after : Destination → Run) → free_level scope ≤ level → seen scope s.registers ≡ vs
+      → HasAt code s.place (place_code scope level place)
+      → ((now : State) (to : Destination) → Reached level s (s.place + length (place_code scope level place)) now → Held now.registers (place_register scope level place) place to → Agree given code bound now (after to))
+      → Agree given code bound s (reach given.here place vs after)
+  reach_runs scope level (Whole at name) s vs after free same has go =
+      place_runs given code bound scope level (Whole at name) s vs after free same has (λ now r. go now (destination.Named name) r refl)
+  reach_runs scope level (Part at name index) s vs after free same has go =
+      place_runs given code bound scope level (Part at name index) s vs after free same has (λ q now r h. go now (destination.Behind q) r (q, refl, h))
+  reach_runs scope level (Behind at term) s vs after free same has go =
+      place_runs given code bound scope level (Behind at term) s vs after free same has (λ q now r h. go now (destination.Behind q) r (q, refl, h))
+
+  -- a load through a pointer at hand
+  behind_fetched : (level : ℕ) (kind : VariableType) (pointer : ℕ) (q : Pointer) (to : Destination) (s : State) (vs : Variables) (after : Operand → Run)
+      → to ≡ destination.Behind q → reg s.registers pointer ≡ Some (Pointed q) → slice_get code s.place ≡ Some (instruction.Load (register_at level kind) pointer)
+      → ((now : State) (v : Operand) → Reached level s (s.place + 1) now → reg now.registers (register_at level kind) ≡ Some v → Agree given code bound now (after v))
+      → Agree given code bound s (fetch to vs after)
+  behind_fetched level kind pointer q to s vs after is held here go =
+      subst (λ to. Agree given code bound s (fetch to vs after)) (sym is)
+      (load_runs given code bound bound s after (register_at level kind) pointer (Pointed q) (omega arith) here held
+      (λ x. go (with_put s (register_at level kind) (Some x)) x (reached_put level kind s (Some x) (s.place + 1) refl) (reg_put s.registers (register_at level kind) (Some x))))
+
+  -- the old value is fetched
+  pub fetch_runs : (scope : Scope) (level : ℕ) (place : Place) (pointer : ℕ) (to : Destination) (s : State) (vs : Variables) (after : Operand → Run) → free_level scope ≤ level → seen scope s.registers ≡ vs
+      → Held s.registers pointer place to → HasAt code s.place (fetch_code scope place pointer (register_at level (place_type scope place)))
+      → ((now : State) (v : Operand) → Reached level s (s.place + length (fetch_code scope place pointer (register_at level (place_type scope place)))) now → reg now.registers (register_at level (place_type scope place)) ≡ Some v → Agree given code bound now (after v))
+      → Agree given code bound s (fetch to vs after)
+  fetch_runs scope level (Whole at name) pointer to s vs after free same is has go =
+      subst (λ to. Agree given code bound s (fetch to vs after)) (sym is)
+      (expr_runs given code bound scope level (Variable at name) s vs after free same has (λ v now r h. go now v r h))
+  fetch_runs scope level (Part at name index) pointer to s vs after free same h has go =
+      behind_fetched level (place_type scope (Part at name index)) pointer h.0 to s vs after h.1 h.2 has.0 go
+  fetch_runs scope level (Behind at term) pointer to s vs after free same h has go =
+      behind_fetched level (place_type scope (Behind at term)) pointer h.0 to s vs after h.1 h.2 has.0 go
+
+  -- a store through a pointer at hand
+  behind_put : (level : ℕ) (s : State) (ts : List ℕ) (place : ℕ) (now : State) (pointer from : ℕ) (q : Pointer) (to : Destination) (v : Operand) (vs : Variables) (run : Variables → Run)
+      → Stands level s ts place now → to ≡ destination.Behind q → reg now.registers pointer ≡ Some (Pointed q) → reg now.registers from ≡ Some v
+      → slice_get code place ≡ Some (instruction.Store pointer from)
+      → (Stands level s ts (place + 1) (passed now) → Agree given code bound (passed now) (run vs))
+      → Agree given code bound now (next.put to v vs run)
+  behind_put level s ts place now pointer from q to v vs run stands is held value here go =
+      subst (λ to. Agree given code bound now (next.put to v vs run)) (sym is)
+      (store_runs given code bound bound now (run vs) pointer from (Pointed q) v (omega arith) (here_at code place _ level s ts now stands here) held value
+      (go (passed_stands level s ts place now stands)))
+
+  -- a value is put there
+  pub put_runs : (scope : Scope) (place : Place) (s : State) (ts : List ℕ) (at : ℕ) (now : State) (vs : Variables) (pointer level : ℕ) (from : VariableType) (to : Destination) (v : Operand) (run : Variables → Run) → free_level scope ≤ level
+      → Stands scope.base s ts at now → seen scope now.registers ≡ vs → Held now.registers pointer place to → reg now.registers (register_at level from) ≡ Some v
+      → HasAt code at (put_code scope place pointer (register_at level from))
+      → ((last : State) (after : Variables) → Stands scope.base s ts (at + length (put_code scope place pointer (register_at level from))) last → seen scope last.registers ≡ after → Agree given code bound last (run after))
+      → Agree given code bound now (next.put to v vs run)
+  put_runs scope (Whole at' name) s ts at now vs pointer level from to v run free stands same is value has go =
+      subst (λ to. Agree given code bound now (next.put to v vs run)) (sym is) (name_runs scope s ts at now vs name level from v run free stands same has value go)
+  put_runs scope (Part at' name index) s ts at now vs pointer level from to v run free stands same h value has go =
+      behind_put scope.base s ts at now pointer (register_at level from) h.0 to v vs run stands h.1 h.2 value has.0 (λ last. go (passed now) vs last same)
+  put_runs scope (Behind at' term) s ts at now vs pointer level from to v run free stands same h value has go =
+      behind_put scope.base s ts at now pointer (register_at level from) h.0 to v vs run stands h.1 h.2 value has.0 (λ last. go (passed now) vs last same)
+
+  -- a value that isn't there ends the item
+  pub put_unset : (scope : Scope) (place : Place) (s : State) (ts : List ℕ) (at : ℕ) (now : State) (pointer from : ℕ) (to : Destination)
+      → Stands scope.base s ts at now → Held now.registers pointer place to → reg now.registers from ≡ None
+      → HasAt code at (put_code scope place pointer from) → Agree given code bound now finish
+  put_unset scope (Whole at' name) s ts at now pointer from to stands held none has = cases (register_of scope name) has
+    where
+      cases : (o : Option ℕ) → HasAt code at (hold_code o from (kind_named scope name)) → Agree given code bound now finish
+      cases None has = hold_unset now from from (kind_named scope name) (here_at code at _ scope.base s ts now stands has.0) none
+      cases (Some r) has = hold_unset now r from (kind_named scope name) (here_at code at _ scope.base s ts now stands has.0) none
+  put_unset scope (Part at' name index) s ts at now pointer from to stands h none has =
+      store_unset now pointer from (Pointed h.0) (here_at code at _ scope.base s ts now stands has.0) h.2 none
+  put_unset scope (Behind at' term) s ts at now pointer from to stands h none has =
+      store_unset now pointer from (Pointed h.0) (here_at code at _ scope.base s ts now stands has.0) h.2 none
+
+  -- a barrier
+  pub wait_runs : (named : Option Fences) (level : ℕ) (s : State) (ts : List ℕ) (place : ℕ) (now : State) (site : ℕ) (run : Run)
+      → Stands level s ts place now → HasAt code place (wait_code named site (length ts))
+      → ((last : State) → Stands level s ts (place + length (wait_code named site (length ts))) last → last.registers ≡ now.registers → Agree given code bound last run)
+      → Agree given code bound now (wait named site ts run)
+  wait_runs None level s ts place now site run stands has go = ends given code bound now (here_at code place _ level s ts now stands has.0)
+  wait_runs (Some named) level s ts place now site run stands has go =
+      subst (λ turns. Agree given code bound now (ask (action.Barrier (record { site = site; turns = turns }) named) (λ _. run))) stands.turns
+      (barrier_runs given code bound bound now run site (length ts) named (omega arith) (here_at code place _ level s ts now stands has.0)
+      (go (passed now) (passed_stands level s ts place now stands) refl))
+
+  -- a built-in function whose value is dropped
+  value_only : (function : Option BuiltIn) (level higher : ℕ) (kind : VariableType) (numbers : List ℕ) (values : List Operand) (s : State) (ts : List ℕ) (place : ℕ) (now : State) (run : Run) → level ≤ higher
+      → Stands level s ts place now → Hold now.registers numbers values → HasAt code place (call_code function (register_at higher kind) numbers)
+      → ((last : State) → Stands level s ts (place + length (call_code function (register_at higher kind) numbers)) last → Same higher now.registers last.registers → Agree given code bound last run)
+      → Agree given code bound now (call given.here function values (λ _. run))
+  value_only function level higher kind numbers values s ts place now run less stands held has go =
+      let one = call_length function (register_at higher kind) numbers in
+      call_runs given code bound function (register_at higher kind) numbers values now (λ _. run) (has_moved code _ place now.place (sym stands.at) has) held
+      (λ v. go (with_put now (register_at higher kind) (Some v))
+      (stands_to level s ts (place + 1) _ _ (omega (arith, one)) (put_stands level higher kind s ts place now (Some v) less stands))
+      (put_same higher kind higher now.registers (Some v) (omega arith)))
+
+  -- or an atomic function
+  pub only_runs : (function : BuiltIn) (level higher : ℕ) (kind : VariableType) (numbers : List ℕ) (values : List Operand) (s : State) (ts : List ℕ) (place : ℕ) (now : State) (run : Run) → level ≤ higher
+      → Stands level s ts place now → Hold now.registers numbers values → HasAt code place (call_only_code (Some function) (register_at higher kind) numbers)
+      → ((last : State) → Stands level s ts (place + length (call_only_code (Some function) (register_at higher kind) numbers)) last → Same higher now.registers last.registers → Agree given code bound last run)
+      → Agree given code bound now (call_only given.here (Some function) values run)
+  only_runs (built_in_function.Atomic function) level higher kind [] [] s ts place now run less stands held has go = ends given code bound now (here_at code place _ level s ts now stands has.0)
+  only_runs (built_in_function.Atomic function) level higher kind [] (v ∷ values) s ts place now run less stands held has go = absurd held
+  only_runs (built_in_function.Atomic function) level higher kind (i ∷ numbers) [] s ts place now run less stands held has go = absurd held
+  only_runs (built_in_function.Atomic function) level higher kind (i ∷ []) (v ∷ []) s ts place now run less stands held has go =
+      update_by_one_runs given code bound bound now run function i v (omega arith) (here_at code place _ level s ts now stands has.0) held.0
+      (go (passed now) (passed_stands level s ts place now stands) (λ i below. refl))
+  only_runs (built_in_function.Atomic function) level higher kind (i ∷ []) (v ∷ w ∷ values) s ts place now run less stands held has go = absurd held.1
+  only_runs (built_in_function.Atomic function) level higher kind (i ∷ j ∷ numbers) (v ∷ []) s ts place now run less stands held has go = absurd held.1
+  only_runs (built_in_function.Atomic function) level higher kind (i ∷ j ∷ []) (v ∷ w ∷ []) s ts place now run less stands held has go =
+      update_runs given code bound bound now run function i j v w (omega arith) (here_at code place _ level s ts now stands has.0) held.0 held.1.0
+      (go (passed now) (passed_stands level s ts place now stands) (λ i below. refl))
+  only_runs (built_in_function.Atomic function) level higher kind (i ∷ j ∷ []) (v ∷ w ∷ x ∷ values) s ts place now run less stands held has go = absurd held.1.1
+  only_runs (built_in_function.Atomic function) level higher kind (i ∷ j ∷ k ∷ numbers) (v ∷ w ∷ []) s ts place now run less stands held has go = absurd held.1.1
+  only_runs (built_in_function.Atomic function) level higher kind (i ∷ j ∷ k ∷ numbers) (v ∷ w ∷ x ∷ values) s ts place now run less stands held has go =
+      ends given code bound now (here_at code place _ level s ts now stands has.0)
+  only_runs built_in_function.WorkDim level higher kind numbers values s ts place now run less stands held has go =
+      value_only (Some built_in_function.WorkDim) level higher kind numbers values s ts place now run less stands held has go
+  only_runs (built_in_function.WorkItem function) level higher kind numbers values s ts place now run less stands held has go =
+      value_only (Some (built_in_function.WorkItem function)) level higher kind numbers values s ts place now run less stands held has go
+  only_runs (built_in_function.Integer function) level higher kind numbers values s ts place now run less stands held has go =
+      value_only (Some (built_in_function.Integer function)) level higher kind numbers values s ts place now run less stands held has go

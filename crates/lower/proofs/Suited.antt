@@ -1,0 +1,292 @@
+-- The code of a typed expression names registers of the kinds that its instructions want.
+use Rattle.std.proofs.Common.{◌≡◌, ℕ, ◌+◌, Bool, true, false, nat_eq, if◌then◌else◌, Option, None, Some, List, [], ◌∷◌, ◌++◌, length, refl, ap, ap₂, sym, subst, ◌∙◌, arith}
+use Rattle.std.proofs.lemmas.List.{length-append}
+use Rattle.clnum.specs.Conversions as conversions
+use Rattle.clnum.specs.Conversions.{common, unsigned_of}
+use Rattle.clnum.specs.Operations.{unary_kind, truth}
+use Rattle.clnum.specs.declared.int_type.IntType.{IntType}
+use Rattle.clnum.specs.declared.int_type.IntType.TheVariants.{Char, Uchar, Short, Ushort, Int, Uint, Long, Ulong}
+use Rattle.clnum.specs.declared.operators.Builtin.TheVariants as integer
+use Rattle.clmodel.specs.BuiltIns.{built_in}
+use Rattle.clmodel.specs.Next.{base_type, infix_type, call_type, argument_type}
+use Rattle.clmodel.specs.Tree as tree
+use Rattle.clmodel.specs.Tree.{Term, Terms, NoTerm, ThenTerm, Place}
+use Rattle.clmodel.specs.Typing.Context.{Context, Signature, Meaning, meaning, Bound, Callable, Current, BuiltInFunction, Unknown, found, called, signature_of, function_meaning}
+use Rattle.clmodel.specs.Typing.Context as context
+use Rattle.clmodel.specs.Typing.Rules as rule
+use Rattle.clmodel.specs.Typing.Rules.{Types, TypesAll, TypesPlace, Operates, Calls}
+use Rattle.clmodel.specs.declared.setup.BuiltIn.{BuiltIn}
+use Rattle.clmodel.specs.declared.tree.InfixOperator.{InfixOperator}
+use Rattle.clmodel.specs.declared.tree.InfixOperator.TheVariants.{Arithmetic}
+use Rattle.clmodel.specs.declared.tree.PointerType.{PointerType}
+use Rattle.clmodel.specs.declared.tree.VariableType.{VariableType}
+use Rattle.clmodel.specs.declared.tree.VariableType.TheVariants.{Integer, Pointer}
+use Rattle.regcode.specs.declared.instruction.Instruction.{Instruction}
+use Rattle.regcode.specs.declared.instruction.Instruction.TheVariants as instruction
+use Rattle.lower_expr.specs.Scope.{Scope, register_at, register_of}
+use Rattle.lower_expr.specs.Expressions.{kind_of, kind_named, register_for, registers_for, expr_code, terms_code, place_code, variable_code, element_code, infix_code, truth_code, branch_code, call_code, count}
+use Rattle.lower.specs.Accepted.{Is, Matches, Suits, Suit, ExpressionsSuit, PlacesSuit}
+use Rattle.lower.proofs.Suiting.{same_integer, is_at, is_as, suit_both, constant_suits, move_suits, convert_suits, common_suits, unary_suits, binary_suits, one_suits, two_suit, dimensions_suit, query_suits, point_suits, offset_suits, load_suits, branch_suits}
+
+common_either : (a b : IntType) → common a b ≡ common b a
+unfolding common conversions.promoted
+common_either Char Char = refl
+common_either Uchar Uchar = refl
+common_either Short Short = refl
+common_either Ushort Ushort = refl
+common_either Int Int = refl
+common_either Uint Uint = refl
+common_either Long Long = refl
+common_either Ulong Ulong = refl
+common_either _ _ = refl
+
+pub infix_is : {operator : InfixOperator} (j k r : VariableType) → Operates operator j k r → infix_type operator j k ≡ r
+infix_is _ _ _ rule.arithmetic = refl
+infix_is _ _ _ rule.logical_and = refl
+infix_is _ _ _ rule.logical_or = refl
+infix_is _ _ _ rule.pointer_sum = refl
+infix_is _ _ _ rule.pointer_difference = refl
+infix_is _ _ _ rule.sum_pointer = refl
+
+-- a name that stands for a built-in function
+called_is : (s : Option Signature) (f : Option BuiltIn) (g : BuiltIn) → called s f ≡ BuiltInFunction g → f ≡ Some g
+called_is (Some s) f g e = absurd (cc)
+called_is None (Some f) g e = ap (λ m. elim m as (λ _. Option BuiltIn) [ Bound k ↦ None | Callable s ↦ None | Current s ↦ None | BuiltInFunction h ↦ Some h | Unknown ↦ None ]) e
+called_is None None g e = absurd (cc)
+
+choice_is : (b : Bool) (s : Signature) (m : Meaning) (g : BuiltIn) → (if b then Current s else m) ≡ BuiltInFunction g → m ≡ BuiltInFunction g
+choice_is true s m g e = absurd (cc)
+choice_is false s m g e = e
+
+found_is : (v : Option VariableType) (m : Meaning) (g : BuiltIn) → found v m ≡ BuiltInFunction g → m ≡ BuiltInFunction g
+found_is None m g e = e
+found_is (Some k) m g e = absurd (cc)
+
+pub built_in_is : (c : Context) (name : ℕ) (g : BuiltIn) → meaning c name ≡ BuiltInFunction g → built_in name ≡ Some g
+built_in_is c name g e =
+    called_is (signature_of c.before name) (built_in name) g
+    (choice_is (nat_eq name c.current) c.signature (called (signature_of c.before name) (built_in name)) g
+    (found_is (context.variable (c.inner ∷ c.outer) name) (function_meaning c name) g e))
+
+-- the types of arguments, and their registers
+abbrev pub kinds_of : Scope → Terms → List VariableType
+kinds_of scope NoTerm = []
+kinds_of scope (ThenTerm terms term) = kinds_of scope terms ++ kind_of scope term ∷ []
+
+abbrev pub numbered : ℕ → List VariableType → List ℕ
+numbered level [] = []
+numbered level (kind ∷ kinds) = register_at level kind ∷ numbered (level + 1) kinds
+
+abbrev pub last_of : List VariableType → IntType
+last_of [] = Int
+last_of (kind ∷ []) = base_type kind
+last_of (kind ∷ other ∷ kinds) = last_of (other ∷ kinds)
+
+last_is : (kinds : List VariableType) (kind : VariableType) → last_of (kinds ++ kind ∷ []) ≡ base_type kind
+last_is [] kind = refl
+last_is (first ∷ []) kind = refl
+last_is (first ∷ second ∷ kinds) kind = last_is (second ∷ kinds) kind
+
+pub argument_is : (scope : Scope) (terms : Terms) → argument_type scope.variables terms ≡ last_of (kinds_of scope terms)
+argument_is scope NoTerm = refl
+argument_is scope (ThenTerm terms term) = sym (last_is (kinds_of scope terms) (kind_of scope term))
+
+numbered_both : (level : ℕ) (kinds : List VariableType) (kind : VariableType) → numbered level (kinds ++ kind ∷ []) ≡ numbered level kinds ++ register_at (level + length kinds) kind ∷ []
+numbered_both level [] kind = ap (λ n. register_at n kind ∷ []) (omega arith)
+numbered_both level (first ∷ kinds) kind =
+    ap (λ rs. register_at level first ∷ rs)
+    (numbered_both (level + 1) kinds kind ∙ ap (λ n. numbered (level + 1) kinds ++ register_at n kind ∷ []) (omega arith))
+
+kinds_counted : (scope : Scope) (terms : Terms) → length (kinds_of scope terms) ≡ count terms
+kinds_counted scope NoTerm = refl
+kinds_counted scope (ThenTerm terms term) =
+    length-append (kinds_of scope terms) (kind_of scope term ∷ []) ∙ ap (λ n. n + 1) (kinds_counted scope terms)
+
+pub registers_are : (scope : Scope) (level : ℕ) (terms : Terms) → registers_for scope level terms ≡ numbered level (kinds_of scope terms)
+registers_are scope level NoTerm = refl
+registers_are scope level (ThenTerm terms term) =
+    ap₂ (λ rs n. rs ++ register_at (level + n) (kind_of scope term) ∷ []) (registers_are scope level terms) (sym (kinds_counted scope terms))
+    ∙ sym (numbered_both level (kinds_of scope terms) (kind_of scope term))
+
+pub call_is : (f : BuiltIn) (ks : List VariableType) (r : Option VariableType) (k : VariableType) → Calls f ks r → r ≡ Some k → Integer (call_type (Some f) (last_of ks)) ≡ k
+call_is _ _ _ k rule.work_dim e = cc
+call_is _ _ _ k rule.work_item e = cc
+call_is _ _ _ k rule.min e = cc
+call_is _ _ _ k rule.max e = cc
+call_is _ _ _ k rule.rotate e = cc
+call_is _ _ _ k rule.abs e = cc
+call_is _ _ _ k rule.clz e = cc
+call_is _ _ _ k rule.popcount e = cc
+call_is _ _ _ k (rule.atomic h a w) e = absurd (cc)
+call_is _ _ _ k (rule.atomic_alone h a w) e = absurd (cc)
+
+module _ (c : Context) (scope : Scope) (m : Matches c scope) where
+  mutual
+    pub type_is : (e : Term) (k : VariableType) → Types c e k → kind_of scope e ≡ k
+    type_is _ _ rule.number = refl
+    type_is _ _ (rule.variable {x = x} {k = k} is) = (m x k is).declared
+    type_is _ _ (rule.element {x = x} {p = p} is index) = ap (λ k. Integer (base_type k)) (m x (Pointer p) is).declared
+    type_is _ _ (rule.address {x = x} {p = p} is index) = (m x (Pointer p) is).declared
+    type_is _ _ (rule.dereference {p = p} {e = e} pointer) = ap (λ k. Integer (base_type k)) (type_is e (Pointer p) pointer)
+    type_is _ _ (rule.call {x = x} {f = f} {es = es} {ks = ks} {k = k} is arguments calls) =
+        ap₂ (λ g t. Integer (call_type g t)) (built_in_is c x f is) (argument_is scope es ∙ ap last_of (types_are es ks arguments)) ∙ call_is f ks (Some k) k calls refl
+    type_is _ _ (rule.unary {op = op} {t = t} {e = e} operand) = ap (λ k. Integer (unary_kind op (base_type k))) (type_is e (Integer t) operand)
+    type_is _ _ (rule.cast operand) = refl
+    type_is _ _ (rule.binary {op = op} {d = d} {e = e} {j = j} {k = k} {r = r} left right operates) =
+        ap₂ (infix_type op) (type_is d j left) (type_is e k right) ∙ infix_is j k r operates
+    type_is _ _ (rule.choice {t = t} {u = u} {d = d} {f = f} condition chosen otherwise) =
+        ap₂ (λ j k. Integer (common (base_type j) (base_type k))) (type_is d (Integer t) chosen) (type_is f (Integer u) otherwise)
+
+    pub types_are : (es : Terms) (ks : List VariableType) → TypesAll c es ks → kinds_of scope es ≡ ks
+    types_are _ _ rule.no_argument = refl
+    types_are _ _ (rule.argument {es = es} {e = e} {ks = ks} {k = k} arguments last) = ap₂ (λ js j. js ++ j ∷ []) (types_are es ks arguments) (type_is e k last)
+
+  module _ (parameters : List VariableType) where
+    -- a variable's value
+    pub variable_suits : (level : ℕ) (kind : VariableType) (name : ℕ) (k : VariableType) → meaning c name ≡ Bound k → kind ≡ k
+        → Suit parameters (variable_code (register_at level kind) (register_of scope name) name)
+    variable_suits level kind name k is e =
+        let there = m name k is in
+        subst (λ o. Suit parameters (variable_code (register_at level kind) o name)) (sym there.register)
+        (move_suits parameters (register_at level kind) (register_at there.level k) name k (is_as level kind k e) (is_at there.level k), tt)
+
+    -- a pointer moved by an index
+    element_suits : (level name : ℕ) (p : PointerType) (index : List Instruction) (register : ℕ) (t : IntType) → meaning c name ≡ Bound (Pointer p)
+        → Suit parameters index → Is register (Integer t)
+        → Suit parameters (element_code (register_at level (kind_named scope name)) (register_of scope name) name index register)
+    element_suits level name p index register t is fits of =
+        let to = register_at level (kind_named scope name) in
+        let kind = (m name (Pointer p) is).declared in
+        let last : List Instruction = instruction.Offset to to register ∷ [] in
+        suit_both parameters (variable_code to (register_of scope name) name) (index ++ last) (variable_suits level (kind_named scope name) name (Pointer p) is kind)
+        (suit_both parameters index last fits
+        (offset_suits parameters to to register p.element t (is_as level (kind_named scope name) (Pointer p) kind) (is_as level (kind_named scope name) (Pointer p) kind) of, tt))
+
+    truth_suits : (level : ℕ) (kind : VariableType) → kind ≡ Integer Int → Suit parameters (truth_code (register_at level kind))
+    truth_suits level kind e =
+        let to = register_at level kind in
+        let is = is_as level kind (Integer Int) e in
+        (constant_suits parameters to (truth true) is, ((λ code same wide. tt), (constant_suits parameters to (truth false) is, tt)))
+
+    infix_suits : (operator : InfixOperator) (level : ℕ) (kind : VariableType) (first second : ℕ) (right : List Instruction) (j k r : VariableType) → Operates operator j k r → kind ≡ r
+        → Is first j → Is second k → Suit parameters right → Suit parameters (infix_code operator (register_at level kind) first second right)
+    infix_suits (Arithmetic operator) level kind first second right j k r operates e of by fits =
+        let to = register_at level kind in
+        suit_both parameters right (instruction.Binary to operator first second ∷ []) fits (binary_suits parameters to first second operator j k r (is_as level kind r e) of by operates, tt)
+    infix_suits _ level kind first second right _ _ _ (rule.logical_and {t = t} {u = u}) e of by fits = (
+      branch_suits parameters first (length right + 3) t of,
+      suit_both parameters right (instruction.JumpIfZero second 2 ∷ truth_code (register_at level kind)) fits (branch_suits parameters second 2 u by, truth_suits level kind e),
+    )
+    infix_suits _ level kind first second right _ _ _ (rule.logical_or {t = t} {u = u}) e of by fits = (
+      branch_suits parameters first 1 t of,
+      (
+        (λ code same wide. tt),
+        suit_both parameters right (instruction.JumpIfZero second 2 ∷ truth_code (register_at level kind)) fits (branch_suits parameters second 2 u by, truth_suits level kind e),
+      ),
+    )
+
+    branch_suit : (level : ℕ) (kind : VariableType) (branch : List Instruction) (from : ℕ) (t u : IntType) (other : VariableType) → kind ≡ Integer (common t u) → other ≡ Integer u → Is from (Integer t)
+        → Suit parameters branch → Suit parameters (branch_code (register_at level kind) branch from other)
+    branch_suit level kind branch from t u other e o of fits =
+        let to = register_at level kind in
+        suit_both parameters branch (instruction.Common to from (base_type other) ∷ []) fits
+        (subst (λ v. Suits parameters (instruction.Common to from (base_type v))) (sym o) (common_suits parameters to from t u (is_as level kind (Integer (common t u)) e) of), tt)
+
+    pub call_suits : (f : BuiltIn) (ks : List VariableType) (r : Option VariableType) (k : VariableType) → Calls f ks r → r ≡ Some k → (level to : ℕ) → Is to k
+        → Suit parameters (call_code (Some f) to (numbered level ks))
+    call_suits _ _ _ k rule.work_dim e level to is = (dimensions_suit parameters to (is ∙ cc), tt)
+    call_suits _ _ _ k (rule.work_item {f = f} {t = t}) e level to is = (query_suits parameters to (register_at level (Integer t)) f t (is ∙ cc) (is_at level (Integer t)), tt)
+    call_suits _ _ _ k (rule.min {t = t}) e level to is =
+        (two_suit parameters to (register_at level (Integer t)) (register_at (level + 1) (Integer t)) integer.Min t (is ∙ cc) (is_at level (Integer t)) (is_at (level + 1) (Integer t)) (same_integer t), tt)
+    call_suits _ _ _ k (rule.max {t = t}) e level to is =
+        (two_suit parameters to (register_at level (Integer t)) (register_at (level + 1) (Integer t)) integer.Max t (is ∙ cc) (is_at level (Integer t)) (is_at (level + 1) (Integer t)) (same_integer t), tt)
+    call_suits _ _ _ k (rule.rotate {t = t}) e level to is =
+        (two_suit parameters to (register_at level (Integer t)) (register_at (level + 1) (Integer t)) integer.Rotate t (is ∙ cc) (is_at level (Integer t)) (is_at (level + 1) (Integer t)) (same_integer t), tt)
+    call_suits _ _ _ k (rule.abs {t = t}) e level to is = (one_suits parameters to (register_at level (Integer t)) integer.Abs t (unsigned_of t) (is ∙ cc) (is_at level (Integer t)) refl, tt)
+    call_suits _ _ _ k (rule.clz {t = t}) e level to is = (one_suits parameters to (register_at level (Integer t)) integer.Clz t t (is ∙ cc) (is_at level (Integer t)) refl, tt)
+    call_suits _ _ _ k (rule.popcount {t = t}) e level to is = (one_suits parameters to (register_at level (Integer t)) integer.Popcount t t (is ∙ cc) (is_at level (Integer t)) refl, tt)
+    call_suits _ _ _ k (rule.atomic h a w) e level to is = absurd (cc)
+    call_suits _ _ _ k (rule.atomic_alone h a w) e level to is = absurd (cc)
+
+    mutual
+      pub expression_suits : (level : ℕ) (e : Term) (k : VariableType) → Types c e k → Suit parameters (expr_code scope level e)
+      expression_suits level _ _ (rule.number {v = v}) = (constant_suits parameters (register_at level (Integer v.kind)) v (is_at level (Integer v.kind)), tt)
+      expression_suits level _ _ (rule.variable {x = x} {k = k} is) = variable_suits level (kind_named scope x) x k is (m x k is).declared
+      expression_suits level _ _ (rule.element {x = x} {p = p} {u = u} {e = e} is index) =
+          let kind = kind_named scope x in
+          let same = (m x (Pointer p) is).declared in
+          suit_both parameters (element_code (register_at level kind) (register_of scope x) x (expr_code scope (level + 1) e) (register_for scope (level + 1) e))
+          (instruction.Load (register_at level (Integer (base_type kind))) (register_at level kind) ∷ [])
+          (element_suits level x p (expr_code scope (level + 1) e) (register_for scope (level + 1) e) u is (expression_suits (level + 1) e (Integer u) index) (is_as (level + 1) (kind_of scope e) (Integer u) (type_is e (Integer u) index))) (
+            load_suits parameters (register_at level (Integer (base_type kind))) (register_at level kind) p.element
+                (is_as level (Integer (base_type kind)) (Integer p.element) (ap (λ k. Integer (base_type k)) same)) (is_as level kind (Pointer p) same),
+            tt,
+          )
+      expression_suits level _ _ (rule.address {x = x} {p = p} {u = u} {e = e} is index) =
+          element_suits level x p (expr_code scope (level + 1) e) (register_for scope (level + 1) e) u is (expression_suits (level + 1) e (Integer u) index) (is_as (level + 1) (kind_of scope e) (Integer u) (type_is e (Integer u) index))
+      expression_suits level _ _ (rule.dereference {p = p} {e = e} pointer) =
+          let same = type_is e (Pointer p) pointer in
+          suit_both parameters (expr_code scope level e) (instruction.Load (register_at level (Integer (base_type (kind_of scope e)))) (register_for scope level e) ∷ []) (expression_suits level e (Pointer p) pointer) (
+            load_suits parameters (register_at level (Integer (base_type (kind_of scope e)))) (register_for scope level e) p.element
+                (is_as level (Integer (base_type (kind_of scope e))) (Integer p.element) (ap (λ k. Integer (base_type k)) same)) (is_as level (kind_of scope e) (Pointer p) same),
+            tt,
+          )
+      expression_suits level _ _ (rule.call {a = a} {x = x} {f = f} {es = es} {ks = ks} {k = k} is arguments calls) =
+          let to = register_for scope level (tree.Call a x es) in
+          suit_both parameters (terms_code scope level es) (call_code (built_in x) to (registers_for scope level es)) (terms_suit level es ks arguments)
+          (subst (λ g. Suit parameters (call_code g to (registers_for scope level es))) (sym (built_in_is c x f is))
+          (subst (λ rs. Suit parameters (call_code (Some f) to rs)) (sym (registers_are scope level es ∙ ap (numbered level) (types_are es ks arguments)))
+          (call_suits f ks (Some k) k calls refl level to (is_as level (kind_of scope (tree.Call a x es)) k (type_is (tree.Call a x es) k (rule.call is arguments calls))))))
+      expression_suits level _ _ (rule.unary {a = a} {op = op} {t = t} {e = e} operand) =
+          suit_both parameters (expr_code scope level e) (instruction.Unary (register_for scope level (tree.Unary a op e)) op (register_for scope level e) ∷ []) (expression_suits level e (Integer t) operand) (
+            unary_suits parameters (register_for scope level (tree.Unary a op e)) (register_for scope level e) op t
+                (is_as level (kind_of scope (tree.Unary a op e)) (Integer (unary_kind op t)) (type_is (tree.Unary a op e) (Integer (unary_kind op t)) (rule.unary operand)))
+                (is_as level (kind_of scope e) (Integer t) (type_is e (Integer t) operand)),
+            tt,
+          )
+      expression_suits level _ _ (rule.cast {t = t} {u = u} {e = e} operand) =
+          suit_both parameters (expr_code scope level e) (instruction.Convert (register_at level (Integer t)) (register_for scope level e) t ∷ []) (expression_suits level e (Integer u) operand)
+          (convert_suits parameters (register_at level (Integer t)) (register_for scope level e) t u (is_at level (Integer t)) (is_as level (kind_of scope e) (Integer u) (type_is e (Integer u) operand)), tt)
+      expression_suits level _ _ (rule.binary {a = a} {op = op} {d = d} {e = e} {j = j} {k = k} {r = r} left right operates) =
+          suit_both parameters (expr_code scope level d)
+          (infix_code op (register_for scope level (tree.Binary a op d e)) (register_for scope level d) (register_for scope (level + 1) e) (expr_code scope (level + 1) e))
+          (expression_suits level d j left)
+          (infix_suits op level (kind_of scope (tree.Binary a op d e)) (register_for scope level d) (register_for scope (level + 1) e) (expr_code scope (level + 1) e) j k r operates
+          (type_is (tree.Binary a op d e) r (rule.binary left right operates))
+          (is_as level (kind_of scope d) j (type_is d j left)) (is_as (level + 1) (kind_of scope e) k (type_is e k right)) (expression_suits (level + 1) e k right))
+      expression_suits level _ _ (rule.choice {a = a} {s = s} {t = t} {u = u} {e = e} {d = d} {f = f} condition chosen otherwise) =
+          let kind = kind_of scope (tree.Choice a e d f) in
+          let same = type_is (tree.Choice a e d f) (Integer (common t u)) (rule.choice condition chosen otherwise) in
+          let first = branch_code (register_at level kind) (expr_code scope level d) (register_for scope level d) (kind_of scope f) in
+          let second = branch_code (register_at level kind) (expr_code scope level f) (register_for scope level f) (kind_of scope d) in
+          let chosen_is = type_is d (Integer t) chosen in
+          let otherwise_is = type_is f (Integer u) otherwise in
+          suit_both parameters (expr_code scope level e) (instruction.JumpIfZero (register_for scope level e) (length first + 1) ∷ (first ++ instruction.Jump (length second) ∷ second))
+          (expression_suits level e (Integer s) condition) (
+            branch_suits parameters (register_for scope level e) (length first + 1) s (is_as level (kind_of scope e) (Integer s) (type_is e (Integer s) condition)),
+            suit_both parameters first (instruction.Jump (length second) ∷ second)
+                (branch_suit level kind (expr_code scope level d) (register_for scope level d) t u (kind_of scope f) same otherwise_is (is_as level (kind_of scope d) (Integer t) chosen_is) (expression_suits level d (Integer t) chosen)) (
+                  (λ code same wide. tt),
+                  branch_suit level kind (expr_code scope level f) (register_for scope level f) u t (kind_of scope d) (same ∙ ap Integer (common_either t u)) chosen_is (is_as level (kind_of scope f) (Integer u) otherwise_is) (expression_suits level f (Integer u) otherwise),
+                ),
+          )
+
+      pub terms_suit : (level : ℕ) (es : Terms) (ks : List VariableType) → TypesAll c es ks → Suit parameters (terms_code scope level es)
+      terms_suit level _ _ rule.no_argument = tt
+      terms_suit level _ _ (rule.argument {es = es} {e = e} {ks = ks} {k = k} arguments last) =
+          suit_both parameters (terms_code scope level es) (expr_code scope (level + count es) e) (terms_suit level es ks arguments) (expression_suits (level + count es) e k last)
+
+    pub place_suits : (level : ℕ) (place : Place) (k : VariableType) → TypesPlace c place k → Suit parameters (place_code scope level place)
+    place_suits level _ _ (rule.whole is) = tt
+    place_suits level _ _ (rule.part {x = x} {p = p} {u = u} {e = e} is writable index) =
+        element_suits level x p (expr_code scope (level + 1) e) (register_for scope (level + 1) e) u is (expression_suits (level + 1) e (Integer u) index) (is_as (level + 1) (kind_of scope e) (Integer u) (type_is e (Integer u) index))
+    place_suits level _ _ (rule.behind {p = p} {e = e} writable pointer) =
+        let is = is_as level (kind_of scope e) (Pointer p) (type_is e (Pointer p) pointer) in
+        suit_both parameters (expr_code scope level e) (instruction.Point (register_for scope level e) (register_for scope level e) ∷ []) (expression_suits level e (Pointer p) pointer)
+        (point_suits parameters (register_for scope level e) (register_for scope level e) (Pointer p) is is refl, tt)
+
+pub expressions_suit : ExpressionsSuit
+expressions_suit parameters c scope level e kind m types = expression_suits c scope m parameters level e kind types
+
+pub places_suit : PlacesSuit
+places_suit parameters c scope level place kind m types = place_suits c scope m parameters level place kind types

@@ -1,0 +1,84 @@
+-- The tables that are made from code have what its instructions name.
+use Rattle.std.proofs.Common.{◌≡◌, ℕ, zero, suc, ◌+◌, ◌<◌, ◌≤◌, inl, inr, None, Some, List, [], ◌∷◌, ◌++◌, length, slice_get, refl, ap, sym, subst, ◌∙◌, arith}
+use Rattle.std.proofs.lemmas.List.{length-append}
+use Rattle.std.proofs.Math.Nat.{le-max_left, le-max_right, eq-or-lt_of_le}
+use Rattle.clmodel.specs.declared.tree.VariableType.{VariableType}
+use Rattle.regcode.specs.Listing.{Listing}
+use Rattle.regcode.specs.Rules.{kind_at}
+use Rattle.regcode.specs.declared.instruction.Instruction.{Instruction}
+use Rattle.lower.specs.Tables.{register_kind, register_kinds, registers_of, room, register_count, names_of, name_count, depth_after, loops_from, tabled}
+use Rattle.lower.specs.Accepted.{Has, Suits, Suit, SuitFits}
+
+kinds_counted : (n : ℕ) → length (register_kinds n) ≡ n
+kinds_counted zero = refl
+kinds_counted (suc n) =
+    let all = length-append (register_kinds n) (register_kind n ∷ []) in
+    let before = kinds_counted n in
+    omega (arith, all, before)
+
+get_left : {X : Type 0} (xs ys : List X) (i : ℕ) → i < length xs → slice_get (xs ++ ys) i ≡ slice_get xs i
+get_left [] ys i h = absurd (omega (arith, h))
+get_left (x ∷ xs) ys zero h = refl
+get_left (x ∷ xs) ys (suc i) h = get_left xs ys i (omega (arith, h))
+
+get_last : {X : Type 0} (xs : List X) (y : X) (i : ℕ) → i ≡ length xs → slice_get (xs ++ y ∷ []) i ≡ Some y
+get_last [] y zero h = refl
+get_last [] y (suc i) h = absurd (omega (arith, h))
+get_last (x ∷ xs) y zero h = absurd (omega (arith, h))
+get_last (x ∷ xs) y (suc i) h = get_last xs y i (omega (arith, h))
+
+kinds_have : (n r : ℕ) → r < n → slice_get (register_kinds n) r ≡ Some (register_kind r)
+kinds_have zero r h = absurd (omega (arith, h))
+kinds_have (suc n) r h =
+    let c = kinds_counted n in
+    elim (eq-or-lt_of_le {n = r} {m = n} (omega (arith, h))) [
+      | inl same ↦ get_last (register_kinds n) (register_kind n) r (omega (arith, c, same)) ∙ ap (λ k. Some (register_kind k)) (sym same)
+      | inr below ↦ get_left (register_kinds n) (register_kind n ∷ []) r (omega (arith, c, below)) ∙ kinds_have n r below
+    ]
+
+tables_have : (code : Listing) (n : ℕ) → ((r : ℕ) → r < n → kind_at code r ≡ Some (register_kind r)) → (rs : List ℕ) → room rs ≤ n → Has code rs
+tables_have code n have [] h = tt
+tables_have code n have (r ∷ rs) h =
+    let a = le-max_left (r + 1) (room rs) in
+    let b = le-max_right (r + 1) (room rs) in
+    (have r (omega (arith, h, a)), tables_have code n have rs (omega (arith, h, b)))
+
+room_there : (code : List Instruction) (place : ℕ) (i : Instruction) → slice_get code place ≡ Some i → room (registers_of i) ≤ register_count code
+room_there [] place i is = absurd (cc)
+room_there (first ∷ code) zero i is =
+    let a = le-max_left (room (registers_of first)) (register_count code) in
+    let e : room (registers_of first) ≡ room (registers_of i) = ap (λ o. elim o as (λ _. ℕ) [ None ↦ 0 | Some j ↦ room (registers_of j) ]) is in
+    omega (arith, a, e)
+room_there (first ∷ code) (suc place) i is =
+    let a = le-max_right (room (registers_of first)) (register_count code) in
+    let b = room_there code place i is in
+    omega (arith, a, b)
+
+names_there : (code : List Instruction) (place : ℕ) (i : Instruction) → slice_get code place ≡ Some i → names_of i ≤ name_count code
+names_there [] place i is = absurd (cc)
+names_there (first ∷ code) zero i is =
+    let a = le-max_left (names_of first) (name_count code) in
+    let e : names_of first ≡ names_of i = ap (λ o. elim o as (λ _. ℕ) [ None ↦ 0 | Some j ↦ names_of j ]) is in
+    omega (arith, a, e)
+names_there (first ∷ code) (suc place) i is =
+    let a = le-max_right (names_of first) (name_count code) in
+    let b = names_there code place i is in
+    omega (arith, a, b)
+
+suit_there : (parameters : List VariableType) (code : List Instruction) (place : ℕ) (i : Instruction) → Suit parameters code → slice_get code place ≡ Some i → Suits parameters i
+suit_there parameters [] place i h is = absurd (cc)
+suit_there parameters (first ∷ code) zero i h is =
+    subst (λ o. elim o as (λ _. Type 0) [ None ↦ Unit {0} | Some j ↦ Suits parameters j ]) is h.0
+suit_there parameters (first ∷ code) (suc place) i h is = suit_there parameters code place i h.1 is
+
+pub suit_fits : SuitFits
+suit_fits parameters code suit place i is =
+    suit_there parameters code place i suit is (tabled code parameters) refl
+    (record {
+      registers = tables_have (tabled code parameters) (register_count code) (λ r below. kinds_have (register_count code) r below) (registers_of i) (room_there code place i is);
+      names = names_there code place i is;
+    })
+
+pub loops_counted : (depth : ℕ) (code : List Instruction) → length (loops_from depth code) ≡ length code
+loops_counted depth [] = refl
+loops_counted depth (i ∷ code) = let rest = loops_counted (depth_after depth i) code in omega (arith, rest)

@@ -1,0 +1,4 @@
+pub mod Code
+pub mod Correct
+pub mod Tables
+pub mod Accepted

@@ -1,0 +1,9 @@
+//! Laws of the code of kernels. Each is the contract of a function that does nothing.
+#![tactic(auto)]
+
+ghost use Rattle.lower.specs.Correct.{ActsAsTheTree};
+
+/// For each program, kernel, launch, item and list of answers, a kernel's code acts as its tree.
+pub fn acts_as_the_tree()
+    ensures { ActsAsTheTree }
+{}

@@ -1,0 +1,23 @@
+//! Laws of the tables of code. Each is the contract of a function that does nothing.
+#![tactic(auto)]
+
+ghost use Rattle.lower.specs.Accepted.{ExpressionsSuit, PlacesSuit, ExpressionsFlat, ExpressionsSound, StatementsSound, KernelsGo, KernelsVerified, SuitFits, TypedKernelsVerified};
+
+/// A kernel's code is verified with the tables that are made from it, if its loops are nested no deeper than the limit, no two
+/// functions before it have one name, and its instructions suit the types of its parameters. Those of typed expressions, and of
+/// what is assigned to, do. The jumps and loops of expressions, statements and kernels are sound whether they are typed or not.
+pub fn code_is_verified()
+    ensures expressions { ExpressionsSuit }
+    ensures places { PlacesSuit }
+    ensures jumps { ExpressionsFlat }
+    ensures ways { ExpressionsSound }
+    ensures statements { StatementsSound }
+    ensures kernels { KernelsGo }
+    ensures fits { SuitFits }
+    ensures verified { KernelsVerified }
+{}
+
+/// The code of each kernel of a typed program is verified with the tables that are made from it.
+pub fn typed_kernels_are_verified()
+    ensures { TypedKernelsVerified }
+{}

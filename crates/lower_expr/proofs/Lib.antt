@@ -1,0 +1,5 @@
+pub mod Places
+pub mod Patches
+pub mod Index
+pub mod Arguments
+pub mod Expressions

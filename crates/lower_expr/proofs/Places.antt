@@ -1,0 +1,178 @@
+-- Where the variables and the values are, and where the instructions stand.
+use Rattle.std.proofs.Common.{◌≡◌, ◌≢◌, ℕ, ◌+◌, ◌*◌, ◌<◌, ◌≤◌, ◌==◌, Bool, true, false, Option, None, Some, List, [], ◌∷◌, ◌++◌, length, refl, ap, ap₂, sym, subst, ◌∙◌, arith}
+use Rattle.clnum.specs.Conversions.{common}
+use Rattle.clnum.specs.Operations.{unary_kind}
+use Rattle.clnum.specs.declared.int_type.IntType.{IntType}
+use Rattle.clnum.specs.declared.int_type.IntType.TheVariants.{Char, Uchar, Short, Ushort, Int, Uint, Long, Ulong}
+use Rattle.clmodel.specs.BuiltIns.{built_in}
+use Rattle.clmodel.specs.Next.{Variables, look, declared_type, type_of, argument_type, base_type, call_type, infix_type}
+use Rattle.clmodel.specs.Tree as tree
+use Rattle.clmodel.specs.Tree.{Term, Terms, NoTerm, ThenTerm}
+use Rattle.clmodel.specs.declared.operand.Operand.{Operand}
+use Rattle.clmodel.specs.declared.tree.VariableType.{VariableType}
+use Rattle.clmodel.specs.declared.tree.VariableType.TheVariants.{Integer, Pointer}
+use Rattle.regcode.specs.Machine.{State, Registers, reg, with_put, passed, onward}
+use Rattle.regcode.specs.declared.instruction.Instruction.{Instruction}
+use Rattle.regcode.proofs.Registers.{reg_kept}
+use Rattle.lower_expr.specs.Scope.{Scope, integer_number, kind_number, register_at, register_in, view, seen, free_level}
+use Rattle.lower_expr.specs.Expressions.{registers_for, register_for, count}
+use Rattle.lower_expr.specs.Agreement.{HasAt, Reached, Hold}
+
+integer_below : (kind : IntType) → integer_number kind < 8
+integer_below Char = omega arith
+integer_below Uchar = omega arith
+integer_below Short = omega arith
+integer_below Ushort = omega arith
+integer_below Int = omega arith
+integer_below Uint = omega arith
+integer_below Long = omega arith
+integer_below Ulong = omega arith
+
+kind_below : (kind : VariableType) → kind_number kind < 16
+kind_below (Integer kind) = let h = integer_below kind in omega (arith, h)
+kind_below (Pointer pointer) = let h = integer_below pointer.element in omega (arith, h)
+
+-- a level's registers are below those of higher levels
+pub register_below : (level : ℕ) (kind : VariableType) (above : ℕ) → level < above → register_at level kind < 16 * above
+register_below level kind above h = let k = kind_below kind in omega (arith, h, k)
+
+-- and not below those of its own
+register_not_below : (level : ℕ) (kind : VariableType) (i : ℕ) → i < 16 * level → register_at level kind ≢ i
+register_not_below level kind i h e = omega (arith, h, e)
+
+-- the instructions of a list stand where its first and its last part do
+pub has_left : (code xs ys : List Instruction) (place : ℕ) → HasAt code place (xs ++ ys) → HasAt code place xs
+has_left code [] ys place h = tt
+has_left code (x ∷ xs) ys place h = (h.0, has_left code xs ys (place + 1) h.1)
+
+pub has_right : (code xs ys : List Instruction) (place later : ℕ) → place + length xs ≡ later → HasAt code place (xs ++ ys) → HasAt code later ys
+has_right code [] ys place later e h = let p : place ≡ later = omega (arith, e) in subst (λ n. HasAt code n ys) p h
+has_right code (x ∷ xs) ys place later e h = has_right code xs ys (place + 1) later (omega (arith, e)) h.1
+
+pub has_moved : (code xs : List Instruction) (place later : ℕ) → place ≡ later → HasAt code place xs → HasAt code later xs
+has_moved code xs place later e h = subst (λ n. HasAt code n xs) e h
+
+-- no step, a step, two ways one after the other
+pub reached_here : (level : ℕ) (s : State) (place : ℕ) → s.place ≡ place → Reached level s place s
+reached_here level s place e = record { at = e; kept = λ i h. refl; turns = refl }
+
+pub reached_put : (level : ℕ) (kind : VariableType) (s : State) (v : Option Operand) (place : ℕ) → s.place + 1 ≡ place → Reached level s place (with_put s (register_at level kind) v)
+reached_put level kind s v place e =
+    record { at = e; kept = λ i h. reg_kept s.registers (register_at level kind) v i (register_not_below level kind i h); turns = refl }
+
+pub reached_then : (level higher : ℕ) (s : State) (place : ℕ) (now : State) (later : ℕ) (last : State) → level ≤ higher
+    → Reached level s place now → Reached higher now later last → Reached level s later last
+reached_then level higher s place now later last h r q =
+    record { at = q.at; kept = λ i b. q.kept i (omega (arith, h, b)) ∙ r.kept i b; turns = q.turns ∙ r.turns }
+
+pub reached_to : (level : ℕ) (s : State) (place : ℕ) (now : State) (later : ℕ) → place ≡ later → Reached level s place now → Reached level s later now
+reached_to level s place now later e r = record { at = r.at ∙ e; kept = r.kept; turns = r.turns }
+
+pub reached_passed : (level : ℕ) (s : State) (place : ℕ) (now : State) → Reached level s place now → Reached level s (place + 1) (passed now)
+reached_passed level s place now r = record { at = ap (λ n. n + 1) r.at; kept = r.kept; turns = r.turns }
+
+pub reached_onward : (level : ℕ) (s : State) (place : ℕ) (now : State) (by : ℕ) → Reached level s place now → Reached level s (place + 1 + by) (onward now by)
+reached_onward level s place now by r = record { at = ap (λ n. n + 1 + by) r.at; kept = r.kept; turns = r.turns }
+
+-- a register of a level keeps its value on the way to a state that keeps the registers below a higher one
+pub register_kept : (level : ℕ) (kind : VariableType) (higher : ℕ) (s : State) (place : ℕ) (now : State) (v : Option Operand) → level < higher
+    → Reached higher s place now → reg s.registers (register_at level kind) ≡ v → reg now.registers (register_at level kind) ≡ v
+register_kept level kind higher s place now v h r e = r.kept (register_at level kind) (register_below level kind higher h) ∙ e
+
+-- what the variables in scope hold, while their registers keep it
+view_kept : (base : ℕ) (variables : Variables) (before after : Registers) → ((i : ℕ) → i < 16 * (base + length variables) → reg after i ≡ reg before i)
+    → view base variables after ≡ view base variables before
+view_kept base [] before after h = refl
+view_kept base (variable ∷ variables) before after h =
+    ap₂ (λ (c : Option Operand) (vs : Variables). record variable { content = c } ∷ vs)
+    (h (register_at (base + length variables) variable.kind) (register_below (base + length variables) variable.kind (base + length (variable ∷ variables)) (omega arith)))
+    (view_kept base variables before after (λ i b. h i (omega (arith, b))))
+
+pub seen_kept : (scope : Scope) (level : ℕ) (s : State) (place : ℕ) (now : State) (variables : Variables) → free_level scope ≤ level → Reached level s place now
+    → seen scope s.registers ≡ variables → seen scope now.registers ≡ variables
+seen_kept scope level s place now variables h r e =
+    view_kept scope.base scope.variables s.registers now.registers (λ i b. r.kept i (omega (arith, h, b))) ∙ e
+
+-- what a register has, if there is one
+abbrev pub found : Registers → Option ℕ → Option Operand
+found registers None = None
+found registers (Some i) = reg registers i
+
+look_in : (base : ℕ) (variables : Variables) (registers : Registers) (name : ℕ) → look (view base variables registers) name ≡ found registers (register_in base variables name)
+look_in base [] registers name = refl
+look_in base (variable ∷ variables) registers name =
+    look_case registers (look (view base variables registers) name) (register_at (base + length variables) variable.kind) (register_in base variables name) (name == variable.name) (look_in base variables registers name)
+  where
+    look_case : (registers : Registers) (p : Option Operand) (i : ℕ) (j : Option ℕ) (b : Bool) → p ≡ found registers j
+        → elim b as (λ _. Option Operand) [ true ↦ reg registers i | false ↦ p ] ≡ found registers (elim b as (λ _. Option ℕ) [ true ↦ Some i | false ↦ j ])
+    look_case registers p i j true h = refl
+    look_case registers p i j false h = h
+
+pub look_seen : (scope : Scope) (registers : Registers) (name : ℕ) (variables : Variables) → seen scope registers ≡ variables
+    → found registers (register_in scope.base scope.variables name) ≡ look variables name
+look_seen scope registers name variables e = sym (look_in scope.base scope.variables registers name) ∙ ap (λ vs. look vs name) e
+
+-- types go by what is declared, whatever the variables hold
+declared_seen : (base : ℕ) (variables : Variables) (registers : Registers) (name : ℕ) → declared_type (view base variables registers) name ≡ declared_type variables name
+declared_seen base [] registers name = refl
+declared_seen base (variable ∷ variables) registers name = declared_case variable.kind (name == variable.name) (declared_seen base variables registers name)
+  where
+    declared_case : (k : VariableType) {p q : VariableType} (b : Bool) → p ≡ q
+        → elim b as (λ _. VariableType) [ true ↦ k | false ↦ p ] ≡ elim b as (λ _. VariableType) [ true ↦ k | false ↦ q ]
+    declared_case k true h = refl
+    declared_case k false h = h
+
+mutual
+  type_in : (base : ℕ) (variables : Variables) (registers : Registers) (e : Term) → type_of (view base variables registers) e ≡ type_of variables e
+  type_in base vs registers (tree.Number at value) = refl
+  type_in base vs registers (tree.Variable at name) = declared_seen base vs registers name
+  type_in base vs registers (tree.Element at name index) = ap (λ k. Integer (base_type k)) (declared_seen base vs registers name)
+  type_in base vs registers (tree.ElementAddress at name_at name index) = declared_seen base vs registers name
+  type_in base vs registers (tree.Dereference at pointer) = ap (λ k. Integer (base_type k)) (type_in base vs registers pointer)
+  type_in base vs registers (tree.Call at name arguments) = ap (λ k. Integer (call_type (built_in name) k)) (arguments_in base vs registers arguments)
+  type_in base vs registers (tree.Unary at operator operand) = ap (λ k. Integer (unary_kind operator (base_type k))) (type_in base vs registers operand)
+  type_in base vs registers (tree.Cast at kind operand) = refl
+  type_in base vs registers (tree.Binary at operator left right) = ap₂ (infix_type operator) (type_in base vs registers left) (type_in base vs registers right)
+  type_in base vs registers (tree.Choice at condition chosen otherwise) =
+      ap₂ (λ a b. Integer (common (base_type a) (base_type b))) (type_in base vs registers chosen) (type_in base vs registers otherwise)
+
+  arguments_in : (base : ℕ) (variables : Variables) (registers : Registers) (es : Terms) → argument_type (view base variables registers) es ≡ argument_type variables es
+  arguments_in base vs registers NoTerm = refl
+  arguments_in base vs registers (ThenTerm es e) = ap base_type (type_in base vs registers e)
+
+pub type_seen : (scope : Scope) (registers : Registers) (variables : Variables) (e : Term) → seen scope registers ≡ variables → type_of scope.variables e ≡ type_of variables e
+type_seen scope registers variables e h = sym (type_in scope.base scope.variables registers e) ∙ ap (λ vs. type_of vs e) h
+
+-- registers that hold values, and one more
+pub hold_then : (registers : Registers) (numbers : List ℕ) (values : List Operand) (i : ℕ) (v : Operand) → Hold registers numbers values → reg registers i ≡ Some v
+    → Hold registers (numbers ++ i ∷ []) (values ++ v ∷ [])
+hold_then registers [] [] i v h e = (e, tt)
+hold_then registers [] (w ∷ values) i v h e = absurd h
+hold_then registers (j ∷ numbers) [] i v h e = absurd h
+hold_then registers (j ∷ numbers) (w ∷ values) i v h e = (h.0, hold_then registers numbers values i v h.1 e)
+
+abbrev Below : ℕ → List ℕ → Type 0
+Below n [] = Unit {0}
+Below n (i ∷ numbers) = (i < n) × Below n numbers
+
+below_then : (n m : ℕ) (numbers : List ℕ) (i : ℕ) → n ≤ m → Below n numbers → i < m → Below m (numbers ++ i ∷ [])
+below_then n m [] i h b e = (e, tt)
+below_then n m (j ∷ numbers) i h b e = let k = b.0 in (omega (arith, h, k), below_then n m numbers i h b.1 e)
+
+registers_below : (scope : Scope) (level : ℕ) (es : Terms) → Below (16 * (level + count es)) (registers_for scope level es)
+registers_below scope level NoTerm = tt
+registers_below scope level (ThenTerm es e) =
+    below_then (16 * (level + count es)) (16 * (level + count (ThenTerm es e))) (registers_for scope level es) (register_for scope (level + count es) e)
+    (omega arith) (registers_below scope level es) (register_below (level + count es) (type_of scope.variables e) (level + count (ThenTerm es e)) (omega arith))
+
+hold_kept : (before after : Registers) (n : ℕ) (numbers : List ℕ) (values : List Operand) → Below n numbers → ((i : ℕ) → i < n → reg after i ≡ reg before i)
+    → Hold before numbers values → Hold after numbers values
+hold_kept before after n [] [] b k h = tt
+hold_kept before after n [] (v ∷ values) b k h = absurd h
+hold_kept before after n (i ∷ numbers) [] b k h = absurd h
+hold_kept before after n (i ∷ numbers) (v ∷ values) b k h = (k i b.0 ∙ h.0, hold_kept before after n numbers values b.1 k h.1)
+
+pub arguments_kept : (scope : Scope) (level : ℕ) (es : Terms) (values : List Operand) (s : State) (place : ℕ) (now : State) → Reached (level + count es) s place now
+    → Hold s.registers (registers_for scope level es) values → Hold now.registers (registers_for scope level es) values
+arguments_kept scope level es values s place now r h =
+    hold_kept s.registers now.registers (16 * (level + count es)) (registers_for scope level es) values (registers_below scope level es) r.kept h

@@ -1,0 +1,85 @@
+use Rattle.std.proofs.Common.{◌≡◌, ℕ, ◌+◌, ◌++◌, ◌∷◌, [], List, take, sym, ap, ap₂, ◌∙◌, arith, Option}
+use Rattle.std.proofs.lemmas.List.{append_assoc}
+use Rattle.clmodel.specs.BuiltIns.{built_in}
+use Rattle.clmodel.specs.Next.{argument_type, call_type, base_type}
+use Rattle.clmodel.specs.Tree.{Term, Terms, term, terms}
+use Rattle.clmodel.specs.declared.setup.BuiltIn.{BuiltIn}
+use Rattle.clnum.specs.declared.int_type.IntType.{IntType}
+use Rattle.clmodel.specs.declared.tree.Expression.{Expression}
+use Rattle.clmodel.specs.declared.tree.VariableType.{VariableType}
+use Rattle.clmodel.specs.declared.tree.VariableType.TheVariants.{Integer}
+use Rattle.regcode.specs.declared.instruction.Instruction.{Instruction}
+use Rattle.lower_expr.specs.Scope.{register_at}
+use Rattle.lower_expr.specs.Expressions.{kind_of, expr_code, terms_code, registers_for, call_code, count}
+use Rattle.lower_expr.proofs.Arguments.{calls, terms_more, terms_count, binary_laid, call_laid}
+use Rattle.lower_expr.proofs.emission.+emission.Goals as goal
+
+pub emit_arguments-loop-i-preserved : goal.emit_arguments-loop-i-preserved
+emit_arguments-loop-i-preserved t c =
+    let es = c.args.arguments.now in
+    let scope = c.args.scope.now in
+    let level = c.args.level in
+    let i = c.loop-i.i in
+    let e = c.index-arguments-i.result in
+    let before = terms (take i es) in
+    let more = sym (terms_more es i e c.loop-i-test.true c.index-arguments-i.is) in
+    let above : c.in_ok-above.above ≡ level + count before = omega (arith, c.in_ok-above.ensures, terms_count es i (omega (arith, c.loop-i-test.true))) in
+    let kind = c.in_ok-found.ensures.kind in (
+      c.in_ok-found.ensures.code
+          ∙ ap₂ (λ (code : List Instruction) (n : ℕ). code ++ expr_code scope n (term e)) c.loop-i.invariant.0 above
+          ∙ append_assoc c.args.code.now.items (terms_code scope level before) (expr_code scope (level + count before) (term e))
+          ∙ ap (λ (ts : Terms). c.args.code.now.items ++ terms_code scope level ts) more,
+      c.in_ok-push.ensures.ok
+          ∙ ap₂ (λ (rs : List ℕ) (r : ℕ). rs ++ r ∷ []) c.loop-i.invariant.1 (c.in_ok-register_at.ensures ∙ ap₂ (λ (n : ℕ) (k : VariableType). register_at n k) above kind)
+          ∙ ap (λ (ts : Terms). registers_for scope level ts) more,
+      c.base_type-kind.ensures ∙ ap base_type kind ∙ ap (λ (ts : Terms). argument_type scope.variables ts) more,
+    )
+
+pub emit_expression-returns-in_ok-kind-in-Call-clause-code : goal.emit_expression-returns-in_ok-kind-in-Call-clause-code
+emit_expression-returns-in_ok-kind-in-Call-clause-code t c =
+    let old = c.args.code.now.items in
+    let scope = c.args.scope.now in
+    let level = c.args.level in
+    let called = c.in-Call in
+    let es = terms called.arguments.items in
+    let found = c.in_ok-arguments-in-Call in
+    let whole = ap term called.is ∙ calls called.at called.name called.arguments in
+    let kind = found.ensures.kind ∙ ap (λ (xs : List Expression). argument_type scope.variables (terms xs)) c.deref-in-Call.ensures.value in
+    call_laid scope level called.at called.name es old c.emit_arguments.new.code.items c.call.new.code.items (Integer (call_type (built_in called.name) found.arguments.kind)) found.arguments.registers.items
+    (found.ensures.code ∙ ap (λ (xs : List Expression). old ++ terms_code scope level (terms xs)) c.deref-in-Call.ensures.value)
+    (found.ensures.registers ∙ ap (λ (xs : List Expression). registers_for scope level (terms xs)) c.deref-in-Call.ensures.value)
+    (ap (λ (k : IntType). Integer (call_type (built_in called.name) k)) kind)
+    (c.in_ok-kind-in-Call.ensures.code
+    ∙ ap (λ (f : Option BuiltIn). c.emit_arguments.new.code.items ++ call_code f (register_at level (Integer (call_type f found.arguments.kind))) found.arguments.registers.items) c.built_in_named.ensures)
+    ∙ sym (ap (λ (x : Term). old ++ expr_code scope level x) whole)
+
+pub emit_expression-returns-in_ok-kind-in-Call-clause-kind : goal.emit_expression-returns-in_ok-kind-in-Call-clause-kind
+emit_expression-returns-in_ok-kind-in-Call-clause-kind t c =
+    let scope = c.args.scope.now in
+    let called = c.in-Call in
+    let found = c.in_ok-arguments-in-Call in
+    let whole = ap term called.is ∙ calls called.at called.name called.arguments in
+    let kind = found.ensures.kind ∙ ap (λ (xs : List Expression). argument_type scope.variables (terms xs)) c.deref-in-Call.ensures.value in
+    c.in_ok-kind-in-Call.ensures.kind ∙ ap₂ (λ (f : Option BuiltIn) (k : IntType). Integer (call_type f k)) c.built_in_named.ensures kind ∙ sym (ap (λ (x : Term). kind_of scope x) whole)
+
+pub emit_expression-returns-in_ok-kind-in-Binary-clause-code : goal.emit_expression-returns-in_ok-kind-in-Binary-clause-code
+emit_expression-returns-in_ok-kind-in-Binary-clause-code t c =
+    let old = c.args.code.now.items in
+    let scope = c.args.scope.now in
+    let level = c.args.level in
+    let node = c.in-Binary in
+    let left = node.left.value in
+    let right = node.right.value in
+    let one = c.emit_expression-in-Binary.new.code.items in
+    let two = c.begin_infix.new.code.items in
+    let first = c.in_ok-first-in-Binary in
+    let second = c.in_ok-second-in-Binary in
+    let above = c.in_ok-level_above-in-Binary in
+    binary_laid scope level node.at node.operator (term left) (term right) old one two c.emit_expression-in-Binary-2.new.code.items c.end_infix.new.code.items first.first second.second above.field-0 c.in_ok-place-in-Binary.place
+    (first.ensures.code ∙ ap (λ (x : Expression). old ++ expr_code scope level (term x)) c.deref-in-Binary.ensures)
+    (first.ensures.kind ∙ ap (λ (x : Expression). kind_of scope (term x)) c.deref-in-Binary.ensures)
+    c.in_ok-place-in-Binary.ensures.code c.in_ok-place-in-Binary.ensures.place above.ensures
+    (second.ensures.code ∙ ap (λ (x : Expression). two ++ expr_code scope above.field-0 (term x)) c.deref-in-Binary-2.ensures)
+    (second.ensures.kind ∙ ap (λ (x : Expression). kind_of scope (term x)) c.deref-in-Binary-2.ensures)
+    c.in_ok-kind-in-Binary.ensures.code
+    ∙ sym (ap (λ (x : Expression). old ++ expr_code scope level (term x)) node.is)

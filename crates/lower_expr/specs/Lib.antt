@@ -1,0 +1,4 @@
+pub mod Scope
+pub mod Expressions
+pub mod Agreement
+pub mod Index

@@ -1,0 +1,153 @@
+//! The emission of the code of expressions.
+#![tactic(auto)]
+
+ghost use Rattle.std.specs.Prelude.{◌≡◌, ◌++◌, IfOk};
+ghost use Rattle.clmodel.specs.Next.{argument_type};
+ghost use Rattle.clmodel.specs.Tree.{term, terms, place};
+ghost use Rattle.lower_expr.specs.Expressions.{kind_of, expr_code, terms_code, registers_for, place_code, place_kind};
+
+use crate::jumps::{begin_choice, begin_infix, between_branches, end_choice, end_infix};
+use crate::scope::{Scope, level_above, level_at, register_at};
+use crate::tails::{Arguments, call, cast, load, number, offset, point, unary, variable};
+use crate::types::base_type;
+use clmodel::setup::built_in_named;
+use clmodel::tree::{Expression, Target, VariableType};
+use clnum::IntType;
+use regcode::Instruction;
+use smallvec::SmallVec;
+use std::alloc::AllocError;
+
+/// Adds the code of an expression, which leaves its value in the register of its type at a level, and gives its type (OpenCL 1.2,
+/// section 6.3). The level is at least the first that is free. Err where memory is wanting, or there are too few registers.
+#[cycle(emission)]
+pub fn emit_expression(
+    scope: &Scope,
+    level: u32,
+    expression: &Expression,
+    code: &mut Vec<Instruction>,
+) -> Result<VariableType, AllocError>
+    ensures code { IfOk result (λ kind. code.new.items ≡ code.old.items ++ expr_code scope.now level (term expression.now)) }
+    ensures kind { IfOk result (λ kind. kind ≡ kind_of scope.now (term expression.now)) }
+{
+    match expression {
+        Expression::Number { value, .. } => number(level, *value, code),
+        Expression::Variable { name, .. } => variable(scope, level, *name, code),
+        Expression::Element { name, index, .. } => {
+            let pointer = variable(scope, level, *name, code)?;
+            let index = emit_expression(scope, level_above(level)?, index, code)?;
+            offset(level, pointer, index, code)?;
+            load(level, pointer, code)
+        }
+        Expression::ElementAddress { name, index, .. } => {
+            let pointer = variable(scope, level, *name, code)?;
+            let index = emit_expression(scope, level_above(level)?, index, code)?;
+            offset(level, pointer, index, code)?;
+            Ok(pointer)
+        }
+        Expression::Dereference { pointer, .. } => {
+            let pointer = emit_expression(scope, level, pointer, code)?;
+            load(level, pointer, code)
+        }
+        Expression::Call {
+            name,
+            arguments,
+            ..
+        } => {
+            let arguments = emit_arguments(scope, level, arguments, code)?;
+            let kind = call(level, built_in_named(*name), &arguments, code)?;
+            Ok(kind)
+        }
+        Expression::Unary {
+            operator,
+            operand,
+            ..
+        } => {
+            let operand = emit_expression(scope, level, operand, code)?;
+            unary(level, *operator, operand, code)
+        }
+        Expression::Cast {
+            target,
+            operand,
+            ..
+        } => {
+            let operand = emit_expression(scope, level, operand, code)?;
+            cast(level, *target, operand, code)
+        }
+        Expression::Binary {
+            operator,
+            left,
+            right,
+            ..
+        } => {
+            let first = emit_expression(scope, level, left, code)?;
+            let place = begin_infix(level, *operator, first, code)?;
+            let second = emit_expression(scope, level_above(level)?, right, code)?;
+            let kind = end_infix(level, *operator, first, second, place, code)?;
+            Ok(kind)
+        }
+        Expression::Choice {
+            condition,
+            chosen,
+            otherwise,
+            ..
+        } => {
+            let condition = emit_expression(scope, level, condition, code)?;
+            let first = begin_choice(level, condition, code)?;
+            let chosen = emit_expression(scope, level, chosen, code)?;
+            let second = between_branches(code)?;
+            let otherwise = emit_expression(scope, level, otherwise, code)?;
+            end_choice(level, condition, chosen, otherwise, first, second, code)
+        }
+    }
+}
+
+/// Adds the code of arguments, from left to right, and gives the registers where their values are, the first at a level, and each
+/// further one a level above. Err where memory is wanting, or there are too few registers.
+#[cycle(emission)]
+pub fn emit_arguments(
+    scope: &Scope,
+    level: u32,
+    arguments: &[Expression],
+    code: &mut Vec<Instruction>,
+) -> Result<Arguments, AllocError>
+    ensures code { IfOk result (λ found. code.new.items ≡ code.old.items ++ terms_code scope.now level (terms arguments.now)) }
+    ensures registers { IfOk result (λ found. found.registers.items ≡ registers_for scope.now level (terms arguments.now)) }
+    ensures kind { IfOk result (λ found. found.kind ≡ argument_type scope.now.variables (terms arguments.now)) }
+{
+    let mut registers = SmallVec::new(scope.allocator());
+    let mut kind = IntType::Int;
+    for i in 0..arguments.len() {
+        let above = level_at(level, i)?;
+        let found = emit_expression(scope, above, &arguments[i], code)?;
+        registers.push(register_at(above, found)?)?;
+        kind = base_type(found);
+    }
+    Ok(Arguments { registers, kind })
+}
+
+/// Adds the code of what is assigned to, which leaves a pointer to it at a level, and gives the pointer's type; nothing where it is
+/// a variable as a whole (C99 6.5.16). Err where memory is wanting, or there are too few registers.
+pub fn emit_target(
+    scope: &Scope,
+    level: u32,
+    target: &Target,
+    code: &mut Vec<Instruction>,
+) -> Result<Option<VariableType>, AllocError>
+    ensures code { IfOk result (λ pointer. code.new.items ≡ code.old.items ++ place_code scope.now level (place target.now)) }
+    ensures kind { IfOk result (λ pointer. pointer ≡ place_kind scope.now (place target.now)) }
+{
+    match target {
+        Target::Variable { .. } => Ok(None),
+        Target::Element { name, index, .. } => {
+            let pointer = variable(scope, level, *name, code)?;
+            let index = emit_expression(scope, level_above(level)?, index, code)?;
+            offset(level, pointer, index, code)?;
+            Ok(Some(pointer))
+        }
+        Target::Dereference { pointer, .. } => {
+            let pointer = emit_expression(scope, level, pointer, code)?;
+            point(level, pointer, code)?;
+            Ok(Some(pointer))
+        }
+    }
+}

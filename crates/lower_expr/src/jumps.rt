@@ -1,0 +1,240 @@
+//! The jumps of the operators that evaluate only what they choose (OpenCL 1.2, sections 6.3.g and 6.3.i).
+#![tactic(auto)]
+
+ghost use Rattle.std.specs.Prelude.{◌≡◌, ℕ, ◌+◌, ◌<◌, ◌≤◌, [], ◌∷◌, ◌++◌, List, length, IfOk, OnOk, slice_set};
+ghost use Rattle.clnum.specs.Conversions.{common};
+ghost use Rattle.clnum.specs.declared.int_type.IntType.TheVariants as integer;
+ghost use Rattle.clmodel.specs.Next.{infix_type, base_type};
+ghost use Rattle.clmodel.specs.declared.tree.VariableType.TheVariants as kinds;
+ghost use Rattle.regcode.specs.declared.instruction.Instruction.{Instruction};
+ghost use Rattle.regcode.specs.declared.instruction.Instruction.TheVariants as instruction;
+ghost use Rattle.lower_expr.specs.Scope.{register_at};
+ghost use Rattle.lower_expr.specs.Expressions.{truth_code, infix_begun, infix_code, branch_code, choice_code};
+
+use crate::scope::{level_above, register_at, word};
+use crate::tails::add;
+use crate::types::{base_type, infix_type};
+use clmodel::tree::{InfixOperator, VariableType};
+use clnum::{BinaryOperator, IntType, Value};
+use regcode::Instruction;
+use std::alloc::AllocError;
+
+/// Begins an operator behind its left operand of this type, and gives the place where the right one's code begins.
+pub fn begin_infix(
+    level: u32,
+    operator: InfixOperator,
+    first: VariableType,
+    code: &mut Vec<Instruction>,
+) -> Result<usize, AllocError>
+    ensures code { OnOk result (code.new.items ≡ code.old.items ++ infix_begun operator (register_at level first)) }
+    ensures place { IfOk result (λ place. place ≡ length code.new.items) }
+{
+    let test = register_at(level, first)?;
+    match operator {
+        InfixOperator::Arithmetic(_) => {}
+        InfixOperator::LogicalAnd => add(code, Instruction::JumpIfZero { test, by: 0 })?,
+        InfixOperator::LogicalOr => {
+            add(code, Instruction::JumpIfZero { test, by: 1 })?;
+            add(code, Instruction::Jump { by: 0 })?;
+        }
+    }
+    Ok(code.len())
+}
+
+/// Adds the int 1, or the int 0 where it is jumped to the last instruction.
+fn truth(to: u32, code: &mut Vec<Instruction>) -> Result<(), AllocError>
+    ensures { OnOk result (code.new.items ≡ code.old.items ++ truth_code to) }
+{
+    add(
+        code,
+        Instruction::Constant {
+            to,
+            value: Value::new(IntType::Int, 1),
+        },
+    )?;
+    add(code, Instruction::Jump { by: 1 })?;
+    add(
+        code,
+        Instruction::Constant {
+            to,
+            value: Value::new(IntType::Int, 0),
+        },
+    )
+}
+
+/// Adds an operator on integers or pointers.
+fn arithmetic(
+    operator: BinaryOperator,
+    to: u32,
+    left: u32,
+    right: u32,
+    code: &mut Vec<Instruction>,
+) -> Result<(), AllocError>
+    ensures { OnOk result (code.new.items ≡ code.old.items ++ instruction.Binary to operator left right ∷ []) }
+{
+    add(
+        code,
+        Instruction::Binary {
+            to,
+            operator,
+            left,
+            right,
+        },
+    )
+}
+
+/// Ends `&&` behind its right operand, whose code begins at a place.
+fn logical_and(
+    to: u32,
+    first: u32,
+    second: u32,
+    place: usize,
+    code: &mut Vec<Instruction>,
+) -> Result<(), AllocError>
+    requires begun { 0 < place }
+    requires inside { place ≤ length code.old.items }
+    ensures { OnOk result ((before right : List Instruction) → code.old.items ≡ before ++ (instruction.JumpIfZero first 0 ∷ right) → place ≡ length before + 1
+        → code.new.items ≡ before ++ (instruction.JumpIfZero first (length right + 3) ∷ (right ++ instruction.JumpIfZero second 2 ∷ truth_code to))) }
+{
+    let by = word(code.len() - place + 3)?;
+    add(
+        code,
+        Instruction::JumpIfZero {
+            test: second,
+            by: 2,
+        },
+    )?;
+    truth(to, code)?;
+    code[place - 1] = Instruction::JumpIfZero { test: first, by };
+    Ok(())
+}
+
+/// Ends `||` behind its right operand, whose code begins at a place.
+fn logical_or(
+    to: u32,
+    second: u32,
+    place: usize,
+    code: &mut Vec<Instruction>,
+) -> Result<(), AllocError>
+    requires begun { 0 < place }
+    requires inside { place ≤ length code.old.items }
+    ensures { OnOk result ((before right : List Instruction) → code.old.items ≡ before ++ (instruction.Jump 0 ∷ right) → place ≡ length before + 1
+        → code.new.items ≡ before ++ (instruction.Jump (length right + 1) ∷ (right ++ instruction.JumpIfZero second 2 ∷ truth_code to))) }
+{
+    let by = word(code.len() - place + 1)?;
+    add(
+        code,
+        Instruction::JumpIfZero {
+            test: second,
+            by: 2,
+        },
+    )?;
+    truth(to, code)?;
+    code[place - 1] = Instruction::Jump { by };
+    Ok(())
+}
+
+/// Ends an operator behind its right operand, whose code begins at a place, and gives its type.
+pub fn end_infix(
+    level: u32,
+    operator: InfixOperator,
+    first: VariableType,
+    second: VariableType,
+    place: usize,
+    code: &mut Vec<Instruction>,
+) -> Result<VariableType, AllocError>
+    requires begun { length (infix_begun operator 0) ≤ place }
+    requires inside { place ≤ length code.old.items }
+    ensures code { OnOk result ((before right : List Instruction) → code.old.items ≡ before ++ (infix_begun operator (register_at level first) ++ right)
+        → place ≡ length before + length (infix_begun operator 0)
+        → code.new.items ≡ before ++ infix_code operator (register_at level (infix_type operator first second)) (register_at level first) (register_at (level + 1) second) right) }
+    ensures kind { IfOk result (λ kind. kind ≡ infix_type operator first second) }
+{
+    let kind = infix_type(operator, first, second);
+    let to = register_at(level, kind)?;
+    let left = register_at(level, first)?;
+    let right = register_at(level_above(level)?, second)?;
+    match operator {
+        InfixOperator::Arithmetic(operator) => arithmetic(operator, to, left, right, code)?,
+        InfixOperator::LogicalAnd => logical_and(to, left, right, place, code)?,
+        InfixOperator::LogicalOr => logical_or(to, right, place, code)?,
+    }
+    Ok(kind)
+}
+
+/// Begins a choice behind its condition of this type, and gives the place where the chosen branch begins.
+pub fn begin_choice(
+    level: u32,
+    condition: VariableType,
+    code: &mut Vec<Instruction>,
+) -> Result<usize, AllocError>
+    ensures code { OnOk result (code.new.items ≡ code.old.items ++ instruction.JumpIfZero (register_at level condition) 0 ∷ []) }
+    ensures place { IfOk result (λ place. place ≡ length code.new.items) }
+{
+    let test = register_at(level, condition)?;
+    add(code, Instruction::JumpIfZero { test, by: 0 })?;
+    Ok(code.len())
+}
+
+/// Makes room for what stands between the two branches of a choice, and gives the place where the other branch begins.
+pub fn between_branches(code: &mut Vec<Instruction>) -> Result<usize, AllocError>
+    ensures code { OnOk result (code.new.items ≡ code.old.items ++ instruction.Common 0 0 integer.Int ∷ instruction.Jump 0 ∷ []) }
+    ensures place { IfOk result (λ place. place ≡ length code.new.items) }
+{
+    add(
+        code,
+        Instruction::Common {
+            to: 0,
+            from: 0,
+            other: IntType::Int,
+        },
+    )?;
+    add(code, Instruction::Jump { by: 0 })?;
+    Ok(code.len())
+}
+
+/// Ends a choice behind both branches, of these types, which begin at these places, and gives its type.
+pub fn end_choice(
+    level: u32,
+    condition: VariableType,
+    chosen: VariableType,
+    otherwise: VariableType,
+    first: usize,
+    second: usize,
+    code: &mut Vec<Instruction>,
+) -> Result<VariableType, AllocError>
+    requires begun { 0 < first }
+    requires between { first + 2 ≤ second }
+    requires inside { second ≤ length code.old.items }
+    ensures code { OnOk result ((before one other : List Instruction)
+        → code.old.items ≡ before ++ (instruction.JumpIfZero (register_at level condition) 0 ∷ (one ++ (instruction.Common 0 0 integer.Int ∷ instruction.Jump 0 ∷ other)))
+        → first ≡ length before + 1 → second ≡ first + length one + 2
+        → code.new.items ≡ before ++ choice_code (register_at level condition)
+        (branch_code (register_at level (kinds.Integer (common (base_type chosen) (base_type otherwise)))) one (register_at level chosen) otherwise)
+        (branch_code (register_at level (kinds.Integer (common (base_type chosen) (base_type otherwise)))) other (register_at level otherwise) chosen)) }
+    ensures kind { IfOk result (λ kind. kind ≡ kinds.Integer (common (base_type chosen) (base_type otherwise))) }
+{
+    let kind = VariableType::Integer(base_type(chosen).common(base_type(otherwise)));
+    let to = register_at(level, kind)?;
+    let test = register_at(level, condition)?;
+    let one = register_at(level, chosen)?;
+    let from = register_at(level, otherwise)?;
+    add(
+        code,
+        Instruction::Common {
+            to,
+            from,
+            other: base_type(chosen),
+        },
+    )?;
+    let past = word(code.len() - second)?;
+    let by = word(second - first)?;
+    code[second - 2] = Instruction::Common {
+        to,
+        from: one,
+        other: base_type(otherwise),
+    };
+    code[second - 1] = Instruction::Jump { by: past };
+    code[first - 1] = Instruction::JumpIfZero { test, by };
+    Ok(kind)
+}

@@ -1,0 +1,11 @@
+//! The register code of expressions.
+#![tactic(auto)]
+
+pub mod emission;
+pub mod expression_laws;
+pub mod jumps;
+pub mod scope;
+pub mod tails;
+#[cfg(test)]
+mod tests;
+pub mod types;

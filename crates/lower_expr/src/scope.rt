@@ -1,0 +1,216 @@
+//! The variables in scope, and the registers of values.
+#![tactic(auto)]
+
+ghost use Rattle.std.specs.Prelude.{◌≡◌, ℕ, ◌+◌, ◌<◌, [], ◌∷◌, None, length, drop, IfOk, OnOk, OnErr};
+ghost use Rattle.clmodel.specs.Next as next;
+ghost use Rattle.lower_expr.specs.Scope as spec;
+ghost use Rattle.lower_expr.specs.Expressions as expressions;
+
+use clmodel::operand::Binding;
+use clmodel::tree::VariableType;
+use clnum::IntType;
+use indexmap::IndexMap;
+use std::alloc::{AllocError, Global};
+use std::marker::Model;
+
+/// The number of an integer type, below 8.
+fn integer_number(kind: IntType) -> u32
+    ensures value { result ≡ spec.integer_number kind }
+    ensures below { result < 8 }
+{
+    match kind {
+        IntType::Char => 0,
+        IntType::Uchar => 1,
+        IntType::Short => 2,
+        IntType::Ushort => 3,
+        IntType::Int => 4,
+        IntType::Uint => 5,
+        IntType::Long => 6,
+        IntType::Ulong => 7,
+    }
+}
+
+/// The number of a type, below 16.
+fn kind_number(kind: VariableType) -> u32
+    ensures value { result ≡ spec.kind_number kind }
+    ensures below { result < 16 }
+{
+    match kind {
+        VariableType::Integer(kind) => integer_number(kind),
+        VariableType::Pointer(pointer) => 8 + integer_number(pointer.element),
+    }
+}
+
+/// The register of a type at a level. Err where there are no so many registers.
+pub fn register_at(level: u32, kind: VariableType) -> Result<u32, AllocError>
+    ensures { IfOk result (λ register. register ≡ spec.register_at level kind) }
+{
+    let first = level.checked_mul(16).ok_or(AllocError)?;
+    first.checked_add(kind_number(kind)).ok_or(AllocError)
+}
+
+/// The level above another. Err where there is none.
+pub fn level_above(level: u32) -> Result<u32, AllocError>
+    ensures { IfOk result (λ above. above ≡ level + 1) }
+{
+    level.checked_add(1).ok_or(AllocError)
+}
+
+/// A count as a number of 32 bits. Err where it is too large.
+pub fn word(count: usize) -> Result<u32, AllocError>
+    ensures { IfOk result (λ word. word ≡ count) }
+{
+    if count > u32::MAX as usize {
+        return Err(AllocError);
+    }
+    Ok(count as u32)
+}
+
+/// The level so many above another. Err where there is none.
+pub fn level_at(base: u32, count: usize) -> Result<u32, AllocError>
+    ensures { IfOk result (λ level. level ≡ base + count) }
+{
+    let count = word(count)?;
+    base.checked_add(count).ok_or(AllocError)
+}
+
+/// A variable in scope, and the place of the one of its name that it hides.
+#[derive(Clone, Copy, Debug, PartialEq, Eq)]
+pub struct Entry {
+    variable: Binding,
+    hidden: Option<usize>,
+}
+
+/// The variables in scope, innermost first, and the level of the outermost. What they hold is not known.
+#[derive(Drop)]
+pub struct Scope {
+    alloc: Global,
+    base: u32,
+    entries: Vec<Entry>,
+    latest: IndexMap<u32, usize>,
+}
+
+impl Model for Scope {
+    ghost use Rattle.std.specs.Prelude.{ℕ, ◌≡◌, reverse, nat_eq};
+    ghost use Rattle.indexmap.specs.IndexMap.{get};
+    ghost use Rattle.lower_expr.specs.Scope.{Scope, last_place};
+    ghost use Rattle.lower_expr.specs.Index.{variables_of, Hides};
+
+    ghost Value = { Scope };
+
+    ghost view = { λ s. record { base = s.base; variables = variables_of (reverse s.entries.items) } };
+
+    ghost invariant = { λ s. ((name : ℕ) → get nat_eq s.latest name ≡ last_place (variables_of (reverse s.entries.items)) name) × Hides (reverse s.entries.items) };
+}
+
+impl Scope {
+    /// No variables.
+    pub fn new(alloc: Global, base: u32) -> Self
+        ensures { result ≡ record { base = base; variables = [] } }
+    {
+        Scope {
+            alloc,
+            base,
+            entries: Vec::new(alloc),
+            latest: IndexMap::new(alloc),
+        }
+    }
+
+    /// Where its memory comes from.
+    pub fn allocator(&self) -> Global {
+        self.alloc
+    }
+
+    /// How many variables there are.
+    pub fn len(&self) -> usize
+        ensures { result ≡ length self.now.variables }
+    {
+        self.entries.len()
+    }
+
+    /// The place of the innermost variable of a name, counted from the outermost.
+    fn place(&self, name: u32) -> Option<usize>
+        ensures { result ≡ spec.last_place self.now.variables name }
+    {
+        self.latest.get(&name).copied()
+    }
+
+    /// Declares one more, which is the innermost from now on. Err where memory is wanting: nothing changes then.
+    pub fn declare(&mut self, name: u32, kind: VariableType) -> Result<(), AllocError>
+        ensures declared { OnOk result (self.new ≡ spec.declared self.old name kind) }
+        ensures err { OnErr result (self.new ≡ self.old) }
+    {
+        let variable = Binding {
+            name,
+            kind,
+            content: None,
+        };
+        let hidden = self.place(name);
+        let place = self.entries.len();
+        self.entries.push(Entry { variable, hidden })?;
+        match self.latest.insert(name, place) {
+            Ok(_) => Ok(()),
+            Err(_) => {
+                self.entries.pop();
+                Err(AllocError)
+            }
+        }
+    }
+
+    /// Leaves the innermost variable, if there is one.
+    fn leave_one(&mut self)
+        ensures { self.new ≡ record self.old { variables = drop 1 self.old.variables } }
+    {
+        if let Some(entry) = self.entries.pop() {
+            let name = entry.variable.name;
+            match entry.hidden {
+                Some(place) => {
+                    if let Some(latest) = self.latest.get_mut(&name) {
+                        *latest = place;
+                    }
+                }
+                None => {
+                    self.latest.swap_remove(&name);
+                }
+            }
+        }
+    }
+
+    /// Leaves all but so many, the outermost.
+    pub fn leave(&mut self, count: usize)
+        ensures { self.new ≡ record self.old { variables = next.leave count self.old.variables } }
+    {
+        for _ in 0..self.entries.len().saturating_sub(count) {
+            self.leave_one();
+        }
+    }
+
+    /// The declared type of the innermost variable of a name; int where there is none.
+    pub fn kind(&self, name: u32) -> VariableType
+        ensures { result ≡ expressions.kind_named self.now name }
+    {
+        match self.place(name) {
+            Some(place) => self.entries[place].variable.kind,
+            None => VariableType::Integer(IntType::Int),
+        }
+    }
+
+    /// The register of the innermost variable of a name. Err where there are no so many registers.
+    pub fn register(&self, name: u32) -> Result<Option<u32>, AllocError>
+        ensures { IfOk result (λ register. register ≡ spec.register_of self.now name) }
+    {
+        let Some(place) = self.place(name) else {
+            return Ok(None);
+        };
+        let level = level_at(self.base, place)?;
+        let register = register_at(level, self.entries[place].variable.kind)?;
+        Ok(Some(register))
+    }
+
+    /// The first level that is free. Err where there is none.
+    pub fn free_level(&self) -> Result<u32, AllocError>
+        ensures { IfOk result (λ level. level ≡ spec.free_level self.now) }
+    {
+        level_at(self.base, self.entries.len())
+    }
+}

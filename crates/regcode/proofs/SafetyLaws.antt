@@ -1,0 +1,371 @@
+-- Verified code never sticks: instruction by instruction.
+use Rattle.std.proofs.Common.{◌≡◌, ℕ, zero, suc, ◌+◌, ◌<◌, ◌≤◌, ◌++◌, ◌⊎◌, inl, inr, Bool, true, false, IsTrue, if◌then◌else◌, Option, None, Some, List, [], ◌∷◌, Result, Ok, Err, length, take, replicate, slice_get, refl, ap, sym, ◌∙◌, subst, arith}
+use Rattle.std.proofs.lemmas.Bool.{false≢true, cases_eq}
+use Rattle.std.proofs.lemmas.List.{length-take-le, length-append}
+use Rattle.std.proofs.lemmas.Option.{none-some, slice_get-get_or}
+use Rattle.std.specs.Option.{option_map}
+use Rattle.clnum.specs.Integer.{Integer, converted}
+use Rattle.clnum.specs.Builtins.{is_same, builtin_value}
+use Rattle.clnum.specs.Operations.{unary_value, unary_kind, binary_value, binary_kind}
+use Rattle.clnum.specs.declared.int_type.IntType.{IntType}
+use Rattle.clnum.specs.declared.int_type.IntType.TheVariants.{Ulong}
+use Rattle.clnum.specs.declared.operators.ArithFault.{ArithFault}
+use Rattle.clnum.specs.declared.operators.ArithFault.TheVariants as arith_fault
+use Rattle.clnum.specs.declared.operators.BinaryOperator.{BinaryOperator}
+use Rattle.clnum.specs.declared.operators.BinaryOperator.TheVariants as binary_operator
+use Rattle.clnum.specs.declared.operators.UnaryOperator.{UnaryOperator}
+use Rattle.clnum.specs.declared.operators.UnaryOperator.TheVariants as unary_operator
+use Rattle.clnum.specs.declared.operators.Builtin.{Builtin}
+use Rattle.clnum.specs.declared.operators.Builtin.TheVariants as builtin
+use Rattle.clmodel.specs.Next.{Run, number, pointing, moved, load, store, atomic_call, combined, arithmetic, test, integer_call, given_value, content, held, known}
+use Rattle.clmodel.specs.declared.operand.Operand.{Operand}
+use Rattle.clmodel.specs.declared.operand.Operand.TheVariants.{Integral, Pointed}
+use Rattle.clmodel.specs.declared.operand.Pointer.{Pointer as PointerValue}
+use Rattle.clmodel.specs.declared.setup.Argument.{Argument}
+use Rattle.clmodel.specs.declared.setup.Argument.TheVariants as given_argument
+use Rattle.clmodel.specs.declared.setup.AtomicFunction.{AtomicFunction}
+use Rattle.clmodel.specs.declared.tree.VariableType.{VariableType}
+use Rattle.clmodel.specs.declared.tree.VariableType.TheVariants as variable_type
+use Rattle.regcode.specs.Listing.{Listing}
+use Rattle.regcode.specs.Machine.{State, Given, Registers, reg, put, act, filled, with_put, with_turns, passed, onward, argument_at}
+use Rattle.regcode.specs.Rules.{IsVerified, Fits, Goes, Takes, Leads, kind_at, loops_at, kind_of, held_kind, number_kind, common_kind, changed_kind, combined_kind, of_one_kind, of_two_kind, offset_kind, loaded_kind, is_integer, is_pointer, is_atomic, is_turn}
+use Rattle.regcode.specs.Safety.{Suits, operand_kind, MayEnd, GoesOn, ended, failed, on_at, after_at, asked, ticked, IsNext, NeverSticks}
+use Rattle.regcode.specs.declared.instruction.Instruction.{Instruction}
+use Rattle.regcode.specs.declared.instruction.Instruction.TheVariants as instruction
+use Rattle.regcode.specs.declared.tables.RegisterKind.{RegisterKind}
+use Rattle.regcode.specs.declared.tables.RegisterKind.TheVariants.{Integer as IntegerKind, Pointer as PointerKind}
+use Rattle.regcode.proofs.Registers.{reg_put, reg_kept}
+
+-- The types of operators' values.
+pub unary_is : (operator : UnaryOperator) (v : Integer) → (unary_value operator v).kind ≡ unary_kind operator v.kind
+unfolding unary_value unary_kind
+unary_is unary_operator.Plus v = refl
+unary_is unary_operator.Negate v = refl
+unary_is unary_operator.Complement v = refl
+unary_is unary_operator.Not v = refl
+
+-- the number of an operator on two integers is of the operator's type
+IsOfType : IntType → Result Integer ArithFault → Type 0
+IsOfType kind (Ok v) = v.kind ≡ kind
+IsOfType kind (Err fault) = Unit {0}
+
+choice_is : (kind : IntType) (b : Bool) (v : Integer) (fault : ArithFault) → v.kind ≡ kind → IsOfType kind (if b then Ok v else Err fault)
+unfolding IsOfType
+choice_is kind true v fault e = e
+choice_is kind false v fault e = tt
+
+divided_is : (kind : IntType) (a b : Bool) (v : Integer) (fault other : ArithFault) → v.kind ≡ kind → IsOfType kind (if a then Err other else (if b then Ok v else Err fault))
+unfolding IsOfType
+divided_is kind true b v fault other e = tt
+divided_is kind false b v fault other e = choice_is kind b v fault e
+
+binary_is : (operator : BinaryOperator) (v w : Integer) → IsOfType (binary_kind operator v.kind w.kind) (binary_value operator v w)
+unfolding binary_value binary_kind IsOfType
+binary_is binary_operator.Add v w = refl
+binary_is binary_operator.Subtract v w = refl
+binary_is binary_operator.Multiply v w = refl
+binary_is binary_operator.Divide v w = divided_is _ _ _ _ _ _ refl
+binary_is binary_operator.Remainder v w = divided_is _ _ _ _ _ _ refl
+binary_is binary_operator.ShiftLeft v w = refl
+binary_is binary_operator.ShiftRight v w = refl
+binary_is binary_operator.Less v w = refl
+binary_is binary_operator.Greater v w = refl
+binary_is binary_operator.LessOrEqual v w = refl
+binary_is binary_operator.GreaterOrEqual v w = refl
+binary_is binary_operator.Equal v w = refl
+binary_is binary_operator.NotEqual v w = refl
+binary_is binary_operator.BitAnd v w = refl
+binary_is binary_operator.BitXor v w = refl
+binary_is binary_operator.BitOr v w = refl
+
+-- What a register takes.
+takes_is : (r v : Option RegisterKind) → Takes r v → r ≡ v
+takes_is (Some r) (Some v) h = ap Some h
+takes_is (Some r) None h = absurd h
+takes_is None v h = absurd h
+
+takes_nothing : (r : Option RegisterKind) → Takes r None → ⊥
+takes_nothing (Some r) h = h
+takes_nothing None h = h
+
+module _ (Ends : Type 0) (Next : State → Type 0) (on after : State → Run) where
+  abbrev Safe : Run → Type 0
+  Safe run = GoesOn Ends Next on after run
+
+  filled_safe : (o : Option Operand) (f : Operand → Run) → (o ≡ None → Ends) → ((v : Operand) → o ≡ Some v → Safe (f v)) → Safe (filled o f)
+  filled_safe None f e h = ended (e refl)
+  filled_safe (Some v) f e h = h v refl
+
+  known_safe : (name : ℕ) (o : Option Operand) (f : Operand → Run) → ((v : Operand) → o ≡ Some v → Safe (f v)) → Safe (known name o f)
+  known_safe name None f h = failed _
+  known_safe name (Some v) f h = h v refl
+
+  number_safe : (v : Operand) (f : Integer → Run) → IsTrue (is_integer (Some (operand_kind v))) → ((n : Integer) → v ≡ Integral n → Safe (f n)) → Safe (number v f)
+  number_safe (Integral n) f i h = h n refl
+  number_safe (Pointed p) f i h = absurd (false≢true i)
+
+  test_safe : (v : Operand) (f : Bool → Run) → IsTrue (is_integer (Some (operand_kind v))) → ((b : Bool) → Safe (f b)) → Safe (test v f)
+  test_safe (Integral n) f i h = h _
+  test_safe (Pointed p) f i h = absurd (false≢true i)
+
+  pointing_safe : (v : Operand) (f : PointerValue → Run) → IsTrue (is_pointer (Some (operand_kind v))) → ((p : PointerValue) → v ≡ Pointed p → Safe (f p)) → Safe (pointing v f)
+  pointing_safe (Integral n) f i h = absurd (false≢true i)
+  pointing_safe (Pointed p) f i h = h p refl
+
+  load_safe : (p : PointerValue) (f : Operand → Run) → ((x : Operand) → operand_kind x ≡ IntegerKind p.element → Safe (f x)) → Safe (load p f)
+  load_safe p f h = asked _ _ (λ answer. h _ refl)
+
+  store_safe : (p : PointerValue) (v : Operand) (run : Run) → IsTrue (is_integer (Some (operand_kind v))) → Safe run → Safe (store p v run)
+  store_safe p (Integral n) run i h = asked _ _ (λ answer. h)
+  store_safe p (Pointed q) run i h = absurd (false≢true i)
+
+  arithmetic_safe : (r : Result Integer ArithFault) (kind : IntType) (f : Operand → Run) → IsOfType kind r → ((x : Operand) → operand_kind x ≡ IntegerKind kind → Safe (f x)) → Safe (arithmetic r f)
+  unfolding IsOfType
+  arithmetic_safe (Ok v) kind f is h = h _ (ap IntegerKind is)
+  arithmetic_safe (Err arith_fault.DivideByZero) kind f is h = failed _
+  arithmetic_safe (Err arith_fault.DivideOverflow) kind f is h = failed _
+
+  combined_safe : (operator : BinaryOperator) (v w : Operand) (f : Operand → Run) (r : Option RegisterKind)
+      → Takes r (combined_kind operator (Some (operand_kind v)) (Some (operand_kind w))) → ((x : Operand) → r ≡ Some (operand_kind x) → Safe (f x)) → Safe (combined operator v w f)
+  combined_safe operator (Integral v) (Integral w) f r takes h =
+      arithmetic_safe (binary_value operator v w) _ f (binary_is operator v w) (λ x is. h x (takes_is r _ takes ∙ ap Some (sym is)))
+  combined_safe binary_operator.Add (Pointed p) (Integral i) f r takes h = h _ (takes_is r _ takes)
+  combined_safe binary_operator.Add (Integral i) (Pointed p) f r takes h = h _ (takes_is r _ takes)
+  combined_safe binary_operator.Subtract (Pointed p) (Integral i) f r takes h = h _ (takes_is r _ takes)
+  combined_safe _ _ _ f r takes h = absurd (takes_nothing r takes)
+
+  moved_safe : (v w : Operand) (f : PointerValue → Run) (r : Option RegisterKind)
+      → Takes r (offset_kind (Some (operand_kind v)) (Some (operand_kind w))) → ((q : PointerValue) → r ≡ Some (PointerKind q.element) → Safe (f q)) → Safe (moved v w f)
+  moved_safe (Pointed p) (Integral i) f r takes h = h _ (takes_is r _ takes)
+  moved_safe (Pointed p) (Pointed q) f r takes h = absurd (takes_nothing r takes)
+  moved_safe (Integral v) w f r takes h = absurd (takes_nothing r takes)
+
+  of_one_safe : (function : Builtin) (v : Operand) (f : Operand → Run) (r : Option RegisterKind)
+      → Takes r (of_one_kind function (Some (operand_kind v))) → ((x : Operand) → r ≡ Some (operand_kind x) → Safe (f x)) → Safe (integer_call function (v ∷ []) f)
+  unfolding builtin_value
+  of_one_safe builtin.Abs (Integral v) f r takes h = h _ (takes_is r _ takes)
+  of_one_safe builtin.Clz (Integral v) f r takes h = h _ (takes_is r _ takes)
+  of_one_safe builtin.Popcount (Integral v) f r takes h = h _ (takes_is r _ takes)
+  of_one_safe _ _ f r takes h = absurd (takes_nothing r takes)
+
+  -- two numbers of one type, or not
+  same_safe : (b : Bool) (kind : IntType) (v : Integer) (f : Operand → Run) (r : Option RegisterKind) → v.kind ≡ kind
+      → Takes r (if b then Some (IntegerKind kind) else None) → ((x : Operand) → r ≡ Some (operand_kind x) → Safe (f x)) → Safe (given_value (if b then Some v else None) f)
+  same_safe true kind v f r is takes h = h _ (takes_is r _ takes ∙ ap (λ k. Some (IntegerKind k)) (sym is))
+  same_safe false kind v f r is takes h = absurd (takes_nothing r takes)
+
+  of_two_safe : (function : Builtin) (v w : Operand) (f : Operand → Run) (r : Option RegisterKind)
+      → Takes r (of_two_kind function (Some (operand_kind v)) (Some (operand_kind w))) → ((x : Operand) → r ≡ Some (operand_kind x) → Safe (f x)) → Safe (integer_call function (v ∷ w ∷ []) f)
+  unfolding builtin_value
+  of_two_safe builtin.Min (Integral v) (Integral w) f r takes h = same_safe (is_same v.kind w.kind) v.kind _ f r refl takes h
+  of_two_safe builtin.Max (Integral v) (Integral w) f r takes h = same_safe (is_same v.kind w.kind) v.kind _ f r refl takes h
+  of_two_safe builtin.Rotate (Integral v) (Integral w) f r takes h = same_safe (is_same v.kind w.kind) v.kind _ f r refl takes h
+  of_two_safe _ _ _ f r takes h = absurd (takes_nothing r takes)
+
+  atomic_pointer : (v : Operand) → IsTrue (is_atomic (Some (operand_kind v))) → IsTrue (is_pointer (Some (operand_kind v)))
+  atomic_pointer (Integral v) h = absurd (false≢true h)
+  atomic_pointer (Pointed p) h = refl
+
+  update_by_one_safe : (function : AtomicFunction) (p : Operand) (run : Run) → IsTrue (is_atomic (Some (operand_kind p))) → Safe run → Safe (atomic_call function (p ∷ []) run)
+  update_by_one_safe function p run a h = pointing_safe p _ (atomic_pointer p a) (λ q is. asked _ _ (λ answer. h))
+
+  update_safe : (function : AtomicFunction) (p v : Operand) (run : Run) → IsTrue (is_atomic (Some (operand_kind p))) → IsTrue (is_integer (Some (operand_kind v))) → Safe run
+      → Safe (atomic_call function (p ∷ v ∷ []) run)
+  update_safe function p v run a i h = pointing_safe p _ (atomic_pointer p a) (λ q is. number_safe v _ i (λ n is'. asked _ _ (λ answer. h)))
+
+-- The kinds of what is put into registers.
+number_integer : (kind : IntType) (v : Operand) (r : Option RegisterKind) → Takes r (number_kind kind (Some (operand_kind v))) → IsTrue (is_integer (Some (operand_kind v)))
+number_integer kind (Integral n) r h = refl
+number_integer kind (Pointed p) r h = absurd (takes_nothing r h)
+
+number_takes : (kind : IntType) (v : Operand) (r : Option RegisterKind) → Takes r (number_kind kind (Some (operand_kind v))) → r ≡ Some (IntegerKind kind)
+number_takes kind (Integral n) r h = takes_is r _ h
+number_takes kind (Pointed p) r h = absurd (takes_nothing r h)
+
+common_integer : (other : IntType) (v : Operand) (r : Option RegisterKind) → Takes r (common_kind other (Some (operand_kind v))) → IsTrue (is_integer (Some (operand_kind v)))
+common_integer other (Integral n) r h = refl
+common_integer other (Pointed p) r h = absurd (takes_nothing r h)
+
+changed_integer : (operator : UnaryOperator) (v : Operand) (r : Option RegisterKind) → Takes r (changed_kind operator (Some (operand_kind v))) → IsTrue (is_integer (Some (operand_kind v)))
+changed_integer operator (Integral n) r h = refl
+changed_integer operator (Pointed p) r h = absurd (takes_nothing r h)
+
+loaded_pointer : (v : Operand) (r : Option RegisterKind) → Takes r (loaded_kind (Some (operand_kind v))) → IsTrue (is_pointer (Some (operand_kind v)))
+loaded_pointer (Integral n) r h = absurd (takes_nothing r h)
+loaded_pointer (Pointed p) r h = refl
+
+held_pointer : (b : Bool) (kind : RegisterKind) (r : Option RegisterKind) → Takes r (if b then Some kind else None) → r ≡ Some kind
+held_pointer true kind r h = takes_is r _ h
+held_pointer false kind r h = absurd (takes_nothing r h)
+
+held_takes : (kind : VariableType) (v : Operand) (r : Option RegisterKind) → Takes r (held_kind kind (Some (operand_kind v))) → r ≡ Some (operand_kind (held kind v))
+unfolding converted
+held_takes (variable_type.Integer kind) (Integral n) r h = takes_is r _ h
+held_takes (variable_type.Integer kind) (Pointed p) r h = absurd (takes_nothing r h)
+held_takes (variable_type.Pointer pointer) (Integral n) r h = absurd (takes_nothing r h)
+held_takes (variable_type.Pointer pointer) (Pointed p) r h = held_pointer (is_same p.element pointer.element) _ r h
+
+content_is : (buffers : List (List ℕ)) (kind : VariableType) (argument : Option Argument) (w : Operand) → content buffers kind argument ≡ Some w → Some (kind_of kind) ≡ Some (operand_kind w)
+content_is buffers (variable_type.Pointer p) (Some (given_argument.Buffer name)) w e = ap (option_map operand_kind) e
+content_is buffers (variable_type.Integer kind) (Some (given_argument.Value n)) w e = ap (option_map operand_kind) e
+content_is _ _ _ w e = absurd (none-some _ e)
+
+-- a register of others is what was put there, or what it was
+put_cases : (registers : Registers) (i : ℕ) (v : Option Operand) (j : ℕ) → ((i ≡ j) × (reg (put registers i v) j ≡ v)) ⊎ (reg (put registers i v) j ≡ reg registers j)
+put_cases registers i v j =
+    elim (cases_eq i j) [
+      | inl e ↦ inl (e, subst (λ k. reg (put registers i v) k ≡ v) e (reg_put registers i v))
+      | inr n ↦ inr (reg_kept registers i v j n)
+    ]
+
+module _ (code : Listing) (s : State) (suits : Suits code s) where
+  put_typed : (to : ℕ) (v : Option Operand) → ((w : Operand) → v ≡ Some w → kind_at code to ≡ Some (operand_kind w)) → (r : ℕ) (w : Operand) → reg (put s.registers to v) r ≡ Some w
+      → kind_at code r ≡ Some (operand_kind w)
+  put_typed to v fits r w here =
+      elim (put_cases s.registers to v r) [
+        | inl e ↦ subst (λ k. kind_at code k ≡ Some (operand_kind w)) e.0 (fits w (sym e.1 ∙ here))
+        | inr e ↦ suits.typed r w (sym e ∙ here)
+      ]
+
+  set_next : (to : ℕ) (v : Option Operand) → ((w : Operand) → v ≡ Some w → kind_at code to ≡ Some (operand_kind w)) → Leads code (s.place + 1) (loops_at code s.place) → IsNext code s (with_put s to v)
+  set_next to v fits leads =
+      let counted = suits.counted in
+      let few = leads.1 in
+      record { suits = record { inside = leads.0; typed = put_typed to v fits; counted = omega (arith, counted, few) }; forward = inl (omega arith) }
+
+  put_next : (to : ℕ) (v : Operand) → kind_at code to ≡ Some (operand_kind v) → Leads code (s.place + 1) (loops_at code s.place) → IsNext code s (with_put s to (Some v))
+  put_next to v is leads = set_next to (Some v) (λ w e. is ∙ ap (option_map operand_kind) e) leads
+
+  onward_next : (next : ℕ) → s.place < next → Leads code next (loops_at code s.place) → IsNext code s (record s { place = next })
+  onward_next next further leads =
+      let counted = suits.counted in
+      let few = leads.1 in
+      record { suits = record { inside = leads.0; typed = suits.typed; counted = omega (arith, counted, few) }; forward = inl further }
+
+  turns_next : (depth count : ℕ) → depth ≤ loops_at code s.place → Leads code (s.place + 1) (depth + 1) → IsNext code s (with_turns s (take depth s.counters ++ count ∷ []))
+  turns_next depth count within leads =
+      let counted = suits.counted in
+      let few = leads.1 in
+      let taken = length-take-le depth s.counters (omega (arith, counted, within)) in
+      let all = length-append (take depth s.counters) (count ∷ []) in
+      record { suits = record { inside = leads.0; typed = suits.typed; counted = omega (arith, few, taken, all) }; forward = inl (omega arith) }
+
+  back_next : (next : ℕ) → next < length code.instructions → IsTrue (is_turn (slice_get code.instructions next)) → loops_at code next ≤ loops_at code s.place → IsNext code s (record s { place = next })
+  back_next next inside turn few =
+      let counted = suits.counted in
+      record { suits = record { inside = inside; typed = suits.typed; counted = omega (arith, counted, few) }; forward = inr turn }
+
+  -- what an instruction does, where its operands are as it wants them
+  module _ (given : Given) (on after : State → Run) where
+    does : (i : Instruction) → Fits code i → Goes code s.place i → GoesOn (MayEnd i s.registers) (IsNext code s) on after (act given (Some i) on after s)
+    unfolding converted
+    does (instruction.Constant to value) fits goes = on_at _ (put_next to _ (takes_is _ _ fits) goes)
+    does (instruction.Unset to) fits goes = on_at _ (set_next to None (λ w e. absurd (none-some w e)) goes)
+    does (instruction.Move to from name) fits goes =
+        known_safe _ _ on after name _ _ (λ v e. on_at _ (put_next to v (takes_is _ _ fits.0 ∙ suits.typed from v e) goes))
+    does (instruction.Hold to from kind) fits goes =
+        filled_safe _ _ on after _ _ (λ e. inr (from, (0, omega arith, refl), e)) (λ v e.
+        on_at _ (put_next to _ (held_takes kind v _ (subst (λ k. Takes (kind_at code to) (held_kind kind k)) (suits.typed from v e) fits)) goes))
+    does (instruction.Convert to from kind) fits goes =
+        filled_safe _ _ on after _ _ (λ e. inr (from, (0, omega arith, refl), e)) (λ v e.
+        let takes = subst (λ k. Takes (kind_at code to) (number_kind kind k)) (suits.typed from v e) fits in
+        number_safe _ _ on after v _ (number_integer kind v _ takes) (λ n is. on_at _ (put_next to _ (number_takes kind v _ takes) goes)))
+    does (instruction.Common to from other) fits goes =
+        filled_safe _ _ on after _ _ (λ e. inr (from, (0, omega arith, refl), e)) (λ v e.
+        let takes = subst (λ k. Takes (kind_at code to) (common_kind other k)) (suits.typed from v e) fits in
+        number_safe _ _ on after v _ (common_integer other v _ takes) (λ n is.
+        on_at _ (put_next to _ (takes_is _ _ (subst (λ x. Takes (kind_at code to) (common_kind other (Some (operand_kind x)))) is takes)) goes)))
+    does (instruction.Unary to operator operand) fits goes =
+        filled_safe _ _ on after _ _ (λ e. inr (operand, (0, omega arith, refl), e)) (λ v e.
+        let takes = subst (λ k. Takes (kind_at code to) (changed_kind operator k)) (suits.typed operand v e) fits in
+        number_safe _ _ on after v _ (changed_integer operator v _ takes) (λ n is.
+        on_at _ (put_next to _ (takes_is _ _ (subst (λ x. Takes (kind_at code to) (changed_kind operator (Some (operand_kind x)))) is takes) ∙ ap (λ k. Some (IntegerKind k)) (sym (unary_is operator n))) goes)))
+    does (instruction.Binary to operator left right) fits goes =
+        filled_safe _ _ on after _ _ (λ e. inr (left, (0, omega arith, refl), e)) (λ v e.
+        filled_safe _ _ on after _ _ (λ e'. inr (right, (1, omega arith, refl), e')) (λ w e'.
+        combined_safe _ _ on after operator v w _ (kind_at code to)
+        (subst (λ k. Takes (kind_at code to) (combined_kind operator (Some (operand_kind v)) k)) (suits.typed right w e')
+        (subst (λ k. Takes (kind_at code to) (combined_kind operator k (kind_at code right))) (suits.typed left v e) fits))
+        (λ x is. on_at _ (put_next to x is goes))))
+    does (instruction.Builtin to function first None) fits goes =
+        filled_safe _ _ on after _ _ (λ e. inr (first, (0, omega arith, refl), e)) (λ v e.
+        of_one_safe _ _ on after function v _ (kind_at code to) (subst (λ k. Takes (kind_at code to) (of_one_kind function k)) (suits.typed first v e) fits)
+        (λ x is. on_at _ (put_next to x is goes)))
+    does (instruction.Builtin to function first (Some second)) fits goes =
+        filled_safe _ _ on after _ _ (λ e. inr (first, (0, omega arith, refl), e)) (λ v e.
+        filled_safe _ _ on after _ _ (λ e'. inr (second, (1, omega arith, refl), e')) (λ w e'.
+        of_two_safe _ _ on after function v w _ (kind_at code to)
+        (subst (λ k. Takes (kind_at code to) (of_two_kind function (Some (operand_kind v)) k)) (suits.typed second w e')
+        (subst (λ k. Takes (kind_at code to) (of_two_kind function k (kind_at code second))) (suits.typed first v e) fits))
+        (λ x is. on_at _ (put_next to x is goes))))
+    does (instruction.Dimensions to) fits goes = on_at _ (put_next to _ (takes_is _ _ fits) goes)
+    does (instruction.Query to function dimension) fits goes =
+        filled_safe _ _ on after _ _ (λ e. inr (dimension, (0, omega arith, refl), e)) (λ d e.
+        on_at _ (put_next to _ (number_takes Ulong d _ (subst (λ k. Takes (kind_at code to) (number_kind Ulong k)) (suits.typed dimension d e) fits)) goes))
+    does (instruction.Argument to index kind) fits goes =
+        on_at _ (set_next to _ (λ w e. takes_is _ _ fits.0 ∙ content_is given.buffers kind (argument_at given.arguments index) w e) goes)
+    does (instruction.Point to from) fits goes =
+        filled_safe _ _ on after _ _ (λ e. inr (from, (0, omega arith, refl), e)) (λ v e.
+        pointing_safe _ _ on after v _ (subst (λ k. IsTrue (is_pointer k)) (suits.typed from v e) fits.1) (λ q is.
+        on_at _ (put_next to (Pointed q) (takes_is _ _ fits.0 ∙ suits.typed from v e ∙ ap (λ w. Some (operand_kind w)) is) goes)))
+    does (instruction.Offset to pointer index) fits goes =
+        filled_safe _ _ on after _ _ (λ e. inr (pointer, (0, omega arith, refl), e)) (λ p e.
+        filled_safe _ _ on after _ _ (λ e'. inr (index, (1, omega arith, refl), e')) (λ i e'.
+        moved_safe _ _ on after p i _ (kind_at code to)
+        (subst (λ k. Takes (kind_at code to) (offset_kind (Some (operand_kind p)) k)) (suits.typed index i e')
+        (subst (λ k. Takes (kind_at code to) (offset_kind k (kind_at code index))) (suits.typed pointer p e) fits))
+        (λ q is. on_at _ (put_next to _ is goes))))
+    does (instruction.Load to pointer) fits goes =
+        filled_safe _ _ on after _ _ (λ e. inr (pointer, (0, omega arith, refl), e)) (λ p e.
+        let takes = subst (λ k. Takes (kind_at code to) (loaded_kind k)) (suits.typed pointer p e) fits in
+        pointing_safe _ _ on after p _ (loaded_pointer p _ takes) (λ q is.
+        load_safe _ _ on after q _ (λ x kind.
+        after_at _ (put_next to x (takes_is _ _ (subst (λ y. Takes (kind_at code to) (loaded_kind (Some (operand_kind y)))) is takes) ∙ ap Some (sym kind)) goes))))
+    does (instruction.Store pointer value) fits goes =
+        filled_safe _ _ on after _ _ (λ e. inr (pointer, (0, omega arith, refl), e)) (λ p e.
+        filled_safe _ _ on after _ _ (λ e'. inr (value, (1, omega arith, refl), e')) (λ v e'.
+        pointing_safe _ _ on after p _ (subst (λ k. IsTrue (is_pointer k)) (suits.typed pointer p e) fits.0) (λ q is.
+        store_safe _ _ on after q v _ (subst (λ k. IsTrue (is_integer k)) (suits.typed value v e') fits.1) (after_at _ (onward_next _ (omega arith) goes)))))
+    does (instruction.Update function pointer None) fits goes =
+        filled_safe _ _ on after _ _ (λ e. inr (pointer, (0, omega arith, refl), e)) (λ p e.
+        update_by_one_safe _ _ on after function p _ (subst (λ k. IsTrue (is_atomic k)) (suits.typed pointer p e) fits) (after_at _ (onward_next _ (omega arith) goes)))
+    does (instruction.Update function pointer (Some value)) fits goes =
+        filled_safe _ _ on after _ _ (λ e. inr (pointer, (0, omega arith, refl), e)) (λ p e.
+        filled_safe _ _ on after _ _ (λ e'. inr (value, (1, omega arith, refl), e')) (λ v e'.
+        update_safe _ _ on after function p v _ (subst (λ k. IsTrue (is_atomic k)) (suits.typed pointer p e) fits.0)
+        (subst (λ k. IsTrue (is_integer k)) (suits.typed value v e') fits.1) (after_at _ (onward_next _ (omega arith) goes))))
+    does (instruction.Barrier site depth fences) fits goes = asked _ _ (λ answer. after_at _ (onward_next _ (omega arith) goes.1))
+    does (instruction.Enter depth) fits goes = on_at _ (turns_next depth 0 goes.0 goes.2)
+    does (instruction.Turn depth) fits goes = ticked _ (after_at _ (turns_next depth _ (let within = goes.0 in omega (arith, within)) goes.1))
+    does (instruction.Jump by) fits goes = on_at _ (onward_next _ (omega arith) goes)
+    does (instruction.JumpIfZero register by) fits goes =
+        filled_safe _ _ on after _ _ (λ e. inr (register, (0, omega arith, refl), e)) (λ v e.
+        test_safe _ _ on after v _ (subst (λ k. IsTrue (is_integer k)) (suits.typed register v e) fits) sides)
+      where
+        sides : (b : Bool) → GoesOn (MayEnd (instruction.JumpIfZero register by) s.registers) (IsNext code s) on after (if b then on (passed s) else on (onward s by))
+        sides true = on_at _ (onward_next _ (omega arith) goes.0)
+        sides false = on_at _ (onward_next _ (omega arith) goes.1)
+    does (instruction.Back by) fits goes = on_at _ (back_next _ (let inside = suits.inside in omega (arith, inside)) goes.1 goes.2)
+    does instruction.End fits goes = ended (inl refl)
+
+-- no register has a value at the start
+unset_at_start : (count r : ℕ) → reg (replicate count None) r ≡ None
+unset_at_start zero r = refl
+unset_at_start (suc count) zero = refl
+unset_at_start (suc count) (suc r) = unset_at_start count r
+
+pub never_sticks : (code : Listing) → IsVerified code → NeverSticks code
+never_sticks code ok =
+    record {
+      start = record {
+        inside = ok.begins;
+        typed = λ r v e. absurd (none-some v (sym (unset_at_start (length code.registers) r) ∙ e));
+        counted = let outside = ok.outside in omega (arith, outside);
+      };
+      next = λ given s suits on after. goes given s suits on after (slice_get code.instructions s.place) refl;
+    }
+  where
+    goes : (given : Given) (s : State) → Suits code s → (on after : State → Run) → (o : Option Instruction) → slice_get code.instructions s.place ≡ o
+        → (i : Instruction) × (o ≡ Some i) × GoesOn (MayEnd i s.registers) (IsNext code s) on after (act given o on after s)
+    goes given s suits on after (Some i) here = let fine = ok.each s.place i here in (i, refl, does code s suits given on after i fine.fits fine.goes)
+    goes given s suits on after None here = absurd (none-some _ (sym here ∙ slice_get-get_or code.instructions s.place instruction.End suits.inside))

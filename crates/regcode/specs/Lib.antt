@@ -1,0 +1,6 @@
+pub mod Dumping
+pub mod Listed
+pub mod Listing
+pub mod Machine
+pub mod Rules
+pub mod Safety

@@ -1,0 +1,266 @@
+//! Code as text.
+#![tactic(auto)]
+
+ghost use Rattle.std.specs.Prelude.{◌<◌, ◌^◌};
+ghost use Rattle.regcode.specs.Dumping.{Writes};
+
+use crate::code::Code;
+use crate::instruction::Instruction;
+use crate::words::{fences_word, instruction_word, space_word, type_word};
+use clmodel::action::Fences;
+use clmodel::tree::VariableType;
+use clnum::{IntType, Value};
+use ends::{Write, WriteFailed};
+use itoa::Buffer;
+
+/// Why code was not dumped.
+#[derive(Clone, Copy, Debug, PartialEq, Eq)]
+pub enum DumpFault {
+    /// 1: the writer failed
+    Write,
+}
+
+/// What an instruction names.
+#[derive(Clone, Copy, Debug)]
+enum Part {
+    Register(u32),
+    /// The element that the pointer in a register points to
+    Element(u32),
+    Number(u64),
+    Value(Value),
+    Type(IntType),
+    Variable(VariableType),
+    Fences(Fences),
+}
+
+/// A piece of a line.
+#[derive(Clone, Copy, Debug)]
+enum Piece {
+    Word(&'static str),
+    /// In decimal
+    Number(u64),
+    /// In decimal, with a sign where it is below 0
+    Signed(i128),
+}
+
+/// What the instruction at a place names. Jumps name the place that they lead to.
+fn parts(place: usize, instruction: &Instruction) -> [Option<Part>; 3]
+    requires { place < 2 ^ 63 }
+{
+    let parts = match *instruction {
+        Instruction::Unset { to } | Instruction::Dimensions { to } => (register(to), None, None),
+        Instruction::Constant { to, value } => (register(to), Some(Part::Value(value)), None),
+        Instruction::Move { to, from, name } => (register(to), register(from), number(name)),
+        Instruction::Hold { to, from, kind } => {
+            (register(to), register(from), Some(Part::Variable(kind)))
+        }
+        Instruction::Convert { to, from, kind }
+        | Instruction::Common {
+            to,
+            from,
+            other: kind,
+        } => { (register(to), register(from), Some(Part::Type(kind))) }
+        Instruction::Unary { to, operand, .. } => (register(to), register(operand), None),
+        Instruction::Binary {
+            to,
+            left,
+            right,
+            ..
+        } => { (register(to), register(left), register(right)) }
+        Instruction::Builtin {
+            to,
+            first,
+            second,
+            ..
+        } => { (register(to), register(first), second.map(Part::Register)) }
+        Instruction::Query { to, dimension, .. } => (register(to), register(dimension), None),
+        Instruction::Argument {
+            to,
+            number: place,
+            kind,
+        } => { (register(to), number(place), Some(Part::Variable(kind))) }
+        Instruction::Point { to, from } => (register(to), register(from), None),
+        Instruction::Offset { to, pointer, index } => {
+            (register(to), register(pointer), register(index))
+        }
+        Instruction::Load { to, pointer } => (register(to), Some(Part::Element(pointer)), None),
+        Instruction::Store { pointer, value } => {
+            (Some(Part::Element(pointer)), register(value), None)
+        }
+        Instruction::Update { pointer, value, .. } => {
+            (
+                Some(Part::Element(pointer)),
+                value.map(Part::Register),
+                None,
+            )
+        }
+        Instruction::Barrier {
+            site,
+            depth,
+            fences,
+        } => { (number(site), number(depth), Some(Part::Fences(fences))) }
+        Instruction::Enter { depth } | Instruction::Turn { depth } => (number(depth), None, None),
+        Instruction::Jump { by } => (onward(place, by), None, None),
+        Instruction::JumpIfZero { test, by } => (register(test), onward(place, by), None),
+        Instruction::Back { by } => (back(place, by), None, None),
+        Instruction::End => (None, None, None),
+    };
+    [parts.0, parts.1, parts.2]
+}
+
+fn register(number: u32) -> Option<Part> {
+    Some(Part::Register(number))
+}
+
+fn number(number: u32) -> Option<Part> {
+    Some(Part::Number(u64::from(number)))
+}
+
+/// The place past so many further instructions.
+fn onward(place: usize, by: u32) -> Option<Part>
+    requires { place < 2 ^ 63 }
+{
+    Some(Part::Number(place as u64 + 1 + u64::from(by)))
+}
+
+/// The place so many instructions back.
+fn back(place: usize, by: u32) -> Option<Part> {
+    Some(Part::Number((place as u64).saturating_sub(u64::from(by))))
+}
+
+/// Writes a piece of a line.
+fn write_piece<W: Write>(piece: Piece, writer: &mut W) -> Result<(), WriteFailed>
+    ensures { Writes (W.sink writer.old) result (W.sink writer.new) }
+{
+    match piece {
+        Piece::Word(word) => writer.write(word.as_bytes()),
+        Piece::Number(number) => writer.write(Buffer::new().format(number).as_bytes()),
+        Piece::Signed(number) => writer.write(Buffer::new().format(number).as_bytes()),
+    }
+}
+
+/// Writes pieces one after another.
+fn write_pieces<W: Write>(pieces: &[Piece], writer: &mut W) -> Result<(), WriteFailed>
+    ensures { Writes (W.sink writer.old) result (W.sink writer.new) }
+{
+    for piece in pieces {
+        write_piece(*piece, writer)?;
+    }
+    Ok(())
+}
+
+/// Writes a variable's type.
+fn write_variable<W: Write>(kind: VariableType, writer: &mut W) -> Result<(), WriteFailed>
+    ensures { Writes (W.sink writer.old) result (W.sink writer.new) }
+{
+    match kind {
+        VariableType::Integer(kind) => write_piece(Piece::Word(type_word(kind)), writer),
+        VariableType::Pointer(pointer) => {
+            let constant = if pointer.is_const { "const " } else { "" };
+            write_pieces(
+                &[
+                    Piece::Word(space_word(pointer.space)),
+                    Piece::Word(constant),
+                    Piece::Word(type_word(pointer.element)),
+                    Piece::Word(" *"),
+                ],
+                writer,
+            )
+        }
+    }
+}
+
+/// Writes what an instruction names.
+fn write_part<W: Write>(part: Part, writer: &mut W) -> Result<(), WriteFailed>
+    ensures { Writes (W.sink writer.old) result (W.sink writer.new) }
+{
+    match part {
+        Part::Register(number) => write_pieces(
+            &[Piece::Word("r"), Piece::Number(u64::from(number))],
+            writer,
+        ),
+        Part::Element(number) => write_pieces(
+            &[
+                Piece::Word("[r"),
+                Piece::Number(u64::from(number)),
+                Piece::Word("]"),
+            ],
+            writer,
+        ),
+        Part::Number(number) => write_piece(Piece::Number(number), writer),
+        Part::Value(value) => write_pieces(
+            &[
+                Piece::Word(type_word(value.kind())),
+                Piece::Word(" "),
+                Piece::Signed(value.number()),
+            ],
+            writer,
+        ),
+        Part::Type(kind) => write_piece(Piece::Word(type_word(kind)), writer),
+        Part::Variable(kind) => write_variable(kind, writer),
+        Part::Fences(fences) => write_piece(Piece::Word(fences_word(fences)), writer),
+    }
+}
+
+/// Writes what an instruction names, if it names something here, behind what stands in front of it.
+fn write_behind<W: Write>(
+    front: Piece,
+    part: Option<Part>,
+    writer: &mut W,
+) -> Result<(), WriteFailed>
+    ensures { Writes (W.sink writer.old) result (W.sink writer.new) }
+{
+    let Some(part) = part else {
+        return Ok(());
+    };
+    write_piece(front, writer)?;
+    write_part(part, writer)
+}
+
+/// Writes the line of the instruction at a place.
+fn write_line<W: Write>(
+    place: usize,
+    instruction: &Instruction,
+    writer: &mut W,
+) -> Result<(), WriteFailed>
+    requires { place < 2 ^ 63 }
+    ensures { Writes (W.sink writer.old) result (W.sink writer.new) }
+{
+    write_pieces(
+        &[
+            Piece::Number(place as u64),
+            Piece::Word(" "),
+            Piece::Word(instruction_word(instruction)),
+        ],
+        writer,
+    )?;
+    let [first, second, third] = parts(place, instruction);
+    write_behind(Piece::Word(" "), first, writer)?;
+    write_behind(Piece::Word(", "), second, writer)?;
+    write_behind(Piece::Word(", "), third, writer)?;
+    writer.write(b"\n")
+}
+
+/// Writes one instruction after another.
+fn write_lines<W: Write>(instructions: &[Instruction], writer: &mut W) -> Result<(), WriteFailed>
+    ensures { Writes (W.sink writer.old) result (W.sink writer.new) }
+{
+    for (place, instruction) in instructions.iter().enumerate() {
+        write_line(place, instruction, writer)?;
+    }
+    Ok(())
+}
+
+/// Writes code as text, a line for each instruction: its place, its name, and what it names, as `12 load r37, [r44]`. Registers
+/// stand behind an `r`, in square brackets where what they point to is meant; a jump names the place that it leads to; a variable
+/// is named by its name's place in the tree's table of names. Takes no memory.
+///
+/// `Write` comes where the writer fails; then a beginning of the text may have been written.
+pub fn dump<W: Write>(code: &Code, writer: &mut W) -> Result<(), DumpFault>
+    ensures { Writes (W.sink writer.old) result (W.sink writer.new) }
+{
+    match write_lines(code.instructions(), writer) {
+        Ok(()) => Ok(()),
+        Err(WriteFailed) => Err(DumpFault::Write),
+    }
+}

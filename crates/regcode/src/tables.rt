@@ -1,0 +1,25 @@
+//! What is known of code beside its instructions.
+#![tactic(auto)]
+
+use clmodel::tree::VariableType;
+use clnum::IntType;
+
+/// What a register may hold: a number of a type, or a pointer to elements of a type.
+#[derive(Clone, Copy, Debug, PartialEq, Eq)]
+pub enum RegisterKind {
+    Integer(IntType),
+    Pointer(IntType),
+}
+
+/// The tables of code: registers, names and parameters are named by their places here.
+#[derive(Debug, Drop)]
+pub struct Tables {
+    /// What each register may hold
+    pub registers: Vec<RegisterKind>,
+    /// How many names the tree's table of names has
+    pub names: u32,
+    /// The types of the kernel's parameters
+    pub parameters: Vec<VariableType>,
+    /// How many loops are entered where each instruction stands
+    pub loops: Vec<u32>,
+}

@@ -1,0 +1,138 @@
+//! The words of instructions.
+#![tactic(auto)]
+
+use crate::instruction::Instruction;
+use clmodel::action::Fences;
+use clmodel::setup::{AtomicFunction, WorkItemFunction};
+use clmodel::tree::AddressSpace;
+use clnum::{BinaryOperator, Builtin, IntType, UnaryOperator};
+
+/// The name of a type (OpenCL 1.2, section 6.1.1).
+pub fn type_word(kind: IntType) -> &'static str {
+    match kind {
+        IntType::Char => "char",
+        IntType::Uchar => "uchar",
+        IntType::Short => "short",
+        IntType::Ushort => "ushort",
+        IntType::Int => "int",
+        IntType::Uint => "uint",
+        IntType::Long => "long",
+        IntType::Ulong => "ulong",
+    }
+}
+
+/// The qualifier of an address space (OpenCL 1.2, section 6.5), with a space behind it.
+pub fn space_word(space: AddressSpace) -> &'static str {
+    match space {
+        AddressSpace::Global => "__global ",
+        AddressSpace::Local => "__local ",
+        AddressSpace::Constant => "__constant ",
+    }
+}
+
+/// The flags of a barrier (OpenCL 1.2, section 6.12.8).
+pub fn fences_word(fences: Fences) -> &'static str {
+    match (fences.local, fences.global) {
+        (true, true) => "local and global",
+        (true, false) => "local",
+        (false, true) => "global",
+        (false, false) => "none",
+    }
+}
+
+fn unary_word(operator: UnaryOperator) -> &'static str {
+    match operator {
+        UnaryOperator::Plus => "plus",
+        UnaryOperator::Negate => "negate",
+        UnaryOperator::Complement => "complement",
+        UnaryOperator::Not => "not",
+    }
+}
+
+fn binary_word(operator: BinaryOperator) -> &'static str {
+    match operator {
+        BinaryOperator::Add => "add",
+        BinaryOperator::Subtract => "subtract",
+        BinaryOperator::Multiply => "multiply",
+        BinaryOperator::Divide => "divide",
+        BinaryOperator::Remainder => "remainder",
+        BinaryOperator::ShiftLeft => "shift_left",
+        BinaryOperator::ShiftRight => "shift_right",
+        BinaryOperator::Less => "less",
+        BinaryOperator::Greater => "greater",
+        BinaryOperator::LessOrEqual => "less_or_equal",
+        BinaryOperator::GreaterOrEqual => "greater_or_equal",
+        BinaryOperator::Equal => "equal",
+        BinaryOperator::NotEqual => "not_equal",
+        BinaryOperator::BitAnd => "bit_and",
+        BinaryOperator::BitXor => "bit_xor",
+        BinaryOperator::BitOr => "bit_or",
+    }
+}
+
+fn builtin_word(function: Builtin) -> &'static str {
+    match function {
+        Builtin::Min => "min",
+        Builtin::Max => "max",
+        Builtin::Abs => "abs",
+        Builtin::Clz => "clz",
+        Builtin::Popcount => "popcount",
+        Builtin::Rotate => "rotate",
+    }
+}
+
+fn query_word(function: WorkItemFunction) -> &'static str {
+    match function {
+        WorkItemFunction::GlobalId => "get_global_id",
+        WorkItemFunction::LocalId => "get_local_id",
+        WorkItemFunction::GroupId => "get_group_id",
+        WorkItemFunction::GlobalOffset => "get_global_offset",
+        WorkItemFunction::GlobalSize => "get_global_size",
+        WorkItemFunction::LocalSize => "get_local_size",
+        WorkItemFunction::NumGroups => "get_num_groups",
+    }
+}
+
+fn update_word(function: AtomicFunction) -> &'static str {
+    match function {
+        AtomicFunction::Add => "atomic_add",
+        AtomicFunction::Sub => "atomic_sub",
+        AtomicFunction::Min => "atomic_min",
+        AtomicFunction::Max => "atomic_max",
+        AtomicFunction::And => "atomic_and",
+        AtomicFunction::Or => "atomic_or",
+        AtomicFunction::Xor => "atomic_xor",
+        AtomicFunction::Inc => "atomic_inc",
+        AtomicFunction::Dec => "atomic_dec",
+    }
+}
+
+/// The name of an instruction: that of its operator or its function, if it has one.
+pub fn instruction_word(instruction: &Instruction) -> &'static str {
+    match instruction {
+        Instruction::Constant { .. } => "constant",
+        Instruction::Unset { .. } => "unset",
+        Instruction::Move { .. } => "move",
+        Instruction::Hold { .. } => "hold",
+        Instruction::Convert { .. } => "convert",
+        Instruction::Common { .. } => "common",
+        Instruction::Unary { operator, .. } => unary_word(*operator),
+        Instruction::Binary { operator, .. } => binary_word(*operator),
+        Instruction::Builtin { function, .. } => builtin_word(*function),
+        Instruction::Dimensions { .. } => "get_work_dim",
+        Instruction::Query { function, .. } => query_word(*function),
+        Instruction::Argument { .. } => "argument",
+        Instruction::Point { .. } => "point",
+        Instruction::Offset { .. } => "offset",
+        Instruction::Load { .. } => "load",
+        Instruction::Store { .. } => "store",
+        Instruction::Update { function, .. } => update_word(*function),
+        Instruction::Barrier { .. } => "barrier",
+        Instruction::Enter { .. } => "enter",
+        Instruction::Turn { .. } => "turn",
+        Instruction::Jump { .. } => "jump",
+        Instruction::JumpIfZero { .. } => "jump_if_zero",
+        Instruction::Back { .. } => "back",
+        Instruction::End => "end",
+    }
+}

@@ -1,0 +1,87 @@
+-- Access logs: what is kept of the accesses of a group's work-items, and which of them conflict (OpenCL 1.2, 3.3.1, 6.12.8; own in the log).
+use Rattle.std.specs.Prelude.{◌≡◌, ℕ, zero, suc, ◌+◌, ◌<◌, ◌^◌, ◌⊎◌, Bool, true, false, Option, None, Some, List, [], ◌∷◌, ◌++◌, Result, Ok, Err, if◌then◌else◌}
+use Rattle.std.specs.Option.{option_map}
+use Rattle.std.specs.declared.alloc.AllocError.{AllocError}
+use Rattle.clmodel.specs.Cells.{byte_count}
+use Rattle.clmodel.specs.Launch.{conflict_between}
+use Rattle.clmodel.specs.Run.{or_else, by_region}
+use Rattle.clmodel.specs.declared.access.Access.{Access}
+use Rattle.clmodel.specs.declared.access.Region.{Region}
+use Rattle.clmodel.specs.declared.access.Region.TheVariants as region
+use Rattle.shadow_list.specs.declared.log.Entry.{Entry}
+use Rattle.shadow_list.specs.declared.log.Hit.{Hit}
+use Rattle.shadow_list.specs.declared.log.Fenced.{Fenced}
+use Rattle.shadow_list.specs.declared.log.Fenced.TheVariants as fenced
+
+-- the accesses, the oldest first, and how many barriers the group has passed that fenced local and that fenced global memory
+pub record Log : Type 0 where
+  pub accesses : List Entry
+  pub local_interval : ℕ
+  pub global_interval : ℕ
+
+-- an access as it is kept: with the running interval of its address space
+abbrev pub stamped : Log → Entry → Entry
+stamped log x = record x { access = record x.access { interval = by_region x.access.region log.global_interval log.local_interval } }
+
+-- how the earlier of two accesses conflicts with the later on a byte, if they do, and whether they are of one group
+abbrev pub hit_between : Bool → Entry → Entry → ℕ → Option Hit
+hit_between one_group y x byte =
+    option_map (λ clash. record { clash = clash; earlier = y; later = x; byte = byte }) (conflict_between one_group y.access x.access byte)
+
+-- the conflict of an access on a byte with the earliest that has one
+abbrev pub hit_on : Bool → Entry → ℕ → List Entry → Option Hit
+hit_on one_group x byte [] = None
+hit_on one_group x byte (y ∷ log) = or_else (hit_between one_group y x byte) (hit_on one_group x byte log)
+
+-- the same on the lowest of so many bytes
+abbrev pub hit_from : Bool → Entry → List Entry → ℕ → ℕ → Option Hit
+hit_from one_group x log byte zero = None
+hit_from one_group x log byte (suc count) = or_else (hit_on one_group x byte log) (hit_from one_group x log (suc byte) count)
+
+-- the conflict of an access with a log: on its lowest byte that has one, there with the earliest access
+unfoldable pub hit : Bool → Entry → List Entry → Option Hit
+hit one_group x log = hit_from one_group x log x.access.first (byte_count x.access.width)
+
+-- an access is in a log, whatever the number of its event
+abbrev pub IsThere : List Entry → Access → Type 0
+IsThere [] x = ⊥
+IsThere (y ∷ log) x = (y.access ≡ x) ⊎ IsThere log x
+
+-- a log once an access is kept: at the end, unless it is there
+abbrev pub IsKept : List Entry → Entry → List Entry → Type 0
+IsKept log x new = (IsThere log x.access × (new ≡ log)) ⊎ ((IsThere log x.access → ⊥) × (new ≡ log ++ x ∷ []))
+
+-- what `note` leaves and answers
+abbrev pub IsNoted : Log → Entry → Log → Result (Option Hit) AllocError → Type 0
+IsNoted old x new (Ok found) =
+    (found ≡ hit true (stamped old x) old.accesses) × IsKept old.accesses (stamped old x) new.accesses
+    × (new.local_interval ≡ old.local_interval) × (new.global_interval ≡ old.global_interval)
+IsNoted old x new (Err _) = new ≡ old
+
+-- the number of the running interval of an address space
+abbrev pub running : Log → Fenced → ℕ
+running log fenced.Local = log.local_interval
+running log fenced.Global = log.global_interval
+
+-- the log once a barrier that fences an address space is passed
+abbrev pub after_fence : Log → Fenced → Log
+after_fence log fenced.Local = record log { local_interval = log.local_interval + 1 }
+after_fence log fenced.Global = record log { global_interval = log.global_interval + 1 }
+
+-- an access of a buffer
+abbrev pub in_buffer : Region → Bool
+in_buffer (region.Buffer number) = true
+in_buffer (region.Local group number) = false
+
+-- the conflict of the first access of another group's log that has one with a log: only buffers are shared between groups (6.5.2)
+abbrev pub across : List Entry → List Entry → Option Hit
+across log [] = None
+across log (x ∷ later) = or_else (if in_buffer x.access.region then hit false x log else None) (across log later)
+
+-- its bytes are numbers of 64 bits
+abbrev pub IsPlaced : Entry → Type 0
+IsPlaced x = x.access.first + byte_count x.access.width < 2 ^ 64
+
+-- a log by its parts
+abbrev pub logged : List Entry → ℕ → ℕ → Log
+logged accesses local_interval global_interval = record { accesses = accesses; local_interval = local_interval; global_interval = global_interval }

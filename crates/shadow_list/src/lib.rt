@@ -1,0 +1,12 @@
+//! Access logs of work-groups: which accesses conflict.
+#![tactic(auto)]
+
+mod compare;
+pub mod list;
+pub mod log;
+mod search;
+#[cfg(test)]
+mod tests;
+
+pub use list::ListLog;
+pub use log::{AccessLog, Accesses, Entry, Fenced, Hit};

@@ -1,0 +1,63 @@
+//! What an access log is.
+
+ghost use Rattle.std.specs.Prelude.{◌≡◌, ◌<◌, ◌+◌, ◌-◌, ◌^◌, ℕ, length, slice_index_or};
+ghost use Rattle.shadow_list.specs.Log.{Log, IsNoted, IsPlaced, running, after_fence, across};
+
+use clmodel::access::{Access, Clash};
+use std::alloc::AllocError;
+
+/// An access with the number of its event in the run of its group.
+#[derive(Clone, Copy, Debug, PartialEq, Eq)]
+pub struct Entry {
+    pub access: Access,
+    pub event: u32,
+}
+
+/// A conflict of two accesses on a byte.
+#[derive(Clone, Copy, Debug, PartialEq, Eq)]
+pub struct Hit {
+    pub clash: Clash,
+    pub earlier: Entry,
+    pub later: Entry,
+    pub byte: u64,
+}
+
+/// An address space that a barrier may fence (OpenCL 1.2, section 6.12.8).
+#[derive(Clone, Copy, Debug, PartialEq, Eq)]
+pub enum Fenced {
+    Local,
+    Global,
+}
+
+/// Accesses in their order, the oldest first, seen as their list with the numbers of the running intervals.
+pub trait Accesses {
+    ghost log: { Self → Log };
+
+    /// How many accesses there are.
+    fn len(&self) -> usize
+        ensures { result ≡ length (log self.now).accesses };
+
+    /// An access.
+    fn get(&self, i: usize) -> Entry
+        requires { i < length (log self.now).accesses }
+        ensures value { result ≡ slice_index_or (log self.now).accesses i result }
+        ensures placed { IsPlaced result };
+}
+
+/// A log of the accesses of a group, which finds the conflicts of a new one (OpenCL 1.2, sections 3.3.1 and 6.12.8).
+pub trait AccessLog: Accesses {
+    /// Judges a new access, and keeps it where it isn't there yet. The access gets the running interval of its address space. The
+    /// conflict answered is that on the lowest byte, there with the earliest access. An error is want of memory, and changes nothing.
+    fn note(&mut self, entry: Entry) -> Result<Option<Hit>, AllocError>
+        requires { IsPlaced entry }
+        ensures { IsNoted (Self.log self.old) entry (Self.log self.new) result };
+
+    /// Begins the next interval of an address space.
+    fn fence(&mut self, space: Fenced)
+        requires { running (Self.log self.old) space < 2 ^ 32 - 1 }
+        ensures { Self.log self.new ≡ after_fence (Self.log self.old) space };
+
+    /// The conflict with a later group's log, of its first access that has one.
+    fn conflicts_with<M: Accesses>(&self, later: &M) -> Option<Hit>
+        ensures { result ≡ across (Self.log self.now).accesses (M.log later.now).accesses };
+}

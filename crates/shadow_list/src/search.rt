@@ -1,0 +1,74 @@
+//! The conflicts of an access with many.
+
+ghost use Rattle.std.specs.Prelude.{◌≡◌, ◌+◌, ◌<◌, ◌^◌, ℕ, false, None, All, IsTrue};
+ghost use Rattle.clmodel.specs.Cells.{byte_count};
+ghost use Rattle.shadow_list.specs.Log.{IsPlaced, IsThere, hit_on, hit_from, hit};
+
+use crate::compare::{byte_count, hit_between, may_conflict};
+use crate::log::{Entry, Hit};
+use clmodel::access::Access;
+
+/// The conflict of an access on a byte with the earliest that has one.
+fn hit_on(one_group: bool, x: &Entry, byte: u64, log: &[Entry]) -> Option<Hit>
+    ensures { result ≡ hit_on one_group x.now byte log.now }
+{
+    for y in log {
+        if let Some(hit) = hit_between(one_group, y, x, byte) {
+            return Some(hit);
+        }
+    }
+    None
+}
+
+/// Whether no access of a log conflicts with this one: one pass, however wide it is.
+fn is_clear(one_group: bool, x: &Entry, log: &[Entry]) -> bool
+    requires placed { IsPlaced x.now }
+    requires all_placed { All IsPlaced log.now }
+    ensures { IsTrue result → (byte : ℕ) → hit_on one_group x.now byte log.now ≡ None }
+{
+    for y in log {
+        if may_conflict(one_group, &y.access, &x.access) {
+            return false;
+        }
+    }
+    true
+}
+
+/// The conflict of an access with a log: on its lowest byte that has one, there with the earliest access.
+pub fn hit(one_group: bool, x: &Entry, log: &[Entry]) -> Option<Hit>
+    requires placed { IsPlaced x.now }
+    requires all_placed { All IsPlaced log.now }
+    ensures { result ≡ hit one_group x.now log.now }
+{
+    if is_clear(one_group, x, log) {
+        return None;
+    }
+    let first = x.access.first;
+    for byte in first..first + byte_count(x.access.width) {
+        if let Some(hit) = hit_on(one_group, x, byte, log) {
+            return Some(hit);
+        }
+    }
+    None
+}
+
+/// Whether two accesses are equal.
+fn is_same(x: &Access, y: &Access) -> bool
+    ensures same { IsTrue result → x.now ≡ y.now }
+    ensures other { result ≡ false → x.now ≡ y.now → ⊥ }
+{
+    x == y
+}
+
+/// Whether an access is in a log.
+pub fn is_there(log: &[Entry], access: &Access) -> bool
+    ensures there { IsTrue result → IsThere log.now access.now }
+    ensures new { result ≡ false → IsThere log.now access.now → ⊥ }
+{
+    for y in log {
+        if is_same(&y.access, access) {
+            return true;
+        }
+    }
+    false
+}

@@ -1,0 +1,157 @@
+//! Numbers in rows of bytes, the lowest byte first.
+
+ghost use Rattle.std.specs.Prelude.{◌≡◌, ◌≤◌, ◌<◌, ◌+◌, ◌^◌, ℕ, Option, Some, length, map, nat_le, false, IfOk, IfErr};
+ghost use Rattle.clmodel.specs.Cells.{cells_of, number, lowest_unset, written, combined, signed_place};
+ghost use Rattle.spaces_base.specs.Space.{IsLoaded, IsStored, IsUpdated};
+
+use crate::space::SpaceFault;
+use crate::width::byte_count;
+use clmodel::access::{Class, Width};
+
+/// A byte that may be unset, as it lies in a row.
+pub trait Cell: Copy {
+    ghost content: { Self → Option ℕ };
+
+    /// The byte, if it is set.
+    fn byte(self) -> Option<u8>
+        ensures { result ≡ content self };
+
+    /// A byte that is set.
+    fn set(byte: u8) -> Self
+        ensures { content result ≡ Some byte };
+}
+
+impl Cell for u8 {
+    ghost content = { Some };
+
+    fn byte(self) -> Option<u8> {
+        Some(self)
+    }
+
+    fn set(byte: u8) -> Self {
+        byte
+    }
+}
+
+impl Cell for Option<u8> {
+    ghost content = { λ cell. cell };
+
+    fn byte(self) -> Option<u8> {
+        self
+    }
+
+    fn set(byte: u8) -> Self {
+        Some(byte)
+    }
+}
+
+/// The number of so many bytes, or the lowest of them that is unset.
+pub fn read<C: Cell>(cells: &[C], first: usize, count: usize) -> Result<u64, u64>
+    requires short { count ≤ 8 }
+    requires inside { first + count ≤ length cells.now }
+    ensures value { IfOk result (λ value. number (cells_of (map C.content cells.now)) first count ≡ Some value) }
+    ensures below { IfOk result (λ value. value < 256 ^ count) }
+    ensures unset { IfErr result (λ byte. lowest_unset (cells_of (map C.content cells.now)) first count ≡ Some byte) }
+{
+    if count == 0 {
+        return Ok(0);
+    }
+    let Some(low) = cells[first].byte() else {
+        return Err(first as u64);
+    };
+    match read(cells, first + 1, count - 1) {
+        Ok(high) => Ok(low as u64 + 256 * high),
+        Err(byte) => Err(byte),
+    }
+}
+
+/// Puts the low bytes of a value, so many, into a row.
+pub fn put<C: Cell>(cells: &mut [C], first: usize, count: usize, value: u64)
+    requires short { count ≤ 8 }
+    requires inside { first + count ≤ length cells.old }
+    ensures same_length { length cells.new ≡ length cells.old }
+    ensures bytes { (byte : ℕ) → cells_of (map C.content cells.new) byte ≡ written (cells_of (map C.content cells.old)) first count value byte }
+{
+    if count > 0 {
+        cells[first] = C::set((value % 256) as u8);
+        put(cells, first + 1, count - 1, value / 256);
+    }
+}
+
+/// A number's place in the order of signed numbers, and back.
+fn signed_place(x: u32) -> u32
+    ensures { result ≡ signed_place x }
+{
+    x.wrapping_add(1 << 31)
+}
+
+/// What an update leaves of a number.
+pub fn combined(class: Class, x: u32, operand: u32) -> u32
+    ensures { result ≡ combined class x operand }
+{
+    match class {
+        Class::Add => x.wrapping_add(operand),
+        Class::And => x & operand,
+        Class::Or => x | operand,
+        Class::Xor => x ^ operand,
+        Class::SignedMin => signed_place(signed_place(x).min(signed_place(operand))),
+        Class::UnsignedMin => x.min(operand),
+        Class::SignedMax => signed_place(signed_place(x).max(signed_place(operand))),
+        Class::UnsignedMax => x.max(operand),
+    }
+}
+
+/// Whether so many bytes from a byte on lie within a length.
+fn is_inside(length: usize, at: u64, count: u64) -> bool
+    ensures { result ≡ nat_le (at + count) length }
+{
+    count <= length as u64 && at <= length as u64 - count
+}
+
+/// A load from a row.
+pub fn load<C: Cell>(cells: &[C], at: u64, width: Width) -> Result<u64, SpaceFault>
+    ensures { IsLoaded (map C.content cells.now) at width result }
+{
+    let count = byte_count(width);
+    if !is_inside(cells.len(), at, count) {
+        return Err(SpaceFault::Bounds);
+    }
+    match read(cells, at as usize, count as usize) {
+        Ok(value) => Ok(value),
+        Err(byte) => Err(SpaceFault::Unset(byte)),
+    }
+}
+
+/// A store into a row.
+pub fn store<C: Cell>(cells: &mut [C], at: u64, width: Width, value: u64) -> Result<(), SpaceFault>
+    ensures row { IsStored false false (map C.content cells.old) at width value (map C.content cells.new) result }
+{
+    let count = byte_count(width);
+    if !is_inside(cells.len(), at, count) {
+        return Err(SpaceFault::Bounds);
+    }
+    put(cells, at as usize, count as usize, value);
+    Ok(())
+}
+
+/// An atomic update of a row.
+pub fn update<C: Cell>(
+    cells: &mut [C],
+    at: u64,
+    class: Class,
+    operand: u32,
+) -> Result<(), SpaceFault>
+    ensures row { IsUpdated false false (map C.content cells.old) at class operand (map C.content cells.new) result }
+{
+    if !is_inside(cells.len(), at, 4) {
+        return Err(SpaceFault::Bounds);
+    }
+    match read(cells, at as usize, 4) {
+        Ok(found) => {
+            let value = combined(class, found as u32, operand);
+            put(cells, at as usize, 4, value as u64);
+            Ok(())
+        }
+        Err(byte) => Err(SpaceFault::Unset(byte)),
+    }
+}

@@ -1,0 +1,18 @@
+//! Memory spaces: what a load, a store and an atomic update of a work-item do to the bytes of one object.
+#![tactic(auto)]
+
+mod cells;
+pub mod constant;
+pub mod local;
+pub mod plain;
+pub mod private;
+pub mod space;
+#[cfg(test)]
+mod tests;
+pub mod width;
+
+pub use constant::ConstView;
+pub use local::LocalMem;
+pub use plain::Plain;
+pub use private::PrivateArray;
+pub use space::{Space, SpaceFault};
