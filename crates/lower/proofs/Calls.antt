@@ -18,7 +18,7 @@ use Rattle.regcode.proofs.Registers.{reg_kept}
 use Rattle.lower_expr.specs.Scope.{Scope, register_at, view}
 use Rattle.lower_expr.specs.Agreement.{HasAt, Hold}
 use Rattle.lower_expr.proofs.Places.{has_left, has_right}
-use Rattle.lower.specs.Code.{Exits, variable, Calls, no_value_code, stmts_code, parameter_variables, pass_code, result_in, body_code, call_code, arguments_code, kernel_code}
+use Rattle.lower_code.specs.Code.{Exits, variable, Calls, no_value_code, stmts_code, parameter_variables, pass_code, result_in, body_code, call_code, arguments_code, kernel_code}
 use Rattle.lower.proofs.Scopes.{kind_small}
 use Rattle.lower.proofs.Stands.{Stands, Returned, put_stands, stands_to, stands_here, here_at}
 use Rattle.lower.proofs.Parts.{Placed}

@@ -11,7 +11,7 @@ use Rattle.lower_expr.specs.Expressions.{expr_code, register_for}
 use Rattle.lower_expr.specs.Agreement.{HasAt}
 use Rattle.lower_expr.proofs.Places.{has_left, has_right, has_moved, seen_kept}
 use Rattle.lower_expr.proofs.Expressions.{expr_runs}
-use Rattle.lower.specs.Code.{condition_code, while_code, do_code}
+use Rattle.lower_code.specs.Code.{condition_code, while_code, do_code}
 use Rattle.lower.proofs.Stands.{Stands, outer_turns, inner_turns, all_turns, reached_stands, passed_stands, onward_stands, stands_to, stands_out, here_at}
 
 -- the turns of the loops with one more of the innermost

@@ -23,7 +23,7 @@ use Rattle.lower_expr.specs.Scope.{Scope, register_at, register_of, seen, free_l
 use Rattle.lower_expr.specs.Expressions.{kind_named, count, place_code, place_register, register_for, registers_for, call_code, call_only_code}
 use Rattle.lower_expr.specs.Agreement.{HasAt, Reached, Hold}
 use Rattle.lower_expr.proofs.Places.{has_moved, reached_put}
-use Rattle.lower.specs.Code.{hold_code, place_type, fetch_code, put_code, wait_code}
+use Rattle.lower_code.specs.Code.{hold_code, place_type, fetch_code, put_code, wait_code}
 use Rattle.lower_expr.proofs.Expressions.{expr_runs, place_runs, call_runs}
 use Rattle.lower.proofs.Scopes.{Same, put_same, view_same, slot_between, assign_put, assign_none}
 use Rattle.lower.proofs.Stands.{Stands, put_stands, passed_stands, stands_to, here_at}

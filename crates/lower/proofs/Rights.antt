@@ -23,7 +23,7 @@ use Rattle.lower_expr.specs.Expressions.{kind_named, kind_of, terms_code, place_
 use Rattle.lower_expr.specs.Agreement.{HasAt, Hold}
 use Rattle.lower_expr.proofs.Places.{has_left, has_right, has_moved, register_below, seen_kept}
 use Rattle.lower_expr.proofs.Expressions.{expr_runs, terms_run}
-use Rattle.lower.specs.Code.{Calls, result_type, needed_code, place_type, fetch_code, put_code, combine_code, right_code, right_type, assign_code, compound_code, step_code, call_only_statement}
+use Rattle.lower_code.specs.Code.{Calls, result_type, needed_code, place_type, fetch_code, put_code, combine_code, right_code, right_type, assign_code, compound_code, step_code, call_only_statement}
 use Rattle.lower.proofs.Scopes.{Same, put_same, view_same}
 use Rattle.lower.proofs.Stands.{Stands, Returned, stands_then, reached_stands, put_stands, stands_to, stands_here, here_at, seen_stands}
 use Rattle.lower.proofs.Parts.{Held, Placed, arguments_placed, reach_runs, fetch_runs, put_runs, put_unset, binary_unset, wait_runs, only_runs}

@@ -14,7 +14,7 @@ use Rattle.clmodel.specs.declared.tree.Parameter.{Parameter}
 use Rattle.clmodel.specs.declared.tree.VariableType.{VariableType}
 use Rattle.lower_expr.specs.Scope.{Scope, register_at, register_of, free_level}
 use Rattle.lower_expr.specs.Expressions.{kind_named}
-use Rattle.lower.specs.Code.{variable, with_variable, parameter_variables, scope_after, scope_after_part, scope_after_all}
+use Rattle.lower_code.specs.Code.{variable, with_variable, parameter_variables, scope_after, scope_after_part, scope_after_all}
 use Rattle.lower.specs.Accepted.{InScope, Matches}
 use Rattle.lower.proofs.Looking.{look_left, look_last}
 

@@ -7,7 +7,7 @@ use Rattle.regcode.specs.Listing.{Listing}
 use Rattle.regcode.specs.Rules.{loops_at, most_loops, Leads, Goes}
 use Rattle.regcode.specs.declared.instruction.Instruction.{Instruction}
 use Rattle.regcode.specs.declared.instruction.Instruction.TheVariants as instruction
-use Rattle.lower.specs.Code.{Exits, past}
+use Rattle.lower_code.specs.Code.{Exits, past}
 use Rattle.lower.specs.Tables.{depth_after}
 use Rattle.lower.specs.Accepted.{Stays, Flat, Standing, ends, Going, Opens, Sound}
 

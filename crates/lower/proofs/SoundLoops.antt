@@ -5,7 +5,7 @@ use Rattle.regcode.specs.Listing.{Listing}
 use Rattle.regcode.specs.Rules.{loops_at, most_loops, is_turn, Leads}
 use Rattle.regcode.specs.declared.instruction.Instruction.{Instruction}
 use Rattle.regcode.specs.declared.instruction.Instruction.TheVariants as instruction
-use Rattle.lower.specs.Code.{Exits, body_exits, while_code, do_code, turn_code}
+use Rattle.lower_code.specs.Code.{Exits, body_exits, while_code, do_code, turn_code}
 use Rattle.lower.specs.Accepted.{Standing, ends, Going, Opens, Sound}
 use Rattle.lower.proofs.Sound.{leads_at, leads_more, there, first_leads, standing_left, standing_right, ends_both, going_both}
 

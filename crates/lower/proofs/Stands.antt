@@ -10,7 +10,7 @@ use Rattle.regcode.specs.declared.instruction.Instruction.{Instruction}
 use Rattle.regcode.proofs.Agreement.{Agree, with_fewer}
 use Rattle.lower_expr.specs.Scope.{Scope, register_at, view, seen, free_level}
 use Rattle.lower_expr.specs.Agreement.{Reached}
-use Rattle.lower.specs.Code.{Exits}
+use Rattle.lower_code.specs.Code.{Exits}
 use Rattle.lower.proofs.Scopes.{Same, put_same, view_same, Within, outer_left}
 
 -- a state at a place, with the registers below a level of another state, inside loops that have made these turns

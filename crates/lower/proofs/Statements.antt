@@ -18,7 +18,7 @@ use Rattle.lower_expr.specs.Expressions.{expr_code, register_for}
 use Rattle.lower_expr.specs.Agreement.{HasAt}
 use Rattle.lower_expr.proofs.Places.{has_left, has_right, has_moved, seen_kept}
 use Rattle.lower_expr.proofs.Expressions.{expr_runs}
-use Rattle.lower.specs.Code.{Exits, past, body_exits, variable, with_variable, variables_after, variables_after_part, variables_after_all, Calls, no_value_code, value_code, condition_code, while_code, right_code, right_type, stmt_code, part_code, stmts_code}
+use Rattle.lower_code.specs.Code.{Exits, past, body_exits, variable, with_variable, variables_after, variables_after_part, variables_after_all, Calls, no_value_code, value_code, condition_code, while_code, right_code, right_type, stmt_code, part_code, stmts_code}
 use Rattle.lower.proofs.Scopes.{put_same, view_same, view_length, Within, within_self, within_one, within_trans, leave_view, leave_self, outer_left}
 use Rattle.lower.proofs.Stands.{Stands, Places, Leads, Returned, Ends, reached_stands, put_stands, passed_stands, onward_stands, stands_to, stands_then, stands_out, here_at, seen_stands, ends_within, ends_before}
 use Rattle.lower.proofs.Parts.{hold_unset}

@@ -19,7 +19,7 @@ use Rattle.clmodel.specs.declared.tree.VariableType.{VariableType}
 use Rattle.regcode.specs.declared.instruction.Instruction.{Instruction}
 use Rattle.regcode.specs.declared.instruction.Instruction.TheVariants as instruction
 use Rattle.lower_expr.specs.Scope.{Scope, register_at}
-use Rattle.lower.specs.Code.{Exits, parameter_variables, pass_code, no_value_code, stmts_code, result_in, body_code, call_code, arguments_code, kernel_code}
+use Rattle.lower_code.specs.Code.{Exits, parameter_variables, pass_code, no_value_code, stmts_code, result_in, body_code, call_code, arguments_code, kernel_code}
 use Rattle.lower.specs.Accepted.{Suit, Matches, Distinct, TypedKernelsVerified}
 use Rattle.lower.proofs.Suiting.{is_at, suit_both, unset_suits, hold_suits, argument_suits}
 use Rattle.lower.proofs.Looking.{look_left, look_last, look_none}

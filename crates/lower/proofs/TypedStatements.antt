@@ -14,7 +14,7 @@ use Rattle.regcode.specs.declared.instruction.Instruction.{Instruction}
 use Rattle.regcode.specs.declared.instruction.Instruction.TheVariants as instruction
 use Rattle.lower_expr.specs.Scope.{Scope, register_at, free_level}
 use Rattle.lower_expr.specs.Expressions.{kind_of, register_for, expr_code}
-use Rattle.lower.specs.Code.{Exits, past, body_exits, with_variable, scope_after_part, scope_after_all, Calls, no_value_code, value_code, condition_code, while_code, right_code, right_type, stmt_code, part_code, stmts_code}
+use Rattle.lower_code.specs.Code.{Exits, past, body_exits, with_variable, scope_after_part, scope_after_all, Calls, no_value_code, value_code, condition_code, while_code, right_code, right_type, stmt_code, part_code, stmts_code}
 use Rattle.lower.specs.Accepted.{Matches, Suit}
 use Rattle.lower.proofs.Suiting.{is_at, is_as, suit_both, unset_suits, hold_suits, branch_suits}
 use Rattle.lower.proofs.Suited.{type_is, expression_suits}

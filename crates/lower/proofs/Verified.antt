@@ -4,7 +4,7 @@ use Rattle.std.proofs.lemmas.List.{length-append}
 use Rattle.clmodel.specs.Next.{sites_in}
 use Rattle.regcode.specs.declared.instruction.Instruction.{Instruction}
 use Rattle.regcode.specs.declared.instruction.Instruction.TheVariants as instruction
-use Rattle.lower.specs.Code.{result_in, body_code, call_code, arguments_code, kernel_code}
+use Rattle.lower_code.specs.Code.{result_in, body_code, call_code, arguments_code, kernel_code}
 use Rattle.lower.specs.Tables.{loops_from}
 use Rattle.lower.specs.Accepted.{KernelsVerified}
 use Rattle.lower.proofs.Tabled.{suit_fits, loops_counted}

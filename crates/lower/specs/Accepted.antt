@@ -15,7 +15,7 @@ use Rattle.clmodel.specs.Typing.Rules.{Types, TypesPlace}
 use Rattle.lower_expr.specs.Scope.{Scope, register_at, register_of}
 use Rattle.lower_expr.specs.Expressions.{kind_named, expr_code, place_code}
 use Rattle.regcode.specs.declared.instruction.Instruction.TheVariants as instruction
-use Rattle.lower.specs.Code.{Exits, Calls, stmts_code, kernel_code}
+use Rattle.lower_code.specs.Code.{Exits, Calls, stmts_code, kernel_code}
 use Rattle.lower.specs.Tables.{register_kind, registers_of, names_of, depth_after, tabled}
 
 -- these registers are in the tables, each with its kind

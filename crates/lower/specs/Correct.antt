@@ -6,7 +6,7 @@ use Rattle.clmodel.specs.Tree.{Func}
 use Rattle.clmodel.specs.declared.action.Answer.{Answer}
 use Rattle.regcode.specs.Listing.{Listing}
 use Rattle.regcode.specs.Machine.{acts}
-use Rattle.lower.specs.Code.{kernel_code}
+use Rattle.lower_code.specs.Code.{kernel_code}
 
 -- A kernel's code makes, for each launch of it, each item and each list of answers, the action that the tree makes, whatever its tables are.
 unfoldable pub ActsAsTheTree : Type 0

@@ -1,4 +1,4 @@
-pub mod Code
 pub mod Correct
 pub mod Tables
 pub mod Accepted
+pub mod Lowers

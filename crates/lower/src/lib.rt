@@ -2,4 +2,7 @@
 #![tactic(auto)]
 
 pub mod code_laws;
+mod lowering;
 pub mod table_laws;
+
+pub use lowering::{LowerFault, lower_kernel};
