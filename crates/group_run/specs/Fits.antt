@@ -40,8 +40,8 @@ pub record Holds {S : Type 0} (bytes : S → List (Option ℕ)) (launch : Launch
 -- The program's items, numbers of answers given, spaces and log fit a state: each item acts as the launch says after the answers of
 -- the state, the spaces hold its memory, and the log keeps its log.
 pub record Fits
-  {I G : Type 0} (acts : I → List Answer → Action) (bytes : G → List (Option ℕ)) (plan : Plan) (items : List I) (given : List ℕ) (globals : List G)
-  (locals : List (List (Option ℕ))) (log : Log) (state : State) : Type 0 where
+    {I G : Type 0} (acts : I → List Answer → Action) (bytes : G → List (Option ℕ)) (plan : Plan) (items : List I) (given : List ℕ) (globals : List G)
+    (locals : List (List (Option ℕ))) (log : Log) (state : State) : Type 0 where
   pub whole : IsGroup plan
   pub bounded : (bound : ℕ) × (bound < 2 ^ 32) × IsBounded plan.launch bound
   pub acting : (k : ℕ) (i : I) → slice_get items k ≡ Some i
