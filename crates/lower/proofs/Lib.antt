@@ -19,3 +19,6 @@ pub mod Scoped
 pub mod TypedRights
 pub mod TypedStatements
 pub mod TypedKernels
+pub mod Functions
+pub mod Counted
+pub mod Lowered

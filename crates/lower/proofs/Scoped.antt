@@ -1,5 +1,5 @@
 -- The scope of code has the variables of the context behind each declaration, and a context's names of helpers are those of the functions before.
-use Rattle.std.proofs.Common.{◌≡◌, ℕ, ◌+◌, Bool, true, false, not, ◌&&◌, nat_eq, if◌then◌else◌, Option, None, Some, is_some, List, [], ◌∷◌, ◌++◌, length, refl, ap, sym, subst, ◌∙◌, eqb-true}
+use Rattle.std.proofs.Common.{◌≡◌, ℕ, Bool, true, false, not, ◌&&◌, nat_eq, if◌then◌else◌, Option, None, Some, is_some, List, [], ◌∷◌, refl, ap, sym, subst, ◌∙◌, eqb-true}
 use Rattle.std.specs.Map.{lookup}
 use Rattle.std.specs.Option.{option_or}
 use Rattle.clmodel.specs.Tree as tree
@@ -14,8 +14,8 @@ use Rattle.clmodel.specs.declared.tree.Parameter.{Parameter}
 use Rattle.clmodel.specs.declared.tree.VariableType.{VariableType}
 use Rattle.lower_expr.specs.Scope.{Scope, register_at, register_of, free_level}
 use Rattle.lower_expr.specs.Expressions.{kind_named}
-use Rattle.lower_code.specs.Code.{variable, with_variable, parameter_variables, scope_after, scope_after_part, scope_after_all}
-use Rattle.lower.specs.Accepted.{InScope, Matches}
+use Rattle.lower_code.specs.Code.{with_variable, parameter_variables, scope_after, scope_after_part, scope_after_all}
+use Rattle.lower.specs.Accepted.{Matches}
 use Rattle.lower.proofs.Looking.{look_left, look_last}
 
 -- a name that stands for a helper

@@ -10,7 +10,7 @@ use Rattle.clmodel.specs.Next.{sites_in}
 use Rattle.clmodel.specs.Setup.{kernel_in, functions_before}
 use Rattle.clmodel.specs.Tree.{Func, Funcs, NoFunc, ThenFunc}
 use Rattle.clmodel.specs.Typing.{IsTypedProgram}
-use Rattle.clmodel.specs.Typing.Context.{Context, Signature, signature_of, is_reserved}
+use Rattle.clmodel.specs.Typing.Context.{Signature, signature_of, is_reserved}
 use Rattle.clmodel.specs.Typing.Functions.{signature, signatures, begin, with_params, is_new, names, IsTypedFunction, AreTypedFunctions}
 use Rattle.clmodel.specs.Typing.Sizes.{sizes_of, row_size}
 use Rattle.clmodel.specs.declared.setup.BuiltIn.{BuiltIn}
@@ -22,7 +22,7 @@ use Rattle.lower_expr.specs.Scope.{Scope, register_at}
 use Rattle.lower_code.specs.Code.{Exits, parameter_variables, pass_code, no_value_code, stmts_code, result_in, body_code, call_code, arguments_code, kernel_code}
 use Rattle.lower.specs.Accepted.{Suit, Matches, Distinct, TypedKernelsVerified}
 use Rattle.lower.proofs.Suiting.{is_at, suit_both, unset_suits, hold_suits, argument_suits}
-use Rattle.lower.proofs.Looking.{look_left, look_last, look_none}
+use Rattle.lower.proofs.Looking.{look_left, look_last}
 use Rattle.lower.proofs.Scoped.{function_unbound, matches_params, with_params_before}
 use Rattle.lower.proofs.TypedRights.{Filled, CallSuits, no_value_suits}
 use Rattle.lower.proofs.TypedStatements.{stmts_suit}

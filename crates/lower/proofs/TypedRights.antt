@@ -1,14 +1,12 @@
 -- The code of what typed statements assign, and of the calls in them, names registers of the kinds that its instructions want.
-use Rattle.std.proofs.Common.{◌≡◌, ℕ, suc, ◌+◌, Bool, true, false, IsTrue, Option, None, Some, List, [], ◌∷◌, ◌++◌, length, slice_get, refl, ap, ap₂, sym, subst, ◌∙◌, arith}
+use Rattle.std.proofs.Common.{◌≡◌, ℕ, ◌+◌, Bool, true, false, IsTrue, Option, None, Some, List, [], ◌∷◌, ◌++◌, length, slice_get, refl, ap, ap₂, sym, subst, ◌∙◌, arith}
 use Rattle.std.proofs.lemmas.List.{length-append}
-use Rattle.clnum.specs.Operations.{binary_kind}
 use Rattle.clnum.specs.declared.int_type.IntType.{IntType}
 use Rattle.clnum.specs.declared.int_type.IntType.TheVariants.{Char, Uchar, Short, Ushort, Int, Uint, Long, Ulong}
 use Rattle.clnum.specs.declared.operators.BinaryOperator.{BinaryOperator}
-use Rattle.clnum.specs.declared.operators.Builtin.TheVariants as integer
 use Rattle.clmodel.specs.Barrier.{is_barrier, fences}
 use Rattle.clmodel.specs.BuiltIns.{built_in}
-use Rattle.clmodel.specs.Next.{base_type, infix_type, argument_type, call_type, step_operator, HelperCall, helper_or, helper_call}
+use Rattle.clmodel.specs.Next.{base_type, infix_type, argument_type, call_type, step_operator, helper_or, helper_call}
 use Rattle.clmodel.specs.Tree as tree
 use Rattle.clmodel.specs.Tree.{Term, Terms, Place, MaybeTerm}
 use Rattle.clmodel.specs.Typing.Context.{Context, Signature, signature_of, meaning, BuiltInFunction}
@@ -16,7 +14,6 @@ use Rattle.clmodel.specs.Typing.Rules as rule
 use Rattle.clmodel.specs.Typing.Rules.{Types, TypesAll, TypesPlace, Passes, Operates, AreGiven, CallsHelper, Gives, IsCondition}
 use Rattle.clmodel.specs.declared.action.Fences.{Fences}
 use Rattle.clmodel.specs.declared.setup.BuiltIn.{BuiltIn}
-use Rattle.clmodel.specs.declared.setup.BuiltIn.TheVariants as built_in_function
 use Rattle.clmodel.specs.declared.tree.InfixOperator.TheVariants.{Arithmetic}
 use Rattle.clmodel.specs.declared.tree.VariableType.{VariableType}
 use Rattle.clmodel.specs.declared.tree.VariableType.TheVariants.{Integer, Pointer}
@@ -24,10 +21,10 @@ use Rattle.regcode.specs.Rules as rules
 use Rattle.regcode.specs.declared.instruction.Instruction.{Instruction}
 use Rattle.regcode.specs.declared.instruction.Instruction.TheVariants as instruction
 use Rattle.regcode.specs.declared.tables.RegisterKind.TheVariants as register_kinds
-use Rattle.lower_expr.specs.Scope.{Scope, register_at, register_of, free_level}
+use Rattle.lower_expr.specs.Scope.{Scope, register_at, free_level}
 use Rattle.lower_expr.specs.Expressions.{kind_of, kind_named, register_for, registers_for, expr_code, terms_code, place_code, place_register, call_only_code, count}
 use Rattle.lower_code.specs.Code.{Calls, result_type, needed_code, no_value_code, value_code, hold_code, place_type, fetch_code, put_code, combine_code, wait_code, condition_code, turn_code, right_code, right_type, assign_code, compound_code, step_code, call_only_statement}
-use Rattle.lower.specs.Accepted.{Is, Matches, Suits, Suit}
+use Rattle.lower.specs.Accepted.{Is, Matches, Suit}
 use Rattle.lower.proofs.Suiting.{is_at, is_as, suit_both, constant_suits, unset_suits, hold_suits, binary_suits, store_suits, load_suits, update_suits, update_by_one_suits, branch_suits}
 use Rattle.lower.proofs.Suited.{built_in_is, infix_is, call_is, argument_is, last_of, types_are, type_is, numbered, registers_are, variable_suits, call_suits, expression_suits, terms_suit, place_suits}
 use Rattle.lower.proofs.Scoped.{callable_is}

@@ -1,16 +1,13 @@
 -- The code of typed statements names registers of the kinds that its instructions want.
-use Rattle.std.proofs.Common.{◌≡◌, ℕ, ◌+◌, ◌++◌, Option, Some, List, [], ◌∷◌, length, subst, ◌∙◌}
+use Rattle.std.proofs.Common.{◌≡◌, ℕ, ◌+◌, ◌++◌, Option, Some, List, [], ◌∷◌, length, subst}
 use Rattle.clnum.specs.declared.int_type.IntType.{IntType}
-use Rattle.clmodel.specs.Barrier.{is_barrier}
-use Rattle.clmodel.specs.BuiltIns.{built_in}
-use Rattle.clmodel.specs.Next.{helper_call, step_operator, sites, part_sites, all_sites}
+use Rattle.clmodel.specs.Next.{helper_call, sites, part_sites, all_sites}
 use Rattle.clmodel.specs.Tree.{Stmt, Stmts, MaybeStmt, While_}
 use Rattle.clmodel.specs.Typing.Context.{Context, Signature, signature_of, bind, enter, turning, for_context, after_all}
 use Rattle.clmodel.specs.Typing.Rules as rule
 use Rattle.clmodel.specs.Typing.Rules.{IsTyped, IsTypedPart, AreTyped}
 use Rattle.clmodel.specs.declared.tree.VariableType.{VariableType}
 use Rattle.clmodel.specs.declared.tree.VariableType.TheVariants.{Integer}
-use Rattle.regcode.specs.declared.instruction.Instruction.{Instruction}
 use Rattle.regcode.specs.declared.instruction.Instruction.TheVariants as instruction
 use Rattle.lower_expr.specs.Scope.{Scope, register_at, free_level}
 use Rattle.lower_expr.specs.Expressions.{kind_of, register_for, expr_code}

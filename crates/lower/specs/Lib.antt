@@ -2,3 +2,5 @@ pub mod Correct
 pub mod Tables
 pub mod Accepted
 pub mod Lowers
+pub mod Lists
+pub mod Names

@@ -1,8 +1,12 @@
-//! The register code of kernels.
+//! The register code of kernels: from checked trees to verified code.
 #![tactic(auto)]
 
 pub mod code_laws;
+mod lookup;
 mod lowering;
 pub mod table_laws;
+mod tables;
+#[cfg(test)]
+mod tests;
 
-pub use lowering::{LowerFault, lower_kernel};
+pub use lowering::{LowerFault, lower, lower_kernel};

@@ -1,22 +1,75 @@
 //! Lowering: from checked trees to verified code.
 #![tactic(auto)]
 
-ghost use Rattle.std.specs.Prelude.{◌≡◌, None, IfOk, IfErr};
+ghost use Rattle.std.specs.Prelude.{◌≡◌, ◌↔◌, map, None, IfOk, IfErr, IfSome};
 ghost use Rattle.clmodel.specs.Setup.{kernel_in};
-ghost use Rattle.clmodel.specs.Tree.{program};
+ghost use Rattle.clmodel.specs.Tree.{program, func, then_funcs, NoFunc};
+ghost use Rattle.regcode.specs.Listed.{listing};
+ghost use Rattle.lower.specs.Lists.{Lists};
 ghost use Rattle.lower.specs.Lowers.{IsLowered};
+ghost use Rattle.lower.specs.Names.{kernel_number, LowersNamed};
 
+use crate::code_laws::acts_as_the_tree;
+use crate::lookup::{kernel_in, kernel_number};
+use crate::table_laws::typed_kernels_are_verified;
+use crate::tables::tables_of;
+use clmodel::tree::{Function, Parameter, VariableType};
 use cltypes::Checked;
-use regcode::Code;
-use std::alloc::Global;
+use lower_code::emit_kernel;
+use regcode::{Code, Instruction, Tables, VerifyFault, verify};
+use std::alloc::{AllocError, Global};
+use thiserror::Error;
 
 /// Why a kernel isn't lowered.
-#[derive(Clone, Copy, Debug, PartialEq, Eq)]
+#[derive(Clone, Copy, Debug, PartialEq, Eq, Error)]
 pub enum LowerFault {
     /// 1: no kernel has the name
+    #[error("no such kernel")]
     NoSuchKernel,
     /// 2: memory is wanting, or more registers are wanted than there are
+    #[error("out of memory")]
     OutOfMemory,
+}
+
+/// The types of parameters.
+fn types_of(alloc: Global, parameters: &[Parameter]) -> Result<Vec<VariableType>, AllocError>
+    ensures { IfOk result (λ types. types.items ≡ map (λ p. p.kind) parameters.now) }
+{
+    parameters
+        .iter()
+        .map(|parameter| parameter.kind)
+        .collect(alloc)
+}
+
+/// Code with its tables.
+#[derive(Debug, Drop)]
+struct Listed {
+    instructions: Vec<Instruction>,
+    tables: Tables,
+}
+
+/// The code of the kernel of a name's number with its tables, None where there is none.
+fn list_kernel(
+    alloc: Global,
+    functions: &[Function],
+    number: u32,
+) -> Result<Option<Listed>, AllocError>
+    ensures code { IfOk result (λ found. IfSome found (λ code.
+        Lists (then_funcs NoFunc (map func functions.now)) number (listing code.instructions.items code.tables))) }
+    ensures none { IfOk result (λ found. found ≡ None → kernel_in (then_funcs NoFunc (map func functions.now)) number ≡ None) }
+{
+    let Some(kernel) = kernel_in(functions, number as usize) else {
+        return Ok(None);
+    };
+    let parameters = types_of(alloc, &kernel.parameters)?;
+    let Some(instructions) = emit_kernel(alloc, functions, number)? else {
+        return Ok(None);
+    };
+    let tables = tables_of(alloc, &instructions, parameters)?;
+    Ok(Some(Listed {
+        instructions,
+        tables,
+    }))
 }
 
 /// The code of the kernel of a name's number.
@@ -24,6 +77,26 @@ pub fn lower_kernel(alloc: Global, checked: &Checked, number: u32) -> Result<Cod
     ensures code { IfOk result (λ code. IsLowered (program checked.now.tree) number code) }
     ensures none { IfErr result (λ fault. fault ≡ LowerFault.NoSuchKernel → kernel_in (program checked.now.tree).functions number ≡ None) }
 {
-    let _ = (alloc, checked, number);
-    Err(LowerFault::OutOfMemory)
+    acts_as_the_tree();
+    typed_kernels_are_verified();
+    let listed = match list_kernel(alloc, &checked.tree.functions, number) {
+        Ok(Some(listed)) => listed,
+        Ok(None) => return Err(LowerFault::NoSuchKernel),
+        Err(AllocError) => return Err(LowerFault::OutOfMemory),
+    };
+    match verify(listed.instructions, listed.tables) {
+        Ok(code) => Ok(code),
+        Err(VerifyFault::Rejected) => unreachable!(),
+    }
+}
+
+/// The code of the kernel of a name.
+pub fn lower(alloc: Global, checked: &Checked, kernel: &str) -> Result<Code, LowerFault>
+    ensures code { IfOk result (LowersNamed (program checked.now.tree) kernel.now) }
+    ensures none { IfErr result (λ fault. (fault ≡ LowerFault.NoSuchKernel) ↔ (kernel_number (program checked.now.tree) kernel.now ≡ None)) }
+{
+    match kernel_number(&checked.tree, kernel) {
+        Some(number) => lower_kernel(alloc, checked, number),
+        None => Err(LowerFault::NoSuchKernel),
+    }
 }

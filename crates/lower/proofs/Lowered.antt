@@ -1,0 +1,62 @@
+-- The kernel of a name, its code with tables, and what is promised of it.
+use Rattle.std.proofs.Common.{◌≡◌, ℕ, ◌==◌, ◌&&◌, Bool, true, false, if◌then◌else◌, Option, None, Some, List, position, refl, ap, ap₂, sym, ◌∙◌, subst, arith}
+use Rattle.std.proofs.Math.Logic.{∥∥₁_elim}
+use Rattle.std.proofs.lemmas.Bool.Decides.{nat_tests}
+use Rattle.std.specs.Option.{option_map, option_and_then}
+use Rattle.clmodel.specs.Setup.{kernel_in, functions_before, same_text}
+use Rattle.clmodel.specs.Tree.{Program, Func, Funcs, NoFunc, ThenFunc}
+use Rattle.clmodel.specs.Typing.{IsTypedProgram}
+use Rattle.regcode.specs.Listing.{Listing}
+use Rattle.regcode.specs.Rules.{IsVerified}
+use Rattle.lower_code.specs.Code.{kernel_code}
+use Rattle.lower.specs.Accepted.{TypedKernelsVerified}
+use Rattle.lower.specs.Correct.{ActsAsTheTree}
+use Rattle.lower.specs.Lists.{Lists}
+use Rattle.lower.specs.Lowers.{IsLowered}
+use Rattle.lower.specs.Names.{kernel_number}
+
+-- what is made of a typed program's kernel is verified
+lists_verified : (p : Program) (number : ℕ) (code : Listing) → TypedKernelsVerified → IsTypedProgram p → Lists p.functions number code → IsVerified code
+unfolding TypedKernelsVerified
+lists_verified p number code law typed lists = subst IsVerified (sym lists.same) (law p number lists.function typed lists.there)
+
+pub never_rejected : (p : Program) (number : ℕ) (code : Listing) → TypedKernelsVerified → ∥ IsTypedProgram p ∥₁ → Lists p.functions number code → (IsVerified code → ⊥) → ⊥
+never_rejected p number code law typed lists rejected = ∥∥₁_elim typed (λ x y. absurd x) (λ t. rejected (lists_verified p number code law t lists))
+
+-- it acts as the kernel's tree
+pub lists_lowered : (p : Program) (number : ℕ) (code made : Listing) → ActsAsTheTree → code ≡ made → Lists p.functions number made → IsLowered p number code
+unfolding ActsAsTheTree
+lists_lowered p number code made law same lists = record {
+  there = (lists.function, lists.there);
+  acts_as = λ setup program kernel item answers.
+      law setup lists.function code
+      (ap₂ (λ (q : Program) k. kernel_in q.functions k) program kernel ∙ lists.there)
+      (ap (λ l. l.instructions) (same ∙ lists.same) ∙ sym (ap₂ (λ (q : Program) k. kernel_code (functions_before q.functions k) lists.function) program kernel))
+      item answers;
+}
+
+-- a kernel that is found by a number has that number for its name
+name_found : (fs : Funcs) (number : ℕ) (f : Func) → kernel_in fs number ≡ Some f → f.name ≡ number
+name_found NoFunc number f is = absurd (cc)
+name_found (ThenFunc fs g) number f is = go (name_found fs number f) g.is_kernel (g.name == number) refl is
+  where
+    go : (kernel_in fs number ≡ Some f → f.name ≡ number) → (a b : Bool) → (g.name == number) ≡ b → (if a && b then Some g else kernel_in fs number) ≡ Some f → f.name ≡ number
+    go others true true same found = let e : g.name ≡ number = grind (arith, nat_tests) in cc
+    go others true false same found = others found
+    go others false b same found = others found
+
+-- a kernel that has a name is there
+pub named_found : (p : Program) (name : List ℕ) (number : ℕ) → kernel_number p name ≡ Some number → kernel_in p.functions number ≡ None → ⊥
+named_found p name number named none = at (position (same_text name) p.names) named
+  where
+    there : (n : ℕ) (k : Option Func) → kernel_in p.functions n ≡ k → option_map (λ f. f.name) k ≡ Some number → ⊥
+    there n None is found = cc
+    there n (Some f) is found =
+        let same = name_found p.functions n f is in
+        let number_is : number ≡ n = cc in
+        let gone = ap (kernel_in p.functions) number_is in
+        cc
+
+    at : (place : Option ℕ) → option_and_then (λ n. option_map (λ f. f.name) (kernel_in p.functions n)) place ≡ Some number → ⊥
+    at None found = cc
+    at (Some n) found = there n (kernel_in p.functions n) refl found

@@ -1,0 +1,6 @@
+use Rattle.std.proofs.Common.{◌≡◌, max, drop}
+use Rattle.lower.specs.Tables.{name_count}
+use Rattle.lower.proofs.tables.name_count.Given as goal
+
+abbrev pub invariant-loop-instruction : goal.invariant-loop-instruction
+invariant-loop-instruction l = max l.count (name_count (drop l.instruction-index l.code)) ≡ name_count l.code

@@ -1,0 +1,192 @@
+//! The tables of code, by its instructions.
+#![tactic(auto)]
+
+ghost use Rattle.std.specs.Prelude.{◌≡◌, [], ◌∷◌, IfOk};
+ghost use Rattle.regcode.specs.Listed.{listing};
+ghost use Rattle.lower.specs.Tables as spec;
+
+use clmodel::tree::VariableType;
+use clnum::IntType;
+use regcode::{Instruction, RegisterKind, Tables};
+use std::alloc::{AllocError, Global};
+
+/// One more than a register's number.
+fn past(register: u32) -> usize
+    ensures { result ≡ spec.room (register ∷ []) }
+{
+    register as usize + 1
+}
+
+/// One more than the greater of two registers.
+fn past_both(first: u32, second: u32) -> usize
+    ensures { result ≡ spec.room (first ∷ second ∷ []) }
+{
+    past(first).max(past(second))
+}
+
+/// One more than the greatest register that an instruction names.
+fn registers_wanted(instruction: &Instruction) -> usize
+    ensures { result ≡ spec.room (spec.registers_of instruction.now) }
+{
+    match *instruction {
+        Instruction::Constant { to, .. }
+        | Instruction::Unset { to }
+        | Instruction::Dimensions { to }
+        | Instruction::Argument { to, .. } => past(to),
+        Instruction::Move { to, from, .. }
+        | Instruction::Hold { to, from, .. }
+        | Instruction::Convert { to, from, .. }
+        | Instruction::Common { to, from, .. }
+        | Instruction::Point { to, from } => past_both(to, from),
+        Instruction::Unary { to, operand, .. } => past_both(to, operand),
+        Instruction::Binary {
+            to,
+            left,
+            right,
+            ..
+        } => past(to).max(past_both(left, right)),
+        Instruction::Builtin {
+            to,
+            first,
+            second: None,
+            ..
+        } => past_both(to, first),
+        Instruction::Builtin {
+            to,
+            first,
+            second: Some(second),
+            ..
+        } => past(to).max(past_both(first, second)),
+        Instruction::Query { to, dimension, .. } => past_both(to, dimension),
+        Instruction::Offset { to, pointer, index } => past(to).max(past_both(pointer, index)),
+        Instruction::Load { to, pointer } => past_both(to, pointer),
+        Instruction::Store { pointer, value } => past_both(pointer, value),
+        Instruction::Update {
+            pointer,
+            value: None,
+            ..
+        } => past(pointer),
+        Instruction::Update {
+            pointer,
+            value: Some(value),
+            ..
+        } => past_both(pointer, value),
+        Instruction::JumpIfZero { test, .. } => past(test),
+        Instruction::Barrier { .. }
+        | Instruction::Enter { .. }
+        | Instruction::Turn { .. }
+        | Instruction::Jump { .. }
+        | Instruction::Back { .. }
+        | Instruction::End => 0,
+    }
+}
+
+/// How many registers code has: one more than the greatest that it names.
+fn register_count(code: &[Instruction]) -> usize
+    ensures { result ≡ spec.register_count code.now }
+{
+    let mut count = 0;
+    for instruction in code {
+        count = count.max(registers_wanted(instruction));
+    }
+    count
+}
+
+/// The kinds of a level's registers.
+const KINDS: [RegisterKind; 16] = [
+    RegisterKind::Integer(IntType::Char),
+    RegisterKind::Integer(IntType::Uchar),
+    RegisterKind::Integer(IntType::Short),
+    RegisterKind::Integer(IntType::Ushort),
+    RegisterKind::Integer(IntType::Int),
+    RegisterKind::Integer(IntType::Uint),
+    RegisterKind::Integer(IntType::Long),
+    RegisterKind::Integer(IntType::Ulong),
+    RegisterKind::Pointer(IntType::Char),
+    RegisterKind::Pointer(IntType::Uchar),
+    RegisterKind::Pointer(IntType::Short),
+    RegisterKind::Pointer(IntType::Ushort),
+    RegisterKind::Pointer(IntType::Int),
+    RegisterKind::Pointer(IntType::Uint),
+    RegisterKind::Pointer(IntType::Long),
+    RegisterKind::Pointer(IntType::Ulong),
+];
+
+/// What a register may hold.
+fn register_kind(register: usize) -> RegisterKind
+    ensures { result ≡ spec.register_kind register }
+{
+    KINDS[register % 16]
+}
+
+/// What so many registers may hold.
+fn register_kinds(alloc: Global, count: usize) -> Result<Vec<RegisterKind>, AllocError>
+    ensures { IfOk result (λ kinds. kinds.items ≡ spec.register_kinds count) }
+{
+    let mut kinds = Vec::new(alloc);
+    for register in 0..count {
+        kinds.push(register_kind(register))?;
+    }
+    Ok(kinds)
+}
+
+/// One more than the name that an instruction has. Err where it is no number of 32 bits.
+fn names_wanted(instruction: &Instruction) -> Result<u32, AllocError>
+    ensures { IfOk result (λ count. count ≡ spec.names_of instruction.now) }
+{
+    match instruction {
+        Instruction::Move { name, .. } => name.checked_add(1).ok_or(AllocError),
+        _ => Ok(0),
+    }
+}
+
+/// How many names code has: one more than the greatest that it has.
+fn name_count(code: &[Instruction]) -> Result<u32, AllocError>
+    ensures { IfOk result (λ count. count ≡ spec.name_count code.now) }
+{
+    let mut count = 0;
+    for instruction in code {
+        count = names_wanted(instruction)?.max(count);
+    }
+    Ok(count)
+}
+
+/// How many loops are entered behind an instruction. Err where it is no number of 32 bits.
+fn depth_after(depth: u32, instruction: &Instruction) -> Result<u32, AllocError>
+    ensures { IfOk result (λ after. after ≡ spec.depth_after depth instruction.now) }
+{
+    match instruction {
+        Instruction::Enter { depth } => depth.checked_add(1).ok_or(AllocError),
+        Instruction::Back { .. } => Ok(depth.saturating_sub(1)),
+        _ => Ok(depth),
+    }
+}
+
+/// How many loops are entered where each instruction stands.
+fn loops_of(alloc: Global, code: &[Instruction]) -> Result<Vec<u32>, AllocError>
+    ensures { IfOk result (λ loops. loops.items ≡ spec.loops_from 0 code.now) }
+{
+    let mut loops = Vec::new(alloc);
+    let mut depth = 0;
+    for instruction in code {
+        loops.push(depth)?;
+        depth = depth_after(depth, instruction)?;
+    }
+    Ok(loops)
+}
+
+/// The tables of a kernel's code with these types of parameters. Err where memory is wanting, or a number of 32 bits is too small.
+pub fn tables_of(
+    alloc: Global,
+    code: &[Instruction],
+    parameters: Vec<VariableType>,
+) -> Result<Tables, AllocError>
+    ensures { IfOk result (λ tables. listing code.now tables ≡ spec.tabled code.now parameters.items) }
+{
+    Ok(Tables {
+        registers: register_kinds(alloc, register_count(code))?,
+        names: name_count(code)?,
+        parameters,
+        loops: loops_of(alloc, code)?,
+    })
+}
