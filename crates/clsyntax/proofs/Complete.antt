@@ -169,8 +169,8 @@ complete (return_value {n = n} {a = a} r) = λ s fs w.
     let gs : List Frame = InReturn a n ∷ fs in
     meets (onward (w.takes (record { kind = kinds.Return; at = a }) _ refl) (further (complete r (in_mode (Optional n) gs) gs (at_optional n gs) (no_less 0) (ends kinds.Semicolon refl tt)) refl))
 complete (integer {k = k} {type = type} {qs = qs} i) = λ p m fs w. word_begins k type fs qs w i
-complete (pointer {b = b} {c = c} {k = k} {type = type} {qs = qs} i) = λ p m fs w. pointer_begins b c k type fs qs w i
-complete (const_pointer {b = b} {c = c} {d = d} {k = k} {type = type} {qs = qs} i) = λ p m fs w. const_begins b c d k type fs qs w i
+complete (pointer {b = b} {c = c} {space = space} {k = k} {type = type} {qs = qs} i) = λ p m fs w. pointer_begins space b c k type fs qs w i
+complete (const_pointer {b = b} {c = c} {d = d} {space = space} {k = k} {type = type} {qs = qs} i) = λ p m fs w. const_begins space b c d k type fs qs w i
 complete (declare {n = n} {ps = ps} r) = λ ss fs.
     joined (complete r (ForDeclaration (start ps) n) (Item n) (InItems n ss ∷ fs) of_declaration) (onward refl (onward refl stop))
 complete (declare_as {n = n} {b = b} {x = x} {kind = kind} {ps = ps} r q) = λ ss fs.

@@ -4,6 +4,7 @@ use Rattle.clnum.specs.Integer as whole
 use Rattle.clnum.specs.declared.int_type.IntType.{IntType}
 use Rattle.clnum.specs.declared.int_type.IntType.TheVariants.{Int}
 use Rattle.clnum.specs.declared.operators.BinaryOperator.{BinaryOperator}
+use Rattle.clmodel.specs.declared.tree.AddressSpace.{AddressSpace}
 use Rattle.clmodel.specs.declared.tree.VariableType.{VariableType}
 use Rattle.clmodel.specs.declared.tree.VariableType.TheVariants.{Integer}
 use Rattle.clmodel.specs.Tree.{Term, Binary, Choice, Place, Behind, Stmt, Empty, Block, Declare, Assign, Step, If, IfElse, While, For, DoWhile, Stmts, ThenStmt, MaybeStmt, MaybeTerm, Func, Funcs, ThenFunc}
@@ -274,14 +275,14 @@ done_typing (ForParameter u) kind (first s o) = earlier (put 1 (kinds.Name 0) 0)
 done_typing (ForParameter u) kind (next s o r) = earlier (put 1 (kinds.Name 0) 0) refl (done_after u _ s)
 done_typing (ForDeclaration a n) kind s = earlier (put n (kinds.Name 0) 0) refl (done_declared a kind 0 0 s)
 
-done_element : {w qs : List Placed} {fs : List Frame} (p : Purpose) (c : Bool) (type : IntType) → Stands w (purpose_need p) fs qs → Done (in_mode (AfterElement p c type) fs)
-done_element p c type s = earlier (put (nesting_of p) kinds.Star 0) refl (done_typing p _ s)
+done_element : {w qs : List Placed} {fs : List Frame} (p : Purpose) (space : AddressSpace) (c : Bool) (type : IntType) → Stands w (purpose_need p) fs qs → Done (in_mode (AfterElement p space c type) fs)
+done_element p space c type s = earlier (put (nesting_of p) kinds.Star 0) refl (done_typing p _ s)
 
-done_space : {w qs : List Placed} {fs : List Frame} (p : Purpose) → Stands w (purpose_need p) fs qs → Done (in_mode (AfterSpace p) fs)
-done_space p s = earlier (put (nesting_of p) (kinds.Type Int) 0) refl (done_element p false Int s)
+done_space : {w qs : List Placed} {fs : List Frame} (p : Purpose) (space : AddressSpace) → Stands w (purpose_need p) fs qs → Done (in_mode (AfterSpace p space) fs)
+done_space p space s = earlier (put (nesting_of p) (kinds.Type Int) 0) refl (done_element p space false Int s)
 
-done_const : {w qs : List Placed} {fs : List Frame} (p : Purpose) → Stands w (purpose_need p) fs qs → Done (in_mode (AfterConst p) fs)
-done_const p s = earlier (put (nesting_of p) (kinds.Type Int) 0) refl (done_element p true Int s)
+done_const : {w qs : List Placed} {fs : List Frame} (p : Purpose) (space : AddressSpace) → Stands w (purpose_need p) fs qs → Done (in_mode (AfterConst p space) fs)
+done_const p space s = earlier (put (nesting_of p) (kinds.Type Int) 0) refl (done_element p space true Int s)
 
 done_has_typing : {w qs : List Placed} {fs : List Frame} {p : Purpose} {kind : VariableType} → HasTyping w p kind fs qs → Done (in_mode (AfterTyping p kind) fs)
 done_has_typing (parameter_typing {u = u} s r) = done_typing (ForParameter u) _ s
@@ -398,9 +399,9 @@ finishes_in w qs (Aim n) fs = done_aim
 finishes_in w qs (BeginName u n a x) fs = done_begin_name u a x
 finishes_in w qs (Aimed u n a p) fs = done_has_target
 finishes_in w qs (Did s) fs = λ g. done_did s (ending g.stands)
-finishes_in w qs (AfterSpace p) fs = λ g. done_space p g.stands
-finishes_in w qs (AfterConst p) fs = λ g. done_const p g.stands
-finishes_in w qs (AfterElement p c type) fs = λ g. done_element p c type g.space.stands
+finishes_in w qs (AfterSpace p space) fs = λ g. done_space p space g.stands
+finishes_in w qs (AfterConst p space) fs = λ g. done_const p space g.stands
+finishes_in w qs (AfterElement p space c type) fs = λ g. done_element p space c type g.before.stands
 finishes_in w qs (AfterTyping p kind) fs = done_has_typing
 finishes_in w qs (Declared n a kind b x) fs = done_has_declared
 finishes_in w qs Top fs = done_function

@@ -3,7 +3,6 @@ use Rattle.std.proofs.Common.{◌≡◌, ℕ, suc, List, ◌∷◌, Bool, true, 
 use Rattle.clnum.specs.declared.int_type.IntType.{IntType}
 use Rattle.clnum.specs.declared.operators.BinaryOperator.{BinaryOperator}
 use Rattle.clmodel.specs.declared.tree.AddressSpace.{AddressSpace}
-use Rattle.clmodel.specs.declared.tree.AddressSpace.TheVariants.{Global}
 use Rattle.clmodel.specs.declared.tree.VariableType.{VariableType}
 use Rattle.clmodel.specs.Tree.{Term, Place, Whole, Stmt, Block, Declare, Step, If, IfElse, While, For, Break, Continue, Stmts, ThenStmt, MaybeStmt, Without, MaybeTerm, Funcs, ThenFunc}
 use Rattle.clsyntax_lex.specs.declared.token.Token.{Token}
@@ -26,38 +25,33 @@ word_of : (u : Bool) (type : IntType) → type_of u (kinds.Type type) ≡ Some t
 word_of true type = refl
 word_of false type = refl
 
-space_typing : (p : Purpose) (fs : List Frame) (space : AddressSpace) (w qs : List Placed) (a : ℕ)
-    → KeepsFrom w qs (λ k. Stands w (purpose_need p) fs (put k (kinds.Space space) (at_of p a) ∷ qs)) (on_typing p fs (kinds.Space space))
-space_typing p fs Global w qs a = λ h. record { at = a; const_at = 0; stands = h }
-space_typing p fs _ w qs a = tt
-
 pub safe_typing : (p : Purpose) (fs : List Frame) (kind : TokenKind) (w qs : List Placed) (a : ℕ)
     → KeepsFrom w qs (λ k. Stands w (purpose_need p) fs (put k kind (at_of p a) ∷ qs)) (on_typing p fs kind)
 safe_typing p fs (kinds.Type type) w qs a = λ h. typing_of p a (kinds.Type type) h (integer (word_of (takes_size p) type))
 safe_typing (ForParameter true) fs kinds.SizeT w qs a = λ h. typing_of (ForParameter true) a kinds.SizeT h (integer refl)
 safe_typing (ForParameter false) fs kinds.SizeT w qs a = tt
 safe_typing (ForDeclaration b n) fs kinds.SizeT w qs a = λ h. typing_of (ForDeclaration b n) a kinds.SizeT h (integer refl)
-safe_typing p fs (kinds.Space space) w qs a = space_typing p fs space w qs a
+safe_typing p fs (kinds.Space space) w qs a = λ h. record { at = a; const_at = 0; stands = h }
 safe_typing p fs _ w qs a = tt
 
-safe_element : (p : Purpose) (c : Bool) (fs : List Frame) (kind : TokenKind) (w qs : List Placed) (a : ℕ) → KeepsFrom w qs (λ k. HasSpace w p c fs (put k kind a ∷ qs)) (on_after_const p c fs kind)
-safe_element p c fs (kinds.Type type) w qs a = λ h. record { at = a; word = kinds.Type type; names = word_of (takes_size p) type; space = h }
-safe_element (ForParameter true) c fs kinds.SizeT w qs a = λ h. record { at = a; word = kinds.SizeT; names = refl; space = h }
-safe_element (ForParameter false) c fs kinds.SizeT w qs a = tt
-safe_element (ForDeclaration b n) c fs kinds.SizeT w qs a = λ h. record { at = a; word = kinds.SizeT; names = refl; space = h }
-safe_element p c fs _ w qs a = tt
+safe_element : (p : Purpose) (space : AddressSpace) (c : Bool) (fs : List Frame) (kind : TokenKind) (w qs : List Placed) (a : ℕ) → KeepsFrom w qs (λ k. HasSpace w p space c fs (put k kind a ∷ qs)) (on_after_const p space c fs kind)
+safe_element p space c fs (kinds.Type type) w qs a = λ h. record { at = a; word = kinds.Type type; names = word_of (takes_size p) type; before = h }
+safe_element (ForParameter true) space c fs kinds.SizeT w qs a = λ h. record { at = a; word = kinds.SizeT; names = refl; before = h }
+safe_element (ForParameter false) space c fs kinds.SizeT w qs a = tt
+safe_element (ForDeclaration b n) space c fs kinds.SizeT w qs a = λ h. record { at = a; word = kinds.SizeT; names = refl; before = h }
+safe_element p space c fs _ w qs a = tt
 
-pub safe_after_space : (p : Purpose) (fs : List Frame) (kind : TokenKind) → Safe (AfterSpace p) fs kind
-safe_after_space p fs kinds.Const = λ w qs b h. record { at = h.at; const_at = b; stands = h.stands }
-safe_after_space p fs kind = λ w qs a. safe_element p false fs kind w qs a
+pub safe_after_space : (p : Purpose) (space : AddressSpace) (fs : List Frame) (kind : TokenKind) → Safe (AfterSpace p space) fs kind
+safe_after_space p space fs kinds.Const = λ w qs b h. record { at = h.at; const_at = b; stands = h.stands }
+safe_after_space p space fs kind = λ w qs a. safe_element p space false fs kind w qs a
 
-pub safe_after_const : (p : Purpose) (fs : List Frame) (kind : TokenKind) → Safe (AfterConst p) fs kind
-safe_after_const p fs kind = λ w qs a. safe_element p true fs kind w qs a
+pub safe_after_const : (p : Purpose) (space : AddressSpace) (fs : List Frame) (kind : TokenKind) → Safe (AfterConst p space) fs kind
+safe_after_const p space fs kind = λ w qs a. safe_element p space true fs kind w qs a
 
-pub safe_after_element : (p : Purpose) (c : Bool) (type : IntType) (fs : List Frame) (kind : TokenKind) → Safe (AfterElement p c type) fs kind
-safe_after_element p false type fs kinds.Star = λ w qs a h. typing_of p h.space.at (kinds.Space Global) h.space.stands (pointer h.names)
-safe_after_element p true type fs kinds.Star = λ w qs a h. typing_of p h.space.at (kinds.Space Global) h.space.stands (const_pointer h.names)
-safe_after_element p c type fs _ = λ w qs a. tt
+pub safe_after_element : (p : Purpose) (space : AddressSpace) (c : Bool) (type : IntType) (fs : List Frame) (kind : TokenKind) → Safe (AfterElement p space c type) fs kind
+safe_after_element p space false type fs kinds.Star = λ w qs a h. typing_of p h.before.at (kinds.Space space) h.before.stands (pointer h.names)
+safe_after_element p space true type fs kinds.Star = λ w qs a h. typing_of p h.before.at (kinds.Space space) h.before.stands (const_pointer h.names)
+safe_after_element p space c type fs _ = λ w qs a. tt
 
 parameter_end : {w qs : List Placed} {fs : List Frame} {u : Bool} {h : Head} {kind : VariableType} {x d : ℕ}
     → HasTyping w (ForParameter u) kind (InHead h ∷ fs) (put 1 (kinds.Name x) d ∷ qs) → Stands w (AfterOne u) (InHead (add_parameter (parameter_of kind d x) h) ∷ fs) qs

@@ -3,7 +3,7 @@ use Rattle.std.proofs.Common.{◌≡◌, ℕ, suc, ◌≤◌, List, [], ◌∷�
 use Rattle.clnum.specs.declared.int_type.IntType.{IntType}
 use Rattle.clnum.specs.declared.operators.BinaryOperator.{BinaryOperator}
 use Rattle.clmodel.specs.declared.tree.InfixOperator.{InfixOperator}
-use Rattle.clmodel.specs.declared.tree.AddressSpace.TheVariants.{Global}
+use Rattle.clmodel.specs.declared.tree.AddressSpace.{AddressSpace}
 use Rattle.clmodel.specs.declared.tree.VariableType.{VariableType}
 use Rattle.clmodel.specs.declared.tree.VariableType.TheVariants.{Integer}
 use Rattle.clmodel.specs.declared.tree.Parameter.{Parameter}
@@ -180,17 +180,17 @@ pub record HasCast (w : List Placed) (n a : ℕ) (type : IntType) (fs : List Fra
   pub stands : Stands w (AnExpr n) fs (put n kinds.OpenRound a ∷ put (suc n) word at ∷ qs)
 
 -- an address space was read, and perhaps `const`
-pub record HasSpace (w : List Placed) (p : Purpose) (c : Bool) (fs : List Frame) (qs : List Placed) : Type 0 where
+pub record HasSpace (w : List Placed) (p : Purpose) (space : AddressSpace) (c : Bool) (fs : List Frame) (qs : List Placed) : Type 0 where
   pub at : ℕ
   pub const_at : ℕ
-  pub stands : Stands w (purpose_need p) fs (put (nesting_of p) (kinds.Space Global) (at_of p at) ∷ const_word c (nesting_of p) const_at qs)
+  pub stands : Stands w (purpose_need p) fs (put (nesting_of p) (kinds.Space space) (at_of p at) ∷ const_word c (nesting_of p) const_at qs)
 
 -- so, and the elements' type
-pub record HasElement (w : List Placed) (p : Purpose) (c : Bool) (type : IntType) (fs : List Frame) (qs : List Placed) : Type 0 where
+pub record HasElement (w : List Placed) (p : Purpose) (space : AddressSpace) (c : Bool) (type : IntType) (fs : List Frame) (qs : List Placed) : Type 0 where
   pub at : ℕ
   pub word : TokenKind
   pub names : type_of (takes_size p) word ≡ Some type
-  pub space : HasSpace w p c fs (put (nesting_of p) word at ∷ qs)
+  pub before : HasSpace w p space c fs (put (nesting_of p) word at ∷ qs)
 
 -- a type was read
 pub data HasTyping (w : List Placed) : Purpose → VariableType → List Frame → List Placed → Type 0 where
@@ -232,9 +232,9 @@ GoodIn w (AfterIf n a) fs qs = Stands w (AStatement n) fs (put n kinds.If a ∷ 
 GoodIn w (AfterWhile n a) fs qs = Stands w (AStatement n) fs (put n kinds.While a ∷ qs)
 GoodIn w (AfterFor n a) fs qs = Stands w (AStatement n) fs (put n kinds.For a ∷ qs)
 GoodIn w (AfterDo n a s) fs qs = HasBody w n a s fs qs
-GoodIn w (AfterSpace p) fs qs = HasSpace w p false fs qs
-GoodIn w (AfterConst p) fs qs = HasSpace w p true fs qs
-GoodIn w (AfterElement p c type) fs qs = HasElement w p c type fs qs
+GoodIn w (AfterSpace p space) fs qs = HasSpace w p space false fs qs
+GoodIn w (AfterConst p space) fs qs = HasSpace w p space true fs qs
+GoodIn w (AfterElement p space c type) fs qs = HasElement w p space c type fs qs
 GoodIn w (AfterTyping p kind) fs qs = HasTyping w p kind fs qs
 GoodIn w (Declared n a kind b x) fs qs = HasDeclared w n a kind b x fs qs
 GoodIn w Top fs qs = Stands w AFunction fs qs

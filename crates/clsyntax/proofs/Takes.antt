@@ -4,7 +4,7 @@ use Rattle.clnum.specs.declared.int_type.IntType.{IntType}
 use Rattle.clnum.specs.declared.int_type.IntType.TheVariants.{Ulong}
 use Rattle.clnum.specs.declared.operators.BinaryOperator.{BinaryOperator}
 use Rattle.clmodel.specs.declared.tree.InfixOperator.{InfixOperator}
-use Rattle.clmodel.specs.declared.tree.AddressSpace.TheVariants.{Global}
+use Rattle.clmodel.specs.declared.tree.AddressSpace.{AddressSpace}
 use Rattle.clmodel.specs.declared.tree.VariableType.TheVariants.{Integer}
 use Rattle.clmodel.specs.declared.tree.Parameter.{Parameter}
 use Rattle.clmodel.specs.Tree.{Term, Variable, Binary, Choice, Place, Whole, Behind, Stmt, If, IfElse, While, For, Assign, Step, Stmts, ThenStmt, MaybeStmt, MaybeTerm}
@@ -309,15 +309,15 @@ typing_word p fs kinds.SizeT type true h e = let f : Some Ulong ≡ Some type = 
 typing_word p fs kinds.SizeT type false h e = let clash : None ≡ Some type = e in absurd cc
 typing_word p fs _ type u h e = let clash : None ≡ Some type = e in absurd cc
 
-element_word : (p : Purpose) (c : Bool) (fs : List Frame) (k : TokenKind) (type : IntType) (u : Bool) → takes_size p ≡ u → type_of u k ≡ Some type → on_after_const p c fs k ≡ go (nesting_of p) (AfterElement p c type) fs
-element_word p c fs (kinds.Type word) type u h e = let same : word ≡ type = cc in ap (λ z. go (nesting_of p) (AfterElement p c z) fs) same
-element_word p c fs kinds.SizeT type true h e = let f : Some Ulong ≡ Some type = e in let same : Ulong ≡ type = cc in ap (λ b. when b (go (nesting_of p) (AfterElement p c Ulong) fs)) h ∙ ap (λ z. go (nesting_of p) (AfterElement p c z) fs) same
-element_word p c fs kinds.SizeT type false h e = let clash : None ≡ Some type = e in absurd cc
-element_word p c fs _ type u h e = let clash : None ≡ Some type = e in absurd cc
+element_word : (p : Purpose) (space : AddressSpace) (c : Bool) (fs : List Frame) (k : TokenKind) (type : IntType) (u : Bool) → takes_size p ≡ u → type_of u k ≡ Some type → on_after_const p space c fs k ≡ go (nesting_of p) (AfterElement p space c type) fs
+element_word p space c fs (kinds.Type word) type u h e = let same : word ≡ type = cc in ap (λ z. go (nesting_of p) (AfterElement p space c z) fs) same
+element_word p space c fs kinds.SizeT type true h e = let f : Some Ulong ≡ Some type = e in let same : Ulong ≡ type = cc in ap (λ b. when b (go (nesting_of p) (AfterElement p space c Ulong) fs)) h ∙ ap (λ z. go (nesting_of p) (AfterElement p space c z) fs) same
+element_word p space c fs kinds.SizeT type false h e = let clash : None ≡ Some type = e in absurd cc
+element_word p space c fs _ type u h e = let clash : None ≡ Some type = e in absurd cc
 
-space_word : (p : Purpose) (fs : List Frame) (k : TokenKind) (type : IntType) (u : Bool) → takes_size p ≡ u → type_of u k ≡ Some type → on_after_space p fs k ≡ go (nesting_of p) (AfterElement p false type) fs
-space_word p fs kinds.Const type u h e = let clash : None ≡ Some type = e in absurd cc
-space_word p fs k type u h e = element_word p false fs k type u h e
+space_word : (p : Purpose) (space : AddressSpace) (fs : List Frame) (k : TokenKind) (type : IntType) (u : Bool) → takes_size p ≡ u → type_of u k ≡ Some type → on_after_space p space fs k ≡ go (nesting_of p) (AfterElement p space false type) fs
+space_word p space fs kinds.Const type u h e = let clash : None ≡ Some type = e in absurd cc
+space_word p space fs k type u h e = element_word p space false fs k type u h e
 
 head_same : (u : Bool) (fs : List Frame) (k : TokenKind) (a : ℕ) (type : IntType) → type_of u k ≡ Some type → on_head_open u fs (token_of k a) ≡ on_typing (ForParameter u) fs k
 head_same u fs kinds.CloseRound a type e = let clash : None ≡ Some type = e in absurd cc
@@ -349,17 +349,17 @@ word_begins {a = a} k type fs ps (of_first {u = u}) e = onward (head_same u fs k
 word_begins {a = a} k type fs ps (of_next {u = u}) e = onward (typing_word (ForParameter u) fs k type u refl e) stop
 word_begins {n = n} {a = a} k type fs ps of_declaration e = onward (item_same n fs k a type e ∙ typing_word (ForDeclaration a n) fs k type true refl e) stop
 
-pub pointer_begins : {p : Purpose} {m : Mode} {u : Bool} {n a : ℕ} (b c : ℕ) (k : TokenKind) (type : IntType) (fs : List Frame) (ps : List Placed) → TypingFrom p m u n a → type_of u k ≡ Some type
-    → Runs (in_mode m fs) (put n (kinds.Space Global) a ∷ put n k b ∷ put n kinds.Star c ∷ ps) (in_mode (AfterTyping p (pointer_to false type)) fs) ps
-pointer_begins b c k type fs ps (of_first {u = u}) e = onward refl (onward (space_word (ForParameter u) fs k type u refl e) (onward refl stop))
-pointer_begins b c k type fs ps (of_next {u = u}) e = onward refl (onward (space_word (ForParameter u) fs k type u refl e) (onward refl stop))
-pointer_begins {n = n} {a = a} b c k type fs ps of_declaration e = onward refl (onward (space_word (ForDeclaration a n) fs k type true refl e) (onward refl stop))
+pub pointer_begins : {p : Purpose} {m : Mode} {u : Bool} {n a : ℕ} (space : AddressSpace) (b c : ℕ) (k : TokenKind) (type : IntType) (fs : List Frame) (ps : List Placed) → TypingFrom p m u n a → type_of u k ≡ Some type
+    → Runs (in_mode m fs) (put n (kinds.Space space) a ∷ put n k b ∷ put n kinds.Star c ∷ ps) (in_mode (AfterTyping p (pointer_to space false type)) fs) ps
+pointer_begins space b c k type fs ps (of_first {u = u}) e = onward refl (onward (space_word (ForParameter u) space fs k type u refl e) (onward refl stop))
+pointer_begins space b c k type fs ps (of_next {u = u}) e = onward refl (onward (space_word (ForParameter u) space fs k type u refl e) (onward refl stop))
+pointer_begins {n = n} {a = a} space b c k type fs ps of_declaration e = onward refl (onward (space_word (ForDeclaration a n) space fs k type true refl e) (onward refl stop))
 
-pub const_begins : {p : Purpose} {m : Mode} {u : Bool} {n a : ℕ} (b c d : ℕ) (k : TokenKind) (type : IntType) (fs : List Frame) (ps : List Placed) → TypingFrom p m u n a → type_of u k ≡ Some type
-    → Runs (in_mode m fs) (put n (kinds.Space Global) a ∷ put n kinds.Const b ∷ put n k c ∷ put n kinds.Star d ∷ ps) (in_mode (AfterTyping p (pointer_to true type)) fs) ps
-const_begins b c d k type fs ps (of_first {u = u}) e = onward refl (onward refl (onward (element_word (ForParameter u) true fs k type u refl e) (onward refl stop)))
-const_begins b c d k type fs ps (of_next {u = u}) e = onward refl (onward refl (onward (element_word (ForParameter u) true fs k type u refl e) (onward refl stop)))
-const_begins {n = n} {a = a} b c d k type fs ps of_declaration e = onward refl (onward refl (onward (element_word (ForDeclaration a n) true fs k type true refl e) (onward refl stop)))
+pub const_begins : {p : Purpose} {m : Mode} {u : Bool} {n a : ℕ} (space : AddressSpace) (b c d : ℕ) (k : TokenKind) (type : IntType) (fs : List Frame) (ps : List Placed) → TypingFrom p m u n a → type_of u k ≡ Some type
+    → Runs (in_mode m fs) (put n (kinds.Space space) a ∷ put n kinds.Const b ∷ put n k c ∷ put n kinds.Star d ∷ ps) (in_mode (AfterTyping p (pointer_to space true type)) fs) ps
+const_begins space b c d k type fs ps (of_first {u = u}) e = onward refl (onward refl (onward (element_word (ForParameter u) space true fs k type u refl e) (onward refl stop)))
+const_begins space b c d k type fs ps (of_next {u = u}) e = onward refl (onward refl (onward (element_word (ForParameter u) space true fs k type u refl e) (onward refl stop)))
+const_begins {n = n} {a = a} space b c d k type fs ps of_declaration e = onward refl (onward refl (onward (element_word (ForDeclaration a n) space true fs k type true refl e) (onward refl stop)))
 
 pub data WantsParameter : Bool → Mode → Type 0 where
   as_first : {u : Bool} → WantsParameter u (HeadOpen u)

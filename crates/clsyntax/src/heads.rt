@@ -6,7 +6,7 @@ ghost use Rattle.clsyntax_terms.specs.Grammar as grammar;
 ghost use Rattle.clsyntax_terms.specs.Machine as machine;
 ghost use Rattle.clsyntax_terms.specs.Views.{opened, purpose, type_mode_of, head_mode_of, Steps};
 
-use clmodel::tree::{AddressSpace, Parameter, PointerType, VariableType};
+use clmodel::tree::{Parameter, PointerType, VariableType};
 use clnum::IntType;
 use clsyntax_lex::token::{Token, TokenKind};
 use clsyntax_terms::state::{
@@ -30,7 +30,7 @@ pub(crate) fn on_typing(wanted: Purpose, stack: Stack, kind: TokenKind) -> Moved
     ensures { Steps result (machine.on_typing (purpose wanted) (opened stack) kind) }
 {
     let mode = match (kind, type_of(wanted, kind)) {
-        (TokenKind::Space(AddressSpace::Global), _) => TypeMode::AfterSpace,
+        (TokenKind::Space(space), _) => TypeMode::AfterSpace(space),
         (_, Some(integer)) => TypeMode::Whole(VariableType::Integer(integer)),
         _ => return Ok(Step::Refused),
     };
@@ -93,15 +93,14 @@ pub(crate) fn on_type(wanted: Purpose, mode: TypeMode, stack: Stack, token: Toke
     ensures { Steps result (machine.step_in (type_mode_of wanted mode) (opened stack) token) }
 {
     let next = match (mode, token.kind) {
-        (TypeMode::AfterSpace, TokenKind::Const) => TypeMode::AfterConst,
-        (TypeMode::AfterSpace | TypeMode::AfterConst, kind) => {
+        (TypeMode::AfterSpace(space), TokenKind::Const) => TypeMode::AfterConst(space),
+        (TypeMode::AfterSpace(space) | TypeMode::AfterConst(space), kind) => {
             let Some(element) = type_of(wanted, kind) else {
                 return Ok(Step::Refused);
             };
-            TypeMode::AfterElement(matches!(mode, TypeMode::AfterConst), element)
+            TypeMode::AfterElement(space, matches!(mode, TypeMode::AfterConst(_)), element)
         }
-        (TypeMode::AfterElement(is_const, element), TokenKind::Star) => {
-            let space = AddressSpace::Global;
+        (TypeMode::AfterElement(space, is_const, element), TokenKind::Star) => {
             let pointer = PointerType {
                 space,
                 is_const,

@@ -67,6 +67,40 @@ fn every_form(rt: HostRuntime) -> Result<(), Fail> {
     Ok(())
 }
 
+/// Pointers into each memory, with and without `const`.
+#[test]
+fn address_spaces(rt: HostRuntime) -> Result<(), Fail> {
+    let source =
+        b"kernel void f(__local int *p, constant const uchar *q) { local const long *r; __constant short *s = q; } void g(local size_t *t) { }";
+    let tree = read(rt.alloc(), source)?;
+    let heads: [&[&str]; 2] = [
+        &[
+            "Parameter { name_at: 27, name: 27, kind: Pointer(PointerType { space: Local, is_const: false, element: Int }) }",
+            "Parameter { name_at: 52, name: 28, kind: Pointer(PointerType { space: Constant, is_const: true, element: Uchar }) }",
+        ],
+        &[
+            "Parameter { name_at: 126, name: 32, kind: Pointer(PointerType { space: Local, is_const: false, element: Ulong }) }",
+        ],
+    ];
+    assert_eq!(rt; tree.functions.len(), 2);
+    for (function, texts) in tree.functions.iter().zip(heads.iter()) {
+        assert_eq!(rt; function.parameters.len(), texts.len());
+        for (parameter, text) in function.parameters.iter().zip(texts.iter()) {
+            assert_eq!(rt; format!(in rt.alloc(); "{parameter:?}")?.as_str(), *text);
+        }
+    }
+    let texts = [
+        "Declare { at: 57, kind: Pointer(PointerType { space: Local, is_const: true, element: Long }), name_at: 75, name: 29, value: None }",
+        "Declare { at: 78, kind: Pointer(PointerType { space: Constant, is_const: false, element: Short }), name_at: 96, name: 30, value: Some(Variable { at: 100, name: 28 }) }",
+    ];
+    let body = &tree.functions[0].body;
+    assert_eq!(rt; body.len(), texts.len());
+    for (statement, text) in body.iter().zip(texts.iter()) {
+        assert_eq!(rt; format!(in rt.alloc(); "{statement:?}")?.as_str(), *text);
+    }
+    Ok(())
+}
+
 /// Each form of a statement that controls others, and each form of a function's head.
 #[test]
 fn control_flow(rt: HostRuntime) -> Result<(), Fail> {
@@ -147,6 +181,31 @@ fn faults(rt: HostRuntime) -> Result<(), Fail> {
         fault_of(&rt, "int f(size_t n) { if (n) int i; }"),
         Some(SyntaxFault::Unexpected { at: 25 })
     );
+    Ok(())
+}
+
+/// Where no pointer's declaration can go on.
+#[test]
+fn faults_of_pointers(rt: HostRuntime) -> Result<(), Fail> {
+    for (source, at) in [
+        ("kernel void f(local int p) { }", 24),
+        ("kernel void f(__local *p) { }", 22),
+        ("kernel void f(local size_t *p) { }", 20),
+        ("kernel void f(local const const int *p) { }", 26),
+        ("void f(local int const *p) { }", 17),
+        ("void f(local global int *p) { }", 13),
+        ("void f(__private int *p) { }", 7),
+        ("void f() { constant int c = 1; }", 24),
+        ("void f() { for (local int *p = 0; ; ) ; }", 16),
+        ("void f() { n = (local int *)n; }", 16),
+        ("local int f() { }", 0),
+    ] {
+        assert_eq!(rt;
+            fault_of(&rt, source),
+            Some(SyntaxFault::Unexpected { at }),
+            "{source}"
+        );
+    }
     Ok(())
 }
 

@@ -3,7 +3,6 @@ use Rattle.std.proofs.Common.{◌≡◌, ◌≢◌, ℕ, suc, List, [], ◌∷�
 use Rattle.clnum.specs.declared.int_type.IntType.{IntType}
 use Rattle.clnum.specs.declared.operators.BinaryOperator.{BinaryOperator}
 use Rattle.clnum.specs.declared.operators.BinaryOperator.TheVariants.{Add, Subtract, Multiply, Divide, Remainder, ShiftLeft, ShiftRight, BitAnd, BitXor, BitOr}
-use Rattle.clmodel.specs.declared.tree.AddressSpace.TheVariants.{Global}
 use Rattle.clmodel.specs.declared.tree.VariableType.{VariableType}
 use Rattle.clmodel.specs.declared.tree.VariableType.TheVariants.{Integer, Pointer}
 use Rattle.clmodel.specs.Tree.{Term, Terms, NoTerm, ThenTerm, Place, Whole, Part, Behind, Stmt, Assign, Step, CallOnly}
@@ -211,9 +210,9 @@ pub type_again : {u : Bool} {n : ℕ} {kind : VariableType} {ps qs : List Placed
 type_again (integer {n = n} {u = u} {type = type} i) = λ rest ts s.
     let word = first_of_kinds (kinds.Type type) rest ts s in
     record { tree = tt; after = word.rest; kinds = word.kinds; same = tt; place = λ qs q. record { placed = put n (kinds.Type type) word.at ∷ qs; same = behind_one n word qs q; reads = integer (word_of u type) } }
-type_again (pointer {n = n} {u = u} {type = type} i) = λ rest ts s.
-    let space = first_of_kinds (kinds.Space Global) _ ts s in
-    let word = first_of_kinds (kinds.Type type) _ space.rest space.kinds in
+type_again (pointer {n = n} {u = u} {space = space} {type = type} i) = λ rest ts s.
+    let first = first_of_kinds (kinds.Space space) _ ts s in
+    let word = first_of_kinds (kinds.Type type) _ first.rest first.kinds in
     let star = first_of_kinds kinds.Star rest word.rest word.kinds in
     record {
       tree = tt;
@@ -223,11 +222,11 @@ type_again (pointer {n = n} {u = u} {type = type} i) = λ rest ts s.
       place = λ qs q.
           let starred : List Placed = put n kinds.Star star.at ∷ qs in
           let typed : List Placed = put n (kinds.Type type) word.at ∷ starred in
-          record { placed = put n (kinds.Space Global) space.at ∷ typed; same = behind_one n space typed (behind_one n word starred (behind_one n star qs q)); reads = pointer (word_of u type) };
+          record { placed = put n (kinds.Space space) first.at ∷ typed; same = behind_one n first typed (behind_one n word starred (behind_one n star qs q)); reads = pointer (word_of u type) };
     }
-type_again (const_pointer {n = n} {u = u} {type = type} i) = λ rest ts s.
-    let space = first_of_kinds (kinds.Space Global) _ ts s in
-    let const_ = first_of_kinds kinds.Const _ space.rest space.kinds in
+type_again (const_pointer {n = n} {u = u} {space = space} {type = type} i) = λ rest ts s.
+    let first = first_of_kinds (kinds.Space space) _ ts s in
+    let const_ = first_of_kinds kinds.Const _ first.rest first.kinds in
     let word = first_of_kinds (kinds.Type type) _ const_.rest const_.kinds in
     let star = first_of_kinds kinds.Star rest word.rest word.kinds in
     record {
@@ -240,8 +239,8 @@ type_again (const_pointer {n = n} {u = u} {type = type} i) = λ rest ts s.
           let typed : List Placed = put n (kinds.Type type) word.at ∷ starred in
           let qualified : List Placed = put n kinds.Const const_.at ∷ typed in
           record {
-            placed = put n (kinds.Space Global) space.at ∷ qualified;
-            same = behind_one n space qualified (behind_one n const_ typed (behind_one n word starred (behind_one n star qs q)));
+            placed = put n (kinds.Space space) first.at ∷ qualified;
+            same = behind_one n first qualified (behind_one n const_ typed (behind_one n word starred (behind_one n star qs q)));
             reads = const_pointer (word_of u type);
           };
     }

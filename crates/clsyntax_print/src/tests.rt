@@ -65,6 +65,19 @@ fn every_form(rt: HostRuntime) -> Result<(), Fail> {
     Ok(())
 }
 
+/// Pointers into each memory.
+#[test]
+fn address_spaces(rt: HostRuntime) -> Result<(), Fail> {
+    let source =
+        b"kernel void f(local int *p, constant const uchar *q) { local const long *r; __constant short *s = q; } void g(global size_t *t) { }";
+    let text =
+        b"__kernel void f ( __local int * p , __constant const uchar * q ) { __local const long * r ; __constant short * s = q ; } void g ( __global ulong * t ) { } ";
+    let (answer, written) = printed(rt.alloc(), source, 1000)?;
+    assert_eq!(rt; answer, Ok(()));
+    assert_eq!(rt; written.as_slice(), text.as_slice());
+    Ok(())
+}
+
 /// Brackets stand where an operator binds less tightly than is wanted, and numbers keep their types.
 #[test]
 fn brackets_and_numbers(rt: HostRuntime) -> Result<(), Fail> {

@@ -9,7 +9,7 @@ use Rattle.clnum.specs.declared.operators.BinaryOperator.{BinaryOperator}
 use Rattle.clnum.specs.declared.operators.BinaryOperator.TheVariants.{Add, Subtract, Multiply, Divide, Remainder, ShiftLeft, ShiftRight, Less, Greater, LessOrEqual, GreaterOrEqual, Equal, NotEqual, BitAnd, BitXor, BitOr}
 use Rattle.clmodel.specs.declared.tree.InfixOperator.{InfixOperator}
 use Rattle.clmodel.specs.declared.tree.InfixOperator.TheVariants.{Arithmetic, LogicalAnd, LogicalOr}
-use Rattle.clmodel.specs.declared.tree.AddressSpace.TheVariants.{Global}
+use Rattle.clmodel.specs.declared.tree.AddressSpace.{AddressSpace}
 use Rattle.clmodel.specs.declared.tree.VariableType.{VariableType}
 use Rattle.clmodel.specs.declared.tree.VariableType.TheVariants.{Integer, Pointer}
 use Rattle.clmodel.specs.declared.tree.Parameter.{Parameter}
@@ -139,9 +139,9 @@ abbrev pub IsNamed : Place → Type 0
 IsNamed (Behind at e) = ⊥
 IsNamed _ = Unit {0}
 
--- a pointer into global memory
-abbrev pub pointer_to : (is_const : Bool) → IntType → VariableType
-pointer_to is_const type = Pointer (record { space = Global; is_const = is_const; element = type })
+-- a pointer into a memory (OpenCL 1.2, 6.5)
+abbrev pub pointer_to : AddressSpace → (is_const : Bool) → IntType → VariableType
+pointer_to space is_const type = Pointer (record { space = space; is_const = is_const; element = type })
 
 abbrev pub parameter_of : VariableType → (name_at name : ℕ) → Parameter
 parameter_of kind name_at name = record { name_at = name_at; name = name; kind = kind }
@@ -325,12 +325,12 @@ pub data Reads : Goal → List Placed → List Placed → Type 0 where
   integer : {n a : ℕ} {u : Bool} {k : TokenKind} {type : IntType} {qs : List Placed}
       → type_of u k ≡ Some type
       → Reads (Typing u n (Integer type)) (put n k a ∷ qs) qs
-  pointer : {n a b c : ℕ} {u : Bool} {k : TokenKind} {type : IntType} {qs : List Placed}
+  pointer : {n a b c : ℕ} {u : Bool} {space : AddressSpace} {k : TokenKind} {type : IntType} {qs : List Placed}
       → type_of u k ≡ Some type
-      → Reads (Typing u n (pointer_to false type)) (put n (kinds.Space Global) a ∷ put n k b ∷ put n kinds.Star c ∷ qs) qs
-  const_pointer : {n a b c d : ℕ} {u : Bool} {k : TokenKind} {type : IntType} {qs : List Placed}
+      → Reads (Typing u n (pointer_to space false type)) (put n (kinds.Space space) a ∷ put n k b ∷ put n kinds.Star c ∷ qs) qs
+  const_pointer : {n a b c d : ℕ} {u : Bool} {space : AddressSpace} {k : TokenKind} {type : IntType} {qs : List Placed}
       → type_of u k ≡ Some type
-      → Reads (Typing u n (pointer_to true type)) (put n (kinds.Space Global) a ∷ put n kinds.Const b ∷ put n k c ∷ put n kinds.Star d ∷ qs) qs
+      → Reads (Typing u n (pointer_to space true type)) (put n (kinds.Space space) a ∷ put n kinds.Const b ∷ put n k c ∷ put n kinds.Star d ∷ qs) qs
   declare : {n b c x : ℕ} {kind : VariableType} {ps qs : List Placed}
       → Reads (Typing true n kind) ps (put n (kinds.Name x) b ∷ put n kinds.Semicolon c ∷ qs)
       → Reads (Declaration n (Declare (start ps) kind b x)) ps qs

@@ -5,7 +5,6 @@ use Rattle.clnum.specs.declared.int_type.IntType.TheVariants.{Ulong}
 use Rattle.clnum.specs.declared.operators.BinaryOperator.{BinaryOperator}
 use Rattle.clmodel.specs.declared.tree.InfixOperator.{InfixOperator}
 use Rattle.clmodel.specs.declared.tree.AddressSpace.{AddressSpace}
-use Rattle.clmodel.specs.declared.tree.AddressSpace.TheVariants.{Global}
 use Rattle.clmodel.specs.declared.tree.VariableType.{VariableType}
 use Rattle.clmodel.specs.declared.tree.VariableType.TheVariants.{Integer}
 use Rattle.clmodel.specs.declared.tree.Parameter.{Parameter}
@@ -102,9 +101,9 @@ pub data Mode : Type 0 where
   AfterFor : (n at : ℕ) → Mode
   AfterDo : (n at : ℕ) → Stmt → Mode
   -- a pointer's address space was read; `const` too; the type of its elements; a whole type; a declared name
-  AfterSpace : Purpose → Mode
-  AfterConst : Purpose → Mode
-  AfterElement : Purpose → (is_const : Bool) → IntType → Mode
+  AfterSpace : Purpose → AddressSpace → Mode
+  AfterConst : Purpose → AddressSpace → Mode
+  AfterElement : Purpose → AddressSpace → (is_const : Bool) → IntType → Mode
   AfterTyping : Purpose → VariableType → Mode
   Declared : (n at : ℕ) → VariableType → (name_at name : ℕ) → Mode
   -- a function, or the program's end, is wanted; the words of its head
@@ -340,34 +339,30 @@ on_optional n fs t = elim t.kind [
 
 -- ---- types
 
-abbrev pub is_global : AddressSpace → Bool
-is_global Global = true
-is_global _ = false
-
 -- where a type may begin
 abbrev pub on_typing : Purpose → List Frame → TokenKind → Moved
 on_typing p fs kind = elim kind [
   | kinds.Type type ↦ go (nesting_of p) (AfterTyping p (Integer type)) fs
   | kinds.SizeT ↦ when (takes_size p) (go (nesting_of p) (AfterTyping p (Integer Ulong)) fs)
-  | kinds.Space space ↦ when (is_global space) (go (nesting_of p) (AfterSpace p) fs)
+  | kinds.Space space ↦ go (nesting_of p) (AfterSpace p space) fs
   | _ ↦ None
 ]
 
 -- after a pointer's `const`
-abbrev pub on_after_const : Purpose → Bool → List Frame → TokenKind → Moved
-on_after_const p is_const fs kind = elim kind [
-  | kinds.Type type ↦ go (nesting_of p) (AfterElement p is_const type) fs
-  | kinds.SizeT ↦ when (takes_size p) (go (nesting_of p) (AfterElement p is_const Ulong) fs)
+abbrev pub on_after_const : Purpose → AddressSpace → Bool → List Frame → TokenKind → Moved
+on_after_const p space is_const fs kind = elim kind [
+  | kinds.Type type ↦ go (nesting_of p) (AfterElement p space is_const type) fs
+  | kinds.SizeT ↦ when (takes_size p) (go (nesting_of p) (AfterElement p space is_const Ulong) fs)
   | _ ↦ None
 ]
 
-abbrev pub on_after_space : Purpose → List Frame → TokenKind → Moved
-on_after_space p fs kinds.Const = go (nesting_of p) (AfterConst p) fs
-on_after_space p fs kind = on_after_const p false fs kind
+abbrev pub on_after_space : Purpose → AddressSpace → List Frame → TokenKind → Moved
+on_after_space p space fs kinds.Const = go (nesting_of p) (AfterConst p space) fs
+on_after_space p space fs kind = on_after_const p space false fs kind
 
-abbrev pub on_after_element : Purpose → Bool → IntType → List Frame → TokenKind → Moved
-on_after_element p is_const type fs kind = elim kind [
-  | kinds.Star ↦ go (nesting_of p) (AfterTyping p (pointer_to is_const type)) fs
+abbrev pub on_after_element : Purpose → AddressSpace → Bool → IntType → List Frame → TokenKind → Moved
+on_after_element p space is_const type fs kind = elim kind [
+  | kinds.Star ↦ go (nesting_of p) (AfterTyping p (pointer_to space is_const type)) fs
   | _ ↦ None
 ]
 
@@ -672,9 +667,9 @@ step_in (AfterIf n a) fs t = on_after_if n a fs t.kind
 step_in (AfterWhile n a) fs t = on_after_while n a fs t.kind
 step_in (AfterFor n a) fs t = on_after_for n a fs t.kind
 step_in (AfterDo n a s) fs t = on_after_do n a s fs t.kind
-step_in (AfterSpace p) fs t = on_after_space p fs t.kind
-step_in (AfterConst p) fs t = on_after_const p true fs t.kind
-step_in (AfterElement p is_const type) fs t = on_after_element p is_const type fs t.kind
+step_in (AfterSpace p space) fs t = on_after_space p space fs t.kind
+step_in (AfterConst p space) fs t = on_after_const p space true fs t.kind
+step_in (AfterElement p space is_const type) fs t = on_after_element p space is_const type fs t.kind
 step_in (AfterTyping p kind) fs t = on_after_typing p kind fs t
 step_in (Declared n a kind b x) fs t = on_declared n a kind b x fs t
 step_in Top fs t = on_top fs t

@@ -111,9 +111,9 @@ head_mode_of (heads.AfterParameter takes_size) = machine.AfterParameter takes_si
 head_mode_of heads.HeadDone = machine.HeadDone
 
 abbrev pub type_mode_of : Purpose → TypeMode → machine.Mode
-type_mode_of p types.AfterSpace = machine.AfterSpace (purpose p)
-type_mode_of p types.AfterConst = machine.AfterConst (purpose p)
-type_mode_of p (types.AfterElement is_const type) = machine.AfterElement (purpose p) is_const type
+type_mode_of p (types.AfterSpace space) = machine.AfterSpace (purpose p) space
+type_mode_of p (types.AfterConst space) = machine.AfterConst (purpose p) space
+type_mode_of p (types.AfterElement space is_const type) = machine.AfterElement (purpose p) space is_const type
 type_mode_of p (types.Whole kind) = machine.AfterTyping (purpose p) kind
 
 abbrev pub mode_of : Mode → machine.Mode

@@ -8,7 +8,7 @@ ghost use Rattle.clsyntax_terms.specs.Machine as machine;
 ghost use Rattle.clsyntax_terms.specs.Views.{opened, frame_of, mode_of, purpose, part_of, Steps};
 
 use clmodel::tree::{
-    Expression, Function, InfixOperator, Parameter, Statement, Target, VariableType,
+    AddressSpace, Expression, Function, InfixOperator, Parameter, Statement, Target, VariableType,
 };
 use clnum::{BinaryOperator, IntType, UnaryOperator};
 use std::alloc::{AllocError, Global};
@@ -214,11 +214,11 @@ pub enum Mode {
 #[derive(Clone, Copy)]
 pub enum TypeMode {
     /// A pointer's address space
-    AfterSpace,
+    AfterSpace(AddressSpace),
     /// That and `const`
-    AfterConst,
+    AfterConst(AddressSpace),
     /// All but the star of a pointer, whether with `const`
-    AfterElement(bool, IntType),
+    AfterElement(AddressSpace, bool, IntType),
     Whole(VariableType),
 }
 

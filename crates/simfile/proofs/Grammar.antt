@@ -7,7 +7,7 @@ use Rattle.clmodel.specs.declared.setup.Range.{Range}
 use Rattle.device_store.specs.declared.command.Command.{Command}
 use Rattle.device_store.specs.declared.command.Command.TheVariants as command
 use Rattle.simfile.specs.Fields.{joined, is_name, is_listed, IsList, list_text, numbers_of, AreBytes, hex, bytes_of}
-use Rattle.simfile.specs.Reading.{after, name_at, number_at, list_at, hex_at, value_at, source_at, buffer_at, write_at, read_at, buffer_argument_at, value_argument_at, argument_at, listed_offset_at, offset_at, offsets_of, range_of, program_at, kernel_at, arg_at, launch_at, command_at, or_else, ◌>>=◌}
+use Rattle.simfile.specs.Reading.{after, name_at, number_at, list_at, hex_at, value_at, source_at, buffer_at, write_at, read_at, buffer_argument_at, value_argument_at, local_argument_at, argument_at, listed_offset_at, offset_at, offsets_of, range_of, program_at, kernel_at, arg_at, launch_at, command_at, or_else, ◌>>=◌}
 use Rattle.simfile.specs.Script.{IsText, IsSetting, IsOffset, AreLines, space, line_feed}
 use Rattle.simfile.specs.Laws.{Takes, Again}
 use Rattle.simfile.proofs.FieldLaws.{after_takes, after_again, name_takes, name_again, number_takes, number_again, list_takes, list_again, list_back, hex_takes, hex_again, hex_back, value_takes, value_again, source_takes, source_again, space_ends, feed_ends, space_ends_list, feed_ends_list, feed_ends_hex}
@@ -157,14 +157,26 @@ value_argument_takes bytes onto x is e =
     let P : Argument × List ℕ → Type 0 = λ y. SettingBehind bytes y.0 y.1 in
     subst P same (codes " value " ++ signed_decimal s.0.0, split, (t.1, refl))
 
-argument_by : (bytes : List ℕ) (x : Argument × List ℕ) (o p : Option (List ℕ)) → after (codes " buffer ") bytes ≡ o → after (codes " value ") bytes ≡ p → or_else o buffer_argument_at (or_else p value_argument_at None) ≡ Some x → SettingBehind bytes x.0 x.1
-argument_by bytes x (Some onto) p is other e = buffer_argument_takes bytes onto x (after_takes (codes " buffer ") bytes onto is) e
-argument_by bytes x None (Some onto) is other e = value_argument_takes bytes onto x (after_takes (codes " value ") bytes onto other) e
-argument_by bytes x None None is other e = absurd (cc)
+local_argument_takes : (bytes onto : List ℕ) (x : Argument × List ℕ) → bytes ≡ codes " local " ++ onto → local_argument_at onto ≡ Some x → SettingBehind bytes x.0 x.1
+unfolding local_argument_at
+local_argument_takes bytes onto x is e =
+    let s = bind_some (number_at onto) _ x e in
+    let t = number_takes onto s.0 s.1 in
+    let same : (argument.Local s.0.0, s.0.1) ≡ x = let f = s.2 in cc in
+    let split : bytes ≡ (codes " local " ++ decimal s.0.0) ++ s.0.1 = is ∙ (ap (λ l. codes " local " ++ l) t.0 ∙ sym (append_assoc (codes " local ") (decimal s.0.0) s.0.1)) in
+    let P : Argument × List ℕ → Type 0 = λ y. SettingBehind bytes y.0 y.1 in
+    subst P same (codes " local " ++ decimal s.0.0, split, (t.1, refl))
+
+argument_by : (bytes : List ℕ) (x : Argument × List ℕ) (o p q : Option (List ℕ)) → after (codes " buffer ") bytes ≡ o → after (codes " value ") bytes ≡ p → after (codes " local ") bytes ≡ q
+    → or_else o buffer_argument_at (or_else p value_argument_at (or_else q local_argument_at None)) ≡ Some x → SettingBehind bytes x.0 x.1
+argument_by bytes x (Some onto) p q is other third e = buffer_argument_takes bytes onto x (after_takes (codes " buffer ") bytes onto is) e
+argument_by bytes x None (Some onto) q is other third e = value_argument_takes bytes onto x (after_takes (codes " value ") bytes onto other) e
+argument_by bytes x None None (Some onto) is other third e = local_argument_takes bytes onto x (after_takes (codes " local ") bytes onto third) e
+argument_by bytes x None None None is other third e = absurd (cc)
 
 argument_takes : (bytes : List ℕ) (x : Argument × List ℕ) → argument_at bytes ≡ Some x → SettingBehind bytes x.0 x.1
 unfolding argument_at
-argument_takes bytes x e = argument_by bytes x (after (codes " buffer ") bytes) (after (codes " value ") bytes) refl refl e
+argument_takes bytes x e = argument_by bytes x (after (codes " buffer ") bytes) (after (codes " value ") bytes) (after (codes " local ") bytes) refl refl refl e
 
 arg_takes : (bytes : List ℕ) (c : Command) (rest : List ℕ) → arg_at bytes ≡ Some (c, rest) → Behind (codes "arg ") bytes c rest
 unfolding arg_at
@@ -331,13 +343,16 @@ argument_again setting (argument.Value value) rest h =
     let onto = signed_decimal value ++ 10 ∷ rest in
     let split : setting ++ 10 ∷ rest ≡ codes " value " ++ onto = ap (λ l. l ++ 10 ∷ rest) h.1 ∙ append_assoc (codes " value ") (signed_decimal value) (10 ∷ rest) in
     rw split (unfold argument_at in unfold after in unfold value_argument_at in rw (value_again value h.0 10 rest refl) refl)
-argument_again setting (argument.Local size) rest h = absurd h
+argument_again setting (argument.Local size) rest h =
+    let onto = decimal size ++ 10 ∷ rest in
+    let split : setting ++ 10 ∷ rest ≡ codes " local " ++ onto = ap (λ l. l ++ 10 ∷ rest) h.1 ∙ append_assoc (codes " local ") (decimal size) (10 ∷ rest) in
+    rw split (unfold argument_at in unfold after in unfold local_argument_at in rw (number_again size h.0 10 rest refl) refl)
 
 -- the words of an argument begin with a space
 spaced : (setting : List ℕ) (a : Argument) → IsSetting setting a → (more : List ℕ) × (setting ≡ 32 ∷ more)
 spaced setting (argument.Buffer buffer) h = (codes "buffer " ++ buffer, h.1)
 spaced setting (argument.Value value) h = (codes "value " ++ signed_decimal value, h.1)
-spaced setting (argument.Local size) h = absurd h
+spaced setting (argument.Local size) h = (codes "local " ++ decimal size, h.1)
 
 arg_again : (kernel : List ℕ) (index : ℕ) (setting : List ℕ) (a : Argument) (rest : List ℕ) → IsTrue (is_name kernel) → index < 2 ^ 64 → IsSetting setting a → arg_at (joined_onto (kernel ∷ space ∷ decimal index ∷ setting ∷ line_feed ∷ []) rest) ≡ Some (command.Arg kernel index a, rest)
 unfolding arg_at

@@ -130,9 +130,17 @@ value_argument_at bytes = do
   value ← value_at bytes
   Some (argument.Value value.0, value.1)
 
+unfoldable pub local_argument_at : List ℕ → Option (Argument × List ℕ)
+local_argument_at bytes = do
+  size ← number_at bytes
+  Some (argument.Local size.0, size.1)
+
 -- an argument by its word
 unfoldable pub argument_at : List ℕ → Option (Argument × List ℕ)
-argument_at bytes = or_else (after (codes " buffer ") bytes) buffer_argument_at (or_else (after (codes " value ") bytes) value_argument_at None)
+argument_at bytes =
+    or_else (after (codes " buffer ") bytes) buffer_argument_at
+    (or_else (after (codes " value ") bytes) value_argument_at
+    (or_else (after (codes " local ") bytes) local_argument_at None))
 
 unfoldable pub arg_at : List ℕ → Option (Command × List ℕ)
 arg_at bytes = do

@@ -27,7 +27,7 @@ line_feed = 10 ∷ []
 abbrev pub IsSetting : List ℕ → Argument → Type 0
 IsSetting text (argument.Buffer buffer) = IsTrue (is_name buffer) × (text ≡ codes " buffer " ++ buffer)
 IsSetting text (argument.Value value) = IsValue value × (text ≡ codes " value " ++ signed_decimal value)
-IsSetting text (argument.Local size) = ⊥
+IsSetting text (argument.Local size) = (size < 2 ^ 64) × (text ≡ codes " local " ++ decimal size)
 
 -- the offsets of a launch with the space before them, or nothing, which stands for as many zeros as there are sizes
 abbrev pub IsOffset : List ℕ → List ℕ → List ℕ → Type 0

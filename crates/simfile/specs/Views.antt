@@ -14,6 +14,7 @@ use Rattle.simfile.specs.Reading.{range_of}
 abbrev pub argument_of : Setting → Argument
 argument_of (setting.Buffer name) = argument.Buffer name.now
 argument_of (setting.Value value) = argument.Value value
+argument_of (setting.Local size) = argument.Local size
 
 -- the command that a line tells
 abbrev pub command_of : Line → Command

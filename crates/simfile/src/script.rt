@@ -72,6 +72,8 @@ pub enum Line<'a> {
 pub enum Setting<'a> {
     Buffer(&'a [u8]),
     Value(i128),
+    /// So many bytes of local memory
+    Local(u64),
 }
 
 #[tactic(auto, unfolding(crate::specs::Reading::buffer_at))]
@@ -163,7 +165,7 @@ fn kernel_at(bytes: &[u8]) -> Option<(Line<'_>, &[u8])>
 }
 
 /// What an argument is set to, by its word, and the rest.
-#[tactic(auto, unfolding(crate::specs::Reading::argument_at, crate::specs::Reading::buffer_argument_at, crate::specs::Reading::value_argument_at))]
+#[tactic(auto, unfolding(crate::specs::Reading::argument_at, crate::specs::Reading::buffer_argument_at, crate::specs::Reading::value_argument_at, crate::specs::Reading::local_argument_at))]
 fn argument_at(bytes: &[u8]) -> Option<(Setting<'_>, &[u8])>
     ensures { option_map (λ read. (argument_of read.0, read.1.now)) result ≡ argument_at bytes.now }
 {
@@ -171,9 +173,13 @@ fn argument_at(bytes: &[u8]) -> Option<(Setting<'_>, &[u8])>
         let (buffer, rest) = name_at(rest)?;
         return Some((Setting::Buffer(buffer), rest));
     }
-    let rest = after(b" value ", bytes)?;
-    let (value, rest) = value_at(rest)?;
-    Some((Setting::Value(value), rest))
+    if let Some(rest) = after(b" value ", bytes) {
+        let (value, rest) = value_at(rest)?;
+        return Some((Setting::Value(value), rest));
+    }
+    let rest = after(b" local ", bytes)?;
+    let (size, rest) = number_at(rest)?;
+    Some((Setting::Local(size), rest))
 }
 
 #[tactic(auto, unfolding(crate::specs::Reading::arg_at))]
@@ -280,6 +286,7 @@ fn argument_of(alloc: Global, setting: Setting<'_>) -> Result<Argument, AllocErr
     match setting {
         Setting::Buffer(name) => Ok(Argument::Buffer(Name::copy_of(alloc, name)?)),
         Setting::Value(value) => Ok(Argument::Value(value)),
+        Setting::Local(size) => Ok(Argument::Local(size)),
     }
 }
 

@@ -15,6 +15,7 @@ arg k 0 buffer a
 arg k 1 value -9223372036854775808
 arg k 1 value 18446744073709551615
 arg k 1 value 0
+arg k 2 local 18446744073709551615
 launch k 1 1
 launch k 4,2,1 2,1,1 0,18446744073709551615,3
 launch k 1,1,1,1,1 1 0
@@ -24,7 +25,7 @@ read a 0 18446744073709551615
 #[test]
 fn good_lines(rt: HostRuntime) -> Result<(), Fail> {
     let commands = read_script(rt.alloc(), GOOD.as_bytes()).map_err(|_| "no script")?;
-    assert_eq!(rt; commands.len(), 12);
+    assert_eq!(rt; commands.len(), 13);
     let none = read_script(rt.alloc(), b"").map_err(|_| "no script")?;
     assert_eq!(rt; none.len(), 0);
     Ok(())
@@ -42,6 +43,16 @@ fn is_value(command: &Command, wanted: i128) -> bool {
             argument: Argument::Value(value),
             ..
         } => *value == wanted,
+        _ => false,
+    }
+}
+
+fn is_local(command: &Command, wanted: u64) -> bool {
+    match command {
+        Command::Arg {
+            argument: Argument::Local(size),
+            ..
+        } => *size == wanted,
         _ => false,
     }
 }
@@ -73,6 +84,18 @@ fn values(rt: HostRuntime) -> Result<(), Fail> {
         ("arg k 3 value 18446744073709551615\n", 18446744073709551615),
     ] {
         assert!(rt; is_value(&only_command(&rt, text)?, wanted), "{text}");
+    }
+    Ok(())
+}
+
+#[test]
+fn local_sizes(rt: HostRuntime) -> Result<(), Fail> {
+    for (text, wanted) in [
+        ("arg k 3 local 0\n", 0u64),
+        ("arg k 3 local 32768\n", 32768),
+        ("arg k 3 local 18446744073709551615\n", 18446744073709551615),
+    ] {
+        assert!(rt; is_local(&only_command(&rt, text)?, wanted), "{text}");
     }
     Ok(())
 }
@@ -124,7 +147,13 @@ fn bad_lines(rt: HostRuntime) {
         ("arg k 0 value 18446744073709551616\n", 1),
         ("arg k 0 value --1\n", 1),
         ("arg k 0 value\n", 1),
-        ("arg k 0 local 4\n", 1),
+        ("arg k 0 local\n", 1),
+        ("arg k 0 local -4\n", 1),
+        ("arg k 0 local 04\n", 1),
+        ("arg k 0 local 18446744073709551616\n", 1),
+        ("arg k 0 local t\n", 1),
+        ("arg k 0 local 4 4\n", 1),
+        ("arg k 0 __local 4\n", 1),
         ("write a 0 \n", 1),
         ("write a 0 0\n", 1),
         ("write a 0 0A\n", 1),
