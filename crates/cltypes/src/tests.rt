@@ -10,12 +10,15 @@ use clnum::{IntType, Value};
 use std::alloc::{AllocError, Global};
 use std::test::Fail;
 
+mod spaces;
+
 /// The places of `get_local_id` and `atomic_add` in a table of names.
 const LOCAL_ID: u32 = 2;
 
 const ATOMIC_ADD: u32 = 15;
 
-/// The kernel's name and those of its parameters: pointers to global memory, to constants in global memory and to constant memory.
+/// The kernel's name and those of its parameters: pointers to global memory, to constants in global memory, to constant memory and to
+/// local memory.
 const KERNEL: u32 = 26;
 
 const PLAIN: u32 = 27;
@@ -29,24 +32,32 @@ const FREE: u32 = 30;
 /// A helper's name.
 const HELPER: u32 = 31;
 
+const LOCAL: u32 = 32;
+
+/// A pointer to int.
+fn pointer(space: AddressSpace, is_const: bool) -> VariableType {
+    VariableType::Pointer(PointerType {
+        space,
+        is_const,
+        element: IntType::Int,
+    })
+}
+
 fn parameter(name_at: u32, name: u32, space: AddressSpace, is_const: bool) -> Parameter {
     Parameter {
         name_at,
         name,
-        kind: VariableType::Pointer(PointerType {
-            space,
-            is_const,
-            element: IntType::Int,
-        }),
+        kind: pointer(space, is_const),
     }
 }
 
-/// A kernel of three parameters and one statement; the last parameter has a name that can be chosen.
-fn kernel(alloc: Global, last: u32, statement: Statement) -> Result<Tree, AllocError> {
+/// A kernel of four parameters and one statement; the third parameter has a name that can be chosen.
+fn kernel(alloc: Global, third: u32, statement: Statement) -> Result<Tree, AllocError> {
     let parameters = vec![in alloc;
         parameter(10, PLAIN, AddressSpace::Global, false),
         parameter(20, CONST, AddressSpace::Global, true),
-        parameter(30, last, AddressSpace::Constant, false),
+        parameter(30, third, AddressSpace::Constant, false),
+        parameter(35, LOCAL, AddressSpace::Local, false),
     ]?;
     let body = vec![in alloc; statement]?;
     let function = Function {
