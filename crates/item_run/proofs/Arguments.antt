@@ -7,9 +7,9 @@ use Rattle.clmodel.specs.declared.tree.VariableType.{VariableType}
 use Rattle.clmodel.specs.declared.tree.VariableType.TheVariants.{Integer, Pointer}
 use Rattle.regcode.specs.Machine.{argument_at}
 
-content_none : (buffers : List (List ℕ)) (kind : VariableType) → content buffers kind None ≡ None
-content_none buffers (Integer t) = refl
-content_none buffers (Pointer p) = refl
+content_none : (buffers : List (List ℕ)) (place : ℕ) (kind : VariableType) → content buffers place kind None ≡ None
+content_none buffers place (Integer t) = refl
+content_none buffers place (Pointer p) = refl
 
 at_place : (arguments : List (Option Argument)) (i : ℕ) (d : Option Argument) → i < length arguments → argument_at arguments i ≡ get_or arguments i d
 at_place [] i d h = absurd (omega arith)
@@ -22,8 +22,8 @@ past_all (v ∷ arguments) zero h = absurd (omega arith)
 past_all (v ∷ arguments) (suc i) h = past_all arguments i (omega arith)
 
 pub content_here : (buffers : List (List ℕ)) (kind : VariableType) (arguments : List (Option Argument)) (i : ℕ) (a : Option Argument) (c : Option Operand)
-    → i < length arguments → a ≡ get_or arguments i a → c ≡ content buffers kind a → c ≡ content buffers kind (argument_at arguments i)
-content_here buffers kind arguments i a c h is e = e ∙ ap (content buffers kind) (is ∙ sym (at_place arguments i a h))
+    → i < length arguments → a ≡ get_or arguments i a → c ≡ content buffers i kind a → c ≡ content buffers i kind (argument_at arguments i)
+content_here buffers kind arguments i a c h is e = e ∙ ap (content buffers i kind) (is ∙ sym (at_place arguments i a h))
 
-pub content_past : (buffers : List (List ℕ)) (kind : VariableType) (arguments : List (Option Argument)) (i : ℕ) → length arguments ≤ i → None ≡ content buffers kind (argument_at arguments i)
-content_past buffers kind arguments i h = sym (ap (content buffers kind) (past_all arguments i h) ∙ content_none buffers kind)
+pub content_past : (buffers : List (List ℕ)) (kind : VariableType) (arguments : List (Option Argument)) (i : ℕ) → length arguments ≤ i → None ≡ content buffers i kind (argument_at arguments i)
+content_past buffers kind arguments i h = sym (ap (content buffers i kind) (past_all arguments i h) ∙ content_none buffers i kind)

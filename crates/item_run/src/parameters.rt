@@ -26,15 +26,25 @@ fn place(names: &[Name], name: &Name) -> usize
     names.len()
 }
 
-/// What a parameter of a type holds.
-fn content(buffers: &[Name], kind: VariableType, argument: &Option<Argument>) -> Option<Operand>
+/// What the parameter of this number and type holds.
+fn content(
+    buffers: &[Name],
+    number: u32,
+    kind: VariableType,
+    argument: &Option<Argument>,
+) -> Option<Operand>
     requires { length buffers.now < 2 ^ 32 }
-    ensures { result ≡ next.content buffers.now kind argument.now }
+    ensures { result ≡ next.content buffers.now number kind argument.now }
 {
     match kind {
         VariableType::Pointer(pointer) => match argument {
             Some(Argument::Buffer(name)) => Some(Operand::Pointed(Pointer {
                 object: Object::Buffer(place(buffers, name) as u32),
+                element: pointer.element,
+                offset: 0,
+            })),
+            Some(Argument::Local(_)) => Some(Operand::Pointed(Pointer {
+                object: Object::Local(number),
                 element: pointer.element,
                 offset: 0,
             })),
@@ -57,11 +67,11 @@ pub fn parameter(
     kind: VariableType,
 ) -> Option<Operand>
     requires { length buffers.now < 2 ^ 32 }
-    ensures { result ≡ next.content buffers.now kind (argument_at arguments.now number) }
+    ensures { result ≡ next.content buffers.now number kind (argument_at arguments.now number) }
 {
     let place = number as usize;
     if place < arguments.len() {
-        content(buffers, kind, &arguments[place])
+        content(buffers, number, kind, &arguments[place])
     } else {
         None
     }

@@ -205,10 +205,11 @@ held_takes (variable_type.Integer kind) (Pointed p) r h = absurd (takes_nothing 
 held_takes (variable_type.Pointer pointer) (Integral n) r h = absurd (takes_nothing r h)
 held_takes (variable_type.Pointer pointer) (Pointed p) r h = held_pointer (is_same p.element pointer.element) _ r h
 
-content_is : (buffers : List (List ℕ)) (kind : VariableType) (argument : Option Argument) (w : Operand) → content buffers kind argument ≡ Some w → Some (kind_of kind) ≡ Some (operand_kind w)
-content_is buffers (variable_type.Pointer p) (Some (given_argument.Buffer name)) w e = ap (option_map operand_kind) e
-content_is buffers (variable_type.Integer kind) (Some (given_argument.Value n)) w e = ap (option_map operand_kind) e
-content_is _ _ _ w e = absurd (none-some _ e)
+content_is : (buffers : List (List ℕ)) (place : ℕ) (kind : VariableType) (argument : Option Argument) (w : Operand) → content buffers place kind argument ≡ Some w → Some (kind_of kind) ≡ Some (operand_kind w)
+content_is buffers place (variable_type.Pointer p) (Some (given_argument.Buffer name)) w e = ap (option_map operand_kind) e
+content_is buffers place (variable_type.Pointer p) (Some (given_argument.Local size)) w e = ap (option_map operand_kind) e
+content_is buffers place (variable_type.Integer kind) (Some (given_argument.Value n)) w e = ap (option_map operand_kind) e
+content_is _ _ _ _ w e = absurd (none-some _ e)
 
 -- a register of others is what was put there, or what it was
 put_cases : (registers : Registers) (i : ℕ) (v : Option Operand) (j : ℕ) → ((i ≡ j) × (reg (put registers i v) j ≡ v)) ⊎ (reg (put registers i v) j ≡ reg registers j)
@@ -303,7 +304,7 @@ module _ (code : Listing) (s : State) (suits : Suits code s) where
         filled_safe _ _ on after _ _ (λ e. inr (dimension, (0, omega arith, refl), e)) (λ d e.
         on_at _ (put_next to _ (number_takes Ulong d _ (subst (λ k. Takes (kind_at code to) (number_kind Ulong k)) (suits.typed dimension d e) fits)) goes))
     does (instruction.Argument to index kind) fits goes =
-        on_at _ (set_next to _ (λ w e. takes_is _ _ fits.0 ∙ content_is given.buffers kind (argument_at given.arguments index) w e) goes)
+        on_at _ (set_next to _ (λ w e. takes_is _ _ fits.0 ∙ content_is given.buffers index kind (argument_at given.arguments index) w e) goes)
     does (instruction.Point to from) fits goes =
         filled_safe _ _ on after _ _ (λ e. inr (from, (0, omega arith, refl), e)) (λ v e.
         pointing_safe _ _ on after v _ (subst (λ k. IsTrue (is_pointer k)) (suits.typed from v e) fits.1) (λ q is.
