@@ -72,25 +72,25 @@ module _ (given : Given) (code : List Instruction) (limit : ℕ) where
   -- parameters are given the arguments of the launch
   arguments_run : (ps : List Parameter) (arguments : List (Option Argument)) (level : ℕ) (variables vs : Variables) (s : State) (at : ℕ) (now : State) (run : Run)
       → level ≡ length variables → ((i : ℕ) → argument_at given.arguments (level + i) ≡ argument_at arguments i) → Stands 0 s [] at now → view 0 variables now.registers ≡ vs → HasAt code at (arguments_code ps level)
-      → ((last : State) → Stands 0 s [] (at + length (arguments_code ps level)) last → view 0 (parameter_variables ps variables) last.registers ≡ bound given.buffers ps arguments vs → Agree given code limit last run)
+      → ((last : State) → Stands 0 s [] (at + length (arguments_code ps level)) last → view 0 (parameter_variables ps variables) last.registers ≡ bound given.buffers level ps arguments vs → Agree given code limit last run)
       → Agree given code limit now run
   arguments_run [] arguments level variables vs s at now run e from stands same has go = go now (stands_to 0 s [] at now (at + 0) (omega arith) stands) same
   arguments_run (p ∷ ps) [] level variables vs s at now run e from stands same has go =
-      let value = content given.buffers p.kind (argument_at given.arguments level) in
+      let value = content given.buffers level p.kind (argument_at given.arguments level) in
       let last = with_put now (register_at level p.kind) value in
-      let is : value ≡ content given.buffers p.kind None = ap (content given.buffers p.kind) (ap (argument_at given.arguments) (let n : level ≡ level + 0 = omega arith in n) ∙ from 0) in
+      let is : value ≡ content given.buffers level p.kind None = ap (content given.buffers level p.kind) (ap (argument_at given.arguments) (let n : level ≡ level + 0 = omega arith in n) ∙ from 0) in
       argument_runs given code limit now run (register_at level p.kind) level p.kind (here_at code at _ 0 s [] now stands has.0)
-      (arguments_run ps [] (level + 1) (variable p.name p.kind ∷ variables) (record { name = p.name; kind = p.kind; content = content given.buffers p.kind None } ∷ vs) s (at + 1) last run (omega (arith, e))
+      (arguments_run ps [] (level + 1) (variable p.name p.kind ∷ variables) (record { name = p.name; kind = p.kind; content = content given.buffers level p.kind None } ∷ vs) s (at + 1) last run (omega (arith, e))
       (λ i. ap (argument_at given.arguments) (let n : level + 1 + i ≡ level + suc i = omega arith in n) ∙ from (suc i))
       (put_stands 0 level p.kind s [] at now value (omega arith) stands)
       (declared_at 0 variables level p.name p.kind now.registers vs value (omega (arith, e)) same ∙ ap (λ c. record { name = p.name; kind = p.kind; content = c } ∷ vs) is) has.1
       (λ final at_end sees. go final (stands_to 0 s [] _ final _ (omega arith) at_end) sees))
   arguments_run (p ∷ ps) (argument ∷ arguments) level variables vs s at now run e from stands same has go =
-      let value = content given.buffers p.kind (argument_at given.arguments level) in
+      let value = content given.buffers level p.kind (argument_at given.arguments level) in
       let last = with_put now (register_at level p.kind) value in
-      let is : value ≡ content given.buffers p.kind argument = ap (content given.buffers p.kind) (ap (argument_at given.arguments) (let n : level ≡ level + 0 = omega arith in n) ∙ from 0) in
+      let is : value ≡ content given.buffers level p.kind argument = ap (content given.buffers level p.kind) (ap (argument_at given.arguments) (let n : level ≡ level + 0 = omega arith in n) ∙ from 0) in
       argument_runs given code limit now run (register_at level p.kind) level p.kind (here_at code at _ 0 s [] now stands has.0)
-      (arguments_run ps arguments (level + 1) (variable p.name p.kind ∷ variables) (record { name = p.name; kind = p.kind; content = content given.buffers p.kind argument } ∷ vs) s (at + 1) last run (omega (arith, e))
+      (arguments_run ps arguments (level + 1) (variable p.name p.kind ∷ variables) (record { name = p.name; kind = p.kind; content = content given.buffers level p.kind argument } ∷ vs) s (at + 1) last run (omega (arith, e))
       (λ i. ap (argument_at given.arguments) (let n : level + 1 + i ≡ level + suc i = omega arith in n) ∙ from (suc i))
       (put_stands 0 level p.kind s [] at now value (omega arith) stands)
       (declared_at 0 variables level p.name p.kind now.registers vs value (omega (arith, e)) same ∙ ap (λ c. record { name = p.name; kind = p.kind; content = c } ∷ vs) is) has.1
@@ -185,7 +185,7 @@ has_all (i ∷ is) pre =
 -- a kernel, from the start
 pub kernel_runs : (given : Given) (most : ℕ) (earlier : Funcs) (f : Func) (limit : ℕ) (start : State) → limit ≤ most → start.place ≡ 0
     → Agree given (kernel_code earlier f) limit start
-    (exec_all most given.here (helper most given.here earlier) (sites_in earlier) f.body 0 [] at_the_end (bound given.buffers f.parameters given.arguments []))
+    (exec_all most given.here (helper most given.here earlier) (sites_in earlier) f.body 0 [] at_the_end (bound given.buffers 0 f.parameters given.arguments []))
 kernel_runs given most earlier f limit start below zero_is =
     let code = kernel_code earlier f in
     let first = arguments_code f.parameters 0 in

@@ -4,7 +4,7 @@ use Rattle.std.specs.Map.{lookup}
 use Rattle.std.specs.Option.{option_or}
 use Rattle.clmodel.specs.Tree as tree
 use Rattle.clmodel.specs.Tree.{Stmt, Stmts, NoStmt, ThenStmt, MaybeStmt, Without, With}
-use Rattle.clmodel.specs.Typing.Context.{Context, Signature, Meaning, meaning, Bound, Callable, Current, BuiltInFunction, Unknown, declared, found, called, signature_of, function_meaning, is_reserved, is_free, among, bind, after, after_all, after_part}
+use Rattle.clmodel.specs.Typing.Context.{Context, Signature, Meaning, meaning, Bound, Callable, Current, BuiltInFunction, Barrier, Unknown, declared, found, called, signature_of, function_meaning, is_reserved, is_free, among, bind, after, after_all, after_part}
 use Rattle.clmodel.specs.Typing.Context as context
 use Rattle.clmodel.specs.Typing.Rules as rule
 use Rattle.clmodel.specs.Typing.Rules.{IsTyped, IsTypedPart, AreTyped}
@@ -19,10 +19,11 @@ use Rattle.lower.specs.Accepted.{Matches}
 use Rattle.lower.proofs.Looking.{look_left, look_last}
 
 -- a name that stands for a helper
-called_callable : (s : Option Signature) (f : Option BuiltIn) (t : Signature) → called s f ≡ Callable t → s ≡ Some t
-called_callable (Some s) f t e = ap (λ m. elim m as (λ _. Option Signature) [ Bound k ↦ None | Callable s ↦ Some s | Current s ↦ None | BuiltInFunction h ↦ None | Unknown ↦ None ]) e
-called_callable None (Some f) t e = absurd (cc)
-called_callable None None t e = absurd (cc)
+called_callable : (s : Option Signature) (f : Option BuiltIn) (b : Bool) (t : Signature) → called s f b ≡ Callable t → s ≡ Some t
+called_callable (Some s) f b t e = ap (λ m. elim m as (λ _. Option Signature) [ Bound k ↦ None | Callable s ↦ Some s | Current s ↦ None | BuiltInFunction h ↦ None | Barrier ↦ None | Unknown ↦ None ]) e
+called_callable None (Some f) b t e = absurd (cc)
+called_callable None None true t e = absurd (cc)
+called_callable None None false t e = absurd (cc)
 
 choice_callable : (b : Bool) (s : Signature) (m : Meaning) (t : Signature) → (if b then Current s else m) ≡ Callable t → m ≡ Callable t
 choice_callable true s m t e = absurd (cc)
@@ -34,19 +35,20 @@ found_callable (Some k) m t e = absurd (cc)
 
 pub callable_is : (c : Context) (name : ℕ) (s : Signature) → meaning c name ≡ Callable s → signature_of c.before name ≡ Some s
 callable_is c name s e =
-    called_callable (signature_of c.before name) _ s
-    (choice_callable (nat_eq name c.current) c.signature (called (signature_of c.before name) _) s
+    called_callable (signature_of c.before name) _ _ s
+    (choice_callable (nat_eq name c.current) c.signature (called (signature_of c.before name) _ _) s
     (found_callable (context.variable (c.inner ∷ c.outer) name) (function_meaning c name) s e))
 
 -- a function is no variable
-called_unbound : (s : Option Signature) (f : Option BuiltIn) (k : VariableType) → called s f ≡ Bound k → ⊥
-called_unbound (Some s) f k e = absurd (cc)
-called_unbound None (Some f) k e = absurd (cc)
-called_unbound None None k e = absurd (cc)
+called_unbound : (s : Option Signature) (f : Option BuiltIn) (b : Bool) (k : VariableType) → called s f b ≡ Bound k → ⊥
+called_unbound (Some s) f b k e = absurd (cc)
+called_unbound None (Some f) b k e = absurd (cc)
+called_unbound None None true k e = absurd (cc)
+called_unbound None None false k e = absurd (cc)
 
-pub function_unbound : (b : Bool) (t : Signature) (s : Option Signature) (f : Option BuiltIn) (k : VariableType) → (if b then Current t else called s f) ≡ Bound k → ⊥
-function_unbound true t s f k e = absurd (cc)
-function_unbound false t s f k e = called_unbound s f k e
+pub function_unbound : (b : Bool) (t : Signature) (s : Option Signature) (f : Option BuiltIn) (waits : Bool) (k : VariableType) → (if b then Current t else called s f waits) ≡ Bound k → ⊥
+function_unbound true t s f waits k e = absurd (cc)
+function_unbound false t s f waits k e = called_unbound s f waits k e
 
 free_new : (a : Bool) (o : Option VariableType) (b : Bool) → (not a && not (is_some o) && not b) ≡ true → o ≡ None
 free_new true o b e = absurd (cc)
@@ -57,7 +59,7 @@ pub new_name : (c : Context) (x : ℕ) → is_free c x ≡ true → declared c.i
 new_name c x e = free_new (is_reserved x) (declared c.inner x) (among x c.all) e
 
 bound_is : (j k : VariableType) → Bound j ≡ Bound k → j ≡ k
-bound_is j k e = ap (λ m. elim m as (λ _. VariableType) [ Bound l ↦ l | Callable s ↦ j | Current s ↦ j | BuiltInFunction h ↦ j | Unknown ↦ j ]) e
+bound_is j k e = ap (λ m. elim m as (λ _. VariableType) [ Bound l ↦ l | Callable s ↦ j | Current s ↦ j | BuiltInFunction h ↦ j | Barrier ↦ j | Unknown ↦ j ]) e
 
 bound_case : (c : Context) (scope : Scope) (x : ℕ) (k : VariableType) (y : ℕ) (j : VariableType) (b : Bool) → nat_eq y x ≡ b → declared c.inner x ≡ None → Matches c scope → meaning (bind c x k) y ≡ Bound j
     → (level : ℕ)
@@ -93,6 +95,7 @@ matches_after _ scope _ (rule.assign place gives passes) m = m
 matches_after _ scope _ (rule.assign_by place gives operates passes) m = m
 matches_after _ scope _ (rule.step place) m = m
 matches_after _ scope _ (rule.call_only is arguments calls) m = m
+matches_after _ scope _ (rule.barrier is named) m = m
 matches_after _ scope _ (rule.call_helper call) m = m
 matches_after _ scope _ (rule.if test chosen) m = m
 matches_after _ scope _ (rule.if_else test chosen otherwise) m = m

@@ -7,11 +7,12 @@ use Rattle.clnum.specs.Operations.{unary_kind, truth}
 use Rattle.clnum.specs.declared.int_type.IntType.{IntType}
 use Rattle.clnum.specs.declared.int_type.IntType.TheVariants.{Char, Uchar, Short, Ushort, Int, Uint, Long, Ulong}
 use Rattle.clnum.specs.declared.operators.Builtin.TheVariants as integer
+use Rattle.clmodel.specs.Barrier.{is_barrier}
 use Rattle.clmodel.specs.BuiltIns.{built_in}
 use Rattle.clmodel.specs.Next.{base_type, infix_type, call_type, argument_type}
 use Rattle.clmodel.specs.Tree as tree
 use Rattle.clmodel.specs.Tree.{Term, Terms, NoTerm, ThenTerm, Place}
-use Rattle.clmodel.specs.Typing.Context.{Context, Signature, Meaning, meaning, Bound, Callable, Current, BuiltInFunction, Unknown, found, called, signature_of, function_meaning}
+use Rattle.clmodel.specs.Typing.Context.{Context, Signature, Meaning, meaning, Bound, Callable, Current, BuiltInFunction, Barrier, Unknown, found, called, signature_of, function_meaning}
 use Rattle.clmodel.specs.Typing.Context as context
 use Rattle.clmodel.specs.Typing.Rules as rule
 use Rattle.clmodel.specs.Typing.Rules.{Types, TypesAll, TypesPlace, Operates, Calls}
@@ -49,10 +50,11 @@ infix_is _ _ _ rule.pointer_difference = refl
 infix_is _ _ _ rule.sum_pointer = refl
 
 -- a name that stands for a built-in function
-called_is : (s : Option Signature) (f : Option BuiltIn) (g : BuiltIn) → called s f ≡ BuiltInFunction g → f ≡ Some g
-called_is (Some s) f g e = absurd (cc)
-called_is None (Some f) g e = ap (λ m. elim m as (λ _. Option BuiltIn) [ Bound k ↦ None | Callable s ↦ None | Current s ↦ None | BuiltInFunction h ↦ Some h | Unknown ↦ None ]) e
-called_is None None g e = absurd (cc)
+called_is : (s : Option Signature) (f : Option BuiltIn) (b : Bool) (g : BuiltIn) → called s f b ≡ BuiltInFunction g → f ≡ Some g
+called_is (Some s) f b g e = absurd (cc)
+called_is None (Some f) b g e = ap (λ m. elim m as (λ _. Option BuiltIn) [ Bound k ↦ None | Callable s ↦ None | Current s ↦ None | BuiltInFunction h ↦ Some h | Barrier ↦ None | Unknown ↦ None ]) e
+called_is None None true g e = absurd (cc)
+called_is None None false g e = absurd (cc)
 
 choice_is : (b : Bool) (s : Signature) (m : Meaning) (g : BuiltIn) → (if b then Current s else m) ≡ BuiltInFunction g → m ≡ BuiltInFunction g
 choice_is true s m g e = absurd (cc)
@@ -64,9 +66,30 @@ found_is (Some k) m g e = absurd (cc)
 
 pub built_in_is : (c : Context) (name : ℕ) (g : BuiltIn) → meaning c name ≡ BuiltInFunction g → built_in name ≡ Some g
 built_in_is c name g e =
-    called_is (signature_of c.before name) (built_in name) g
-    (choice_is (nat_eq name c.current) c.signature (called (signature_of c.before name) (built_in name)) g
+    called_is (signature_of c.before name) (built_in name) _ g
+    (choice_is (nat_eq name c.current) c.signature (called (signature_of c.before name) (built_in name) _) g
     (found_is (context.variable (c.inner ∷ c.outer) name) (function_meaning c name) g e))
+
+-- a name that stands for the barrier
+called_waits : (s : Option Signature) (f : Option BuiltIn) (b : Bool) → called s f b ≡ Barrier → b ≡ true
+called_waits (Some s) f b e = absurd (cc)
+called_waits None (Some f) b e = absurd (cc)
+called_waits None None true e = refl
+called_waits None None false e = absurd (cc)
+
+choice_waits : (b : Bool) (s : Signature) (m : Meaning) → (if b then Current s else m) ≡ Barrier → m ≡ Barrier
+choice_waits true s m e = absurd (cc)
+choice_waits false s m e = e
+
+found_waits : (v : Option VariableType) (m : Meaning) → found v m ≡ Barrier → m ≡ Barrier
+found_waits None m e = e
+found_waits (Some k) m e = absurd (cc)
+
+pub barrier_is : (c : Context) (name : ℕ) → meaning c name ≡ Barrier → is_barrier name ≡ true
+barrier_is c name e =
+    called_waits (signature_of c.before name) (built_in name) (is_barrier name)
+    (choice_waits (nat_eq name c.current) c.signature (called (signature_of c.before name) (built_in name) _)
+    (found_waits (context.variable (c.inner ∷ c.outer) name) (function_meaning c name) e))
 
 -- the types of arguments, and their registers
 abbrev pub kinds_of : Scope → Terms → List VariableType

@@ -104,7 +104,7 @@ body_suits parameters all earlier f typed known level depth site =
     let inner : Exits = record { broken = 0; continued = 0; returned = length end } in
     let start = begin all earlier f in
     let c = with_params start f.parameters in
-    let m : Matches start empty = λ name kind is. absurd (function_unbound (nat_eq name f.name) (signature f) (signature_of (signatures earlier) name) (built_in name) kind is) in
+    let m : Matches start empty = λ name kind is. absurd (function_unbound (nat_eq name f.name) (signature f) (signature_of (signatures earlier) name) (built_in name) (is_barrier name) kind is) in
     suit_both parameters (stmts_code (call_code earlier) (result_in earlier) (sites_in earlier) f.result scope f.body depth site inner) end
     (stmts_suit parameters (call_code earlier) (result_in earlier) (sites_in earlier) f.result c f.body typed.body scope (matches_params start empty f.parameters typed.parameters m)
     (λ x s is. known x s (subst (λ b. signature_of b x ≡ Some s) (with_params_before start f.parameters) is)) depth site inner)

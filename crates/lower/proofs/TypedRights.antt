@@ -9,7 +9,7 @@ use Rattle.clmodel.specs.BuiltIns.{built_in}
 use Rattle.clmodel.specs.Next.{base_type, infix_type, argument_type, call_type, step_operator, helper_or, helper_call}
 use Rattle.clmodel.specs.Tree as tree
 use Rattle.clmodel.specs.Tree.{Term, Terms, Place, MaybeTerm}
-use Rattle.clmodel.specs.Typing.Context.{Context, Signature, signature_of, meaning, BuiltInFunction}
+use Rattle.clmodel.specs.Typing.Context.{Context, Signature, signature_of, meaning, BuiltInFunction, Barrier}
 use Rattle.clmodel.specs.Typing.Rules as rule
 use Rattle.clmodel.specs.Typing.Rules.{Types, TypesAll, TypesPlace, Passes, Operates, AreGiven, CallsHelper, Gives, IsCondition}
 use Rattle.clmodel.specs.declared.action.Fences.{Fences}
@@ -26,7 +26,7 @@ use Rattle.lower_expr.specs.Expressions.{kind_of, kind_named, register_for, regi
 use Rattle.lower_code.specs.Code.{Calls, result_type, needed_code, no_value_code, value_code, hold_code, place_type, fetch_code, put_code, combine_code, wait_code, condition_code, turn_code, right_code, right_type, assign_code, compound_code, step_code, call_only_statement}
 use Rattle.lower.specs.Accepted.{Is, Matches, Suit}
 use Rattle.lower.proofs.Suiting.{is_at, is_as, suit_both, constant_suits, unset_suits, hold_suits, binary_suits, store_suits, load_suits, update_suits, update_by_one_suits, branch_suits}
-use Rattle.lower.proofs.Suited.{built_in_is, infix_is, call_is, argument_is, last_of, types_are, type_is, numbered, registers_are, variable_suits, call_suits, expression_suits, terms_suit, place_suits}
+use Rattle.lower.proofs.Suited.{built_in_is, barrier_is, infix_is, call_is, argument_is, last_of, types_are, type_is, numbered, registers_are, variable_suits, call_suits, expression_suits, terms_suit, place_suits}
 use Rattle.lower.proofs.Scoped.{callable_is}
 
 -- the registers of arguments can be given to parameters of these types, as far as there are both
@@ -228,6 +228,12 @@ module _ (c : Context) (scope : Scope) (m : Matches c scope) where
       only_suits f x es ks r is arguments by depth site =
           subst (λ g. Suit parameters (call_only_statement calls results inside result scope (is_barrier x) g x es depth site)) (sym (built_in_is c x f is))
           (only_case (is_barrier x) f x es ks r arguments by depth site)
+
+      pub only_barrier_suits : (x : ℕ) (es : Terms) → meaning c x ≡ Barrier → (depth site : ℕ)
+          → Suit parameters (call_only_statement calls results inside result scope (is_barrier x) (built_in x) x es depth site)
+      only_barrier_suits x es is depth site =
+          subst (λ b. Suit parameters (call_only_statement calls results inside result scope b (built_in x) x es depth site)) (sym (barrier_is c x is))
+          (wait_suits parameters (fences es) site depth)
 
       module _ (known : (x : ℕ) (s : Signature) → signature_of c.before x ≡ Some s → CallSuits parameters calls results x s) where
         pub only_helper_suits : (x : ℕ) (es : Terms) (s : Signature) → CallsHelper c x es s → (depth site : ℕ)

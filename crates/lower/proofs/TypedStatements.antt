@@ -16,7 +16,7 @@ use Rattle.lower.specs.Accepted.{Matches, Suit}
 use Rattle.lower.proofs.Suiting.{is_at, is_as, suit_both, unset_suits, hold_suits, branch_suits}
 use Rattle.lower.proofs.Suited.{type_is, expression_suits}
 use Rattle.lower.proofs.Scoped.{matches_bind, matches_part, matches_all, after_part_before, after_all_before}
-use Rattle.lower.proofs.TypedRights.{CallSuits, no_value_suits, value_suits, turn_suits, condition_suits, step_suits, only_suits, only_helper_suits, right_is, right_suits, assign_suits, compound_suits}
+use Rattle.lower.proofs.TypedRights.{CallSuits, no_value_suits, value_suits, turn_suits, condition_suits, step_suits, only_suits, only_barrier_suits, only_helper_suits, right_is, right_suits, assign_suits, compound_suits}
 
 module _ (parameters : List VariableType) (calls : Calls) (results : ℕ → Option IntType) (inside : ℕ → ℕ) (result : Option IntType) where
   -- the helpers of a context are known
@@ -54,6 +54,8 @@ module _ (parameters : List VariableType) (calls : Calls) (results : ℕ → Opt
         step_suits c scope m parameters (free_level scope) p is_increment k calls results inside result place
     stmt_suits _ _ (rule.call_only {c = c} {x = x} {f = f} {es = es} {ks = ks} {r = r} is arguments by) scope m known depth site exits =
         only_suits c scope m parameters calls results inside result f x es ks r is arguments by depth site
+    stmt_suits _ _ (rule.barrier {c = c} {x = x} {es = es} is named) scope m known depth site exits =
+        only_barrier_suits c scope m parameters calls results inside result x es is depth site
     stmt_suits _ _ (rule.call_helper {c = c} {x = x} {es = es} {s = s} call) scope m known depth site exits =
         only_helper_suits c scope m parameters calls results inside result known x es s call depth site
     stmt_suits _ _ (rule.if {c = c} {e = e} {s = s} {t = t} test chosen) scope m known depth site exits =
