@@ -1,0 +1,4 @@
+//! Launches, run as their work-groups.
+#![tactic(auto)]
+
+mod buffers;
