@@ -1,3 +1,2 @@
 pub mod Alone
-pub mod Contents
 pub mod Conclusions

@@ -1,9 +1,8 @@
 -- Launches on buffers that are given by their bytes, and launches of one work-group (OpenCL 1.2, 3.2, 5.8).
-use Rattle.std.specs.Prelude.{◌≡◌, ℕ, ◌<◌, List, []}
+use Rattle.std.specs.Prelude.{◌≡◌, ℕ, ◌*◌, ◌<◌, ◌^◌, List, []}
 use Rattle.clmodel.specs.Launch.{Launch}
 use Rattle.clmodel.specs.Next.{next}
 use Rattle.clmodel.specs.Setup.{Setup, item_count, group_items, buffer_names}
-use Rattle.group_run.specs.Group.{Plan}
 
 -- the launch of a setup on buffers that hold these bytes, in the order of the launch's buffers
 abbrev pub launch_on : Setup → List (List ℕ) → Launch
@@ -19,11 +18,7 @@ launch_on setup contents =
       source_names = setup.program.names;
     }
 
--- a launch of one work-group
-pub record IsOneGroup (launch : Launch) : Type 0 where
-  pub some : 0 < launch.items
-  pub whole : launch.items ≡ launch.group_size
-
--- its group
-abbrev pub only_group : Launch → Plan
-only_group launch = record { launch = launch; group = 0; first = 0; count = launch.items }
+-- a setup of one work-group whose answers have numbers of 32 bits
+pub record IsOneGroup (setup : Setup) : Type 0 where
+  pub whole : item_count setup.range ≡ group_items setup.range
+  pub short : group_items setup.range * setup.budget < 2 ^ 32

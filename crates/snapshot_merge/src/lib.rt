@@ -3,3 +3,6 @@
 
 mod buffers;
 mod loaded;
+mod run;
+
+pub use run::run_launch;

@@ -5,8 +5,9 @@ ghost use Rattle.item_launch.specs.Launches.{setup_of};
 ghost use Rattle.snapshot_merge.specs.Launches.{launch_on};
 
 use clmodel::text::{Bytes, Name};
-use group_run::Described;
+use group_run::{Described, Runnable};
 use item_launch::Launch;
+use item_run::Item;
 use std::alloc::{AllocError, Global};
 
 /// A kernel that is ready to run, on buffers that hold these bytes, in the order of the launch's buffers.
@@ -40,5 +41,19 @@ impl Described for LoadedLaunch<'_> {
 
     fn source_name(&self, number: u32) -> Result<Name, AllocError> {
         name_of(self.alloc, self.launch.source_names(), number)
+    }
+}
+
+impl Runnable for LoadedLaunch<'_> {
+    fn group_size(&self) -> u32 {
+        self.launch.group_size()
+    }
+
+    fn local_sizes(&self) -> &[u64] {
+        &[]
+    }
+
+    fn start(&self, alloc: Global, item: u32) -> Result<Item<'_>, AllocError> {
+        self.launch.start(alloc, item)
     }
 }
