@@ -4,5 +4,7 @@
 mod buffers;
 mod loaded;
 mod run;
+#[cfg(test)]
+mod tests;
 
 pub use run::run_launch;
