@@ -14,7 +14,7 @@ use Rattle.clmodel.proofs.Steps.{or_else_none}
 use Rattle.shadow_list.specs.Log.{Log, hit_between, hit_on, hit_from, hit, IsThere, IsKept}
 use Rattle.shadow_list.specs.declared.log.Entry.{Entry}
 use Rattle.shadow_list.specs.declared.log.Hit.{Hit}
-use Rattle.group_run.specs.Fits.{accesses_of, conflict_of, AreMine}
+use Rattle.group_run.specs.Logs.{accesses_of, conflict_of, AreMine}
 
 -- ---- an access that is there already
 

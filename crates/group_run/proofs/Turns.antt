@@ -150,11 +150,11 @@ more p whole origin s t events k b runs calm gathered a made =
     runs_more p origin events s (Item (p.first + k)) t runs (unstopped p whole s k b gathered calm (accessing p s (p.first + k) a) ∙ made.makes) made.steps
 
 pub made_done :
-    (p : Plan) (old new : State → Type 0) (origin : State) (events : Events) (k : ℕ) (m : Made) → m ≡ made.Done → IsGroup p → k < p.count
+    (p : Plan) (old new : Events → State → Type 0) (origin : State) (events : Events) (k : ℕ) (m : Made) → m ≡ made.Done → IsGroup p → k < p.count
     → (g : Gathers p old origin events k) → Accesses p g.0.state (p.first + k) → IsMade p old new (p.first + k) m
     → Gathers p new origin (events ++ Item (p.first + k) ∷ []) k
 made_done p old new origin events k m e whole b g a h =
-    let w = subst (λ z. IsMade p old new (p.first + k) z) e h g.0.state g.0.holds a in (
+    let w = subst (λ z. IsMade p old new (p.first + k) z) e h events g.0.state g.0.holds a in (
       record {
         state = w.0;
         runs = more p whole origin g.0.state w.0 events k b g.0.runs g.0.calm g.1 a w.1;
@@ -165,11 +165,11 @@ made_done p old new origin events k m e whole b g a h =
     )
 
 pub made_conflict :
-    (p : Plan) (old new : State → Type 0) (origin : State) (events : Events) (k : ℕ) (m : Made) (f : Fault) → m ≡ made.Conflicts f → IsGroup p → k < p.count
+    (p : Plan) (old new : Events → State → Type 0) (origin : State) (events : Events) (k : ℕ) (m : Made) (f : Fault) → m ≡ made.Conflicts f → IsGroup p → k < p.count
     → (g : Gathers p old origin events k) → Accesses p g.0.state (p.first + k) → IsMade p old new (p.first + k) m
     → Reported p new origin (events ++ Item (p.first + k) ∷ []) f
 made_conflict p old new origin events k m f e whole b g a h =
-    let w = subst (λ z. IsMade p old new (p.first + k) z) e h g.0.state g.0.holds a in
+    let w = subst (λ z. IsMade p old new (p.first + k) z) e h events g.0.state g.0.holds a in
     record {
       state = w.0;
       runs = more p whole origin g.0.state w.0 events k b g.0.runs g.0.calm g.1 a w.2;
@@ -178,10 +178,10 @@ made_conflict p old new origin events k m f e whole b g a h =
     }
 
 pub made_refused :
-    (p : Plan) (old new : State → Type 0) (origin : State) (events : Events) (k : ℕ) (m : Made) (f : Fault) → m ≡ made.Refused f → IsGroup p → k < p.count
+    (p : Plan) (old new : Events → State → Type 0) (origin : State) (events : Events) (k : ℕ) (m : Made) (f : Fault) → m ≡ made.Refused f → IsGroup p → k < p.count
     → (g : Gathers p old origin events k) → Accesses p g.0.state (p.first + k) → IsMade p old new (p.first + k) m → Reported p new origin events f
 made_refused p old new origin events k m f e whole b g a h =
-    let w = subst (λ z. IsMade p old new (p.first + k) z) e h g.0.state g.0.holds a in
+    let w = subst (λ z. IsMade p old new (p.first + k) z) e h events g.0.state g.0.holds a in
     record {
       state = g.0.state;
       runs = g.0.runs;
@@ -191,17 +191,17 @@ made_refused p old new origin events k m f e whole b g a h =
 
 -- the events stay countable
 pub room_done :
-    (p : Plan) (old new : State → Type 0) (origin : State) (events : Events) (k : ℕ) (m : Made) → m ≡ made.Done → IsBrief p origin
+    (p : Plan) (old new : Events → State → Type 0) (origin : State) (events : Events) (k : ℕ) (m : Made) → m ≡ made.Done → IsBrief p origin
     → (g : Gathers p old origin events k) → Accesses p g.0.state (p.first + k) → IsMade p old new (p.first + k) m → length events + 1 < 2 ^ 64
 room_done p old new origin events k m e brief g a h =
-    let w = subst (λ z. IsMade p old new (p.first + k) z) e h g.0.state g.0.holds a in
+    let w = subst (λ z. IsMade p old new (p.first + k) z) e h events g.0.state g.0.holds a in
     made_room p origin g.0.state w.0 events (p.first + k) brief g.0.runs w.1
 
 pub room_conflict :
-    (p : Plan) (old new : State → Type 0) (origin : State) (events : Events) (k : ℕ) (m : Made) (f : Fault) → m ≡ made.Conflicts f → IsBrief p origin
+    (p : Plan) (old new : Events → State → Type 0) (origin : State) (events : Events) (k : ℕ) (m : Made) (f : Fault) → m ≡ made.Conflicts f → IsBrief p origin
     → (g : Gathers p old origin events k) → Accesses p g.0.state (p.first + k) → IsMade p old new (p.first + k) m → length events + 1 < 2 ^ 64
 room_conflict p old new origin events k m f e brief g a h =
-    let w = subst (λ z. IsMade p old new (p.first + k) z) e h g.0.state g.0.holds a in
+    let w = subst (λ z. IsMade p old new (p.first + k) z) e h events g.0.state g.0.holds a in
     made_room p origin g.0.state w.0 events (p.first + k) brief g.0.runs w.2
 
 -- ---- a stop
@@ -291,9 +291,9 @@ finishes p whole s gathered calm e =
 
 -- the group once it is released
 pub released_on :
-    (p : Plan) (new : State → Type 0) (origin : State) (events : Events) (s n : State) (i : Instance) (fences : Fences) → IsGroup p → RunsIn p origin events s
+    (p : Plan) (new : Events → State → Type 0) (origin : State) (events : Events) (s n : State) (i : Instance) (fences : Fences) → IsGroup p → RunsIn p origin events s
     → newest_conflict p.launch s.log ≡ None → AtOneStop p s p.count → next_action p.launch s p.first ≡ action.Barrier i fences
-    → step p.launch s (Release p.group) ≡ Some n → new n → Reached p new origin (events ++ Release p.group ∷ [])
+    → step p.launch s (Release p.group) ≡ Some n → new (events ++ Release p.group ∷ []) n → Reached p new origin (events ++ Release p.group ∷ [])
 released_on p new origin events s n i fences whole runs calm gathered waiting h holds =
     record {
       state = n;
@@ -308,39 +308,39 @@ released_on p new origin events s n i fences whole runs calm gathered waiting h 
 
 -- ---- the same by other plans, as the code has them
 
-abbrev pub moved : (p : Plan) (old new : State → Type 0) (origin : State) (events : Events) → ((s : State) → old s → new s) → Reached p old origin events → Reached p new origin events
+abbrev pub moved : (p : Plan) (old new : Events → State → Type 0) (origin : State) (events : Events) → ((es : Events) (s : State) → old es s → new es s) → Reached p old origin events → Reached p new origin events
 moved p old new origin events f r =
     record {
       state = r.state;
       runs = r.runs;
-      holds = f r.state r.holds;
+      holds = f events r.state r.holds;
       calm = r.calm;
     }
 
 pub advance_asks :
-    (p q : Plan) (old new : State → Type 0) (origin : State) (events : Events) (k : ℕ) → q ≡ p → IsGroup p → k < p.count → IsBrief p origin
-    → (g : Gathers p old origin events k) → ((s : State) → old s → new s) → Accesses p g.0.state (p.first + k)
+    (p q : Plan) (old new : Events → State → Type 0) (origin : State) (events : Events) (k : ℕ) → q ≡ p → IsGroup p → k < p.count → IsBrief p origin
+    → (g : Gathers p old origin events k) → ((es : Events) (s : State) → old es s → new es s) → Accesses p g.0.state (p.first + k)
     → IsGroup q × ((k < q.count) × (IsBrief q origin × ((g : Gathers q new origin events k) × Accesses q g.0.state (q.first + k))))
 advance_asks p q old new origin events k e whole b brief g f a =
     subst (λ z. IsGroup z × ((k < z.count) × (IsBrief z origin × ((g : Gathers z new origin events k) × Accesses z g.0.state (z.first + k))))) (sym e)
     (whole, (b, (brief, ((moved p old new origin events f g.0, g.1), a))))
 
 pub stop_asks :
-    (p q : Plan) (old new : State → Type 0) (origin : State) (events : Events) (k : ℕ) (y : Stop) → q ≡ p → IsGroup p → k < p.count
-    → (g : Gathers p old origin events k) → ((s : State) → old s → new s) → stop_at p g.0.state k ≡ Some y
+    (p q : Plan) (old new : Events → State → Type 0) (origin : State) (events : Events) (k : ℕ) (y : Stop) → q ≡ p → IsGroup p → k < p.count
+    → (g : Gathers p old origin events k) → ((es : Events) (s : State) → old es s → new es s) → stop_at p g.0.state k ≡ Some y
     → IsGroup q × ((k < q.count) × ((g : Gathers q new origin events k) × (stop_at q g.0.state k ≡ Some y)))
 stop_asks p q old new origin events k y e whole b g f a =
     subst (λ z. IsGroup z × ((k < z.count) × ((g : Gathers z new origin events k) × (stop_at z g.0.state k ≡ Some y)))) (sym e)
     (whole, (b, ((moved p old new origin events f g.0, g.1), a)))
 
 pub item_asks :
-    (p q : Plan) (fits : State → Type 0) (origin : State) (events : Events) (k : ℕ) → q ≡ p → IsGroup p → k < p.count → IsBrief p origin → Gathers p fits origin events k
+    (p q : Plan) (fits : Events → State → Type 0) (origin : State) (events : Events) (k : ℕ) → q ≡ p → IsGroup p → k < p.count → IsBrief p origin → Gathers p fits origin events k
     → IsGroup q × ((k < q.count) × (IsBrief q origin × Gathers q fits origin events k))
 item_asks p q fits origin events k e whole b brief g =
     subst (λ z. IsGroup z × ((k < z.count) × (IsBrief z origin × Gathers z fits origin events k))) (sym e) (whole, (b, (brief, g)))
 
 pub interval_asks :
-    (p q : Plan) (fits : State → Type 0) (origin : State) (events : Events) → q ≡ p → IsGroup p → IsBrief p origin → Reached p fits origin events
+    (p q : Plan) (fits : Events → State → Type 0) (origin : State) (events : Events) → q ≡ p → IsGroup p → IsBrief p origin → Reached p fits origin events
     → IsGroup q × (IsBrief q origin × Reached q fits origin events)
 interval_asks p q fits origin events e whole brief r =
     subst (λ z. IsGroup z × (IsBrief z origin × Reached z fits origin events)) (sym e) (whole, (brief, r))
@@ -352,41 +352,41 @@ acting p q s k a b e h i = subst (λ z. next_action z.launch s (z.first + k) ≡
 
 -- where all have come to rest after an interval
 pub leader_asks :
-    (p q : Plan) (fits : State → Type 0) (origin : State) (events : Events) → q ≡ p → IsGroup p → Gathers p fits origin events p.count
-    → (s : State) × (x : Stop) × fits s × (first_stop q s ≡ Some x)
+    (p q : Plan) (fits : Events → State → Type 0) (origin : State) (events : Events) → q ≡ p → IsGroup p → Gathers p fits origin events p.count
+    → (es : Events) × (s : State) × (x : Stop) × fits es s × (first_stop q s ≡ Some x)
 leader_asks p q fits origin events e whole g =
     let w = gathered_stop p whole g.0.state g.1 in
-    (g.0.state, w.0, g.0.holds, subst (λ z. first_stop z g.0.state ≡ Some w.0) (sym e) w.1)
+    (events, g.0.state, w.0, g.0.holds, subst (λ z. first_stop z g.0.state ≡ Some w.0) (sym e) w.1)
 
-abbrev pub IsWaiting : Plan → (State → Type 0) → Type 0
+abbrev pub IsWaiting : Plan → (Events → State → Type 0) → Type 0
 IsWaiting p fits =
-    (s : State) × (instance : Instance) × (fences : Fences) × (fits s) × (straggler p.launch s p.group p.first ≡ None) × (next_action p.launch s p.first ≡ action.Barrier instance fences)
+    (events : Events) × (s : State) × (instance : Instance) × (fences : Fences) × (fits events s) × (straggler p.launch s p.group p.first ≡ None) × (next_action p.launch s p.first ≡ action.Barrier instance fences)
 
 pub release_asks :
-    (p q : Plan) (old new : State → Type 0) (origin : State) (events : Events) (i : Instance) → q ≡ p → IsGroup p → (g : Gathers p old origin events p.count)
-    → ((s : State) → old s → new s) → first_stop p g.0.state ≡ Some (At i) → IsWaiting q new
+    (p q : Plan) (old new : Events → State → Type 0) (origin : State) (events : Events) (i : Instance) → q ≡ p → IsGroup p → (g : Gathers p old origin events p.count)
+    → ((es : Events) (s : State) → old es s → new es s) → first_stop p g.0.state ≡ Some (At i) → IsWaiting q new
 release_asks p q old new origin events i e whole g f h =
     let w = waits (next_action p.launch g.0.state p.first) i h in
-    subst (λ z. IsWaiting z new) (sym e) (g.0.state, i, w.0, f g.0.state g.0.holds, no_straggler p whole g.0.state g.1, w.1)
+    subst (λ z. IsWaiting z new) (sym e) (events, g.0.state, i, w.0, f events g.0.state g.0.holds, no_straggler p whole g.0.state g.1, w.1)
 
 -- what a release leads to, as the code is told
-abbrev pub Releases : Plan → (State → Type 0) → (State → Type 0) → Type 0
+abbrev pub Releases : Plan → (Events → State → Type 0) → (Events → State → Type 0) → Type 0
 Releases p old new =
-    (s : State) → old s → straggler p.launch s p.group p.first ≡ None → (instance : Instance) (fences : Fences) → next_action p.launch s p.first ≡ action.Barrier instance fences
-    → (n : State) × (step p.launch s (Release p.group) ≡ Some n) × new n
+    (events : Events) (s : State) → old events s → straggler p.launch s p.group p.first ≡ None → (instance : Instance) (fences : Fences) → next_action p.launch s p.first ≡ action.Barrier instance fences
+    → (n : State) × (step p.launch s (Release p.group) ≡ Some n) × new (events ++ Release p.group ∷ []) n
 
 -- once the items were released: there is room for the event, and the run has gone on
-pub record Released (p : Plan) (new : State → Type 0) (origin : State) (events : Events) : Type 0 where
+pub record Released (p : Plan) (new : Events → State → Type 0) (origin : State) (events : Events) : Type 0 where
   pub roomy : length events + 1 < 2 ^ 64
   pub reached : Reached p new origin (events ++ Release p.group ∷ [])
 
 pub after_release :
-    (p q : Plan) (old between new : State → Type 0) (origin : State) (events : Events) (i : Instance) → q ≡ p → IsGroup p → IsBrief p origin → (g : Gathers p old origin events p.count)
-    → ((s : State) → old s → between s) → first_stop p g.0.state ≡ Some (At i) → Releases q between new → Released p new origin events
+    (p q : Plan) (old between new : Events → State → Type 0) (origin : State) (events : Events) (i : Instance) → q ≡ p → IsGroup p → IsBrief p origin → (g : Gathers p old origin events p.count)
+    → ((es : Events) (s : State) → old es s → between es s) → first_stop p g.0.state ≡ Some (At i) → Releases q between new → Released p new origin events
 after_release p q old between new origin events i e whole brief g f h made =
     let s = g.0.state in
     let w = waits (next_action p.launch s p.first) i h in
-    let m = subst (λ z. Releases z between new) e made s (f s g.0.holds) (no_straggler p whole s g.1) i w.0 w.1 in
+    let m = subst (λ z. Releases z between new) e made events s (f events s g.0.holds) (no_straggler p whole s g.1) i w.0 w.1 in
     record {
       roomy = room p origin s m.0 events (Release p.group) brief g.0.runs m.1;
       reached = released_on p new origin events s m.0 i w.0 whole g.0.runs g.0.calm g.1 w.1 m.1 m.2;
@@ -398,19 +398,19 @@ told p q n k c h e = ap (λ z. fault_of q.launch (z + k) c) h ∙ ap (λ z. faul
 
 -- what the code's loops have come to, by the first plan
 pub advanced_on :
-    (p q : Plan) (fits : State → Type 0) (origin : State) (events : Events) (k : ℕ) (o : Option Fault) → q ≡ p → o ≡ None → IsAdvanced q fits origin events k o
+    (p q : Plan) (fits : Events → State → Type 0) (origin : State) (events : Events) (k : ℕ) (o : Option Fault) → q ≡ p → o ≡ None → IsAdvanced q fits origin events k o
     → Gathers p fits origin events k
 advanced_on p q fits origin events k o e is h =
     subst (λ z. Gathers z fits origin events k) e (subst (λ z. IsAdvanced q fits origin events k z) is h)
 
 pub halted_on :
-    (p q : Plan) (fits : State → Type 0) (origin : State) (events : Events) (k : ℕ) (o : Halt) → q ≡ p → o ≡ halt.Stops → IsHalted q fits origin events k o
+    (p q : Plan) (fits : Events → State → Type 0) (origin : State) (events : Events) (k : ℕ) (o : Halt) → q ≡ p → o ≡ halt.Stops → IsHalted q fits origin events k o
     → Gathers p fits origin events (k + 1)
 halted_on p q fits origin events k o e is h =
     subst (λ z. Gathers z fits origin events (k + 1)) e (subst (λ z. IsHalted q fits origin events k z) is h)
 
 pub gathered_on :
-    (p q : Plan) (fits : State → Type 0) (origin : State) (events : Events) (o : Option Fault) → q ≡ p → o ≡ None → IsGathered q fits origin events o
+    (p q : Plan) (fits : Events → State → Type 0) (origin : State) (events : Events) (o : Option Fault) → q ≡ p → o ≡ None → IsGathered q fits origin events o
     → Gathers p fits origin events p.count
 gathered_on p q fits origin events o e is h =
     subst (λ z. Gathers z fits origin events z.count) e (subst (λ z. IsGathered q fits origin events z) is h)

@@ -2,3 +2,5 @@ pub mod Group
 pub mod Loops
 pub mod Runs
 pub mod Fits
+pub mod Logs
+pub mod Results

@@ -1,5 +1,5 @@
 -- What the loops of a group's run know of its items (own).
-use Rattle.std.specs.Prelude.{◌≡◌, ℕ, ◌+◌, ◌<◌, ◌^◌, ℤ, true, None, Some, Option}
+use Rattle.std.specs.Prelude.{◌≡◌, ℕ, ◌+◌, ◌<◌, ◌^◌, ℤ, true, None, Some, Option, [], ◌∷◌, ◌++◌}
 use Rattle.clmodel.specs.Run.{State, Events, step, next_action, stop_of, both_stop}
 use Rattle.clmodel.specs.Law.{Makes, Reports, newest_conflict, conflict_fault, item_turn, IsBounded, answers_left}
 use Rattle.clmodel.specs.declared.access.Conflict as conflict_type
@@ -25,17 +25,17 @@ pub record Steps (plan : Plan) (old new : State) (item : ℕ) : Type 0 where
   pub steps : step plan.launch old (Item item) ≡ Some new
 
 -- what became of the access that an item does next, in each state that fitted: it is done, with a conflict or without, or it can't be done
-abbrev pub IsMade : Plan → (State → Type 0) → (State → Type 0) → ℕ → Made → Type 0
+abbrev pub IsMade : Plan → (Events → State → Type 0) → (Events → State → Type 0) → ℕ → Made → Type 0
 IsMade plan old new item made.Done =
-    (state : State) → old state → Accesses plan state item
-    → (next : State) × Steps plan state next item × new next × (newest_conflict plan.launch next.log ≡ None)
+    (events : Events) (state : State) → old events state → Accesses plan state item
+    → (next : State) × Steps plan state next item × new (events ++ Item item ∷ []) next × (newest_conflict plan.launch next.log ≡ None)
 IsMade plan old new item (made.Conflicts fault) =
-    (state : State) → old state → Accesses plan state item
-    → (next : State) × (conflict : conflict_type.Conflict) × Steps plan state next item × new next × (newest_conflict plan.launch next.log ≡ Some conflict)
+    (events : Events) (state : State) → old events state → Accesses plan state item
+    → (next : State) × (conflict : conflict_type.Conflict) × Steps plan state next item × new (events ++ Item item ∷ []) next × (newest_conflict plan.launch next.log ≡ Some conflict)
     × (conflict_fault plan.launch conflict ≡ fault)
 IsMade plan old new item (made.Refused fault) =
-    (state : State) → old state → Accesses plan state item
-    → (item_turn plan.launch state plan.first item (next_action plan.launch state item) ≡ Reports fault) × new state
+    (events : Events) (state : State) → old events state → Accesses plan state item
+    → (item_turn plan.launch state plan.first item (next_action plan.launch state item) ≡ Reports fault) × new events state
 
 -- the first items of the group, so many, are at the first one's stop
 abbrev pub AtOneStop : Plan → State → ℕ → Type 0
@@ -43,7 +43,7 @@ AtOneStop plan state count =
     (k : ℕ) → k < count → both_stop (stop_of (next_action plan.launch state plan.first)) (stop_of (next_action plan.launch state (plan.first + k))) ≡ true
 
 -- the group has come so far that these items are at one stop
-abbrev pub Gathers : Plan → (State → Type 0) → State → Events → ℕ → Type 0
+abbrev pub Gathers : Plan → (Events → State → Type 0) → State → Events → ℕ → Type 0
 Gathers plan fits origin events count = (reached : Reached plan fits origin events) × AtOneStop plan reached.state count
 
 -- the run of a launch from a state has fewer events than 2^64
@@ -51,16 +51,16 @@ abbrev pub IsBrief : Plan → State → Type 0
 IsBrief plan origin = (bound : ℕ) × IsBounded plan.launch bound × (answers_left plan.launch bound origin < 2 ^ 64)
 
 -- after an access, by the report that it brings
-abbrev pub IsAdvanced : Plan → (State → Type 0) → State → Events → ℕ → Option Fault → Type 0
+abbrev pub IsAdvanced : Plan → (Events → State → Type 0) → State → Events → ℕ → Option Fault → Type 0
 IsAdvanced plan fits origin events k None = Gathers plan fits origin events k
 IsAdvanced plan fits origin events k (Some fault) = Reported plan fits origin events fault
 
 -- where an item of the group comes to rest
-abbrev pub IsHalted : Plan → (State → Type 0) → State → Events → ℕ → Halt → Type 0
+abbrev pub IsHalted : Plan → (Events → State → Type 0) → State → Events → ℕ → Halt → Type 0
 IsHalted plan fits origin events k halt.Stops = Gathers plan fits origin events (k + 1)
 IsHalted plan fits origin events k (halt.Reports fault) = Reported plan fits origin events fault
 
 -- after an interval, by the report that it brings: all items are at one stop
-abbrev pub IsGathered : Plan → (State → Type 0) → State → Events → Option Fault → Type 0
+abbrev pub IsGathered : Plan → (Events → State → Type 0) → State → Events → Option Fault → Type 0
 IsGathered plan fits origin events None = Gathers plan fits origin events plan.count
 IsGathered plan fits origin events (Some fault) = Reported plan fits origin events fault

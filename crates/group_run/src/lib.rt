@@ -7,6 +7,9 @@ mod item;
 mod loops;
 mod machine;
 mod performing;
+mod result;
+mod runnable;
+mod running;
 mod runs;
 mod words;
 
@@ -15,4 +18,7 @@ pub use group::Group;
 pub use item::RunningItem;
 pub use loops::run_items;
 pub use machine::{Machine, Made};
+pub use result::GroupResult;
+pub use runnable::Runnable;
+pub use running::run_group;
 pub use runs::Runs;

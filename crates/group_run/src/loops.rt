@@ -1,7 +1,7 @@
 //! The run of a group: item by item to their stops, and interval by interval to its end.
 
 ghost use Rattle.std.specs.Prelude.{◌≡◌, ◌<◌, ◌≤◌, ◌+◌, ℕ, None, Some, IfOk};
-ghost use Rattle.clmodel.specs.Run.{State, next_action, stop_of};
+ghost use Rattle.clmodel.specs.Run.{State, Events, next_action, stop_of};
 ghost use Rattle.group_run.specs.Group.{IsGroup, Reached, IsRun};
 ghost use Rattle.group_run.specs.Loops.{Accesses, AtOneStop, Gathers, IsBrief, IsAdvanced, IsHalted, IsGathered};
 
@@ -25,11 +25,11 @@ pub enum Halt {
 /// The stop of the group's first item, which is at one.
 fn leader<M: Machine>(m: &mut M) -> Stop
     requires some { 0 < (M.plan m.old).count }
-    requires stops { (s : State) × (stop : Stop) × M.fits m.old s × (stop_of (next_action (M.plan m.old).launch s (M.plan m.old).first) ≡ Some stop) }
+    requires stops { (events : Events) × (s : State) × (stop : Stop) × M.fits m.old events s × (stop_of (next_action (M.plan m.old).launch s (M.plan m.old).first) ≡ Some stop) }
     ensures plan_same { M.plan m.new ≡ M.plan m.old }
     ensures ticks_same { (j : ℕ) → M.ticks m.new j ≡ M.ticks m.old j }
-    ensures fits_same { (s : State) → M.fits m.old s → M.fits m.new s }
-    ensures value { (s : State) → M.fits m.old s → stop_of (next_action (M.plan m.old).launch s (M.plan m.old).first) ≡ Some result }
+    ensures fits_same { (events : Events) (s : State) → M.fits m.old events s → M.fits m.new events s }
+    ensures value { (events : Events) (s : State) → M.fits m.old events s → stop_of (next_action (M.plan m.old).launch s (M.plan m.old).first) ≡ Some result }
 {
     match m.next(0) {
         Action::Barrier { instance, .. } => Stop::At(instance),

@@ -1,7 +1,7 @@
 //! What the run of a group asks of its items and their memory.
 
-ghost use Rattle.std.specs.Prelude.{◌≡◌, ◌<◌, ◌≤◌, ◌+◌, ◌^◌, ℕ, None, IfOk};
-ghost use Rattle.clmodel.specs.Run.{State, step, next_action, straggler};
+ghost use Rattle.std.specs.Prelude.{◌≡◌, ◌<◌, ◌≤◌, ◌+◌, ◌^◌, [], ◌∷◌, ◌++◌, ℕ, None, IfOk};
+ghost use Rattle.clmodel.specs.Run.{State, Events, step, next_action, straggler};
 ghost use Rattle.clmodel.specs.Law.{fault_of};
 ghost use Rattle.clmodel.specs.declared.action.Action.TheVariants.{Barrier};
 ghost use Rattle.clmodel.specs.declared.action.Fences.{Fences};
@@ -29,7 +29,7 @@ pub enum Made {
 pub trait Machine {
     ghost plan: { Self → Plan };
 
-    ghost fits: { Self → State → Type 0 };
+    ghost fits: { Self → Events → State → Type 0 };
 
     ghost ticks: { Self → ℕ → ℕ };
 
@@ -51,13 +51,13 @@ pub trait Machine {
         requires { k < (plan self.old).count }
         ensures plan_same { plan self.new ≡ plan self.old }
         ensures ticks_same { (j : ℕ) → ticks self.new j ≡ ticks self.old j }
-        ensures fits_same { (s : State) → fits self.old s → fits self.new s }
-        ensures value { (s : State) → fits self.old s → next_action (plan self.old).launch s ((plan self.old).first + k) ≡ result };
+        ensures fits_same { (events : Events) (s : State) → fits self.old events s → fits self.new events s }
+        ensures value { (events : Events) (s : State) → fits self.old events s → next_action (plan self.old).launch s ((plan self.old).first + k) ≡ result };
 
     /// Does the access that an item does next. An error is want of memory.
     fn access(&mut self, k: u32) -> Result<Made, AllocError>
         requires inside { k < (plan self.old).count }
-        requires next { (s : State) × (fits self.old s) × Accesses (plan self.old) s ((plan self.old).first + k) }
+        requires next { (events : Events) × (s : State) × (fits self.old events s) × Accesses (plan self.old) s ((plan self.old).first + k) }
         ensures plan_same { plan self.new ≡ plan self.old }
         ensures ticks_kept { (j : ℕ) → ticks self.new j ≤ ticks self.old j }
         ensures ticks_less { IfOk result (λ made. made ≡ Made.Done → ticks self.new k < ticks self.old k) }
@@ -65,13 +65,13 @@ pub trait Machine {
 
     /// Releases all items from their barrier.
     fn release(&mut self)
-        requires { (s : State) × (instance : Instance) × (fences : Fences) × (fits self.old s) × (straggler (plan self.old).launch s (plan self.old).group (plan self.old).first ≡ None)
+        requires { (events : Events) × (s : State) × (instance : Instance) × (fences : Fences) × (fits self.old events s) × (straggler (plan self.old).launch s (plan self.old).group (plan self.old).first ≡ None)
             × (next_action (plan self.old).launch s (plan self.old).first ≡ Barrier instance fences) }
         ensures plan_same { plan self.new ≡ plan self.old }
         ensures ticks_less { ticks self.new 0 < ticks self.old 0 }
-        ensures made { (s : State) → fits self.old s → straggler (plan self.old).launch s (plan self.old).group (plan self.old).first ≡ None
+        ensures made { (events : Events) (s : State) → fits self.old events s → straggler (plan self.old).launch s (plan self.old).group (plan self.old).first ≡ None
             → (instance : Instance) (fences : Fences) → next_action (plan self.old).launch s (plan self.old).first ≡ Barrier instance fences
-            → (n : State) × (step (plan self.old).launch s (Release (plan self.old).group) ≡ Some n) × (fits self.new n) };
+            → (n : State) × (step (plan self.old).launch s (Release (plan self.old).group) ≡ Some n) × (fits self.new (events ++ Release (plan self.old).group ∷ []) n) };
 
     /// The fault of an item that can do nothing more. An error is want of memory.
     fn fault_of(&self, item: u32, cause: Cause) -> Result<Fault, AllocError>

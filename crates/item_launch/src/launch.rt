@@ -97,6 +97,28 @@ impl<'a> Launch<'a> {
         self.buffers.as_slice()
     }
 
+    /// The names in the source, by their numbers.
+    pub fn source_names(&self) -> &[Name]
+        ensures { result.now ≡ (setup_of self.now).program.names }
+    {
+        self.setup.tree.names.as_slice()
+    }
+
+    /// How many items a work-group has.
+    pub fn group_size(&self) -> u32
+        ensures value { result ≡ group_items (setup_of self.now).range }
+        ensures some { 0 < result }
+    {
+        self.group_size
+    }
+
+    /// The ticks that an item may make.
+    pub fn budget(&self) -> u32
+        ensures { result ≡ (setup_of self.now).budget }
+    {
+        self.setup.budget
+    }
+
     /// An item before its first action.
     pub fn start(&self, alloc: Global, item: u32) -> Result<Item<'_>, AllocError>
         ensures { IfOk result (λ started. (answers : List Answer) → action_of started answers ≡ next (setup_of self.now) item answers) }

@@ -12,7 +12,7 @@ advance-requires g c κs within =
     let r = c.steps.invariant.gathers in
     let acts =
     acting p (g.M.Machine.plan c.steps.m) r.0.state c.args.k c.next.result (action.Access c.in-Access.object c.in-Access.element c.in-Access.operation)
-    c.steps.invariant.plan_same (c.next.ensures.value r.0.state r.0.holds) c.in-Access.is in (
+    c.steps.invariant.plan_same (c.next.ensures.value c.steps.runs r.0.state r.0.holds) c.in-Access.is in (
       assumption within,
       advance_asks p (g.M.Machine.plan c.next.new.self) (g.M.Machine.fits c.steps.m) (g.M.Machine.fits c.next.new.self) g.origin c.steps.runs c.args.k
           (c.next.ensures.plan_same ∙ c.steps.invariant.plan_same) c.requires.1.0 c.requires.1.1.0 c.requires.1.1.1.0 r c.next.ensures.fits_same
@@ -25,7 +25,7 @@ stop_at-requires g c κs within =
     let r = c.steps.invariant.gathers in
     let acts =
     acting p (g.M.Machine.plan c.steps.m) r.0.state c.args.k c.next.result (action.Barrier c.in-Barrier.instance c.in-Barrier.fences)
-    c.steps.invariant.plan_same (c.next.ensures.value r.0.state r.0.holds) c.in-Barrier.is in (
+    c.steps.invariant.plan_same (c.next.ensures.value c.steps.runs r.0.state r.0.holds) c.in-Barrier.is in (
       assumption within,
       stop_asks p (g.M.Machine.plan c.next.new.self) (g.M.Machine.fits c.steps.m) (g.M.Machine.fits c.next.new.self) g.origin c.steps.runs c.args.k (At c.in-Barrier.instance)
           (c.next.ensures.plan_same ∙ c.steps.invariant.plan_same) c.requires.1.0 c.requires.1.1.0 r c.next.ensures.fits_same (ap stop_of acts),
@@ -37,7 +37,7 @@ stop_at-requires-in-End g c κs within =
     let r = c.steps.invariant.gathers in
     let acts =
     acting p (g.M.Machine.plan c.steps.m) r.0.state c.args.k c.next.result action.End
-    c.steps.invariant.plan_same (c.next.ensures.value r.0.state r.0.holds) c.in-End.is in (
+    c.steps.invariant.plan_same (c.next.ensures.value c.steps.runs r.0.state r.0.holds) c.in-End.is in (
       assumption within,
       stop_asks p (g.M.Machine.plan c.next.new.self) (g.M.Machine.fits c.steps.m) (g.M.Machine.fits c.next.new.self) g.origin c.steps.runs c.args.k Ended
           (c.next.ensures.plan_same ∙ c.steps.invariant.plan_same) c.requires.1.0 c.requires.1.1.0 r c.next.ensures.fits_same (ap stop_of acts),
@@ -51,11 +51,11 @@ returns-in-Fault-clause-halted g c =
     let r = c.steps.invariant.gathers in
     let acts =
     acting p (g.M.Machine.plan c.steps.m) r.0.state c.args.k c.next.result (action.Fault c.in-Fault.cause)
-    c.steps.invariant.plan_same (c.next.ensures.value r.0.state r.0.holds) c.in-Fault.is in
+    c.steps.invariant.plan_same (c.next.ensures.value c.steps.runs r.0.state r.0.holds) c.in-Fault.is in
     record {
       state = r.0.state;
       runs = r.0.runs;
-      holds = c.next.ensures.fits_same r.0.state r.0.holds;
+      holds = c.next.ensures.fits_same c.steps.runs r.0.state r.0.holds;
       reports =
           fails p c.requires.1.0 r.0.state c.args.k c.in-Fault.cause c.requires.1.1.0 r.1 r.0.calm acts
           ∙ ap Reports (sym (c.in_ok-fault-in-Fault.ensures ∙ told p q c.first.result c.args.k c.in-Fault.cause c.first.ensures.value e));

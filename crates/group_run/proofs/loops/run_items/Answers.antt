@@ -21,7 +21,7 @@ returns-in-Ended-clause-ran g c =
     let r =
     gathered_on p (g.M.Machine.plan c.intervals.m) (g.M.Machine.fits c.run_interval.new.m) g.origin c.run_interval.new.runs c.in_ok-run_interval.field-0
     c.intervals.invariant.plan_same c.in-None.is c.in_ok-run_interval.ensures.gathered in
-    let led = leading p (g.M.Machine.plan c.run_interval.new.m) r.0.state c.leader.result Ended e (c.leader.ensures.value r.0.state r.0.holds) c.in-Ended.is in (
+    let led = leading p (g.M.Machine.plan c.run_interval.new.m) r.0.state c.leader.result Ended e (c.leader.ensures.value c.run_interval.new.runs r.0.state r.0.holds) c.in-Ended.is in (
       moved p (g.M.Machine.fits c.run_interval.new.m) (g.M.Machine.fits c.leader.new.m) g.origin c.run_interval.new.runs c.leader.ensures.fits_same r.0,
       finishes p c.requires.1.0 r.0.state r.1 r.0.calm led,
     )
@@ -33,7 +33,7 @@ release-requires g c =
     let r =
     gathered_on p (g.M.Machine.plan c.intervals.m) (g.M.Machine.fits c.run_interval.new.m) g.origin c.run_interval.new.runs c.in_ok-run_interval.field-0
     c.intervals.invariant.plan_same c.in-None.is c.in_ok-run_interval.ensures.gathered in
-    let led = leading p (g.M.Machine.plan c.run_interval.new.m) r.0.state c.leader.result (At c.in-At.field-0) e (c.leader.ensures.value r.0.state r.0.holds) c.in-At.is in
+    let led = leading p (g.M.Machine.plan c.run_interval.new.m) r.0.state c.leader.result (At c.in-At.field-0) e (c.leader.ensures.value c.run_interval.new.runs r.0.state r.0.holds) c.in-At.is in
     release_asks p (g.M.Machine.plan c.leader.new.m) (g.M.Machine.fits c.run_interval.new.m) (g.M.Machine.fits c.leader.new.m) g.origin c.run_interval.new.runs
     c.in-At.field-0 (c.leader.ensures.plan_same ∙ e) c.requires.1.0 r c.leader.ensures.fits_same led
 
@@ -44,7 +44,7 @@ push-requires g c =
     let r =
     gathered_on p (g.M.Machine.plan c.intervals.m) (g.M.Machine.fits c.run_interval.new.m) g.origin c.run_interval.new.runs c.in_ok-run_interval.field-0
     c.intervals.invariant.plan_same c.in-None.is c.in_ok-run_interval.ensures.gathered in
-    let led = leading p (g.M.Machine.plan c.run_interval.new.m) r.0.state c.leader.result (At c.in-At.field-0) e (c.leader.ensures.value r.0.state r.0.holds) c.in-At.is in
+    let led = leading p (g.M.Machine.plan c.run_interval.new.m) r.0.state c.leader.result (At c.in-At.field-0) e (c.leader.ensures.value c.run_interval.new.runs r.0.state r.0.holds) c.in-At.is in
     let after =
     after_release p (g.M.Machine.plan c.leader.new.m) (g.M.Machine.fits c.run_interval.new.m) (g.M.Machine.fits c.leader.new.m) (g.M.Machine.fits c.release.new.self)
     g.origin c.run_interval.new.runs c.in-At.field-0 (c.leader.ensures.plan_same ∙ e) c.requires.1.0 c.requires.1.1.0 r c.leader.ensures.fits_same led
@@ -58,7 +58,7 @@ intervals-preserved-in_ok-push-in-At g c =
     let r =
     gathered_on p (g.M.Machine.plan c.intervals.m) (g.M.Machine.fits c.run_interval.new.m) g.origin c.run_interval.new.runs c.in_ok-run_interval.field-0
     c.intervals.invariant.plan_same c.in-None.is c.in_ok-run_interval.ensures.gathered in
-    let led = leading p (g.M.Machine.plan c.run_interval.new.m) r.0.state c.leader.result (At c.in-At.field-0) e (c.leader.ensures.value r.0.state r.0.holds) c.in-At.is in
+    let led = leading p (g.M.Machine.plan c.run_interval.new.m) r.0.state c.leader.result (At c.in-At.field-0) e (c.leader.ensures.value c.run_interval.new.runs r.0.state r.0.holds) c.in-At.is in
     let after =
     after_release p (g.M.Machine.plan c.leader.new.m) (g.M.Machine.fits c.run_interval.new.m) (g.M.Machine.fits c.leader.new.m) (g.M.Machine.fits c.release.new.self)
     g.origin c.run_interval.new.runs c.in-At.field-0 (c.leader.ensures.plan_same ∙ e) c.requires.1.0 c.requires.1.1.0 r c.leader.ensures.fits_same led
@@ -79,7 +79,7 @@ intervals-preserved-in_ok-push-in-At-2 g c =
     let r =
     gathered_on p (g.M.Machine.plan c.intervals.m) (g.M.Machine.fits c.run_interval.new.m) g.origin c.run_interval.new.runs c.in_ok-run_interval.field-0
     c.intervals.invariant.plan_same c.in-None.is c.in_ok-run_interval.ensures.gathered in
-    let led = leading p (g.M.Machine.plan c.run_interval.new.m) r.0.state c.leader.result (At c.in-At.field-0) e (c.leader.ensures.value r.0.state r.0.holds) c.in-At.is in
+    let led = leading p (g.M.Machine.plan c.run_interval.new.m) r.0.state c.leader.result (At c.in-At.field-0) e (c.leader.ensures.value c.run_interval.new.runs r.0.state r.0.holds) c.in-At.is in
     let after =
     after_release p (g.M.Machine.plan c.leader.new.m) (g.M.Machine.fits c.run_interval.new.m) (g.M.Machine.fits c.leader.new.m) (g.M.Machine.fits c.release.new.self)
     g.origin c.run_interval.new.runs c.in-At.field-0 (c.leader.ensures.plan_same ∙ e) c.requires.1.0 c.requires.1.1.0 r c.leader.ensures.fits_same led
