@@ -30,3 +30,9 @@ turn_laid depth by body condition rest e =
     (append_assoc body condition (instruction.Back (length body + length condition + 1) ∷ rest)
     ∙ ap (λ xs. body ++ xs) (sym (append_assoc condition (instruction.Back (length body + length condition + 1) ∷ []) rest))
     ∙ sym (append_assoc body (condition ++ instruction.Back (length body + length condition + 1) ∷ []) rest))
+
+pub turn_length : (depth : ℕ) (body condition rest : List Instruction)
+    → length (turn_code depth body condition ++ rest) ≡ 1 + length body + length (condition ++ instruction.Back 0 ∷ rest)
+turn_length depth body condition rest =
+    let back = instruction.Back (length body + length condition + 1) in
+    omega (arith, length-append (turn_code depth body condition) rest, length-append body (condition ++ back ∷ []), length-append condition (back ∷ []), length-append condition (instruction.Back 0 ∷ rest))

@@ -81,9 +81,8 @@ pub fn end_while(
     ensures { OnOk result ((body condition rest : List Instruction) → code.old ≡ body ++ (condition ++ instruction.Back 0 ∷ rest) → end ≡ length rest
         → start ≡ length (condition ++ instruction.Back 0 ∷ rest) → code.new ≡ spec.while_code depth body condition ++ rest) }
 {
-    let body = code.added(start)?;
-    let by = body.checked_add(1).ok_or(AllocError)?;
     end_turn(depth, end, code)?;
+    let by = code.added(start)?;
     code.put(Instruction::Jump { by })?;
     code.put(Instruction::Enter { depth })
 }

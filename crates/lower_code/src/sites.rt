@@ -167,3 +167,15 @@ pub fn site_behind_all(
     let count = sites_in_all(functions, statements).ok_or(AllocError)?;
     site.checked_add(count).ok_or(AllocError)
 }
+
+/// The number of the first barrier of a statement, by that of the first one behind it. Err where there are too many.
+pub fn site_before(
+    functions: &[Function],
+    behind: u32,
+    statement: &Statement,
+) -> Result<u32, AllocError>
+    ensures { IfOk result (λ site. site + next.sites (inside functions.now) (stmt statement.now) ≡ behind) }
+{
+    let count = sites(functions, statement).ok_or(AllocError)?;
+    behind.checked_sub(count).ok_or(AllocError)
+}

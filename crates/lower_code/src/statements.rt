@@ -19,7 +19,7 @@ use crate::loops::{
     begin_loop, end_do, end_while, put_no_value, put_return, put_return_value, put_test,
 };
 use crate::positions::{Exits, Position, Setting};
-use crate::sites::{site_behind, site_behind_all, site_behind_part, sites};
+use crate::sites::{site_before, site_behind, site_behind_all, site_behind_part};
 use crate::variables::{
     declare_all, declare_parameters, declare_part, leave, leave_part, put_passed, put_unset,
 };
@@ -190,8 +190,7 @@ fn emit_all(
     let mut site = site_behind_all(setting.functions, position.site, statements)?;
     for i in 0..statements.len() {
         let statement = &statements[statements.len() - 1 - i];
-        let count = sites(setting.functions, statement).ok_or(AllocError)?;
-        site = site.checked_sub(count).ok_or(AllocError)?;
+        site = site_before(setting.functions, site, statement)?;
         leave(scope, statement);
         let here = Position {
             depth: position.depth,
@@ -312,18 +311,16 @@ fn emit_choice(
         exits: position.exits,
     };
     emit_statement(setting, scope, otherwise, second, code)?;
-    code.put(Instruction::Jump {
-        by: code.added(end)?,
-    })?;
     let middle = code.len();
+    let by = code.added(end)?;
+    code.put(Instruction::Jump { by })?;
     let first = Position {
         depth: position.depth,
         site: position.site,
         exits: position.exits.past(code.added(end)?)?,
     };
     emit_statement(setting, scope, chosen, first, code)?;
-    let passed = code.added(middle)?.checked_add(1).ok_or(AllocError)?;
-    put_test(scope, condition, passed, code)
+    put_test(scope, condition, code.added(middle)?, code)
 }
 
 /// Puts the first or the third part of a `for` before the code.
