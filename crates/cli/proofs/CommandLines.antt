@@ -7,7 +7,7 @@ use Rattle.clap.specs.declared.parser.matches.ArgMatches.{ArgMatches}
 use Rattle.clap.specs.declared.parser.matches.SubCommand.{SubCommand}
 use Rattle.clap.specs.declared.parser.matches.ArgMatches.TheViews.{out-ArgMatches, out-SubCommand}
 use Rattle.cli.specs.declared.command_line.Invocation.{Invocation}
-use Rattle.cli.specs.CommandLine.{IsBudget, IsRun, IsCheck, Holds}
+use Rattle.cli.specs.CommandLine.{IsBudget, IsRun, IsCheck, IsDump, Holds}
 
 -- no option was read where it isn't there
 pub no_option : {E : Type 0} (G : List ℕ → Result ℕ E → Type 0) (o : Option Text) (read : Option ℕ) → read ≡ None
@@ -47,4 +47,9 @@ holds_run m rows asked named held is =
 pub holds_check : (m : ArgMatches) (rows : List Row) (asked : Invocation) → subcommand_name_of m ≡ Some (codes "check")
     → option_map (λ p. p.1) (subcommand_rows_of m) ≡ Some rows → IsCheck rows asked → Holds (subcommand_rows_of m) asked
 holds_check m rows asked named held is =
-    subst (λ (o : Option (Text × List Row)). Holds o asked) (sym (rows_named m (codes "check") rows named held)) (inr (refl, is))
+    subst (λ (o : Option (Text × List Row)). Holds o asked) (sym (rows_named m (codes "check") rows named held)) (inr (inl (refl, is)))
+
+pub holds_dump : (m : ArgMatches) (rows : List Row) (asked : Invocation) → subcommand_name_of m ≡ Some (codes "dump")
+    → option_map (λ p. p.1) (subcommand_rows_of m) ≡ Some rows → IsDump rows asked → Holds (subcommand_rows_of m) asked
+holds_dump m rows asked named held is =
+    subst (λ (o : Option (Text × List Row)). Holds o asked) (sym (rows_named m (codes "dump") rows named held)) (inr (inr (refl, is)))

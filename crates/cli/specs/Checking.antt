@@ -37,3 +37,4 @@ Unchecked rest failures failures' old new fault.Read = CountsUp failures failure
 Unchecked rest failures failures' old new fault.OutOfMemory = new ≡ old
 Unchecked rest failures failures' old new fault.Write = Untold rest old new
 Unchecked rest failures failures' old new (fault.BadLine n) = ⊥
+Unchecked rest failures failures' old new fault.NoSuchKernel = ⊥

@@ -25,11 +25,20 @@ run_form = with_rule (with_rule (new_app (codes "run")) file) budget
 abbrev pub check_form : App
 check_form = with_rule (new_app (codes "check")) file
 
--- `clsim run FILE [--budget N]` or `clsim check FILE`
+-- `KERNEL`
+abbrev pub kernel : Rule
+kernel = record (new_rule (codes "KERNEL")) { required = true }
+
+abbrev pub dump_form : App
+dump_form = with_rule (with_rule (new_app (codes "dump")) file) kernel
+
+-- `clsim run FILE [--budget N]`, `clsim check FILE` or `clsim dump FILE KERNEL`
 abbrev pub program : App
 program = with_subcommand
+    (with_subcommand
     (with_subcommand (on_top (λ top. record top { subcommand_required = true }) (new_app (codes "clsim"))) run_form.top)
-    check_form.top
+    check_form.top)
+    dump_form.top
 
 -- the number of `--budget`, or 100,000 where it isn't there
 abbrev pub IsBudget : Option Text → ℕ → Type 0
@@ -44,16 +53,25 @@ GivesBudget rows n = IsBudget (one_of (codes "budget") rows) n
 abbrev pub IsRun : List Row → Invocation → Type 0
 IsRun rows (invocation.Run path options) = (first_of (codes "FILE") rows ≡ Some path.now) × GivesBudget rows options.budget
 IsRun rows (invocation.Check path) = ⊥
+IsRun rows (invocation.Dump path name) = ⊥
 
 -- a check of the file of these matches
 abbrev pub IsCheck : List Row → Invocation → Type 0
 IsCheck rows (invocation.Run path options) = ⊥
 IsCheck rows (invocation.Check path) = first_of (codes "FILE") rows ≡ Some path.now
+IsCheck rows (invocation.Dump path name) = ⊥
+
+-- a dump of the kernel and of the file of these matches
+abbrev pub IsDump : List Row → Invocation → Type 0
+IsDump rows (invocation.Run path options) = ⊥
+IsDump rows (invocation.Check path) = ⊥
+IsDump rows (invocation.Dump path name) = (first_of (codes "FILE") rows ≡ Some path.now) × (first_of (codes "KERNEL") rows ≡ Some name.now)
 
 -- the subcommand that was met, with its matches, is the form that is asked for
 abbrev pub Holds : Option (Text × List Row) → Invocation → Type 0
 Holds None asked = ⊥
-Holds (Some (name, rows)) asked = (name ≡ codes "run") × IsRun rows asked ⊎ (name ≡ codes "check") × IsCheck rows asked
+Holds (Some (name, rows)) asked =
+    (name ≡ codes "run") × IsRun rows asked ⊎ ((name ≡ codes "check") × IsCheck rows asked ⊎ (name ≡ codes "dump") × IsDump rows asked)
 
 -- the words' matches hold what is asked for
 abbrev pub AsksFor : List Text → Invocation → Type 0

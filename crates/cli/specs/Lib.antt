@@ -1,5 +1,6 @@
 pub mod Session
 pub mod Checking
+pub mod Dumping
 pub mod CommandLine
 pub use Rattle.ends.specs.Sink
 pub use Rattle.ends.specs.Source

@@ -80,6 +80,7 @@ Failed rest failures failures' budget old new fault.Read = CountsUp failures fai
 Failed rest failures failures' budget old new (fault.BadLine n) = Misread rest n old new
 Failed rest failures failures' budget old new fault.OutOfMemory = new ≡ old
 Failed rest failures failures' budget old new fault.Write = Cut rest budget old new
+Failed rest failures failures' budget old new fault.NoSuchKernel = ⊥
 
 -- 2 where a command was refused or the run failed, else 1 where a launch faulted, else 0
 abbrev pub status_of : Result RunEnd RunFault → ℕ

@@ -14,7 +14,7 @@ use simfile::replies::write_check;
 use std::alloc::{AllocError, Global};
 
 /// Writes the line of a check, and lets go of it.
-fn tell<W: Write>(fault: Option<BuildFault>, writer: &mut W) -> Result<(), WriteFailed>
+pub(crate) fn tell<W: Write>(fault: Option<BuildFault>, writer: &mut W) -> Result<(), WriteFailed>
     ensures line { Puts (W.sink writer.old) result (W.sink writer.new) (check_line fault) }
     ensures released { OnOk result ((W.sink writer.new).held ≡ []) }
 {

@@ -4,7 +4,7 @@
 ghost use Rattle.std.specs.Prelude.{◌≡◌, false, map, codes, IfOk, IfSome};
 ghost use Rattle.clap.specs.Words.{app_of, found_of, rows_of, subcommand_rows_of};
 ghost use Rattle.clap.specs.declared.builder.command.Command.TheViews.{out-Command};
-ghost use Rattle.cli.specs.CommandLine.{run_form, check_form, GivesBudget, IsRun, IsCheck, Holds, AsksFor};
+ghost use Rattle.cli.specs.CommandLine.{run_form, check_form, dump_form, program, GivesBudget, IsRun, IsCheck, IsDump, Holds, AsksFor};
 
 use crate::session::Options;
 use clap::builder::ValueParser;
@@ -19,6 +19,8 @@ pub enum Invocation<'a> {
     Run { file: &'a str, options: Options },
     /// Checks the source of a file
     Check { file: &'a str },
+    /// Writes the code of a kernel of the source of a file
+    Dump { file: &'a str, kernel: &'a str },
 }
 
 /// The greatest budget of a run.
@@ -54,6 +56,23 @@ fn check_form<'a>(alloc: Global) -> Result<Command<'a>, AllocError>
         .arg(source)
 }
 
+/// The form `dump FILE KERNEL`.
+fn dump_form<'a>(alloc: Global) -> Result<Command<'a>, AllocError>
+    ensures form { IfOk result (λ form. app_of form ≡ dump_form) }
+    ensures local { IfOk result (λ form. (out-Command form).has_globals ≡ false) }
+{
+    let source = Arg::new(alloc, "FILE")
+        .required(true)
+        .help("The source, in OpenCL C");
+    let kernel = Arg::new(alloc, "KERNEL")
+        .required(true)
+        .help("The kernel's name");
+    Command::new(alloc, "dump")
+        .about("Prints the register code of a kernel")
+        .arg(source)?
+        .arg(kernel)
+}
+
 /// The budget of a run, the default where the option isn't there, and `None` where it is no budget.
 fn budget_of(run: &ArgMatches<'_>) -> Option<u32>
     ensures { IfSome result (λ n. GivesBudget (rows_of (found_of run.now)) n) }
@@ -85,6 +104,15 @@ fn check_of<'a>(check: &ArgMatches<'a>) -> Option<Invocation<'a>>
     Some(Invocation::Check { file })
 }
 
+/// What the matches of `dump` ask for.
+fn dump_of<'a>(dump: &ArgMatches<'a>) -> Option<Invocation<'a>>
+    ensures { IfSome result (λ asked. IsDump (rows_of (found_of dump.now)) asked) }
+{
+    let file = dump.get_str("FILE")?;
+    let kernel = dump.get_str("KERNEL")?;
+    Some(Invocation::Dump { file, kernel })
+}
+
 /// What the matches of a command line ask for, by the form that they hold.
 fn asked<'a>(matches: &ArgMatches<'a>) -> Option<Invocation<'a>>
     ensures { IfSome result (λ asked. Holds (subcommand_rows_of matches.now) asked) }
@@ -92,18 +120,30 @@ fn asked<'a>(matches: &ArgMatches<'a>) -> Option<Invocation<'a>>
     if let Some(run) = matches.subcommand_matches("run") {
         return run_of(run);
     }
-    check_of(matches.subcommand_matches("check")?)
+    if let Some(check) = matches.subcommand_matches("check") {
+        return check_of(check);
+    }
+    dump_of(matches.subcommand_matches("dump")?)
 }
 
-/// Reads the words of a command line, the program's name first. The forms are `clsim run FILE [--budget N]` and `clsim check FILE`.
-pub fn command<'a>(alloc: Global, words: &'a [&'a str]) -> Result<Invocation<'a>, Error>
-    ensures { IfOk result (λ asked. AsksFor (map (λ word. word.now) words.entry.now) asked) }
+/// The forms of the command line.
+fn forms<'a>(alloc: Global) -> Result<Command<'a>, AllocError>
+    ensures { IfOk result (λ forms. app_of forms ≡ program) }
 {
-    let mut program = Command::new(alloc, "clsim")
+    Command::new(alloc, "clsim")
         .about("A simulated OpenCL 1.2 device")
         .subcommand_required(true)
         .subcommand(run_form(alloc)?)?
-        .subcommand(check_form(alloc)?)?;
+        .subcommand(check_form(alloc)?)?
+        .subcommand(dump_form(alloc)?)
+}
+
+/// Reads the words of a command line, the program's name first. The forms are `clsim run FILE [--budget N]`, `clsim check FILE`
+/// and `clsim dump FILE KERNEL`.
+pub fn command<'a>(alloc: Global, words: &'a [&'a str]) -> Result<Invocation<'a>, Error>
+    ensures { IfOk result (λ asked. AsksFor (map (λ word. word.now) words.entry.now) asked) }
+{
+    let mut program = forms(alloc)?;
     let matches = program.try_get_matches_from_mut(words)?;
     match asked(&matches) {
         Some(asked) => Ok(asked),

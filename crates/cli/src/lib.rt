@@ -1,13 +1,15 @@
-//! The program's commands: scripts in and replies out, and sources checked.
+//! The program's commands: scripts in and replies out, sources checked, and kernels shown as code.
 #![tactic(auto)]
 
 pub mod checking;
 pub mod command_line;
+pub mod dumping;
 pub mod memory;
 pub mod session;
 pub mod streams;
 
 pub use checking::check_file;
 pub use command_line::command;
+pub use dumping::dump_file;
 pub use ends::{Read, ReadFault, Write, WriteFailed};
 pub use session::{run, status};

@@ -44,7 +44,7 @@ pub struct RunEnd {
     pub refused: bool,
 }
 
-/// Why a run came to no end.
+/// Why a run, a check or a dump came to no end.
 #[derive(Clone, Copy, Debug, PartialEq, Eq, Error)]
 pub enum RunFault {
     /// 1: the reader failed. Nothing was written
@@ -59,6 +59,9 @@ pub enum RunFault {
     /// 4: no memory is left to read the script. Nothing was written
     #[error("out of memory")]
     OutOfMemory,
+    /// 5: no kernel of the source has the name. Nothing was written
+    #[error("no such kernel")]
+    NoSuchKernel,
 }
 
 fn one_end(reply: &Reply, end: RunEnd) -> RunEnd

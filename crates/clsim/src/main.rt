@@ -3,6 +3,7 @@
 
 use cli::checking::check_file;
 use cli::command_line::{Invocation, command};
+use cli::dumping::dump_file;
 use cli::session::{Options, RunEnd, RunFault, run, status};
 use cli::streams::{Input, Output};
 use std::io::BufWriter;
@@ -40,6 +41,35 @@ fn check_source<R: Files + Print + AllocGlobal>(rt: &R, file: &str) -> Result<bo
     check_file(rt.alloc(), &mut reader, &mut writer)
 }
 
+/// Writes the code of a kernel of the source of a file on standard output, or the line of the source's fault.
+fn dump_kernel<R: Files + Print + AllocGlobal>(
+    rt: &R,
+    file: &str,
+    kernel: &str,
+) -> Result<bool, RunFault> {
+    let Ok(source) = fs::open(rt, file) else {
+        return Err(RunFault::Read);
+    };
+    let Ok(text) = BufWriter::new(rt.alloc(), io::writer(rt)) else {
+        return Err(RunFault::OutOfMemory);
+    };
+    let mut reader = Input::new(source);
+    let mut writer = Output::new(text);
+    dump_file(rt.alloc(), &mut reader, kernel, &mut writer)
+}
+
+/// The status of a command on a source, which told what it had to tell. A fault is told on standard error.
+fn told(rt: &impl Eprint, outcome: Result<bool, RunFault>, file: &str) -> io::Result<u8> {
+    match outcome {
+        Ok(true) => Ok(0),
+        Ok(false) => Ok(2),
+        Err(fault) => {
+            tell(rt, fault, file)?;
+            Ok(2)
+        }
+    }
+}
+
 /// Tells on standard error why a file came to no end.
 fn tell(rt: &impl Eprint, fault: RunFault, file: &str) -> io::Result<()> {
     match fault {
@@ -64,13 +94,8 @@ fn perform(rt: &HostRuntime) -> io::Result<u8> {
             }
             Ok(status(&outcome))
         }
-        Ok(Invocation::Check { file }) => match check_source(rt, file) {
-            Ok(good) => Ok(if good { 0 } else { 2 }),
-            Err(fault) => {
-                tell(rt, fault, file)?;
-                Ok(2)
-            }
-        },
+        Ok(Invocation::Check { file }) => told(rt, check_source(rt, file), file),
+        Ok(Invocation::Dump { file, kernel }) => told(rt, dump_kernel(rt, file, kernel), file),
         Err(error) => {
             rt.eprint(&error)?;
             Ok(2)

@@ -93,6 +93,11 @@ fn texts(rt: HostRuntime) -> Result<(), Fail> {
     );
     let write = RunFault::Write;
     assert_eq!(rt; format!(in rt.alloc(); "{write}")?.as_str(), "cannot write");
+    let kernel = RunFault::NoSuchKernel;
+    assert_eq!(rt;
+        format!(in rt.alloc(); "{kernel}")?.as_str(),
+        "no such kernel"
+    );
     Ok(())
 }
 
@@ -129,6 +134,14 @@ fn command_lines(rt: HostRuntime) {
         Ok(Invocation::Check { file }) => assert_eq!(rt; file, "f.cl"),
         _ => assert!(rt; false),
     }
+    match command(rt.alloc(), &["clsim", "dump", "f.cl", "sums"]) {
+        Ok(Invocation::Dump { file, kernel }) => {
+            assert_eq!(rt; file, "f.cl");
+            assert_eq!(rt; kernel, "sums");
+        }
+        _ => assert!(rt; false),
+    }
+    assert!(rt; command(rt.alloc(), &["clsim", "dump", "f.cl"]).is_err());
     assert!(rt; command(rt.alloc(), &["clsim", "check"]).is_err());
     assert!(rt; command(rt.alloc(), &["clsim"]).is_err());
     assert!(rt; command(rt.alloc(), &["clsim", "--help"]).is_err());

@@ -1,6 +1,6 @@
-use Rattle.std.proofs.Common.{rules, arith, ◌≡◌, ◌∙◌, ap, sym, subst, codes, Option}
+use Rattle.std.proofs.Common.{rules, arith, subst, codes, Option}
 use Rattle.std.specs.Str.Parse.{ParsesUnsigned, ExplainsUnsignedError, HasUnsignedDigitsIfOk}
-use Rattle.clap.specs.Words.{Text, found_of, one_text}
+use Rattle.clap.specs.Words.{Text, found_of}
 use Rattle.clap.proofs.WalkLemmas.{one_text-rows}
 use Rattle.cli.specs.CommandLine.{IsBudget}
 use Rattle.cli.proofs.CommandLines.{no_option, the_option}

@@ -1,4 +1,4 @@
-use Rattle.std.proofs.Common.{rules, ◌≡◌, ◌∙◌, ap, sym, codes, option_map, Option, Some}
+use Rattle.std.proofs.Common.{rules, ◌≡◌, ◌∙◌, ap, sym, codes, option_map, Some}
 use Rattle.clap.specs.Words.{found_of}
 use Rattle.clap.proofs.WalkLemmas.{first_value-rows}
 use Rattle.cli.proofs.command_line.check_of.Goals as goal

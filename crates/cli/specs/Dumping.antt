@@ -1,0 +1,81 @@
+-- A source of which a kernel's code is told as text.
+use Rattle.std.specs.Prelude.{◌≡◌, ℕ, Bool, true, false, Option, None, Some, Result, Ok, Err, List, []}
+use Rattle.clmodel.specs.Tree.{Program}
+use Rattle.device_store.specs.Builds.{Builds}
+use Rattle.device_store.specs.declared.command.BuildFault.{BuildFault}
+use Rattle.ends.specs.Sink.{Sink, Wrote, Stopped, CountsUp}
+use Rattle.ends.specs.Source.{Are}
+use Rattle.lower.specs.Names.{kernel_number, LowersNamed}
+use Rattle.regcode.specs.Listing.{Listing}
+use Rattle.simfile.specs.Lines.{check_line}
+use Rattle.cli.specs.declared.session.RunFault.{RunFault}
+use Rattle.cli.specs.declared.session.RunFault.TheVariants as fault
+
+-- a text of the code of a program's kernel was written
+pub record Told (program : Program) (kernel : List ℕ) (old new : Sink) : Type 0 where
+  pub code : Listing
+  pub text : List ℕ
+  pub lowered : LowersNamed program kernel code
+  pub wrote : Wrote old new text
+  pub released : new.held ≡ []
+
+-- a write failed at a text of the code of a program's kernel
+pub record Broke (program : Program) (kernel : List ℕ) (old new : Sink) : Type 0 where
+  pub code : Listing
+  pub text : List ℕ
+  pub lowered : LowersNamed program kernel code
+  pub stopped : Stopped old new text
+
+-- the program has no such kernel, and nothing was written
+pub record Lacks (program : Program) (kernel : List ℕ) (old new : Sink) : Type 0 where
+  pub none : kernel_number program kernel ≡ None
+  pub same : new ≡ old
+
+-- why a kernel's code wasn't told, and what was written
+abbrev pub Untold : Program → List ℕ → Sink → Sink → RunFault → Type 0
+Untold program kernel old new fault.Read = ⊥
+Untold program kernel old new fault.OutOfMemory = new ≡ old
+Untold program kernel old new fault.Write = Broke program kernel old new
+Untold program kernel old new (fault.BadLine n) = ⊥
+Untold program kernel old new fault.NoSuchKernel = Lacks program kernel old new
+
+-- what is told of what a source builds to: the code of the kernel, or the line of the source's fault
+abbrev pub Tells : Result Program BuildFault → List ℕ → Sink → Sink → Bool → Type 0
+Tells (Ok program) kernel old new good = Told program kernel old new × (good ≡ true)
+Tells (Err fault) kernel old new good = Wrote old new (check_line (Some fault)) × (new.held ≡ []) × (good ≡ false)
+
+-- what the source builds to was told, and nothing of it is held back
+pub record Dumped (rest : Option (List ℕ)) (kernel : List ℕ) (old new : Sink) (good : Bool) : Type 0 where
+  pub source : List ℕ
+  pub built : Result Program BuildFault
+  pub read : Are rest source
+  pub builds : Builds source built
+  pub tells : Tells built kernel old new good
+
+-- a write failed at the code of the kernel, or at the line of the source's fault
+abbrev pub Breaks : Result Program BuildFault → List ℕ → Sink → Sink → Type 0
+Breaks (Ok program) kernel old new = Broke program kernel old new
+Breaks (Err fault) kernel old new = Stopped old new (check_line (Some fault))
+
+pub record Broken (rest : Option (List ℕ)) (kernel : List ℕ) (old new : Sink) : Type 0 where
+  pub source : List ℕ
+  pub built : Result Program BuildFault
+  pub read : Are rest source
+  pub builds : Builds source built
+  pub breaks : Breaks built kernel old new
+
+-- the source builds to a program without such a kernel, and nothing was written
+pub record Missed (rest : Option (List ℕ)) (kernel : List ℕ) (old new : Sink) : Type 0 where
+  pub source : List ℕ
+  pub program : Program
+  pub read : Are rest source
+  pub builds : Builds source (Ok program)
+  pub lacks : Lacks program kernel old new
+
+-- why a dump came to no end, and what it left
+abbrev pub Undumped : Option (List ℕ) → List ℕ → ℕ → ℕ → Sink → Sink → RunFault → Type 0
+Undumped rest kernel failures failures' old new fault.Read = CountsUp failures failures' × (new ≡ old)
+Undumped rest kernel failures failures' old new fault.OutOfMemory = new ≡ old
+Undumped rest kernel failures failures' old new fault.Write = Broken rest kernel old new
+Undumped rest kernel failures failures' old new fault.NoSuchKernel = Missed rest kernel old new
+Undumped rest kernel failures failures' old new (fault.BadLine n) = ⊥
