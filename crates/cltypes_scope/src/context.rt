@@ -21,6 +21,9 @@ use std::mem::replace;
 /// a barrier.
 const RESERVED_NAMES: u32 = 26;
 
+/// The place of `barrier` in a table of names.
+const BARRIER: u32 = 14;
+
 /// Whether nothing else can have this name, since it is a built-in function's or a fence's.
 pub fn is_reserved(name: u32) -> bool
     ensures { result ≡ is_reserved name }
@@ -163,7 +166,7 @@ impl Context {
         }
     }
 
-    /// What a name stands for that no variable has: a function of the text, or a built-in function.
+    /// What a name stands for that no variable has: a function of the text, a built-in function, or the barrier.
     fn function_meaning(&self, name: u32) -> Meaning<'_>
         ensures { meaning_of result ≡ function_meaning self.now name }
     {
@@ -175,7 +178,11 @@ impl Context {
         }
         match built_in_named(name) {
             Some(function) => Meaning::BuiltInFunction(function),
-            None => Meaning::Unknown,
+            None => if name == BARRIER {
+                Meaning::Barrier
+            } else {
+                Meaning::Unknown
+            },
         }
     }
 
