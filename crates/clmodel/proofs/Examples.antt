@@ -1,10 +1,13 @@
 -- The next action of some kernels, computed.
-use Rattle.std.proofs.Common.{◌≡◌, [], ◌∷◌, refl}
+use Rattle.std.proofs.Common.{◌≡◌, pos, [], ◌∷◌, refl}
 use Rattle.clnum.specs.Conversions as conversions
 use Rattle.clnum.specs.Integer as integer
 use Rattle.clnum.specs.Operations as operations
 use Rattle.clmodel.specs.Next.{next}
-use Rattle.clmodel.specs.Examples.{stores, waits, sum_by_helper, three_turns, continues, three_barriers, nested}
+use Rattle.clmodel.specs.Examples.{stores, waits, sum_by_helper, three_turns, continues, three_barriers, nested, through_local}
+use Rattle.clmodel.specs.declared.access.Object.TheVariants as object
+use Rattle.clmodel.specs.declared.access.Operation.TheVariants as operation
+use Rattle.clmodel.specs.declared.access.Width.TheVariants.{Four}
 use Rattle.clmodel.specs.declared.action.Action.TheVariants as action
 use Rattle.clmodel.specs.declared.action.Answer.TheVariants.{Done}
 use Rattle.clmodel.specs.declared.action.Cause.TheVariants as cause
@@ -56,3 +59,11 @@ helper_again = refl
 pub outer_turn : next (nested 20) 0 (Done ∷ Done ∷ Done ∷ []) ≡ waits 0 (2 ∷ 1 ∷ [])
 unfolding next operations.binary_value integer.wrap conversions.common conversions.promoted integer.converted integer.bits_of
 outer_turn = refl
+
+pub local_is_stored : next (through_local 9) 0 [] ≡ action.Access (object.Local 1) (pos 0) (operation.Store Four 1)
+unfolding next integer.converted integer.bits_of integer.wrap
+local_is_stored = refl
+
+pub local_is_loaded : next (through_local 9) 0 (Done ∷ Done ∷ []) ≡ action.Access (object.Local 1) (pos 0) (operation.Load Four)
+unfolding next integer.wrap
+local_is_loaded = refl

@@ -12,3 +12,4 @@ pub mod Rows
 pub mod Ending
 pub mod Reports
 pub mod Trees
+pub mod Fences

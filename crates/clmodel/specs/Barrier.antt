@@ -9,11 +9,19 @@ use Rattle.clmodel.specs.declared.tree.InfixOperator.TheVariants.{Arithmetic}
 abbrev pub is_barrier : ℕ → Bool
 is_barrier name = name == 14
 
+-- `CLK_LOCAL_MEM_FENCE`
+abbrev pub local_fence : ℕ
+local_fence = 24
+
+-- `CLK_GLOBAL_MEM_FENCE`
+abbrev pub global_fence : ℕ
+global_fence = 25
+
 -- what a name fences
 abbrev pub fence_named : ℕ → Option Fences
 fence_named name =
-    if name == 24 then Some (record { local = true; global = false })
-    else (if name == 25 then Some (record { local = false; global = true })
+    if name == local_fence then Some (record { local = true; global = false })
+    else (if name == global_fence then Some (record { local = false; global = true })
     else None)
 
 abbrev pub fence : Term → Option Fences

@@ -1,16 +1,18 @@
 -- Kernels on which the next action is computed. Names: 26 `f`, 27 `a`, 28 `g`, 29 `n`, 30 `s`, 31 `j`.
-use Rattle.std.specs.Prelude.{ℕ, pos, true, false, None, Some, List, [], ◌∷◌}
+use Rattle.std.specs.Prelude.{ℕ, pos, true, false, Option, None, Some, List, [], ◌∷◌}
 use Rattle.clnum.specs.declared.int_type.IntType.TheVariants.{Int}
 use Rattle.clnum.specs.declared.operators.BinaryOperator.TheVariants as operator
 use Rattle.clmodel.specs.Setup.{Setup}
-use Rattle.clmodel.specs.Tree.{Term, Number, Variable, Call, Binary, NoTerm, then_all, Whole, Part, Stmt, Block, DeclareAs, Assign, Step, CallOnly, While, DoWhile, For, Break, Continue, ReturnValue, NoStmt, then_stmts, With, Always, While_, Func, NoFunc, then_funcs}
+use Rattle.clmodel.specs.Tree.{Term, Number, Variable, Element, Call, Binary, NoTerm, then_all, Whole, Part, Stmt, Block, DeclareAs, Assign, Step, CallOnly, While, DoWhile, For, Break, Continue, ReturnValue, NoStmt, then_stmts, With, Always, While_, Func, NoFunc, then_funcs}
 use Rattle.clmodel.specs.declared.access.Object.TheVariants as object
 use Rattle.clmodel.specs.declared.access.Operation.TheVariants as operation
 use Rattle.clmodel.specs.declared.access.Width.TheVariants.{Four}
 use Rattle.clmodel.specs.declared.action.Action.{Action}
 use Rattle.clmodel.specs.declared.action.Action.TheVariants as action
+use Rattle.clmodel.specs.declared.setup.Argument.{Argument}
 use Rattle.clmodel.specs.declared.setup.Argument.TheVariants as argument
-use Rattle.clmodel.specs.declared.tree.AddressSpace.TheVariants.{Global}
+use Rattle.clmodel.specs.declared.tree.AddressSpace.{AddressSpace}
+use Rattle.clmodel.specs.declared.tree.AddressSpace.TheVariants.{Global, Local}
 use Rattle.clmodel.specs.declared.tree.InfixOperator.TheVariants.{Arithmetic}
 use Rattle.clmodel.specs.declared.tree.Parameter.{Parameter}
 use Rattle.clmodel.specs.declared.tree.VariableType.TheVariants.{Integer, Pointer}
@@ -60,9 +62,13 @@ abbrev pub helper_g : List Stmt → Func
 helper_g body =
     record { is_kernel = false; result = Some Int; name_at = 0; name = 28; parameters = ints (29 ∷ []); body_at = 0; body = then_stmts NoStmt body }
 
--- `__kernel void f(__global int *a) { .. }` for one item, with helpers before it and a budget
-abbrev pub launched : List Func → List Stmt → ℕ → Setup
-launched helpers body budget =
+-- a pointer to ints
+abbrev pub pointer : AddressSpace → ℕ → Parameter
+pointer space name = record { name_at = 0; name = name; kind = Pointer (record { space = space; is_const = false; element = Int }) }
+
+-- `__kernel void f(..) { .. }` for one item, with helpers before it, parameters, arguments and a budget
+abbrev pub launched_with : List Parameter → List (Option Argument) → List Func → List Stmt → ℕ → Setup
+launched_with parameters arguments helpers body budget =
     record {
       program = record {
         functions = then_funcs (then_funcs NoFunc helpers) (record {
@@ -70,7 +76,7 @@ launched helpers body budget =
           result = None;
           name_at = 0;
           name = 26;
-          parameters = record { name_at = 0; name = 27; kind = Pointer (record { space = Global; is_const = false; element = Int }) } ∷ [];
+          parameters = parameters;
           body_at = 0;
           body = then_stmts NoStmt body;
         } ∷ []);
@@ -78,9 +84,13 @@ launched helpers body budget =
       };
       kernel = 26;
       range = record { global = 1 ∷ []; local = 1 ∷ []; offset = 0 ∷ [] };
-      arguments = Some (argument.Buffer (97 ∷ [])) ∷ [];
+      arguments = arguments;
       budget = budget;
     }
+
+-- `__kernel void f(__global int *a) { .. }`
+abbrev pub launched : List Func → List Stmt → ℕ → Setup
+launched = launched_with (pointer Global 27 ∷ []) (Some (argument.Buffer (97 ∷ [])) ∷ [])
 
 -- the actions of these kernels
 abbrev pub stores : ℕ → Action
@@ -124,3 +134,12 @@ nested =
     ∷ CallOnly 0 28 (then_all NoTerm (number 0 ∷ []))
     ∷ []
     )) ∷ [])
+
+-- `__kernel void f(__global int *a, __local int *s) { s[0] = 1; barrier(..); a[0] = s[0]; }`, with 8 bytes of local memory
+abbrev pub through_local : ℕ → Setup
+through_local =
+    launched_with
+    (pointer Global 27 ∷ pointer Local 30 ∷ [])
+    (Some (argument.Buffer (97 ∷ [])) ∷ Some (argument.Local 8) ∷ [])
+    []
+    (Assign 0 (Part 0 30 (number 0)) None (number 1) ∷ barrier ∷ store (Element 0 30 (number 0)) ∷ [])

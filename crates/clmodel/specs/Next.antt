@@ -1,8 +1,8 @@
 -- What an item does next: plain evaluation of the kernel's tree, as a tree of actions (OpenCL 1.2, 6.3 to 6.12; C99 6.5 and 6.8).
-use Rattle.std.specs.Prelude.{ℕ, ◌+◌, pos, Option, None, Some, List, [], ◌∷◌, map}
+use Rattle.std.specs.Prelude.{ℕ, ◌+◌, pos, Option, None, Some, List, [], ◌∷◌, map, slice_index_or}
 use Rattle.clnum.specs.Operations.{wrapped}
 use Rattle.clmodel.specs.Launch.{Launch}
-use Rattle.clmodel.specs.Setup.{Setup, place_of, buffer_names, kernel_in, functions_before, item_count, group_items}
+use Rattle.clmodel.specs.Setup.{Setup, place_of, buffer_names, local_objects, kernel_in, functions_before, item_count, group_items}
 use Rattle.clmodel.specs.Tree.{Func, Funcs}
 use Rattle.clmodel.specs.declared.tree.VariableType.{VariableType}
 use Rattle.clmodel.specs.declared.tree.VariableType.TheVariants as variable_type
@@ -20,22 +20,24 @@ pub mod Statements
 pub use Rattle.clmodel.specs.Next.Expressions.{Run, finish, fail, ask, tick, walk, Variables, look, declared_type, held, assign, leave, known, element_width, answered, at_offset, moved, moved_back, number, pointing, load, store, class_of, amount, update, atomic_call, arithmetic, combined, test, Here, dimension, given_value, integer_call, call, call_only, base_type, infix_type, call_type, type_of, argument_type, settle, join, chosen_value, eval, eval_all, reach, fetch, put, step_operator, one}
 pub use Rattle.clmodel.specs.Next.Statements.{Follows, Helpers, leaving, in_loop, turns, condition, HelperCall, helper_or, helper_call, value_of, call_sites, statement_sites, sites, part_sites, all_sites, wait, assigned, call_statement, exec, exec_part, exec_all, passed, returned_as, as_call, sites_in, helper}
 
--- what a parameter holds: a pointer to its buffer's start, or its number
-abbrev pub content : List (List ℕ) → VariableType → Option Argument → Option Operand
-content buffers (variable_type.Pointer p) (Some (given.Buffer name)) =
+-- what the parameter at a place holds: a pointer to the start of its buffer or of its local object, or its number
+abbrev pub content : List (List ℕ) → (place : ℕ) → VariableType → Option Argument → Option Operand
+content buffers place (variable_type.Pointer p) (Some (given.Buffer name)) =
     Some (Pointed (record { object = object.Buffer (place_of buffers name); element = p.element; offset = pos 0 }))
-content buffers (variable_type.Integer kind) (Some (given.Value n)) = Some (Integral (wrapped kind n))
-content buffers _ _ = None
+content buffers place (variable_type.Pointer p) (Some (given.Local size)) =
+    Some (Pointed (record { object = object.Local place; element = p.element; offset = pos 0 }))
+content buffers place (variable_type.Integer kind) (Some (given.Value n)) = Some (Integral (wrapped kind n))
+content buffers place _ _ = None
 
 -- a parameter with its argument
-abbrev pub bound_to : List (List ℕ) → Parameter → Option Argument → Binding
-bound_to buffers p argument = record { name = p.name; kind = p.kind; content = content buffers p.kind argument }
+abbrev pub bound_to : List (List ℕ) → (place : ℕ) → Parameter → Option Argument → Binding
+bound_to buffers place p argument = record { name = p.name; kind = p.kind; content = content buffers place p.kind argument }
 
--- parameters with their arguments
-abbrev pub bound : List (List ℕ) → List Parameter → List (Option Argument) → Variables → Variables
-bound buffers [] arguments variables = variables
-bound buffers (p ∷ ps) [] variables = bound buffers ps [] (bound_to buffers p None ∷ variables)
-bound buffers (p ∷ ps) (argument ∷ arguments) variables = bound buffers ps arguments (bound_to buffers p argument ∷ variables)
+-- parameters with their arguments, from a place on
+abbrev pub bound : List (List ℕ) → (place : ℕ) → List Parameter → List (Option Argument) → Variables → Variables
+bound buffers place [] arguments variables = variables
+bound buffers place (p ∷ ps) [] variables = bound buffers (place + 1) ps [] (bound_to buffers place p None ∷ variables)
+bound buffers place (p ∷ ps) (argument ∷ arguments) variables = bound buffers (place + 1) ps arguments (bound_to buffers place p argument ∷ variables)
 
 abbrev pub here_of : Setup → ℕ → Here
 here_of setup item = record { range = setup.range; item = item }
@@ -49,7 +51,7 @@ abbrev pub run_of : Setup → ℕ → Funcs → Option Func → Run
 run_of setup item earlier None = finish
 run_of setup item earlier (Some f) =
     exec_all (setup.budget + 1) (here_of setup item) (helper (setup.budget + 1) (here_of setup item) earlier) (sites_in earlier)
-    f.body 0 [] at_the_end (bound (buffer_names setup) f.parameters setup.arguments [])
+    f.body 0 [] at_the_end (bound (buffer_names setup) 0 f.parameters setup.arguments [])
 
 -- the action that an item makes when these answers are used up, one for each earlier action
 unfoldable pub next : Setup → ℕ → List Answer → Action
@@ -63,9 +65,9 @@ launch_of setup bytes =
       items = item_count setup.range;
       group_size = group_items setup.range;
       buffers = map bytes (buffer_names setup);
-      local_sizes = [];
+      local_sizes = map (λ o. o.size) (local_objects setup);
       next = next setup;
       buffer_names = buffer_names setup;
-      local_names = [];
+      local_names = map (λ o. slice_index_or setup.program.names o.name []) (local_objects setup);
       source_names = setup.program.names;
     }

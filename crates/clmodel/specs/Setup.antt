@@ -4,6 +4,7 @@ use Rattle.std.specs.List.{list_any}
 use Rattle.std.specs.Cmp.Lexicographic.{pointwise}
 use Rattle.clmodel.specs.Tree.{Program, Func, Funcs, NoFunc, ThenFunc}
 use Rattle.clmodel.specs.declared.setup.Range.{Range}
+use Rattle.clmodel.specs.declared.tree.Parameter.{Parameter}
 use Rattle.clmodel.specs.declared.setup.Argument.{Argument}
 use Rattle.clmodel.specs.declared.setup.Argument.TheVariants as argument
 use Rattle.clmodel.specs.declared.setup.WorkItemFunction.{WorkItemFunction}
@@ -85,6 +86,22 @@ names_among names (None ∷ arguments) = names_among names arguments
 abbrev pub buffer_names : Setup → List (List ℕ)
 buffer_names setup = names_among [] setup.arguments
 
+-- An object in the local memory of a group: the number of its name, and its size in bytes (6.5.2).
+pub record LocalObject : Type 0 where
+  pub name : ℕ
+  pub size : ℕ
+
+-- the bytes of local memory that an argument is
+abbrev pub local_size : Option Argument → ℕ
+local_size (Some (argument.Local size)) = size
+local_size _ = 0
+
+-- a local object for each parameter, of no bytes where its argument isn't local memory
+abbrev pub parameter_objects : List Parameter → List (Option Argument) → List LocalObject
+parameter_objects [] arguments = []
+parameter_objects (p ∷ ps) [] = record { name = p.name; size = 0 } ∷ parameter_objects ps []
+parameter_objects (p ∷ ps) (argument ∷ arguments) = record { name = p.name; size = local_size argument } ∷ parameter_objects ps arguments
+
 -- the place of a name among others
 abbrev pub place_of : List (List ℕ) → List ℕ → ℕ
 place_of [] name = 0
@@ -99,3 +116,11 @@ kernel_in (ThenFunc fs f) name = if f.is_kernel && (f.name == name) then Some f 
 abbrev pub functions_before : Funcs → ℕ → Funcs
 functions_before NoFunc name = NoFunc
 functions_before (ThenFunc fs f) name = if f.is_kernel && (f.name == name) then fs else functions_before fs name
+
+-- the local objects of a kernel with these arguments, by their numbers
+abbrev pub objects_of : Option Func → List (Option Argument) → List LocalObject
+objects_of None arguments = []
+objects_of (Some f) arguments = parameter_objects f.parameters arguments
+
+abbrev pub local_objects : Setup → List LocalObject
+local_objects setup = objects_of (kernel_in setup.program.functions setup.kernel) setup.arguments

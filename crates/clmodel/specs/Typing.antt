@@ -10,6 +10,7 @@ pub mod Rules
 pub mod Faults
 pub mod Sizes
 pub mod Functions
+pub mod Samples
 
 -- a program that meets the rules of types
 unfoldable pub IsTypedProgram : Program → Type 0

@@ -3,6 +3,7 @@
 
 pub mod access;
 pub mod action;
+pub mod barrier;
 pub mod determinacy;
 pub mod fault;
 pub mod next_action;

@@ -1,11 +1,15 @@
-//! Laws of an item's next action.
+//! Laws of an item's next action, and of types.
 #![tactic(auto)]
 
-ghost use Rattle.std.specs.Prelude.{◌≡◌, ℕ, List, [], ◌∷◌};
-ghost use Rattle.clmodel.specs.Examples.{sum_by_helper, three_turns, continues, three_barriers, nested, stores, waits};
+ghost use Rattle.std.specs.Prelude.{◌≡◌, ℕ, pos, map, List, [], ◌∷◌};
+ghost use Rattle.clmodel.specs.Examples.{sum_by_helper, three_turns, continues, three_barriers, nested, through_local, stores, waits};
 ghost use Rattle.clmodel.specs.Next.{launch_of, next};
 ghost use Rattle.clmodel.specs.Law.{IsBounded};
 ghost use Rattle.clmodel.specs.Setup.{Setup};
+ghost use Rattle.clmodel.specs.Typing.Samples.{AreSampled};
+ghost use Rattle.clmodel.specs.declared.access.Object.TheVariants as object;
+ghost use Rattle.clmodel.specs.declared.access.Operation.TheVariants as operation;
+ghost use Rattle.clmodel.specs.declared.access.Width.TheVariants.{Four};
 ghost use Rattle.clmodel.specs.declared.action.Action.TheVariants as action;
 ghost use Rattle.clmodel.specs.declared.action.Answer.TheVariants.{Done};
 ghost use Rattle.clmodel.specs.declared.action.Cause.TheVariants as cause;
@@ -29,4 +33,16 @@ pub fn small_kernels()
     ensures broken { next (nested 20) 0 (Done ∷ []) ≡ waits 1 (1 ∷ 1 ∷ []) }
     ensures second_call { next (nested 20) 0 (Done ∷ Done ∷ []) ≡ waits 2 (1 ∷ 1 ∷ []) }
     ensures outer_turn { next (nested 20) 0 (Done ∷ Done ∷ Done ∷ []) ≡ waits 0 (2 ∷ 1 ∷ []) }
+{}
+
+/// What an item does in local memory (OpenCL 1.2, section 6.5.2): its launch has an object for each parameter.
+pub fn local_memory()
+    ensures sizes { (bytes : List ℕ → List ℕ) → (launch_of (through_local 9) bytes).local_sizes ≡ 0 ∷ 8 ∷ [] }
+    ensures store { next (through_local 9) 0 [] ≡ action.Access (object.Local 1) (pos 0) (operation.Store Four 1) }
+    ensures load { next (through_local 9) 0 (Done ∷ Done ∷ []) ≡ action.Access (object.Local 1) (pos 0) (operation.Load Four) }
+{}
+
+/// The first faults of some statements with barriers and pointers.
+pub fn samples()
+    ensures { AreSampled }
 {}

@@ -1,12 +1,15 @@
 -- What a name stands for (OpenCL 1.2, 6.9; C99 6.2.1 and 6.2.3).
-use Rattle.std.specs.Prelude.{ℕ, Bool, true, not, ◌&&◌, nat_eq, nat_lt, List, [], ◌∷◌, ◌++◌, Option, None, Some, is_some, if◌then◌else◌}
+use Rattle.std.specs.Prelude.{ℕ, Bool, true, false, not, ◌&&◌, nat_eq, nat_lt, List, [], ◌∷◌, ◌++◌, Option, None, Some, is_some, if◌then◌else◌}
 use Rattle.std.specs.List.{list_any}
 use Rattle.std.specs.Option.{option_or}
 use Rattle.std.specs.Map.{lookup}
 use Rattle.clnum.specs.declared.int_type.IntType.{IntType}
+use Rattle.clnum.specs.declared.int_type.IntType.TheVariants.{Uint}
+use Rattle.clmodel.specs.Barrier.{is_barrier, local_fence, global_fence}
 use Rattle.clmodel.specs.BuiltIns.{built_in}
 use Rattle.clmodel.specs.declared.setup.BuiltIn.{BuiltIn}
 use Rattle.clmodel.specs.declared.tree.VariableType.{VariableType}
+use Rattle.clmodel.specs.declared.tree.VariableType.TheVariants.{Integer as Number}
 use Rattle.clmodel.specs.Tree as tree
 use Rattle.clmodel.specs.Tree.{Stmt, Stmts, NoStmt, ThenStmt, MaybeStmt, Without, With}
 
@@ -34,6 +37,7 @@ pub data Meaning : Type 0 where
   Callable : Signature → Meaning  -- a function before this one
   Current : Signature → Meaning  -- the function itself
   BuiltInFunction : BuiltIn → Meaning
+  Barrier : Meaning
   Unknown : Meaning
 
 -- the type of a scope's variable of a name
@@ -52,10 +56,11 @@ among x names = list_any (nat_eq x) names
 abbrev pub with_name : List ℕ → ℕ → List ℕ
 with_name names x = if among x names then names else names ++ x ∷ []
 
-abbrev pub called : Option Signature → Option BuiltIn → Meaning
-called (Some s) f = Callable s
-called None (Some f) = BuiltInFunction f
-called None None = Unknown
+abbrev pub called : Option Signature → Option BuiltIn → (is_barrier : Bool) → Meaning
+called (Some s) f b = Callable s
+called None (Some f) b = BuiltInFunction f
+called None None true = Barrier
+called None None false = Unknown
 
 -- the signature of the first of these functions that has a name
 abbrev pub signature_of : List (ℕ × Signature) → ℕ → Option Signature
@@ -67,7 +72,7 @@ found (Some kind) m = Bound kind
 
 -- A function of the text whose text has begun, or a built-in one. Functions that come later are unknown.
 abbrev pub function_meaning : Context → ℕ → Meaning
-function_meaning c x = if nat_eq x c.current then Current c.signature else called (signature_of c.before x) (built_in x)
+function_meaning c x = if nat_eq x c.current then Current c.signature else called (signature_of c.before x) (built_in x) (is_barrier x)
 
 -- a variable, or a function
 abbrev pub meaning : Context → ℕ → Meaning
@@ -87,6 +92,10 @@ bind c x kind = record c { inner = c.inner ++ (x, kind) ∷ [] }
 -- a new scope inside
 abbrev pub enter : Context → Context
 enter c = record c { inner = []; outer = c.inner ∷ c.outer }
+
+-- the arguments of a barrier, in which the names of the fences stand for numbers (6.12.8)
+abbrev pub fenced : Context → Context
+fenced c = bind (bind (enter c) local_fence (Number Uint)) global_fence (Number Uint)
 
 -- the body of a loop: a block (C99 6.8.5, paragraph 5), in which `break` and `continue` may stand
 abbrev pub turning : Context → Context

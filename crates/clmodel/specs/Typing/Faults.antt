@@ -11,6 +11,7 @@ use Rattle.clnum.specs.declared.operators.BinaryOperator.TheVariants.{Add, Subtr
 use Rattle.clnum.specs.declared.operators.UnaryOperator.{UnaryOperator}
 use Rattle.clnum.specs.declared.operators.Builtin.{Builtin}
 use Rattle.clnum.specs.declared.operators.Builtin.TheVariants as integer
+use Rattle.clmodel.specs.Barrier.{fences_of}
 use Rattle.clmodel.specs.declared.setup.BuiltIn.{BuiltIn}
 use Rattle.clmodel.specs.declared.setup.BuiltIn.TheVariants as built_in
 use Rattle.clmodel.specs.declared.tree.AddressSpace.{AddressSpace}
@@ -23,7 +24,7 @@ use Rattle.clmodel.specs.declared.type_fault.TypeFault.{TypeFault}
 use Rattle.clmodel.specs.declared.type_fault.TypeFault.TheVariants as fault
 use Rattle.clmodel.specs.Tree as tree
 use Rattle.clmodel.specs.Tree.{Term, Terms, NoTerm, ThenTerm, Place, Stmt, Stmts, NoStmt, ThenStmt, MaybeStmt, Without, With, MaybeTerm, Always, While_}
-use Rattle.clmodel.specs.Typing.Context.{Context, Signature, Meaning, meaning, Bound, Callable, Current, BuiltInFunction, Unknown, is_free, bind, enter, turning, for_context, after_all}
+use Rattle.clmodel.specs.Typing.Context.{Context, Signature, Meaning, meaning, Bound, Callable, Current, BuiltInFunction, Barrier, Unknown, is_free, bind, enter, fenced, turning, for_context, after_all}
 use Rattle.clmodel.specs.Typing.Least.{Places, node}
 use Rattle.clmodel.specs.Typing.Rules.{is_constant, is_writable, is_atomic, has_operand, count}
 
@@ -81,6 +82,7 @@ name_faults (Bound k) a = []
 name_faults (Callable s) a = fault.TypeMismatch a ∷ []
 name_faults (Current s) a = fault.TypeMismatch a ∷ []
 name_faults (BuiltInFunction f) a = fault.TypeMismatch a ∷ []
+name_faults Barrier a = fault.TypeMismatch a ∷ []
 name_faults Unknown a = fault.UnknownName a ∷ []
 
 -- a name in front of an index
@@ -167,6 +169,7 @@ helper_faults spot s a n =
 abbrev pub callee_faults : Spot → Meaning → (at arguments : ℕ) → List TypeFault
 callee_faults spot (BuiltInFunction f) a n =
     unless (nat_eq n (length (wants f))) (fault.WrongArgumentCount a) ++ unless (is_statement spot || has_value f) (fault.AtomicValueUsed a)
+callee_faults spot Barrier a n = unless (is_statement spot) (fault.TypeMismatch a) ++ unless (nat_eq n 1) (fault.WrongArgumentCount a)
 callee_faults spot (Callable s) a n = helper_faults spot s a n
 callee_faults spot (Current s) a n = helper_faults spot s a n ++ fault.Recursion a ∷ []
 callee_faults spot (Bound k) a n = fault.TypeMismatch a ∷ []
@@ -175,6 +178,7 @@ callee_faults spot Unknown a n = fault.UnknownName a ∷ []
 -- what arguments it wants
 abbrev pub wanted : Meaning → List Want
 wanted (BuiltInFunction f) = wants f
+wanted Barrier = AnInteger ∷ []
 wanted (Callable s) = map ForParameter s.parameters
 wanted (Current s) = map ForParameter s.parameters
 wanted _ = []
@@ -270,9 +274,23 @@ arguments_faults c ws NoTerm = []
 arguments_faults c ws (ThenTerm es e) =
     arguments_faults c ws es ++ argument_faults (slice_get ws (count es)) (last_kind c es) (kind_of c e) (start e)
 
+-- where the arguments of a call stand
+abbrev pub inside_call : Meaning → Context → Context
+inside_call Barrier c = fenced c
+inside_call _ c = c
+
+-- the flags of a barrier: the name of a fence, or the two names joined by `|`
+abbrev pub flags_faults : Terms → List TypeFault
+flags_faults NoTerm = []
+flags_faults (ThenTerm es e) = flags_faults es ++ unless (is_some (fences_of e)) (fault.BadBarrierFlags (start e))
+
+abbrev pub barrier_faults : Meaning → Terms → List TypeFault
+barrier_faults Barrier es = flags_faults es
+barrier_faults _ es = []
+
 -- a call's own faults
 abbrev pub call_faults : Context → Spot → Meaning → (at : ℕ) → Terms → List TypeFault
-call_faults c spot m a es = callee_faults spot m a (count es) ++ arguments_faults c (wanted m) es
+call_faults c spot m a es = callee_faults spot m a (count es) ++ arguments_faults (inside_call m c) (wanted m) es ++ barrier_faults m es
 
 -- An expression's places: its parts from left to right, then itself.
 abbrev mutual
@@ -282,7 +300,7 @@ abbrev mutual
   term_faults c (tree.Element a x e) = node (term_faults c e) (front_faults (meaning c x) a ++ integer_faults (kind_of c e) (start e))
   term_faults c (tree.ElementAddress a b x e) = node (term_faults c e) (front_faults (meaning c x) b ++ integer_faults (kind_of c e) (start e))
   term_faults c (tree.Dereference a e) = node (term_faults c e) (pointer_faults (kind_of c e) (start e))
-  term_faults c (tree.Call a x es) = node (terms_faults c es) (call_faults c Inside (meaning c x) a es)
+  term_faults c (tree.Call a x es) = node (terms_faults (inside_call (meaning c x) c) es) (call_faults c Inside (meaning c x) a es)
   term_faults c (tree.Unary a op e) = node (term_faults c e) (integer_faults (kind_of c e) (start e))
   term_faults c (tree.Cast a t e) = node (term_faults c e) (integer_faults (kind_of c e) (start e))
   term_faults c (tree.Binary a op d e) =
@@ -318,7 +336,7 @@ place_kind c (tree.Behind a e) = element_kind (kind_of c e)
 
 -- What is assigned, or initialises a variable. A helper may be called here.
 abbrev pub value_faults : Context → Term → Places
-value_faults c (tree.Call a x es) = node (terms_faults c es) (call_faults c RightSide (meaning c x) a es)
+value_faults c (tree.Call a x es) = node (terms_faults (inside_call (meaning c x) c) es) (call_faults c RightSide (meaning c x) a es)
 value_faults c e = term_faults c e
 
 -- whether it has a value
@@ -367,7 +385,7 @@ abbrev mutual
   faults c (tree.DeclareArray a is_local t b x d n) = (fault.TypeMismatch a ∷ []) ∷ []
   faults c (tree.Assign a p op e) = node (place_faults c p ++ value_faults c e) (assignment_faults c p op e)
   faults c (tree.Step a p is_increment) = place_faults c p
-  faults c (tree.CallOnly a x es) = node (terms_faults c es) (call_faults c WholeStatement (meaning c x) a es)
+  faults c (tree.CallOnly a x es) = node (terms_faults (inside_call (meaning c x) c) es) (call_faults c WholeStatement (meaning c x) a es)
   faults c (tree.If a e s) = node (term_faults c e ++ faults (enter c) s) (condition_faults c (While_ e))
   faults c (tree.IfElse a e s r) = node (term_faults c e ++ faults (enter c) s ++ faults (enter c) r) (condition_faults c (While_ e))
   faults c (tree.While a e s) = node (term_faults c e ++ faults (turning c) s) (condition_faults c (While_ e))

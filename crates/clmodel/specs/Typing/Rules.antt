@@ -10,6 +10,8 @@ use Rattle.clnum.specs.declared.operators.BinaryOperator.{BinaryOperator}
 use Rattle.clnum.specs.declared.operators.BinaryOperator.TheVariants.{Add, Subtract}
 use Rattle.clnum.specs.declared.operators.UnaryOperator.{UnaryOperator}
 use Rattle.clnum.specs.declared.operators.Builtin.TheVariants as integer
+use Rattle.clmodel.specs.Barrier.{fences}
+use Rattle.clmodel.specs.declared.action.Fences.{Fences}
 use Rattle.clmodel.specs.declared.setup.AtomicFunction.{AtomicFunction}
 use Rattle.clmodel.specs.declared.setup.AtomicFunction.TheVariants.{Inc, Dec}
 use Rattle.clmodel.specs.declared.setup.BuiltIn.{BuiltIn}
@@ -24,7 +26,7 @@ use Rattle.clmodel.specs.declared.tree.VariableType.{VariableType}
 use Rattle.clmodel.specs.declared.tree.VariableType.TheVariants.{Integer as Number, Pointer}
 use Rattle.clmodel.specs.Tree as tree
 use Rattle.clmodel.specs.Tree.{Term, Terms, NoTerm, ThenTerm, Place, Stmt, Stmts, NoStmt, ThenStmt, MaybeStmt, Without, With, MaybeTerm, Always, While_}
-use Rattle.clmodel.specs.Typing.Context.{Context, Signature, meaning, Bound, Callable, BuiltInFunction, is_free, bind, enter, turning, for_context, after_all}
+use Rattle.clmodel.specs.Typing.Context.{Context, Signature, meaning, Bound, Callable, BuiltInFunction, Barrier, is_free, bind, enter, turning, for_context, after_all}
 
 abbrev pub is_constant : AddressSpace → Bool
 is_constant Global = false
@@ -151,6 +153,8 @@ mutual
     step : {c : Context} {a : ℕ} {p : Place} {is_increment : Bool} {k : VariableType} → TypesPlace c p k → IsTyped c (tree.Step a p is_increment)
     call_only : {c : Context} {a x : ℕ} {f : BuiltIn} {es : Terms} {ks : List VariableType} {r : Option VariableType}
         → meaning c x ≡ BuiltInFunction f → TypesAll c es ks → Calls f ks r → IsTyped c (tree.CallOnly a x es)
+    -- with the name of a fence, or both names (6.12.8)
+    barrier : {c : Context} {a x : ℕ} {es : Terms} {f : Fences} → meaning c x ≡ Barrier → fences es ≡ Some f → IsTyped c (tree.CallOnly a x es)
     call_helper : {c : Context} {a x : ℕ} {es : Terms} {s : Signature} → CallsHelper c x es s → IsTyped c (tree.CallOnly a x es)
     -- What is controlled is a block (C99 6.8.4, paragraph 3, and 6.8.5, paragraph 5).
     if : {c : Context} {a : ℕ} {e : Term} {s : Stmt} {t : IntType} → Types c e (Number t) → IsTyped (enter c) s → IsTyped c (tree.If a e s)
