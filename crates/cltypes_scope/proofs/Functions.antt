@@ -26,12 +26,6 @@ meaning_there c x es s h e l =
     ∙ ap (λ z. called (typing.signature_of z x) (built_in x) (is_barrier x)) e
     ∙ ap (λ z. called z (built_in x) (is_barrier x)) (lookup-map_values signature_of (nat_eq x) es ∙ ap (option_map signature_of) l)
 
-pub is_the_barrier : (x : ℕ) → x ≡ 14 → is_barrier x ≡ true
-is_the_barrier x h = grind (arith, nat_tests)
-
-pub no_barrier : (x : ℕ) → (x ≡ 14 → ⊥) → is_barrier x ≡ false
-no_barrier x h = grind (arith, nat_tests)
-
 is_some_seen : (o : Option Signature) → is_some (option_map signature_of o) ≡ is_some o
 is_some_seen None = refl
 is_some_seen (Some s) = refl

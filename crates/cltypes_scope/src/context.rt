@@ -9,6 +9,7 @@ ghost use Rattle.clmodel.specs.Typing.Context.{declared, variable, function_mean
 ghost use Rattle.cltypes_scope.specs.Names.{signature_of, meaning_of, nowhere, with_function, begun, ended, with_loop, left, no_signature};
 
 use crate::meaning::{Meaning, Signature};
+use clmodel::barrier::is_barrier;
 use clmodel::setup::built_in_named;
 use clmodel::tree::VariableType;
 use clnum::IntType;
@@ -20,9 +21,6 @@ use std::mem::replace;
 /// How many names a table of names begins with that nothing else can have: those of the built-in functions and of the fences of
 /// a barrier.
 const RESERVED_NAMES: u32 = 26;
-
-/// The place of `barrier` in a table of names.
-const BARRIER: u32 = 14;
 
 /// Whether nothing else can have this name, since it is a built-in function's or a fence's.
 pub fn is_reserved(name: u32) -> bool
@@ -178,7 +176,7 @@ impl Context {
         }
         match built_in_named(name) {
             Some(function) => Meaning::BuiltInFunction(function),
-            None => if name == BARRIER {
+            None => if is_barrier(name) {
                 Meaning::Barrier
             } else {
                 Meaning::Unknown

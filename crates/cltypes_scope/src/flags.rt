@@ -12,75 +12,15 @@ ghost use Rattle.cltypes_scope.specs.Names.{meaning_of};
 
 use crate::faults::lesser;
 use crate::meaning::Meaning;
-use clmodel::action::Fences;
-use clmodel::tree::{Expression, InfixOperator};
+use clmodel::barrier::fences_of;
+use clmodel::tree::Expression;
 use clmodel::type_fault::TypeFault;
-use clnum::BinaryOperator;
 
-/// What a name fences, by its place in a tree's table of names.
-fn fence_named(name: u32) -> Option<Fences>
-    ensures { result ≡ fence_named name }
-{
-    match name {
-        24 => Some(Fences {
-            local: true,
-            global: false,
-        }),
-        25 => Some(Fences {
-            local: false,
-            global: true,
-        }),
-        _ => None,
-    }
-}
-
-/// Whether this is the name of a fence.
+/// Whether this is the name of a fence, by its place in a tree's table of names.
 pub fn is_fence(name: u32) -> bool
     ensures { result ≡ is_some (fence_named name) }
 {
-    fence_named(name).is_some()
-}
-
-/// What an expression fences that is a name.
-fn fence(argument: &Expression) -> Option<Fences>
-    ensures { result ≡ barrier.fence (term argument.now) }
-{
-    match argument {
-        Expression::Variable { name, .. } => fence_named(*name),
-        _ => None,
-    }
-}
-
-/// Both fences, where one is the local and the other the global one.
-fn both_fences(first: Option<Fences>, second: Option<Fences>) -> Option<Fences>
-    ensures { result ≡ barrier.both_fences first second }
-{
-    let first = first?;
-    let second = second?;
-    if (first.local && second.global) || (first.global && second.local) {
-        Some(Fences {
-            local: true,
-            global: true,
-        })
-    } else {
-        None
-    }
-}
-
-/// What an argument of a barrier fences: the name of a fence, or the two names joined by `|`.
-fn fences_of(argument: &Expression) -> Option<Fences>
-    ensures { result ≡ barrier.fences_of (term argument.now) }
-{
-    match argument {
-        Expression::Variable { name, .. } => fence_named(*name),
-        Expression::Binary {
-            operator: InfixOperator::Arithmetic(BinaryOperator::BitOr),
-            left,
-            right,
-            ..
-        } => both_fences(fence(left), fence(right)),
-        _ => None,
-    }
+    name == 24 || name == 25
 }
 
 /// Where an expression begins.

@@ -2,7 +2,7 @@ use Rattle.std.proofs.Common.{None, Some, sym, ap, ◌∙◌}
 use Rattle.std.specs.Option.{option_copied}
 use Rattle.clmodel.specs.Barrier.{is_barrier}
 use Rattle.clmodel.specs.Typing.Context.{called}
-use Rattle.cltypes_scope.proofs.Functions.{meaning_there, is_the_barrier, no_barrier}
+use Rattle.cltypes_scope.proofs.Functions.{meaning_there}
 use Rattle.cltypes_scope.proofs.context.Context.function_meaning.Goals as goal
 
 pub returns-in-Some : goal.returns-in-Some
@@ -20,20 +20,20 @@ returns-in-Some-built_in_named c =
     (ap (λ z. z.before) (sym c.self.view_is)) (sym c.get.ensures.value ∙ ap option_copied c.in_default.is)
     ∙ ap (λ f. called None f (is_barrier c.args.name)) (sym c.in-Some-built_in_named.ensures))
 
-pub returns-then-name-eq-BARRIER : goal.returns-then-name-eq-BARRIER
-returns-then-name-eq-BARRIER c =
+pub returns-then-is_barrier : goal.returns-then-is_barrier
+returns-then-is_barrier c =
     let v = c.args.self.now in
     let s = c.self.inside in
     let x = c.args.name in
     sym (meaning_there v x s.before.entries None (λ e. c.if-name-self.false (e ∙ ap (λ z. z.current) (sym c.self.view_is)))
     (ap (λ z. z.before) (sym c.self.view_is)) (sym c.get.ensures.value ∙ ap option_copied c.in_default.is)
-    ∙ ap (λ f. called None f (is_barrier x)) (sym c.in-None.ensures) ∙ ap (called None None) (is_the_barrier x c.if-name-eq-BARRIER.true))
+    ∙ ap (λ f. called None f (is_barrier x)) (sym c.in-None.ensures) ∙ ap (called None None) (sym c.is_barrier.ensures ∙ c.if-is_barrier.true))
 
-pub returns-else-name-eq-BARRIER : goal.returns-else-name-eq-BARRIER
-returns-else-name-eq-BARRIER c =
+pub returns-else-is_barrier : goal.returns-else-is_barrier
+returns-else-is_barrier c =
     let v = c.args.self.now in
     let s = c.self.inside in
     let x = c.args.name in
     sym (meaning_there v x s.before.entries None (λ e. c.if-name-self.false (e ∙ ap (λ z. z.current) (sym c.self.view_is)))
     (ap (λ z. z.before) (sym c.self.view_is)) (sym c.get.ensures.value ∙ ap option_copied c.in_default.is)
-    ∙ ap (λ f. called None f (is_barrier x)) (sym c.in-None.ensures) ∙ ap (called None None) (no_barrier x c.if-name-eq-BARRIER.false))
+    ∙ ap (λ f. called None f (is_barrier x)) (sym c.in-None.ensures) ∙ ap (called None None) (sym c.is_barrier.ensures ∙ c.if-is_barrier.false))
