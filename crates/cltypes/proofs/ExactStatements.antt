@@ -1,5 +1,5 @@
 -- A statement is typed exactly where none of its places has a fault.
-use Rattle.std.proofs.Common.{◌≡◌, ℕ, true, not, [], ◌∷◌, ◌++◌, Option, None, Some, is_some, inl, inr, refl, sym, ap, subst}
+use Rattle.std.proofs.Common.{◌≡◌, ℕ, true, not, [], ◌∷◌, ◌++◌, Option, None, Some, is_some, refl, sym, ap, subst}
 use Rattle.clnum.specs.declared.int_type.IntType.{IntType}
 use Rattle.clnum.specs.declared.operators.BinaryOperator.{BinaryOperator}
 use Rattle.clmodel.specs.declared.tree.VariableType.{VariableType}
@@ -11,7 +11,7 @@ use Rattle.clmodel.specs.Typing.Context.{Context, meaning, is_free, bind, enter,
 use Rattle.clmodel.specs.Typing.Least.{least, first, node}
 use Rattle.clmodel.specs.Typing.Rules as rule
 use Rattle.clmodel.specs.Typing.Rules.{count, is_writable, Passes, Types, TypesPlace, Gives, IsCondition, IsTyped, IsTypedPart, AreTyped}
-use Rattle.clmodel.specs.Typing.Faults.{unless, start, place_start, integer_faults, pointer_faults, passing_faults, name_faults, front_faults, assigning_faults, WholeStatement, callee_faults, wanted, name_kind, element_kind, kind_of, arguments_faults, inside_call, barrier_faults, call_faults, term_faults, terms_faults, store_faults, target_faults, place_faults, place_kind, value_faults, void_faults, declared_faults, initial_faults, assignment_faults, condition_parts, condition_faults, return_faults, faults, part_faults, row_faults}
+use Rattle.clmodel.specs.Typing.Faults.{unless, start, place_start, integer_faults, pointer_faults, passing_faults, name_faults, front_faults, assigning_faults, WholeStatement, wanted, name_kind, element_kind, kind_of, arguments_faults, inside_call, barrier_faults, call_faults, term_faults, terms_faults, store_faults, target_faults, place_faults, place_kind, value_faults, void_faults, declared_faults, initial_faults, assignment_faults, condition_parts, condition_faults, return_faults, faults, part_faults, row_faults}
 use Rattle.cltypes_scope.proofs.Least.{earlier_none}
 use Rattle.cltypes.proofs.Splits.{none_split, none_joined, places_split, places_joined, node_split, node_joined, one_place, place_then, some_fault, unless_none, unless_true}
 use Rattle.cltypes.proofs.Tables.{integer_sound, name_sound, front_sound, passing_sound, passing_complete, assigning_sound, assigning_complete, store_sound, store_complete}

@@ -8,7 +8,7 @@ use Rattle.clmodel.specs.Tree as tree
 use Rattle.clmodel.specs.Tree.{Term, Terms, NoTerm, ThenTerm}
 use Rattle.clmodel.specs.Typing.Context.{Context, Meaning, Bound, Callable, Current, BuiltInFunction, Barrier, Unknown, declared, variable, found, function_meaning, meaning, fenced}
 use Rattle.clmodel.specs.Typing.Least.{least, first, node}
-use Rattle.clmodel.specs.Typing.Faults.{Spot, Inside, Want, start, integer_faults, pointer_faults, name_faults, front_faults, operand_faults, argument_faults, name_kind, element_kind, unary_type, binary_type, choice_type, call_kind, wanted, kind_of, last_kind, arguments_faults, inside_call, call_faults, callee_faults, barrier_faults, term_faults, terms_faults}
+use Rattle.clmodel.specs.Typing.Faults.{Inside, Want, start, integer_faults, pointer_faults, name_faults, front_faults, operand_faults, argument_faults, name_kind, element_kind, unary_type, binary_type, choice_type, call_kind, wanted, kind_of, last_kind, arguments_faults, inside_call, call_faults, callee_faults, barrier_faults, term_faults, terms_faults}
 use Rattle.clmodel.specs.Typing.Rules.{count}
 use Rattle.cltypes_scope.specs.Fenced.{AreAlike}
 use Rattle.cltypes_scope.specs.Answers.{Checks}

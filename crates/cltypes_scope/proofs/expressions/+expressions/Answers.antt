@@ -4,7 +4,7 @@ use Rattle.clmodel.specs.Tree as tree
 use Rattle.clmodel.specs.Tree.{term, terms}
 use Rattle.clmodel.specs.Typing.Context.{meaning}
 use Rattle.clmodel.specs.Typing.Least.{least}
-use Rattle.clmodel.specs.Typing.Faults.{front_faults, integer_faults, pointer_faults, operand_faults, term_faults, terms_faults, name_kind, element_kind, unary_type, binary_type, choice_type, wanted}
+use Rattle.clmodel.specs.Typing.Faults.{front_faults, integer_faults, pointer_faults, operand_faults, term_faults, name_kind, element_kind, unary_type, binary_type, choice_type, wanted}
 use Rattle.cltypes_scope.specs.Names.{meaning_of}
 use Rattle.cltypes_scope.specs.Fenced.{names_of}
 use Rattle.cltypes_scope.specs.Views.{operand_of, want_of, spot_of}
