@@ -1,5 +1,5 @@
 -- A call's own faults against the rule of what is called, by the types of its arguments.
-use Rattle.std.proofs.Common.{◌≡◌, ℕ, Bool, true, false, not, ◌||◌, nat_eq, cond, ◌&&◌, ◌⊎◌, inl, inr, List, [], ◌∷◌, ◌++◌, length, Option, None, Some, refl, sym, ap, ◌∙◌, subst, arith}
+use Rattle.std.proofs.Common.{◌≡◌, ℕ, Bool, true, false, not, ◌||◌, nat_eq, cond, ◌&&◌, List, [], ◌∷◌, ◌++◌, length, Option, None, Some, refl, sym, ap, ◌∙◌, subst, arith}
 use Rattle.std.proofs.lemmas.Bool.Decides.{nat_tests}
 use Rattle.std.proofs.lemmas.List.{length-append}
 use Rattle.clnum.specs.Builtins.{is_same}
@@ -14,11 +14,11 @@ use Rattle.clmodel.specs.declared.tree.VariableType.{VariableType}
 use Rattle.clmodel.specs.declared.tree.VariableType.TheVariants.{Integer as Number, Pointer}
 use Rattle.clmodel.specs.declared.type_fault.TypeFault.TheVariants as fault
 use Rattle.clmodel.specs.Tree.{Term, Terms, NoTerm, ThenTerm}
-use Rattle.clmodel.specs.Typing.Context.{Context, Signature, Meaning, Bound, Callable, Current, BuiltInFunction, Unknown}
+use Rattle.clmodel.specs.Typing.Context.{Context, Signature, Meaning, Bound, Callable, Current, BuiltInFunction, Barrier, Unknown}
 use Rattle.clmodel.specs.Typing.Least.{least}
 use Rattle.clmodel.specs.Typing.Rules as rule
 use Rattle.clmodel.specs.Typing.Rules.{is_constant, is_writable, is_atomic, has_operand, Calls, count}
-use Rattle.clmodel.specs.Typing.Faults.{unless, start, integer_faults, Want, AnInteger, OfTypeBefore, AnAtomicPointer, atomic_wants, wants, has_value, Spot, is_statement, takes_helper, helper_faults, callee_faults, same_faults, atomic_faults, argument_faults, call_kind, kind_of, last_kind, arguments_faults, call_faults}
+use Rattle.clmodel.specs.Typing.Faults.{unless, start, integer_faults, Want, AnInteger, OfTypeBefore, AnAtomicPointer, atomic_wants, wants, has_value, Spot, is_statement, takes_helper, helper_faults, callee_faults, wanted, same_faults, atomic_faults, argument_faults, call_kind, kind_of, last_kind, arguments_faults, inside_call, barrier_faults, call_faults}
 use Rattle.cltypes.proofs.Splits.{none_split, none_joined, some_fault, unless_none, unless_true, three_none, three_true, and_true, and_left, and_right}
 use Rattle.cltypes.proofs.Tables.{same_type_sound, same_type_complete}
 
@@ -37,7 +37,7 @@ no_terms : (es : Terms) → count es ≡ 0 → es ≡ NoTerm
 no_terms NoTerm h = refl
 no_terms (ThenTerm es e) h = absurd (omega (arith, h))
 
-one_term : (es : Terms) → count es ≡ 1 → (e : Term) × (es ≡ ThenTerm NoTerm e)
+pub one_term : (es : Terms) → count es ≡ 1 → (e : Term) × (es ≡ ThenTerm NoTerm e)
 one_term NoTerm h = absurd (omega (arith, h))
 one_term (ThenTerm es e) h = (e, ap (λ ts. ThenTerm ts e) (no_terms es (omega (arith, h))))
 
@@ -69,6 +69,16 @@ pub record IsHelper (spot : Spot) (m : Meaning) (n : ℕ) : Type 0 where
   pub is_helper : signature.is_kernel ≡ false
   pub counted : n ≡ length signature.parameters
 
+pub record IsBarrier (spot : Spot) (m : Meaning) (n : ℕ) : Type 0 where
+  pub is : m ≡ Barrier
+  pub placed : is_statement spot ≡ true
+  pub counted : n ≡ 1
+
+pub data IsCallee (spot : Spot) (m : Meaning) (n : ℕ) : Type 0 where
+  a_built_in : IsBuiltIn spot m n → IsCallee spot m n
+  a_barrier : IsBarrier spot m n → IsCallee spot m n
+  a_helper : IsHelper spot m n → IsCallee spot m n
+
 same_count : (m n : ℕ) → nat_eq m n ≡ true → m ≡ n
 same_count m n e = grind (arith, nat_tests)
 
@@ -91,16 +101,23 @@ helper_sound spot s a n e =
       counted = same_count n (length s.parameters) (unless_none (nat_eq n (length s.parameters)) (fault.WrongArgumentCount a) r.1);
     }
 
-pub callee_sound : (spot : Spot) (m : Meaning) (a n : ℕ) → least (callee_faults spot m a n) ≡ None → IsBuiltIn spot m n ⊎ IsHelper spot m n
+pub callee_sound : (spot : Spot) (m : Meaning) (a n : ℕ) → least (callee_faults spot m a n) ≡ None → IsCallee spot m n
 callee_sound spot (BuiltInFunction f) a n e =
     let r = none_split (unless (nat_eq n (length (wants f))) (fault.WrongArgumentCount a)) (unless (is_statement spot || has_value f) (fault.AtomicValueUsed a)) e in
-    inl (record {
+    a_built_in (record {
       function = f;
       is = refl;
       counted = same_count n (length (wants f)) (unless_none (nat_eq n (length (wants f))) (fault.WrongArgumentCount a) r.0);
       placed = unless_none (is_statement spot || has_value f) (fault.AtomicValueUsed a) r.1;
     })
-callee_sound spot (Callable s) a n e = inr (helper_sound spot s a n e)
+callee_sound spot Barrier a n e =
+    let r = none_split (unless (is_statement spot) (fault.TypeMismatch a)) (unless (nat_eq n 1) (fault.WrongArgumentCount a)) e in
+    a_barrier (record {
+      is = refl;
+      placed = unless_none (is_statement spot) (fault.TypeMismatch a) r.0;
+      counted = same_count n 1 (unless_none (nat_eq n 1) (fault.WrongArgumentCount a) r.1);
+    })
+callee_sound spot (Callable s) a n e = a_helper (helper_sound spot s a n e)
 callee_sound spot (Current s) a n e = absurd (some_fault (fault.Recursion a) [] (none_split (helper_faults spot s a n) (fault.Recursion a ∷ []) e).1)
 callee_sound spot (Bound k) a n e = absurd (some_fault (fault.TypeMismatch a) [] e)
 callee_sound spot Unknown a n e = absurd (some_fault (fault.UnknownName a) [] e)
@@ -268,10 +285,24 @@ calls_complete c _ es _ _ (rule.atomic_alone {f = f} {p = p} b e w) h =
 
 -- the own faults of a call
 
+pub record IsFaultless (c : Context) (spot : Spot) (m : Meaning) (a : ℕ) (es : Terms) : Type 0 where
+  pub callee : IsCallee spot m (count es)
+  pub arguments : least (arguments_faults (inside_call m c) (wanted m) es) ≡ None
+  pub flags : least (barrier_faults m es) ≡ None
+
+pub own_sound : (c : Context) (spot : Spot) (m : Meaning) (a : ℕ) (es : Terms) → least (call_faults c spot m a es) ≡ None → IsFaultless c spot m a es
+own_sound c spot m a es n =
+    let callee = callee_faults spot m a (count es) in
+    let arguments = arguments_faults (inside_call m c) (wanted m) es in
+    let r = none_split (callee ++ arguments) (barrier_faults m es) n in
+    let s = none_split callee arguments r.0 in
+    record { callee = callee_sound spot m a (count es) s.0; arguments = s.1; flags = r.1 }
+
 pub own_complete : (c : Context) (spot : Spot) (f : BuiltIn) (a : ℕ) (es : Terms) (r : Option VariableType) → IsCalled c f es r → (is_statement spot || has_value f) ≡ true
     → least (call_faults c spot (BuiltInFunction f) a es) ≡ None
 own_complete c spot f a es r h p =
-    none_joined (callee_faults spot (BuiltInFunction f) a (count es)) (arguments_faults c (wants f) es) (callee_complete spot f a (count es) h.counted p) h.faultless
+    none_joined (callee_faults spot (BuiltInFunction f) a (count es) ++ arguments_faults c (wants f) es) []
+    (none_joined (callee_faults spot (BuiltInFunction f) a (count es)) (arguments_faults c (wants f) es) (callee_complete spot f a (count es) h.counted p) h.faultless) refl
 
 pub has_some : (f : BuiltIn) (k j : VariableType) → given f k ≡ Some j → (has_value f ≡ true) × (call_kind (BuiltInFunction f) k ≡ j)
 has_some f k j e = by (has_value f) refl e

@@ -1,5 +1,5 @@
 -- An expression is typed exactly where none of its places has a fault.
-use Rattle.std.proofs.Common.{◌≡◌, ℕ, true, ◌||◌, List, [], ◌∷◌, ◌++◌, Option, None, Some, inl, inr, true≢false, refl, sym, ap, ◌∙◌, subst}
+use Rattle.std.proofs.Common.{◌≡◌, ℕ, true, ◌||◌, List, [], ◌∷◌, ◌++◌, Option, None, Some, true≢false, refl, sym, ap, ◌∙◌, subst}
 use Rattle.clnum.specs.declared.int_type.IntType.{IntType}
 use Rattle.clnum.specs.declared.operators.UnaryOperator.{UnaryOperator}
 use Rattle.clmodel.specs.declared.setup.BuiltIn.{BuiltIn}
@@ -13,10 +13,10 @@ use Rattle.clmodel.specs.Typing.Context.{Context, meaning, Bound, BuiltInFunctio
 use Rattle.clmodel.specs.Typing.Least.{least, first, node}
 use Rattle.clmodel.specs.Typing.Rules as rule
 use Rattle.clmodel.specs.Typing.Rules.{Calls, Types, TypesAll, count}
-use Rattle.clmodel.specs.Typing.Faults.{start, integer_faults, pointer_faults, name_faults, front_faults, operand_faults, Spot, Inside, is_statement, has_value, callee_faults, wanted, name_kind, element_kind, unary_type, binary_type, choice_type, call_kind, kind_of, last_kind, arguments_faults, call_faults, term_faults, terms_faults}
+use Rattle.clmodel.specs.Typing.Faults.{start, integer_faults, pointer_faults, name_faults, front_faults, operand_faults, Spot, Inside, is_statement, has_value, wanted, name_kind, element_kind, unary_type, binary_type, choice_type, call_kind, kind_of, last_kind, arguments_faults, inside_call, call_faults, term_faults, terms_faults}
 use Rattle.cltypes.proofs.Splits.{none_split, places_split, places_joined, node_split, node_joined, one_place, some_fault}
 use Rattle.cltypes.proofs.Tables.{integer_sound, name_sound, front_sound, operands_sound, operands_complete}
-use Rattle.cltypes.proofs.CallTables.{kinds_of, IsBuiltIn, callee_sound, calls_sound, IsCalled, calls_complete, own_complete, has_some, some_given}
+use Rattle.cltypes.proofs.CallTables.{kinds_of, IsBuiltIn, a_built_in, a_barrier, a_helper, own_sound, calls_sound, IsCalled, calls_complete, own_complete, has_some, some_given}
 
 -- typed where there is no fault
 
@@ -62,14 +62,16 @@ built_in_sound c spot a x es f p all n =
     subst (λ v. Types c (tree.Call a x es) (call_kind v (last_kind c es))) (sym f.is)
     (rule.call f.is all (subst (λ o. Calls f.function (kinds_of c es) o) (some_given f.function (last_kind c es) p) g))
 
-call_sound : (c : Context) (a x : ℕ) (es : Terms) → TypesAll c es (kinds_of c es) → least (call_faults c Inside (meaning c x) a es) ≡ None
-    → Types c (tree.Call a x es) (call_kind (meaning c x) (last_kind c es))
+call_sound : (c : Context) (a x : ℕ) (es : Terms) → TypesAll (inside_call (meaning c x) c) es (kinds_of (inside_call (meaning c x) c) es)
+    → least (call_faults c Inside (meaning c x) a es) ≡ None → Types c (tree.Call a x es) (call_kind (meaning c x) (last_kind c es))
 call_sound c a x es all n =
     let m = meaning c x in
-    let s = none_split (callee_faults Inside m a (count es)) (arguments_faults c (wanted m) es) n in
-    elim (callee_sound Inside m a (count es) s.0) [
-      | inl f ↦ built_in_sound c Inside a x es f f.placed all s.1
-      | inr h ↦ absurd (true≢false (sym h.placed))
+    let s = own_sound c Inside m a es n in
+    elim s.callee [
+      | a_built_in f ↦ let same : inside_call m c ≡ c = ap (λ z. inside_call z c) f.is in
+          built_in_sound c Inside a x es f f.placed (subst (λ d. TypesAll d es (kinds_of d es)) same all) (subst (λ d. least (arguments_faults d (wanted m) es) ≡ None) same s.arguments)
+      | a_barrier b ↦ absurd (true≢false (sym b.placed))
+      | a_helper h ↦ absurd (true≢false (sym h.placed))
     ]
 
 mutual
@@ -86,8 +88,9 @@ mutual
       let r = node_split (term_faults c e) (pointer_faults (kind_of c e) (start e)) n in
       dereference_sound c a (start e) e (kind_of c e) (term_sound c e r.0) r.1
   term_sound c (tree.Call a x es) n =
-      let r = node_split (terms_faults c es) (call_faults c Inside (meaning c x) a es) n in
-      call_sound c a x es (terms_sound c es r.0) r.1
+      let d = inside_call (meaning c x) c in
+      let r = node_split (terms_faults d es) (call_faults c Inside (meaning c x) a es) n in
+      call_sound c a x es (terms_sound d es r.0) r.1
   term_sound c (tree.Unary a op e) n =
       let r = node_split (term_faults c e) (integer_faults (kind_of c e) (start e)) n in
       unary_sound c a (start e) op e (kind_of c e) (term_sound c e r.0) r.1
@@ -132,10 +135,10 @@ chosen c e d f s t u x y z = rw (x, y, z) refl
 
 pub call_complete : (c : Context) (spot : Spot) (a x : ℕ) (f : BuiltIn) (es : Terms) (ks : List VariableType) (r : Option VariableType)
     → meaning c x ≡ BuiltInFunction f → AreOf c es ks → IsCalled c f es r → (is_statement spot || has_value f) ≡ true
-    → first (node (terms_faults c es) (call_faults c spot (meaning c x) a es)) ≡ None
+    → first (node (terms_faults (inside_call (meaning c x) c) es) (call_faults c spot (meaning c x) a es)) ≡ None
 call_complete c spot a x f es ks r m h g p =
-    node_joined (terms_faults c es) (call_faults c spot (meaning c x) a es) h.faultless
-    (subst (λ v. least (call_faults c spot v a es) ≡ None) (sym m) (own_complete c spot f a es r g p))
+    subst (λ v. first (node (terms_faults (inside_call v c) es) (call_faults c spot v a es)) ≡ None) (sym m)
+    (node_joined (terms_faults c es) (call_faults c spot (BuiltInFunction f) a es) h.faultless (own_complete c spot f a es r g p))
 
 mutual
   pub term_complete : (c : Context) (e : Term) (k : VariableType) → Types c e k → IsOf c e k

@@ -1,5 +1,5 @@
 -- A statement is typed exactly where none of its places has a fault.
-use Rattle.std.proofs.Common.{◌≡◌, ℕ, true, not, [], ◌∷◌, ◌++◌, Option, None, Some, is_some, inl, inr, refl, sym, ap, subst}
+use Rattle.std.proofs.Common.{◌≡◌, ℕ, true, not, [], ◌∷◌, ◌++◌, Option, None, Some, is_some, refl, sym, ap, subst}
 use Rattle.clnum.specs.declared.int_type.IntType.{IntType}
 use Rattle.clnum.specs.declared.operators.BinaryOperator.{BinaryOperator}
 use Rattle.clmodel.specs.declared.tree.VariableType.{VariableType}
@@ -11,11 +11,12 @@ use Rattle.clmodel.specs.Typing.Context.{Context, meaning, is_free, bind, enter,
 use Rattle.clmodel.specs.Typing.Least.{least, first, node}
 use Rattle.clmodel.specs.Typing.Rules as rule
 use Rattle.clmodel.specs.Typing.Rules.{count, is_writable, Passes, Types, TypesPlace, Gives, IsCondition, IsTyped, IsTypedPart, AreTyped}
-use Rattle.clmodel.specs.Typing.Faults.{unless, start, place_start, integer_faults, pointer_faults, passing_faults, name_faults, front_faults, assigning_faults, WholeStatement, callee_faults, wanted, name_kind, element_kind, kind_of, arguments_faults, call_faults, term_faults, terms_faults, store_faults, target_faults, place_faults, place_kind, value_faults, void_faults, declared_faults, initial_faults, assignment_faults, condition_parts, condition_faults, return_faults, faults, part_faults, row_faults}
+use Rattle.clmodel.specs.Typing.Faults.{unless, start, place_start, integer_faults, pointer_faults, passing_faults, name_faults, front_faults, assigning_faults, WholeStatement, wanted, name_kind, element_kind, kind_of, arguments_faults, inside_call, barrier_faults, call_faults, term_faults, terms_faults, store_faults, target_faults, place_faults, place_kind, value_faults, void_faults, declared_faults, initial_faults, assignment_faults, condition_parts, condition_faults, return_faults, faults, part_faults, row_faults}
 use Rattle.cltypes_scope.proofs.Least.{earlier_none}
 use Rattle.cltypes.proofs.Splits.{none_split, none_joined, places_split, places_joined, node_split, node_joined, one_place, place_then, some_fault, unless_none, unless_true}
 use Rattle.cltypes.proofs.Tables.{integer_sound, name_sound, front_sound, passing_sound, passing_complete, assigning_sound, assigning_complete, store_sound, store_complete}
-use Rattle.cltypes.proofs.CallTables.{callee_sound, calls_sound, calls_complete}
+use Rattle.cltypes.proofs.CallTables.{a_built_in, a_barrier, a_helper, own_sound, calls_sound, calls_complete}
+use Rattle.cltypes.proofs.Barriers.{flags_sound, barrier_complete}
 use Rattle.cltypes.proofs.Exact.{as_integer, term_sound, terms_sound, term_complete, terms_complete, call_complete}
 use Rattle.cltypes.proofs.Helpers.{some_type, helper_sound, helper_faultless, value_sound, value_complete}
 
@@ -51,14 +52,17 @@ assignment_sound c a p (Some op) e t n o =
     let s = assigning_sound op (place_kind c p) (kind_of c e) (place_start p) (start e) r.1 in
     rule.assign_by t (value_sound c e n r.0) s.operates s.passes
 
-call_sound : (c : Context) (a x : ℕ) (es : Terms) → first (node (terms_faults c es) (call_faults c WholeStatement (meaning c x) a es)) ≡ None → IsTyped c (tree.CallOnly a x es)
+call_sound : (c : Context) (a x : ℕ) (es : Terms) → first (node (terms_faults (inside_call (meaning c x) c) es) (call_faults c WholeStatement (meaning c x) a es)) ≡ None → IsTyped c (tree.CallOnly a x es)
 call_sound c a x es n =
     let m = meaning c x in
-    let r = node_split (terms_faults c es) (call_faults c WholeStatement m a es) n in
-    let s = none_split (callee_faults WholeStatement m a (count es)) (arguments_faults c (wanted m) es) r.1 in
-    elim (callee_sound WholeStatement m a (count es) s.0) [
-      | inl f ↦ rule.call_only f.is (terms_sound c es r.0) (calls_sound c f.function es f.counted (subst (λ v. least (arguments_faults c (wanted v) es) ≡ None) f.is s.1))
-      | inr h ↦ rule.call_helper (helper_sound c WholeStatement x es h r.0 s.1)
+    let r = node_split (terms_faults (inside_call m c) es) (call_faults c WholeStatement m a es) n in
+    let s = own_sound c WholeStatement m a es r.1 in
+    elim s.callee [
+      | a_built_in f ↦ rule.call_only f.is (terms_sound c es (subst (λ v. first (terms_faults (inside_call v c) es) ≡ None) f.is r.0))
+          (calls_sound c f.function es f.counted (subst (λ v. least (arguments_faults (inside_call v c) (wanted v) es) ≡ None) f.is s.arguments))
+      | a_barrier b ↦ rule.barrier b.is (flags_sound es b.counted (subst (λ v. least (barrier_faults v es) ≡ None) b.is s.flags)).1
+      | a_helper h ↦ let same : inside_call m c ≡ c = ap (λ z. inside_call z c) h.is in
+          rule.call_helper (helper_sound c WholeStatement x es h (subst (λ d. first (terms_faults d es) ≡ None) same r.0) (subst (λ d. least (arguments_faults d (wanted m) es) ≡ None) same s.arguments))
     ]
 
 -- a condition, as a part and by what is wanted of it
@@ -220,6 +224,7 @@ mutual
   complete _ _ (rule.call_only {c = c} {a = a} {x = x} {f = f} {es = es} {ks = ks} {r = r} m h g) =
       let s = terms_complete c es ks h in
       call_complete c WholeStatement a x f es ks r m s (calls_complete c f es ks r g s.same) refl
+  complete _ _ (rule.barrier {c = c} {a = a} {x = x} {es = es} {f = f} m h) = barrier_complete c a x es f m h
   complete _ _ (rule.call_helper {c = c} {a = a} {x = x} {es = es} {s = s} h) = helper_faultless c WholeStatement a x es s refl h
   complete _ _ (rule.if {c = c} {e = e} {s = s} {t = t} h k) =
       let r = integer_complete c e t h in

@@ -1,5 +1,5 @@
 -- Calls of helper functions, and what is assigned, are typed exactly where they have no fault.
-use Rattle.std.proofs.Common.{◌≡◌, ℕ, ◌<◌, ◌≤◌, true, List, [], ◌∷◌, length, map, option_map, Option, None, Some, is_some, inl, inr, refl, sym, ap, ◌∙◌, subst, arith}
+use Rattle.std.proofs.Common.{◌≡◌, ℕ, ◌<◌, ◌≤◌, true, List, [], ◌∷◌, ◌++◌, length, map, option_map, Option, None, Some, is_some, true≢false, refl, sym, ap, ◌∙◌, subst, arith}
 use Prim.Native.Nat.{zero, suc}
 use Rattle.std.specs.List.{slice_get}
 use Rattle.std.proofs.lemmas.Option.{slice_get-map}
@@ -12,10 +12,10 @@ use Rattle.clmodel.specs.Typing.Context.{Context, Signature, meaning, Callable}
 use Rattle.clmodel.specs.Typing.Least.{least, first, node}
 use Rattle.clmodel.specs.Typing.Rules as rule
 use Rattle.clmodel.specs.Typing.Rules.{count, Passes, Types, AreGiven, CallsHelper, Gives}
-use Rattle.clmodel.specs.Typing.Faults.{start, Spot, RightSide, takes_helper, ForParameter, argument_faults, passing_faults, callee_faults, wanted, call_kind, result_kind, kind_of, last_kind, arguments_faults, call_faults, term_faults, terms_faults, value_faults, gives_value, void_faults}
+use Rattle.clmodel.specs.Typing.Faults.{start, Spot, RightSide, takes_helper, ForParameter, argument_faults, passing_faults, callee_faults, wanted, call_kind, result_kind, kind_of, last_kind, arguments_faults, inside_call, call_faults, term_faults, terms_faults, value_faults, gives_value, void_faults}
 use Rattle.cltypes.proofs.Splits.{none_split, none_joined, places_split, places_joined, node_split, node_joined, unless_none, unless_true}
 use Rattle.cltypes.proofs.Tables.{passing_sound, passing_complete}
-use Rattle.cltypes.proofs.CallTables.{IsHelper, callee_sound, helper_complete, calls_complete, has_some}
+use Rattle.cltypes.proofs.CallTables.{IsHelper, a_built_in, a_barrier, a_helper, own_sound, helper_complete, calls_complete, has_some}
 use Rattle.cltypes.proofs.Exact.{term_sound, terms_sound, term_complete, terms_complete, built_in_sound, call_complete}
 
 -- arguments for parameters
@@ -64,12 +64,14 @@ helper_sound c spot x es h n o = record {
 }
 
 pub helper_faultless : (c : Context) (spot : Spot) (a x : ℕ) (es : Terms) (s : Signature) → takes_helper spot ≡ true → CallsHelper c x es s
-    → first (node (terms_faults c es) (call_faults c spot (meaning c x) a es)) ≡ None
+    → first (node (terms_faults (inside_call (meaning c x) c) es) (call_faults c spot (meaning c x) a es)) ≡ None
 helper_faultless c spot a x es s p h =
     let r = given_complete c s.parameters es h.arguments in
-    node_joined (terms_faults c es) (call_faults c spot (meaning c x) a es) r.0
-    (subst (λ v. least (call_faults c spot v a es) ≡ None) (sym h.meaning)
-    (none_joined (callee_faults spot (Callable s) a (count es)) (arguments_faults c (map ForParameter s.parameters) es) (helper_complete spot s a (count es) p h.is_helper h.count) r.1))
+    let callee = callee_faults spot (Callable s) a (count es) in
+    let arguments = arguments_faults c (map ForParameter s.parameters) es in
+    subst (λ v. first (node (terms_faults (inside_call v c) es) (call_faults c spot v a es)) ≡ None) (sym h.meaning)
+    (node_joined (terms_faults c es) (call_faults c spot (Callable s) a es) r.0
+    (none_joined (callee ++ arguments) [] (none_joined callee arguments (helper_complete spot s a (count es) p h.is_helper h.count) r.1) refl))
 
 -- what is assigned, or initialises a variable
 
@@ -86,12 +88,17 @@ called_value : (c : Context) (a x : ℕ) (es : Terms) → first (value_faults c 
     → Gives c (tree.Call a x es) (call_kind (meaning c x) (last_kind c es))
 called_value c a x es n v =
     let m = meaning c x in
-    let r = node_split (terms_faults c es) (call_faults c RightSide m a es) n in
-    let s = none_split (callee_faults RightSide m a (count es)) (arguments_faults c (wanted m) es) r.1 in
-    elim (callee_sound RightSide m a (count es) s.0) [
-      | inl f ↦ rule.expression (built_in_sound c RightSide a x es f f.placed (terms_sound c es r.0) s.1)
-      | inr h ↦ subst (λ z. Gives c (tree.Call a x es) (call_kind z (last_kind c es))) (sym h.is)
-          (gives_helper c a x es h.signature (helper_sound c RightSide x es h r.0 s.1)
+    let r = node_split (terms_faults (inside_call m c) es) (call_faults c RightSide m a es) n in
+    let s = own_sound c RightSide m a es r.1 in
+    elim s.callee [
+      | a_built_in f ↦ let same : inside_call m c ≡ c = ap (λ z. inside_call z c) f.is in
+          rule.expression (built_in_sound c RightSide a x es f f.placed (terms_sound c es (subst (λ d. first (terms_faults d es) ≡ None) same r.0))
+          (subst (λ d. least (arguments_faults d (wanted m) es) ≡ None) same s.arguments))
+      | a_barrier b ↦ absurd (true≢false (sym b.placed))
+      | a_helper h ↦ let same : inside_call m c ≡ c = ap (λ z. inside_call z c) h.is in
+          subst (λ z. Gives c (tree.Call a x es) (call_kind z (last_kind c es))) (sym h.is)
+          (gives_helper c a x es h.signature
+          (helper_sound c RightSide x es h (subst (λ d. first (terms_faults d es) ≡ None) same r.0) (subst (λ d. least (arguments_faults d (wanted m) es) ≡ None) same s.arguments))
           (ap gives_value (sym h.is) ∙ unless_none (gives_value m) (fault.TypeMismatch a) v))
     ]
 

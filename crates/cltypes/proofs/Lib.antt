@@ -2,6 +2,7 @@ pub mod Splits
 pub mod Tables
 pub mod CallTables
 pub mod Exact
+pub mod Barriers
 pub mod Helpers
 pub mod ExactStatements
 pub mod Programs

@@ -13,7 +13,7 @@ use Rattle.clmodel.specs.declared.tree.PointerType.{PointerType}
 use Rattle.clmodel.specs.declared.tree.VariableType.{VariableType}
 use Rattle.clmodel.specs.declared.tree.VariableType.TheVariants.{Integer as Number, Pointer}
 use Rattle.clmodel.specs.declared.type_fault.TypeFault.TheVariants as fault
-use Rattle.clmodel.specs.Typing.Context.{Meaning, Bound, Callable, Current, BuiltInFunction, Unknown}
+use Rattle.clmodel.specs.Typing.Context.{Meaning, Bound, Callable, Current, BuiltInFunction, Barrier, Unknown}
 use Rattle.clmodel.specs.Typing.Least.{least}
 use Rattle.clmodel.specs.Typing.Rules as rule
 use Rattle.clmodel.specs.Typing.Rules.{is_writable, Passes, Operates}
@@ -75,6 +75,7 @@ name_sound (Bound k) a e = refl
 name_sound (Callable s) a e = absurd (some_fault (fault.TypeMismatch a) [] e)
 name_sound (Current s) a e = absurd (some_fault (fault.TypeMismatch a) [] e)
 name_sound (BuiltInFunction f) a e = absurd (some_fault (fault.TypeMismatch a) [] e)
+name_sound Barrier a e = absurd (some_fault (fault.TypeMismatch a) [] e)
 name_sound Unknown a e = absurd (some_fault (fault.UnknownName a) [] e)
 
 pub front_sound : (m : Meaning) (a : ℕ) → least (front_faults m a) ≡ None → (p : PointerType) × (m ≡ Bound (Pointer p))
@@ -83,6 +84,7 @@ front_sound (Bound (Number t)) a e = absurd (some_fault (fault.TypeMismatch a) [
 front_sound (Callable s) a e = absurd (some_fault (fault.TypeMismatch a) [] e)
 front_sound (Current s) a e = absurd (some_fault (fault.TypeMismatch a) [] e)
 front_sound (BuiltInFunction f) a e = absurd (some_fault (fault.TypeMismatch a) [] e)
+front_sound Barrier a e = absurd (some_fault (fault.TypeMismatch a) [] e)
 front_sound Unknown a e = absurd (some_fault (fault.UnknownName a) [] e)
 
 -- a value given

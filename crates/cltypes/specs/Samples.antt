@@ -10,7 +10,7 @@ use Rattle.clmodel.specs.declared.tree.Parameter.{Parameter}
 use Rattle.clmodel.specs.declared.tree.VariableType.{VariableType}
 use Rattle.clmodel.specs.declared.tree.VariableType.TheVariants as kind
 use Rattle.clmodel.specs.declared.type_fault.TypeFault.{TypeFault}
-use Rattle.clmodel.specs.declared.type_fault.TypeFault.TheVariants.{UnknownName, Redeclared, TypeMismatch, NotAssignable, Recursion, WrongArgumentCount, WrongSpace, AtomicValueUsed, TooManyLoops, TooLarge, MissingReturn}
+use Rattle.clmodel.specs.declared.type_fault.TypeFault.TheVariants.{UnknownName, Redeclared, TypeMismatch, NotAssignable, Recursion, WrongArgumentCount, WrongSpace, BadBarrierFlags, AtomicValueUsed, TooManyLoops, TooLarge, MissingReturn}
 use Rattle.clmodel.specs.Tree.{Term, NoTerm, Number, Variable, Element, ElementAddress, Dereference, Call, Cast, Binary, Choice, Whole, Part, Behind, Stmt, Stmts, NoStmt, then_all, then_stmts, Func, Funcs, NoFunc, ThenFunc, then_funcs, Empty, Block, Declare, DeclareAs, Assign, Step, CallOnly, If, IfElse, While, DoWhile, For, Break, Continue, Return, ReturnValue, Without, With, Always, While_}
 use Rattle.clmodel.specs.Typing.Context.{Context, Signature}
 use Rattle.clmodel.specs.Typing.Least.{first}
@@ -143,7 +143,7 @@ samples =
     -- atomic_inc(w);
     ∷ (only (CallOnly 0 22 (then_all NoTerm (w 11 ∷ []))), Some (TypeMismatch 11))
     -- barrier(1);
-    ∷ (only (CallOnly 0 14 (then_all NoTerm (one 8 ∷ []))), Some (UnknownName 0))
+    ∷ (only (CallOnly 0 14 (then_all NoTerm (one 8 ∷ []))), Some (BadBarrierFlags 8))
     -- a = c;  A const dropped; then a pointer to another type, to another space, and a const added.
     ∷ (only (Assign 0 (Whole 0 27) None (c 4)), Some (NotAssignable 4))
     -- a = w;

@@ -10,6 +10,7 @@ use clnum::{IntType, Value};
 use std::alloc::{AllocError, Global};
 use std::test::Fail;
 
+mod barriers;
 mod spaces;
 
 /// The places of `get_local_id` and `atomic_add` in a table of names.

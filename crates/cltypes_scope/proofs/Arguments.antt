@@ -1,17 +1,19 @@
 -- The arguments of a call, one after the other.
-use Rattle.std.proofs.Common.{◌≡◌, ℕ, ◌+◌, ◌<◌, List, [], ◌∷◌, length, map, take, drop, get_or, Option, None, Some, refl, sym, ap, ◌∙◌, arith}
+use Rattle.std.proofs.Common.{◌≡◌, ℕ, ◌+◌, ◌<◌, List, [], ◌∷◌, length, map, take, drop, get_or, is_some, Option, None, Some, refl, sym, ap, ◌∙◌, arith}
 use Rattle.std.proofs.lemmas.List.{length-take-le}
 use Prim.Native.Nat.{zero, suc}
 use Rattle.std.specs.List.{slice_get}
 use Rattle.clmodel.specs.declared.tree.VariableType.{VariableType}
 use Rattle.clmodel.specs.declared.tree.Expression.{Expression}
 use Rattle.clmodel.specs.declared.type_fault.TypeFault.{TypeFault}
+use Rattle.clmodel.specs.declared.type_fault.TypeFault.TheVariants as fault
+use Rattle.clmodel.specs.Barrier.{fences_of}
 use Rattle.clmodel.specs.Tree.{Terms, NoTerm, ThenTerm, then_all, term, terms}
 use Rattle.clmodel.specs.Typing.Context.{Context}
 use Rattle.clmodel.specs.Typing.Least.{lesser, least, first}
 use Rattle.clmodel.specs.Typing.Rules.{count}
 use Rattle.clmodel.specs.Typing.Faults.{Want, last_kind}
-use Rattle.clmodel.specs.Typing.Faults.{start, argument_faults, kind_of, arguments_faults, term_faults, terms_faults}
+use Rattle.clmodel.specs.Typing.Faults.{unless, start, argument_faults, kind_of, arguments_faults, flags_faults, term_faults, terms_faults}
 use Rattle.cltypes_scope.specs.declared.faults.Operand.{Operand}
 use Rattle.cltypes_scope.specs.Views.{operand_of}
 use Rattle.cltypes_scope.proofs.Least.{least_append}
@@ -61,3 +63,12 @@ arguments_own c ws es i e t last w own one now h g o l p r s n =
 pub arguments_last : (c : Context) (es : List Expression) (i : ℕ) (e : Expression) (t : Operand) → i < length es → e ≡ get_or es i e → t ≡ operand_of c (term e)
     → t.kind ≡ last_kind c (terms (take (i + 1) es))
 arguments_last c es i e t h g p = ap (λ z. z.kind) p ∙ ap (λ z. last_kind c z) (sym (next_argument es i e h g))
+
+-- the flags of a barrier, one argument more
+pub flags_more : (es : List Expression) (i : ℕ) (e : Expression) (own one now : Option TypeFault) → i < length es → e ≡ get_or es i e → own ≡ least (flags_faults (terms (take i es)))
+    → one ≡ least (unless (is_some (fences_of (term e))) (fault.BadBarrierFlags (start (term e)))) → now ≡ lesser own one → now ≡ least (flags_faults (terms (take (i + 1) es)))
+flags_more es i e own one now h g o s n =
+    let before = flags_faults (terms (take i es)) in
+    n ∙ ap (λ z. lesser z one) o ∙ ap (lesser (least before)) s
+    ∙ sym (least_append before (unless (is_some (fences_of (term e))) (fault.BadBarrierFlags (start (term e)))))
+    ∙ ap (λ z. least (flags_faults z)) (sym (next_argument es i e h g))

@@ -5,6 +5,7 @@ use Rattle.std.proofs.lemmas.List.{map-append}
 use Rattle.std.proofs.lemmas.Map.Made.{lookup-map_values}
 use Rattle.std.specs.Map.{lookup}
 use Rattle.std.specs.Option.{option_map}
+use Rattle.clmodel.specs.Barrier.{is_barrier}
 use Rattle.clmodel.specs.BuiltIns.{built_in}
 use Rattle.clmodel.specs.Typing.Context as typing
 use Rattle.clmodel.specs.Typing.Context.{Context, Current, called, function_meaning}
@@ -19,11 +20,11 @@ differs m n h = grind (arith, nat_tests)
 
 -- what a name stands for that isn't this function's
 pub meaning_there : (c : Context) (x : ℕ) (es : List (ℕ × Signature)) (s : Option Signature) → (x ≡ c.current → ⊥) → c.before ≡ seen es → lookup (nat_eq x) es ≡ s
-    → function_meaning c x ≡ called (option_map signature_of s) (built_in x)
+    → function_meaning c x ≡ called (option_map signature_of s) (built_in x) (is_barrier x)
 meaning_there c x es s h e l =
-    ap (λ b. if b then Current c.signature else called (typing.signature_of c.before x) (built_in x)) (differs x c.current h)
-    ∙ ap (λ z. called (typing.signature_of z x) (built_in x)) e
-    ∙ ap (λ z. called z (built_in x)) (lookup-map_values signature_of (nat_eq x) es ∙ ap (option_map signature_of) l)
+    ap (λ b. if b then Current c.signature else called (typing.signature_of c.before x) (built_in x) (is_barrier x)) (differs x c.current h)
+    ∙ ap (λ z. called (typing.signature_of z x) (built_in x) (is_barrier x)) e
+    ∙ ap (λ z. called z (built_in x) (is_barrier x)) (lookup-map_values signature_of (nat_eq x) es ∙ ap (option_map signature_of) l)
 
 is_some_seen : (o : Option Signature) → is_some (option_map signature_of o) ≡ is_some o
 is_some_seen None = refl

@@ -1,3 +1,4 @@
 pub mod Names
+pub mod Fenced
 pub mod Answers
 pub mod Views

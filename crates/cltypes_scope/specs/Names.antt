@@ -4,7 +4,7 @@ use Rattle.clmodel.specs.Typing.Context as typing
 use Rattle.clmodel.specs.Typing.Context.{Context, Scope, with_name}
 use Rattle.cltypes_scope.specs.declared.meaning.Signature.{Signature}
 use Rattle.cltypes_scope.specs.declared.meaning.Meaning.{Meaning}
-use Rattle.cltypes_scope.specs.declared.meaning.Meaning.TheVariants.{Bound, Callable, Current, BuiltInFunction, Unknown}
+use Rattle.cltypes_scope.specs.declared.meaning.Meaning.TheVariants.{Bound, Callable, Current, BuiltInFunction, Barrier, Unknown}
 
 abbrev pub signature_of : Signature → typing.Signature
 signature_of s = record { is_kernel = s.is_kernel; result = s.result; parameters = s.parameters.items }
@@ -14,6 +14,7 @@ meaning_of (Bound kind) = typing.Bound kind
 meaning_of (Callable s) = typing.Callable (signature_of s.now)
 meaning_of (Current s) = typing.Current (signature_of s.now)
 meaning_of (BuiltInFunction f) = typing.BuiltInFunction f
+meaning_of Barrier = typing.Barrier
 meaning_of Unknown = typing.Unknown
 
 -- of no function

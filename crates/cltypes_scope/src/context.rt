@@ -9,6 +9,7 @@ ghost use Rattle.clmodel.specs.Typing.Context.{declared, variable, function_mean
 ghost use Rattle.cltypes_scope.specs.Names.{signature_of, meaning_of, nowhere, with_function, begun, ended, with_loop, left, no_signature};
 
 use crate::meaning::{Meaning, Signature};
+use clmodel::barrier::is_barrier;
 use clmodel::setup::built_in_named;
 use clmodel::tree::VariableType;
 use clnum::IntType;
@@ -163,7 +164,7 @@ impl Context {
         }
     }
 
-    /// What a name stands for that no variable has: a function of the text, or a built-in function.
+    /// What a name stands for that no variable has: a function of the text, a built-in function, or the barrier.
     fn function_meaning(&self, name: u32) -> Meaning<'_>
         ensures { meaning_of result ≡ function_meaning self.now name }
     {
@@ -175,7 +176,11 @@ impl Context {
         }
         match built_in_named(name) {
             Some(function) => Meaning::BuiltInFunction(function),
-            None => Meaning::Unknown,
+            None => if is_barrier(name) {
+                Meaning::Barrier
+            } else {
+                Meaning::Unknown
+            },
         }
     }
 

@@ -5,18 +5,20 @@ ghost use Rattle.std.specs.Prelude.{◌≡◌};
 ghost use Rattle.clmodel.specs.Tree.{Element, ElementAddress, Dereference, Unary, Cast, Binary, Choice, term, terms};
 ghost use Rattle.clmodel.specs.Typing.Context.{meaning};
 ghost use Rattle.clmodel.specs.Typing.Least.{least, first, node};
-ghost use Rattle.clmodel.specs.Typing.Faults.{call_kind, last_kind, call_faults, term_faults, terms_faults, value_faults, gives_value, void_faults};
+ghost use Rattle.clmodel.specs.Typing.Faults.{call_kind, last_kind, inside_call, call_faults, term_faults, terms_faults};
 ghost use Rattle.cltypes_scope.specs.Names.{meaning_of};
+ghost use Rattle.cltypes_scope.specs.Fenced.{names_of};
 ghost use Rattle.cltypes_scope.specs.Answers.{Checks};
 ghost use Rattle.cltypes_scope.specs.Views.{spot_of, operand_of, arguments_of};
 
-use crate::context::Context;
 use crate::faults::{
     Arguments, Operand, Spot, argument_fault, call_fault, choice_fault, element_fault,
     integer_fault, lesser, name_fault, operand_fault, pointer_fault, wanted,
 };
+use crate::flags::flags_fault;
 use crate::kinds::{binary_type, call_kind, choice_type, element_kind, name_kind, unary_type};
 use crate::meaning::Meaning;
+use crate::names::{Names, meaning_among, names_inside};
 use clmodel::tree::{Expression, InfixOperator, VariableType};
 use clmodel::type_fault::TypeFault;
 use clnum::{IntType, UnaryOperator};
@@ -31,69 +33,69 @@ pub fn checked(fault: Option<TypeFault>, kind: VariableType, at: u32) -> Result<
     }
 }
 
-/// An expression's type and where it begins, or its first fault.
+/// An expression's type and where it begins, or its first fault, where these names are known.
 #[cycle(expressions)]
-pub fn check_expression(context: &Context, expression: &Expression) -> Result<Operand, TypeFault>
-    ensures { Checks result (first (term_faults context.now (term expression.now))) (operand_of context.now (term expression.now)) }
+pub fn check_in(names: Names<'_>, expression: &Expression) -> Result<Operand, TypeFault>
+    ensures { Checks result (first (term_faults (names_of names.entry) (term expression.now))) (operand_of (names_of names.entry) (term expression.now)) }
 {
     match expression {
         Expression::Number { at, value } => checked(None, VariableType::Integer(value.kind()), *at),
         Expression::Variable { at, name } => {
-            let meaning = context.meaning(*name);
+            let meaning = meaning_among(names, *name);
             checked(name_fault(meaning, *at), name_kind(meaning), *at)
         }
-        Expression::Element { at, name, index } => check_element(context, *at, *name, index),
+        Expression::Element { at, name, index } => check_element(names, *at, *name, index),
         Expression::ElementAddress {
             at,
             name_at,
             name,
             index,
-        } => check_address(context, *at, *name_at, *name, index),
-        Expression::Dereference { at, pointer } => check_dereference(context, *at, pointer),
+        } => check_address(names, *at, *name_at, *name, index),
+        Expression::Dereference { at, pointer } => check_dereference(names, *at, pointer),
         Expression::Call {
             at,
             name,
             arguments,
-        } => check_call(context, Spot::Inside, *at, *name, arguments),
+        } => check_call_in(names, Spot::Inside, *at, *name, arguments),
         Expression::Unary {
             at,
             operator,
             operand,
-        } => check_unary(context, *at, *operator, operand),
+        } => check_unary(names, *at, *operator, operand),
         Expression::Cast {
             at,
             target,
             operand,
-        } => check_cast(context, *at, *target, operand),
+        } => check_cast(names, *at, *target, operand),
         Expression::Binary {
             at,
             operator,
             left,
             right,
-        } => check_binary(context, *at, *operator, left, right),
+        } => check_binary(names, *at, *operator, left, right),
         Expression::Choice {
             at,
             condition,
             chosen,
             otherwise,
-        } => check_choice(context, *at, condition, chosen, otherwise),
+        } => check_choice(names, *at, condition, chosen, otherwise),
     }
 }
 
 /// An element, `name[index]`.
 #[cycle(expressions)]
 fn check_element(
-    context: &Context,
+    names: Names<'_>,
     at: u32,
     name: u32,
     index: &Expression,
 ) -> Result<Operand, TypeFault>
-    ensures { let e = Element at name (term index.now) in Checks result (first (term_faults context.now e)) (operand_of context.now e) }
+    ensures { let e = Element at name (term index.now) in Checks result (first (term_faults (names_of names.entry) e)) (operand_of (names_of names.entry) e) }
 {
-    match check_expression(context, index) {
+    match check_in(names, index) {
         Err(fault) => Err(fault),
         Ok(index) => {
-            let meaning = context.meaning(name);
+            let meaning = meaning_among(names, name);
             checked(
                 element_fault(meaning, at, index),
                 element_kind(name_kind(meaning)),
@@ -106,18 +108,18 @@ fn check_element(
 /// An element's address, `&name[index]`.
 #[cycle(expressions)]
 fn check_address(
-    context: &Context,
+    names: Names<'_>,
     at: u32,
     name_at: u32,
     name: u32,
     index: &Expression,
 ) -> Result<Operand, TypeFault>
-    ensures { let e = ElementAddress at name_at name (term index.now) in Checks result (first (term_faults context.now e)) (operand_of context.now e) }
+    ensures { let e = ElementAddress at name_at name (term index.now) in Checks result (first (term_faults (names_of names.entry) e)) (operand_of (names_of names.entry) e) }
 {
-    match check_expression(context, index) {
+    match check_in(names, index) {
         Err(fault) => Err(fault),
         Ok(index) => {
-            let meaning = context.meaning(name);
+            let meaning = meaning_among(names, name);
             checked(
                 element_fault(meaning, name_at, index),
                 name_kind(meaning),
@@ -129,10 +131,10 @@ fn check_address(
 
 /// What a pointer points to.
 #[cycle(expressions)]
-fn check_dereference(context: &Context, at: u32, pointer: &Expression) -> Result<Operand, TypeFault>
-    ensures { let e = Dereference at (term pointer.now) in Checks result (first (term_faults context.now e)) (operand_of context.now e) }
+fn check_dereference(names: Names<'_>, at: u32, pointer: &Expression) -> Result<Operand, TypeFault>
+    ensures { let e = Dereference at (term pointer.now) in Checks result (first (term_faults (names_of names.entry) e)) (operand_of (names_of names.entry) e) }
 {
-    match check_expression(context, pointer) {
+    match check_in(names, pointer) {
         Err(fault) => Err(fault),
         Ok(pointer) => checked(pointer_fault(pointer), element_kind(pointer.kind), at),
     }
@@ -140,23 +142,33 @@ fn check_dereference(context: &Context, at: u32, pointer: &Expression) -> Result
 
 /// A call at a spot.
 #[cycle(expressions)]
-pub fn check_call(
-    context: &Context,
+pub fn check_call_in(
+    names: Names<'_>,
     spot: Spot,
     at: u32,
     name: u32,
     arguments: &[Expression],
 ) -> Result<Operand, TypeFault>
-    ensures { let c = context.now in
+    ensures { let c = names_of names.entry in
         let m = meaning c name in
         let es = terms arguments.now in
-        Checks result (first (node (terms_faults c es) (call_faults c (spot_of spot) m at es))) (record { kind = call_kind m (last_kind c es); at = at }) }
+        Checks
+        result
+        (first (node (terms_faults (inside_call m c) es) (call_faults c (spot_of spot) m at es)))
+        (record { kind = call_kind m (last_kind c es); at = at }) }
 {
-    let meaning = context.meaning(name);
-    match check_arguments(context, meaning, arguments) {
+    let meaning = meaning_among(names, name);
+    match check_arguments(names_inside(names, meaning), meaning, arguments) {
         Err(fault) => Err(fault),
         Ok(given) => checked(
-            call_fault(spot, meaning, at, arguments.len(), given),
+            call_fault(
+                spot,
+                meaning,
+                at,
+                arguments.len(),
+                given,
+                flags_fault(meaning, arguments),
+            ),
             call_kind(meaning, given.last),
             at,
         ),
@@ -166,14 +178,14 @@ pub fn check_call(
 /// An operator before an operand.
 #[cycle(expressions)]
 fn check_unary(
-    context: &Context,
+    names: Names<'_>,
     at: u32,
     operator: UnaryOperator,
     operand: &Expression,
 ) -> Result<Operand, TypeFault>
-    ensures { let e = Unary at operator (term operand.now) in Checks result (first (term_faults context.now e)) (operand_of context.now e) }
+    ensures { let e = Unary at operator (term operand.now) in Checks result (first (term_faults (names_of names.entry) e)) (operand_of (names_of names.entry) e) }
 {
-    match check_expression(context, operand) {
+    match check_in(names, operand) {
         Err(fault) => Err(fault),
         Ok(operand) => checked(
             integer_fault(operand),
@@ -186,14 +198,14 @@ fn check_unary(
 /// A cast.
 #[cycle(expressions)]
 fn check_cast(
-    context: &Context,
+    names: Names<'_>,
     at: u32,
     target: IntType,
     operand: &Expression,
 ) -> Result<Operand, TypeFault>
-    ensures { let e = Cast at target (term operand.now) in Checks result (first (term_faults context.now e)) (operand_of context.now e) }
+    ensures { let e = Cast at target (term operand.now) in Checks result (first (term_faults (names_of names.entry) e)) (operand_of (names_of names.entry) e) }
 {
-    match check_expression(context, operand) {
+    match check_in(names, operand) {
         Err(fault) => Err(fault),
         Ok(operand) => checked(integer_fault(operand), VariableType::Integer(target), at),
     }
@@ -202,17 +214,17 @@ fn check_cast(
 /// An operator between two operands.
 #[cycle(expressions)]
 fn check_binary(
-    context: &Context,
+    names: Names<'_>,
     at: u32,
     operator: InfixOperator,
     left: &Expression,
     right: &Expression,
 ) -> Result<Operand, TypeFault>
-    ensures { let e = Binary at operator (term left.now) (term right.now) in Checks result (first (term_faults context.now e)) (operand_of context.now e) }
+    ensures { let e = Binary at operator (term left.now) (term right.now) in Checks result (first (term_faults (names_of names.entry) e)) (operand_of (names_of names.entry) e) }
 {
-    match check_expression(context, left) {
+    match check_in(names, left) {
         Err(fault) => Err(fault),
-        Ok(left) => match check_expression(context, right) {
+        Ok(left) => match check_in(names, right) {
             Err(fault) => Err(fault),
             Ok(right) => checked(
                 operand_fault(operator, left, right),
@@ -226,20 +238,20 @@ fn check_binary(
 /// `condition ? chosen : otherwise`.
 #[cycle(expressions)]
 fn check_choice(
-    context: &Context,
+    names: Names<'_>,
     at: u32,
     condition: &Expression,
     chosen: &Expression,
     otherwise: &Expression,
 ) -> Result<Operand, TypeFault>
     ensures { let e = Choice at (term condition.now) (term chosen.now) (term otherwise.now) in
-        Checks result (first (term_faults context.now e)) (operand_of context.now e) }
+        Checks result (first (term_faults (names_of names.entry) e)) (operand_of (names_of names.entry) e) }
 {
-    match check_expression(context, condition) {
+    match check_in(names, condition) {
         Err(fault) => Err(fault),
-        Ok(condition) => match check_expression(context, chosen) {
+        Ok(condition) => match check_in(names, chosen) {
             Err(fault) => Err(fault),
-            Ok(chosen) => match check_expression(context, otherwise) {
+            Ok(chosen) => match check_in(names, otherwise) {
                 Err(fault) => Err(fault),
                 Ok(otherwise) => checked(
                     choice_fault(condition, chosen, otherwise),
@@ -253,20 +265,20 @@ fn check_choice(
 
 /// The least of the faults that the arguments of a call have as such, and the type of the last one; or the first fault inside them.
 #[cycle(expressions)]
-pub fn check_arguments(
-    context: &Context,
+fn check_arguments(
+    names: Names<'_>,
     meaning: Meaning<'_>,
     arguments: &[Expression],
 ) -> Result<Arguments, TypeFault>
     ensures { Checks
         result
-        (first (terms_faults context.now (terms arguments.now)))
-        (arguments_of context.now (meaning_of meaning.entry) (terms arguments.now)) }
+        (first (terms_faults (names_of names.entry) (terms arguments.now)))
+        (arguments_of (names_of names.entry) (meaning_of meaning.entry) (terms arguments.now)) }
 {
     let mut least = None;
     let mut last = VariableType::Integer(IntType::Int);
     for (index, argument) in arguments.iter().enumerate() {
-        match check_expression(context, argument) {
+        match check_in(names, argument) {
             Err(fault) => return Err(fault),
             Ok(argument) => {
                 least = lesser(
@@ -278,43 +290,4 @@ pub fn check_arguments(
         }
     }
     Ok(Arguments { fault: least, last })
-}
-
-/// The type of what is assigned, or initialises a variable, and where it begins; or its first fault. A function of the text can be
-/// called there.
-pub fn check_value(context: &Context, value: &Expression) -> Result<Operand, TypeFault>
-    ensures { Checks result (first (value_faults context.now (term value.now))) (operand_of context.now (term value.now)) }
-{
-    match value {
-        Expression::Call {
-            at,
-            name,
-            arguments,
-        } => check_call(context, Spot::RightSide, *at, *name, arguments),
-        _ => check_expression(context, value),
-    }
-}
-
-/// Whether what is called has a value.
-fn gives_value(meaning: Meaning<'_>) -> bool
-    ensures { result ≡ gives_value (meaning_of meaning.entry) }
-{
-    match meaning {
-        Meaning::Callable(signature) => signature.result.is_some(),
-        _ => true,
-    }
-}
-
-/// What is assigned, or initialises a variable, where it is the call of a function that gives no value.
-pub fn void_fault(context: &Context, value: &Expression) -> Option<TypeFault>
-    ensures { result ≡ least (void_faults context.now (term value.now)) }
-{
-    match value {
-        Expression::Call { at, name, .. } => if gives_value(context.meaning(*name)) {
-            None
-        } else {
-            Some(TypeFault::TypeMismatch { at: *at })
-        },
-        _ => None,
-    }
 }

@@ -192,9 +192,10 @@ pub fn name_fault(meaning: Meaning<'_>, at: u32) -> Option<TypeFault>
 {
     match meaning {
         Meaning::Bound(_) => None,
-        Meaning::Callable(_) | Meaning::Current(_) | Meaning::BuiltInFunction(_) => Some(
-            TypeFault::TypeMismatch { at },
-        ),
+        Meaning::Callable(_)
+        | Meaning::Current(_)
+        | Meaning::BuiltInFunction(_)
+        | Meaning::Barrier => Some(TypeFault::TypeMismatch { at }),
         Meaning::Unknown => Some(TypeFault::UnknownName { at }),
     }
 }
@@ -337,6 +338,19 @@ fn built_in_fault(spot: Spot, function: BuiltIn, at: u32, arguments: usize) -> O
     }
 }
 
+/// The barrier, called at `at` with so many arguments.
+fn barrier_fault(spot: Spot, at: u32, arguments: usize) -> Option<TypeFault>
+    ensures { result ≡ least (callee_faults (spot_of spot) typing.Barrier at arguments) }
+{
+    if spot != Spot::WholeStatement {
+        Some(TypeFault::TypeMismatch { at })
+    } else if arguments != 1 {
+        Some(TypeFault::WrongArgumentCount { at })
+    } else {
+        None
+    }
+}
+
 /// What is called at `at`, with so many arguments.
 #[tactic(auto, using(crate::proofs::Least::least_append))]
 fn callee_fault(spot: Spot, meaning: Meaning<'_>, at: u32, arguments: usize) -> Option<TypeFault>
@@ -344,6 +358,7 @@ fn callee_fault(spot: Spot, meaning: Meaning<'_>, at: u32, arguments: usize) -> 
 {
     match meaning {
         Meaning::BuiltInFunction(function) => built_in_fault(spot, function, at, arguments),
+        Meaning::Barrier => barrier_fault(spot, at, arguments),
         Meaning::Callable(signature) => helper_fault(spot, signature, at, arguments),
         Meaning::Current(signature) => lesser(
             helper_fault(spot, signature, at, arguments),
@@ -354,17 +369,22 @@ fn callee_fault(spot: Spot, meaning: Meaning<'_>, at: u32, arguments: usize) -> 
     }
 }
 
-/// A call: what is called at `at`, and so many arguments.
+/// A call: what is called at `at`, so many arguments, and what they have against them as flags.
 pub fn call_fault(
     spot: Spot,
     meaning: Meaning<'_>,
     at: u32,
     count: usize,
     arguments: Arguments,
+    flags: Option<TypeFault>,
 ) -> Option<TypeFault>
-    ensures { result ≡ lesser (least (callee_faults (spot_of spot) (meaning_of meaning.entry) at count)) arguments.fault }
+    ensures { result
+        ≡ lesser (lesser (least (callee_faults (spot_of spot) (meaning_of meaning.entry) at count)) arguments.fault) flags }
 {
-    lesser(callee_fault(spot, meaning, at, count), arguments.fault)
+    lesser(
+        lesser(callee_fault(spot, meaning, at, count), arguments.fault),
+        flags,
+    )
 }
 
 /// What can be given to the parameter of an index, where the function has it.
@@ -382,7 +402,9 @@ pub fn wanted(meaning: Meaning<'_>, index: usize) -> Option<Want>
     ensures { option_map want_of result ≡ slice_get (wanted (meaning_of meaning.entry)) index }
 {
     match meaning {
-        Meaning::BuiltInFunction(BuiltIn::WorkItem(_)) if index == 0 => Some(Want::Integer),
+        Meaning::BuiltInFunction(BuiltIn::WorkItem(_)) | Meaning::Barrier if index == 0 => Some(
+            Want::Integer,
+        ),
         Meaning::BuiltInFunction(BuiltIn::Integer(function)) => integer_wanted(function, index),
         Meaning::BuiltInFunction(BuiltIn::Atomic(function)) => atomic_wanted(function, index),
         Meaning::Callable(signature) | Meaning::Current(signature) => parameter_wanted(

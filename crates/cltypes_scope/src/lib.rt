@@ -5,13 +5,17 @@
 mod context;
 mod expressions;
 mod faults;
+mod flags;
 pub mod kinds;
 mod meaning;
+mod names;
+mod values;
 
 pub use context::Context;
-pub use expressions::{check_call, check_expression, check_value, checked, void_fault};
+pub use expressions::checked;
 pub use faults::{
     Operand, Spot, front_fault, integer_fault, lesser, moves, name_fault, passing_fault,
     pointer_fault,
 };
 pub use meaning::{Meaning, Signature};
+pub use values::{check_call, check_expression, check_value, void_fault};

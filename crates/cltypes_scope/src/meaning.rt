@@ -25,5 +25,7 @@ pub enum Meaning<'a> {
     /// The function whose text this is
     Current(&'a Signature),
     BuiltInFunction(BuiltIn),
+    /// The barrier
+    Barrier,
     Unknown,
 }

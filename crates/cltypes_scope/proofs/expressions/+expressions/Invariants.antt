@@ -4,12 +4,13 @@ use Rattle.clmodel.specs.Typing.Least.{first, least}
 use Rattle.clmodel.specs.Typing.Faults.{terms_faults, arguments_faults, wanted, last_kind}
 use Rattle.clmodel.specs.declared.tree.Expression.{size-Expression}
 use Rattle.cltypes_scope.specs.Names.{meaning_of}
+use Rattle.cltypes_scope.specs.Fenced.{names_of}
 use Rattle.cltypes_scope.proofs.expressions.+expressions.Given as goal
 
 -- Three for each level of an expression: a function that checks a node's parts is called by the one that checks the node.
 
-abbrev pub decreases-check_expression : goal.decreases-check_expression
-decreases-check_expression l = 3 * goal.size-check_expression l
+abbrev pub decreases-check_in : goal.decreases-check_in
+decreases-check_in l = 3 * goal.size-check_in l
 
 abbrev pub decreases-check_element : goal.decreases-check_element
 decreases-check_element l = 3 * goal.size-check_element l + 1
@@ -20,8 +21,8 @@ decreases-check_address l = 3 * goal.size-check_address l + 1
 abbrev pub decreases-check_dereference : goal.decreases-check_dereference
 decreases-check_dereference l = 3 * goal.size-check_dereference l + 1
 
-abbrev pub decreases-check_call : goal.decreases-check_call
-decreases-check_call l = 3 * goal.size-check_call l + 2
+abbrev pub decreases-check_call_in : goal.decreases-check_call_in
+decreases-check_call_in l = 3 * goal.size-check_call_in l + 2
 
 abbrev pub decreases-check_arguments : goal.decreases-check_arguments
 decreases-check_arguments l = 3 * goal.size-check_arguments l + 1
@@ -41,7 +42,7 @@ decreases-check_choice l = 3 * max (size-Expression l.condition.now) (max (size-
 -- the arguments so far have no fault inside, and `least` is the least of their own
 abbrev pub invariant-check_arguments-loop-index : goal.invariant-check_arguments-loop-index
 invariant-check_arguments-loop-index l = record {
-  inside : first (terms_faults l.context (terms (take l.index l.arguments))) ≡ None;
-  own : l.least ≡ least (arguments_faults l.context (wanted (meaning_of l.meaning)) (terms (take l.index l.arguments)));
-  kind : l.last ≡ last_kind l.context (terms (take l.index l.arguments));
+  inside : first (terms_faults (names_of l.names) (terms (take l.index l.arguments))) ≡ None;
+  own : l.least ≡ least (arguments_faults (names_of l.names) (wanted (meaning_of l.meaning)) (terms (take l.index l.arguments)));
+  kind : l.last ≡ last_kind (names_of l.names) (terms (take l.index l.arguments));
 }

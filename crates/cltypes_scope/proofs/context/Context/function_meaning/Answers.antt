@@ -1,5 +1,6 @@
 use Rattle.std.proofs.Common.{None, Some, sym, ap, ◌∙◌}
 use Rattle.std.specs.Option.{option_copied}
+use Rattle.clmodel.specs.Barrier.{is_barrier}
 use Rattle.clmodel.specs.Typing.Context.{called}
 use Rattle.cltypes_scope.proofs.Functions.{meaning_there}
 use Rattle.cltypes_scope.proofs.context.Context.function_meaning.Goals as goal
@@ -17,12 +18,22 @@ returns-in-Some-built_in_named c =
     let s = c.self.inside in
     sym (meaning_there v c.args.name s.before.entries None (λ e. c.if-name-self.false (e ∙ ap (λ z. z.current) (sym c.self.view_is)))
     (ap (λ z. z.before) (sym c.self.view_is)) (sym c.get.ensures.value ∙ ap option_copied c.in_default.is)
-    ∙ ap (called None) (sym c.in-Some-built_in_named.ensures))
+    ∙ ap (λ f. called None f (is_barrier c.args.name)) (sym c.in-Some-built_in_named.ensures))
 
-pub returns-in-None : goal.returns-in-None
-returns-in-None c =
+pub returns-then-is_barrier : goal.returns-then-is_barrier
+returns-then-is_barrier c =
     let v = c.args.self.now in
     let s = c.self.inside in
-    sym (meaning_there v c.args.name s.before.entries None (λ e. c.if-name-self.false (e ∙ ap (λ z. z.current) (sym c.self.view_is)))
+    let x = c.args.name in
+    sym (meaning_there v x s.before.entries None (λ e. c.if-name-self.false (e ∙ ap (λ z. z.current) (sym c.self.view_is)))
     (ap (λ z. z.before) (sym c.self.view_is)) (sym c.get.ensures.value ∙ ap option_copied c.in_default.is)
-    ∙ ap (called None) (sym c.in-None.ensures))
+    ∙ ap (λ f. called None f (is_barrier x)) (sym c.in-None.ensures) ∙ ap (called None None) (sym c.is_barrier.ensures ∙ c.if-is_barrier.true))
+
+pub returns-else-is_barrier : goal.returns-else-is_barrier
+returns-else-is_barrier c =
+    let v = c.args.self.now in
+    let s = c.self.inside in
+    let x = c.args.name in
+    sym (meaning_there v x s.before.entries None (λ e. c.if-name-self.false (e ∙ ap (λ z. z.current) (sym c.self.view_is)))
+    (ap (λ z. z.before) (sym c.self.view_is)) (sym c.get.ensures.value ∙ ap option_copied c.in_default.is)
+    ∙ ap (λ f. called None f (is_barrier x)) (sym c.in-None.ensures) ∙ ap (called None None) (sym c.is_barrier.ensures ∙ c.if-is_barrier.false))

@@ -6,7 +6,7 @@ use Rattle.clmodel.specs.Typing.Faults.{value_faults}
 use Rattle.cltypes_scope.specs.Answers.{Checks}
 use Rattle.cltypes_scope.specs.Views.{operand_of}
 use Rattle.clmodel.proofs.Trees.{call_view}
-use Rattle.cltypes_scope.proofs.expressions.check_value.Goals as goal
+use Rattle.cltypes_scope.proofs.values.check_value.Goals as goal
 
 pub returns-in-Call : goal.returns-in-Call
 returns-in-Call c =
