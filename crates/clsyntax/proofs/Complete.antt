@@ -5,12 +5,12 @@ use Rattle.std.proofs.Common.{◌≡◌, ℕ, suc, ◌≤◌, List, [], ◌∷�
 use Rattle.clmodel.specs.Tree.{Term, Call, Terms, NoTerm, ThenTerm, Behind, Stmt, CallOnly, Stmts, NoStmt, ThenStmt, MaybeStmt, With, MaybeTerm}
 use Rattle.clsyntax_lex.specs.declared.token.TokenKind.TheVariants as kinds
 use Rattle.clsyntax_terms.specs.Grammar as grammar
-use Rattle.clsyntax_terms.specs.Grammar.{Placed, put, start, level, tight, prefixed_by, head, Goal, Expr, Arguments, Target, Simple, Statement, Initial, Condition, Final, Typing, Declaration, Items, OneParameter, Parameters, Returning, Heading, Program, Reads, number, variable, element, address, bare_call, call, round, operator, cast, prefixed, binary, choice, one_argument, next_argument, whole_place, part, behind_star, assign, step_before, step_behind, bare_call_only, call_only, simple, empty, block, if_only, if_else, while_loop, do_loop, for_loop, no_initial, simple_initial, declared_initial, no_condition, condition, no_final, simple_final, break_only, continue_only, return_only, return_value, integer, pointer, const_pointer, declare, declare_as, no_items, statement, declaration, parameter, first_parameter, next_parameter, kernel, void, typed, bare_heading, heading, no_functions, function}
+use Rattle.clsyntax_terms.specs.Grammar.{Placed, put, start, level, tight, prefixed_by, head, Goal, Expr, Arguments, Target, Simple, Statement, Initial, Condition, Final, Typing, Declaration, Items, OneParameter, Parameters, Returning, Heading, Program, Reads, number, variable, element, address, bare_call, call, round, operator, cast, prefixed, binary, choice, one_argument, next_argument, whole_place, part, behind_star, assign, step_before, step_behind, bare_call_only, call_only, simple, empty, block, if_only, if_else, while_loop, do_loop, for_loop, no_initial, simple_initial, declared_initial, no_condition, condition, no_final, simple_final, break_only, continue_only, return_only, return_value, integer, pointer, const_pointer, declare, declare_as, array, local_array, no_items, statement, declaration, parameter, first_parameter, next_parameter, kernel, void, typed, bare_heading, heading, no_functions, function}
 use Rattle.clsyntax_terms.specs.Machine.{Frame, After, Before, Asked, Chosen, InRound, InElement, InAddress, InCall, InPart, InBehind, InStep, InAssign, InDeclare, InReturn, InIf, InWhile, InDo, InInitial, InCondition, InFinal, Then, Otherwise, Turns, DoTurns, ForTurns, InItems, InBlock, InBody, InHead, InProgram, Purpose, ForParameter, ForDeclaration, Mode, Operand, Have, Named, CallOpen, Optional, Item, Begin, Aim, BeginName, Aimed, Ended, Did, AfterTyping, Top, AfterReturning, HeadOpen, WantParameter, AfterParameter, HeadDone, State, in_mode, go, add_parameter, begun}
 use Rattle.clsyntax.proofs.Moves.{Runs, stop, onward, joined, Alike, Meets, meets, meets_then, further, alike_then}
 use Rattle.clsyntax.proofs.Levels.{reach, Follows, infix_follows, question_follows, looser_follows, looser_tight, ends, no_less, operator_step, question_step}
 use Rattle.clsyntax_terms.specs.Machine as machine
-use Rattle.clsyntax.proofs.Takes.{TakesOperand, at_operand, at_call, at_opened, at_optional, prefix_step, cast_step, named_alike, prefixed_alike, taken_alike, chosen_alike, TakesStatement, TakesSimple, at_begin, at_item, simply, at_initial, at_final, TargetFrom, from_simple, from_aim, AfterTarget, assigns, steps, AtEnd, at_semicolon, at_bracket, end_stops, end_follows, begin_alike, target_ends, behind_alike, name_begins, part_begins, star_begins, assign_step, assign_alike, step_begins, step_ends, step_alike, did_then, if_alike, else_alike, while_alike, for_alike, TypingFrom, of_declaration, initial_begins, top_word, word_begins, pointer_begins, const_begins, WantsParameter, as_first, as_next, parameter_from}
+use Rattle.clsyntax.proofs.Takes.{TakesOperand, at_operand, at_call, at_opened, at_optional, prefix_step, cast_step, named_alike, prefixed_alike, taken_alike, chosen_alike, TakesStatement, TakesSimple, at_begin, at_item, simply, at_initial, at_final, TargetFrom, from_simple, from_aim, AfterTarget, assigns, steps, AtEnd, at_semicolon, at_bracket, end_stops, end_follows, begin_alike, target_ends, behind_alike, name_begins, part_begins, star_begins, assign_step, assign_alike, step_begins, step_ends, step_alike, did_then, if_alike, else_alike, while_alike, for_alike, TypingFrom, of_declaration, initial_begins, top_word, word_begins, pointer_begins, const_begins, local_begins, WantsParameter, as_first, as_next, parameter_from}
 
 -- the arguments but the last are in the frame
 pub record ArgumentsRead (u : Bool) (a x n : ℕ) (fs : List Frame) (es : Terms) (ps qs : List Placed) : Type 0 where
@@ -177,6 +177,10 @@ complete (declare_as {n = n} {b = b} {x = x} {kind = kind} {ps = ps} r q) = λ s
     let gs : List Frame = InDeclare (start ps) n kind b x ∷ InItems n ss ∷ fs in
     joined (complete r (ForDeclaration (start ps) n) (Item n) (InItems n ss ∷ fs) of_declaration)
     (onward refl (onward refl (further (complete q (in_mode (Operand n) gs) gs (at_operand n gs) (no_less 0) (ends kinds.Semicolon refl tt)) refl)))
+complete (array {n = n} {k = k} {type = type} i) = λ ss fs.
+    joined (word_begins k type (InItems n ss ∷ fs) _ of_declaration i) (onward refl (onward refl (onward refl (onward refl (onward refl stop)))))
+complete (local_array {n = n} {o = o} {k = k} {type = type} i) = λ ss fs.
+    joined (local_begins o k type (InItems n ss ∷ fs) _ i) (onward refl (onward refl (onward refl (onward refl (onward refl stop)))))
 complete no_items = λ fs. meets stop
 complete (statement {n = n} {ss = ss} {s = s} {rs = rs} r q) = λ fs.
     meets_then (complete r fs) (likewise (complete q (in_mode (Item n) (InItems n ss ∷ fs)) (InItems n ss ∷ fs) (at_item n (InItems n ss ∷ fs) (λ m x. refl))) (did_then n ss s fs rs))

@@ -12,7 +12,7 @@ use Rattle.clsyntax_lex.specs.declared.token.TokenKind.{TokenKind}
 use Rattle.clsyntax_lex.specs.declared.token.TokenKind.TheVariants as kinds
 use Rattle.clsyntax_terms.specs.Grammar.{Placed, put, Head, Prefix, Convert, prefixed_by, infix_of}
 use Rattle.clsyntax_terms.specs.Machine as machine
-use Rattle.clsyntax_terms.specs.Machine.{Frame, Before, Chosen, InAssign, InBehind, InStep, InCondition, InFinal, Then, Otherwise, Turns, ForTurns, InHead, InProgram, Purpose, ForParameter, ForDeclaration, nesting_of, Mode, Operand, Have, Named, Opened, CastType, AfterAnd, AndName, CallOpen, Optional, Item, Begin, Aim, BeginName, Aimed, Ended, Closing, Did, AfterIf, AfterWhile, AfterFor, AfterDo, AfterSpace, AfterConst, AfterElement, AfterTyping, Declared, Top, AfterKernel, AfterReturning, AfterName, HeadOpen, WantParameter, AfterParameter, HeadDone, State, in_mode, Folded, close, asked_level, after_folded, end_expression, end_simple, ends_simple, end_step, end_items, go, Settled, settle, is_else, on_settled, step}
+use Rattle.clsyntax_terms.specs.Machine.{Frame, Before, Chosen, InAssign, InBehind, InStep, InCondition, InFinal, Then, Otherwise, Turns, ForTurns, InHead, InProgram, Purpose, ForParameter, ForDeclaration, nesting_of, Mode, Operand, Have, Named, Opened, CastType, AfterAnd, AndName, CallOpen, Optional, Item, Begin, Aim, BeginName, Aimed, Ended, Closing, Did, AfterIf, AfterWhile, AfterFor, AfterDo, AfterSpace, AfterConst, AfterElement, AfterTyping, Declared, ArrayNamed, ArrayOpened, ArraySized, ArrayClosed, Top, AfterKernel, AfterReturning, AfterName, HeadOpen, WantParameter, AfterParameter, HeadDone, State, in_mode, Folded, close, asked_level, after_folded, end_expression, end_simple, ends_simple, end_step, end_items, go, Settled, settle, is_else, on_settled, step}
 use Rattle.clsyntax.proofs.Moves.{Runs, stop, onward}
 use Rattle.clsyntax.proofs.Levels.{close_takes, close_chooses}
 use Rattle.clsyntax.proofs.Takes.{IsPlain}
@@ -264,6 +264,17 @@ done_declared : {w qs : List Placed} {fs : List Frame} {n : ℕ} (a : ℕ) (kind
 done_declared {n = n} a kind b x (in_items {ss = ss} i r) =
     let c = ending i (ThenStmt ss (Declare a kind b x)) in earlier (put n kinds.Semicolon 0) refl (earlier (put n kinds.CloseBrace 0) c.moves c.done)
 
+-- the parts of an array's declaration
+done_closed : {w qs : List Placed} {fs : List Frame} {n : ℕ} (s : Stmt) → Stands w (AnItem n) fs qs → Done (in_mode (ArrayClosed n s) fs)
+done_closed {n = n} s (in_items {ss = ss} i r) =
+    let c = ending i (ThenStmt ss s) in earlier (put n kinds.Semicolon 0) refl (earlier (put n kinds.CloseBrace 0) c.moves c.done)
+
+done_sized : {w qs : List Placed} {fs : List Frame} {n : ℕ} (s : Stmt) → Stands w (AnItem n) fs qs → Done (in_mode (ArraySized n s) fs)
+done_sized {n = n} s h = earlier (put (suc n) kinds.CloseSquare 0) refl (done_closed s h)
+
+done_opened_array : {w qs : List Placed} {fs : List Frame} {n : ℕ} (a : ℕ) (u : Bool) (type : IntType) (b x : ℕ) → Stands w (AnItem n) fs qs → Done (in_mode (ArrayOpened n a u type b x) fs)
+done_opened_array {n = n} a u type b x h = earlier (put (suc n) (kinds.Number a_number) 0) refl (done_sized _ h)
+
 initially_ends : {fs : List Frame} (n a d : ℕ) (kind : VariableType) (b x : ℕ) → EndsStatement fs → EndsWith (machine.InDeclare a n kind b x ∷ machine.InInitial d ∷ fs)
 initially_ends n a d kind b x below = record { kind = kinds.Semicolon; no_infix = refl; no_level = refl; closes = λ m from e. record { nesting = n; state = _; moves = refl; done = done_condition n d _ below } }
 
@@ -404,6 +415,10 @@ finishes_in w qs (AfterConst p space) fs = λ g. done_const p space g.stands
 finishes_in w qs (AfterElement p space c type) fs = λ g. done_element p space c type g.before.stands
 finishes_in w qs (AfterTyping p kind) fs = done_has_typing
 finishes_in w qs (Declared n a kind b x) fs = done_has_declared
+finishes_in w qs (ArrayNamed n a u type b x) fs = λ g. earlier (put n kinds.OpenSquare 0) refl (done_opened_array a u type b x g.stands)
+finishes_in w qs (ArrayOpened n a u type b x) fs = λ g. done_opened_array a u type b x g.stands
+finishes_in w qs (ArraySized n s) fs = λ g. done_sized s g.stands
+finishes_in w qs (ArrayClosed n s) fs = λ g. done_closed s g.stands
 finishes_in w qs Top fs = done_function
 finishes_in w qs AfterKernel fs = λ g. earlier (put 0 kinds.Void 0) refl (done_after_returning true None g.1)
 finishes_in w qs (AfterReturning k r) fs = λ g. done_after_returning k r g.stands

@@ -6,11 +6,11 @@ use Rattle.clsyntax_lex.specs.declared.token.TokenKind.{TokenKind}
 use Rattle.clsyntax_lex.specs.declared.token.TokenKind.TheVariants as kinds
 use Rattle.clsyntax_terms.specs.Grammar.{Placed, put, Head, Program, Reads, no_items, kernel, void, typed, bare_heading, heading, no_functions}
 use Rattle.clsyntax_terms.specs.Machine as machine
-use Rattle.clsyntax_terms.specs.Machine.{Frame, InItems, InBody, InHead, InProgram, ForParameter, Mode, Operand, Have, Named, Opened, CastType, AfterAnd, AndName, CallOpen, Optional, Item, Begin, Aim, BeginName, Aimed, Ended, Closing, Did, AfterIf, AfterWhile, AfterFor, AfterDo, AfterSpace, AfterConst, AfterElement, AfterTyping, Declared, Top, AfterKernel, AfterReturning, AfterName, HeadOpen, WantParameter, AfterParameter, HeadDone, State, in_mode, Moved, on_typing, on_open_brace, step, begun}
+use Rattle.clsyntax_terms.specs.Machine.{Frame, InItems, InBody, InHead, InProgram, ForParameter, Mode, Operand, Have, Named, Opened, CastType, AfterAnd, AndName, CallOpen, Optional, Item, Begin, Aim, BeginName, Aimed, Ended, Closing, Did, AfterIf, AfterWhile, AfterFor, AfterDo, AfterSpace, AfterConst, AfterElement, AfterTyping, Declared, ArrayNamed, ArrayOpened, ArraySized, ArrayClosed, Top, AfterKernel, AfterReturning, AfterName, HeadOpen, WantParameter, AfterParameter, HeadDone, State, in_mode, Moved, on_typing, on_open_brace, step, begun}
 use Rattle.clsyntax.proofs.Moves.{Runs, stop, onward}
 use Rattle.clsyntax.proofs.Stands.{AnItem, ABody, AHead, AParameter, AfterOne, AFunction, Stands, in_program, in_head, first, next, after_one, head_read, in_body, in_items, HasReturning, Good, Keeps, Safe, kept}
 use Rattle.clsyntax.proofs.SoundExpressions.{safe_operand, safe_have, safe_named, safe_opened, safe_cast_type, safe_after_and, safe_and_name, safe_call_open, safe_optional}
-use Rattle.clsyntax.proofs.SoundStatements.{safe_typing, safe_after_space, safe_after_const, safe_after_element, safe_after_typing, safe_declared, safe_begin, safe_item, safe_initial, safe_final, safe_after_if, safe_after_while, safe_after_for, safe_after_do, safe_aim, safe_begin_name, safe_aimed, safe_ended, safe_closing, safe_did}
+use Rattle.clsyntax.proofs.SoundStatements.{safe_typing, safe_after_space, safe_after_const, safe_after_element, safe_after_typing, safe_declared, safe_array_named, safe_array_opened, safe_array_sized, safe_array_closed, safe_begin, safe_item, safe_initial, safe_final, safe_after_if, safe_after_while, safe_after_for, safe_after_do, safe_aim, safe_begin_name, safe_aimed, safe_ended, safe_closing, safe_did}
 
 safe_top : (fs : List Frame) (kind : TokenKind) → Safe Top fs kind
 safe_top fs kinds.Kernel = λ w qs a h. (a, h)
@@ -96,6 +96,10 @@ safe (AfterConst p space) fs kind = safe_after_const p space fs kind
 safe (AfterElement p space c type) fs kind = safe_after_element p space c type fs kind
 safe (AfterTyping p type) fs kind = safe_after_typing p type fs kind
 safe (Declared n a type b x) fs kind = safe_declared n a type b x fs kind
+safe (ArrayNamed n a u type b x) fs kind = safe_array_named n a u type b x fs kind
+safe (ArrayOpened n a u type b x) fs kind = safe_array_opened n a u type b x fs kind
+safe (ArraySized n s) fs kind = safe_array_sized n s fs kind
+safe (ArrayClosed n s) fs kind = safe_array_closed n s fs kind
 safe Top fs kind = safe_top fs kind
 safe AfterKernel fs kind = safe_after_kernel fs kind
 safe (AfterReturning k r) fs kind = safe_after_returning k r fs kind

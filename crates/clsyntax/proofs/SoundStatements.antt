@@ -1,17 +1,20 @@
 -- In statements and types, what the machine reads is in the grammar.
-use Rattle.std.proofs.Common.{◌≡◌, ℕ, suc, List, ◌∷◌, Bool, true, false, Option, Some, None, refl, sym, subst}
+use Rattle.std.proofs.Common.{◌≡◌, ℕ, suc, List, ◌∷◌, Bool, true, false, Option, Some, None, refl, sym, ap, subst}
+use Rattle.clnum.specs.Integer as whole
 use Rattle.clnum.specs.declared.int_type.IntType.{IntType}
 use Rattle.clnum.specs.declared.operators.BinaryOperator.{BinaryOperator}
 use Rattle.clmodel.specs.declared.tree.AddressSpace.{AddressSpace}
+use Rattle.clmodel.specs.declared.tree.AddressSpace.TheVariants.{Local}
 use Rattle.clmodel.specs.declared.tree.VariableType.{VariableType}
-use Rattle.clmodel.specs.Tree.{Term, Place, Whole, Stmt, Block, Declare, Step, If, IfElse, While, For, Break, Continue, Stmts, ThenStmt, MaybeStmt, Without, MaybeTerm, Funcs, ThenFunc}
+use Rattle.clmodel.specs.declared.tree.VariableType.TheVariants.{Integer}
+use Rattle.clmodel.specs.Tree.{Term, Place, Whole, Stmt, Block, Declare, DeclareArray, Step, If, IfElse, While, For, Break, Continue, Stmts, ThenStmt, MaybeStmt, Without, MaybeTerm, Funcs, ThenFunc}
 use Rattle.clsyntax_lex.specs.declared.token.Token.{Token}
 use Rattle.clsyntax_lex.specs.declared.token.TokenKind.{TokenKind}
 use Rattle.clsyntax_lex.specs.declared.token.TokenKind.TheVariants as kinds
-use Rattle.clsyntax_terms.specs.Grammar.{Placed, put, Head, with_body, IsNoElse, type_of, assign_of, step_of, parameter_of, Statement, Typing, Reads, whole_place, step_before, step_behind, simple, empty, block, if_only, if_else, while_loop, for_loop, no_initial, no_final, break_only, continue_only, integer, pointer, const_pointer, declare, no_items, statement, parameter, first_parameter, next_parameter, function}
+use Rattle.clsyntax_terms.specs.Grammar.{Placed, put, Head, with_body, IsNoElse, type_of, assign_of, step_of, parameter_of, Statement, Typing, Declaration, Reads, whole_place, step_before, step_behind, simple, empty, block, if_only, if_else, while_loop, for_loop, no_initial, no_final, break_only, continue_only, integer, pointer, const_pointer, declare, array, local_array, no_items, statement, parameter, first_parameter, next_parameter, function}
 use Rattle.clsyntax_terms.specs.Machine as machine
-use Rattle.clsyntax_terms.specs.Machine.{Frame, InStep, InAssign, InDeclare, InItems, InBlock, InBody, InHead, InInitial, InFinal, Then, Otherwise, Turns, DoTurns, ForTurns, InProgram, Purpose, ForParameter, ForDeclaration, takes_size, nesting_of, Item, Begin, Aim, BeginName, Aimed, Ended, Closing, Did, AfterIf, AfterWhile, AfterFor, AfterDo, AfterSpace, AfterConst, AfterElement, AfterTyping, Declared, end_step, add_declaration, ends_simple, on_typing, on_after_const, on_parameter_name, on_typed_name, on_close_brace, on_placed, on_aimed, begin_call, on_simple, on_begin, on_item, Settled, settle, is_else, on_settled, add_parameter}
-use Rattle.clsyntax.proofs.Stands.{AnExpr, AnItem, AStatement, AnInitial, ASimple, AfterOne, AFunction, target_need, purpose_need, at_of, Stands, in_program, first, next, after_one, in_body, in_block, in_items, as_item, as_statement, as_initial, in_then, in_otherwise, in_turns, in_do_turns, in_for_turns, in_initial, in_condition, in_final, in_if, in_while, in_do, in_return, declared_initially, in_step, in_part, in_behind, in_assign, in_declare, call_open, HasTarget, has_target, HasStatement, HasEnded, HasClosing, HasBody, HasSpace, HasTyping, parameter_typing, declaration_typing, initial_typing, HasDeclared, has_declared, has_initial, KeepsFrom, Keeps, Safe, kept}
+use Rattle.clsyntax_terms.specs.Machine.{Frame, InStep, InAssign, InDeclare, InItems, InBlock, InBody, InHead, InInitial, InFinal, Then, Otherwise, Turns, DoTurns, ForTurns, InProgram, Purpose, ForParameter, ForDeclaration, takes_size, nesting_of, Item, Begin, Aim, BeginName, Aimed, Ended, Closing, Did, AfterIf, AfterWhile, AfterFor, AfterDo, AfterSpace, AfterConst, AfterElement, AfterTyping, Declared, ArrayNamed, ArrayOpened, ArraySized, ArrayClosed, end_step, add_declaration, ends_simple, on_typing, on_after_const, on_local_name, on_array, on_parameter_name, on_typed_name, on_close_brace, on_placed, on_aimed, begin_call, on_simple, on_begin, on_item, Settled, settle, is_else, on_settled, add_parameter}
+use Rattle.clsyntax.proofs.Stands.{AnExpr, AnItem, AStatement, AnInitial, ASimple, AfterOne, AFunction, target_need, purpose_need, at_of, Stands, in_program, first, next, after_one, in_body, in_block, in_items, as_item, as_statement, as_initial, in_then, in_otherwise, in_turns, in_do_turns, in_for_turns, in_initial, in_condition, in_final, in_if, in_while, in_do, in_return, declared_initially, in_step, in_part, in_behind, in_assign, in_declare, call_open, HasTarget, has_target, HasStatement, HasEnded, HasClosing, HasBody, HasSpace, HasElement, HasTyping, parameter_typing, declaration_typing, initial_typing, HasDeclared, has_declared, has_initial, HasArrayName, HasArray, HasLength, HasClosed, KeepsFrom, Keeps, Safe, kept}
 use Rattle.clsyntax.proofs.SoundExpressions.{declared_added, end_kind, safe_ends_simple}
 
 -- ---- types
@@ -48,9 +51,25 @@ safe_after_space p space fs kind = λ w qs a. safe_element p space false fs kind
 pub safe_after_const : (p : Purpose) (space : AddressSpace) (fs : List Frame) (kind : TokenKind) → Safe (AfterConst p space) fs kind
 safe_after_const p space fs kind = λ w qs a. safe_element p space true fs kind w qs a
 
+-- a local array's name
+local_named : {w qs : List Placed} {fs : List Frame} {n a b x : ℕ} {type : IntType} → HasElement w (ForDeclaration a n) Local false type fs (put n (kinds.Name x) b ∷ qs) → HasArrayName w n a true type b x fs qs
+local_named {n = n} {a = a} {b = b} {x = x} {type = type} e = record {
+  from = _;
+  stands = e.before.stands;
+  reads = λ c d g h v rs same.
+      let R : List Placed → Type 0 = λ z. Reads (Declaration n (DeclareArray a true type b x d v)) (put n (kinds.Space Local) a ∷ put n e.word e.at ∷ put n (kinds.Name x) b ∷ z) rs in
+      subst R (sym same) (local_array e.names);
+}
+
+safe_local_name : (p : Purpose) (space : AddressSpace) (c : Bool) (type : IntType) (x : ℕ) (fs : List Frame) (w qs : List Placed) (a : ℕ)
+    → Keeps w (AfterElement p space c type) fs (record { kind = kinds.Name x; at = a }) qs (on_local_name p space c type a x fs)
+safe_local_name (ForDeclaration b n) Local false type x fs w qs a = local_named
+safe_local_name _ _ _ type x fs w qs a = tt
+
 pub safe_after_element : (p : Purpose) (space : AddressSpace) (c : Bool) (type : IntType) (fs : List Frame) (kind : TokenKind) → Safe (AfterElement p space c type) fs kind
 safe_after_element p space false type fs kinds.Star = λ w qs a h. typing_of p h.before.at (kinds.Space space) h.before.stands (pointer h.names)
 safe_after_element p space true type fs kinds.Star = λ w qs a h. typing_of p h.before.at (kinds.Space space) h.before.stands (const_pointer h.names)
+safe_after_element p space c type fs (kinds.Name x) = λ w qs a. safe_local_name p space c type x fs w qs a
 safe_after_element p space c type fs _ = λ w qs a. tt
 
 parameter_end : {w qs : List Placed} {fs : List Frame} {u : Bool} {h : Head} {kind : VariableType} {x d : ℕ}
@@ -92,9 +111,60 @@ safe_declare_end : (n a : ℕ) (kind : VariableType) (b x : ℕ) (fs : List Fram
 safe_declare_end n a kind b x (InItems k ss ∷ fs) w qs c = declare_end
 safe_declare_end n a kind b x _ w qs c = tt
 
+-- ---- arrays
+
+length_begins : {w qs : List Placed} {fs : List Frame} {n a b x c k : ℕ} {type : IntType} {ss : Stmts} → HasDeclared w n a (Integer type) b x (InItems k ss ∷ fs) (put n kinds.OpenSquare c ∷ qs)
+    → HasArray w n a false type b x (InItems k ss ∷ fs) qs
+length_begins {n = n} {b = b} {x = x} {c = c} {type = type} (has_declared s (integer {a = a} {k = word} i)) = record {
+  from = _;
+  stands = s;
+  reads = λ d g h v rs same.
+      let R : List Placed → Type 0 = λ z. Reads (Declaration n (DeclareArray a false type b x d v)) (put n word a ∷ put n (kinds.Name x) b ∷ put n kinds.OpenSquare c ∷ z) rs in
+      subst R (sym same) (array i);
+}
+length_begins (has_initial s i) = elim s [ ]
+
+safe_array : (n a : ℕ) (kind : VariableType) (b x : ℕ) (fs : List Frame) (w qs : List Placed) (c : ℕ)
+    → Keeps w (Declared n a kind b x) fs (record { kind = kinds.OpenSquare; at = c }) qs (on_array n a kind b x fs)
+safe_array n a (Integer type) b x (InItems k ss ∷ fs) w qs c = length_begins
+safe_array n a _ b x _ w qs c = tt
+
+array_named : {w qs : List Placed} {fs : List Frame} {n a b x c : ℕ} {u : Bool} {type : IntType} → HasArrayName w n a u type b x fs (put n kinds.OpenSquare c ∷ qs) → HasArray w n a u type b x fs qs
+array_named {n = n} {c = c} e = record { from = e.from; stands = e.stands; reads = λ d g h v rs same. e.reads c d g h v rs (ap (λ z. put n kinds.OpenSquare c ∷ z) same) }
+
+pub safe_array_named : (n a : ℕ) (u : Bool) (type : IntType) (b x : ℕ) (fs : List Frame) (kind : TokenKind) → Safe (ArrayNamed n a u type b x) fs kind
+safe_array_named n a u type b x fs kinds.OpenSquare = λ w qs c. array_named
+safe_array_named n a u type b x fs _ = λ w qs c. tt
+
+array_sized : {w qs : List Placed} {fs : List Frame} {n a b x d : ℕ} {u : Bool} {type : IntType} {v : whole.Integer} → HasArray w n a u type b x fs (put (suc n) (kinds.Number v) d ∷ qs) → HasLength w n (DeclareArray a u type b x d v) fs qs
+array_sized {n = n} {d = d} {v = v} e = record { from = e.from; stands = e.stands; reads = λ g h rs same. e.reads d g h v rs (ap (λ z. put (suc n) (kinds.Number v) d ∷ z) same) }
+
+pub safe_array_opened : (n a : ℕ) (u : Bool) (type : IntType) (b x : ℕ) (fs : List Frame) (kind : TokenKind) → Safe (ArrayOpened n a u type b x) fs kind
+safe_array_opened n a u type b x fs (kinds.Number v) = λ w qs d. array_sized
+safe_array_opened n a u type b x fs _ = λ w qs d. tt
+
+array_closed : {w qs : List Placed} {fs : List Frame} {n g : ℕ} {s : Stmt} → HasLength w n s fs (put (suc n) kinds.CloseSquare g ∷ qs) → HasClosed w n s fs qs
+array_closed {n = n} {g = g} e = record { from = e.from; stands = e.stands; reads = λ h rs same. e.reads g h rs (ap (λ z. put (suc n) kinds.CloseSquare g ∷ z) same) }
+
+pub safe_array_sized : (n : ℕ) (s : Stmt) (fs : List Frame) (kind : TokenKind) → Safe (ArraySized n s) fs kind
+safe_array_sized n s fs kinds.CloseSquare = λ w qs g. array_closed
+safe_array_sized n s fs _ = λ w qs g. tt
+
+array_end : {w qs : List Placed} {fs : List Frame} {n h k : ℕ} {s : Stmt} {ss : Stmts} → HasClosed w n s (InItems k ss ∷ fs) (put n kinds.Semicolon h ∷ qs) → Stands w (AnItem n) (InItems k (ThenStmt ss s) ∷ fs) qs
+array_end {qs = qs} {h = h} e = declared_added e.stands (e.reads h qs refl)
+
+safe_array_end : (n : ℕ) (s : Stmt) (fs : List Frame) (w qs : List Placed) (h : ℕ) → Keeps w (ArrayClosed n s) fs (record { kind = kinds.Semicolon; at = h }) qs (add_declaration n s fs)
+safe_array_end n s (InItems k ss ∷ fs) w qs h = array_end
+safe_array_end n s _ w qs h = tt
+
+pub safe_array_closed : (n : ℕ) (s : Stmt) (fs : List Frame) (kind : TokenKind) → Safe (ArrayClosed n s) fs kind
+safe_array_closed n s fs kinds.Semicolon = λ w qs h. safe_array_end n s fs w qs h
+safe_array_closed n s fs _ = λ w qs h. tt
+
 pub safe_declared : (n a : ℕ) (kind : VariableType) (b x : ℕ) (fs : List Frame) (word : TokenKind) → Safe (Declared n a kind b x) fs word
 safe_declared n a kind b x fs kinds.Assign = λ w qs c. value_begins
 safe_declared n a kind b x fs kinds.Semicolon = λ w qs c. safe_declare_end n a kind b x fs w qs c
+safe_declared n a kind b x fs kinds.OpenSquare = λ w qs c. safe_array n a kind b x fs w qs c
 safe_declared n a kind b x fs _ = λ w qs c. tt
 
 -- ---- statements

@@ -1,5 +1,6 @@
 -- What the machine holds stands for the tokens that were read.
 use Rattle.std.proofs.Common.{◌≡◌, ℕ, suc, ◌≤◌, List, [], ◌∷◌, Bool, true, false, not, Option, Some, None}
+use Rattle.clnum.specs.Integer as whole
 use Rattle.clnum.specs.declared.int_type.IntType.{IntType}
 use Rattle.clnum.specs.declared.operators.BinaryOperator.{BinaryOperator}
 use Rattle.clmodel.specs.declared.tree.InfixOperator.{InfixOperator}
@@ -7,14 +8,14 @@ use Rattle.clmodel.specs.declared.tree.AddressSpace.{AddressSpace}
 use Rattle.clmodel.specs.declared.tree.VariableType.{VariableType}
 use Rattle.clmodel.specs.declared.tree.VariableType.TheVariants.{Integer}
 use Rattle.clmodel.specs.declared.tree.Parameter.{Parameter}
-use Rattle.clmodel.specs.Tree.{Term, Terms, NoTerm, ThenTerm, Place, Stmt, Stmts, MaybeStmt, MaybeTerm, Funcs}
+use Rattle.clmodel.specs.Tree.{Term, Terms, NoTerm, ThenTerm, Place, Stmt, DeclareArray, Stmts, MaybeStmt, MaybeTerm, Funcs}
 use Rattle.clsyntax_lex.specs.declared.token.Token.{Token}
 use Rattle.clsyntax_lex.specs.declared.token.TokenKind.{TokenKind}
 use Rattle.clsyntax_lex.specs.declared.token.TokenKind.TheVariants as kinds
 use Rattle.clsyntax_terms.specs.Grammar as grammar
 use Rattle.clsyntax_terms.specs.Machine as machine
-use Rattle.clsyntax_terms.specs.Grammar.{Placed, put, start, Head, Prefix, infix_of, level, head, type_of, assign_of, step_of, IsNamed, Expr, Arguments, Target, Simple, Statement, Initial, Condition, Typing, Items, Parameters, Returning, Heading, Program, Reads, one_argument, next_argument}
-use Rattle.clsyntax_terms.specs.Machine.{Frame, After, Before, Asked, Chosen, InRound, InElement, InAddress, InCall, InPart, InBehind, InStep, InAssign, InDeclare, InReturn, InIf, InWhile, InDo, InInitial, InCondition, InFinal, Then, Otherwise, Turns, DoTurns, ForTurns, InItems, InBlock, InBody, InHead, InProgram, Purpose, ForParameter, ForDeclaration, takes_size, nesting_of, Mode, Operand, Have, Named, Opened, CastType, AfterAnd, AndName, CallOpen, Optional, Item, Begin, Aim, BeginName, Aimed, Ended, Closing, Did, AfterIf, AfterWhile, AfterFor, AfterDo, AfterSpace, AfterConst, AfterElement, AfterTyping, Declared, Top, AfterKernel, AfterReturning, AfterName, HeadOpen, WantParameter, AfterParameter, HeadDone, State, in_mode, Moved, step}
+use Rattle.clsyntax_terms.specs.Grammar.{Placed, put, start, Head, Prefix, infix_of, level, head, type_of, assign_of, step_of, IsNamed, Expr, Arguments, Target, Simple, Statement, Initial, Condition, Typing, Declaration, Items, Parameters, Returning, Heading, Program, Reads, one_argument, next_argument}
+use Rattle.clsyntax_terms.specs.Machine.{Frame, After, Before, Asked, Chosen, InRound, InElement, InAddress, InCall, InPart, InBehind, InStep, InAssign, InDeclare, InReturn, InIf, InWhile, InDo, InInitial, InCondition, InFinal, Then, Otherwise, Turns, DoTurns, ForTurns, InItems, InBlock, InBody, InHead, InProgram, Purpose, ForParameter, ForDeclaration, takes_size, nesting_of, Mode, Operand, Have, Named, Opened, CastType, AfterAnd, AndName, CallOpen, Optional, Item, Begin, Aim, BeginName, Aimed, Ended, Closing, Did, AfterIf, AfterWhile, AfterFor, AfterDo, AfterSpace, AfterConst, AfterElement, AfterTyping, Declared, ArrayNamed, ArrayOpened, ArraySized, ArrayClosed, Top, AfterKernel, AfterReturning, AfterName, HeadOpen, WantParameter, AfterParameter, HeadDone, State, in_mode, Moved, step}
 use Rattle.clsyntax.proofs.Levels.{reach}
 
 -- What the innermost frame waits for, and its nesting. An item is a statement or a declaration; a simple statement may be a
@@ -202,6 +203,31 @@ pub data HasDeclared (w : List Placed) (n : ℕ) : (a : ℕ) → VariableType �
   has_declared : {ps qs : List Placed} {fs : List Frame} {b x : ℕ} {kind : VariableType} → Stands w (AnItem n) fs ps → Reads (Typing true n kind) ps (put n (kinds.Name x) b ∷ qs) → HasDeclared w n (start ps) kind b x fs qs
   has_initial : {qs : List Placed} {fs : List Frame} {a b x : ℕ} {k : TokenKind} {type : IntType} → Stands w (AnInitial n) fs (put n k a ∷ put n (kinds.Name x) b ∷ qs) → type_of true k ≡ Some type → HasDeclared w n a (Integer type) b x fs qs
 
+-- what is missing of an array's declaration: its length, and what stands behind that
+abbrev pub closed_array : (n g h : ℕ) → List Placed → List Placed
+closed_array n g h qs = put (suc n) kinds.CloseSquare g ∷ put n kinds.Semicolon h ∷ qs
+
+-- a local array's name was read, the bracket behind a name, a length, and the bracket behind that
+pub record HasArrayName (w : List Placed) (n a : ℕ) (u : Bool) (type : IntType) (b x : ℕ) (fs : List Frame) (qs : List Placed) : Type 0 where
+  pub from : List Placed
+  pub stands : Stands w (AnItem n) fs from
+  pub reads : (c d g h : ℕ) (v : whole.Integer) (rs : List Placed) → qs ≡ put n kinds.OpenSquare c ∷ put (suc n) (kinds.Number v) d ∷ closed_array n g h rs → Reads (Declaration n (DeclareArray a u type b x d v)) from rs
+
+pub record HasArray (w : List Placed) (n a : ℕ) (u : Bool) (type : IntType) (b x : ℕ) (fs : List Frame) (qs : List Placed) : Type 0 where
+  pub from : List Placed
+  pub stands : Stands w (AnItem n) fs from
+  pub reads : (d g h : ℕ) (v : whole.Integer) (rs : List Placed) → qs ≡ put (suc n) (kinds.Number v) d ∷ closed_array n g h rs → Reads (Declaration n (DeclareArray a u type b x d v)) from rs
+
+pub record HasLength (w : List Placed) (n : ℕ) (s : Stmt) (fs : List Frame) (qs : List Placed) : Type 0 where
+  pub from : List Placed
+  pub stands : Stands w (AnItem n) fs from
+  pub reads : (g h : ℕ) (rs : List Placed) → qs ≡ closed_array n g h rs → Reads (Declaration n s) from rs
+
+pub record HasClosed (w : List Placed) (n : ℕ) (s : Stmt) (fs : List Frame) (qs : List Placed) : Type 0 where
+  pub from : List Placed
+  pub stands : Stands w (AnItem n) fs from
+  pub reads : (h : ℕ) (rs : List Placed) → qs ≡ put n kinds.Semicolon h ∷ rs → Reads (Declaration n s) from rs
+
 -- what stands before a function's name was read
 pub record HasReturning (w : List Placed) (k : Bool) (r : Option IntType) (fs : List Frame) (qs : List Placed) : Type 0 where
   pub from : List Placed
@@ -237,6 +263,10 @@ GoodIn w (AfterConst p space) fs qs = HasSpace w p space true fs qs
 GoodIn w (AfterElement p space c type) fs qs = HasElement w p space c type fs qs
 GoodIn w (AfterTyping p kind) fs qs = HasTyping w p kind fs qs
 GoodIn w (Declared n a kind b x) fs qs = HasDeclared w n a kind b x fs qs
+GoodIn w (ArrayNamed n a u type b x) fs qs = HasArrayName w n a u type b x fs qs
+GoodIn w (ArrayOpened n a u type b x) fs qs = HasArray w n a u type b x fs qs
+GoodIn w (ArraySized n s) fs qs = HasLength w n s fs qs
+GoodIn w (ArrayClosed n s) fs qs = HasClosed w n s fs qs
 GoodIn w Top fs qs = Stands w AFunction fs qs
 GoodIn w AfterKernel fs qs = (a : ℕ) × Stands w AFunction fs (put 0 kinds.Kernel a ∷ qs)
 GoodIn w (AfterReturning k r) fs qs = HasReturning w k r fs qs

@@ -5,6 +5,7 @@ use Rattle.clnum.specs.declared.int_type.IntType.TheVariants.{Ulong}
 use Rattle.clnum.specs.declared.operators.BinaryOperator.{BinaryOperator}
 use Rattle.clmodel.specs.declared.tree.InfixOperator.{InfixOperator}
 use Rattle.clmodel.specs.declared.tree.AddressSpace.{AddressSpace}
+use Rattle.clmodel.specs.declared.tree.AddressSpace.TheVariants.{Local}
 use Rattle.clmodel.specs.declared.tree.VariableType.TheVariants.{Integer}
 use Rattle.clmodel.specs.declared.tree.Parameter.{Parameter}
 use Rattle.clmodel.specs.Tree.{Term, Variable, Binary, Choice, Place, Whole, Behind, Stmt, If, IfElse, While, For, Assign, Step, Stmts, ThenStmt, MaybeStmt, MaybeTerm}
@@ -360,6 +361,11 @@ pub const_begins : {p : Purpose} {m : Mode} {u : Bool} {n a : ℕ} (space : Addr
 const_begins space b c d k type fs ps (of_first {u = u}) e = onward refl (onward refl (onward (element_word (ForParameter u) space true fs k type u refl e) (onward refl stop)))
 const_begins space b c d k type fs ps (of_next {u = u}) e = onward refl (onward refl (onward (element_word (ForParameter u) space true fs k type u refl e) (onward refl stop)))
 const_begins {n = n} {a = a} space b c d k type fs ps of_declaration e = onward refl (onward refl (onward (element_word (ForDeclaration a n) space true fs k type true refl e) (onward refl stop)))
+
+-- the space and the type of a local array
+pub local_begins : {n a : ℕ} (o : ℕ) (k : TokenKind) (type : IntType) (fs : List Frame) (ps : List Placed) → type_of true k ≡ Some type
+    → Runs (in_mode (Item n) fs) (put n (kinds.Space Local) a ∷ put n k o ∷ ps) (in_mode (AfterElement (ForDeclaration a n) Local false type) fs) ps
+local_begins {n = n} {a = a} o k type fs ps e = onward refl (onward (space_word (ForDeclaration a n) Local fs k type true refl e) stop)
 
 pub data WantsParameter : Bool → Mode → Type 0 where
   as_first : {u : Bool} → WantsParameter u (HeadOpen u)

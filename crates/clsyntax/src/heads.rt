@@ -6,6 +6,7 @@ ghost use Rattle.clsyntax_terms.specs.Grammar as grammar;
 ghost use Rattle.clsyntax_terms.specs.Machine as machine;
 ghost use Rattle.clsyntax_terms.specs.Views.{opened, purpose, type_mode_of, head_mode_of, Steps};
 
+use crate::arrays::on_local_name;
 use clmodel::tree::{Parameter, PointerType, VariableType};
 use clnum::IntType;
 use clsyntax_lex::token::{Token, TokenKind};
@@ -100,13 +101,19 @@ pub(crate) fn on_type(wanted: Purpose, mode: TypeMode, stack: Stack, token: Toke
             };
             TypeMode::AfterElement(space, matches!(mode, TypeMode::AfterConst(_)), element)
         }
-        (TypeMode::AfterElement(space, is_const, element), TokenKind::Star) => {
+        (TypeMode::AfterElement(space, is_const, element), kind) => {
             let pointer = PointerType {
                 space,
                 is_const,
                 element,
             };
-            TypeMode::Whole(VariableType::Pointer(pointer))
+            match kind {
+                TokenKind::Star => TypeMode::Whole(VariableType::Pointer(pointer)),
+                TokenKind::Name(name) => {
+                    return on_local_name(wanted, pointer, token.at, name, stack);
+                }
+                _ => return Ok(Step::Refused),
+            }
         }
         (TypeMode::Whole(kind), TokenKind::Name(name)) => return on_typed_name(
             wanted, kind, token.at, name, stack,

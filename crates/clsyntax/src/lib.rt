@@ -7,6 +7,7 @@ ghost use Rattle.clsyntax_lex.specs.declared.token.SyntaxFault.{SyntaxFault};
 ghost use Rattle.clsyntax.specs.Correct.{IsReading, IsOne, GivesAs, Gives};
 ghost use Rattle.clsyntax.specs.Source.{IsSource, IsOneSource};
 
+mod arrays;
 mod control;
 mod heads;
 mod machine;

@@ -4,6 +4,7 @@
 ghost use Rattle.clsyntax_terms.specs.Machine as machine;
 ghost use Rattle.clsyntax_terms.specs.Views.{state_of, Steps};
 
+use crate::arrays::on_array_mode;
 use crate::control::{on_did, on_final, on_initial, open_for};
 use crate::heads::{on_head, on_type};
 use crate::statements::{on_aim, on_aimed, on_begin, on_begin_name, on_declared, on_item};
@@ -65,6 +66,7 @@ pub(crate) fn step(alloc: Global, state: Box<State>, token: Token) -> Moved
         }
         (Mode::Typing(purpose, mode), _) => on_type(purpose, mode, stack, token),
         (Mode::Declared(declared), _) => on_declared(declared, stack, token),
+        (Mode::Array(mode), _) => on_array_mode(mode, stack, token),
         (Mode::Head(head), _) => on_head(head, stack, token),
         _ => Ok(Step::Refused),
     }

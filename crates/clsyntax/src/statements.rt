@@ -7,6 +7,7 @@ ghost use Rattle.clmodel.specs.Tree.{place, stmt, NoStmt, func};
 ghost use Rattle.clsyntax_terms.specs.Machine as machine;
 ghost use Rattle.clsyntax_terms.specs.Views.{opened, stmts_of, Steps};
 
+use crate::arrays::on_array;
 use crate::heads::on_typing;
 use clmodel::tree::{Expression, Function, Statement, Target};
 use clsyntax_lex::token::{Token, TokenKind};
@@ -24,6 +25,7 @@ pub(crate) fn on_declared(name: Declared, stack: Stack, token: Token) -> Moved
             let statement = declaration(stack.alloc, name, None)?;
             add_declaration(name.nesting, statement, stack)
         }
+        TokenKind::OpenSquare => on_array(name, stack),
         _ => Ok(Step::Refused),
     }
 }

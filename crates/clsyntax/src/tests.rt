@@ -101,6 +101,32 @@ fn address_spaces(rt: HostRuntime) -> Result<(), Fail> {
     Ok(())
 }
 
+/// Private and local arrays, with each form of a length.
+#[test]
+fn arrays(rt: HostRuntime) -> Result<(), Fail> {
+    let source =
+        b"void g() { ushort t[0x2ul]; } kernel void f() { __local int a[32769]; size_t b[0]; { local uchar c[007]; } }";
+    let tree = read(rt.alloc(), source)?;
+    let bodies: [&[&str]; 2] = [
+        &[
+            "DeclareArray { at: 11, is_local: false, element: Ushort, name_at: 18, name: 27, length_at: 20, length: Value { kind: Ulong, number: 2 } }",
+        ],
+        &[
+            "DeclareArray { at: 48, is_local: true, element: Int, name_at: 60, name: 29, length_at: 62, length: Value { kind: Int, number: 32769 } }",
+            "DeclareArray { at: 70, is_local: false, element: Ulong, name_at: 77, name: 30, length_at: 79, length: Value { kind: Int, number: 0 } }",
+            "Block { at: 83, body: [DeclareArray { at: 85, is_local: true, element: Uchar, name_at: 97, name: 31, length_at: 99, length: Value { kind: Int, number: 7 } }] }",
+        ],
+    ];
+    assert_eq!(rt; tree.functions.len(), 2);
+    for (function, texts) in tree.functions.iter().zip(bodies.iter()) {
+        assert_eq!(rt; function.body.len(), texts.len());
+        for (statement, text) in function.body.iter().zip(texts.iter()) {
+            assert_eq!(rt; format!(in rt.alloc(); "{statement:?}")?.as_str(), *text);
+        }
+    }
+    Ok(())
+}
+
 /// Each form of a statement that controls others, and each form of a function's head.
 #[test]
 fn control_flow(rt: HostRuntime) -> Result<(), Fail> {
@@ -209,6 +235,41 @@ fn faults_of_pointers(rt: HostRuntime) -> Result<(), Fail> {
     Ok(())
 }
 
+/// Where no array's declaration can go on.
+#[test]
+fn faults_of_arrays(rt: HostRuntime) -> Result<(), Fail> {
+    for (source, at) in [
+        ("void f() { int t[]; }", 17),
+        ("void f() { int t[n]; }", 17),
+        ("void f() { int t[1 + 1]; }", 19),
+        ("void f() { int t[-1]; }", 17),
+        ("void f() { int t[(1)]; }", 17),
+        ("void f() { int t[2] = 1; }", 20),
+        ("void f() { int t[2][2]; }", 19),
+        ("void f() { int t[2 ; }", 19),
+        ("void f() { int t[2] }", 20),
+        ("void f() { global int t[2]; }", 22),
+        ("void f() { constant int t[2]; }", 24),
+        ("void f() { local const int t[2]; }", 27),
+        ("void f() { local int t; }", 22),
+        ("void f() { local int t = 1; }", 23),
+        ("void f() { local int *p[2]; }", 23),
+        ("void f() { for (int t[2]; ; ) ; }", 21),
+        ("void f() { if (1) int t[2]; }", 18),
+        ("void f(int t[2]) { }", 12),
+        ("void f(local int t[2]) { }", 17),
+        ("local int t[2]; void f() { }", 0),
+        ("void f() { local int t[2]", 25),
+    ] {
+        assert_eq!(rt;
+            fault_of(&rt, source),
+            Some(SyntaxFault::Unexpected { at }),
+            "{source}"
+        );
+    }
+    Ok(())
+}
+
 #[test]
 fn nesting(rt: HostRuntime) -> Result<(), Fail> {
     // in a block, a square bracket and 63 round ones the last is nested 65 deep
@@ -218,6 +279,16 @@ fn nesting(rt: HostRuntime) -> Result<(), Fail> {
         fault_of(&rt, source),
         Some(SyntaxFault::TooDeep { at: 100 })
     );
+    // in 64 blocks the length of an array is nested 65 deep, in 63 it isn't
+    let source =
+        "void f() { {{{{{{{{{{{{{{{{{{{{{{{{{{{{{{{{{{{{{{{{{{{{{{{{{{{{{{{{{{{{{{{ int t[1]; }}}}}}}}}}}}}}}}}}}}}}}}}}}}}}}}}}}}}}}}}}}}}}}}}}}}}}}}}}}}}}} }";
+    assert_eq!(rt;
+        fault_of(&rt, source),
+        Some(SyntaxFault::TooDeep { at: 81 })
+    );
+    let source =
+        "void f() { {{{{{{{{{{{{{{{{{{{{{{{{{{{{{{{{{{{{{{{{{{{{{{{{{{{{{{{{{{{{{{ int t[1]; }}}}}}}}}}}}}}}}}}}}}}}}}}}}}}}}}}}}}}}}}}}}}}}}}}}}}}}}}}}}}} }";
+    assert_eq!(rt; fault_of(&rt, source), None);
     // the statement of the 64th `do` is nested 65 deep, with the block
     let source =
         "void f() { do do do do do do do do do do do do do do do do do do do do do do do do do do do do do do do do do do do do do do do do do do do do do do do do do do do do do do do do do do do do do do do do ;";

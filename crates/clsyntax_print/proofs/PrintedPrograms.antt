@@ -5,12 +5,12 @@ use Rattle.clmodel.specs.declared.tree.Parameter.{Parameter}
 use Rattle.clmodel.specs.Tree.{Stmt, Empty, Block, Declare, DeclareAs, If, IfElse, While, DoWhile, For, Break, Continue, Return, ReturnValue, MaybeStmt, Without, With, MaybeTerm, Always, While_, Stmts, NoStmt, ThenStmt, Func, Funcs, NoFunc, ThenFunc}
 use Rattle.clsyntax_lex.specs.declared.token.Token.{Token}
 use Rattle.clsyntax_lex.specs.declared.token.TokenKind.TheVariants as kinds
-use Rattle.clsyntax_terms.specs.Grammar.{Placed, put, parameter_of, IsNoElse, Head, head, with_body, Goal, Statement, Declaration, Items, Initial, Condition, Final, OneParameter, Parameters, Returning, Heading, Program, Reads, simple, empty, block, if_only, if_else, while_loop, do_loop, for_loop, no_initial, simple_initial, declared_initial, no_condition, condition, no_final, simple_final, break_only, continue_only, return_only, return_value, declare, declare_as, no_items, statement, declaration, parameter, first_parameter, next_parameter, kernel, void, typed, bare_heading, heading, no_functions, function}
+use Rattle.clsyntax_terms.specs.Grammar.{Placed, put, parameter_of, IsNoElse, Head, head, with_body, Goal, Statement, Declaration, Items, Initial, Condition, Final, OneParameter, Parameters, Returning, Heading, Program, Reads, simple, empty, block, if_only, if_else, while_loop, do_loop, for_loop, no_initial, simple_initial, declared_initial, no_condition, condition, no_final, simple_final, break_only, continue_only, return_only, return_value, declare, declare_as, array, local_array, no_items, statement, declaration, parameter, first_parameter, next_parameter, kernel, void, typed, bare_heading, heading, no_functions, function}
 use Rattle.clsyntax.specs.Correct.{IsNonEmpty}
 use Rattle.clsyntax_lex.specs.Printed.{kinds_of}
 use Rattle.clsyntax_print.specs.Printing.{plain_term, plain_maybe_term, plain_stmt, plain_maybe_stmt, plain_stmts, plain_parameter, plain_func, plain_funcs, Kinds, with_token, print_term, print_part, print_condition, print_stmt, print_stmts, print_parameter, print_parameters, result_kind, print_func, print_funcs, IsPrinted}
 use Rattle.clsyntax_print.proofs.PrintedTerms.{first_of_kinds, begin, begins, behind_one, Again, term_again}
-use Rattle.clsyntax_print.proofs.PrintedStatements.{simple_again, simple_ended, NoElse, no_else, statement_no_else, declaration_no_else, type_again, AgainDeclaration}
+use Rattle.clsyntax_print.proofs.PrintedStatements.{simple_again, simple_ended, NoElse, no_else, statement_no_else, declaration_no_else, type_again, array_again, local_array_again, AgainDeclaration}
 
 -- ---- programs
 
@@ -315,6 +315,8 @@ again (declare_as {n = n} {x = x} {kind = kind} {e = e} r v) = λ rest ts s.
           let R : ℕ → Type 0 = λ a. Reads (Declaration n (DeclareAs a kind name.at x value.tree.0)) f.placed qs in
           record { placed = f.placed; same = f.same; reads = subst R (begins f.placed ts f.same) (declare_as f.reads g.reads) };
     }
+again (array {n = n} {a = a} {b = b} {d = d} {x = x} {type = type} {v = v} i) = λ rest ts s. array_again n a b x d type v rest ts s
+again (local_array {n = n} {a = a} {b = b} {d = d} {x = x} {type = type} {v = v} i) = λ rest ts s. local_array_again n a b x d type v rest ts s
 again no_items = λ rest ts h s. record { tree = NoStmt; after = ts; kinds = s; same = refl; place = λ qs q. record { placed = qs; same = q; reads = no_items } }
 again (statement {ss = ss} {s = one} r q) = λ rest ts h s.
     let before = again r (print_stmt one rest) ts (statement_no_else q rest) s in

@@ -1,15 +1,17 @@
 -- What statements without others in them are printed as stands for them, offsets aside.
 use Rattle.std.proofs.Common.{◌≡◌, ◌≢◌, ℕ, suc, List, [], ◌∷◌, Bool, true, false, Option, Some, None, refl, sym, ◌∙◌, ap, subst}
+use Rattle.clnum.specs.Integer as whole
 use Rattle.clnum.specs.declared.int_type.IntType.{IntType}
 use Rattle.clnum.specs.declared.operators.BinaryOperator.{BinaryOperator}
 use Rattle.clnum.specs.declared.operators.BinaryOperator.TheVariants.{Add, Subtract, Multiply, Divide, Remainder, ShiftLeft, ShiftRight, BitAnd, BitXor, BitOr}
+use Rattle.clmodel.specs.declared.tree.AddressSpace.TheVariants.{Local}
 use Rattle.clmodel.specs.declared.tree.VariableType.{VariableType}
 use Rattle.clmodel.specs.declared.tree.VariableType.TheVariants.{Integer, Pointer}
-use Rattle.clmodel.specs.Tree.{Term, Terms, NoTerm, ThenTerm, Place, Whole, Part, Behind, Stmt, Assign, Step, CallOnly}
+use Rattle.clmodel.specs.Tree.{Term, Terms, NoTerm, ThenTerm, Place, Whole, Part, Behind, Stmt, DeclareArray, Assign, Step, CallOnly}
 use Rattle.clsyntax_lex.specs.declared.token.Token.{Token}
 use Rattle.clsyntax_lex.specs.declared.token.TokenKind.{TokenKind}
 use Rattle.clsyntax_lex.specs.declared.token.TokenKind.TheVariants as kinds
-use Rattle.clsyntax_terms.specs.Grammar.{Placed, put, start, tight, type_of, assign_of, step_of, IsNoElse, Target, Simple, Statement, Typing, Declaration, Reads, whole_place, part, behind_star, assign, step_before, step_behind, bare_call_only, call_only, simple, empty, block, if_only, if_else, while_loop, do_loop, for_loop, break_only, continue_only, return_only, return_value, integer, pointer, const_pointer, declare, declare_as}
+use Rattle.clsyntax_terms.specs.Grammar.{Placed, put, start, tight, type_of, assign_of, step_of, IsNoElse, Target, Simple, Statement, Typing, Declaration, Reads, whole_place, part, behind_star, assign, step_before, step_behind, bare_call_only, call_only, simple, empty, block, if_only, if_else, while_loop, do_loop, for_loop, break_only, continue_only, return_only, return_value, integer, pointer, const_pointer, declare, declare_as, array, local_array}
 use Rattle.clsyntax.specs.Correct.{tokens}
 use Rattle.clsyntax_lex.specs.Printed.{kinds_of}
 use Rattle.clsyntax_print.specs.Printing.{plain_term, plain_place, plain_stmt, Kinds, assign_kind, step_kind, print_term, print_place, print_type, print_simple, print_stmt}
@@ -181,6 +183,8 @@ simple_no_else (call_only r) rest = λ e. cc
 pub declaration_no_else : {n : ℕ} {s : Stmt} {ps qs : List Placed} → Reads (Declaration n s) ps qs → (rest : Kinds) → NoElse (print_stmt s rest)
 declaration_no_else (declare {x = x} {kind = kind} r) rest = type_no_else kind (kinds.Name x ∷ kinds.Semicolon ∷ rest)
 declaration_no_else (declare_as {x = x} {kind = kind} {e = e} r q) rest = type_no_else kind (kinds.Name x ∷ kinds.Assign ∷ print_term 0 e (kinds.Semicolon ∷ rest))
+declaration_no_else (array i) rest = λ e. cc
+declaration_no_else (local_array i) rest = λ e. cc
 
 pub statement_no_else : {n : ℕ} {s : Stmt} {ps qs : List Placed} → Reads (Statement n s) ps qs → (rest : Kinds) → NoElse (print_stmt s rest)
 statement_no_else (simple {s = s} r) rest = subst NoElse (sym (simple_ended r rest)) (simple_no_else r (kinds.Semicolon ∷ rest))
@@ -247,3 +251,71 @@ type_again (const_pointer {n = n} {u = u} {space = space} {type = type} i) = λ 
 
 abbrev pub AgainDeclaration : (n : ℕ) → Stmt → Kinds → List Token → Type 0
 AgainDeclaration n s rest ts = Again Stmt (λ x. Declaration n x) (λ x. plain_stmt x ≡ plain_stmt s) rest ts
+
+-- an array's name, its length in brackets and a semicolon
+abbrev sized : (n x : ℕ) → whole.Integer → (name_at open_at length_at close_at end_at : ℕ) → List Placed → List Placed
+sized n x v name_at open_at length_at close_at end_at qs =
+    put n (kinds.Name x) name_at ∷ put n kinds.OpenSquare open_at ∷ put (suc n) (kinds.Number v) length_at ∷ put (suc n) kinds.CloseSquare close_at ∷ put n kinds.Semicolon end_at ∷ qs
+
+record Sized (n x : ℕ) (v : whole.Integer) (rest : Kinds) (ts : List Token) : Type 0 where
+  name_at : ℕ
+  open_at : ℕ
+  length_at : ℕ
+  close_at : ℕ
+  end_at : ℕ
+  after : List Token
+  same : (qs : List Placed) → tokens qs ≡ after → tokens (sized n x v name_at open_at length_at close_at end_at qs) ≡ ts
+  kinds : kinds_of after ≡ rest
+
+sized_again : (n x : ℕ) (v : whole.Integer) (rest : Kinds) (ts : List Token) → kinds_of ts ≡ kinds.Name x ∷ kinds.OpenSquare ∷ kinds.Number v ∷ kinds.CloseSquare ∷ kinds.Semicolon ∷ rest → Sized n x v rest ts
+sized_again n x v rest ts s =
+    let name = first_of_kinds (kinds.Name x) _ ts s in
+    let open_ = first_of_kinds kinds.OpenSquare _ name.rest name.kinds in
+    let number = first_of_kinds (kinds.Number v) _ open_.rest open_.kinds in
+    let close_ = first_of_kinds kinds.CloseSquare _ number.rest number.kinds in
+    let end_ = first_of_kinds kinds.Semicolon rest close_.rest close_.kinds in
+    record {
+      name_at = name.at;
+      open_at = open_.at;
+      length_at = number.at;
+      close_at = close_.at;
+      end_at = end_.at;
+      after = end_.rest;
+      same = λ qs q.
+          let ended : List Placed = put n kinds.Semicolon end_.at ∷ qs in
+          let closed : List Placed = put (suc n) kinds.CloseSquare close_.at ∷ ended in
+          let counted : List Placed = put (suc n) (kinds.Number v) number.at ∷ closed in
+          let opened : List Placed = put n kinds.OpenSquare open_.at ∷ counted in
+          behind_one n name opened (behind_one n open_ counted (behind_one (suc n) number closed (behind_one (suc n) close_ ended (behind_one n end_ qs q))));
+      kinds = end_.kinds;
+    }
+
+pub array_again : (n a b x d : ℕ) (type : IntType) (v : whole.Integer) (rest : Kinds) (ts : List Token) → kinds_of ts ≡ print_stmt (DeclareArray a false type b x d v) rest → AgainDeclaration n (DeclareArray a false type b x d v) rest ts
+array_again n a b x d type v rest ts s =
+    let word = first_of_kinds (kinds.Type type) _ ts s in
+    let z = sized_again n x v rest word.rest word.kinds in
+    record {
+      tree = DeclareArray word.at false type z.name_at x z.length_at v;
+      after = z.after;
+      kinds = z.kinds;
+      same = refl;
+      place = λ qs q.
+          let named : List Placed = sized n x v z.name_at z.open_at z.length_at z.close_at z.end_at qs in
+          record { placed = put n (kinds.Type type) word.at ∷ named; same = behind_one n word named (z.same qs q); reads = array refl };
+    }
+
+pub local_array_again : (n a b x d : ℕ) (type : IntType) (v : whole.Integer) (rest : Kinds) (ts : List Token) → kinds_of ts ≡ print_stmt (DeclareArray a true type b x d v) rest → AgainDeclaration n (DeclareArray a true type b x d v) rest ts
+local_array_again n a b x d type v rest ts s =
+    let space = first_of_kinds (kinds.Space Local) _ ts s in
+    let word = first_of_kinds (kinds.Type type) _ space.rest space.kinds in
+    let z = sized_again n x v rest word.rest word.kinds in
+    record {
+      tree = DeclareArray space.at true type z.name_at x z.length_at v;
+      after = z.after;
+      kinds = z.kinds;
+      same = refl;
+      place = λ qs q.
+          let named : List Placed = sized n x v z.name_at z.open_at z.length_at z.close_at z.end_at qs in
+          let typed : List Placed = put n (kinds.Type type) word.at ∷ named in
+          record { placed = put n (kinds.Space Local) space.at ∷ typed; same = behind_one n space typed (behind_one n word named (z.same qs q)); reads = local_array refl };
+    }

@@ -10,7 +10,7 @@ use Rattle.clmodel.specs.Tree.{Term, Terms, NoTerm, ThenTerm}
 use Rattle.clsyntax_lex.specs.declared.token.TokenKind.{TokenKind}
 use Rattle.clsyntax_lex.specs.declared.token.TokenKind.TheVariants as kinds
 use Rattle.clsyntax_terms.specs.Grammar as grammar
-use Rattle.clsyntax_terms.specs.Grammar.{Placed, start, level, tight, Prefix, Operator, Fetch, Convert, prefixed_by, prefix_of, infix_of, type_of, assign_of, step_of, with_body, Goal, Expr, Arguments, Target, Simple, Statement, Typing, Declaration, Items, OneParameter, Parameters, Heading, Program, Reads, number, variable, element, address, bare_call, call, round, operator, cast, prefixed, binary, choice, one_argument, next_argument, whole_place, part, behind_star, assign, step_before, step_behind, bare_call_only, call_only, simple, empty, block, if_only, if_else, while_loop, do_loop, for_loop, no_initial, simple_initial, declared_initial, no_condition, condition, no_final, simple_final, break_only, continue_only, return_only, return_value, integer, pointer, const_pointer, declare, declare_as, no_items, statement, declaration, parameter, first_parameter, next_parameter, kernel, void, typed, bare_heading, heading, no_functions, function}
+use Rattle.clsyntax_terms.specs.Grammar.{Placed, start, level, tight, Prefix, Operator, Fetch, Convert, prefixed_by, prefix_of, infix_of, type_of, assign_of, step_of, with_body, Goal, Expr, Arguments, Target, Simple, Statement, Typing, Declaration, Items, OneParameter, Parameters, Heading, Program, Reads, number, variable, element, address, bare_call, call, round, operator, cast, prefixed, binary, choice, one_argument, next_argument, whole_place, part, behind_star, assign, step_before, step_behind, bare_call_only, call_only, simple, empty, block, if_only, if_else, while_loop, do_loop, for_loop, no_initial, simple_initial, declared_initial, no_condition, condition, no_final, simple_final, break_only, continue_only, return_only, return_value, integer, pointer, const_pointer, declare, declare_as, array, local_array, no_items, statement, declaration, parameter, first_parameter, next_parameter, kernel, void, typed, bare_heading, heading, no_functions, function}
 use Rattle.clsyntax.specs.Correct.{tokens}
 use Rattle.clsyntax_lex.specs.Printed.{kinds_of}
 use Rattle.clsyntax_print.specs.Printing.{Kinds, infix_kind, unary_kind, assign_kind, step_kind, bracketed, print_term, print_terms, print_place, print_type, with_token, print_simple, print_part, print_condition, print_stmt, print_stmts, print_parameter, print_parameters, result_kind, print_func, print_funcs, with_word, words_in, HasWords}
@@ -168,6 +168,8 @@ same_words (const_pointer {u = u} {k = k} {type = type} {qs = qs} i) = λ rest h
 same_words (declare {x = x} r) = λ rest h. same_words r (kinds.Name x ∷ kinds.Semicolon ∷ rest) (name_then x h)
 same_words (declare_as {x = x} {e = e} r q) = λ rest h.
     same_words r (kinds.Name x ∷ kinds.Assign ∷ print_term 0 e (kinds.Semicolon ∷ rest)) (name_then x (same_words q 0 (kinds.Semicolon ∷ rest) h))
+same_words (array {x = x} {k = k} {type = type} {v = v} {qs = qs} i) = λ rest h. type_is_none true k type (kinds.Name x ∷ kinds.Number v ∷ words qs) i ∙ name_then x (ap (λ z. kinds.Number v ∷ z) h)
+same_words (local_array {x = x} {k = k} {type = type} {v = v} {qs = qs} i) = λ rest h. type_is_none true k type (kinds.Name x ∷ kinds.Number v ∷ words qs) i ∙ name_then x (ap (λ z. kinds.Number v ∷ z) h)
 same_words no_items = λ rest h. h
 same_words (statement {s = s} r q) = λ rest h. same_words r (print_stmt s rest) (same_words q rest h)
 same_words (declaration {s = s} r q) = λ rest h. same_words r (print_stmt s rest) (same_words q rest h)

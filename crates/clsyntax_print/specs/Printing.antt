@@ -7,6 +7,7 @@ use Rattle.clnum.specs.declared.operators.BinaryOperator.{BinaryOperator}
 use Rattle.clnum.specs.declared.operators.BinaryOperator.TheVariants.{Add, Subtract, Multiply, Divide, Remainder, ShiftLeft, ShiftRight, Less, Greater, LessOrEqual, GreaterOrEqual, Equal, NotEqual, BitAnd, BitXor, BitOr}
 use Rattle.clmodel.specs.declared.tree.InfixOperator.{InfixOperator}
 use Rattle.clmodel.specs.declared.tree.InfixOperator.TheVariants.{Arithmetic, LogicalAnd, LogicalOr}
+use Rattle.clmodel.specs.declared.tree.AddressSpace.TheVariants.{Local}
 use Rattle.clmodel.specs.declared.tree.VariableType.{VariableType}
 use Rattle.clmodel.specs.declared.tree.VariableType.TheVariants.{Integer, Pointer}
 use Rattle.clmodel.specs.declared.tree.Parameter.{Parameter}
@@ -184,6 +185,7 @@ with_token false kind rest = rest
 abbrev pub print_simple : Stmt → Kinds → Kinds
 print_simple (Declare at kind b x) rest = print_type kind (kinds.Name x ∷ rest)
 print_simple (DeclareAs at kind b x e) rest = print_type kind (kinds.Name x ∷ kinds.Assign ∷ print_term 0 e rest)
+print_simple (DeclareArray at is_local type b x c v) rest = with_token is_local (kinds.Space Local) (kinds.Type type ∷ kinds.Name x ∷ kinds.OpenSquare ∷ kinds.Number v ∷ kinds.CloseSquare ∷ rest)
 print_simple (Assign at p op e) rest = print_place p (assign_kind op ∷ print_term 0 e rest)
 print_simple (Step at p is_increment) rest = step_kind is_increment ∷ print_place p rest
 print_simple (CallOnly at x es) rest = kinds.Name x ∷ kinds.OpenRound ∷ print_terms es (kinds.CloseRound ∷ rest)

@@ -2,17 +2,19 @@
 #![tactic(auto)]
 
 ghost use Rattle.std.specs.Prelude.{◌≡◌, ◌++◌, ◌∷◌, List, map};
+ghost use Rattle.clmodel.specs.declared.tree.AddressSpace.TheVariants.{Local};
 ghost use Rattle.clmodel.specs.Tree.{term, place, stmt, maybe_term, then_stmts, NoStmt};
 ghost use Rattle.clsyntax_lex.specs.declared.token.TokenKind.{TokenKind};
 ghost use Rattle.clsyntax_lex.specs.declared.token.TokenKind.TheVariants as kinds;
-ghost use Rattle.clsyntax_print.specs.Printing.{print_place, print_type, print_term, print_simple, print_part, print_condition, print_stmt, print_stmts};
+ghost use Rattle.clsyntax_print.specs.Printing.{with_token, print_place, print_type, print_term, print_simple, print_part, print_condition, print_stmt, print_stmts};
 ghost use Rattle.clsyntax_print.specs.Writing.{part_of, Passes};
 
 use crate::expressions::{write_arguments, write_between};
 use crate::operators::{TIGHT, assign_kind, step_kind};
-use crate::tokens::write_tokens;
+use crate::tokens::{write_if, write_tokens};
 use clmodel::text::Name;
-use clmodel::tree::{Expression, Statement, Target, VariableType};
+use clmodel::tree::{AddressSpace, Expression, Statement, Target, VariableType};
+use clnum::{IntType, Value};
 use clsyntax_lex::token::TokenKind;
 use ends::{Write, WriteFailed};
 
@@ -62,6 +64,37 @@ pub fn write_type<W: Write>(
     }
 }
 
+/// Writes the declaration of an array without its semicolon.
+fn write_array<W: Write>(
+    is_local: bool,
+    element: IntType,
+    name: u32,
+    length: Value,
+    names: &[Name],
+    writer: &mut W,
+) -> Result<(), WriteFailed>
+    ensures { (rest : List TokenKind) → Passes names.now (W.sink writer.old) result (W.sink writer.new)
+        (with_token is_local (kinds.Space Local) (kinds.Type element ∷ kinds.Name name ∷ kinds.OpenSquare ∷ kinds.Number length ∷ kinds.CloseSquare ∷ rest)) rest }
+{
+    write_if(
+        is_local,
+        TokenKind::Space(AddressSpace::Local),
+        names,
+        writer,
+    )?;
+    write_tokens(
+        &[
+            TokenKind::Type(element),
+            TokenKind::Name(name),
+            TokenKind::OpenSquare,
+            TokenKind::Number(length),
+            TokenKind::CloseSquare,
+        ],
+        names,
+        writer,
+    )
+}
+
 /// Writes a declaration, an assignment, a step or a call without its semicolon.
 fn write_simple<W: Write>(
     statement: &Statement,
@@ -86,6 +119,13 @@ fn write_simple<W: Write>(
                 }
             }
         }
+        Statement::DeclareArray {
+            is_local,
+            element,
+            name,
+            length,
+            ..
+        } => write_array(*is_local, *element, *name, *length, names, writer),
         Statement::Assign {
             target,
             operator,

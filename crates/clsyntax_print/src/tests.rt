@@ -78,6 +78,18 @@ fn address_spaces(rt: HostRuntime) -> Result<(), Fail> {
     Ok(())
 }
 
+/// Arrays with their lengths.
+#[test]
+fn arrays(rt: HostRuntime) -> Result<(), Fail> {
+    let source = b"kernel void f() { local int a[32769]; ushort t[0x2ul]; { size_t b[010]; } }";
+    let text =
+        b"__kernel void f ( ) { __local int a [ 32769 ] ; ushort t [ 2ul ] ; { ulong b [ 8 ] ; } } ";
+    let (answer, written) = printed(rt.alloc(), source, 1000)?;
+    assert_eq!(rt; answer, Ok(()));
+    assert_eq!(rt; written.as_slice(), text.as_slice());
+    Ok(())
+}
+
 /// Brackets stand where an operator binds less tightly than is wanted, and numbers keep their types.
 #[test]
 fn brackets_and_numbers(rt: HostRuntime) -> Result<(), Fail> {

@@ -10,10 +10,11 @@ use Rattle.clnum.specs.declared.operators.BinaryOperator.TheVariants.{Add, Subtr
 use Rattle.clmodel.specs.declared.tree.InfixOperator.{InfixOperator}
 use Rattle.clmodel.specs.declared.tree.InfixOperator.TheVariants.{Arithmetic, LogicalAnd, LogicalOr}
 use Rattle.clmodel.specs.declared.tree.AddressSpace.{AddressSpace}
+use Rattle.clmodel.specs.declared.tree.AddressSpace.TheVariants.{Local}
 use Rattle.clmodel.specs.declared.tree.VariableType.{VariableType}
 use Rattle.clmodel.specs.declared.tree.VariableType.TheVariants.{Integer, Pointer}
 use Rattle.clmodel.specs.declared.tree.Parameter.{Parameter}
-use Rattle.clmodel.specs.Tree.{Term, Number, Variable, Element, ElementAddress, Dereference, Call, Unary, Cast, Binary, Choice, Terms, NoTerm, ThenTerm, Place, Whole, Part, Behind, Stmt, Empty, Block, Declare, DeclareAs, Assign, Step, CallOnly, If, IfElse, While, DoWhile, For, Break, Continue, Return, ReturnValue, Stmts, NoStmt, ThenStmt, MaybeStmt, Without, With, MaybeTerm, Always, While_, Func, Funcs, NoFunc, ThenFunc}
+use Rattle.clmodel.specs.Tree.{Term, Number, Variable, Element, ElementAddress, Dereference, Call, Unary, Cast, Binary, Choice, Terms, NoTerm, ThenTerm, Place, Whole, Part, Behind, Stmt, Empty, Block, Declare, DeclareAs, DeclareArray, Assign, Step, CallOnly, If, IfElse, While, DoWhile, For, Break, Continue, Return, ReturnValue, Stmts, NoStmt, ThenStmt, MaybeStmt, Without, With, MaybeTerm, Always, While_, Func, Funcs, NoFunc, ThenFunc}
 use Rattle.clsyntax_lex.specs.declared.token.Token.{Token}
 use Rattle.clsyntax_lex.specs.declared.token.TokenKind.{TokenKind}
 use Rattle.clsyntax_lex.specs.declared.token.TokenKind.TheVariants as kinds
@@ -338,6 +339,15 @@ pub data Reads : Goal → List Placed → List Placed → Type 0 where
       → Reads (Typing true n kind) ps (put n (kinds.Name x) b ∷ put n kinds.Assign c ∷ qs)
       → Reads (Expr 0 n e m) qs (put n kinds.Semicolon d ∷ rs)
       → Reads (Declaration n (DeclareAs (start ps) kind b x e)) ps rs
+  -- an array, private or local (C99 6.7.5.2; OpenCL 1.2, 6.5.2 and 6.5.4)
+  array : {n a b c d g h x : ℕ} {k : TokenKind} {type : IntType} {v : whole.Integer} {qs : List Placed}
+      → type_of true k ≡ Some type
+      → Reads (Declaration n (DeclareArray a false type b x d v))
+      (put n k a ∷ put n (kinds.Name x) b ∷ put n kinds.OpenSquare c ∷ put (suc n) (kinds.Number v) d ∷ put (suc n) kinds.CloseSquare g ∷ put n kinds.Semicolon h ∷ qs) qs
+  local_array : {n a b c d g h o x : ℕ} {k : TokenKind} {type : IntType} {v : whole.Integer} {qs : List Placed}
+      → type_of true k ≡ Some type
+      → Reads (Declaration n (DeclareArray a true type b x d v))
+      (put n (kinds.Space Local) a ∷ put n k o ∷ put n (kinds.Name x) b ∷ put n kinds.OpenSquare c ∷ put (suc n) (kinds.Number v) d ∷ put (suc n) kinds.CloseSquare g ∷ put n kinds.Semicolon h ∷ qs) qs
   no_items : {n : ℕ} {ps : List Placed} → Reads (Items n NoStmt) ps ps
   statement : {n : ℕ} {ss : Stmts} {s : Stmt} {ps qs rs : List Placed}
       → Reads (Items n ss) ps qs

@@ -5,10 +5,11 @@ use Rattle.clnum.specs.declared.int_type.IntType.TheVariants.{Ulong}
 use Rattle.clnum.specs.declared.operators.BinaryOperator.{BinaryOperator}
 use Rattle.clmodel.specs.declared.tree.InfixOperator.{InfixOperator}
 use Rattle.clmodel.specs.declared.tree.AddressSpace.{AddressSpace}
+use Rattle.clmodel.specs.declared.tree.AddressSpace.TheVariants.{Local}
 use Rattle.clmodel.specs.declared.tree.VariableType.{VariableType}
 use Rattle.clmodel.specs.declared.tree.VariableType.TheVariants.{Integer}
 use Rattle.clmodel.specs.declared.tree.Parameter.{Parameter}
-use Rattle.clmodel.specs.Tree.{Term, Number, Variable, Element, ElementAddress, Call, Binary, Choice, Terms, NoTerm, ThenTerm, Place, Whole, Part, Behind, Stmt, Empty, Block, Declare, DeclareAs, Assign, Step, CallOnly, If, IfElse, While, DoWhile, For, Break, Continue, Return, ReturnValue, Stmts, NoStmt, ThenStmt, MaybeStmt, Without, With, MaybeTerm, Always, While_, Func, Funcs, NoFunc, ThenFunc}
+use Rattle.clmodel.specs.Tree.{Term, Number, Variable, Element, ElementAddress, Call, Binary, Choice, Terms, NoTerm, ThenTerm, Place, Whole, Part, Behind, Stmt, Empty, Block, Declare, DeclareAs, DeclareArray, Assign, Step, CallOnly, If, IfElse, While, DoWhile, For, Break, Continue, Return, ReturnValue, Stmts, NoStmt, ThenStmt, MaybeStmt, Without, With, MaybeTerm, Always, While_, Func, Funcs, NoFunc, ThenFunc}
 use Rattle.clsyntax_lex.specs.declared.token.Token.{Token}
 use Rattle.clsyntax_lex.specs.declared.token.TokenKind.{TokenKind}
 use Rattle.clsyntax_lex.specs.declared.token.TokenKind.TheVariants as kinds
@@ -106,6 +107,11 @@ pub data Mode : Type 0 where
   AfterElement : Purpose → AddressSpace → (is_const : Bool) → IntType → Mode
   AfterTyping : Purpose → VariableType → Mode
   Declared : (n at : ℕ) → VariableType → (name_at name : ℕ) → Mode
+  -- a local array's name was read; the bracket of an array's length; all of a declaration but `];`, or but its semicolon
+  ArrayNamed : (n at : ℕ) → (is_local : Bool) → IntType → (name_at name : ℕ) → Mode
+  ArrayOpened : (n at : ℕ) → (is_local : Bool) → IntType → (name_at name : ℕ) → Mode
+  ArraySized : (n : ℕ) → Stmt → Mode
+  ArrayClosed : (n : ℕ) → Stmt → Mode
   -- a function, or the program's end, is wanted; the words of its head
   Top : Mode
   AfterKernel : Mode
@@ -360,9 +366,15 @@ abbrev pub on_after_space : Purpose → AddressSpace → List Frame → TokenKin
 on_after_space p space fs kinds.Const = go (nesting_of p) (AfterConst p space) fs
 on_after_space p space fs kind = on_after_const p space false fs kind
 
-abbrev pub on_after_element : Purpose → AddressSpace → Bool → IntType → List Frame → TokenKind → Moved
-on_after_element p space is_const type fs kind = elim kind [
+-- a name in place of a pointer's star: a local array's
+abbrev pub on_local_name : Purpose → AddressSpace → Bool → IntType → ℕ → ℕ → List Frame → Moved
+on_local_name (ForDeclaration a n) Local false type b x fs = go n (ArrayNamed n a true type b x) fs
+on_local_name _ _ _ type b x fs = None
+
+abbrev pub on_after_element : Purpose → AddressSpace → Bool → IntType → List Frame → Token → Moved
+on_after_element p space is_const type fs t = elim t.kind [
   | kinds.Star ↦ go (nesting_of p) (AfterTyping p (pointer_to space is_const type)) fs
+  | kinds.Name x ↦ on_local_name p space is_const type t.at x fs
   | _ ↦ None
 ]
 
@@ -386,10 +398,45 @@ on_after_typing p kind fs t = elim t.kind [
 
 -- ---- statements and declarations
 
+-- the items of a block are in front
+abbrev pub in_block : List Frame → Bool
+in_block (InItems n ss ∷ fs) = true
+in_block _ = false
+
+-- the square bracket behind a declared name: in a block, that of an array
+abbrev pub on_array : ℕ → ℕ → VariableType → ℕ → ℕ → List Frame → Moved
+on_array n a (Integer type) b x fs = when (in_block fs) (go n (ArrayOpened n a false type b x) fs)
+on_array n a _ b x fs = None
+
 abbrev pub on_declared : ℕ → ℕ → VariableType → ℕ → ℕ → List Frame → Token → Moved
 on_declared n a kind b x fs t = elim t.kind [
   | kinds.Assign ↦ go n (Operand n) (InDeclare a n kind b x ∷ fs)
   | kinds.Semicolon ↦ add_declaration n (Declare a kind b x) fs
+  | kinds.OpenSquare ↦ on_array n a kind b x fs
+  | _ ↦ None
+]
+
+abbrev pub on_array_named : ℕ → ℕ → Bool → IntType → ℕ → ℕ → List Frame → TokenKind → Moved
+on_array_named n a is_local type b x fs kind = elim kind [
+  | kinds.OpenSquare ↦ go n (ArrayOpened n a is_local type b x) fs
+  | _ ↦ None
+]
+
+abbrev pub on_array_opened : ℕ → ℕ → Bool → IntType → ℕ → ℕ → List Frame → Token → Moved
+on_array_opened n a is_local type b x fs t = elim t.kind [
+  | kinds.Number v ↦ go (suc n) (ArraySized n (DeclareArray a is_local type b x t.at v)) fs
+  | _ ↦ None
+]
+
+abbrev pub on_array_sized : ℕ → Stmt → List Frame → TokenKind → Moved
+on_array_sized n s fs kind = elim kind [
+  | kinds.CloseSquare ↦ go (suc n) (ArrayClosed n s) fs
+  | _ ↦ None
+]
+
+abbrev pub on_array_closed : ℕ → Stmt → List Frame → TokenKind → Moved
+on_array_closed n s fs kind = elim kind [
+  | kinds.Semicolon ↦ add_declaration n s fs
   | _ ↦ None
 ]
 
@@ -669,9 +716,13 @@ step_in (AfterFor n a) fs t = on_after_for n a fs t.kind
 step_in (AfterDo n a s) fs t = on_after_do n a s fs t.kind
 step_in (AfterSpace p space) fs t = on_after_space p space fs t.kind
 step_in (AfterConst p space) fs t = on_after_const p space true fs t.kind
-step_in (AfterElement p space is_const type) fs t = on_after_element p space is_const type fs t.kind
+step_in (AfterElement p space is_const type) fs t = on_after_element p space is_const type fs t
 step_in (AfterTyping p kind) fs t = on_after_typing p kind fs t
 step_in (Declared n a kind b x) fs t = on_declared n a kind b x fs t
+step_in (ArrayNamed n a is_local type b x) fs t = on_array_named n a is_local type b x fs t.kind
+step_in (ArrayOpened n a is_local type b x) fs t = on_array_opened n a is_local type b x fs t
+step_in (ArraySized n s) fs t = on_array_sized n s fs t.kind
+step_in (ArrayClosed n s) fs t = on_array_closed n s fs t.kind
 step_in Top fs t = on_top fs t
 step_in AfterKernel fs t = on_after_kernel fs t
 step_in (AfterReturning is_kernel result) fs t = on_after_returning is_kernel result fs t

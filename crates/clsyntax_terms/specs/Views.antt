@@ -22,6 +22,8 @@ use Rattle.clsyntax_terms.specs.declared.state.TypeMode.{TypeMode}
 use Rattle.clsyntax_terms.specs.declared.state.TypeMode.TheVariants as types
 use Rattle.clsyntax_terms.specs.declared.state.HeadMode.{HeadMode}
 use Rattle.clsyntax_terms.specs.declared.state.HeadMode.TheVariants as heads
+use Rattle.clsyntax_terms.specs.declared.state.ArrayMode.{ArrayMode}
+use Rattle.clsyntax_terms.specs.declared.state.ArrayMode.TheVariants as arrays
 use Rattle.clsyntax_terms.specs.declared.state.Frame.{Frame}
 use Rattle.clsyntax_terms.specs.declared.state.Frame.TheVariants as frames
 use Rattle.clsyntax_terms.specs.declared.state.Frames.{Frames, Empty, Inside'}
@@ -116,6 +118,12 @@ type_mode_of p (types.AfterConst space) = machine.AfterConst (purpose p) space
 type_mode_of p (types.AfterElement space is_const type) = machine.AfterElement (purpose p) space is_const type
 type_mode_of p (types.Whole kind) = machine.AfterTyping (purpose p) kind
 
+abbrev pub array_mode_of : ArrayMode → machine.Mode
+array_mode_of (arrays.Named a) = machine.ArrayNamed a.nesting a.at a.is_local a.element a.name_at a.name
+array_mode_of (arrays.Opened a) = machine.ArrayOpened a.nesting a.at a.is_local a.element a.name_at a.name
+array_mode_of (arrays.Sized nesting statement) = machine.ArraySized nesting (stmt statement.value)
+array_mode_of (arrays.Closed nesting statement) = machine.ArrayClosed nesting (stmt statement.value)
+
 abbrev pub mode_of : Mode → machine.Mode
 mode_of (modes.Operand nesting) = machine.Operand nesting
 mode_of (modes.Have nesting from value) = machine.Have nesting from (term value.value)
@@ -142,6 +150,7 @@ mode_of (modes.AfterFor nesting at) = machine.AfterFor nesting at
 mode_of (modes.AfterDo nesting at body) = machine.AfterDo nesting at (stmt body.value)
 mode_of (modes.Typing p t) = type_mode_of p t
 mode_of (modes.Declared d) = machine.Declared d.nesting d.at d.kind d.name_at d.name
+mode_of (modes.Array a) = array_mode_of a
 mode_of (modes.Head h) = head_mode_of h
 
 abbrev pub state_of : State → machine.State

@@ -56,6 +56,17 @@ pub struct Declared {
     pub name: u32,
 }
 
+/// An array's type and name; `at` is where its declaration begins.
+#[derive(Clone, Copy)]
+pub struct Array {
+    pub nesting: u32,
+    pub at: u32,
+    pub is_local: bool,
+    pub element: IntType,
+    pub name_at: u32,
+    pub name: u32,
+}
+
 /// What stands before a function's body.
 #[derive(Drop)]
 pub struct Head {
@@ -207,6 +218,8 @@ pub enum Mode {
     Typing(Purpose, TypeMode),
     /// A type and a name were read
     Declared(Declared),
+    /// Some of an array's declaration was read
+    Array(ArrayMode),
     Head(HeadMode),
 }
 
@@ -220,6 +233,19 @@ pub enum TypeMode {
     /// All but the star of a pointer, whether with `const`
     AfterElement(AddressSpace, bool, IntType),
     Whole(VariableType),
+}
+
+/// What was read of an array's declaration.
+#[derive(Drop)]
+pub enum ArrayMode {
+    /// A local array's name
+    Named(Array),
+    /// The bracket before its length
+    Opened(Array),
+    /// Its length: all but `];`
+    Sized(u32, Box<Statement>),
+    /// All but its semicolon
+    Closed(u32, Box<Statement>),
 }
 
 /// What was read last of a function's head.

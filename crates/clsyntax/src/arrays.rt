@@ -1,0 +1,124 @@
+//! Declarations of arrays (C99 6.7.5.2; OpenCL 1.2, 6.5.2 and 6.5.4).
+#![tactic(auto)]
+
+ghost use Rattle.std.specs.Prelude.{◌≡◌, suc};
+ghost use Rattle.clmodel.specs.Tree as tree;
+ghost use Rattle.clmodel.specs.Tree.{stmt};
+ghost use Rattle.clsyntax_terms.specs.Machine as machine;
+ghost use Rattle.clsyntax_terms.specs.Views.{frames_of, opened, purpose, array_mode_of, Steps};
+
+use clmodel::tree::{AddressSpace, PointerType, Statement, VariableType};
+use clnum::Value;
+use clsyntax_lex::token::{Token, TokenKind};
+use clsyntax_terms::closing::add_declaration;
+use clsyntax_terms::state::{
+    Array, ArrayMode, Declared, Frame, Frames, Mode, Moved, Purpose, Stack, Step, deeper,
+};
+
+/// Whether the items of a block are in front.
+fn in_block(frames: &Frames) -> bool
+    ensures { result ≡ machine.in_block (frames_of frames.now) }
+{
+    matches!(frames, Frames::Inside(Frame::InItems(..), _))
+}
+
+/// The square bracket behind a declared name.
+pub(crate) fn on_array(name: Declared, stack: Stack) -> Moved
+    ensures { Steps result (machine.on_array name.nesting name.at name.kind name.name_at name.name (opened stack)) }
+{
+    let VariableType::Integer(element) = name.kind else {
+        return Ok(Step::Refused);
+    };
+    if !in_block(&stack.frames) {
+        return Ok(Step::Refused);
+    }
+    let array = Array {
+        nesting: name.nesting,
+        at: name.at,
+        is_local: false,
+        element,
+        name_at: name.name_at,
+        name: name.name,
+    };
+    stack.go(name.nesting, Mode::Array(ArrayMode::Opened(array)))
+}
+
+/// A name in place of a pointer's star: a local array's.
+pub(crate) fn on_local_name(
+    wanted: Purpose,
+    pointer: PointerType,
+    name_at: u32,
+    name: u32,
+    stack: Stack,
+) -> Moved
+    ensures { Steps result (machine.on_local_name (purpose wanted) pointer.space pointer.is_const pointer.element name_at name (opened stack)) }
+{
+    match (wanted, pointer.space, pointer.is_const) {
+        (Purpose::Declaration { at, nesting }, AddressSpace::Local, false) => {
+            let array = Array {
+                nesting,
+                at,
+                is_local: true,
+                element: pointer.element,
+                name_at,
+                name,
+            };
+            stack.go(nesting, Mode::Array(ArrayMode::Named(array)))
+        }
+        _ => Ok(Step::Refused),
+    }
+}
+
+/// The length of an array.
+fn on_length(array: Array, length_at: u32, length: Value, stack: Stack) -> Moved
+    ensures { Steps result (machine.go (suc array.nesting) (machine.ArraySized array.nesting (tree.DeclareArray array.at array.is_local array.element array.name_at array.name length_at length)) (opened stack)) }
+{
+    let Some(inner) = deeper(array.nesting) else {
+        return Ok(Step::Deep);
+    };
+    let declaration = Statement::DeclareArray {
+        at: array.at,
+        is_local: array.is_local,
+        element: array.element,
+        name_at: array.name_at,
+        name: array.name,
+        length_at,
+        length,
+    };
+    let statement = Box::new(stack.alloc, declaration)?;
+    stack.go(
+        inner,
+        Mode::Array(ArrayMode::Sized(array.nesting, statement)),
+    )
+}
+
+/// The bracket behind an array's length.
+fn on_sized(nesting: u32, statement: Box<Statement>, stack: Stack) -> Moved
+    ensures { Steps result (machine.go (suc nesting) (machine.ArrayClosed nesting (stmt statement.value)) (opened stack)) }
+{
+    match deeper(nesting) {
+        Some(inner) => stack.go(inner, Mode::Array(ArrayMode::Closed(nesting, statement))),
+        None => Ok(Step::Deep),
+    }
+}
+
+/// In an array's declaration.
+pub(crate) fn on_array_mode(mode: ArrayMode, stack: Stack, token: Token) -> Moved
+    ensures { Steps result (machine.step_in (array_mode_of mode) (opened stack) token) }
+{
+    match (mode, token.kind) {
+        (ArrayMode::Named(array), TokenKind::OpenSquare) => {
+            stack.go(array.nesting, Mode::Array(ArrayMode::Opened(array)))
+        }
+        (ArrayMode::Opened(array), TokenKind::Number(length)) => {
+            on_length(array, token.at, length, stack)
+        }
+        (ArrayMode::Sized(nesting, statement), TokenKind::CloseSquare) => {
+            on_sized(nesting, statement, stack)
+        }
+        (ArrayMode::Closed(nesting, statement), TokenKind::Semicolon) => {
+            add_declaration(nesting, statement, stack)
+        }
+        _ => Ok(Step::Refused),
+    }
+}
