@@ -1,11 +1,10 @@
 -- From what a launch came to to the machine's answer.
-use Rattle.std.proofs.Common.{◌≡◌, ℕ, List, map, Option, None, Some, Ok, ap, subst, sym, ◌∙◌, Vec}
+use Rattle.std.proofs.Common.{◌≡◌, ℕ, List, Option, None, Some, Ok, ap, subst, ◌∙◌, Vec}
 use Rattle.std.specs.declared.alloc.Global.{Global}
 use Rattle.std.specs.Option.{MatchOption}
 use Rattle.clmodel.specs.Law.{Determinacy, CleanIsComplete, ReportIsShown}
 use Rattle.clmodel.specs.Launch.{Launch}
 use Rattle.clmodel.specs.Next.{launch_of}
-use Rattle.clmodel.specs.Outcome.{Concludes}
 use Rattle.clmodel.specs.Setup.{Setup}
 use Rattle.clmodel.specs.declared.fault.Fault.{Fault}
 use Rattle.clmodel.specs.declared.outcome.Outcome.{Outcome}

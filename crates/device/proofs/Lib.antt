@@ -1,3 +1,5 @@
 pub mod Programs
 pub mod Runs
 pub mod Launches
+pub mod Kept
+pub mod Arguments

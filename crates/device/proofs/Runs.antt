@@ -11,8 +11,6 @@ use Rattle.clmodel.specs.Setup.{Setup, buffer_names}
 use Rattle.plain_run.specs.declared.PlainLaunch.{PlainLaunch}
 use Rattle.clmodel.specs.declared.outcome.Outcome.{Outcome}
 use Rattle.clmodel.specs.declared.outcome.Outcome.TheVariants.{Clean, Faulted}
-use Rattle.clmodel.specs.declared.fault.Fault.{Fault}
-use Rattle.clmodel.specs.declared.schedule.Run as schedule_run
 
 pub ready : (l : PlainLaunch) (setup other : Setup) (bytes : List ℕ → List ℕ) → setup ≡ other → plain.launch_of l (next other) ≡ launch_of other bytes
     → ((s : Setup) (b : List ℕ → List ℕ) → IsBounded (launch_of s b) s.budget) → other.budget < 2 ^ 32 → 0 < l.group_size → l.items % l.group_size ≡ 0

@@ -1,13 +1,13 @@
 //! A simulated OpenCL 1.2 device.
 #![tactic(auto)]
 
-ghost use Rattle.std.specs.Prelude.{◌≡◌, ◌&&◌, IfOk, IfErr, IfSome, OnErr, IsTrue, None, Some, is_some};
+ghost use Rattle.std.specs.Prelude.{◌≡◌, ◌&&◌, IfOk, IfErr, IfSome, OnErr, IsTrue, None, Some, is_some, true};
 ghost use Rattle.std.specs.Option.{option_map};
 ghost use Rattle.clmodel.specs.Tree.{program};
+ghost use Rattle.device_store.specs.Kernels.{names_kernel};
 ghost use Rattle.device_store.specs.Tables.{find};
-ghost use Rattle.device.specs.Machine.{Step, Answers, machine_of, opening, is_used, is_there, has_kernel, kernel_of, program_of, setup_of, first, row, takes_memory};
+ghost use Rattle.device.specs.Kept.{all_in};
 ghost use Rattle.device_store.specs.Ranges.{IsLaunchable};
-ghost use Rattle.device.specs.Prepared.{prepared_setup, Starts};
 
 mod prepared;
 #[cfg(test)]
@@ -19,7 +19,6 @@ use clmodel::outcome::Outcome;
 use clmodel::run_laws::report_is_shown;
 use clmodel::setup::{Argument, Range};
 use clmodel::text::{Bytes, Name};
-use clmodel::tree::Tree;
 use cltypes::Checked;
 use device_store::build::build;
 pub use device_store::command::{BuildFault, Command, Refusal, Reply};
@@ -43,9 +42,13 @@ pub struct Device {
     buffers: Table<Bytes>,
     programs: Table<Checked>,
     kernels: Table<Kernel>,
+    ghost kept: { all_in programs kernels ≡ true },
 }
 
 impl Device {
+    ghost use Rattle.device.specs.Machine.{Step, Answers, machine_of, opening, is_used, is_there, has_kernel, kernel_of, program_of, setup_of, first, row, takes_memory};
+    ghost use Rattle.device.specs.Prepared.{prepared_setup, Starts};
+
     /// A device without buffers, programs and kernels, on which an item of a launch may make so many ticks.
     pub fn new(alloc: Global, budget: u32) -> Self
         ensures { machine_of result ≡ opening budget }
@@ -66,15 +69,13 @@ impl Device {
         &self.buffers
     }
 
-    /// The tree of a program.
+    /// A program.
     #[tactic(auto, using(crate::proofs::Programs::find_program))]
-    fn program(&self, name: &Name) -> Option<&Tree>
-        ensures { option_map (λ tree. program tree.now) result ≡ find (machine_of self.now).programs name.now }
+    fn program(&self, name: &Name) -> Option<&Checked>
+        ensures kept { option_map (λ checked. checked.now) result ≡ find self.now.programs name.now }
+        ensures program { option_map (λ checked. program checked.now.tree) result ≡ find (machine_of self.now).programs name.now }
     {
-        match self.programs.get(name) {
-            None => None,
-            Some(checked) => Some(&checked.tree),
-        }
+        self.programs.get(name)
     }
 
     /// Whether something has the name.
@@ -86,18 +87,19 @@ impl Device {
             || self.kernels.get(name).is_some()
     }
 
-    /// The kernel of a name with its program's tree.
-    fn kernel(&self, name: &Name) -> Option<(&Tree, &Kernel)>
+    /// The kernel of a name with its program.
+    fn kernel(&self, name: &Name) -> Option<(&Checked, &Kernel)>
         ensures there { is_some result ≡ has_kernel (machine_of self.now) name.now }
-        ensures tree { IfSome result (λ found. program found.0.now ≡ program_of (machine_of self.now) (kernel_of (machine_of self.now) name.now).program) }
+        ensures program { IfSome result (λ found. program found.0.now.tree ≡ program_of (machine_of self.now) (kernel_of (machine_of self.now) name.now).program) }
         ensures kernel { IfSome result (λ found. found.1.now ≡ kernel_of (machine_of self.now) name.now) }
+        ensures named { IfSome result (λ found. names_kernel (program found.0.now.tree) found.1.now.function ≡ true) }
     {
         let Some(kernel) = self.kernels.get(name) else {
             return None;
         };
         match self.program(kernel.program()) {
             None => None,
-            Some(tree) => Some((tree, kernel)),
+            Some(checked) => Some((checked, kernel)),
         }
     }
 
@@ -181,13 +183,13 @@ impl Device {
         if self.is_used(&name) {
             return Ok(Reply::Refused(Refusal::NameInUse));
         }
-        let Some(tree) = self.program(&program) else {
+        let Some(checked) = self.program(&program) else {
             return Ok(Reply::Refused(Refusal::NoSuchName));
         };
-        let Some(number) = kernel_number(tree, function) else {
+        let Some(number) = kernel_number(&checked.tree, function) else {
             return Ok(Reply::Refused(Refusal::NoSuchKernel));
         };
-        let count = parameters_of(tree, number).len();
+        let count = parameters_of(&checked.tree, number).len();
         let kernel = Kernel::new(self.alloc, program, number, count)?;
         self.kernels.insert(name, kernel)?;
         Ok(Reply::Done)
@@ -196,10 +198,11 @@ impl Device {
     fn set_argument(&mut self, name: &Name, index: u64, argument: Argument) -> Reply
         ensures { Answers (machine_of self.old) (Command.Arg name.now index argument) result (machine_of self.new) }
     {
-        let Some((tree, kernel)) = self.kernel(name) else {
+        let Some((checked, kernel)) = self.kernel(name) else {
             return Reply::Refused(Refusal::NoSuchName);
         };
-        let Some(parameter) = parameters_of(tree, kernel.function()).get(index as usize) else {
+        let parameters = parameters_of(&checked.tree, kernel.function());
+        let Some(parameter) = parameters.get(index as usize) else {
             return Reply::Refused(Refusal::BadArgument);
         };
         if !suits(parameter.kind, &argument) {
@@ -229,7 +232,7 @@ impl Device {
         ensures setup { IfOk result (λ p. prepared_setup p range.now ≡ setup_of (machine_of self.now) (kernel_of (machine_of self.now) name.now) range.now) }
         ensures refused { IfErr result (λ refusal. first (row (machine_of self.now) (Command.Launch name.now range.now)) ≡ Some refusal) }
     {
-        let Some((tree, kernel)) = self.kernel(name) else {
+        let Some((checked, kernel)) = self.kernel(name) else {
             return Err(Refusal::NoSuchName);
         };
         if is_bad_dimension(range) {
@@ -245,7 +248,7 @@ impl Device {
             return Err(Refusal::ArgumentsMissing);
         }
         Ok(Prepared {
-            tree,
+            checked,
             kernel,
             budget: self.budget,
         })

@@ -1,32 +1,38 @@
 //! Launches that weren't refused.
 #![tactic(auto)]
 
-ghost use Rattle.std.specs.Prelude.{◌≡◌, ◌<◌, ◌%◌, map, IfOk};
+ghost use Rattle.std.specs.Prelude.{◌≡◌, ◌<◌, ◌%◌, map, true, IfOk};
 ghost use Rattle.clmodel.specs.Next.{next, launch_of};
-ghost use Rattle.plain_run.specs.Plain as plain;
+ghost use Rattle.plain_run.specs.Plain as plain_run;
+ghost use Rattle.item_launch.specs.Setups.{plain};
 ghost use Rattle.clmodel.specs.Setup.{buffer_names};
+ghost use Rattle.clmodel.specs.Tree.{program};
 ghost use Rattle.device_store.specs.Ranges.{IsLaunchable};
+ghost use Rattle.device_store.specs.Kernels.{names_kernel};
 ghost use Rattle.device_store.specs.Buffers.{bytes_in};
-ghost use Rattle.device.specs.Prepared.{prepared_setup, Came};
+ghost use Rattle.lower.specs.Lowers.{IsLowered};
 
 use clmodel::next_laws::budget_bounds;
 use clmodel::outcome::Outcome;
 use clmodel::setup::Range;
 use clmodel::text::{Bytes, Name};
-use clmodel::tree::Tree;
+use cltypes::Checked;
 use device_store::kernel::Kernel;
 use device_store::ranges::{group_items, item_count};
 use device_store::table::Table;
-use item_step::Launch;
+use item_launch::{Launch, Setup};
+use lower::{LowerFault, lower_kernel};
 use plain_run::{PlainLaunch, run};
+use regcode::Code;
 use std::alloc::{AllocError, Global};
 
-/// A kernel that may be launched, with its program's tree.
+/// A kernel that may be launched, with its program.
 #[derive(Drop)]
 pub struct Prepared<'a> {
-    pub(crate) tree: &'a Tree,
+    pub(crate) checked: &'a Checked,
     pub(crate) kernel: &'a Kernel,
     pub(crate) budget: u32,
+    pub(crate) ghost named: { names_kernel (program checked.now.tree) kernel.now.function ≡ true },
 }
 
 /// What a launch came to, with the names of its buffers.
@@ -69,6 +75,32 @@ fn contents(alloc: Global, buffers: &Table<Bytes>, names: &[Name]) -> Result<Vec
 }
 
 impl Prepared<'_> {
+    ghost use Rattle.device.specs.Prepared.{prepared_setup, Came};
+
+    /// The code of the kernel.
+    fn code(&self, alloc: Global) -> Result<Code, AllocError>
+        ensures { IfOk result (IsLowered (program self.now.checked.now.tree) self.now.kernel.now.function) }
+    {
+        match lower_kernel(alloc, self.checked, self.kernel.function()) {
+            Ok(code) => Ok(code),
+            Err(LowerFault::OutOfMemory) => Err(AllocError),
+            Err(LowerFault::NoSuchKernel) => unreachable!(),
+        }
+    }
+
+    /// What it runs over a range.
+    fn setup<'s>(&'s self, range: &'s Range) -> Setup<'s>
+        ensures { plain result ≡ prepared_setup self.now range.now }
+    {
+        Setup {
+            tree: &self.checked.tree,
+            kernel: self.kernel.function(),
+            range,
+            arguments: self.kernel.arguments(),
+            budget: self.budget,
+        }
+    }
+
     /// The launch over a range of buffers of these names, on copies of what they hold.
     fn plain_launch(
         &self,
@@ -79,7 +111,7 @@ impl Prepared<'_> {
     ) -> Result<PlainLaunch, AllocError>
         requires range { IsLaunchable range.now }
         requires names { names.now ≡ buffer_names (prepared_setup self.now range.now) }
-        ensures launch { IfOk result (λ l. plain.launch_of l (next (prepared_setup self.now range.now)) ≡ launch_of (prepared_setup self.now range.now) (bytes_in buffers.now)) }
+        ensures launch { IfOk result (λ l. plain_run.launch_of l (next (prepared_setup self.now range.now)) ≡ launch_of (prepared_setup self.now range.now) (bytes_in buffers.now)) }
         ensures ready { IfOk result (λ l. (0 < l.group_size) × (l.items % l.group_size ≡ 0)) }
     {
         Ok(PlainLaunch {
@@ -89,7 +121,7 @@ impl Prepared<'_> {
             local_sizes: Vec::new(alloc),
             buffer_names: copies(alloc, names)?,
             local_names: Vec::new(alloc),
-            source_names: copies(alloc, self.tree.names.as_slice())?,
+            source_names: copies(alloc, self.checked.tree.names.as_slice())?,
         })
     }
 
@@ -103,18 +135,9 @@ impl Prepared<'_> {
         requires { IsLaunchable range.now }
         ensures { IfOk result (Came (prepared_setup self.now range.now) (bytes_in buffers.now)) }
     {
-        let function = self.kernel.function();
-        let arguments = self.kernel.arguments();
         let group_size = group_items(range);
-        let items = Launch::new(
-            alloc,
-            self.tree,
-            function,
-            range,
-            arguments,
-            self.budget,
-            group_size,
-        )?;
+        let code = self.code(alloc)?;
+        let items = Launch::new(alloc, self.setup(range), group_size, code)?;
         let launch = self.plain_launch(alloc, buffers, range, items.buffer_names())?;
         budget_bounds();
         let outcome = run(alloc, &launch, &items)?;

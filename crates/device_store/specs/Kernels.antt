@@ -1,5 +1,5 @@
 -- Kernels with their arguments (OpenCL 1.2, 5.7).
-use Rattle.std.specs.Prelude.{ℕ, ℤ, Bool, true, false, not, ◌&&◌, nat_le, int_le, List, Option, None, Some, position, slice_set, [], replicate}
+use Rattle.std.specs.Prelude.{ℕ, ℤ, Bool, true, false, not, ◌&&◌, nat_le, int_le, List, Option, None, Some, is_some, position, slice_set, [], replicate}
 use Rattle.std.specs.Option.{option_map, option_and_then, option_map_or}
 use Rattle.clnum.specs.Integer.{least, greatest}
 use Rattle.clnum.specs.declared.int_type.IntType.{IntType}
@@ -25,6 +25,10 @@ pub record KernelState : Type 0 where
 abbrev pub kernel_number : Program → List ℕ → Option ℕ
 kernel_number program name =
     option_and_then (λ number. option_map (λ f. f.name) (kernel_in program.functions number)) (position (is name) program.names)
+
+-- a number is that of the name of a kernel of a program
+abbrev pub names_kernel : Program → ℕ → Bool
+names_kernel program number = is_some (kernel_in program.functions number)
 
 -- the parameters of a program's kernel, by the number of its name
 abbrev pub parameters_of : Program → ℕ → List Parameter

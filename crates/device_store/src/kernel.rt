@@ -1,14 +1,14 @@
 //! Kernels with their arguments (OpenCL 1.2, section 5.7).
 #![tactic(auto)]
 
-ghost use Rattle.std.specs.Prelude.{◌≡◌, ◌<◌, ℕ, position, None, Some, length, map, replicate, slice_set, IfOk, is_some, not};
+ghost use Rattle.std.specs.Prelude.{◌≡◌, ◌<◌, ℕ, position, None, Some, length, map, replicate, slice_set, IfOk, IfSome, is_some, true, not};
 ghost use Rattle.std.specs.List.{list_any};
 ghost use Rattle.std.specs.Map.{set_value};
 ghost use Rattle.std.specs.Option.{option_map, unwrap_or};
 ghost use Rattle.clmodel.specs.Tree.{program, func, then_funcs, NoFunc};
 ghost use Rattle.clmodel.specs.Setup.{kernel_in};
 ghost use Rattle.device_store.specs.Tables.{is, find};
-ghost use Rattle.device_store.specs.Kernels.{kernel_number, parameters_of, with_argument, new_kernel, no_kernel, is_in_range, suits};
+ghost use Rattle.device_store.specs.Kernels.{kernel_number, names_kernel, parameters_of, with_argument, new_kernel, no_kernel, is_in_range, suits};
 
 use crate::table::Table;
 use clmodel::setup::Argument;
@@ -138,7 +138,8 @@ fn place_of(names: &[Name], name: &Name) -> Option<usize>
 
 /// The number of the name of a program's kernel.
 pub fn kernel_number(tree: &Tree, name: &Name) -> Option<u32>
-    ensures { result ≡ kernel_number (program tree.now) name.now }
+    ensures number { result ≡ kernel_number (program tree.now) name.now }
+    ensures there { IfSome result (λ number. names_kernel (program tree.now) number ≡ true) }
 {
     let number = place_of(tree.names.as_slice(), name)?;
     match kernel_in(tree.functions.as_slice(), number) {
