@@ -4,7 +4,7 @@
 ghost use Rattle.std.specs.Prelude.{◌≡◌, ◌<◌, ◌%◌, map, true, IfOk};
 ghost use Rattle.clmodel.specs.Next.{next, launch_of};
 ghost use Rattle.plain_run.specs.Plain as plain_run;
-ghost use Rattle.item_launch.specs.Setups.{plain};
+ghost use Rattle.item_step.specs.Setups.{plain};
 ghost use Rattle.clmodel.specs.Setup.{buffer_names};
 ghost use Rattle.clmodel.specs.Tree.{program};
 ghost use Rattle.device_store.specs.Ranges.{IsLaunchable};
@@ -20,7 +20,7 @@ use cltypes::Checked;
 use device_store::kernel::Kernel;
 use device_store::ranges::{group_items, item_count};
 use device_store::table::Table;
-use item_launch::{Launch, Setup};
+use item_step::{Launch, Setup};
 use lower::{LowerFault, lower_kernel};
 use plain_run::{PlainLaunch, run};
 use regcode::Code;

@@ -1,5 +1,5 @@
 use Rattle.std.proofs.Common.{◌≡◌, ◌<◌, ◌^◌, ap, subst, ◌∙◌, arith}
-use Rattle.item_launch.specs.Launches.{setup_of}
+use Rattle.item_step.specs.Launches.{setup_of}
 use Rattle.device.specs.Prepared.{prepared_setup}
 use Rattle.device_store.specs.Buffers.{bytes_in}
 use Rattle.device.proofs.Runs.{ready, concluded, names_of}
