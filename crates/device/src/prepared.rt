@@ -2,7 +2,7 @@
 #![tactic(auto)]
 
 ghost use Rattle.std.specs.Prelude.{◌≡◌, ◌≤◌, map, true, IfOk};
-ghost use Rattle.item_launch.specs.Setups.{plain};
+ghost use Rattle.item_step.specs.Setups.{plain};
 ghost use Rattle.clmodel.specs.Tree.{program};
 ghost use Rattle.device_store.specs.Ranges.{IsLaunchable};
 ghost use Rattle.device_store.specs.Kernels.{names_kernel};
@@ -16,7 +16,7 @@ use cltypes::Checked;
 use device_store::kernel::Kernel;
 use device_store::ranges::group_items;
 use device_store::table::Table;
-use item_launch::{Launch, Setup};
+use item_step::{Launch, Setup};
 use lower::{LowerFault, lower_kernel};
 use regcode::Code;
 use snapshot_merge::run_launch;

@@ -1,6 +1,6 @@
 use Rattle.std.proofs.Common.{◌≡◌, ap, ◌∙◌, map}
 use Rattle.clmodel.specs.Setup.{Setup, buffer_names}
-use Rattle.item_launch.specs.Launches.{setup_of}
+use Rattle.item_step.specs.Launches.{setup_of}
 use Rattle.device.specs.Prepared.{prepared_setup}
 use Rattle.device_store.specs.Buffers.{bytes_in}
 use Rattle.device.proofs.Runs.{one_group, concluded}
