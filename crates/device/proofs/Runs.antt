@@ -1,35 +1,31 @@
--- From the plain run of a launch to what the machine says of it.
-use Rattle.std.proofs.Common.{◌≡◌, ℕ, ◌<◌, ◌%◌, ◌^◌, List, map, Some, Option, refl, sym, ap, subst}
+-- From the run of a launch to what the machine says of it.
+use Rattle.std.proofs.Common.{◌≡◌, ℕ, ◌*◌, ◌<◌, ◌≤◌, ◌^◌, List, map, Some, Option, refl, sym, ◌∙◌, subst, arith}
+use Rattle.std.proofs.Math.Nat.{mul-le-mul_left, mul-le-mul_right}
 use Rattle.clmodel.specs.Launch.{Launch}
 use Rattle.clmodel.specs.Run.{State, Events, left}
-use Rattle.clmodel.specs.Law.{Determinacy, CleanIsComplete, ReportIsShown, CleanWith, Reaches, IsBounded, RunsClean}
+use Rattle.clmodel.specs.Law.{Determinacy, CleanIsComplete, ReportIsShown, CleanWith, Reaches, RunsClean}
 use Rattle.device.specs.Machine.{IsReported}
-use Rattle.clmodel.specs.Next.{next, launch_of}
-use Rattle.plain_run.specs.Plain as plain
-use Rattle.clmodel.specs.Outcome.{IsReady, Concludes, events_of, IsMerged}
-use Rattle.clmodel.specs.Setup.{Setup, buffer_names}
-use Rattle.plain_run.specs.declared.PlainLaunch.{PlainLaunch}
+use Rattle.clmodel.specs.Next.{launch_of}
+use Rattle.clmodel.specs.Outcome.{Concludes, events_of, IsMerged}
+use Rattle.clmodel.specs.Setup.{Setup, item_count, group_items, buffer_names}
+use Rattle.snapshot_merge.specs.Launches.{launch_on, IsOneGroup}
 use Rattle.clmodel.specs.declared.outcome.Outcome.{Outcome}
 use Rattle.clmodel.specs.declared.outcome.Outcome.TheVariants.{Clean, Faulted}
 
-pub ready : (l : PlainLaunch) (setup other : Setup) (bytes : List ℕ → List ℕ) → setup ≡ other → plain.launch_of l (next other) ≡ launch_of other bytes
-    → ((s : Setup) (b : List ℕ → List ℕ) → IsBounded (launch_of s b) s.budget) → other.budget < 2 ^ 32 → 0 < l.group_size → l.items % l.group_size ≡ 0
-    → IsReady (plain.launch_of l (next setup))
-ready l setup other bytes same gives law small positive whole =
-    subst (λ (s : Setup). IsReady (plain.launch_of l (next s))) (sym same)
-    (record {
-      grouped = positive;
-      whole = whole;
-      bounded = (other.budget, small, subst (λ (x : Launch). IsBounded x other.budget) (sym gives) (law other bytes));
-    })
+-- a launch of at most 256 items in one group, within the greatest budget
+pub one_group : (setup other : Setup) (size : ℕ) → setup ≡ other → size ≡ group_items other.range → size ≤ 256 → item_count other.range ≡ size → other.budget ≤ 1000000
+    → IsOneGroup setup
+one_group setup other size same grouped few one limited =
+    subst (λ (s : Setup). IsOneGroup s) (sym same) (record { whole = one ∙ grouped; short = subst (λ n. n * other.budget < 2 ^ 32) grouped (short size other.budget few limited) })
+  where
+    short : (n b : ℕ) → n ≤ 256 → b ≤ 1000000 → n * b < 2 ^ 32
+    short n b few limited = omega (arith, mul-le-mul_right b few, mul-le-mul_left 256 limited)
 
-pub concluded : (l : PlainLaunch) (setup other : Setup) (bytes : List ℕ → List ℕ) (outcome : Outcome) → setup ≡ other → plain.launch_of l (next other) ≡ launch_of other bytes
-    → Concludes (plain.launch_of l (next setup)) outcome → Concludes (launch_of other bytes) outcome
-concluded l setup other bytes outcome same gives h =
-    subst (λ (x : Launch). Concludes x outcome) gives (subst (λ (s : Setup). Concludes (plain.launch_of l (next s)) outcome) same h)
-
-pub names_of : (l : PlainLaunch) (other : Setup) (bytes : List ℕ → List ℕ) → plain.launch_of l (next other) ≡ launch_of other bytes → l.buffer_names.items ≡ buffer_names other
-names_of l other bytes gives = ap (λ (x : Launch). x.buffer_names) gives
+-- a run on what buffers of these names have
+pub concluded : (setup other : Setup) (bytes : List ℕ → List ℕ) (contents : List (List ℕ)) (outcome : Outcome) → setup ≡ other → contents ≡ map bytes (buffer_names setup)
+    → Concludes (launch_on setup contents) outcome → Concludes (launch_of other bytes) outcome
+concluded setup other bytes contents outcome same have h =
+    subst (λ (s : Setup). Concludes (launch_of s bytes) outcome) same (subst (λ (c : List (List ℕ)). Concludes (launch_on setup c) outcome) have h)
 
 clean_with : Determinacy → CleanIsComplete → (launch : Launch) (events : Events) (end : State) → RunsClean launch events end → CleanWith launch (left launch end)
 clean_with determined complete launch events end run =

@@ -1,7 +1,7 @@
 //! A simulated OpenCL 1.2 device.
 #![tactic(auto)]
 
-ghost use Rattle.std.specs.Prelude.{◌≡◌, ◌&&◌, IfOk, IfErr, IfSome, OnErr, IsTrue, None, Some, is_some, true};
+ghost use Rattle.std.specs.Prelude.{◌≡◌, ◌&&◌, IfOk, IfErr, IfSome, OnErr, IsTrue, None, Some, is_some, true, ◌≤◌};
 ghost use Rattle.std.specs.Option.{option_map};
 ghost use Rattle.clmodel.specs.Tree.{program};
 ghost use Rattle.device_store.specs.Kernels.{names_kernel};
@@ -43,6 +43,7 @@ pub struct Device {
     programs: Table<Checked>,
     kernels: Table<Kernel>,
     ghost kept: { all_in programs kernels ≡ true },
+    ghost limited: { budget ≤ 1000000 },
 }
 
 impl Device {
@@ -51,6 +52,7 @@ impl Device {
 
     /// A device without buffers, programs and kernels, on which an item of a launch may make so many ticks.
     pub fn new(alloc: Global, budget: u32) -> Self
+        requires { budget ≤ 1000000 }
         ensures { machine_of result ≡ opening budget }
     {
         Device {

@@ -1,29 +1,25 @@
 //! Launches that weren't refused.
 #![tactic(auto)]
 
-ghost use Rattle.std.specs.Prelude.{◌≡◌, ◌<◌, ◌%◌, map, true, IfOk};
-ghost use Rattle.clmodel.specs.Next.{next, launch_of};
-ghost use Rattle.plain_run.specs.Plain as plain_run;
-ghost use Rattle.item_launch.specs.Setups.{plain};
-ghost use Rattle.clmodel.specs.Setup.{buffer_names};
+ghost use Rattle.std.specs.Prelude.{◌≡◌, ◌≤◌, map, true, IfOk};
+ghost use Rattle.item_step.specs.Setups.{plain};
 ghost use Rattle.clmodel.specs.Tree.{program};
 ghost use Rattle.device_store.specs.Ranges.{IsLaunchable};
 ghost use Rattle.device_store.specs.Kernels.{names_kernel};
 ghost use Rattle.device_store.specs.Buffers.{bytes_in};
 ghost use Rattle.lower.specs.Lowers.{IsLowered};
 
-use clmodel::next_laws::budget_bounds;
 use clmodel::outcome::Outcome;
 use clmodel::setup::Range;
 use clmodel::text::{Bytes, Name};
 use cltypes::Checked;
 use device_store::kernel::Kernel;
-use device_store::ranges::{group_items, item_count};
+use device_store::ranges::group_items;
 use device_store::table::Table;
-use item_launch::{Launch, Setup};
+use item_step::{Launch, Setup};
 use lower::{LowerFault, lower_kernel};
-use plain_run::{PlainLaunch, run};
 use regcode::Code;
+use snapshot_merge::run_launch;
 use std::alloc::{AllocError, Global};
 
 /// A kernel that may be launched, with its program.
@@ -33,6 +29,7 @@ pub struct Prepared<'a> {
     pub(crate) kernel: &'a Kernel,
     pub(crate) budget: u32,
     pub(crate) ghost named: { names_kernel (program checked.now.tree) kernel.now.function ≡ true },
+    pub(crate) ghost limited: { budget ≤ 1000000 },
 }
 
 /// What a launch came to, with the names of its buffers.
@@ -101,30 +98,6 @@ impl Prepared<'_> {
         }
     }
 
-    /// The launch over a range of buffers of these names, on copies of what they hold.
-    fn plain_launch(
-        &self,
-        alloc: Global,
-        buffers: &Table<Bytes>,
-        range: &Range,
-        names: &[Name],
-    ) -> Result<PlainLaunch, AllocError>
-        requires range { IsLaunchable range.now }
-        requires names { names.now ≡ buffer_names (prepared_setup self.now range.now) }
-        ensures launch { IfOk result (λ l. plain_run.launch_of l (next (prepared_setup self.now range.now)) ≡ launch_of (prepared_setup self.now range.now) (bytes_in buffers.now)) }
-        ensures ready { IfOk result (λ l. (0 < l.group_size) × (l.items % l.group_size ≡ 0)) }
-    {
-        Ok(PlainLaunch {
-            items: item_count(range),
-            group_size: group_items(range),
-            buffers: contents(alloc, buffers, names)?,
-            local_sizes: Vec::new(alloc),
-            buffer_names: copies(alloc, names)?,
-            local_names: Vec::new(alloc),
-            source_names: copies(alloc, self.checked.tree.names.as_slice())?,
-        })
-    }
-
     /// Runs it over a range on copies of the buffers.
     pub(crate) fn run(
         &self,
@@ -137,13 +110,11 @@ impl Prepared<'_> {
     {
         let group_size = group_items(range);
         let code = self.code(alloc)?;
-        let items = Launch::new(alloc, self.setup(range), group_size, code)?;
-        let launch = self.plain_launch(alloc, buffers, range, items.buffer_names())?;
-        budget_bounds();
-        let outcome = run(alloc, &launch, &items)?;
-        Ok(Launched {
-            names: launch.buffer_names,
-            outcome,
-        })
+        let launch = Launch::new(alloc, self.setup(range), group_size, code)?;
+        let listed = launch.buffer_names();
+        let contents = contents(alloc, buffers, listed)?;
+        let outcome = run_launch(alloc, &launch, contents.as_slice())?;
+        let names = copies(alloc, listed)?;
+        Ok(Launched { names, outcome })
     }
 }

@@ -84,6 +84,7 @@ of_length range h =
 
 -- what a launch may have: so many items, in whole groups
 pub record Sizes (range : Range) : Type 0 where
+  pub one : item_count range ≡ group_items range
   pub few : item_count range ≤ 256
   pub positive : 0 < group_items range
   pub small : group_items range ≤ 256
@@ -98,4 +99,4 @@ sizes range h =
     let g = neither (list_any (λ p. (p.0 == 0) || (p.1 == 0) || not (p.0 % p.1 == 0)) (zip range.global range.local)) (nat_lt 256 (group_items range)) h.grouped in
     let p : 0 < group_items range = positive_product range.global range.local l g.0 in
     let s : group_items range ≤ 256 = at_most 256 (group_items range) g.1 in
-    record { few = omega arith; positive = p; small = s; whole = whole_group (item_count range) (group_items range) n p; sized = all_positive range.global range.local l g.0 }
+    record { one = n; few = omega arith; positive = p; small = s; whole = whole_group (item_count range) (group_items range) n p; sized = all_positive range.global range.local l g.0 }

@@ -1,7 +1,7 @@
 //! Which index spaces a launch may have (OpenCL 1.2, section 5.8).
 #![tactic(auto)]
 
-ghost use Rattle.std.specs.Prelude.{◌≡◌, ◌<◌, ◌%◌, ◌^◌, ◌+◌, ◌-◌, ◌==◌, ◌||◌, not, nat_lt, min, All};
+ghost use Rattle.std.specs.Prelude.{◌≡◌, ◌<◌, ◌≤◌, ◌%◌, ◌^◌, ◌+◌, ◌-◌, ◌==◌, ◌||◌, not, nat_lt, min, All};
 ghost use Rattle.std.specs.List.{list_any, zip};
 ghost use Rattle.clmodel.specs.Setup.{product, item_count, group_items};
 ghost use Rattle.device_store.specs.Ranges.{is_bad_dimension, is_bad_group, is_too_many, IsLaunchable};
@@ -86,7 +86,8 @@ pub fn group_items(range: &Range) -> u32
     requires { IsLaunchable range.now }
     ensures count { result ≡ group_items range.now }
     ensures positive { 0 < result }
-    ensures whole { item_count range.now % result ≡ 0 }
+    ensures few { result ≤ 256 }
+    ensures one { item_count range.now ≡ result }
     ensures sized { All (λ size. 0 < size) range.now.local }
 {
     product(range.local.as_slice()) as u32

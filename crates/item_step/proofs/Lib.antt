@@ -1,6 +1,1 @@
-pub mod Lists
-pub mod Calls
-pub mod Runs
-pub mod Statements
-pub mod Kernels
-pub mod Nexts
+pub mod Starts

@@ -1,3 +1,2 @@
-pub mod Execution
-pub mod Walk
 pub mod Setups
+pub mod Launches

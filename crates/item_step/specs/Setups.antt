@@ -1,14 +1,23 @@
--- A launch as plain data.
-use Rattle.clmodel.specs.Setup.{Setup}
+-- What a launch runs, as plain data, and the code that may run it.
+use Rattle.std.specs.Prelude.{◌≡◌, ℕ, List}
+use Rattle.clmodel.specs.Next.{next}
+use Rattle.clmodel.specs.Setup as model
 use Rattle.clmodel.specs.Tree.{program}
-use Rattle.item_step.specs.declared.launch.Launch.{Launch}
+use Rattle.clmodel.specs.declared.action.Answer.{Answer}
+use Rattle.item_step.specs.declared.setup.Setup.{Setup}
+use Rattle.regcode.specs.Listing.{Listing}
+use Rattle.regcode.specs.Machine.{acts}
 
-abbrev pub setup_of : Launch → Setup
-setup_of launch =
+abbrev pub plain : Setup → model.Setup
+plain setup =
     record {
-      program = program launch.tree.now;
-      kernel = launch.kernel;
-      range = launch.range.now;
-      arguments = launch.arguments.now;
-      budget = launch.budget;
+      program = program setup.tree.now;
+      kernel = setup.kernel;
+      range = setup.range.now;
+      arguments = setup.arguments.now;
+      budget = setup.budget;
     }
+
+-- for each item and list of answers, code makes the action that comes next in the kernel's text
+abbrev pub ActsAsNext : Listing → model.Setup → Type 0
+ActsAsNext code setup = (item : ℕ) (answers : List Answer) → acts code setup item answers ≡ next setup item answers

@@ -1,46 +1,38 @@
-//! A launch: a kernel of a program with its range, arguments and budget.
+//! A launch: a setup with the code of its kernel.
 #![tactic(auto)]
 
-ghost use Rattle.std.specs.Prelude.{◌≡◌, ◌<◌, ◌^◌, [], length, All, IfOk};
+ghost use Rattle.std.specs.Prelude.{◌≡◌, ◌<◌, ◌^◌, [], length, All, IfOk, List};
 ghost use Rattle.std.specs.List.{list_any};
-ghost use Rattle.clmodel.specs.Setup as setup;
+ghost use Rattle.clmodel.specs.Next.{next};
+ghost use Rattle.clmodel.specs.Setup as model;
 ghost use Rattle.clmodel.specs.Setup.{names_among, same_text, group_items};
-ghost use Rattle.clmodel.specs.declared.action.Action.{Action};
-ghost use Rattle.clmodel.specs.declared.action.Action.TheVariants as action;
-ghost use Rattle.item_value.specs.Evaluation.{Went};
-ghost use Rattle.item_step.specs.declared.ways.Way.{Way};
+ghost use Rattle.clmodel.specs.declared.action.Answer.{Answer};
+ghost use Rattle.item_step.specs.Setups.{plain, ActsAsNext};
+ghost use Rattle.item_run.specs.Running.{action_of};
 
-use crate::execution::execute_all;
-use crate::functions::kernel_named;
-use crate::scene::Scene;
-use crate::ways::Way;
-use clmodel::action::{Action, Answer, Turns};
+use crate::setup::Setup;
+use clmodel::action::{Action, Answer};
 use clmodel::next_action::NextAction;
-use clmodel::setup::{Argument, Range};
+use clmodel::setup::Argument;
 use clmodel::text::Name;
-use clmodel::tree::Tree;
+use item_run::{Item, Surroundings};
 use item_state::context::{Context, group_counts};
-use item_value::answers::Left;
-use item_value::halt::Halt;
-use item_value::parameters::bound;
+use regcode::Code;
 use std::alloc::{AllocError, Global};
 
-/// A kernel that is ready to run: the tree of its program, its name's number, the range, the arguments by the parameters' places, the
-/// ticks that an item may make, and the number of items in a group.
+/// A kernel that is ready to run: its setup with code that acts as its text. The items may be started in any order.
 #[derive(Drop)]
 pub struct Launch<'a> {
-    tree: &'a Tree,
-    kernel: u32,
-    range: &'a Range,
-    arguments: &'a [Option<Argument>],
-    budget: u32,
+    setup: Setup<'a>,
+    code: Code,
     group_size: u32,
     buffers: Vec<Name>,
     group_counts: Vec<u64>,
-    ghost named: { buffers.items ≡ names_among [] arguments.now },
+    ghost faithful: { ActsAsNext code (plain setup) },
+    ghost named: { buffers.items ≡ names_among [] setup.arguments.now },
     ghost few: { length buffers.items < 2 ^ 32 },
-    ghost counted: { group_counts.items ≡ setup.group_counts range.now },
-    ghost grouped: { group_size ≡ group_items range.now },
+    ghost counted: { group_counts.items ≡ model.group_counts setup.range.now },
+    ghost grouped: { group_size ≡ group_items setup.range.now },
     ghost some: { 0 < group_size },
 }
 
@@ -66,54 +58,32 @@ fn contains(names: &[Name], name: &Name) -> bool
     names.iter().any(|other| name == other)
 }
 
-/// The action at which an item's evaluation stopped.
-fn action_at(outcome: Result<Way, Halt>) -> Result<Action, AllocError>
-    ensures { IfOk result (λ wanted. (made : Action) (following : Way → Action) → ((way : Way) → following way ≡ action.End) → Went outcome made following → made ≡ wanted) }
-{
-    match outcome {
-        Ok(_) | Err(Halt::Finish) => Ok(Action::End),
-        Err(Halt::Access { pointer, operation }) => Ok(Action::Access {
-            object: pointer.object,
-            element: pointer.offset,
-            operation,
-        }),
-        Err(Halt::Barrier { instance, fences }) => Ok(Action::Barrier { instance, fences }),
-        Err(Halt::Fail(cause)) => Ok(Action::Fault(cause)),
-        Err(Halt::Memory) => Err(AllocError),
-    }
-}
-
 impl<'a> Launch<'a> {
     ghost use Rattle.clmodel.specs.Setup.{buffer_names};
-    ghost use Rattle.clmodel.specs.Tree.{program};
-    ghost use Rattle.item_step.specs.Setups.{setup_of};
+    ghost use Rattle.item_step.specs.Launches.{setup_of};
 
-    /// A launch. The group's size is that of the range, and no local size is 0.
+    /// A launch of code that acts as the setup's program. The group's size is that of the range, and no local size is 0.
     pub fn new(
         alloc: Global,
-        tree: &'a Tree,
-        kernel: u32,
-        range: &'a Range,
-        arguments: &'a [Option<Argument>],
-        budget: u32,
+        setup: Setup<'a>,
         group_size: u32,
+        code: Code,
     ) -> Result<Launch<'a>, AllocError>
-        requires grouped { group_size ≡ group_items range.now }
+        requires faithful { ActsAsNext code (plain setup) }
+        requires grouped { group_size ≡ group_items setup.range.now }
         requires some { 0 < group_size }
-        requires sized { All (λ size. 0 < size) range.now.local }
-        ensures { IfOk result (λ launch. setup_of launch ≡ record { program = program tree.now; kernel = kernel; range = range.now; arguments = arguments.now; budget = budget }) }
+        requires sized { All (λ size. 0 < size) setup.range.now.local }
+        ensures { IfOk result (λ launch. setup_of launch ≡ plain setup.entry) }
     {
-        let buffers = buffers_of(alloc, arguments)?;
+        let buffers = buffers_of(alloc, setup.arguments)?;
         if buffers.len() > u32::MAX as usize {
             return Err(AllocError);
         }
+        let range = setup.range;
         let group_counts = group_counts(alloc, range.global.as_slice(), range.local.as_slice())?;
         Ok(Launch {
-            tree,
-            kernel,
-            range,
-            arguments,
-            budget,
+            setup,
+            code,
             group_size,
             buffers,
             group_counts,
@@ -126,11 +96,52 @@ impl<'a> Launch<'a> {
     {
         self.buffers.as_slice()
     }
+
+    /// The names in the source, by their numbers.
+    pub fn source_names(&self) -> &[Name]
+        ensures { result.now ≡ (setup_of self.now).program.names }
+    {
+        self.setup.tree.names.as_slice()
+    }
+
+    /// How many items a work-group has.
+    pub fn group_size(&self) -> u32
+        ensures value { result ≡ group_items (setup_of self.now).range }
+        ensures some { 0 < result }
+    {
+        self.group_size
+    }
+
+    /// The ticks that an item may make.
+    pub fn budget(&self) -> u32
+        ensures { result ≡ (setup_of self.now).budget }
+    {
+        self.setup.budget
+    }
+
+    /// An item before its first action.
+    pub fn start(&self, alloc: Global, item: u32) -> Result<Item<'_>, AllocError>
+        ensures { IfOk result (λ started. (answers : List Answer) → action_of started answers ≡ next (setup_of self.now) item answers) }
+    {
+        let context = Context {
+            alloc,
+            item,
+            range: self.setup.range,
+            group_counts: self.group_counts.as_slice(),
+            group_size: self.group_size,
+        };
+        let surroundings = Surroundings {
+            context,
+            buffers: self.buffers.as_slice(),
+            arguments: self.setup.arguments,
+        };
+        Item::start(&self.code, surroundings, self.setup.budget)
+    }
 }
 
 impl NextAction for Launch<'_> {
     ghost use Rattle.clmodel.specs.Next.{next};
-    ghost use Rattle.item_step.specs.Setups.{setup_of};
+    ghost use Rattle.item_step.specs.Launches.{setup_of};
 
     ghost next = { λ launch. next (setup_of launch) };
 
@@ -140,34 +151,10 @@ impl NextAction for Launch<'_> {
         item: u32,
         answers: &[Answer],
     ) -> Result<Action, AllocError> {
-        let functions = self.tree.functions.as_slice();
-        let Some(kernel) = kernel_named(functions, self.kernel) else {
-            return Ok(Action::End);
-        };
-        if self.budget > u32::MAX - 2 {
-            return Err(AllocError);
+        let mut running = self.start(alloc, item)?;
+        for i in 0..answers.len() {
+            running.answer(answers[i]);
         }
-        let context = Context {
-            alloc,
-            item,
-            range: self.range,
-            group_counts: self.group_counts.as_slice(),
-            group_size: self.group_size,
-        };
-        let scene = Scene {
-            context: &context,
-            functions: &functions[..kernel.place],
-            most: self.budget + 1,
-        };
-        let buffers = self.buffers.as_slice();
-        let parameters = kernel.function.parameters.as_slice();
-        let mut variables = bound(alloc, buffers, parameters, self.arguments)?;
-        let mut left = Left {
-            ticks: self.budget,
-            answers,
-        };
-        let turns = Turns::new(alloc);
-        let body = kernel.function.body.as_slice();
-        action_at(execute_all(&scene, 0, &turns, &mut variables, body, &mut left))
+        Ok(running.next())
     }
 }

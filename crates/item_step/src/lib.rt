@@ -1,12 +1,10 @@
-//! One work-item: what it does next.
+//! A kernel that is ready to run, as verified code.
 #![tactic(auto)]
 
-mod assignments;
-mod execution;
-mod functions;
 mod launch;
-mod scene;
-mod sites;
-mod ways;
+mod setup;
+#[cfg(test)]
+mod tests;
 
 pub use launch::Launch;
+pub use setup::Setup;

@@ -1,12 +1,12 @@
 //! A launch with what its buffers hold at the start.
 
 ghost use Rattle.std.specs.Prelude.{◌≡◌, [], IfOk, slice_index_or};
-ghost use Rattle.item_launch.specs.Launches.{setup_of};
+ghost use Rattle.item_step.specs.Launches.{setup_of};
 ghost use Rattle.snapshot_merge.specs.Launches.{launch_on};
 
 use clmodel::text::{Bytes, Name};
 use group_run::{Described, Runnable};
-use item_launch::Launch;
+use item_step::Launch;
 use item_run::Item;
 use std::alloc::{AllocError, Global};
 

@@ -10,7 +10,7 @@ use clmodel::outcome::Outcome;
 use clmodel::setup::{Argument, Range};
 use clmodel::text::{Bytes, Name, Numbers};
 use clmodel::tree::Tree;
-use item_launch::{Launch, Setup};
+use item_step::{Launch, Setup};
 use regcode::{Code, Instruction, Tables, verify};
 use std::alloc::{AllocError, Global};
 use std::test::Fail;

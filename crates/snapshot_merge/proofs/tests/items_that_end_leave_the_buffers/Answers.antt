@@ -1,4 +1,4 @@
-use Rattle.item_launch.proofs.Starts.{ends_at_once}
+use Rattle.item_step.proofs.Starts.{ends_at_once}
 use Rattle.snapshot_merge.proofs.tests.items_that_end_leave_the_buffers.Goals as goal
 
 pub new-requires-clause-faithful : goal.new-requires-clause-faithful

@@ -1,20 +1,26 @@
-use Rattle.std.proofs.Common.{◌≡◌, ◌<◌, ◌^◌, ap, subst, ◌∙◌, arith}
-use Rattle.item_launch.specs.Launches.{setup_of}
+use Rattle.std.proofs.Common.{◌≡◌, ap, ◌∙◌, map}
+use Rattle.clmodel.specs.Setup.{Setup, buffer_names}
+use Rattle.item_step.specs.Launches.{setup_of}
 use Rattle.device.specs.Prepared.{prepared_setup}
 use Rattle.device_store.specs.Buffers.{bytes_in}
-use Rattle.device.proofs.Runs.{ready, concluded, names_of}
+use Rattle.device.proofs.Runs.{one_group, concluded}
 use Rattle.device.proofs.prepared.Prepared.run.Goals as goal
 
-pub run-requires : goal.run-requires
-run-requires c =
-    let same : setup_of c.in_ok-items.items ≡ prepared_setup c.args.self.now c.args.range.now = c.in_ok-items.ensures ∙ c.setup.ensures in
-    let small : c.args.self.now.budget < 2 ^ 32 = subst (λ b. b < 2 ^ 32) (ap (λ s. s.budget) c.setup.ensures) (omega arith) in
-    ready c.in_ok-launch.launch _ _ (bytes_in c.args.buffers.now) same c.in_ok-launch.ensures.launch c.budget_bounds.ensures small c.in_ok-launch.ensures.ready.0 c.in_ok-launch.ensures.ready.1
+pub run_launch-requires : goal.run_launch-requires
+run_launch-requires c =
+    let same : setup_of c.in_ok-launch.launch ≡ prepared_setup c.args.self.now c.args.range.now = c.in_ok-launch.ensures ∙ c.setup.ensures in
+    let size = c.group_items-group_size in
+    one_group (setup_of c.in_ok-launch.launch) (prepared_setup c.args.self.now c.args.range.now) size.result same size.ensures.count size.ensures.few size.ensures.one
+    c.args.self.now.limited
 
 pub returns : goal.returns
 returns c =
-    let same : setup_of c.in_ok-items.items ≡ prepared_setup c.args.self.now c.args.range.now = c.in_ok-items.ensures ∙ c.setup.ensures in
+    let setup : Setup = setup_of c.in_ok-launch.launch in
+    let same : setup ≡ prepared_setup c.args.self.now c.args.range.now = c.in_ok-launch.ensures ∙ c.setup.ensures in
+    let listed : c.buffer_names-listed.result.now ≡ buffer_names setup = c.buffer_names-listed.ensures in
     record {
-      names = names_of c.in_ok-launch.launch (prepared_setup c.args.self.now c.args.range.now) (bytes_in c.args.buffers.now) c.in_ok-launch.ensures.launch;
-      concludes = concluded c.in_ok-launch.launch _ _ (bytes_in c.args.buffers.now) c.in_ok-outcome.outcome same c.in_ok-launch.ensures.launch c.in_ok-outcome.ensures;
+      names = c.in_ok-names.ensures ∙ listed ∙ ap buffer_names same;
+      concludes =
+          concluded setup (prepared_setup c.args.self.now c.args.range.now) (bytes_in c.args.buffers.now) c.as_slice.result.now c.in_ok-outcome.outcome same
+          (c.as_slice.ensures.value ∙ c.in_ok-contents.ensures ∙ ap (map (bytes_in c.args.buffers.now)) listed) c.in_ok-outcome.ensures;
     }

@@ -1,2 +1,0 @@
-pub mod Setups
-pub mod Launches
