@@ -1,15 +1,17 @@
 //! A launch: a setup with the code of its kernel.
 #![tactic(auto)]
 
-ghost use Rattle.std.specs.Prelude.{◌≡◌, ◌<◌, ◌^◌, [], length, All, IfOk, List};
+ghost use Rattle.std.specs.Prelude.{◌≡◌, ◌<◌, ◌^◌, [], length, map, All, IfOk, List};
 ghost use Rattle.std.specs.List.{list_any};
 ghost use Rattle.clmodel.specs.Next.{next};
 ghost use Rattle.clmodel.specs.Setup as model;
 ghost use Rattle.clmodel.specs.Setup.{names_among, same_text, group_items};
 ghost use Rattle.clmodel.specs.declared.action.Answer.{Answer};
 ghost use Rattle.item_step.specs.Setups.{plain, ActsAsNext};
+ghost use Rattle.item_step.specs.Objects.{Lists};
 ghost use Rattle.item_run.specs.Running.{action_of};
 
+use crate::local_objects::{LocalObjects, local_objects};
 use crate::setup::Setup;
 use clmodel::action::{Action, Answer};
 use clmodel::next_action::NextAction;
@@ -28,12 +30,14 @@ pub struct Launch<'a> {
     group_size: u32,
     buffers: Vec<Name>,
     group_counts: Vec<u64>,
+    local_objects: LocalObjects,
     ghost faithful: { ActsAsNext code (plain setup) },
     ghost named: { buffers.items ≡ names_among [] setup.arguments.now },
     ghost few: { length buffers.items < 2 ^ 32 },
     ghost counted: { group_counts.items ≡ model.group_counts setup.range.now },
     ghost grouped: { group_size ≡ group_items setup.range.now },
     ghost some: { 0 < group_size },
+    ghost listed: { Lists (model.local_objects (plain setup)) local_objects },
 }
 
 /// The buffers that arguments name, each once, in the order of the first arguments that name them.
@@ -81,12 +85,15 @@ impl<'a> Launch<'a> {
         }
         let range = setup.range;
         let group_counts = group_counts(alloc, range.global.as_slice(), range.local.as_slice())?;
+        let functions = setup.tree.functions.as_slice();
+        let local_objects = local_objects(alloc, functions, setup.kernel, setup.arguments)?;
         Ok(Launch {
             setup,
             code,
             group_size,
             buffers,
             group_counts,
+            local_objects,
         })
     }
 
@@ -95,6 +102,20 @@ impl<'a> Launch<'a> {
         ensures { result.now ≡ buffer_names (setup_of self.now) }
     {
         self.buffers.as_slice()
+    }
+
+    /// The sizes of its local objects in bytes, in the order of their numbers.
+    pub fn local_sizes(&self) -> &[u64]
+        ensures { result.now ≡ map (λ o. o.size) (model.local_objects (setup_of self.now)) }
+    {
+        self.local_objects.sizes.as_slice()
+    }
+
+    /// The numbers of the names of its local objects, in the order of theirs.
+    pub fn local_names(&self) -> &[u32]
+        ensures { result.now ≡ map (λ o. o.name) (model.local_objects (setup_of self.now)) }
+    {
+        self.local_objects.names.as_slice()
     }
 
     /// The names in the source, by their numbers.

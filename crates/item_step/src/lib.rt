@@ -2,6 +2,7 @@
 #![tactic(auto)]
 
 mod launch;
+mod local_objects;
 mod setup;
 #[cfg(test)]
 mod tests;
