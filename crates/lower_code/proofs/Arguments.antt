@@ -1,5 +1,5 @@
 -- What barriers with several arguments fence.
-use Rattle.std.proofs.Common.{◌≡◌, ℕ, ◌≤◌, Option, None, List, [], ◌∷◌, map, length, refl, arith}
+use Rattle.std.proofs.Common.{◌≡◌, ◌≤◌, None, List, [], ◌∷◌, map, length, refl, arith}
 use Rattle.clmodel.specs.Tree.{Term, Terms, NoTerm, ThenTerm, term, terms, then_all}
 use Rattle.clmodel.specs.Barrier.{fences}
 use Rattle.clmodel.specs.declared.tree.Expression.{Expression}

@@ -1,10 +1,9 @@
 -- The helper of a name among functions.
-use Rattle.std.proofs.Common.{◌≡◌, ℕ, ◌+◌, ◌<◌, ◌++◌, ◌==◌, Bool, true, false, List, [], ◌∷◌, Option, take, length, get_or, ap, ◌∙◌, eq-eqb, ne_eqb}
+use Rattle.std.proofs.Common.{◌≡◌, ℕ, ◌+◌, ◌<◌, ◌++◌, Bool, true, false, List, Option, take, length, get_or, ap, ◌∙◌, eq-eqb, ne_eqb}
 use Rattle.clnum.specs.declared.int_type.IntType.{IntType}
 use Rattle.clmodel.specs.declared.tree.Function.{Function}
 use Rattle.clmodel.specs.Tree.{func}
 use Rattle.regcode.specs.declared.instruction.Instruction.{Instruction}
-use Rattle.regcode.specs.declared.instruction.Instruction.TheVariants as instruction
 use Rattle.lower_code.specs.Code.{call_code, result_in, pass_code, body_code}
 use Rattle.lower_code.specs.Emission.{functions_of, inside}
 use Rattle.lower_code.proofs.Lists.{functions_more}

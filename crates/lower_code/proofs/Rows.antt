@@ -1,5 +1,5 @@
 -- Rows of statements, choices and loops from their parts.
-use Rattle.std.proofs.Common.{◌≡◌, ℕ, ◌+◌, ◌-◌, List, [], ◌∷◌, ◌++◌, length, Option, refl, ap, ap₂, sym, ◌∙◌, arith}
+use Rattle.std.proofs.Common.{◌≡◌, ℕ, ◌+◌, ◌-◌, List, ◌∷◌, ◌++◌, length, Option, refl, ap, ap₂, sym, ◌∙◌, arith}
 use Rattle.std.proofs.lemmas.List.{append_assoc, length-append}
 use Rattle.clnum.specs.declared.int_type.IntType.{IntType}
 use Rattle.std.proofs.Common.{Result, OnOk}
@@ -12,7 +12,7 @@ use Rattle.regcode.specs.declared.instruction.Instruction.TheVariants as instruc
 use Rattle.lower_expr.specs.Scope.{Scope, free_level}
 use Rattle.lower_expr.specs.Expressions.{expr_code, register_for}
 use Rattle.lower_code.specs.Code.{Calls, Exits, past, body_exits, stmt_code, stmts_code, part_code, call_code, result_in, scope_after_all, if_else_code, condition_code, while_code}
-use Rattle.lower_code.specs.Emission.{functions_of, inside, exits_of, statement_code, maybe_code, row_code, turns_code}
+use Rattle.lower_code.specs.Emission.{functions_of, inside, exits_of, statement_code, maybe_code, turns_code}
 use Rattle.lower_code.specs.declared.positions.Exits as declared
 use Rattle.lower_code.specs.declared.positions.Position.{Position}
 use Rattle.lower_code.specs.declared.positions.Setting.{Setting}

@@ -356,12 +356,12 @@ fn emit_do(
 {
     let end = code.len();
     begin_loop(scope, Some(condition), code)?;
-    let turn = Position {
+    let inside = Position {
         depth: level_above(position.depth)?,
         site: position.site,
         exits: position.exits.in_loop(code.added(end)?)?,
     };
-    emit_statement(setting, scope, body, turn, code)?;
+    emit_statement(setting, scope, body, inside, code)?;
     end_do(position.depth, end, code)
 }
 

@@ -1,4 +1,4 @@
-use Rattle.std.proofs.Common.{◌≡◌, ◌++◌, ◌∷◌, [], ap, ap₂, ◌∙◌}
+use Rattle.std.proofs.Common.{◌≡◌, ◌++◌, ◌∷◌, [], ap, ◌∙◌}
 use Rattle.clmodel.specs.Next.{helper_call}
 use Rattle.clmodel.specs.Tree.{term}
 use Rattle.regcode.specs.declared.instruction.Instruction.TheVariants as instruction

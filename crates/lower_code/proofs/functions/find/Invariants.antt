@@ -5,7 +5,7 @@ use Rattle.lower_code.proofs.functions.find.Given as goal
 
 abbrev pub invariant-loop-i : goal.invariant-loop-i
 invariant-loop-i l = record {
-    code : (arguments : List ℕ) (level depth site : ℕ)
+  code : (arguments : List ℕ) (level depth site : ℕ)
       → call_code (functions_of l.functions) l.name arguments level depth site ≡ call_code (functions_of (take (length l.functions - l.i) l.functions)) l.name arguments level depth site;
-    value : result_in (functions_of l.functions) l.name ≡ result_in (functions_of (take (length l.functions - l.i) l.functions)) l.name;
-  }
+  value : result_in (functions_of l.functions) l.name ≡ result_in (functions_of (take (length l.functions - l.i) l.functions)) l.name;
+}

@@ -1,7 +1,6 @@
 use Rattle.std.proofs.Common.{◌≡◌, ℕ, ◌+◌, ◌-◌, ◌<◌, arith, ap, sym, subst, ◌∙◌, IfSome, length, take}
 use denote.Param.Weighed.{most}
 use Rattle.clmodel.specs.Next.{sites, all_sites}
-use Rattle.clmodel.specs.Tree.{stmt}
 use Rattle.clmodel.specs.declared.tree.Statement.{size-Statement}
 use Rattle.lower_code.specs.Emission.{inside, all_of, callee_sites}
 use Rattle.lower_code.proofs.Lists.{block_is, row_more, weight_of, inside_hit, inside_miss}

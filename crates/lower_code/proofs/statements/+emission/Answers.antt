@@ -1,10 +1,7 @@
-use Rattle.std.proofs.Common.{◌≡◌, ℕ, ◌+◌, ◌-◌, ◌<◌, ◌++◌, ◌∷◌, List, Option, None, Some, length, take, ap, ap₂, sym, subst, ◌∙◌, arith, OnOk}
-use Rattle.std.proofs.lemmas.List.{append_assoc}
+use Rattle.std.proofs.Common.{◌≡◌, ℕ, ◌+◌, ◌-◌, ◌<◌, ◌++◌, ◌∷◌, List, None, Some, length, take, ap, ap₂, sym, subst, ◌∙◌, arith, OnOk}
 use Rattle.std.proofs.lemmas.Result.{on_ok_weaker}
-use denote.Param.Weighed.{most}
 use Rattle.clmodel.specs.Next.{sites, all_sites, step_operator}
-use Rattle.clmodel.specs.Tree.{Stmt, Stmts, ThenStmt, IfElse, stmt, term, place}
-use Rattle.clmodel.specs.declared.tree.Statement.{size-Statement}
+use Rattle.clmodel.specs.Tree.{Stmt, ThenStmt, IfElse, stmt, term, place}
 use Rattle.regcode.specs.declared.instruction.Instruction.{Instruction}
 use Rattle.regcode.specs.declared.instruction.Instruction.TheVariants as instruction
 use Rattle.lower_expr.specs.Scope.{Scope, free_level}

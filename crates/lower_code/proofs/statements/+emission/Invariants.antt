@@ -40,10 +40,10 @@ decreases-emit_turns l = 10 * (weight l.setting.now.functions.now + max (part_de
 -- the code so far is that of the statements behind the first ones, which are left
 abbrev pub invariant-emit_all-loop-i : goal.invariant-emit_all-loop-i
 invariant-emit_all-loop-i l = record {
-    scope : l.scope ≡ scope_after_all l.fn.scope (all_of (take (length l.statements - l.i) l.statements));
-    site : l.site ≡ l.position.site + all_sites (inside l.setting.functions.now) (all_of (take (length l.statements - l.i) l.statements));
-    longer : length l.fn.code ≤ length l.code;
-    code : row_code l.setting l.fn.scope (all_of l.statements) l.position ++ l.fn.code
+  scope : l.scope ≡ scope_after_all l.fn.scope (all_of (take (length l.statements - l.i) l.statements));
+  site : l.site ≡ l.position.site + all_sites (inside l.setting.functions.now) (all_of (take (length l.statements - l.i) l.statements));
+  longer : length l.fn.code ≤ length l.code;
+  code : row_code l.setting l.fn.scope (all_of l.statements) l.position ++ l.fn.code
       ≡ stmts_code (call_code (functions_of l.setting.functions.now)) (result_in (functions_of l.setting.functions.now)) (inside l.setting.functions.now) l.setting.result l.fn.scope
       (all_of (take (length l.statements - l.i) l.statements)) l.position.depth l.position.site (past (length l.code - length l.fn.code) (exits_of l.position.exits)) ++ l.code;
-  }
+}

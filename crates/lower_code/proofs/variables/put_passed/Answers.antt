@@ -1,4 +1,4 @@
-use Rattle.std.proofs.Common.{◌≡◌, ◌+◌, ◌-◌, ◌<◌, ◌++◌, length, drop, ap, ap₂, sym, ◌∙◌, arith}
+use Rattle.std.proofs.Common.{◌≡◌, ◌+◌, ◌-◌, ◌++◌, length, drop, ap, sym, ◌∙◌, arith}
 use Rattle.lower_code.specs.Code.{pass_code}
 use Rattle.lower_code.proofs.Parameters.{drop_all, passed_more}
 use Rattle.lower_code.proofs.variables.put_passed.Goals as goal
