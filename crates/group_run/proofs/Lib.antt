@@ -3,3 +3,8 @@ pub mod Turns
 pub mod Logs
 pub mod Lists
 pub mod Performed
+pub mod Memory
+pub mod Stepping
+pub mod Items
+pub mod Starting
+pub mod Examples

@@ -57,7 +57,7 @@ stop_at p s k = stop_of (next_action p.launch s (p.first + k))
 straggles : Plan → State → ℕ → Bool
 straggles p s item = (group_of p.launch item == p.group) && not (both_stop (first_stop p s) (stop_of (next_action p.launch s item)))
 
-found_first : (q : ℕ → Bool) (n k : ℕ) → k < n → q k ≡ true → ((j : ℕ) → j < k → q j ≡ false) → lowest q n ≡ Some k
+pub found_first : (q : ℕ → Bool) (n k : ℕ) → k < n → q k ≡ true → ((j : ℕ) → j < k → q j ≡ false) → lowest q n ≡ Some k
 found_first q n k b t below = at (lowest_finds q n k b t)
   where
     at : (f : (j : ℕ) × (lowest q n ≡ Some j)) → lowest q n ≡ Some k

@@ -1,22 +1,26 @@
 -- How what a program holds of a group fits a state of its launch (own).
-use Rattle.std.specs.Prelude.{◌≡◌, ℕ, ◌+◌, ◌-◌, ◌*◌, ◌<◌, ◌≤◌, ◌^◌, true, false, Bool, Option, None, Some, List, ◌++◌, length, slice_get, Result, Ok, Err}
+use Rattle.std.specs.Prelude.{◌≡◌, ℕ, ◌+◌, ◌-◌, ◌*◌, ◌<◌, ◌≤◌, ◌^◌, true, false, Bool, Option, None, Some, List, [], ◌∷◌, ◌++◌, length, slice_get, Result, Ok, Err}
 use Rattle.clmodel.specs.Cells.{cells_of, size_of, reads, found, answer_to, effect, lowest_unset}
 use Rattle.clmodel.specs.Launch.{Launch, bytes_of}
 use Rattle.clmodel.specs.Law.{IsBounded, sum_below}
 use Rattle.clmodel.specs.Run.{State, Events, Memory, with_cells}
+use Rattle.clmodel.specs.declared.access.Object.{Object}
+use Rattle.clmodel.specs.declared.access.Object.TheVariants as object
 use Rattle.clmodel.specs.declared.access.Operation.{Operation}
 use Rattle.clmodel.specs.declared.access.Region.{Region}
 use Rattle.clmodel.specs.declared.access.Region.TheVariants as region
 use Rattle.clmodel.specs.declared.action.Action.{Action}
 use Rattle.clmodel.specs.declared.action.Answer.{Answer}
+use Rattle.item_run.specs.Running.{Running, action_of}
 use Rattle.shadow_list.specs.Log.{Log}
 use Rattle.spaces_base.specs.declared.space.SpaceFault.{SpaceFault}
 use Rattle.spaces_base.specs.declared.space.SpaceFault.TheVariants as space_fault
 use Rattle.group_run.specs.Group.{Plan, IsGroup}
 use Rattle.group_run.specs.Logs.{IsLogged}
 
--- a program's spaces, one for each region of a kind, hold what a memory has there
-pub record Holds {S : Type 0} (bytes : S → List (Option ℕ)) (launch : Launch) (region_at : ℕ → Region) (spaces : List S) (memory : Memory) : Type 0 where
+-- a program's spaces, one for each of so many regions of a kind, hold what a memory has there
+pub record Holds {S : Type 0} (bytes : S → List (Option ℕ)) (launch : Launch) (count : ℕ) (region_at : ℕ → Region) (spaces : List S) (memory : Memory) : Type 0 where
+  pub many : length spaces ≡ count
   pub sized : (n : ℕ) (x : S) → slice_get spaces n ≡ Some x → length (bytes x) ≡ bytes_of launch (region_at n)
   pub none : (n : ℕ) → slice_get spaces n ≡ None → bytes_of launch (region_at n) ≡ 0
   pub cells : (n : ℕ) (x : S) → slice_get spaces n ≡ Some x → cells_of (bytes x) ≡ memory (region_at n)
@@ -24,7 +28,29 @@ pub record Holds {S : Type 0} (bytes : S → List (Option ℕ)) (launch : Launch
 -- a program's buffers and local objects of a group hold a memory
 abbrev pub HoldsMemory : {G : Type 0} → (G → List (Option ℕ)) → Launch → ℕ → List G → List (List (Option ℕ)) → Memory → Type 0
 HoldsMemory bytes launch group buffers locals memory =
-    Holds bytes launch region.Buffer buffers memory × Holds (λ cells. cells) launch (region.Local group) locals memory
+    Holds bytes launch (length launch.buffers) region.Buffer buffers memory
+    × Holds (λ cells. cells) launch (length launch.local_sizes) (region.Local group) locals memory
+
+-- the bytes of a space, if there is one
+abbrev pub bytes_or : {S : Type 0} → (S → List (Option ℕ)) → Option S → List (Option ℕ)
+bytes_or bytes None = []
+bytes_or bytes (Some x) = bytes x
+
+-- the bytes of the space that stands for an object
+abbrev pub space_of : {G : Type 0} → (G → List (Option ℕ)) → List G → List (List (Option ℕ)) → Object → List (Option ℕ)
+space_of bytes buffers locals (object.Buffer number) = bytes_or bytes (slice_get buffers number)
+space_of bytes buffers locals (object.Local number) = bytes_or (λ cells. cells) (slice_get locals number)
+
+-- items that were each answered alike
+pub record AreAnswered {I : Type 0} (acts : I → List Answer → Action) (answer : Answer) (old new : List I) : Type 0 where
+  pub many : length new ≡ length old
+  pub each : (k : ℕ) (y : I) → slice_get new k ≡ Some y
+      → (x : I) × (slice_get old k ≡ Some x) × ((answers : List Answer) → acts y answers ≡ acts x (answer ∷ answers))
+
+-- items of a launch before their first actions, so many from the first on
+pub record AreStarted (launch : Launch) (first count : ℕ) (items : List Running) : Type 0 where
+  pub many : length items ≡ count
+  pub each : (k : ℕ) (i : Running) → slice_get items k ≡ Some i → (answers : List Answer) → action_of i answers ≡ launch.next (first + k) answers
 
 -- how many answers the group's items can still be given, where none is given more than `bound`
 abbrev pub group_left : Plan → ℕ → State → ℕ

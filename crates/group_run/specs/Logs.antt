@@ -1,12 +1,18 @@
 -- What a program's log of a group's accesses holds (own, on OpenCL 1.2, 3.3.1).
-use Rattle.std.specs.Prelude.{◌≡◌, ℕ, Option, Some, List, [], ◌∷◌, length, map, reverse}
-use Rattle.clmodel.specs.Launch.{Launch, group_of}
-use Rattle.clmodel.specs.Law.{Keeps}
+use Rattle.std.specs.Prelude.{◌≡◌, ℕ, ◌+◌, Option, List, [], ◌∷◌, length, map, reverse, if◌then◌else◌, Ok}
+use Rattle.std.specs.Option.{option_map}
+use Rattle.clmodel.specs.Cells.{width_of}
+use Rattle.clmodel.specs.Launch.{Launch, group_of, kind_of}
+use Rattle.clmodel.specs.Law.{Keeps, conflict_fault}
 use Rattle.clmodel.specs.Run.{State, Events}
 use Rattle.clmodel.specs.declared.access.Access.{Access}
 use Rattle.clmodel.specs.declared.access.Conflict as conflict_type
+use Rattle.clmodel.specs.declared.access.Operation.{Operation}
+use Rattle.clmodel.specs.declared.access.Region.{Region}
+use Rattle.clmodel.specs.declared.action.Fences.{Fences}
+use Rattle.clmodel.specs.declared.fault.Fault.{Fault}
 use Rattle.clmodel.specs.declared.schedule.Event.TheVariants as event
-use Rattle.shadow_list.specs.Log.{Log, IsKept}
+use Rattle.shadow_list.specs.Log.{Log, IsKept, IsNoted}
 use Rattle.shadow_list.specs.declared.log.Entry.{Entry}
 use Rattle.shadow_list.specs.declared.log.Hit.{Hit}
 use Rattle.group_run.specs.Group.{Plan}
@@ -35,6 +41,25 @@ numbered (event.Item item ∷ events) (x ∷ accesses) = record { access = x; ev
 abbrev pub Notes : List Entry → List Entry → Type 0
 Notes [] kept = kept ≡ []
 Notes (x ∷ made) kept = (old : List Entry) × Notes made old × IsKept old x kept
+
+-- the entry of an access: the log gives it its interval
+abbrev pub entry_of : ℕ → Region → ℕ → Operation → ℕ → Entry
+entry_of item at first operation event =
+    record { access = record { item = item; region = at; first = first; width = width_of operation; kind = kind_of operation; interval = 0 }; event = event }
+
+-- what a program's log leaves of a new access, and the fault that it reports of it
+abbrev pub IsJudged : Launch → Log → Entry → Log → Option Fault → Type 0
+IsJudged launch old entry new fault =
+    (found : Option Hit) × IsNoted old entry new (Ok found) × (fault ≡ option_map (λ hit. conflict_fault launch (conflict_of hit)) found)
+
+-- a program's log once a barrier with these fences is passed
+abbrev pub after_fences : Log → Fences → Log
+after_fences log fences =
+    record {
+      accesses = log.accesses;
+      local_interval = if fences.local then log.local_interval + 1 else log.local_interval;
+      global_interval = if fences.global then log.global_interval + 1 else log.global_interval;
+    }
 
 -- a program's log after these events of a group, which lead to a state
 pub record IsLogged (plan : Plan) (log : Log) (events : Events) (state : State) : Type 0 where

@@ -1,10 +1,12 @@
 //! What a program tells of a launch in reports.
 
 ghost use Rattle.std.specs.Prelude.{◌≡◌, [], IfOk, slice_index_or};
-ghost use Rattle.clmodel.specs.Launch.{Launch, location_of};
+ghost use Rattle.clmodel.specs.Launch.{Launch, location_of, kind_of};
 ghost use Rattle.clmodel.specs.Law.{fault_of, conflict_fault};
+ghost use Rattle.clmodel.specs.declared.fault.Fault.TheVariants as fault;
 
-use clmodel::access::{Conflict, Region};
+use crate::words;
+use clmodel::access::{Conflict, Operation, Region};
 use clmodel::action::Cause;
 use clmodel::fault::{Fault, Location};
 use clmodel::text::Name;
@@ -84,5 +86,43 @@ pub fn conflict_fault<D: Described>(launch: &D, conflict: &Conflict) -> Result<F
         other_kind: conflict.later.kind,
         location,
         byte: conflict.byte,
+    })
+}
+
+/// An item accesses an element out of its object's range.
+pub fn bounds_fault<D: Described>(
+    launch: &D,
+    item: u32,
+    region: Region,
+    element: i64,
+    operation: Operation,
+) -> Result<Fault, AllocError>
+    ensures { IfOk result (λ told. told ≡ fault.Bounds item (kind_of operation) (location_of (D.launch launch.now) region) element) }
+{
+    let location = location_of(launch, region)?;
+    Ok(Fault::Bounds {
+        item,
+        kind: words::kind_of(operation),
+        location,
+        element,
+    })
+}
+
+/// An item reads a byte that is unset.
+pub fn unset_fault<D: Described>(
+    launch: &D,
+    item: u32,
+    region: Region,
+    byte: u64,
+    operation: Operation,
+) -> Result<Fault, AllocError>
+    ensures { IfOk result (λ told. told ≡ fault.Unset item (kind_of operation) (location_of (D.launch launch.now) region) byte) }
+{
+    let location = location_of(launch, region)?;
+    Ok(Fault::Unset {
+        item,
+        kind: words::kind_of(operation),
+        location,
+        byte,
     })
 }

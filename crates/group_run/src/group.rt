@@ -1,20 +1,205 @@
 //! The items of a group with their memory and their log.
 
-ghost use Rattle.std.specs.Prelude.{◌+◌, ◌<◌, ◌^◌, length};
+ghost use Rattle.std.specs.Prelude.{◌≡◌, ◌+◌, ◌-◌, ◌<◌, ◌≤◌, ◌^◌, ℕ, List, Option, None, Some, length, IfOk, IfSome};
+ghost use Rattle.clmodel.specs.Cells.{size_of};
+ghost use Rattle.clmodel.specs.Launch.{first_byte};
+ghost use Rattle.clmodel.specs.declared.action.Answer.TheVariants.{Done};
+ghost use Rattle.shadow_list.specs.Log.{Log, IsPlaced};
+ghost use Rattle.group_run.specs.Fits.{Fits, AreAnswered, space_of};
+ghost use Rattle.group_run.specs.Logs.{IsJudged, after_fences, conflict_of, entry_of};
 
-use spaces_base::LocalMem;
+use crate::describing::{self, Described, bounds_fault, unset_fault};
+use crate::item::RunningItem;
+use crate::machine::{Machine, Made};
+use crate::performing::{perform_on, size_of};
+use crate::words::{first_byte, kind_of, region_of, width_of};
+use clmodel::access::{Access, Conflict, Object, Operation, Region};
+use clmodel::action::{Action, Answer, Cause, Fences};
+use clmodel::fault::Fault;
+use shadow_list::{AccessLog, Entry, Fenced, Hit};
+use spaces_base::width::byte_count;
+use spaces_base::{LocalMem, Space, SpaceFault};
+use std::alloc::AllocError;
 
 /// A work-group that runs: its items, how many events they have made, the launch's buffers and the group's local objects in their
 /// order, and the log of the accesses.
 #[derive(Drop)]
 pub struct Group<'a, D, I, G, L> {
-    launch: &'a D,
-    number: u32,
-    first: u32,
-    items: Vec<I>,
-    made: u32,
-    buffers: Vec<G>,
-    locals: Vec<LocalMem>,
-    log: L,
+    pub(crate) launch: &'a D,
+    pub(crate) number: u32,
+    pub(crate) first: u32,
+    pub(crate) items: Vec<I>,
+    pub(crate) made: u32,
+    pub(crate) buffers: Vec<G>,
+    pub(crate) locals: Vec<LocalMem>,
+    pub(crate) log: L,
     ghost numbered: { first + length items.items < 2 ^ 32 },
+}
+
+/// The first byte of an element of an object, or `None` where the element is out of range.
+fn place<G: Space>(
+    buffers: &[G],
+    locals: &[LocalMem],
+    object: Object,
+    element: i64,
+    operation: Operation,
+) -> Option<u64>
+    ensures value { result ≡ first_byte (length (space_of G.bytes buffers.now locals.now object)) element (size_of operation) }
+    ensures small { IfSome result (λ first. first + size_of operation < 2 ^ 64) }
+    ensures inside { IfSome result (λ first. first + size_of operation ≤ length (space_of G.bytes buffers.now locals.now object)) }
+{
+    let count = byte_count(width_of(operation));
+    first_byte(size_of(buffers, locals, object), element, count)
+}
+
+/// The entry of an access for the log, which gives it its interval.
+fn entry_of(item: u32, region: Region, first: u64, operation: Operation, event: u32) -> Entry
+    ensures { result ≡ entry_of item region first operation event }
+{
+    let access = Access {
+        item,
+        region,
+        first,
+        width: width_of(operation),
+        kind: kind_of(operation),
+        interval: 0,
+    };
+    Entry { access, event }
+}
+
+/// A conflict that a log finds, without the numbers of events.
+fn conflict_of(hit: Hit) -> Conflict
+    ensures { result ≡ conflict_of hit }
+{
+    Conflict {
+        earlier: hit.earlier.access,
+        later: hit.later.access,
+        byte: hit.byte,
+        clash: hit.clash,
+    }
+}
+
+/// Notes an access, and answers the fault that it makes, if it does. An error is want of memory.
+fn judge<D: Described, L: AccessLog>(
+    launch: &D,
+    log: &mut L,
+    entry: Entry,
+) -> Result<Option<Fault>, AllocError>
+    requires { IsPlaced entry }
+    ensures { IfOk result (IsJudged (D.launch launch.now) (L.Accesses.log log.old) entry (L.Accesses.log log.new)) }
+{
+    match log.note(entry)? {
+        None => Ok(None),
+        Some(hit) => Ok(Some(describing::conflict_fault(launch, &conflict_of(hit))?)),
+    }
+}
+
+/// Begins the next interval of each address space that a barrier fences.
+fn pass<L: AccessLog>(log: &mut L, fences: Fences)
+    requires local { (L.Accesses.log log.old).local_interval < 2 ^ 32 - 1 }
+    requires global { (L.Accesses.log log.old).global_interval < 2 ^ 32 - 1 }
+    ensures { L.Accesses.log log.new ≡ after_fences (L.Accesses.log log.old) fences }
+{
+    if fences.local {
+        log.fence(Fenced::Local);
+    }
+    if fences.global {
+        log.fence(Fenced::Global);
+    }
+}
+
+/// Answers all items that their barrier is passed.
+fn answer_all<I: RunningItem>(items: &mut Vec<I>)
+    ensures { AreAnswered I.acts Done items.old.items items.new.items }
+{
+    for k in 0..items.len() {
+        items[k].answer(Answer::Done);
+    }
+}
+
+impl<'a, D: Described, I: RunningItem, G: Space, L: AccessLog> Machine for Group<'a, D, I, G, L> {
+    ghost use Rattle.std.specs.Prelude.{◌-◌, ◌^◌, length};
+    ghost use Rattle.group_run.specs.Fits.{Fits};
+
+    ghost plan = { λ m. record { launch = D.launch m.launch.now; group = m.number; first = m.first; count = length m.items.items } };
+
+    ghost fits = { λ m. Fits I.acts G.bytes G.read_only (record { launch = D.launch m.launch.now; group = m.number; first = m.first; count = length m.items.items }) m.items.items m.made m.buffers.items m.locals.items (L.Accesses.log m.log) };
+
+    ghost ticks = { λ m k. 2 ^ 32 - m.made };
+
+    fn first(&self) -> u32 {
+        self.first
+    }
+
+    fn group(&self) -> u32 {
+        self.number
+    }
+
+    fn count(&self) -> u32 {
+        self.items.len() as u32
+    }
+
+    fn next(&mut self, k: u32) -> Action {
+        self.items[k as usize].next()
+    }
+
+    fn access(&mut self, k: u32) -> Result<Made, AllocError> {
+        let Action::Access {
+            object,
+            element,
+            operation,
+        } = self.next(k)
+        else {
+            unreachable!();
+        };
+        let item = self.first + k;
+        let region = region_of(self.number, object);
+        let Some(first) = place(
+            self.buffers.as_slice(),
+            self.locals.as_slice(),
+            object,
+            element,
+            operation,
+        ) else {
+            let fault = bounds_fault(self.launch, item, region, element, operation)?;
+            return Ok(Made::Refused(fault));
+        };
+        let answer = match perform_on(
+            &mut self.buffers,
+            &mut self.locals,
+            object,
+            first,
+            operation,
+        ) {
+            Ok(answer) => answer,
+            Err(SpaceFault::Unset(byte)) => {
+                let fault = unset_fault(self.launch, item, region, byte, operation)?;
+                return Ok(Made::Refused(fault));
+            }
+            Err(SpaceFault::OutOfMemory) => return Err(AllocError),
+            Err(SpaceFault::Bounds) => unreachable!(),
+            Err(SpaceFault::ReadOnly) => unreachable!(),
+        };
+        let entry = entry_of(item, region, first, operation, self.made);
+        let fault = judge(self.launch, &mut self.log, entry)?;
+        self.items[k as usize].answer(answer);
+        self.made += 1;
+        match fault {
+            None => Ok(Made::Done),
+            Some(fault) => Ok(Made::Conflicts(fault)),
+        }
+    }
+
+    fn release(&mut self) {
+        let Action::Barrier { fences, .. } = self.next(0) else {
+            unreachable!();
+        };
+        pass(&mut self.log, fences);
+        answer_all(&mut self.items);
+        self.made += 1;
+    }
+
+    fn fault_of(&self, item: u32, cause: Cause) -> Result<Fault, AllocError> {
+        describing::fault_of(self.launch, item, cause)
+    }
 }

@@ -11,6 +11,8 @@ mod result;
 mod runnable;
 mod running;
 mod runs;
+#[cfg(test)]
+mod tests;
 mod words;
 
 pub use describing::Described;

@@ -1,14 +1,55 @@
 //! The run of one group.
 
-ghost use Rattle.std.specs.Prelude.{◌≡◌, ◌*◌, ◌<◌, [], false, map, IfOk};
+ghost use Rattle.std.specs.Prelude.{◌≡◌, ◌+◌, ◌*◌, ◌<◌, ◌≤◌, ◌^◌, ℕ, List, Option, Some, None, [], false, length, map, replicate, slice_get, IfOk};
+ghost use Rattle.clmodel.specs.Launch.{Launch};
+ghost use Rattle.clmodel.specs.Outcome.{IsMerged, events_of};
+ghost use Rattle.clmodel.specs.Run.{start};
+ghost use Rattle.clmodel.specs.declared.action.Answer.{Answer};
+ghost use Rattle.item_run.specs.Running.{action_of, Running};
 ghost use Rattle.shadow_list.specs.Log.{logged};
+ghost use Rattle.group_run.specs.Fits.{AreStarted};
 ghost use Rattle.group_run.specs.Results.{IsRunnable, filled, IsResult};
 
+use crate::group::Group;
+use crate::loops::run_items;
 use crate::result::GroupResult;
 use crate::runnable::Runnable;
+use crate::runs::Runs;
+use clmodel::fault::Fault;
+use clmodel::schedule::Schedule;
+use item_run::Item;
 use shadow_list::AccessLog;
-use spaces_base::Space;
+use spaces_base::{LocalMem, Space};
 use std::alloc::{AllocError, Global};
+
+/// Local objects of these sizes, unset.
+fn local_objects(alloc: Global, sizes: &[u64]) -> Result<Vec<LocalMem>, AllocError>
+    ensures { IfOk result (λ locals. locals.items ≡ map (λ size. replicate size None) sizes.now) }
+{
+    let mut locals = Vec::new(alloc);
+    for i in 0..sizes.len() {
+        locals.push(LocalMem::new(alloc, sizes[i] as usize)?)?;
+    }
+    Ok(locals)
+}
+
+/// So many items from the first on, before their first actions.
+#[tactic(auto, using(crate::proofs::Items::started_more, crate::proofs::Items::started_none))]
+fn start_items<'a, D: Runnable>(
+    alloc: Global,
+    launch: &'a D,
+    first: u32,
+    count: u32,
+) -> Result<Vec<Item<'a>>, AllocError>
+    requires { first + count < 2 ^ 32 }
+    ensures { IfOk result (λ items. AreStarted (D.Described.launch launch.now) first count items.items) }
+{
+    let mut items = Vec::new(alloc);
+    for k in 0..count {
+        items.push(launch.start(alloc, first + k)?)?;
+    }
+    Ok(items)
+}
 
 /// The canonical run of one group of a launch, on spaces for its buffers that hold their first bytes. An error is want of memory.
 pub fn run_group<D: Runnable, G: Space + Drop, L: AccessLog + Drop>(
@@ -25,5 +66,35 @@ pub fn run_group<D: Runnable, G: Space + Drop, L: AccessLog + Drop>(
     requires fresh { L.Accesses.log log ≡ logged [] 0 0 }
     ensures { IfOk result (IsResult G.bytes L.Accesses.log (D.Described.launch launch.now) group) }
 {
-    Err(AllocError)
+    let count = launch.group_size();
+    let first = group * count;
+    let locals = local_objects(alloc, launch.local_sizes())?;
+    let items = start_items(alloc, launch, first, count)?;
+    let mut machine = Group {
+        launch,
+        number: group,
+        first,
+        items,
+        made: 0,
+        buffers: globals,
+        locals,
+        log,
+    };
+    let mut runs = Runs::new(alloc);
+    let report = run_items(&mut machine, &mut runs)?;
+    let runs = runs.into_schedule();
+    match report {
+        None => Ok(GroupResult::Done {
+            group,
+            spaces: machine.buffers,
+            log: machine.log,
+            runs,
+        }),
+        Some(fault) => Ok(GroupResult::Stopped {
+            group,
+            fault,
+            log: machine.log,
+            runs,
+        }),
+    }
 }

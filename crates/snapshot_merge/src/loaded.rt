@@ -35,8 +35,11 @@ impl Described for LoadedLaunch<'_> {
         name_of(self.alloc, self.launch.buffer_names(), number)
     }
 
-    fn local_name(&self, _number: u32) -> Result<Name, AllocError> {
-        Name::copy_of(self.alloc, &[])
+    fn local_name(&self, number: u32) -> Result<Name, AllocError> {
+        match self.launch.local_names().get(number as usize) {
+            Some(name) => name_of(self.alloc, self.launch.source_names(), *name),
+            None => Name::copy_of(self.alloc, &[]),
+        }
     }
 
     fn source_name(&self, number: u32) -> Result<Name, AllocError> {
@@ -50,7 +53,7 @@ impl Runnable for LoadedLaunch<'_> {
     }
 
     fn local_sizes(&self) -> &[u64] {
-        &[]
+        self.launch.local_sizes()
     }
 
     fn start(&self, alloc: Global, item: u32) -> Result<Item<'_>, AllocError> {

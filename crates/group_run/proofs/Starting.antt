@@ -1,0 +1,315 @@
+-- What a program holds of a group at the start of its run, and at its end.
+use Rattle.std.proofs.Common.{◌≡◌, ℕ, zero, suc, ◌+◌, ◌-◌, ◌*◌, ◌/◌, ◌%◌, ◌<◌, ◌≤◌, ◌^◌, Bool, false, ◌==◌, Option, None, Some, List, [], ◌∷◌, ◌++◌, length, map, replicate, refl, sym, ap, ap₂, ◌∙◌, subst, arith, eq-eqb, ne_eqb}
+use Rattle.std.specs.Prelude.{slice_get, slice_index, slice_index_or}
+use Rattle.std.proofs.Math.Path.{fun_ext}
+use Rattle.std.proofs.Math.Nat.{mod-lt, suc-mul, mul_comm, lt_of_mul-lt-mul_right, mul-le-mul_right, mul-le-mul_left, le-mul_of_pos_right}
+use Rattle.std.proofs.lemmas.List.{length-replicate, length-map}
+use Rattle.std.proofs.lemmas.Nat.{div-add-mod', div-mul-add}
+use Rattle.std.proofs.lemmas.Option.{slice_get_within}
+use Rattle.clmodel.specs.Cells.{Cells, cells_of}
+use Rattle.clmodel.specs.Launch.{Launch, group_of, bytes_of}
+use Rattle.clmodel.specs.Law.{IsBounded, sum_below, answers_left, newest_conflict}
+use Rattle.clmodel.specs.Run.{State, Events, Memory, start, initial, first_item, cells_from, contents, left}
+use Rattle.clmodel.specs.declared.action.Action.{Action}
+use Rattle.clmodel.specs.declared.action.Answer.{Answer}
+use Rattle.clmodel.specs.declared.access.Region.TheVariants as region
+use Rattle.clmodel.specs.declared.fault.Fault.{Fault}
+use Rattle.clmodel.proofs.Steps.{none_some, some_inj}
+use Rattle.item_run.specs.Running.{Running, action_of}
+use Rattle.shadow_list.specs.Log.{Log, logged}
+use Rattle.group_run.specs.Fits.{Holds, HoldsMemory, Fits, Counts, AreStarted, group_left}
+use Rattle.group_run.specs.Group.{Plan, IsGroup, Reached, Reported, IsRun}
+use Rattle.group_run.specs.Logs.{IsLogged}
+use Rattle.group_run.specs.Loops.{IsBrief}
+use Rattle.group_run.specs.Results.{IsRunnable, plan_of, filled, Leaves}
+use Rattle.group_run.proofs.Turns.{found_first, moved}
+
+-- ---- the group's items
+
+-- sums of numbers that are products elsewhere
+no_rest : (a r n : ℕ) → a + r ≡ n → r ≡ 0 → a ≡ n
+no_rest a r n h e = omega (arith, h, e)
+
+within : (k c f n : ℕ) → k < c → f + c ≤ n → f + k < n
+within k c f n h e = omega (arith, h, e)
+
+no_earlier : (j f r : ℕ) → j < f → f + r ≡ j → ⊥
+no_earlier j f r h e = absurd (omega (arith, h, e))
+
+at_most : (a b c d : ℕ) → a ≡ b → b ≤ c → c ≡ d → a ≤ d
+at_most a b c d h e q = omega (arith, h, e, q)
+
+under : (a b c : ℕ) → a ≤ b → b < c → a < c
+under a b c h e = omega (arith, h, e)
+
+nothing : (n : ℕ) → n ≡ n + 0
+nothing n = omega arith
+
+-- a group that begins within the launch is whole
+whole_inside : (items size group : ℕ) → items % size ≡ 0 → group * size < items → group * size + size ≤ items
+whole_inside items size group whole there =
+    let e : items / size * size ≡ items = no_rest (items / size * size) (items % size) items (div-add-mod' items size) whole in
+    let b : group * size < items / size * size = subst (λ z. group * size < z) (sym e) there in
+    let l : suc group ≤ items / size = lt_of_mul-lt-mul_right size b in
+    at_most (group * size + size) (suc group * size) (items / size * size) items (sym (suc-mul group size)) (mul-le-mul_right size l) e
+
+mine_first : (l : Launch) (group : ℕ) → 0 < l.group_size → group * l.group_size / l.group_size ≡ group
+mine_first l group b = ap (λ n. n / l.group_size) (nothing (group * l.group_size)) ∙ div-mul-add group l.group_size 0 b
+
+not_mine : (l : Launch) (group j : ℕ) → j < group * l.group_size → j / l.group_size ≡ group → ⊥
+not_mine l group j b e =
+    no_earlier j (group * l.group_size) (j % l.group_size) b (ap (λ g. g * l.group_size + j % l.group_size) (sym e) ∙ div-add-mod' j l.group_size)
+
+pub group_is : (l : Launch) (group : ℕ) → IsRunnable l → group * l.group_size < l.items → IsGroup (plan_of l group)
+group_is l group ready there =
+    record {
+      some = ready.grouped;
+      leads =
+          found_first (λ item. group_of l item == group) l.items (group * l.group_size) there
+          (eq-eqb (group * l.group_size / l.group_size) group (mine_first l group ready.grouped))
+          (λ j b. ne_eqb (j / l.group_size) group (not_mine l group j b));
+      inside = λ k b. within k l.group_size (group * l.group_size) l.items b (whole_inside l.items l.group_size group ready.whole there);
+      mine = λ k b. div-mul-add group l.group_size k b;
+      listed = λ item b e. (
+        item % l.group_size,
+        mod-lt item ready.grouped,
+        ap (λ g. g * l.group_size + item % l.group_size) (sym e) ∙ div-add-mod' item l.group_size,
+      );
+    }
+
+-- ---- the bytes
+
+cells_some : (bytes : List ℕ) (byte : ℕ) → cells_of (map Some bytes) byte ≡ slice_get bytes byte
+cells_some [] byte = refl
+cells_some (b ∷ bytes) zero = refl
+cells_some (b ∷ bytes) (suc byte) = cells_some bytes byte
+
+cells_none : (n byte : ℕ) → cells_of (replicate n None) byte ≡ None
+cells_none zero byte = refl
+cells_none (suc n) zero = refl
+cells_none (suc n) (suc byte) = cells_none n byte
+
+head_is : {A : Type 0} (x y : A) (xs ys : List A) → x ∷ xs ≡ y ∷ ys → x ≡ y
+head_is x y xs ys h = cc
+
+tail_is : {A : Type 0} (x y : A) (xs ys : List A) → x ∷ xs ≡ y ∷ ys → xs ≡ ys
+tail_is x y xs ys h = cc
+
+not_empty : {A : Type 0} (x : A) (xs : List A) → x ∷ xs ≡ [] → ⊥
+not_empty x xs h = cc
+
+filled_at :
+    {G : Type 0} (bytes : G → List (Option ℕ)) (xs : List G) (bs : List (List ℕ)) → map bytes xs ≡ map (λ b. map Some b) bs → (n : ℕ) (x : G) → slice_get xs n ≡ Some x
+    → bytes x ≡ map Some (slice_index_or bs n [])
+filled_at bytes [] bs h n x e = absurd (none_some x e)
+filled_at bytes (y ∷ xs) [] h n x e = absurd (not_empty (bytes y) (map bytes xs) h)
+filled_at bytes (y ∷ xs) (b ∷ bs) h zero x e =
+    ap bytes (sym (some_inj y x e)) ∙ head_is (bytes y) (map Some b) (map bytes xs) (map (λ b. map Some b) bs) h
+filled_at bytes (y ∷ xs) (b ∷ bs) h (suc n) x e = filled_at bytes xs bs (tail_is (bytes y) (map Some b) (map bytes xs) (map (λ b. map Some b) bs) h) n x e
+
+past : {G : Type 0} (xs : List G) (bs : List (List ℕ)) (n : ℕ) → length xs ≡ length bs → slice_get xs n ≡ None → slice_index_or bs n [] ≡ []
+past xs [] n h e = refl
+past [] (b ∷ bs) n h e = absurd (omega (arith, h))
+past (x ∷ xs) (b ∷ bs) zero h e = absurd (none_some x (sym e))
+past (x ∷ xs) (b ∷ bs) (suc n) h e = past xs bs n (omega (arith, h)) e
+
+local_at : (sizes : List ℕ) (n : ℕ) (x : List (Option ℕ)) → slice_get (map (λ size. replicate size None) sizes) n ≡ Some x → x ≡ replicate (slice_index sizes n) None
+local_at [] n x e = absurd (none_some x e)
+local_at (s ∷ sizes) zero x e = sym (some_inj (replicate s None) x e)
+local_at (s ∷ sizes) (suc n) x e = local_at sizes n x e
+
+local_past : (sizes : List ℕ) (n : ℕ) → ◌≡◌ {A = Option (List (Option ℕ))} (slice_get (map (λ size. replicate size None) sizes) n) None → slice_index sizes n ≡ 0
+local_past [] n e = refl
+local_past (s ∷ sizes) zero e = absurd (none_some (replicate s None) (sym e))
+local_past (s ∷ sizes) (suc n) e = local_past sizes n e
+
+many_filled : {G : Type 0} (bytes : G → List (Option ℕ)) (xs : List G) (bs : List (List ℕ)) → map bytes xs ≡ map (λ b. map Some b) bs → length xs ≡ length bs
+many_filled bytes xs bs h = sym (length-map xs bytes) ∙ ap length h ∙ length-map bs (λ b. map Some b)
+
+buffers_hold : {G : Type 0} (bytes : G → List (Option ℕ)) (l : Launch) (xs : List G) → map bytes xs ≡ filled l → Holds bytes l (length l.buffers) region.Buffer xs (initial l)
+buffers_hold bytes l xs h =
+    record {
+      many = many_filled bytes xs l.buffers h;
+      sized = λ n x e. ap length (filled_at bytes xs l.buffers h n x e) ∙ length-map (slice_index_or l.buffers n []) Some;
+      none = λ n e. ap length (past xs l.buffers n (many_filled bytes xs l.buffers h) e);
+      cells = λ n x e. fun_ext (λ byte. ap (λ z. cells_of z byte) (filled_at bytes xs l.buffers h n x e) ∙ cells_some (slice_index_or l.buffers n []) byte);
+    }
+
+locals_hold : (l : Launch) (group : ℕ) → Holds (λ cells. cells) l (length l.local_sizes) (region.Local group) (map (λ size. replicate size None) l.local_sizes) (initial l)
+locals_hold l group =
+    record {
+      many = length-map l.local_sizes (λ size. replicate size None);
+      sized = λ n x e. ap length (local_at l.local_sizes n x e) ∙ length-replicate (slice_index l.local_sizes n) None;
+      none = λ n e. local_past l.local_sizes n e;
+      cells = λ n x e. fun_ext (λ byte. ap (λ z. cells_of z byte) (local_at l.local_sizes n x e) ∙ cells_none (slice_index l.local_sizes n) byte);
+    }
+
+-- ---- the counts
+
+sum_const : (b n : ℕ) → sum_below (λ k. b - 0) n ≤ n * b
+sum_const b zero = omega arith
+sum_const b (suc n) = one_more (sum_below (λ k. b - 0) n) (n * b) (suc n * b) b (sum_const b n) (suc-mul n b)
+  where
+    one_more : (s t u b : ℕ) → s ≤ t → u ≡ t + b → s + (b - 0) ≤ u
+    one_more s t u b h e = omega (arith, h, e)
+
+small : (b c d : ℕ) → b ≤ c → c ≡ d → d < 2 ^ 32 → b ≤ 4294967295
+small b c d h e q = omega (arith, h, e, q)
+
+product_fits : (items size bound : ℕ) → items < 2 ^ 32 → 0 < size → size * bound < 2 ^ 32 → items * bound < 2 ^ 64
+product_fits items size bound few some brief =
+    let b : bound ≤ 4294967295 = small bound (bound * size) (size * bound) (le-mul_of_pos_right bound some) (mul_comm bound size) brief in
+    let c : items ≤ 4294967295 = omega (arith, few) in
+    last (items * bound) (items * 4294967295) (mul-le-mul_left items b) (mul-le-mul_right 4294967295 c)
+  where
+    last : (x y : ℕ) → x ≤ y → y ≤ 4294967295 * 4294967295 → x < 2 ^ 64
+    last x y h e = omega (arith, h, e)
+
+pub brief_is : (l : Launch) (group : ℕ) → IsRunnable l → IsBrief (plan_of l group) (start l)
+brief_is l group ready =
+    let bound = ready.bounded.0 in
+    (bound, ready.bounded.2, under _ (l.items * bound) (2 ^ 64) (sum_const bound l.items) (product_fits l.items l.group_size bound ready.numbered ready.grouped ready.bounded.1))
+
+-- ---- the start
+
+from_none : (a b : ℕ) → a ≤ b → 0 + a ≤ b
+from_none a b h = omega (arith, h)
+
+pub start_fits :
+    {G : Type 0} (bytes : G → List (Option ℕ)) (ro : Bool) (l : Launch) (group : ℕ) (items : List Running) (globals : List G) (locals : List (List (Option ℕ))) (log : Log)
+    → IsRunnable l → group * l.group_size < l.items → ro ≡ false → map bytes globals ≡ filled l → locals ≡ map (λ size. replicate size None) l.local_sizes
+    → log ≡ logged [] 0 0 → AreStarted l (group * l.group_size) l.group_size items
+    → Fits action_of bytes ro (plan_of l group) items 0 globals locals log [] (start l)
+start_fits bytes ro l group items globals locals log ready there writable full unset fresh started =
+    let bound = ready.bounded.0 in
+    subst (λ z. Fits action_of bytes ro (plan_of l group) items 0 globals locals z [] (start l)) (sym fresh)
+    (subst (λ z. Fits action_of bytes ro (plan_of l group) items 0 globals z (logged [] 0 0) [] (start l)) (sym unset)
+    (record {
+      whole = group_is l group ready there;
+      writable = writable;
+      acting = started.each;
+      holds = (buffers_hold bytes l globals full, locals_hold l group);
+      logged = record { keeps = refl; noted = refl; mine = tt; local_interval = refl; global_interval = refl };
+      counts = record {
+        counted = refl;
+        bound = bound;
+        brief = ready.bounded.1;
+        bounded = ready.bounded.2;
+        left = from_none _ (l.group_size * bound) (sum_const bound l.group_size);
+      };
+      few = (omega arith, omega arith);
+    }))
+
+-- the plan as the code has it
+pub plan_same : (l : Launch) (group first count : ℕ) → first ≡ group * l.group_size → count ≡ l.group_size → record { launch = l; group = group; first = first; count = count } ≡ plan_of l group
+plan_same l group first count e h = ap₂ (λ f c. record { launch = l; group = group; first = f; count = c }) e h
+
+-- the group's items have numbers of 32 bits
+pub items_fit : (l : Launch) (group size : ℕ) → IsRunnable l → group * l.group_size < l.items → size ≡ l.group_size → group * size + size < 2 ^ 32
+items_fit l group size ready there e =
+    subst (λ z. group * z + z < 2 ^ 32) (sym e) (inner (group * l.group_size + l.group_size) l.items (whole_inside l.items l.group_size group ready.whole there) ready.numbered)
+  where
+    inner : (a b : ℕ) → a ≤ b → b < 2 ^ 32 → a < 2 ^ 32
+    inner a b h q = omega (arith, h, q)
+
+-- what the code's loops ask for at the start
+pub record Begins (p : Plan) (fits : Events → State → Type 0) (origin : State) : Type 0 where
+  pub whole : IsGroup p
+  pub brief : IsBrief p origin
+  pub reached : Reached p fits origin []
+
+pub begins :
+    {G : Type 0} (bytes : G → List (Option ℕ)) (ro : Bool) (l : Launch) (group first count : ℕ) (items : List Running) (globals : List G) (locals : List (List (Option ℕ))) (log : Log)
+    → IsRunnable l → group * l.group_size < l.items → ro ≡ false → map bytes globals ≡ filled l → locals ≡ map (λ size. replicate size None) l.local_sizes
+    → log ≡ logged [] 0 0 → first ≡ group * l.group_size → count ≡ l.group_size → AreStarted l first count items
+    → Begins (record { launch = l; group = group; first = first; count = length items })
+    (Fits action_of bytes ro (record { launch = l; group = group; first = first; count = length items }) items 0 globals locals log) (start l)
+begins bytes ro l group first count items globals locals log ready there writable full unset fresh e h started =
+    let now = subst (λ z. AreStarted l z l.group_size items) e (subst (λ z. AreStarted l first z items) h started) in
+    subst (λ z. Begins z (Fits action_of bytes ro z items 0 globals locals log) (start l)) (sym (plan_same l group first (length items) e (started.many ∙ h)))
+    (record {
+      whole = group_is l group ready there;
+      brief = brief_is l group ready;
+      reached = record {
+        state = start l;
+        runs = refl;
+        holds = start_fits bytes ro l group items globals locals log ready there writable full unset fresh now;
+        calm = refl;
+      };
+    })
+
+-- ---- the end
+
+shifted : (y : Option ℕ) (ys : List (Option ℕ)) (i n : ℕ) → cells_from (cells_of (y ∷ ys)) (suc i) n ≡ cells_from (cells_of ys) i n
+shifted y ys i zero = refl
+shifted y ys i (suc n) = ap (λ z. cells_of ys i ∷ z) (shifted y ys (suc i) n)
+
+cells_are : (ys : List (Option ℕ)) → cells_from (cells_of ys) 0 (length ys) ≡ ys
+cells_are [] = refl
+cells_are (y ∷ ys) = ap (λ z. y ∷ z) (shifted y ys 0 (length ys) ∙ cells_are ys)
+
+contents_are :
+    {G : Type 0} (bytes : G → List (Option ℕ)) (m : Memory) (k : ℕ) (bs : List (List ℕ)) (xs : List G) → length xs ≡ length bs
+    → ((n : ℕ) (x : G) → slice_get xs n ≡ Some x → (length (bytes x) ≡ length (slice_index_or bs n [])) × (cells_of (bytes x) ≡ m (region.Buffer (k + n))))
+    → contents m k bs ≡ map bytes xs
+contents_are bytes m k [] [] e h = refl
+contents_are bytes m k [] (x ∷ xs) e h = absurd (omega (arith, e))
+contents_are bytes m k (b ∷ bs) [] e h = absurd (omega (arith, e))
+contents_are bytes m k (b ∷ bs) (x ∷ xs) e h =
+    let first : k + 0 ≡ k = omega arith in
+    ap₂ (λ y ys. y ∷ ys)
+    (ap (λ c. cells_from c 0 (length b)) (sym ((h 0 x refl).1 ∙ ap (λ n. m (region.Buffer n)) first))
+    ∙ ap (cells_from (cells_of (bytes x)) 0) (sym ((h 0 x refl).0))
+    ∙ cells_are (bytes x))
+    (contents_are bytes m (suc k) bs xs (omega (arith, e)) (λ n y q. ((h (suc n) y q).0, (h (suc n) y q).1 ∙ ap (λ j. m (region.Buffer j)) (next n))))
+  where
+    next : (n : ℕ) → k + suc n ≡ suc k + n
+    next n = omega arith
+
+none_more : (n : ℕ) → n ≡ 0 + n
+none_more n = omega arith
+
+pub leaves_fit :
+    {I G : Type 0} (acts : I → List Answer → Action) (bytes : G → List (Option ℕ)) (ro : Bool) (p : Plan) (items : List I) (number : ℕ) (globals : List G)
+    (locals : List (List (Option ℕ))) (log : Log) (events : Events) (s : State) → Fits acts bytes ro p items number globals locals log events s → Leaves bytes p globals log events s
+leaves_fit acts bytes ro p items number globals locals log events s f =
+    record {
+      contents = contents_are bytes s.memory 0 p.launch.buffers globals f.holds.0.many (λ n x e. (f.holds.0.sized n x e, f.holds.0.cells n x e ∙ ap (λ j. s.memory (region.Buffer j)) (none_more n)));
+      logged = f.logged;
+    }
+
+-- what is left where the run ends clean, by the group's plan
+pub done_result :
+    {I G : Type 0} (acts : I → List Answer → Action) (bytes : G → List (Option ℕ)) (ro : Bool) (p q : Plan) (l : Launch) (group : ℕ) (items : List I) (number : ℕ) (globals : List G)
+    (locals : List (List (Option ℕ))) (log : Log) (events other : Events) (report : Option Fault) → p ≡ plan_of l group → q ≡ p → other ≡ events → report ≡ None
+    → IsRun p (Fits acts bytes ro q items number globals locals log) (start l) events report
+    → IsRun (plan_of l group) (Leaves bytes (plan_of l group) globals log) (start l) other None
+done_result acts bytes ro p q l group items number globals locals log events other report e same told none h =
+    let r = subst (IsRun p (Fits acts bytes ro q items number globals locals log) (start l) events) none h in
+    let out : IsRun p (Leaves bytes p globals log) (start l) events None
+    = (
+      moved p (Fits acts bytes ro q items number globals locals log) (Leaves bytes p globals log) (start l) events
+          (λ es s f. subst (λ z. Leaves bytes z globals log es s) same (leaves_fit acts bytes ro q items number globals locals log es s f)) r.0,
+      r.1,
+    ) in
+    subst (λ z. IsRun (plan_of l group) (Leaves bytes (plan_of l group) globals log) (start l) z None) (sym told)
+    (subst (λ z. IsRun z (Leaves bytes z globals log) (start l) events None) e out)
+
+-- what is known where the run ends with a report
+pub stopped_result :
+    {I G : Type 0} (acts : I → List Answer → Action) (bytes : G → List (Option ℕ)) (ro : Bool) (p q : Plan) (l : Launch) (group : ℕ) (items : List I) (number : ℕ) (globals : List G)
+    (locals : List (List (Option ℕ))) (log : Log) (events other : Events) (report : Option Fault) (fault : Fault) → p ≡ plan_of l group → q ≡ p → other ≡ events → report ≡ Some fault
+    → IsRun p (Fits acts bytes ro q items number globals locals log) (start l) events report
+    → IsRun (plan_of l group) (IsLogged (plan_of l group) log) (start l) other (Some fault)
+stopped_result acts bytes ro p q l group items number globals locals log events other report fault e same told some h =
+    let r : Reported p (Fits acts bytes ro q items number globals locals log) (start l) events fault
+    = subst (IsRun p (Fits acts bytes ro q items number globals locals log) (start l) events) some h in
+    let out : IsRun p (IsLogged p log) (start l) events (Some fault)
+    = record {
+      state = r.state;
+      runs = r.runs;
+      holds = subst (λ z. IsLogged z log events r.state) same r.holds.logged;
+      reports = r.reports;
+    } in
+    subst (λ z. IsRun (plan_of l group) (IsLogged (plan_of l group) log) (start l) z (Some fault)) (sym told)
+    (subst (λ z. IsRun z (IsLogged z log) (start l) events (Some fault)) e out)

@@ -1,0 +1,505 @@
+-- What an access and a release leave of what a program holds of a group.
+use Rattle.std.proofs.Common.{◌≡◌, ℕ, zero, suc, ◌+◌, ◌-◌, ◌*◌, ◌<◌, ◌≤◌, ◌^◌, ◌⊎◌, ℤ, Bool, true, false, ◌==◌, if◌then◌else◌, Option, None, Some, List, [], ◌∷◌, ◌++◌, length, set, refl, sym, ap, ap₂, ◌∙◌, subst, inl, inr, arith, eq-eqb, ne_eqb, length-append}
+use Rattle.std.specs.Prelude.{reverse, slice_get, Ok, Err}
+use Rattle.std.specs.Option.{option_map}
+use Rattle.std.proofs.lemmas.Bool.{false≢true, cases_eq, cases_lt}
+use Rattle.std.proofs.lemmas.List.{append_assoc, append-nil, reverse-append, length-reverse}
+use Rattle.std.proofs.lemmas.Option.{slice_get_within}
+use Rattle.clmodel.specs.Cells.{byte_count, width_of, size_of, reads, found, answer_to, effect, lowest_unset}
+use Rattle.clmodel.specs.Launch.{Launch, region_of, location_of, kind_of, group_of, bytes_of, first_byte}
+use Rattle.clmodel.specs.Run.{State, Events, Memory, step, next_action, straggler, byte_at, by_region, access_of, with_cells, released, changed}
+use Rattle.clmodel.specs.Law.{Makes, Reports, Keeps, newest_conflict, conflict_fault, unset_turn, access_turn, item_turn, is_over, IsBounded, sum_below}
+use Rattle.clmodel.specs.declared.access.Access.{Access}
+use Rattle.clmodel.specs.declared.access.Conflict as conflict_type
+use Rattle.clmodel.specs.declared.access.Object.{Object}
+use Rattle.clmodel.specs.declared.access.Operation.{Operation}
+use Rattle.clmodel.specs.declared.access.Region.{Region}
+use Rattle.clmodel.specs.declared.action.Action.{Action}
+use Rattle.clmodel.specs.declared.action.Action.TheVariants as action
+use Rattle.clmodel.specs.declared.action.Answer.{Answer}
+use Rattle.clmodel.specs.declared.action.Answer.TheVariants.{Done}
+use Rattle.clmodel.specs.declared.action.Fences.{Fences}
+use Rattle.clmodel.specs.declared.action.Instance.{Instance}
+use Rattle.clmodel.specs.declared.fault.Fault.{Fault}
+use Rattle.clmodel.specs.declared.fault.Fault.TheVariants as fault
+use Rattle.clmodel.specs.declared.schedule.Event.{Event}
+use Rattle.clmodel.specs.declared.schedule.Event.TheVariants.{Item, Release}
+use Rattle.clmodel.proofs.CellLaws.{found_unset}
+use Rattle.clmodel.proofs.Ending.{sum_below_less, not_over}
+use Rattle.clmodel.proofs.Steps.{none_some, some_inj, if_true, if_false, made, region_for, item_at, release_at}
+use Rattle.shadow_list.specs.Log.{Log, stamped, hit, IsKept, IsNoted}
+use Rattle.shadow_list.specs.declared.log.Entry.{Entry}
+use Rattle.shadow_list.specs.declared.log.Hit.{Hit}
+use Rattle.group_run.specs.Fits.{Holds, HoldsMemory, IsMoved, Fits, Counts, AreAnswered, group_left, space_of}
+use Rattle.group_run.specs.Group.{Plan, IsGroup}
+use Rattle.group_run.specs.Logs.{accesses_of, conflict_of, AreMine, numbered, Notes, IsLogged, IsJudged, entry_of, after_fences}
+use Rattle.group_run.specs.Loops.{Steps, IsMade}
+use Rattle.group_run.specs.declared.machine.Made.TheVariants as made_as
+use Rattle.spaces_base.specs.declared.space.SpaceFault.TheVariants as space_fault
+use Rattle.group_run.proofs.Lists.{get_set}
+use Rattle.group_run.proofs.Memory.{space_sized}
+use Rattle.group_run.proofs.Logs.{newest_is_hit, keeps_noted, mine_noted}
+
+-- ---- the turn of an access
+
+set_read : (op : Operation) (m : Memory) (at : Region) (first x : ℕ) → found op (m at) first ≡ Some x → (if reads op then lowest_unset (m at) first (size_of op) else None) ≡ None
+set_read op m at first x h = go (reads op) refl (lowest_unset (m at) first (size_of op)) refl
+  where
+    go : (b : Bool) → reads op ≡ b → (o : Option ℕ) → lowest_unset (m at) first (size_of op) ≡ o → (if b then lowest_unset (m at) first (size_of op) else None) ≡ None
+    go false e o q = refl
+    go true e None q = q
+    go true e (Some byte) q = absurd (none_some x (sym (found_unset op (m at) first byte e q) ∙ h))
+
+done_turn :
+    (l : Launch) (s : State) (leader item : ℕ) (o : Object) (element : ℤ) (op : Operation) (first x : ℕ) → next_action l s item ≡ action.Access o element op
+    → byte_at l item o element op ≡ Some first → found op (s.memory (region_for l item o)) first ≡ Some x
+    → item_turn l s leader item (next_action l s item) ≡ Makes (Item item)
+done_turn l s leader item o element op first x acts placed finds =
+    ap (item_turn l s leader item) acts
+    ∙ ap (access_turn l s item o element op) placed
+    ∙ ap (unset_turn l item (kind_of op) (region_for l item o)) (set_read op s.memory (region_for l item o) first x finds)
+
+pub bounds_turn :
+    (l : Launch) (s : State) (leader item : ℕ) (o : Object) (element : ℤ) (op : Operation) → next_action l s item ≡ action.Access o element op
+    → byte_at l item o element op ≡ None
+    → item_turn l s leader item (next_action l s item) ≡ Reports (fault.Bounds item (kind_of op) (location_of l (region_for l item o)) element)
+bounds_turn l s leader item o element op acts placed = ap (item_turn l s leader item) acts ∙ ap (access_turn l s item o element op) placed
+
+pub unset_item_turn :
+    (l : Launch) (s : State) (leader item : ℕ) (o : Object) (element : ℤ) (op : Operation) (first byte : ℕ) → next_action l s item ≡ action.Access o element op
+    → byte_at l item o element op ≡ Some first → reads op ≡ true → lowest_unset (s.memory (region_for l item o)) first (size_of op) ≡ Some byte
+    → item_turn l s leader item (next_action l s item) ≡ Reports (fault.Unset item (kind_of op) (location_of l (region_for l item o)) byte)
+unset_item_turn l s leader item o element op first byte acts placed r h =
+    ap (item_turn l s leader item) acts
+    ∙ ap (access_turn l s item o element op) placed
+    ∙ ap (λ b. unset_turn l item (kind_of op) (region_for l item o) (if b then lowest_unset (s.memory (region_for l item o)) first (size_of op) else None)) r
+    ∙ ap (unset_turn l item (kind_of op) (region_for l item o)) h
+
+-- ---- the count of events
+
+one_more : (answers : List Answer) (a : Answer) → length (answers ++ a ∷ []) ≡ length answers + 1
+one_more answers a = length-append answers (a ∷ [])
+
+fewer : (bound n m : ℕ) → n < bound → m ≡ n + 1 → bound - m < bound - n
+fewer bound n m h e = omega (arith, h, e)
+
+no_fewer : (bound n m : ℕ) → n ≤ m → bound - m ≤ bound - n
+no_fewer bound n m h = omega (arith, h)
+
+-- there is room for one event more where an item of the group isn't over
+pub roomy :
+    (p : Plan) (number : ℕ) (events : Events) (s : State) (k : ℕ) → IsGroup p → Counts p number events s → k < p.count → is_over (next_action p.launch s (p.first + k)) ≡ false
+    → number + 1 < 2 ^ 32
+roomy p number events s k whole c b n =
+    let less : length (s.answers (p.first + k)) < c.bound = not_over p.launch c.bound s (p.first + k) c.bounded (whole.inside k b) n in
+    let some : sum_below (λ j. 0) p.count < group_left p c.bound s = sum_below_less (λ j. 0) (λ j. c.bound - length (s.answers (p.first + j))) p.count k b (λ j q. omega arith) (omega (arith, less)) in
+    omega (arith, c.counted, c.brief, c.left, some)
+
+counts_more :
+    (p : Plan) (number : ℕ) (events : Events) (s n : State) (k : ℕ) (e : Event) → IsGroup p → Counts p number events s → k < p.count → is_over (next_action p.launch s (p.first + k)) ≡ false
+    → ((j : ℕ) → j < p.count → length (s.answers (p.first + j)) ≤ length (n.answers (p.first + j))) → length (n.answers (p.first + k)) ≡ length (s.answers (p.first + k)) + 1
+    → Counts p (number + 1) (events ++ e ∷ []) n
+counts_more p number events s n k e whole c b active each here =
+    let more : length (events ++ e ∷ []) ≡ length events + 1 = length-append events (e ∷ []) in
+    let less : length (s.answers (p.first + k)) < c.bound = not_over p.launch c.bound s (p.first + k) c.bounded (whole.inside k b) active in
+    let left : group_left p c.bound n < group_left p c.bound s
+    = sum_below_less (λ j. c.bound - length (n.answers (p.first + j))) (λ j. c.bound - length (s.answers (p.first + j))) p.count k b
+    (λ j q. no_fewer c.bound (length (s.answers (p.first + j))) (length (n.answers (p.first + j))) (each j q))
+    (fewer c.bound (length (s.answers (p.first + k))) (length (n.answers (p.first + k))) less here) in
+    record {
+      counted = omega (arith, c.counted, more);
+      bound = c.bound;
+      brief = c.brief;
+      bounded = c.bounded;
+      left = omega (arith, c.left, more, left);
+    }
+
+-- ---- an access that is done
+
+-- the answers of an item that was answered, and of another
+answered_here : (s : State) (l : Launch) (item : ℕ) (at : Region) (op : Operation) (first x : ℕ) → (made l s item at first op x).answers item ≡ s.answers item ++ answer_to op x ∷ []
+answered_here s l item at op first x = if_true (item == item) (s.answers item ++ answer_to op x ∷ []) (s.answers item) (eq-eqb item item refl)
+
+answered_there :
+    (s : State) (l : Launch) (item : ℕ) (at : Region) (op : Operation) (first x other : ℕ) → (other ≡ item → ⊥) → (made l s item at first op x).answers other ≡ s.answers other
+answered_there s l item at op first x other ne = if_false (other == item) (s.answers item ++ answer_to op x ∷ []) (s.answers other) (ne_eqb other item ne)
+
+-- the log's entry of an access is what the launch's log gets of it
+stamped_is :
+    (p : Plan) (log : Log) (events : Events) (s : State) (item : ℕ) (at : Region) (first : ℕ) (op : Operation) (number : ℕ) → IsLogged p log events s → group_of p.launch item ≡ p.group
+    → stamped log (entry_of item at first op number) ≡ record { access = access_of p.launch s item at first op; event = number }
+stamped_is p log events s item at first op number h e =
+    ap (λ i. record { access = record { item = item; region = at; first = first; width = width_of op; kind = kind_of op; interval = i }; event = number })
+    (ap₂ (by_region at) (h.global_interval ∙ ap s.global_interval (sym e)) (h.local_interval ∙ ap s.local_interval (sym e)))
+
+-- the numbered accesses with one more
+numbered_more :
+    (events : Events) (item : ℕ) (x : Access) (log : List Access) (number : ℕ) → number ≡ length events
+    → numbered (reverse (events ++ Item item ∷ [])) (x ∷ log) ≡ record { access = x; event = number } ∷ numbered (reverse events) log
+numbered_more events item x log number e =
+    ap (λ z. numbered z (x ∷ log)) (reverse-append events (Item item ∷ []))
+    ∙ ap (λ n. record { access = x; event = n } ∷ numbered (reverse events) log) (length-reverse events ∙ sym e)
+
+numbered_release : (events : Events) (group : ℕ) (log : List Access) → numbered (reverse (events ++ Release group ∷ [])) log ≡ numbered (reverse events) log
+numbered_release events group log = ap (λ z. numbered z log) (reverse-append events (Release group ∷ []))
+
+logged_more :
+    (p : Plan) (log new : Log) (events : Events) (s : State) (item : ℕ) (at : Region) (first : ℕ) (op : Operation) (x number : ℕ) (hit : Option Hit) → number ≡ length events
+    → group_of p.launch item ≡ p.group → IsLogged p log events s → IsNoted log (entry_of item at first op number) new (Ok hit)
+    → IsLogged p new (events ++ Item item ∷ []) (made p.launch s item at first op x)
+logged_more p log new events s item at first op x number hit e mine h noted =
+    let y : Entry = record { access = access_of p.launch s item at first op; event = number } in
+    let is : stamped log (entry_of item at first op number) ≡ y = stamped_is p log events s item at first op number h mine in
+    let kept : IsKept log.accesses y new.accesses = subst (λ z. IsKept log.accesses z new.accesses) is noted.1 in
+    record {
+      keeps = keeps_noted s.log log.accesses new.accesses y h.keeps kept;
+      noted = subst (λ z. Notes z new.accesses) (sym (numbered_more events item y.access s.log number e)) (log.accesses, h.noted, kept);
+      mine = mine_noted p.launch p.group log.accesses new.accesses y h.mine mine kept;
+      local_interval = noted.2 ∙ h.local_interval;
+      global_interval = noted.3 ∙ h.global_interval;
+    }
+
+-- what an access finds, answers and leaves, in the region of its item
+pub record Moves {G : Type 0} (bytes : G → List (Option ℕ)) (p : Plan) (globals : List G) (locals : List (List (Option ℕ))) (s : State) (op : Operation) (first : ℕ) (answer : Answer) (at : Region) : Type 0 where
+  pub value : ℕ
+  pub finds : found op (s.memory at) first ≡ Some value
+  pub answers : answer ≡ answer_to op value
+  pub holds : HoldsMemory bytes p.launch p.group globals locals (with_cells s.memory at (effect op value (s.memory at) first))
+
+-- after an access that is done
+pub record Accessed
+    {I G : Type 0} (acts : I → List Answer → Action) (bytes : G → List (Option ℕ)) (ro : Bool) (p : Plan) (items : List I) (number : ℕ) (globals : List G)
+    (locals : List (List (Option ℕ))) (log : Log) (events : Events) (s : State) (item : ℕ) (hit : Option Hit) : Type 0 where
+  pub next : State
+  pub steps : Steps p s next item
+  pub fits : Fits acts bytes ro p items number globals locals log (events ++ Item item ∷ []) next
+  pub conflict : newest_conflict p.launch next.log ≡ option_map conflict_of hit
+
+acting_more :
+    {I : Type 0} (acts : I → List Answer → Action) (l : Launch) (s : State) (base k : ℕ) (items : List I) (i j : I) (at : Region) (op : Operation) (first x : ℕ) (answer : Answer)
+    → slice_get items k ≡ Some i → ((q : ℕ) (z : I) → slice_get items q ≡ Some z → (answers : List Answer) → acts z answers ≡ l.next (base + q) (s.answers (base + q) ++ answers))
+    → ((answers : List Answer) → acts j answers ≡ acts i (answer ∷ answers)) → answer ≡ answer_to op x → (q : ℕ) (z : I)
+    → ((q ≡ k) × (j ≡ z)) ⊎ ((q ≡ k → ⊥) × (slice_get items q ≡ Some z)) → (answers : List Answer)
+    → acts z answers ≡ l.next (base + q) ((made l s (base + k) at first op x).answers (base + q) ++ answers)
+acting_more acts l s base k items i j at op first x answer e held answered is q z (inl c) answers =
+    ap (λ y. acts y answers) (sym c.1)
+    ∙ answered answers
+    ∙ held k i e (answer ∷ answers)
+    ∙ ap (λ a. l.next (base + k) (s.answers (base + k) ++ a ∷ answers)) is
+    ∙ ap (l.next (base + k)) (sym (append_assoc (s.answers (base + k)) (answer_to op x ∷ []) answers))
+    ∙ ap (λ a. l.next (base + k) (a ++ answers)) (sym (answered_here s l (base + k) at op first x))
+    ∙ ap (λ r. l.next (base + r) ((made l s (base + k) at first op x).answers (base + r) ++ answers)) (sym c.0)
+acting_more acts l s base k items i j at op first x answer e held answered is q z (inr c) answers =
+    held q z c.1 answers
+    ∙ ap (λ a. l.next (base + q) (a ++ answers)) (sym (answered_there s l (base + k) at op first x (base + q) (λ h. c.0 (omega (arith, h)))))
+
+no_less :
+    (l : Launch) (s : State) (item : ℕ) (at : Region) (op : Operation) (first x other : ℕ) → (other ≡ item) ⊎ (other ≡ item → ⊥)
+    → length (s.answers other) ≤ length ((made l s item at first op x).answers other)
+no_less l s item at op first x other (inl e) =
+    subst (λ z. length (s.answers z) ≤ length ((made l s item at first op x).answers z)) (sym e)
+    (let h : length ((made l s item at first op x).answers item) ≡ length (s.answers item) + 1
+    = ap length (answered_here s l item at op first x) ∙ one_more (s.answers item) (answer_to op x) in omega (arith, h))
+no_less l s item at op first x other (inr ne) =
+    let h : length ((made l s item at first op x).answers other) ≡ length (s.answers other) = ap length (answered_there s l item at op first x other ne) in omega (arith, h)
+
+pub accessed_fits :
+    {I G : Type 0} (acts : I → List Answer → Action) (bytes : G → List (Option ℕ)) (ro : Bool) (p : Plan) (items : List I) (number : ℕ) (globals globals2 : List G)
+    (locals locals2 : List (List (Option ℕ))) (log log2 : Log) (events : Events) (s : State) (k : ℕ) (i j : I) (o : Object) (element : ℤ) (op : Operation) (first : ℕ)
+    (answer : Answer) (seen : Option Hit) → Fits acts bytes ro p items number globals locals log events s → k < p.count → slice_get items k ≡ Some i
+    → next_action p.launch s (p.first + k) ≡ action.Access o element op → byte_at p.launch (p.first + k) o element op ≡ Some first
+    → Moves bytes p globals2 locals2 s op first answer (region_of p.group o) → ((answers : List Answer) → acts j answers ≡ acts i (answer ∷ answers))
+    → IsNoted log (entry_of (p.first + k) (region_of p.group o) first op number) log2 (Ok seen)
+    → Accessed acts bytes ro p (set items k j) (number + 1) globals2 locals2 log2 events s (p.first + k) seen
+accessed_fits acts bytes ro p items number globals globals2 locals locals2 log log2 events s k i j o element op first answer seen f b e acting placed w answered noted =
+    let l = p.launch in
+    let item = p.first + k in
+    let at = region_for l item o in
+    let mine : group_of l item ≡ p.group = f.whole.mine k b in
+    let at_is : region_for l item o ≡ region_of p.group o = ap (λ g. region_of g o) mine in
+    let m : Moves bytes p globals2 locals2 s op first answer at = subst (Moves bytes p globals2 locals2 s op first answer) (sym at_is) w in
+    let kept : IsNoted log (entry_of item at first op number) log2 (Ok seen) = subst (λ r. IsNoted log (entry_of item r first op number) log2 (Ok seen)) (sym at_is) noted in
+    let y : Entry = record { access = access_of l s item at first op; event = number } in
+    let is : stamped log (entry_of item at first op number) ≡ y = stamped_is p log events s item at first op number f.logged mine in
+    let longer : length (events ++ Item item ∷ []) ≡ length events + 1 = length-append events (Item item ∷ []) in
+    record {
+      next = made l s item at first op m.value;
+      steps =
+          record {
+            makes = done_turn l s p.first item o element op first m.value acting placed m.finds;
+            steps = item_at l s item o element op first m.value (f.whole.inside k b) acting placed m.finds;
+          };
+      fits =
+          record {
+            whole = f.whole;
+            writable = f.writable;
+            acting = λ q z h. acting_more acts l s p.first k items i j at op first m.value answer e f.acting answered m.answers q z (get_set items k j q z h);
+            holds = m.holds;
+            logged = logged_more p log log2 events s item at first op m.value number seen f.counts.counted mine f.logged kept;
+            counts =
+                counts_more p number events s (made l s item at first op m.value) k (Item item) f.whole f.counts b (ap is_over acting)
+                (λ q c. no_less l s item at op first m.value (p.first + q) (cases_eq (p.first + q) item))
+                (ap length (answered_here s l item at op first m.value) ∙ one_more (s.answers item) (answer_to op m.value));
+            few = (omega (arith, kept.2, f.few.0, longer), omega (arith, kept.3, f.few.1, longer));
+          };
+      conflict =
+          newest_is_hit l p.group s.log y log.accesses mine f.logged.mine f.logged.keeps
+          ∙ ap (λ z. option_map conflict_of (hit true z log.accesses)) (sym is)
+          ∙ ap (option_map conflict_of) (sym kept.0);
+    }
+
+-- ---- a release
+
+-- after a release
+pub record Passed
+    {I G : Type 0} (acts : I → List Answer → Action) (bytes : G → List (Option ℕ)) (ro : Bool) (p : Plan) (items : List I) (number : ℕ) (globals : List G)
+    (locals : List (List (Option ℕ))) (log : Log) (events : Events) (s : State) : Type 0 where
+  pub next : State
+  pub steps : step p.launch s (Release p.group) ≡ Some next
+  pub fits : Fits acts bytes ro p items number globals locals log (events ++ Release p.group ∷ []) next
+
+released_here : (l : Launch) (s : State) (g : ℕ) (fences : Fences) (item : ℕ) → group_of l item ≡ g → (released l s g fences).answers item ≡ s.answers item ++ Done ∷ []
+released_here l s g fences item e = if_true (group_of l item == g) (s.answers item ++ Done ∷ []) (s.answers item) (eq-eqb (group_of l item) g e)
+
+raised_here : (b : Bool) (n g : ℕ) (f : ℕ → ℕ) → n ≡ f g → (if b then n + 1 else n) ≡ changed f g (if b then f g + 1 else f g) g
+raised_here b n g f e = ap (λ z. if b then z + 1 else z) e ∙ sym (if_true (g == g) (if b then f g + 1 else f g) (f g) (eq-eqb g g refl))
+
+few_more : (b : Bool) (n m : ℕ) → n ≤ m → (if b then n + 1 else n) ≤ m + 1
+few_more true n m h = omega (arith, h)
+few_more false n m h = omega (arith, h)
+
+pub released_fits :
+    {I G : Type 0} (acts : I → List Answer → Action) (bytes : G → List (Option ℕ)) (ro : Bool) (p : Plan) (items items2 : List I) (number : ℕ) (globals : List G)
+    (locals : List (List (Option ℕ))) (log log2 : Log) (events : Events) (s : State) (instance : Instance) (fences : Fences)
+    → Fits acts bytes ro p items number globals locals log events s → p.count ≡ length items → straggler p.launch s p.group p.first ≡ None
+    → next_action p.launch s p.first ≡ action.Barrier instance fences → AreAnswered acts Done items items2 → log2 ≡ after_fences log fences
+    → Passed acts bytes ro p items2 (number + 1) globals locals log2 events s
+released_fits acts bytes ro p items items2 number globals locals log log2 events s instance fences f many gathered waiting answered passes =
+    let l = p.launch in
+    let next = released l s p.group fences in
+    let here : (q : ℕ) → q < p.count → next.answers (p.first + q) ≡ s.answers (p.first + q) ++ Done ∷ []
+    = λ q c. released_here l s p.group fences (p.first + q) (f.whole.mine q c) in
+    let grown : (q : ℕ) → q < p.count → length (next.answers (p.first + q)) ≡ length (s.answers (p.first + q)) + 1
+    = λ q c. ap length (here q c) ∙ one_more (s.answers (p.first + q)) Done in
+    let longer : length (events ++ Release p.group ∷ []) ≡ length events + 1 = length-append events (Release p.group ∷ []) in
+    let first_is : p.first ≡ p.first + 0 = omega arith in
+    record {
+      next = next;
+      steps = release_at l s p.group p.first instance fences f.whole.leads gathered waiting;
+      fits =
+          subst (λ z. Fits acts bytes ro p items2 (number + 1) globals locals z (events ++ Release p.group ∷ []) next) (sym passes)
+          (record {
+            whole = f.whole;
+            writable = f.writable;
+            acting = λ q z h answers.
+                let w = answered.each q z h in
+                w.2 answers
+                ∙ f.acting q w.0 w.1 (Done ∷ answers)
+                ∙ ap (l.next (p.first + q)) (sym (append_assoc (s.answers (p.first + q)) (Done ∷ []) answers))
+                ∙ ap (λ a. l.next (p.first + q) (a ++ answers)) (sym (here q (omega (arith, many, slice_get_within items q w.0 w.1))));
+            holds = f.holds;
+            logged =
+                record {
+                  keeps = f.logged.keeps;
+                  noted = subst (λ z. Notes z log.accesses) (sym (numbered_release events p.group s.log)) f.logged.noted;
+                  mine = f.logged.mine;
+                  local_interval = raised_here fences.local log.local_interval p.group s.local_interval f.logged.local_interval;
+                  global_interval = raised_here fences.global log.global_interval p.group s.global_interval f.logged.global_interval;
+                };
+            counts =
+                counts_more p number events s next 0 (Release p.group) f.whole f.counts f.whole.some
+                (ap (λ z. is_over (next_action l s z)) (sym first_is) ∙ ap is_over waiting)
+                (λ q c. let h : length (next.answers (p.first + q)) ≡ length (s.answers (p.first + q)) + 1 = grown q c in omega (arith, h)) (grown 0 f.whole.some);
+            few = (
+              subst (λ z. (if fences.local then log.local_interval + 1 else log.local_interval) ≤ z) (sym longer) (few_more fences.local log.local_interval (length events) f.few.0),
+              subst (λ z. (if fences.global then log.global_interval + 1 else log.global_interval) ≤ z) (sym longer) (few_more fences.global log.global_interval (length events) f.few.1),
+            );
+          });
+    }
+
+-- ---- an item's access, as the code makes it
+
+-- what the code knows of an access: `p` is the plan at the start, `q` once the item was asked, `r` once it is answered
+pub record Doing
+    {I G : Type 0} (acts : I → List Answer → Action) (bytes : G → List (Option ℕ)) (ro : Bool) (p q : Plan) (items : List I) (number : ℕ) (globals : List G)
+    (locals : List (List (Option ℕ))) (log : Log) (old : Events → State → Type 0) (k : ℕ) (o : Object) (element : ℤ) (op : Operation) : Type 0 where
+  pub same : q ≡ p
+  pub between : (events : Events) (s : State) → old events s → Fits acts bytes ro q items number globals locals log events s
+  pub acting : (events : Events) (s : State) → old events s → next_action p.launch s (p.first + k) ≡ action.Access o element op
+  pub inside : k < q.count
+
+acting_now :
+    {I G : Type 0} (acts : I → List Answer → Action) (bytes : G → List (Option ℕ)) (ro : Bool) (p q : Plan) (items : List I) (number : ℕ) (globals : List G)
+    (locals : List (List (Option ℕ))) (log : Log) (old : Events → State → Type 0) (k : ℕ) (o : Object) (element : ℤ) (op : Operation)
+    → Doing acts bytes ro p q items number globals locals log old k o element op → (events : Events) (s : State) → old events s
+    → next_action q.launch s (q.first + k) ≡ action.Access o element op
+acting_now acts bytes ro p q items number globals locals log old k o element op d events s h =
+    subst (λ z. next_action z.launch s (z.first + k) ≡ action.Access o element op) (sym d.same) (d.acting events s h)
+
+-- where the access lies, by the launch
+placed_at :
+    {I G : Type 0} (acts : I → List Answer → Action) (bytes : G → List (Option ℕ)) (ro : Bool) (q : Plan) (items : List I) (number : ℕ) (globals : List G)
+    (locals : List (List (Option ℕ))) (log : Log) (events : Events) (s : State) (k : ℕ) (o : Object) (element : ℤ) (op : Operation) (place : Option ℕ)
+    → Fits acts bytes ro q items number globals locals log events s → k < q.count → place ≡ first_byte (length (space_of bytes globals locals o)) element (size_of op)
+    → byte_at q.launch (q.first + k) o element op ≡ place
+placed_at acts bytes ro q items number globals locals log events s k o element op place f b e =
+    ap (λ g. first_byte (bytes_of q.launch (region_of g o)) element (size_of op)) (f.whole.mine k b)
+    ∙ ap (λ n. first_byte n element (size_of op)) (sym (space_sized bytes q.launch q.group globals locals s.memory o f.holds))
+    ∙ sym e
+
+nothing_mapped : {A B : Type 0} (f : A → B) (o : Option A) → option_map f o ≡ None → o ≡ None
+nothing_mapped f None h = refl
+nothing_mapped f (Some a) h = absurd (none_some (f a) (sym h))
+
+some_mapped : {A B : Type 0} (f : A → B) (o : Option A) (b : B) → option_map f o ≡ Some b → (a : A) × (o ≡ Some a) × (f a ≡ b)
+some_mapped f None b h = absurd (none_some b h)
+some_mapped f (Some a) b h = (a, refl, some_inj (f a) b h)
+
+pub done_made :
+    {I G : Type 0} (acts : I → List Answer → Action) (bytes : G → List (Option ℕ)) (ro : Bool) (p q r : Plan) (items : List I) (number : ℕ) (globals globals2 : List G)
+    (locals locals2 : List (List (Option ℕ))) (log log2 : Log) (old : Events → State → Type 0) (k : ℕ) (i j : I) (o : Object) (element : ℤ) (op : Operation) (first : ℕ)
+    (answer : Answer) (told : Option Fault) → Doing acts bytes ro p q items number globals locals log old k o element op → r ≡ q → slice_get items k ≡ Some i
+    → Some first ≡ first_byte (length (space_of bytes globals locals o)) element (size_of op)
+    → IsMoved (HoldsMemory bytes q.launch q.group globals locals) (HoldsMemory bytes q.launch q.group globals2 locals2) (region_of q.group o) first op (Ok answer)
+    → ((answers : List Answer) → acts j answers ≡ acts i (answer ∷ answers))
+    → IsJudged q.launch log (entry_of (q.first + k) (region_of q.group o) first op number) log2 told → told ≡ None
+    → IsMade p old (Fits acts bytes ro r (set items k j) (number + 1) globals2 locals2 log2) (p.first + k) made_as.Done
+done_made acts bytes ro p q r items number globals globals2 locals locals2 log log2 old k i j o element op first answer told d last e place moved answered judged none =
+    subst (λ z. IsMade z old (Fits acts bytes ro r (set items k j) (number + 1) globals2 locals2 log2) (z.first + k) made_as.Done) d.same
+    (subst (λ z. IsMade q old (Fits acts bytes ro z (set items k j) (number + 1) globals2 locals2 log2) (q.first + k) made_as.Done) (sym last)
+    (λ events s h asked.
+    let f = d.between events s h in
+    let w = moved s.memory f.holds in
+    let a =
+    accessed_fits acts bytes ro q items number globals globals2 locals locals2 log log2 events s k i j o element op first answer judged.0 f d.inside e
+    (acting_now acts bytes ro p q items number globals locals log old k o element op d events s h)
+    (placed_at acts bytes ro q items number globals locals log events s k o element op (Some first) f d.inside place)
+    (record { value = w.0; finds = w.1; answers = w.2; holds = w.3 }) answered judged.1 in
+    let quiet = nothing_mapped (λ hit. conflict_fault q.launch (conflict_of hit)) judged.0 (sym judged.2 ∙ none) in
+    (a.next, a.steps, a.fits, a.conflict ∙ ap (option_map conflict_of) quiet)))
+
+pub conflict_made :
+    {I G : Type 0} (acts : I → List Answer → Action) (bytes : G → List (Option ℕ)) (ro : Bool) (p q r : Plan) (items : List I) (number : ℕ) (globals globals2 : List G)
+    (locals locals2 : List (List (Option ℕ))) (log log2 : Log) (old : Events → State → Type 0) (k : ℕ) (i j : I) (o : Object) (element : ℤ) (op : Operation) (first : ℕ)
+    (answer : Answer) (told : Option Fault) (report : Fault) → Doing acts bytes ro p q items number globals locals log old k o element op → r ≡ q → slice_get items k ≡ Some i
+    → Some first ≡ first_byte (length (space_of bytes globals locals o)) element (size_of op)
+    → IsMoved (HoldsMemory bytes q.launch q.group globals locals) (HoldsMemory bytes q.launch q.group globals2 locals2) (region_of q.group o) first op (Ok answer)
+    → ((answers : List Answer) → acts j answers ≡ acts i (answer ∷ answers))
+    → IsJudged q.launch log (entry_of (q.first + k) (region_of q.group o) first op number) log2 told → told ≡ Some report
+    → IsMade p old (Fits acts bytes ro r (set items k j) (number + 1) globals2 locals2 log2) (p.first + k) (made_as.Conflicts report)
+conflict_made acts bytes ro p q r items number globals globals2 locals locals2 log log2 old k i j o element op first answer told report d last e place moved answered judged some =
+    subst (λ z. IsMade z old (Fits acts bytes ro r (set items k j) (number + 1) globals2 locals2 log2) (z.first + k) (made_as.Conflicts report)) d.same
+    (subst (λ z. IsMade q old (Fits acts bytes ro z (set items k j) (number + 1) globals2 locals2 log2) (q.first + k) (made_as.Conflicts report)) (sym last)
+    (λ events s h asked.
+    let f = d.between events s h in
+    let w = moved s.memory f.holds in
+    let a =
+    accessed_fits acts bytes ro q items number globals globals2 locals locals2 log log2 events s k i j o element op first answer judged.0 f d.inside e
+    (acting_now acts bytes ro p q items number globals locals log old k o element op d events s h)
+    (placed_at acts bytes ro q items number globals locals log events s k o element op (Some first) f d.inside place)
+    (record { value = w.0; finds = w.1; answers = w.2; holds = w.3 }) answered judged.1 in
+    let found = some_mapped (λ hit. conflict_fault q.launch (conflict_of hit)) judged.0 report (sym judged.2 ∙ some) in
+    (a.next, conflict_of found.0, a.steps, a.fits, a.conflict ∙ ap (option_map conflict_of) found.1, found.2)))
+
+pub bounds_made :
+    {I G : Type 0} (acts : I → List Answer → Action) (bytes : G → List (Option ℕ)) (ro : Bool) (p q : Plan) (items : List I) (number : ℕ) (globals : List G)
+    (locals : List (List (Option ℕ))) (log : Log) (old : Events → State → Type 0) (k : ℕ) (o : Object) (element : ℤ) (op : Operation) (told : Fault)
+    → Doing acts bytes ro p q items number globals locals log old k o element op → None ≡ first_byte (length (space_of bytes globals locals o)) element (size_of op)
+    → told ≡ fault.Bounds (q.first + k) (kind_of op) (location_of q.launch (region_of q.group o)) element
+    → IsMade p old (Fits acts bytes ro q items number globals locals log) (p.first + k) (made_as.Refused told)
+bounds_made acts bytes ro p q items number globals locals log old k o element op told d place is =
+    subst (λ z. IsMade z old (Fits acts bytes ro q items number globals locals log) (z.first + k) (made_as.Refused told)) d.same
+    (λ events s h asked.
+    let f = d.between events s h in
+    let acting = acting_now acts bytes ro p q items number globals locals log old k o element op d events s h in (
+      bounds_turn q.launch s q.first (q.first + k) o element op acting
+          (placed_at acts bytes ro q items number globals locals log events s k o element op None f d.inside place)
+          ∙ ap (λ g. Reports (fault.Bounds (q.first + k) (kind_of op) (location_of q.launch (region_of g o)) element)) (f.whole.mine k d.inside)
+          ∙ ap Reports (sym is),
+      f,
+    ))
+
+pub unset_made :
+    {I G : Type 0} (acts : I → List Answer → Action) (bytes : G → List (Option ℕ)) (ro : Bool) (p q : Plan) (items : List I) (number : ℕ) (globals globals2 : List G)
+    (locals locals2 : List (List (Option ℕ))) (log : Log) (old : Events → State → Type 0) (k : ℕ) (o : Object) (element : ℤ) (op : Operation) (first byte : ℕ) (told : Fault)
+    → Doing acts bytes ro p q items number globals locals log old k o element op → Some first ≡ first_byte (length (space_of bytes globals locals o)) element (size_of op)
+    → IsMoved (HoldsMemory bytes q.launch q.group globals locals) (HoldsMemory bytes q.launch q.group globals2 locals2) (region_of q.group o) first op (Err (space_fault.Unset byte))
+    → told ≡ fault.Unset (q.first + k) (kind_of op) (location_of q.launch (region_of q.group o)) byte
+    → IsMade p old (Fits acts bytes ro q items number globals2 locals2 log) (p.first + k) (made_as.Refused told)
+unset_made acts bytes ro p q items number globals globals2 locals locals2 log old k o element op first byte told d place moved is =
+    subst (λ z. IsMade z old (Fits acts bytes ro q items number globals2 locals2 log) (z.first + k) (made_as.Refused told)) d.same
+    (λ events s h asked.
+    let f = d.between events s h in
+    let acting = acting_now acts bytes ro p q items number globals locals log old k o element op d events s h in
+    let w = moved s.memory f.holds in
+    let mine = f.whole.mine k d.inside in (
+      unset_item_turn q.launch s q.first (q.first + k) o element op first byte acting
+          (placed_at acts bytes ro q items number globals locals log events s k o element op (Some first) f d.inside place) w.0
+          (subst (λ g. lowest_unset (s.memory (region_of g o)) first (size_of op) ≡ Some byte) (sym mine) w.1)
+          ∙ ap (λ g. Reports (fault.Unset (q.first + k) (kind_of op) (location_of q.launch (region_of g o)) byte)) mine
+          ∙ ap Reports (sym is),
+      record {
+        whole = f.whole;
+        writable = f.writable;
+        acting = f.acting;
+        holds = w.2;
+        logged = f.logged;
+        counts = f.counts;
+        few = f.few;
+      },
+    ))
+
+-- room for one event more
+pub access_room :
+    {I G : Type 0} (acts : I → List Answer → Action) (bytes : G → List (Option ℕ)) (ro : Bool) (p q : Plan) (items : List I) (number : ℕ) (globals : List G)
+    (locals : List (List (Option ℕ))) (log : Log) (old : Events → State → Type 0) (k : ℕ) (o : Object) (element : ℤ) (op : Operation)
+    → Doing acts bytes ro p q items number globals locals log old k o element op → (events : Events) (s : State) → old events s → number + 1 < 2 ^ 32
+access_room acts bytes ro p q items number globals locals log old k o element op d events s h =
+    let f = d.between events s h in
+    roomy q number events s k f.whole f.counts d.inside (ap is_over (acting_now acts bytes ro p q items number globals locals log old k o element op d events s h))
+
+pub record Room (number : ℕ) (log : Log) : Type 0 where
+  pub events : number + 1 < 2 ^ 32
+  pub local : log.local_interval < 2 ^ 32 - 1
+  pub global : log.global_interval < 2 ^ 32 - 1
+
+pub release_room :
+    {I G : Type 0} (acts : I → List Answer → Action) (bytes : G → List (Option ℕ)) (ro : Bool) (q : Plan) (items : List I) (number : ℕ) (globals : List G)
+    (locals : List (List (Option ℕ))) (log : Log) (events : Events) (s : State) (instance : Instance) (fences : Fences)
+    → Fits acts bytes ro q items number globals locals log events s → next_action q.launch s q.first ≡ action.Barrier instance fences → Room number log
+release_room acts bytes ro q items number globals locals log events s instance fences f waiting =
+    let first_is : q.first ≡ q.first + 0 = omega arith in
+    let room : number + 1 < 2 ^ 32 = roomy q number events s 0 f.whole f.counts f.whole.some (ap (λ z. is_over (next_action q.launch s z)) (sym first_is) ∙ ap is_over waiting) in
+    record {
+      events = room;
+      local = omega (arith, room, f.counts.counted, f.few.0);
+      global = omega (arith, room, f.counts.counted, f.few.1);
+    }
+
+pub release_made :
+    {I G : Type 0} (acts : I → List Answer → Action) (bytes : G → List (Option ℕ)) (ro : Bool) (p q r : Plan) (items items2 : List I) (number : ℕ) (globals : List G)
+    (locals : List (List (Option ℕ))) (log log2 : Log) (events : Events) (s : State) (instance : Instance) (fences : Fences) → q ≡ p → r ≡ q
+    → Fits acts bytes ro q items number globals locals log events s → q.count ≡ length items → straggler p.launch s p.group p.first ≡ None
+    → next_action p.launch s p.first ≡ action.Barrier instance fences → AreAnswered acts Done items items2 → log2 ≡ after_fences log fences
+    → (n : State) × (step p.launch s (Release p.group) ≡ Some n) × Fits acts bytes ro r items2 (number + 1) globals locals log2 (events ++ Release p.group ∷ []) n
+release_made acts bytes ro p q r items items2 number globals locals log log2 events s instance fences same last f many gathered waiting answered passes =
+    let a =
+    released_fits acts bytes ro q items items2 number globals locals log log2 events s instance fences f many
+    (subst (λ z. straggler z.launch s z.group z.first ≡ None) (sym same) gathered) (subst (λ z. next_action z.launch s z.first ≡ action.Barrier instance fences) (sym same) waiting)
+    answered passes in
+    subst (λ z. (n : State) × (step z.launch s (Release z.group) ≡ Some n) × Fits acts bytes ro r items2 (number + 1) globals locals log2 (events ++ Release z.group ∷ []) n) same
+    (subst (λ z. (n : State) × (step q.launch s (Release q.group) ≡ Some n) × Fits acts bytes ro z items2 (number + 1) globals locals log2 (events ++ Release q.group ∷ []) n) (sym last)
+    (a.next, a.steps, a.fits))
+
+-- ---- an item's next action
+
+pub action_is :
+    {I G : Type 0} (acts : I → List Answer → Action) (bytes : G → List (Option ℕ)) (ro : Bool) (p : Plan) (items : List I) (number : ℕ) (globals : List G)
+    (locals : List (List (Option ℕ))) (log : Log) (events : Events) (s : State) (k : ℕ) (i : I) (a : Action) → slice_get items k ≡ Some i → a ≡ acts i []
+    → Fits acts bytes ro p items number globals locals log events s → next_action p.launch s (p.first + k) ≡ a
+action_is acts bytes ro p items number globals locals log events s k i a e h f =
+    ap (p.launch.next (p.first + k)) (sym (append-nil (s.answers (p.first + k)))) ∙ sym (f.acting k i e []) ∙ sym h
+
+-- the first item's action
+pub at_first : (p : Plan) (s : State) (a b : Action) → next_action p.launch s (p.first + 0) ≡ a → a ≡ b → next_action p.launch s p.first ≡ b
+at_first p s a b h e = let first_is : p.first ≡ p.first + 0 = omega arith in ap (next_action p.launch s) first_is ∙ h ∙ e

@@ -1,0 +1,71 @@
+use Rattle.std.proofs.Common.{rules, lives, subst, ◌*◌, ◌+◌, ◌<◌, ◌^◌, ◌≡◌, length, refl, sym, ap, ◌∙◌, map, replicate, None}
+use Rattle.item_run.specs.Running.{action_of}
+use Rattle.clmodel.specs.Outcome.{events_of}
+use Rattle.clmodel.specs.Run.{State, Events, start}
+use Rattle.group_run.specs.Fits.{Fits}
+use Rattle.group_run.specs.Group.{Plan, Reached}
+use Rattle.group_run.specs.Results.{plan_of}
+use Rattle.group_run.proofs.Starting.{begins, items_fit, plan_same, done_result, stopped_result}
+use Rattle.group_run.proofs.running.run_group.Goals as goal
+
+pub run_items-requires : goal.run_items-requires
+run_items-requires g c κs within =
+    let l = g.D.Described.launch c.args.launch.now in
+    let size = c.group_size-count in
+    let items = c.in_ok-items.items.items in
+    let p : Plan = record { launch = l; group = c.args.group; first = c.args.group * size.result; count = length items } in
+    let fits : Events → State → Type 0 = Fits action_of g.G.Space.bytes g.G.Space.read_only p items 0 c.args.globals.items c.in_ok-locals.locals.items (g.L.Accesses.log c.args.log) in
+    let b =
+    begins g.G.Space.bytes g.G.Space.read_only l c.args.group (c.args.group * size.result) size.result c.in_ok-items.items.items c.args.globals.items c.in_ok-locals.locals.items
+    (g.L.Accesses.log c.args.log) c.requires.runnable c.requires.there c.requires.writable c.requires.filled
+    (c.in_ok-locals.ensures ∙ ap (map (λ size. replicate size None)) c.local_sizes.ensures) c.requires.fresh (ap (λ n. c.args.group * n) size.ensures) size.ensures
+    c.in_ok-items.ensures in (
+      search (rules, lives, within) depth 24 fits 20000,
+      (b.whole, (b.brief, subst (Reached p fits (start l)) (sym c.new-runs.ensures) b.reached)),
+    )
+
+pub returns-in-None : goal.returns-in-None
+returns-in-None g c =
+    let l = g.D.Described.launch c.args.launch.now in
+    let size = c.group_size-count in
+    let items = c.in_ok-items.items.items in
+    let first = c.args.group * size.result in
+    let m = c.run_items.new.m in
+    let p : Plan = record { launch = l; group = c.args.group; first = first; count = length items } in
+    let q : Plan = record { launch = g.D.Described.launch m.launch.now; group = m.number; first = m.first; count = length m.items.items } in
+    let e : p ≡ plan_of l c.args.group = plan_same l c.args.group first (length items) (ap (λ n. c.args.group * n) size.ensures) (c.in_ok-items.ensures.many ∙ size.ensures) in (
+      refl,
+      c.into_schedule-runs.ensures.merged,
+      done_result action_of g.G.Space.bytes g.G.Space.read_only p q l c.args.group m.items.items m.made m.buffers.items m.locals.items (g.L.Accesses.log m.log)
+          c.run_items.new.runs (events_of c.into_schedule-runs.result) c.in_ok-report.report e c.in_ok-report.ensures.plan_same c.into_schedule-runs.ensures.events c.in-None.is
+          c.in_ok-report.ensures.ran,
+    )
+
+pub returns-in-Some : goal.returns-in-Some
+returns-in-Some g c =
+    let l = g.D.Described.launch c.args.launch.now in
+    let size = c.group_size-count in
+    let items = c.in_ok-items.items.items in
+    let first = c.args.group * size.result in
+    let m = c.run_items.new.m in
+    let p : Plan = record { launch = l; group = c.args.group; first = first; count = length items } in
+    let q : Plan = record { launch = g.D.Described.launch m.launch.now; group = m.number; first = m.first; count = length m.items.items } in
+    let e : p ≡ plan_of l c.args.group = plan_same l c.args.group first (length items) (ap (λ n. c.args.group * n) size.ensures) (c.in_ok-items.ensures.many ∙ size.ensures) in (
+      refl,
+      c.into_schedule-runs.ensures.merged,
+      stopped_result action_of g.G.Space.bytes g.G.Space.read_only p q l c.args.group m.items.items m.made m.buffers.items m.locals.items (g.L.Accesses.log m.log)
+          c.run_items.new.runs (events_of c.into_schedule-runs.result) c.in_ok-report.report c.in-Some.fault e c.in_ok-report.ensures.plan_same
+          c.into_schedule-runs.ensures.events c.in-Some.is c.in_ok-report.ensures.ran,
+    )
+
+pub start_items-requires : goal.start_items-requires
+start_items-requires g c =
+    items_fit (g.D.Described.launch c.args.launch.now) c.args.group c.group_size-count.result c.requires.runnable c.requires.there c.group_size-count.ensures
+
+pub invariant_of-machine : goal.invariant_of-machine
+invariant_of-machine g c =
+    record {
+      numbered =
+          subst (λ n. c.args.group * c.group_size-count.result + n < 2 ^ 32) (sym c.in_ok-items.ensures.many)
+          (items_fit (g.D.Described.launch c.args.launch.now) c.args.group c.group_size-count.result c.requires.runnable c.requires.there c.group_size-count.ensures);
+    }
