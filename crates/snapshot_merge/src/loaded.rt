@@ -6,8 +6,8 @@ ghost use Rattle.snapshot_merge.specs.Launches.{launch_on};
 
 use clmodel::text::{Bytes, Name};
 use group_run::{Described, Runnable};
-use item_step::Launch;
 use item_run::Item;
+use item_step::Launch;
 use std::alloc::{AllocError, Global};
 
 /// A kernel that is ready to run, on buffers that hold these bytes, in the order of the launch's buffers.
