@@ -10,7 +10,7 @@ use Rattle.device.proofs.Device.set_argument.Goals as goal
 pub invariant_of-self : goal.invariant_of-self
 invariant_of-self c =
     let device = c.args.self.now in
-    record { kept = ap (all_in device.programs) c.set_argument.ensures ∙ kept_with_argument device.programs device.kernels c.args.name.now c.args.index c.args.argument device.kept; limited = device.limited }
+    record { kept = ap (all_in device.programs) c.set_argument.ensures ∙ kept_with_argument device.programs device.kernels c.args.name.now _ c.args.argument device.kept; limited = device.limited }
 
 pub returns : goal.returns
 returns c =
