@@ -1,7 +1,7 @@
 //! The command line of the program.
 #![tactic(auto)]
 
-ghost use Rattle.std.specs.Prelude.{◌≡◌, false, map, codes, IfOk, IfSome};
+ghost use Rattle.std.specs.Prelude.{◌≡◌, ◌≤◌, false, map, codes, IfOk, IfSome};
 ghost use Rattle.clap.specs.Words.{app_of, found_of, rows_of, subcommand_rows_of};
 ghost use Rattle.clap.specs.declared.builder.command.Command.TheViews.{out-Command};
 ghost use Rattle.cli.specs.CommandLine.{run_form, check_form, dump_form, program, GivesBudget, IsRun, IsCheck, IsDump, Holds, AsksFor};
@@ -75,7 +75,8 @@ fn dump_form<'a>(alloc: Global) -> Result<Command<'a>, AllocError>
 
 /// The budget of a run, the default where the option isn't there, and `None` where it is no budget.
 fn budget_of(run: &ArgMatches<'_>) -> Option<u32>
-    ensures { IfSome result (λ n. GivesBudget (rows_of (found_of run.now)) n) }
+    ensures given { IfSome result (λ n. GivesBudget (rows_of (found_of run.now)) n) }
+    ensures limited { IfSome result (λ n. n ≤ 1000000) }
 {
     match run.try_get_one::<u32>("budget") {
         Ok(None) => Some(Options::DEFAULT_BUDGET),

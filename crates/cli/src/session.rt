@@ -1,7 +1,7 @@
 //! A whole run: a script in, its replies out.
 #![tactic(auto)]
 
-ghost use Rattle.std.specs.Prelude.{◌≡◌, IfOk, IfErr, OnErr};
+ghost use Rattle.std.specs.Prelude.{◌≡◌, ◌≤◌, IfOk, IfErr, OnErr};
 ghost use Rattle.device.specs.Machine.{machine_of};
 ghost use Rattle.cli.specs.Session.{one_end, AnswersOne, BreaksOne, Answered, Broken, Ran, Failed, status_of};
 
@@ -18,6 +18,7 @@ use thiserror::Error;
 pub struct Options {
     /// The most ticks of a work-item of a launch, from 1 to 1,000,000
     pub budget: u32,
+    pub ghost limited: { budget ≤ 1000000 },
 }
 
 impl Options {
@@ -103,6 +104,7 @@ fn perform<W: Write>(
     commands: Vec<Command>,
     writer: &mut W,
 ) -> Result<RunEnd, WriteFailed>
+    requires { budget ≤ 1000000 }
     ensures ok { IfOk result (λ end. Answered budget commands.items (W.sink writer.old) (W.sink writer.new) end) }
     ensures err { OnErr result (Broken budget commands.items (W.sink writer.old) (W.sink writer.new)) }
 {

@@ -16,14 +16,14 @@ use Rattle.clmodel.specs.declared.setup.Argument.TheVariants as argument
 use Rattle.clmodel.specs.declared.setup.Range.{Range}
 use Rattle.device_store.specs.Buffers.{bytes_in, with_bytes}
 use Rattle.device_store.specs.Builds.{Builds}
-use Rattle.device_store.specs.Kernels.{KernelState, kernel_number, parameters_of, with_argument, new_kernel, no_kernel, suits}
+use Rattle.device_store.specs.Kernels.{local_bytes, KernelState, kernel_number, parameters_of, with_argument, new_kernel, no_kernel, suits}
 use Rattle.device_store.specs.Ranges.{is_bad_dimension, is_bad_group, is_too_many}
 use Rattle.device_store.specs.Tables.{Table, is, find, with_values}
 use Rattle.device_store.specs.declared.command.BuildFault.{BuildFault}
 use Rattle.device_store.specs.declared.command.Command.{Command}
 use Rattle.device_store.specs.declared.command.Command.TheVariants as command
 use Rattle.device_store.specs.declared.command.Refusal.{Refusal}
-use Rattle.device_store.specs.declared.command.Refusal.TheVariants.{NameInUse, NoSuchName, BadSize, OutOfRange, TooManyBuffers, BadDimension, BadGroupSize, TooManyItems, BuildFailed, NoSuchKernel, BadArgument, ArgumentsMissing, OutOfMemory}
+use Rattle.device_store.specs.declared.command.Refusal.TheVariants.{NameInUse, NoSuchName, BadSize, OutOfRange, TooManyBuffers, BadDimension, BadGroupSize, TooManyItems, BuildFailed, NoSuchKernel, BadArgument, ArgumentsMissing, LocalTooLarge, OutOfMemory}
 use Rattle.device_store.specs.declared.command.Reply.{Reply}
 use Rattle.device_store.specs.declared.command.Reply.TheVariants as reply
 use Rattle.device.specs.declared.Device.{Device}
@@ -129,6 +129,7 @@ row m (command.Launch kernel range) =
     ∷ (is_bad_group range, BadGroupSize)
     ∷ (is_too_many range, TooManyItems)
     ∷ (list_any (λ a. not (is_some a)) (kernel_of m kernel).arguments, ArgumentsMissing)
+    ∷ (nat_lt 32768 (local_bytes (kernel_of m kernel).arguments), LocalTooLarge)
     ∷ []
 
 -- A program that is built is there from then on. A source that isn't built is refused.

@@ -22,7 +22,7 @@ use clmodel::text::{Bytes, Name};
 use cltypes::Checked;
 use device_store::build::build;
 pub use device_store::command::{BuildFault, Command, Refusal, Reply};
-use device_store::kernel::{Kernel, kernel_number, parameters_of, suits};
+use device_store::kernel::{Kernel, is_local_too_large, kernel_number, parameters_of, suits};
 use device_store::ranges::{is_bad_dimension, is_bad_group, is_too_many};
 pub use device_store::table::Table;
 pub use prepared::Prepared;
@@ -248,6 +248,9 @@ impl Device {
         }
         if kernel.lacks_argument() {
             return Err(Refusal::ArgumentsMissing);
+        }
+        if is_local_too_large(kernel.arguments(), 0) {
+            return Err(Refusal::LocalTooLarge);
         }
         Ok(Prepared {
             checked,

@@ -1,5 +1,7 @@
 //! Runs of scripts in memory.
 
+ghost use Rattle.std.specs.Prelude.{◌≤◌};
+
 use cli::memory::{MemoryReader, MemoryWriter};
 use cli::session::{Options, RunFault, run, status};
 use cli::streams::{Input, Output};
@@ -21,7 +23,9 @@ pub fn check_within<R: Abort + AllocGlobal>(
     script: &str,
     replies: &str,
     wanted: u8,
-) {
+)
+    requires { budget ≤ 1000000 }
+{
     let mut reader = Input::new(MemoryReader::new(script.as_bytes(), 4096, u64::MAX));
     let Ok(mut writer) = writer(rt.alloc()) else {
         return assert!(rt; false);

@@ -6,13 +6,13 @@ use Rattle.cli.specs.CommandLine.{IsBudget}
 use Rattle.cli.proofs.CommandLines.{no_option, the_option}
 use Rattle.cli.proofs.command_line.budget_of.Goals as goal
 
-pub returns-in-Ok-None : goal.returns-in-Ok-None
-returns-in-Ok-None c =
+pub returns-in-Ok-None-clause-given : goal.returns-in-Ok-None-clause-given
+returns-in-Ok-None-clause-given c =
     subst (λ (o : Option Text). IsBudget o 100000) (one_text-rows (found_of c.args.run.now) (codes "budget"))
     (no_option (λ bs r. ParsesUnsigned 32 10 bs r × ExplainsUnsignedError 10 bs r × HasUnsignedDigitsIfOk bs r) _ c.in-Ok-None.field-0 (search rules) c.in-Ok-None.ensures.value)
 
-pub returns-in-Ok-Some : goal.returns-in-Ok-Some
-returns-in-Ok-Some c =
+pub returns-in-Ok-Some-clause-given : goal.returns-in-Ok-Some-clause-given
+returns-in-Ok-Some-clause-given c =
     subst (λ (o : Option Text). IsBudget o c.in-Ok-Some.budget) (one_text-rows (found_of c.args.run.now) (codes "budget"))
     (the_option (λ bs r. ParsesUnsigned 32 10 bs r × ExplainsUnsignedError 10 bs r × HasUnsignedDigitsIfOk bs r) _ c.in-Ok-Some.budget c.in-Ok-Some.field-0 (search rules)
     c.in-Ok-Some.ensures.none c.in-Ok-Some.ensures.value (λ t r g. g.0) (omega arith) (omega arith))
