@@ -5,10 +5,30 @@ ghost use Rattle.std.specs.Prelude.{◌≡◌, None, Some, map, IfOk, IfSome};
 ghost use Rattle.clmodel.specs.Setup.{kernel_in, functions_before};
 ghost use Rattle.clmodel.specs.Tree.{Func, NoFunc, func, then_funcs};
 ghost use Rattle.lower_code.specs.Code.{kernel_code};
+ghost use Rattle.lower_code.specs.Emission.{functions_of};
 
+use crate::backward::Backward;
+use crate::functions::kernel_named;
+use crate::statements::emit_body;
+use crate::variables::put_arguments;
 use clmodel::tree::Function;
 use regcode::Instruction;
 use std::alloc::{AllocError, Global};
+
+/// The code of a kernel that stands behind these functions.
+fn emit_function(
+    alloc: Global,
+    functions: &[Function],
+    kernel: &Function,
+) -> Result<Vec<Instruction>, AllocError>
+    ensures { IfOk result (λ code. code.items ≡ kernel_code (functions_of functions.now) (func kernel.now)) }
+{
+    let mut code = Backward::new(alloc);
+    code.put(Instruction::End)?;
+    emit_body(functions, kernel, 0, 0, 0, &mut code)?;
+    put_arguments(kernel.parameters.as_slice(), &mut code)?;
+    Ok(code.into_forward())
+}
 
 /// The code of the kernel of a name's number, None where there is none. Err where memory is wanting, or there are too few registers.
 pub fn emit_kernel(
@@ -20,6 +40,9 @@ pub fn emit_kernel(
         × (code.items ≡ kernel_code (functions_before (then_funcs NoFunc (map func functions.now)) number) f))) }
     ensures none { IfOk result (λ found. found ≡ None → kernel_in (then_funcs NoFunc (map func functions.now)) number ≡ None) }
 {
-    let _ = (alloc, functions, number);
-    Err(AllocError)
+    let Some(found) = kernel_named(functions, number) else {
+        return Ok(None);
+    };
+    let code = emit_function(alloc, &functions[..found.place], found.function)?;
+    Ok(Some(code))
 }

@@ -1,6 +1,18 @@
 //! The register code of statements, of helper functions in place of their calls, and of kernels.
 #![tactic(auto)]
 
+mod assignments;
+mod backward;
+mod destinations;
+mod fences;
+mod functions;
 mod kernels;
+mod loops;
+mod positions;
+mod sites;
+mod statements;
+#[cfg(test)]
+mod tests;
+mod variables;
 
 pub use kernels::emit_kernel;

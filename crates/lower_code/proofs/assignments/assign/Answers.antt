@@ -1,0 +1,21 @@
+use Rattle.std.proofs.Common.{◌++◌, ap, ◌∙◌}
+use Rattle.clmodel.specs.Next.{helper_call}
+use Rattle.clmodel.specs.Tree.{place, term}
+use Rattle.lower_expr.specs.Expressions.{place_code}
+use Rattle.lower_code.specs.Code.{result_in}
+use Rattle.lower_code.specs.Emission.{functions_of}
+use Rattle.lower_code.proofs.Splits.{split_tail, assign_laid}
+use Rattle.lower_code.proofs.assignments.assign.Goals as goal
+
+pub returns : goal.returns
+returns c calls inside kind depth site =
+    let scope = c.args.scope.now in
+    let to = place c.args.target.now in
+    let value = term c.args.value.now in
+    let results = result_in (functions_of c.args.functions.now) in
+    let level = c.in_ok-level.level in
+    let right = c.in_ok-right.right in
+    assign_laid calls results inside kind scope to (helper_call value) value depth site level c.in_ok-above.above c.in_ok-from.from right.kind c.reach.new.code.items _
+    c.in_ok-level.ensures c.in_ok-above.ensures (c.in_ok-destination.ensures.code ∙ ap (λ xs. xs ++ place_code scope level to) c.new-front.ensures.items)
+    c.in_ok-from.ensures (c.in_ok-right.ensures.kind calls inside kind)
+    (split_tail calls right.split c.put.new.code _ _ depth site (c.in_ok-put.ensures to c.in_ok-destination.ensures.found) (c.in_ok-right.ensures.code calls inside kind depth site))

@@ -1,0 +1,21 @@
+use Rattle.std.proofs.Common.{sym, ap₂, ◌∙◌}
+use Rattle.std.proofs.lemmas.Result.{IfOk-weaker}
+use Rattle.clmodel.specs.Tree.{terms}
+use Rattle.lower_code.specs.Code.{call_only_statement}
+use Rattle.lower_code.proofs.assignments.call_statement.Goals as goal
+
+pub returns-in-Some : goal.returns-in-Some
+returns-in-Some c =
+    IfOk-weaker c.call_built_in.result _ _ (λ split h calls results inside kind.
+    h calls results inside kind c.args.name c.args.depth c.args.site
+    ∙ ap₂ (λ b f. call_only_statement calls results inside kind c.args.scope.now b f c.args.name (terms c.args.arguments.now) c.args.depth c.args.site)
+    (sym c.if-is_barrier.false ∙ c.is_barrier.ensures) (sym c.in-Some.is ∙ c.built_in_named.ensures))
+    c.call_built_in.ensures
+
+pub returns-in-None : goal.returns-in-None
+returns-in-None c =
+    IfOk-weaker c.call_helper.result _ _ (λ split h calls results inside kind.
+    h calls results inside kind c.args.depth c.args.site
+    ∙ ap₂ (λ b f. call_only_statement calls results inside kind c.args.scope.now b f c.args.name (terms c.args.arguments.now) c.args.depth c.args.site)
+    (sym c.if-is_barrier.false ∙ c.is_barrier.ensures) (sym c.in-None.is ∙ c.built_in_named.ensures))
+    c.call_helper.ensures

@@ -1,0 +1,25 @@
+use Rattle.std.proofs.Common.{◌++◌, ap, ◌∙◌}
+use Rattle.clmodel.specs.Next.{helper_call}
+use Rattle.clmodel.specs.Tree.{place, term}
+use Rattle.lower_expr.specs.Expressions.{place_code, place_register}
+use Rattle.lower_code.specs.Code.{result_in, fetch_code}
+use Rattle.lower_code.specs.Emission.{functions_of}
+use Rattle.lower_code.proofs.Splits.{split_tail, compound_laid}
+use Rattle.lower_code.proofs.assignments.compound.Goals as goal
+
+pub returns : goal.returns
+returns c calls inside kind depth site =
+    let scope = c.args.scope.now in
+    let to = place c.args.target.now in
+    let value = term c.args.value.now in
+    let results = result_in (functions_of c.args.functions.now) in
+    let level = c.in_ok-level.level in
+    let right = c.in_ok-right.right in
+    let found = c.in_ok-destination.ensures.found in
+    let reached = c.in_ok-destination.ensures.code ∙ ap (λ xs. xs ++ place_code scope level to) c.new-front.ensures.items in
+    compound_laid calls results inside kind scope to (helper_call value) value depth site c.args.operator level c.in_ok-above.above c.in_ok-top.top c.in_ok-old.old c.in_ok-operand.operand
+    right.kind c.destination_type.result c.fetch.new.code.items _
+    c.in_ok-level.ensures c.in_ok-above.ensures c.in_ok-top.ensures c.in_ok-old.ensures (c.destination_type.ensures to found)
+    (c.in_ok-fetch.ensures to found ∙ ap (λ xs. xs ++ fetch_code scope to (place_register scope level to) c.in_ok-old.old) reached)
+    c.in_ok-operand.ensures (c.in_ok-right.ensures.kind calls inside kind)
+    (split_tail calls right.split c.combine.new.code _ _ depth site (c.in_ok-combine.ensures to found) (c.in_ok-right.ensures.code calls inside kind depth site))

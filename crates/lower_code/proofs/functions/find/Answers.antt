@@ -1,0 +1,44 @@
+use Rattle.std.proofs.Common.{◌≡◌, ◌+◌, ◌-◌, ◌<◌, arith, ap, ◌∙◌, length, take}
+use Rattle.lower_code.specs.Code.{call_code, result_in}
+use Rattle.lower_code.specs.Emission.{functions_of}
+use Rattle.lower_code.proofs.Helpers.{code_hit, code_miss, result_hit, result_miss}
+use Rattle.lower_code.proofs.functions.find.Goals as goal
+
+pub returns-then-name-function-clause-code : goal.returns-then-name-function-clause-code
+returns-then-name-function-clause-code c arguments level depth site =
+    let gs = c.args.functions.now in
+    let place = length gs - 1 - c.loop-i.i in
+    let below : place < length gs = omega (arith, c.loop-i-test.true) in
+    let left : length gs - c.loop-i.i ≡ place + 1 = omega (arith, c.loop-i-test.true) in
+    c.loop-i.invariant.code arguments level depth site
+    ∙ ap (λ n. call_code (functions_of (take n gs)) c.args.name arguments level depth site) left
+    ∙ code_hit gs place c.args.name c.index-functions-place.result arguments level depth site below c.index-functions-place.is c.if-name-function.true
+
+pub returns-then-name-function-clause-value : goal.returns-then-name-function-clause-value
+returns-then-name-function-clause-value c =
+    let gs = c.args.functions.now in
+    let place = length gs - 1 - c.loop-i.i in
+    let below : place < length gs = omega (arith, c.loop-i-test.true) in
+    let left : length gs - c.loop-i.i ≡ place + 1 = omega (arith, c.loop-i-test.true) in
+    c.loop-i.invariant.value
+    ∙ ap (λ n. result_in (functions_of (take n gs)) c.args.name) left
+    ∙ result_hit gs place c.args.name c.index-functions-place.result below c.index-functions-place.is c.if-name-function.true
+
+pub loop-i-preserved : goal.loop-i-preserved
+loop-i-preserved c =
+    let gs = c.args.functions.now in
+    let place = length gs - 1 - c.loop-i.i in
+    let below : place < length gs = omega (arith, c.loop-i-test.true) in
+    let left : length gs - c.loop-i.i ≡ place + 1 = omega (arith, c.loop-i-test.true) in
+    let next : place ≡ length gs - (c.loop-i.i + 1) = omega (arith, c.loop-i-test.true) in
+    record {
+      code = λ arguments level depth site.
+          c.loop-i.invariant.code arguments level depth site
+          ∙ ap (λ n. call_code (functions_of (take n gs)) c.args.name arguments level depth site) left
+          ∙ code_miss gs place c.args.name c.index-functions-place.result arguments level depth site below c.index-functions-place.is c.if-name-function.false
+          ∙ ap (λ n. call_code (functions_of (take n gs)) c.args.name arguments level depth site) next;
+      value = c.loop-i.invariant.value
+          ∙ ap (λ n. result_in (functions_of (take n gs)) c.args.name) left
+          ∙ result_miss gs place c.args.name c.index-functions-place.result below c.index-functions-place.is c.if-name-function.false
+          ∙ ap (λ n. result_in (functions_of (take n gs)) c.args.name) next;
+    }

@@ -1,0 +1,374 @@
+//! Assignments, declarations and calls, with the body of the helper that they call left out (C99 6.5.16 and 6.7).
+#![tactic(auto)]
+
+ghost use Rattle.std.specs.Prelude.{◌≡◌, ℕ, ◌++◌, ◌∷◌, [], Some, None, Option, false, IfOk, OnOk};
+ghost use Rattle.std.specs.Option.{option_map};
+ghost use Rattle.clmodel.specs.Barrier as barrier;
+ghost use Rattle.clmodel.specs.BuiltIns.{built_in};
+ghost use Rattle.clmodel.specs.Next as next;
+ghost use Rattle.clmodel.specs.Tree as tree;
+ghost use Rattle.clmodel.specs.Tree.{place, term, terms};
+ghost use Rattle.lower_expr.specs.Scope.{free_level};
+ghost use Rattle.lower_code.specs.Code as spec;
+ghost use Rattle.lower_code.specs.Code.{Calls, result_in};
+ghost use Rattle.lower_code.specs.Emission.{functions_of, split_code};
+
+use crate::backward::Backward;
+use crate::destinations::{combine, destination_type, fetch, put, reach};
+use crate::fences::fences;
+use crate::functions::find;
+use crate::sites::is_barrier;
+use clmodel::action::Fences;
+use clmodel::setup::{BuiltIn, built_in_named};
+use clmodel::tree::{Expression, Function, Target, VariableType};
+use clnum::{BinaryOperator, IntType, Value};
+use lower_expr::emission::{emit_arguments, emit_expression};
+use lower_expr::scope::{Scope, level_above, level_at, register_at};
+use lower_expr::tails::{add, call_only};
+use lower_expr::types::call_type;
+use regcode::Instruction;
+use smallvec::SmallVec;
+use std::alloc::AllocError;
+
+/// A call of a helper function in the tree.
+#[derive(Clone, Copy)]
+pub struct HelperCall<'a> {
+    pub name: u32,
+    pub arguments: &'a [Expression],
+}
+
+/// A call of a helper whose arguments are at hand: their registers, and the level of the first.
+#[derive(Drop)]
+pub struct Call {
+    pub name: u32,
+    pub arguments: SmallVec<u32, 2>,
+    pub level: u32,
+}
+
+/// The code before the body of the helper that a statement calls, if it calls one, and the code behind it.
+#[derive(Drop)]
+pub struct Split {
+    pub front: Vec<Instruction>,
+    pub call: Option<Call>,
+    pub back: Vec<Instruction>,
+}
+
+/// The right side of an assignment, and the type of its value.
+#[derive(Drop)]
+struct Right {
+    kind: VariableType,
+    split: Split,
+}
+
+/// The call of a helper function that an expression is.
+fn helper_call(value: &Expression) -> Option<HelperCall<'_>>
+    ensures { next.helper_call (term value.now) ≡ option_map (λ c. record { name = c.name; arguments = terms c.arguments.now }) result }
+{
+    match value {
+        Expression::Call {
+            name,
+            arguments,
+            ..
+        } => match built_in_named(*name) {
+            Some(_) => None,
+            None => Some(HelperCall {
+                name: *name,
+                arguments: arguments.as_slice(),
+            }),
+        },
+        _ => None,
+    }
+}
+
+/// The type of the value of a helper.
+fn result_of(functions: &[Function], name: u32) -> Option<IntType>
+    ensures { result ≡ result_in (functions_of functions.now) name }
+{
+    match find(functions, name) {
+        Some(found) => found.function.result,
+        None => None,
+    }
+}
+
+/// The type of a call's value.
+fn result_type(kind: Option<IntType>) -> VariableType
+    ensures { result ≡ spec.result_type kind }
+{
+    match kind {
+        Some(kind) => VariableType::Integer(kind),
+        None => VariableType::Integer(IntType::Int),
+    }
+}
+
+/// Adds the end of the item, where a call has no value.
+fn add_needed(kind: Option<IntType>, code: &mut Vec<Instruction>) -> Result<(), AllocError>
+    ensures { OnOk result (code.new.items ≡ code.old.items ++ spec.needed_code kind) }
+{
+    match kind {
+        Some(_) => Ok(()),
+        None => add(code, Instruction::End),
+    }
+}
+
+/// The right side of an assignment at a level, behind other code.
+fn right_side(
+    functions: &[Function],
+    scope: &Scope,
+    level: u32,
+    value: &Expression,
+    front: Vec<Instruction>,
+) -> Result<Right, AllocError>
+    ensures code { IfOk result (λ right. (calls : Calls) (inside : ℕ → ℕ) (kind : Option IntType) (depth site : ℕ)
+        → split_code calls right.split depth site
+        ≡ front.items ++ spec.right_code calls (result_in (functions_of functions.now)) inside kind scope.now level (next.helper_call (term value.now)) (term value.now) depth site) }
+    ensures kind { IfOk result (λ right. (calls : Calls) (inside : ℕ → ℕ) (kind : Option IntType)
+        → right.kind ≡ spec.right_type calls (result_in (functions_of functions.now)) inside kind scope.now (next.helper_call (term value.now)) (term value.now)) }
+{
+    let mut front = front;
+    let mut back = Vec::new(scope.allocator());
+    match helper_call(value) {
+        None => {
+            let kind = emit_expression(scope, level, value, &mut front)?;
+            let split = Split {
+                front,
+                call: None,
+                back,
+            };
+            Ok(Right { kind, split })
+        }
+        Some(call) => {
+            let arguments = emit_arguments(scope, level, call.arguments, &mut front)?;
+            let result = result_of(functions, call.name);
+            add_needed(result, &mut back)?;
+            let call = Call {
+                name: call.name,
+                arguments: arguments.registers,
+                level,
+            };
+            let split = Split {
+                front,
+                call: Some(call),
+                back,
+            };
+            Ok(Right {
+                kind: result_type(result),
+                split,
+            })
+        }
+    }
+}
+
+/// An assignment by `=`.
+pub fn assign(
+    functions: &[Function],
+    scope: &Scope,
+    target: &Target,
+    value: &Expression,
+) -> Result<Split, AllocError>
+    ensures { IfOk result (λ split. (calls : Calls) (inside : ℕ → ℕ) (kind : Option IntType) (depth site : ℕ)
+        → split_code calls split depth site
+        ≡ spec.assign_code calls (result_in (functions_of functions.now)) inside kind scope.now (free_level scope.now) (place target.now) (next.helper_call (term value.now)) (term value.now) depth site) }
+{
+    let level = scope.free_level()?;
+    let above = level_above(level)?;
+    let mut front = Vec::new(scope.allocator());
+    let destination = reach(scope, level, target, &mut front)?;
+    let mut right = right_side(functions, scope, above, value, front)?;
+    let from = register_at(above, right.kind)?;
+    put(scope, level, destination, from, &mut right.split.back)?;
+    Ok(right.split)
+}
+
+/// An assignment by another operator: the old value is fetched before the right side.
+pub fn compound(
+    functions: &[Function],
+    scope: &Scope,
+    target: &Target,
+    operator: BinaryOperator,
+    value: &Expression,
+) -> Result<Split, AllocError>
+    ensures { IfOk result (λ split. (calls : Calls) (inside : ℕ → ℕ) (kind : Option IntType) (depth site : ℕ)
+        → split_code calls split depth site
+        ≡ spec.compound_code calls (result_in (functions_of functions.now)) inside kind scope.now (free_level scope.now) (place target.now) operator (next.helper_call (term value.now)) (term value.now) depth site) }
+{
+    let level = scope.free_level()?;
+    let above = level_above(level)?;
+    let top = level_at(level, 2)?;
+    let mut front = Vec::new(scope.allocator());
+    let destination = reach(scope, level, target, &mut front)?;
+    let old = register_at(above, destination_type(scope, destination))?;
+    fetch(scope, level, destination, old, &mut front)?;
+    let mut right = right_side(functions, scope, top, value, front)?;
+    let kind = right.kind;
+    let operand = register_at(top, kind)?;
+    combine(
+        scope,
+        level,
+        destination,
+        operator,
+        kind,
+        old,
+        operand,
+        &mut right.split.back,
+    )?;
+    Ok(right.split)
+}
+
+/// The operator of `++` or `--`.
+fn step_operator(is_increment: bool) -> BinaryOperator
+    ensures { result ≡ next.step_operator is_increment }
+{
+    if is_increment {
+        BinaryOperator::Add
+    } else {
+        BinaryOperator::Subtract
+    }
+}
+
+/// Puts `++` or `--` before the code.
+pub fn put_step(
+    scope: &Scope,
+    target: &Target,
+    is_increment: bool,
+    code: &mut Backward,
+) -> Result<(), AllocError>
+    ensures { OnOk result ((calls : Calls) (results : ℕ → Option IntType) (inside : ℕ → ℕ) (kind : Option IntType)
+        → code.new ≡ spec.step_code calls results inside kind scope.now (free_level scope.now) (place target.now) (next.step_operator is_increment) ++ code.old) }
+{
+    let level = scope.free_level()?;
+    let above = level_above(level)?;
+    let top = level_at(level, 2)?;
+    let int = VariableType::Integer(IntType::Int);
+    let mut front = Vec::new(scope.allocator());
+    let destination = reach(scope, level, target, &mut front)?;
+    let old = register_at(above, destination_type(scope, destination))?;
+    fetch(scope, level, destination, old, &mut front)?;
+    let one = register_at(top, int)?;
+    add(
+        &mut front,
+        Instruction::Constant {
+            to: one,
+            value: Value::new(IntType::Int, 1),
+        },
+    )?;
+    combine(
+        scope,
+        level,
+        destination,
+        step_operator(is_increment),
+        int,
+        old,
+        one,
+        &mut front,
+    )?;
+    code.put_all(front)
+}
+
+/// A declaration with an initialiser, which sees the variable, unset. The variable is left again.
+pub fn declare_as(
+    functions: &[Function],
+    scope: &mut Scope,
+    kind: VariableType,
+    name: u32,
+    value: &Expression,
+) -> Result<Split, AllocError>
+    ensures code { IfOk result (λ split. (calls : Calls) (inside : ℕ → ℕ) (result_kind : Option IntType) (depth site : ℕ) (exits : spec.Exits)
+        → split_code calls split depth site
+        ≡ spec.stmt_code calls (result_in (functions_of functions.now)) inside result_kind scope.old (tree.DeclareAs 0 kind 0 name (term value.now)) depth site exits) }
+    ensures scope { OnOk result (scope.new ≡ scope.old) }
+{
+    let level = scope.free_level()?;
+    let above = level_above(level)?;
+    let to = register_at(level, kind)?;
+    let mut front = Vec::new(scope.allocator());
+    add(&mut front, Instruction::Unset { to })?;
+    let count = scope.len();
+    scope.declare(name, kind)?;
+    let mut right = right_side(functions, scope, above, value, front)?;
+    scope.leave(count);
+    let from = register_at(above, right.kind)?;
+    add(&mut right.split.back, Instruction::Hold { to, from, kind })?;
+    Ok(right.split)
+}
+
+/// The wait at a barrier with these fences; the item ends where its argument names none.
+fn wait(fences: Option<Fences>, site: u32, depth: u32) -> Instruction
+    ensures { result ∷ [] ≡ spec.wait_code fences site depth }
+{
+    match fences {
+        Some(fences) => Instruction::Barrier {
+            site,
+            depth,
+            fences,
+        },
+        None => Instruction::End,
+    }
+}
+
+/// A call of a built-in function that is a whole statement.
+fn call_built_in(
+    scope: &Scope,
+    function: BuiltIn,
+    arguments: &[Expression],
+) -> Result<Split, AllocError>
+    ensures { IfOk result (λ split. (calls : Calls) (results : ℕ → Option IntType) (inside : ℕ → ℕ) (kind : Option IntType) (name depth site : ℕ)
+        → split_code calls split depth site ≡ spec.call_only_statement calls results inside kind scope.now false (Some function) name (terms arguments.now) depth site) }
+{
+    let level = scope.free_level()?;
+    let mut front = Vec::new(scope.allocator());
+    let found = emit_arguments(scope, level, arguments, &mut front)?;
+    let kind = VariableType::Integer(call_type(Some(function), found.kind));
+    let to = register_at(level, kind)?;
+    call_only(function, to, found.registers.as_slice(), &mut front)?;
+    Ok(Split {
+        front,
+        call: None,
+        back: Vec::new(scope.allocator()),
+    })
+}
+
+/// A call of a helper that is a whole statement.
+fn call_helper(scope: &Scope, name: u32, arguments: &[Expression]) -> Result<Split, AllocError>
+    ensures { IfOk result (λ split. (calls : Calls) (results : ℕ → Option IntType) (inside : ℕ → ℕ) (kind : Option IntType) (depth site : ℕ)
+        → split_code calls split depth site ≡ spec.call_only_statement calls results inside kind scope.now false None name (terms arguments.now) depth site) }
+{
+    let level = scope.free_level()?;
+    let mut front = Vec::new(scope.allocator());
+    let found = emit_arguments(scope, level, arguments, &mut front)?;
+    let call = Call {
+        name,
+        arguments: found.registers,
+        level,
+    };
+    Ok(Split {
+        front,
+        call: Some(call),
+        back: Vec::new(scope.allocator()),
+    })
+}
+
+/// A call that is a whole statement, inside so many loops and with a number for a barrier.
+pub fn call_statement(
+    scope: &Scope,
+    name: u32,
+    arguments: &[Expression],
+    depth: u32,
+    site: u32,
+) -> Result<Split, AllocError>
+    ensures { IfOk result (λ split. (calls : Calls) (results : ℕ → Option IntType) (inside : ℕ → ℕ) (kind : Option IntType)
+        → split_code calls split depth site ≡ spec.call_only_statement calls results inside kind scope.now (barrier.is_barrier name) (built_in name) name (terms arguments.now) depth site) }
+{
+    if is_barrier(name) {
+        let mut front = Vec::new(scope.allocator());
+        add(&mut front, wait(fences(arguments), site, depth))?;
+        return Ok(Split {
+            front,
+            call: None,
+            back: Vec::new(scope.allocator()),
+        });
+    }
+    match built_in_named(name) {
+        Some(function) => call_built_in(scope, function, arguments),
+        None => call_helper(scope, name, arguments),
+    }
+}

@@ -1,0 +1,181 @@
+//! How many barriers are in a statement, with those in the helper functions that it calls.
+#![tactic(auto)]
+
+ghost use Rattle.std.specs.Prelude.{◌≡◌, ℕ, ◌+◌, IfOk, IfSome};
+ghost use Rattle.clmodel.specs.BuiltIns.{built_in};
+ghost use Rattle.clmodel.specs.Barrier as barrier;
+ghost use Rattle.clmodel.specs.Next as next;
+ghost use Rattle.clmodel.specs.Tree.{stmt, term};
+ghost use Rattle.lower_code.specs.Emission.{all_of, callee_sites, inside, part_of};
+
+use clmodel::setup::built_in_named;
+use clmodel::tree::{Expression, Function, Statement};
+use std::alloc::AllocError;
+
+/// What is called: nothing that can meet a barrier, the barrier itself, or the helper function of a name.
+#[derive(Clone, Copy, Debug, PartialEq, Eq)]
+pub enum Callee {
+    Nothing,
+    Barrier,
+    Helper(u32),
+}
+
+/// Whether a name is that of the barrier.
+pub fn is_barrier(name: u32) -> bool
+    ensures { result ≡ barrier.is_barrier name }
+{
+    name == 14
+}
+
+/// What a call that is a whole statement calls.
+pub fn callee_of(name: u32) -> Callee
+    ensures { (inside : ℕ → ℕ) → next.statement_sites inside (barrier.is_barrier name) (built_in name) name ≡ callee_sites inside result }
+{
+    if is_barrier(name) {
+        return Callee::Barrier;
+    }
+    match built_in_named(name) {
+        Some(_) => Callee::Nothing,
+        None => Callee::Helper(name),
+    }
+}
+
+/// What an expression calls that is the right side of an assignment.
+fn callee_in(value: &Expression) -> Callee
+    ensures { (inside : ℕ → ℕ) → next.call_sites inside (next.helper_call (term value.now)) ≡ callee_sites inside result }
+{
+    match value {
+        Expression::Call { name, .. } => match built_in_named(*name) {
+            Some(_) => Callee::Nothing,
+            None => Callee::Helper(*name),
+        },
+        _ => Callee::Nothing,
+    }
+}
+
+/// The barriers in a statement; None where there are too many to count.
+#[cycle(sites)]
+pub fn sites(functions: &[Function], statement: &Statement) -> Option<u32>
+    ensures { IfSome result (λ n. n ≡ next.sites (inside functions.now) (stmt statement.now)) }
+{
+    match statement {
+        Statement::Block { body, .. } => sites_in_all(functions, body),
+        Statement::If { chosen, .. } => sites(functions, chosen),
+        Statement::IfElse {
+            chosen,
+            otherwise,
+            ..
+        } => {
+            let first = sites(functions, chosen)?;
+            first.checked_add(sites(functions, otherwise)?)
+        }
+        Statement::While { body, .. } | Statement::DoWhile { body, .. } => sites(functions, body),
+        Statement::For {
+            first,
+            third,
+            body,
+            ..
+        } => {
+            let first = match first {
+                Some(first) => sites(functions, first)?,
+                None => 0,
+            };
+            let third = match third {
+                Some(third) => sites(functions, third)?,
+                None => 0,
+            };
+            let parts = first.checked_add(third)?;
+            parts.checked_add(sites(functions, body)?)
+        }
+        Statement::Call { name, .. } => sites_in_call(functions, callee_of(*name)),
+        Statement::Declare {
+            value: Some(value),
+            ..
+        } => sites_in_call(functions, callee_in(value)),
+        Statement::Assign { value, .. } => sites_in_call(functions, callee_in(value)),
+        _ => Some(0),
+    }
+}
+
+/// The barriers in statements.
+#[cycle(sites)]
+pub fn sites_in_all(functions: &[Function], statements: &[Statement]) -> Option<u32>
+    ensures { IfSome result (λ n. n ≡ next.all_sites (inside functions.now) (all_of statements.now)) }
+{
+    let mut all: u32 = 0;
+    for i in 0..statements.len() {
+        all = all.checked_add(sites(functions, &statements[i])?)?;
+    }
+    Some(all)
+}
+
+/// The barriers in what is called.
+#[cycle(sites)]
+fn sites_in_call(functions: &[Function], callee: Callee) -> Option<u32>
+    ensures { IfSome result (λ n. n ≡ callee_sites (inside functions.now) callee) }
+{
+    match callee {
+        Callee::Nothing => Some(0),
+        Callee::Barrier => Some(1),
+        Callee::Helper(name) => {
+            for i in 0..functions.len() {
+                let place = functions.len() - 1 - i;
+                let function = &functions[place];
+                if name == function.name {
+                    return sites_in_all(&functions[..place], function.body.as_slice());
+                }
+            }
+            Some(0)
+        }
+    }
+}
+
+/// The number of the first barrier behind a statement. Err where there are too many.
+pub fn site_behind(
+    functions: &[Function],
+    site: u32,
+    statement: &Statement,
+) -> Result<u32, AllocError>
+    ensures { IfOk result (λ behind. behind ≡ site + next.sites (inside functions.now) (stmt statement.now)) }
+{
+    let count = sites(functions, statement).ok_or(AllocError)?;
+    site.checked_add(count).ok_or(AllocError)
+}
+
+/// The same behind a part of a `for`.
+pub fn site_behind_part(
+    functions: &[Function],
+    site: u32,
+    part: Option<&Statement>,
+) -> Result<u32, AllocError>
+    ensures { IfOk result (λ behind. behind ≡ site + next.part_sites (inside functions.now) (part_of part.entry)) }
+{
+    match part {
+        None => Ok(site),
+        Some(statement) => site_behind(functions, site, statement),
+    }
+}
+
+/// The same behind statements.
+pub fn site_behind_all(
+    functions: &[Function],
+    site: u32,
+    statements: &[Statement],
+) -> Result<u32, AllocError>
+    ensures { IfOk result (λ behind. behind ≡ site + next.all_sites (inside functions.now) (all_of statements.now)) }
+{
+    let count = sites_in_all(functions, statements).ok_or(AllocError)?;
+    site.checked_add(count).ok_or(AllocError)
+}
+
+/// The number of the first barrier of a statement, by that of the first one behind it. Err where there are too many.
+pub fn site_before(
+    functions: &[Function],
+    behind: u32,
+    statement: &Statement,
+) -> Result<u32, AllocError>
+    ensures { IfOk result (λ site. site + next.sites (inside functions.now) (stmt statement.now) ≡ behind) }
+{
+    let count = sites(functions, statement).ok_or(AllocError)?;
+    behind.checked_sub(count).ok_or(AllocError)
+}
