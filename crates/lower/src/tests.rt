@@ -93,3 +93,14 @@ fn no_kernel(rt: HostRuntime) -> Result<(), Fail> {
     );
     Ok(())
 }
+
+#[test]
+fn an_empty_kernel(rt: HostRuntime) -> Result<(), Fail> {
+    let alloc = rt.alloc();
+    let checked = program(alloc, true)?;
+    let code = lower(alloc, &checked, "f")?;
+    assert_eq!(rt; code.instructions(), [Instruction::End].as_slice());
+    let code = lower_kernel(alloc, &checked, FIRST)?;
+    assert_eq!(rt; code.instructions(), [Instruction::End].as_slice());
+    Ok(())
+}

@@ -47,3 +47,22 @@ fn failing_ends(rt: HostRuntime) {
     assert_eq!(rt; outcome, Err(RunFault::Write));
     assert_eq!(rt; text.as_slice(), b"syntax".as_slice());
 }
+
+#[test]
+fn a_store(rt: HostRuntime) {
+    let source = "__kernel void f(__global int *a) { a[0] = 7; }";
+    let (outcome, text) = dump_over(rt.alloc(), source, 1000, 1000);
+    assert_eq!(rt; outcome, Ok(true));
+    assert_eq!(rt;
+        text.as_slice(),
+        b"0 argument r12, 0, __global int *
+1 move r28, r12, 27
+2 constant r36, int 0
+3 offset r28, r28, r36
+4 constant r36, int 7
+5 store [r28], r36
+6 end
+"
+            .as_slice()
+    );
+}
