@@ -4,6 +4,8 @@
 #[cfg(test)]
 mod control_flow;
 #[cfg(test)]
+mod local_memory;
+#[cfg(test)]
 mod rows;
 #[cfg(test)]
 mod runs;
