@@ -4,7 +4,7 @@ use Rattle.clnum.specs.Conversions as conversions
 use Rattle.clnum.specs.Integer as integer
 use Rattle.clnum.specs.Operations as operations
 use Rattle.clmodel.specs.Next.{next}
-use Rattle.clmodel.specs.Examples.{stores, waits, sum_by_helper, three_turns, continues, three_barriers, nested, through_local}
+use Rattle.clmodel.specs.Examples.{stores, waits, sum_by_helper, three_turns, continues, three_barriers, nested, through_local, kept_in_private, narrowed, unset_element, stored_before, loaded_behind, declared_again, in_local_array}
 use Rattle.clmodel.specs.declared.access.Object.TheVariants as object
 use Rattle.clmodel.specs.declared.access.Operation.TheVariants as operation
 use Rattle.clmodel.specs.declared.access.Width.TheVariants.{Four}
@@ -67,3 +67,31 @@ local_is_stored = refl
 pub local_is_loaded : next (through_local 9) 0 (Done ∷ Done ∷ []) ≡ action.Access (object.Local 1) (pos 0) (operation.Load Four)
 unfolding next integer.wrap
 local_is_loaded = refl
+
+pub element_kept : next (kept_in_private 9) 0 [] ≡ stores 8
+unfolding next operations.binary_value integer.wrap conversions.common conversions.promoted integer.converted integer.bits_of
+element_kept = refl
+
+pub element_narrowed : next (narrowed 9) 0 [] ≡ stores 44
+unfolding next operations.binary_value integer.wrap conversions.common conversions.promoted integer.converted integer.bits_of
+element_narrowed = refl
+
+pub element_unset : next (unset_element 9) 0 [] ≡ action.Fault (cause.UnsetElement 32 (pos 1))
+unfolding next operations.binary_value integer.wrap conversions.common conversions.promoted integer.converted integer.bits_of
+element_unset = refl
+
+pub value_first : next (stored_before 9) 0 [] ≡ action.Fault cause.DivideByZero
+unfolding next operations.binary_value integer.wrap conversions.common conversions.promoted integer.converted integer.bits_of
+value_first = refl
+
+pub load_first : next (loaded_behind 9) 0 [] ≡ action.Fault (cause.PrivateBounds 32 (pos 2))
+unfolding next operations.binary_value integer.wrap conversions.common conversions.promoted integer.converted integer.bits_of
+load_first = refl
+
+pub unset_again : next (declared_again 9) 0 [] ≡ action.Fault (cause.UnsetElement 32 (pos 0))
+unfolding next operations.binary_value integer.wrap conversions.common conversions.promoted integer.converted integer.bits_of
+unset_again = refl
+
+pub array_is_local : next (in_local_array 9) 0 [] ≡ action.Access (object.Local 2) (pos 1) (operation.Store Four 3)
+unfolding next operations.binary_value integer.wrap conversions.common conversions.promoted integer.converted integer.bits_of
+array_is_local = refl

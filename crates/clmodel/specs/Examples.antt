@@ -1,9 +1,10 @@
--- Kernels on which the next action is computed. Names: 26 `f`, 27 `a`, 28 `g`, 29 `n`, 30 `s`, 31 `j`.
+-- Kernels on which the next action is computed. Names: 26 `f`, 27 `a`, 28 `g`, 29 `n`, 30 `s`, 31 `j`, 32 `p`, 33 `q`.
 use Rattle.std.specs.Prelude.{ℕ, pos, true, false, Option, None, Some, List, [], ◌∷◌}
-use Rattle.clnum.specs.declared.int_type.IntType.TheVariants.{Int}
+use Rattle.clnum.specs.declared.int_type.IntType.TheVariants.{Char, Int}
 use Rattle.clnum.specs.declared.operators.BinaryOperator.TheVariants as operator
+use Rattle.clnum.specs.declared.operators.UnaryOperator.TheVariants.{Negate}
 use Rattle.clmodel.specs.Setup.{Setup}
-use Rattle.clmodel.specs.Tree.{Term, Number, Variable, Element, Call, Binary, NoTerm, then_all, Whole, Part, Stmt, Block, DeclareAs, Assign, Step, CallOnly, While, DoWhile, For, Break, Continue, ReturnValue, NoStmt, then_stmts, With, Always, While_, Func, NoFunc, then_funcs}
+use Rattle.clmodel.specs.Tree.{Term, Number, Variable, Element, Call, Unary, Binary, NoTerm, then_all, Whole, Part, Stmt, Block, DeclareAs, DeclareArray, Assign, Step, CallOnly, If, While, DoWhile, For, Break, Continue, ReturnValue, NoStmt, then_stmts, With, Always, While_, Func, NoFunc, then_funcs}
 use Rattle.clmodel.specs.declared.access.Object.TheVariants as object
 use Rattle.clmodel.specs.declared.access.Operation.TheVariants as operation
 use Rattle.clmodel.specs.declared.access.Width.TheVariants.{Four}
@@ -143,3 +144,62 @@ through_local =
     (Some (argument.Buffer (97 ∷ [])) ∷ Some (argument.Local 8) ∷ [])
     []
     (Assign 0 (Part 0 30 (number 0)) None (number 1) ∷ barrier ∷ store (Element 0 30 (number 0)) ∷ [])
+
+-- `int p[count];` and `__local int q[count];`
+abbrev pub private_ints : ℕ → Stmt
+private_ints count = DeclareArray 0 false Int 0 32 0 (record { kind = Int; number = pos count })
+
+abbrev pub local_ints : ℕ → Stmt
+local_ints count = DeclareArray 0 true Int 0 33 0 (record { kind = Int; number = pos count })
+
+-- `p[i]`, and `p[i] = e;`
+abbrev pub of_p : Term → Term
+of_p i = Element 0 32 i
+
+abbrev pub into_p : Term → Term → Stmt
+into_p i e = Assign 0 (Part 0 32 i) None e
+
+-- `int p[2]; p[1] = 7; p[1]++; a[0] = p[1];`
+abbrev pub kept_in_private : ℕ → Setup
+kept_in_private =
+    launched [] (private_ints 2 ∷ into_p (number 1) (number 7) ∷ Step 0 (Part 0 32 (number 1)) true ∷ store (of_p (number 1)) ∷ [])
+
+-- `char p[1]; p[0] = 300; a[0] = p[0];`
+abbrev pub narrowed : ℕ → Setup
+narrowed =
+    launched
+    []
+    (DeclareArray 0 false Char 0 32 0 (record { kind = Int; number = pos 1 })
+    ∷ into_p (number 0) (number 300)
+    ∷ store (of_p (number 0))
+    ∷ [])
+
+-- `int p[2]; p[0] = 1; a[0] = p[1];`
+abbrev pub unset_element : ℕ → Setup
+unset_element = launched [] (private_ints 2 ∷ into_p (number 0) (number 1) ∷ store (of_p (number 1)) ∷ [])
+
+-- `int p[2]; p[-1] = 1 / 0;` and `int p[2]; p[2] += 1 / 0;`  The range is tested where the element is stored to or loaded.
+abbrev pub by_zero : Term
+by_zero = Binary 0 (Arithmetic operator.Divide) (number 1) (number 0)
+
+abbrev pub stored_before : ℕ → Setup
+stored_before = launched [] (private_ints 2 ∷ into_p (Unary 0 Negate (number 1)) by_zero ∷ [])
+
+abbrev pub loaded_behind : ℕ → Setup
+loaded_behind = launched [] (private_ints 2 ∷ Assign 0 (Part 0 32 (number 2)) (Some operator.Add) by_zero ∷ [])
+
+-- `for (int j = 0; j < 2; j++) { int p[1]; if (j) a[0] = p[0]; p[0] = j; }`  A declaration leaves no element set.
+abbrev pub declared_again : ℕ → Setup
+declared_again =
+    launched
+    []
+    (for_j 0 (less (variable 31) (number 2)) (block (
+    private_ints 1
+    ∷ If 0 (variable 31) (store (of_p (number 0)))
+    ∷ into_p (number 0) (variable 31)
+    ∷ []
+    )) ∷ [])
+
+-- `int n = 1; __local int q[2]; q[n] = 3;`
+abbrev pub in_local_array : ℕ → Setup
+in_local_array = launched [] (declare 29 (number 1) ∷ local_ints 2 ∷ Assign 0 (Part 0 33 (variable 29)) None (number 3) ∷ [])

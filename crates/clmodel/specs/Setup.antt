@@ -1,8 +1,8 @@
 -- What a launch runs: a kernel of a program with a range, arguments and a budget (OpenCL 1.2, 3.2, 6.7 and 6.12.1).
-use Rattle.std.specs.Prelude.{ℕ, ◌+◌, ◌*◌, ◌/◌, ◌%◌, ◌==◌, suc, Bool, ◌&&◌, if◌then◌else◌, Option, None, Some, List, [], ◌∷◌, ◌++◌, slice_index, slice_index_or, nat_eq}
+use Rattle.std.specs.Prelude.{ℕ, ◌+◌, ◌*◌, ◌/◌, ◌%◌, ◌==◌, suc, Bool, true, false, ◌&&◌, if◌then◌else◌, Option, None, Some, List, [], ◌∷◌, ◌++◌, slice_index, slice_index_or, nat_eq}
 use Rattle.std.specs.List.{list_any}
 use Rattle.std.specs.Cmp.Lexicographic.{pointwise}
-use Rattle.clmodel.specs.Tree.{Program, Func, Funcs, NoFunc, ThenFunc}
+use Rattle.clmodel.specs.Tree.{Program, Func, Funcs, NoFunc, ThenFunc, Stmt, Declare, DeclareAs, DeclareArray, Stmts, NoStmt, ThenStmt, array_bytes}
 use Rattle.clmodel.specs.declared.setup.Range.{Range}
 use Rattle.clmodel.specs.declared.tree.Parameter.{Parameter}
 use Rattle.clmodel.specs.declared.setup.Argument.{Argument}
@@ -102,6 +102,19 @@ parameter_objects [] arguments = []
 parameter_objects (p ∷ ps) [] = record { name = p.name; size = 0 } ∷ parameter_objects ps []
 parameter_objects (p ∷ ps) (argument ∷ arguments) = record { name = p.name; size = local_size argument } ∷ parameter_objects ps arguments
 
+-- the local object of a declaration, of no bytes where what is declared isn't a local array
+abbrev pub declared_object : Stmt → List LocalObject
+declared_object (Declare at kind name_at name) = record { name = name; size = 0 } ∷ []
+declared_object (DeclareAs at kind name_at name value) = record { name = name; size = 0 } ∷ []
+declared_object (DeclareArray at true element name_at name length_at count) = record { name = name; size = array_bytes element count } ∷ []
+declared_object (DeclareArray at false element name_at name length_at count) = record { name = name; size = 0 } ∷ []
+declared_object _ = []
+
+-- those of a block, in the order of the text
+abbrev pub body_objects : Stmts → List LocalObject
+body_objects NoStmt = []
+body_objects (ThenStmt ss s) = body_objects ss ++ declared_object s
+
 -- the place of a name among others
 abbrev pub place_of : List (List ℕ) → List ℕ → ℕ
 place_of [] name = 0
@@ -117,10 +130,10 @@ abbrev pub functions_before : Funcs → ℕ → Funcs
 functions_before NoFunc name = NoFunc
 functions_before (ThenFunc fs f) name = if f.is_kernel && (f.name == name) then fs else functions_before fs name
 
--- the local objects of a kernel with these arguments, by their numbers
+-- The local objects of a kernel with these arguments, by their numbers: those of its parameters, and those of its outermost block.
 abbrev pub objects_of : Option Func → List (Option Argument) → List LocalObject
 objects_of None arguments = []
-objects_of (Some f) arguments = parameter_objects f.parameters arguments
+objects_of (Some f) arguments = parameter_objects f.parameters arguments ++ body_objects f.body
 
 abbrev pub local_objects : Setup → List LocalObject
 local_objects setup = objects_of (kernel_in setup.program.functions setup.kernel) setup.arguments

@@ -1,7 +1,7 @@
 -- The syntax tree of a program as plain data: without where its nodes lie in memory (OpenCL 1.2, 6.3 to 6.9).
-use Rattle.std.specs.Prelude.{ℕ, List, [], ◌∷◌, map, Bool, Option, None, Some, Box}
+use Rattle.std.specs.Prelude.{ℕ, ◌*◌, ◌/◌, ℤ, pos, negsuc, List, [], ◌∷◌, map, Bool, Option, None, Some, Box}
 use Rattle.std.specs.declared.alloc.Global.{Global}
-use Rattle.clnum.specs.Integer.{Integer}
+use Rattle.clnum.specs.Integer.{Integer, bits}
 use Rattle.clnum.specs.declared.int_type.IntType.{IntType}
 use Rattle.clnum.specs.declared.operators.BinaryOperator.{BinaryOperator}
 use Rattle.clnum.specs.declared.operators.UnaryOperator.{UnaryOperator}
@@ -146,6 +146,17 @@ abbrev mutual
 abbrev pub then_stmts : Stmts → List Stmt → Stmts
 then_stmts ss [] = ss
 then_stmts ss (t ∷ ts) = then_stmts (ThenStmt ss t) ts
+
+-- how many elements an array has, by the number in its brackets, and how many bytes
+abbrev pub natural : ℤ → ℕ
+natural (pos n) = n
+natural (negsuc n) = 0
+
+abbrev pub array_length : Integer → ℕ
+array_length count = natural count.number
+
+abbrev pub array_bytes : IntType → Integer → ℕ
+array_bytes element count = bits element / 8 * array_length count
 
 -- a function
 pub record Func : Type 0 where

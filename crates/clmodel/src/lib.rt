@@ -4,6 +4,7 @@
 pub mod access;
 pub mod action;
 pub mod barrier;
+pub mod declaration;
 pub mod determinacy;
 pub mod fault;
 pub mod next_action;

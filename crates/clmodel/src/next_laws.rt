@@ -2,7 +2,7 @@
 #![tactic(auto)]
 
 ghost use Rattle.std.specs.Prelude.{◌≡◌, ℕ, pos, map, List, [], ◌∷◌};
-ghost use Rattle.clmodel.specs.Examples.{sum_by_helper, three_turns, continues, three_barriers, nested, through_local, stores, waits};
+ghost use Rattle.clmodel.specs.Examples.{sum_by_helper, three_turns, continues, three_barriers, nested, through_local, kept_in_private, narrowed, unset_element, stored_before, loaded_behind, declared_again, in_local_array, stores, waits};
 ghost use Rattle.clmodel.specs.Next.{launch_of, next};
 ghost use Rattle.clmodel.specs.Law.{IsBounded};
 ghost use Rattle.clmodel.specs.Setup.{Setup};
@@ -40,6 +40,18 @@ pub fn local_memory()
     ensures sizes { (bytes : List ℕ → List ℕ) → (launch_of (through_local 9) bytes).local_sizes ≡ 0 ∷ 8 ∷ [] }
     ensures store { next (through_local 9) 0 [] ≡ action.Access (object.Local 1) (pos 0) (operation.Store Four 1) }
     ensures load { next (through_local 9) 0 (Done ∷ Done ∷ []) ≡ action.Access (object.Local 1) (pos 0) (operation.Load Four) }
+{}
+
+/// What items do with arrays in private and in local memory (OpenCL 1.2, sections 6.5.2 and 6.5.4).
+pub fn arrays()
+    ensures kept { next (kept_in_private 9) 0 [] ≡ stores 8 }
+    ensures narrowed { next (narrowed 9) 0 [] ≡ stores 44 }
+    ensures unset { next (unset_element 9) 0 [] ≡ action.Fault (cause.UnsetElement 32 (pos 1)) }
+    ensures value_first { next (stored_before 9) 0 [] ≡ action.Fault cause.DivideByZero }
+    ensures load_first { next (loaded_behind 9) 0 [] ≡ action.Fault (cause.PrivateBounds 32 (pos 2)) }
+    ensures unset_again { next (declared_again 9) 0 [] ≡ action.Fault (cause.UnsetElement 32 (pos 0)) }
+    ensures local { next (in_local_array 9) 0 [] ≡ action.Access (object.Local 2) (pos 1) (operation.Store Four 3) }
+    ensures sizes { (bytes : List ℕ → List ℕ) → (launch_of (in_local_array 9) bytes).local_sizes ≡ 0 ∷ 0 ∷ 8 ∷ [] }
 {}
 
 /// The first faults of some statements with barriers and pointers.

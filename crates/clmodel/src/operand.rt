@@ -2,7 +2,6 @@
 #![tactic(auto)]
 
 use crate::access::Object;
-use crate::tree::VariableType;
 use clnum::{IntType, Value};
 
 /// A pointer to elements of a type, so many elements behind an object's start.
@@ -25,21 +24,4 @@ impl Default for Operand {
     fn default() -> Self {
         Operand::Integral(Value::new(IntType::Int, 0))
     }
-}
-
-/// A variable in scope: its name, its declared type, and what it holds, if it is set.
-#[derive(Clone, Copy, Debug, PartialEq, Eq)]
-pub struct Binding {
-    pub name: u32,
-    pub kind: VariableType,
-    pub content: Option<Operand>,
-}
-
-/// What is assigned to, once its index or its pointer has been evaluated (C99 6.5.16).
-#[derive(Clone, Copy, Debug, PartialEq, Eq)]
-pub enum Destination {
-    /// The variable of a name
-    Named(u32),
-    /// The element that a pointer points to
-    Behind(Pointer),
 }

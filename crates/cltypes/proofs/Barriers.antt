@@ -11,6 +11,7 @@ use Rattle.clmodel.specs.declared.tree.VariableType.TheVariants.{Integer as Numb
 use Rattle.clmodel.specs.declared.type_fault.TypeFault.TheVariants as fault
 use Rattle.clmodel.specs.Tree as tree
 use Rattle.clmodel.specs.Tree.{Term, Terms, NoTerm, ThenTerm}
+use Rattle.clmodel.specs.declared.declaration.Declaration.TheVariants.{Single}
 use Rattle.clmodel.specs.Typing.Context.{Context, meaning, Bound, Barrier, fenced}
 use Rattle.clmodel.specs.Typing.Least.{least, first, node}
 use Rattle.clmodel.specs.Typing.Rules as rule
@@ -44,15 +45,15 @@ one_of_two false true l g f h = inr refl
 one_of_two false false l g f h = absurd (cc)
 
 -- the name of a fence, in the arguments of a barrier
-fence_meaning : (c : Context) (x : ℕ) (f : Fences) → fence_named x ≡ Some f → meaning (fenced c) x ≡ Bound (Number Uint)
+fence_meaning : (c : Context) (x : ℕ) (f : Fences) → fence_named x ≡ Some f → meaning (fenced c) x ≡ Bound (Single (Number Uint))
 fence_meaning c x f h =
     elim (one_of_two (nat_eq x 24) (nat_eq x 25) _ _ f h) [
-      | inl e ↦ subst (λ y. meaning (fenced c) y ≡ Bound (Number Uint)) (sym (same_number x 24 e)) refl
-      | inr e ↦ subst (λ y. meaning (fenced c) y ≡ Bound (Number Uint)) (sym (same_number x 25 e)) refl
+      | inl e ↦ subst (λ y. meaning (fenced c) y ≡ Bound (Single (Number Uint))) (sym (same_number x 24 e)) refl
+      | inr e ↦ subst (λ y. meaning (fenced c) y ≡ Bound (Single (Number Uint))) (sym (same_number x 25 e)) refl
     ]
 
 fence_typed : (c : Context) (e : Term) (f : Fences) → fence e ≡ Some f → Types (fenced c) e (Number Uint)
-fence_typed c (tree.Variable a x) f h = rule.variable (fence_meaning c x f h)
+fence_typed c (tree.Variable a x) f h = rule.variable (fence_meaning c x f h) refl
 fence_typed c e f h = absurd (cc)
 
 record AreFences (o p : Option Fences) : Type 0 where
@@ -67,7 +68,7 @@ both_are (Some l) None f h = absurd (cc)
 both_are None p f h = absurd (cc)
 
 flags_typed : (c : Context) (e : Term) (f : Fences) → fences_of e ≡ Some f → (t : IntType) × Types (fenced c) e (Number t)
-flags_typed c (tree.Variable a x) f h = (Uint, rule.variable (fence_meaning c x f h))
+flags_typed c (tree.Variable a x) f h = (Uint, rule.variable (fence_meaning c x f h) refl)
 flags_typed c (tree.Binary a (Arithmetic BitOr) d e) f h =
     let r = both_are (fence d) (fence e) f h in
     (_, rule.binary (fence_typed c d r.left r.is_left) (fence_typed c e r.right r.is_right) rule.arithmetic)

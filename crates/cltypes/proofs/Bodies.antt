@@ -1,12 +1,13 @@
 -- What the checker's steps say of the places of statements, one after the other.
 use Rattle.std.proofs.Common.{◌≡◌, ℕ, ◌+◌, ◌<◌, ◌⊎◌, inl, inr, List, [], ◌∷◌, length, map, take, drop, get_or, None, Some, Result, refl, sym, ap, ◌∙◌, subst}
+use Rattle.clmodel.specs.declared.declaration.Declaration.{Declaration}
 use Rattle.clmodel.specs.declared.tree.Statement.{Statement}
-use Rattle.clmodel.specs.declared.tree.VariableType.{VariableType}
 use Rattle.clmodel.specs.declared.type_fault.TypeFault.{TypeFault}
 use Rattle.clmodel.specs.declared.type_fault.TypeFault.TheVariants as fault
 use Rattle.clmodel.specs.Tree as tree
 use Rattle.clmodel.specs.Tree.{Place, Stmt, Stmts, NoStmt, ThenStmt, MaybeStmt, Without, With, then_stmts, stmt, row_stmts}
-use Rattle.clmodel.specs.Typing.Context.{Context, Scope, bind, enter, after, after_part, after_all}
+use Rattle.clmodel.specs.declared.declaration.Declaration.TheVariants.{Single}
+use Rattle.clmodel.specs.Typing.Context.{Context, Scope, array, bind, enter, after, after_part, after_all}
 use Rattle.clmodel.specs.Typing.Least.{first}
 use Rattle.clmodel.specs.Typing.Faults.{place_faults, faults, row_faults}
 use Rattle.cltypes_scope.specs.Names.{left, without_innermost}
@@ -27,16 +28,16 @@ place_fault_along c p q f h x = ap (λ z. first (place_faults c z)) h ∙ x
 
 -- a block leaves what was known before it
 
-left_around : (c : Context) (x : ℕ) (k : VariableType) (scopes : List Scope) → without_innermost (bind c x k) scopes ≡ without_innermost c scopes
+left_around : (c : Context) (x : ℕ) (k : Declaration) (scopes : List Scope) → without_innermost (bind c x k) scopes ≡ without_innermost c scopes
 left_around c x k [] = refl
 left_around c x k (scope ∷ scopes) = refl
 
 pub left_after : (c : Context) (s : Stmt) → left (after c s) ≡ left c
-left_after c (tree.Declare a k b x) = left_around c x k c.outer
-left_after c (tree.DeclareAs a k b x e) = left_around c x k c.outer
+left_after c (tree.Declare a k b x) = left_around c x (Single k) c.outer
+left_after c (tree.DeclareAs a k b x e) = left_around c x (Single k) c.outer
 left_after c (tree.Empty a) = refl
 left_after c (tree.Block a ss) = refl
-left_after c (tree.DeclareArray a is_local t b x d n) = refl
+left_after c (tree.DeclareArray a is_local t b x d n) = left_around c x (array is_local t) c.outer
 left_after c (tree.Assign a p op e) = refl
 left_after c (tree.Step a p is_increment) = refl
 left_after c (tree.CallOnly a x es) = refl

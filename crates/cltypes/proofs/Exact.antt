@@ -6,6 +6,7 @@ use Rattle.clmodel.specs.declared.setup.BuiltIn.{BuiltIn}
 use Rattle.clmodel.specs.declared.tree.PointerType.{PointerType}
 use Rattle.clmodel.specs.declared.tree.VariableType.{VariableType}
 use Rattle.clmodel.specs.declared.tree.VariableType.TheVariants.{Integer as Number, Pointer}
+use Rattle.clmodel.specs.declared.type_fault.TypeFault.{TypeFault}
 use Rattle.clmodel.specs.declared.type_fault.TypeFault.TheVariants as fault
 use Rattle.clmodel.specs.Tree as tree
 use Rattle.clmodel.specs.Tree.{Term, Terms, NoTerm, ThenTerm}
@@ -13,9 +14,9 @@ use Rattle.clmodel.specs.Typing.Context.{Context, meaning, Bound, BuiltInFunctio
 use Rattle.clmodel.specs.Typing.Least.{least, first, node}
 use Rattle.clmodel.specs.Typing.Rules as rule
 use Rattle.clmodel.specs.Typing.Rules.{Calls, Types, TypesAll, count}
-use Rattle.clmodel.specs.Typing.Faults.{start, integer_faults, pointer_faults, name_faults, front_faults, operand_faults, Spot, Inside, is_statement, has_value, wanted, name_kind, element_kind, unary_type, binary_type, choice_type, call_kind, kind_of, last_kind, arguments_faults, inside_call, call_faults, term_faults, terms_faults}
-use Rattle.cltypes.proofs.Splits.{none_split, places_split, places_joined, node_split, node_joined, one_place, some_fault}
-use Rattle.cltypes.proofs.Tables.{integer_sound, name_sound, front_sound, operands_sound, operands_complete}
+use Rattle.clmodel.specs.Typing.Faults.{start, integer_faults, pointer_faults, name_faults, front_faults, address_faults, operand_faults, Spot, Inside, is_statement, has_value, wanted, type_or_int, name_kind, number_or_int, front_kind, element_kind, unary_type, binary_type, choice_type, call_kind, kind_of, last_kind, arguments_faults, inside_call, call_faults, term_faults, terms_faults}
+use Rattle.cltypes.proofs.Splits.{none_split, none_joined, place_then, places_split, places_joined, node_split, node_joined, one_place, some_fault}
+use Rattle.cltypes.proofs.Tables.{integer_sound, name_sound, name_complete, front_sound, front_complete, address_sound, address_complete, operands_sound, operands_complete}
 use Rattle.cltypes.proofs.CallTables.{kinds_of, IsBuiltIn, a_built_in, a_barrier, a_helper, own_sound, calls_sound, IsCalled, calls_complete, own_complete, has_some, some_given}
 
 -- typed where there is no fault
@@ -23,16 +24,21 @@ use Rattle.cltypes.proofs.CallTables.{kinds_of, IsBuiltIn, a_built_in, a_barrier
 pub as_integer : (c : Context) (e : Term) (k : VariableType) (u : IntType) → k ≡ Number u → Types c e k → Types c e (Number u)
 as_integer c e k u h t = subst (λ j. Types c e j) h t
 
-element_sound : (c : Context) (a b x : ℕ) (e : Term) → Types c e (kind_of c e) → least (front_faults (meaning c x) b ++ integer_faults (kind_of c e) (start e)) ≡ None
-    → Types c (tree.Element a x e) (element_kind (name_kind (meaning c x))) × Types c (tree.ElementAddress a b x e) (name_kind (meaning c x))
-element_sound c a b x e t n =
-    let r = none_split (front_faults (meaning c x) b) (integer_faults (kind_of c e) (start e)) n in
-    let p = front_sound (meaning c x) b r.0 in
+element_sound : (c : Context) (a x : ℕ) (e : Term) → Types c e (kind_of c e) → least (front_faults (meaning c x) a ++ integer_faults (kind_of c e) (start e)) ≡ None
+    → Types c (tree.Element a x e) (front_kind (meaning c x))
+element_sound c a x e t n =
+    let r = none_split (front_faults (meaning c x) a) (integer_faults (kind_of c e) (start e)) n in
+    let p = front_sound (meaning c x) a r.0 in
     let u = integer_sound (kind_of c e) (start e) r.1 in
-    let i = as_integer c e (kind_of c e) u.0 u.1 t in (
-      subst (λ m. Types c (tree.Element a x e) (element_kind (name_kind m))) (sym p.1) (rule.element p.1 i),
-      subst (λ m. Types c (tree.ElementAddress a b x e) (name_kind m)) (sym p.1) (rule.address p.1 i),
-    )
+    subst (λ k. Types c (tree.Element a x e) k) (sym p.kind) (rule.element p.is p.typed (as_integer c e (kind_of c e) u.0 u.1 t))
+
+element_address_sound : (c : Context) (a b x : ℕ) (e : Term) → Types c e (kind_of c e) → least (address_faults (meaning c x) a b ++ integer_faults (kind_of c e) (start e)) ≡ None
+    → Types c (tree.ElementAddress a b x e) (name_kind (meaning c x))
+element_address_sound c a b x e t n =
+    let r = none_split (address_faults (meaning c x) a b) (integer_faults (kind_of c e) (start e)) n in
+    let p = address_sound (meaning c x) a b r.0 in
+    let u = integer_sound (kind_of c e) (start e) r.1 in
+    subst (λ k. Types c (tree.ElementAddress a b x e) k) (sym p.kind) (rule.address p.is p.typed (as_integer c e (kind_of c e) u.0 u.1 t))
 
 dereference_sound : (c : Context) (a b : ℕ) (e : Term) (k : VariableType) → Types c e k → least (pointer_faults k b) ≡ None → Types c (tree.Dereference a e) (element_kind k)
 dereference_sound c a b e (Pointer p) t n = rule.dereference t
@@ -77,13 +83,13 @@ call_sound c a x es all n =
 mutual
   pub term_sound : (c : Context) (e : Term) → first (term_faults c e) ≡ None → Types c e (kind_of c e)
   term_sound c (tree.Number a v) n = rule.number
-  term_sound c (tree.Variable a x) n = rule.variable (name_sound (meaning c x) a (one_place (name_faults (meaning c x) a) n))
+  term_sound c (tree.Variable a x) n = let r = name_sound (meaning c x) a (one_place (name_faults (meaning c x) a) n) in rule.variable r.is r.typed
   term_sound c (tree.Element a x e) n =
       let r = node_split (term_faults c e) (front_faults (meaning c x) a ++ integer_faults (kind_of c e) (start e)) n in
-      (element_sound c a a x e (term_sound c e r.0) r.1).0
+      element_sound c a x e (term_sound c e r.0) r.1
   term_sound c (tree.ElementAddress a b x e) n =
-      let r = node_split (term_faults c e) (front_faults (meaning c x) b ++ integer_faults (kind_of c e) (start e)) n in
-      (element_sound c a b x e (term_sound c e r.0) r.1).1
+      let r = node_split (term_faults c e) (address_faults (meaning c x) a b ++ integer_faults (kind_of c e) (start e)) n in
+      element_address_sound c a b x e (term_sound c e r.0) r.1
   term_sound c (tree.Dereference a e) n =
       let r = node_split (term_faults c e) (pointer_faults (kind_of c e) (start e)) n in
       dereference_sound c a (start e) e (kind_of c e) (term_sound c e r.0) r.1
@@ -125,9 +131,8 @@ pub record AreOf (c : Context) (es : Terms) (ks : List VariableType) : Type 0 wh
   pub faultless : first (terms_faults c es) ≡ None
   pub same : kinds_of c es ≡ ks
 
-indexed : (c : Context) (x b : ℕ) (e : Term) (p : PointerType) (u : IntType) → meaning c x ≡ Bound (Pointer p) → kind_of c e ≡ Number u
-    → least (front_faults (meaning c x) b ++ integer_faults (kind_of c e) (start e)) ≡ None
-indexed c x b e p u m h = rw (m, h) refl
+indexed : (c : Context) (e : Term) (u : IntType) (fs : List TypeFault) → least fs ≡ None → kind_of c e ≡ Number u → least (fs ++ integer_faults (kind_of c e) (start e)) ≡ None
+indexed c e u fs n h = none_joined fs (integer_faults (kind_of c e) (start e)) n (subst (λ k. least (integer_faults k (start e)) ≡ None) (sym h) refl)
 
 chosen : (c : Context) (e d f : Term) (s t u : IntType) → kind_of c e ≡ Number s → kind_of c d ≡ Number t → kind_of c f ≡ Number u
     → least (integer_faults (kind_of c e) (start e) ++ integer_faults (kind_of c d) (start d) ++ integer_faults (kind_of c f) (start f)) ≡ None
@@ -143,21 +148,23 @@ call_complete c spot a x f es ks r m h g p =
 mutual
   pub term_complete : (c : Context) (e : Term) (k : VariableType) → Types c e k → IsOf c e k
   term_complete c _ _ rule.number = record { faultless = refl; same = refl }
-  term_complete c _ _ (rule.variable {a = a} {x = x} m) = record {
-    faultless = subst (λ v. first (name_faults v a ∷ []) ≡ None) (sym m) refl;
-    same = ap name_kind m;
+  term_complete c _ _ (rule.variable {a = a} {x = x} {d = d} {k = k} m v) = record {
+    faultless = subst (λ z. first (name_faults z a ∷ []) ≡ None) (sym m) (place_then (name_faults (Bound d) a) [] (name_complete d k a v) refl);
+    same = ap name_kind m ∙ ap type_or_int v;
   }
-  term_complete c _ _ (rule.element {a = a} {x = x} {p = p} {u = u} {e = e} m h) =
+  term_complete c _ _ (rule.element {a = a} {x = x} {d = d} {t = t} {u = u} {e = e} m v h) =
       let r = term_complete c e (Number u) h in
+      let front = subst (λ z. least (front_faults z a) ≡ None) (sym m) (front_complete d t a v) in
       record {
-        faultless = node_joined (term_faults c e) (front_faults (meaning c x) a ++ integer_faults (kind_of c e) (start e)) r.faultless (indexed c x a e p u m r.same);
-        same = ap (λ v. element_kind (name_kind v)) m;
+        faultless = node_joined (term_faults c e) (front_faults (meaning c x) a ++ integer_faults (kind_of c e) (start e)) r.faultless (indexed c e u (front_faults (meaning c x) a) front r.same);
+        same = ap front_kind m ∙ ap number_or_int v;
       }
-  term_complete c _ _ (rule.address {a = a} {b = b} {x = x} {p = p} {u = u} {e = e} m h) =
+  term_complete c _ _ (rule.address {a = a} {b = b} {x = x} {d = d} {p = p} {u = u} {e = e} m v h) =
       let r = term_complete c e (Number u) h in
+      let address = subst (λ z. least (address_faults z a b) ≡ None) (sym m) (address_complete d p a b v) in
       record {
-        faultless = node_joined (term_faults c e) (front_faults (meaning c x) b ++ integer_faults (kind_of c e) (start e)) r.faultless (indexed c x b e p u m r.same);
-        same = ap name_kind m;
+        faultless = node_joined (term_faults c e) (address_faults (meaning c x) a b ++ integer_faults (kind_of c e) (start e)) r.faultless (indexed c e u (address_faults (meaning c x) a b) address r.same);
+        same = ap name_kind m ∙ ap type_or_int v;
       }
   term_complete c _ _ (rule.dereference {a = a} {p = p} {e = e} h) =
       let r = term_complete c e (Pointer p) h in

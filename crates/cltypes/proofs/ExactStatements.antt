@@ -1,20 +1,22 @@
 -- A statement is typed exactly where none of its places has a fault.
-use Rattle.std.proofs.Common.{◌≡◌, ℕ, true, not, [], ◌∷◌, ◌++◌, Option, None, Some, is_some, refl, sym, ap, subst}
+use Rattle.std.proofs.Common.{◌≡◌, ℕ, ◌≤◌, Bool, true, not, ◌&&◌, ◌||◌, nat_le, [], ◌∷◌, ◌++◌, Option, None, Some, is_some, refl, sym, ap, ◌∙◌, subst}
+use Rattle.clnum.specs.Integer.{Integer}
 use Rattle.clnum.specs.declared.int_type.IntType.{IntType}
 use Rattle.clnum.specs.declared.operators.BinaryOperator.{BinaryOperator}
 use Rattle.clmodel.specs.declared.tree.VariableType.{VariableType}
 use Rattle.clmodel.specs.declared.tree.VariableType.TheVariants.{Integer as Number, Pointer}
 use Rattle.clmodel.specs.declared.type_fault.TypeFault.TheVariants as fault
 use Rattle.clmodel.specs.Tree as tree
-use Rattle.clmodel.specs.Tree.{Term, Terms, Place, Stmt, Stmts, NoStmt, ThenStmt, MaybeStmt, Without, With, MaybeTerm, Always, While_}
-use Rattle.clmodel.specs.Typing.Context.{Context, meaning, is_free, bind, enter, turning, for_context, after_all}
+use Rattle.clmodel.specs.Tree.{Term, Terms, array_length, Place, Stmt, Stmts, NoStmt, ThenStmt, MaybeStmt, Without, With, MaybeTerm, Always, While_}
+use Rattle.clmodel.specs.declared.declaration.Declaration.TheVariants.{Single}
+use Rattle.clmodel.specs.Typing.Context.{Context, meaning, Bound, is_outermost, is_free, bind, enter, turning, for_context, after_all}
 use Rattle.clmodel.specs.Typing.Least.{least, first, node}
 use Rattle.clmodel.specs.Typing.Rules as rule
-use Rattle.clmodel.specs.Typing.Rules.{count, is_writable, Passes, Types, TypesPlace, Gives, IsCondition, IsTyped, IsTypedPart, AreTyped}
-use Rattle.clmodel.specs.Typing.Faults.{unless, start, place_start, integer_faults, pointer_faults, passing_faults, name_faults, front_faults, assigning_faults, WholeStatement, wanted, name_kind, element_kind, kind_of, arguments_faults, inside_call, barrier_faults, call_faults, term_faults, terms_faults, store_faults, target_faults, place_faults, place_kind, value_faults, void_faults, declared_faults, initial_faults, assignment_faults, condition_parts, condition_faults, return_faults, faults, part_faults, row_faults}
+use Rattle.clmodel.specs.Typing.Rules.{count, is_writable, is_stored, length_limit, Passes, Types, TypesPlace, Gives, IsCondition, IsTyped, IsTypedPart, AreTyped}
+use Rattle.clmodel.specs.Typing.Faults.{unless, start, place_start, integer_faults, pointer_faults, passing_faults, whole_faults, front_faults, assigning_faults, WholeStatement, wanted, name_kind, number_or_int, front_kind, element_kind, kind_of, arguments_faults, inside_call, barrier_faults, call_faults, term_faults, terms_faults, store_faults, stored_faults, target_faults, place_faults, place_kind, value_faults, void_faults, declared_faults, array_faults, initial_faults, assignment_faults, condition_parts, condition_faults, return_faults, faults, part_faults, row_faults}
 use Rattle.cltypes_scope.proofs.Least.{earlier_none}
-use Rattle.cltypes.proofs.Splits.{none_split, none_joined, places_split, places_joined, node_split, node_joined, one_place, place_then, some_fault, unless_none, unless_true}
-use Rattle.cltypes.proofs.Tables.{integer_sound, name_sound, front_sound, passing_sound, passing_complete, assigning_sound, assigning_complete, store_sound, store_complete}
+use Rattle.cltypes.proofs.Splits.{none_split, none_joined, places_split, places_joined, node_split, node_joined, one_place, place_then, some_fault, unless_none, unless_true, and_true, and_left, and_right, same_le, le_test, where_it, or_not}
+use Rattle.cltypes.proofs.Tables.{integer_sound, whole_sound, front_sound, front_complete, passing_sound, passing_complete, assigning_sound, assigning_complete, store_sound, store_complete}
 use Rattle.cltypes.proofs.CallTables.{a_built_in, a_barrier, a_helper, own_sound, calls_sound, calls_complete}
 use Rattle.cltypes.proofs.Barriers.{flags_sound, barrier_complete}
 use Rattle.cltypes.proofs.Exact.{as_integer, term_sound, terms_sound, term_complete, terms_complete, call_complete}
@@ -27,17 +29,17 @@ behind_sound c a b e (Pointer p) t n = rule.behind (store_sound p a n) t
 behind_sound c a b e (Number u) t n = absurd (some_fault (fault.TypeMismatch b) [] n)
 
 place_sound : (c : Context) (p : Place) → first (place_faults c p) ≡ None → TypesPlace c p (place_kind c p)
-place_sound c (tree.Whole a x) n = rule.whole (name_sound (meaning c x) a (one_place (name_faults (meaning c x) a) n))
+place_sound c (tree.Whole a x) n = rule.whole (whole_sound (meaning c x) a (one_place (whole_faults (meaning c x) a) n))
 place_sound c (tree.Part a x e) n =
     let m = meaning c x in
     let r = node_split (term_faults c e) (target_faults m a ++ integer_faults (kind_of c e) (start e)) n in
     let s = none_split (target_faults m a) (integer_faults (kind_of c e) (start e)) r.1 in
-    let t = none_split (front_faults m a) (store_faults (name_kind m) a) s.0 in
+    let t = none_split (front_faults m a) (stored_faults m a) s.0 in
     let p = front_sound m a t.0 in
-    let w = store_sound p.0 a (subst (λ v. least (store_faults (name_kind v) a) ≡ None) p.1 t.1) in
+    let w = unless_none (is_stored p.declared) (fault.NotAssignable a) (subst (λ v. least (stored_faults v a) ≡ None) p.is t.1) in
     let u = integer_sound (kind_of c e) (start e) s.1 in
-    subst (λ v. TypesPlace c (tree.Part a x e) (element_kind (name_kind v))) (sym p.1)
-    (rule.part p.1 w (as_integer c e (kind_of c e) u.0 u.1 (term_sound c e r.0)))
+    subst (λ k. TypesPlace c (tree.Part a x e) k) (sym p.kind)
+    (rule.part p.is p.typed w (as_integer c e (kind_of c e) u.0 u.1 (term_sound c e r.0)))
 place_sound c (tree.Behind a e) n =
     let r = node_split (term_faults c e) (pointer_faults (kind_of c e) (start e) ++ store_faults (kind_of c e) a) n in
     behind_sound c a (start e) e (kind_of c e) (term_sound c e r.0) r.1
@@ -75,6 +77,31 @@ condition_sound : (c : Context) (e : MaybeTerm) → first (condition_parts c e) 
 condition_sound c Always n o = rule.always
 condition_sound c (While_ e) n o = rule.condition (integer_of c e n o).1
 
+-- the declaration of an array
+
+array_sound : (c : Context) (a : ℕ) (is_local : Bool) (t : IntType) (b x d : ℕ) (m : Integer) → least (array_faults c is_local b x d m) ≡ None
+    → IsTyped c (tree.DeclareArray a is_local t b x d m)
+array_sound c a is_local t b x d m n =
+    let n1 = nat_le 1 (array_length m) in
+    let n2 = nat_le (array_length m) length_limit in
+    let stands = not is_local || is_outermost c in
+    let r = none_split (declared_faults c b x ++ unless stands (fault.WrongSpace b)) (unless (n1 && n2) (fault.TooLarge d)) n in
+    let s = none_split (declared_faults c b x) (unless stands (fault.WrongSpace b)) r.0 in
+    let w = unless_none (n1 && n2) (fault.TooLarge d) r.1 in
+    rule.declare_array (unless_none (is_free c x) (fault.Redeclared b) s.0) (where_it is_local (is_outermost c) (unless_none stands (fault.WrongSpace b) s.1))
+    (same_le 1 (array_length m) (and_left n1 n2 w)) (same_le (array_length m) length_limit (and_right n1 n2 w))
+
+array_complete : (c : Context) (is_local : Bool) (b x d : ℕ) (m : Integer) → is_free c x ≡ true → (is_local ≡ true → is_outermost c ≡ true) → 1 ≤ array_length m
+    → array_length m ≤ length_limit → least (array_faults c is_local b x d m) ≡ None
+array_complete c is_local b x d m f o l u =
+    let n1 = nat_le 1 (array_length m) in
+    let n2 = nat_le (array_length m) length_limit in
+    let stands = not is_local || is_outermost c in
+    none_joined (declared_faults c b x ++ unless stands (fault.WrongSpace b)) (unless (n1 && n2) (fault.TooLarge d))
+    (none_joined (declared_faults c b x) (unless stands (fault.WrongSpace b)) (unless_true (is_free c x) (fault.Redeclared b) f)
+    (unless_true stands (fault.WrongSpace b) (or_not is_local (is_outermost c) o)))
+    (unless_true (n1 && n2) (fault.TooLarge d) (and_true n1 n2 (le_test 1 (array_length m) l) (le_test (array_length m) length_limit u)))
+
 no_type : (o : Option IntType) → not (is_some o) ≡ true → o ≡ None
 no_type None h = refl
 no_type (Some t) h = absurd (cc)
@@ -85,12 +112,12 @@ mutual
   sound c (tree.Block a ss) n = rule.block (row_sound (enter c) ss n)
   sound c (tree.Declare a k b x) n = rule.declare (unless_none (is_free c x) (fault.Redeclared b) (one_place (declared_faults c b x) n))
   sound c (tree.DeclareAs a k b x e) n =
-      let d = bind c x k in
+      let d = bind c x (Single k) in
       let r = earlier_none (least (declared_faults c b x)) (first (initial_faults d k e)) n in
       let s = node_split (value_faults d e) (void_faults d e ++ passing_faults k (kind_of d e) (start e)) r.1 in
       let t = none_split (void_faults d e) (passing_faults k (kind_of d e) (start e)) s.1 in
       rule.declare_as (unless_none (is_free c x) (fault.Redeclared b) r.0) (value_sound d e s.0 t.0) (passing_sound k (kind_of d e) (start e) t.1)
-  sound c (tree.DeclareArray a is_local t b x d m) n = absurd (some_fault (fault.TypeMismatch a) [] (one_place (fault.TypeMismatch a ∷ []) n))
+  sound c (tree.DeclareArray a is_local t b x d m) n = array_sound c a is_local t b x d m (one_place (array_faults c is_local b x d m) n)
   sound c (tree.Assign a p op e) n =
       let r = node_split (place_faults c p ++ value_faults c e) (assignment_faults c p op e) n in
       let s = places_split (place_faults c p) (value_faults c e) r.0 in
@@ -155,17 +182,18 @@ pub record IsPlaceOf (c : Context) (p : Place) (k : VariableType) : Type 0 where
 
 place_complete : (c : Context) (p : Place) (k : VariableType) → TypesPlace c p k → IsPlaceOf c p k
 place_complete c _ _ (rule.whole {a = a} {x = x} m) = record {
-  faultless = subst (λ v. first (name_faults v a ∷ []) ≡ None) (sym m) refl;
+  faultless = subst (λ v. first (whole_faults v a ∷ []) ≡ None) (sym m) refl;
   same = ap name_kind m;
 }
-place_complete c _ _ (rule.part {a = a} {x = x} {p = p} {u = u} {e = e} m w h) =
+place_complete c _ _ (rule.part {a = a} {x = x} {d = d} {t = t} {u = u} {e = e} m v w h) =
     let r = term_complete c e (Number u) h in
     record {
       faultless = node_joined (term_faults c e) (target_faults (meaning c x) a ++ integer_faults (kind_of c e) (start e)) r.faultless
           (none_joined (target_faults (meaning c x) a) (integer_faults (kind_of c e) (start e))
-          (subst (λ v. least (target_faults v a) ≡ None) (sym m) (store_complete p a w))
+          (subst (λ z. least (target_faults z a) ≡ None) (sym m)
+          (none_joined (front_faults (Bound d) a) (stored_faults (Bound d) a) (front_complete d t a v) (unless_true (is_stored d) (fault.NotAssignable a) w)))
           (subst (λ v. least (integer_faults v (start e)) ≡ None) (sym r.same) refl));
-      same = ap (λ v. element_kind (name_kind v)) m;
+      same = ap front_kind m ∙ ap number_or_int v;
     }
 place_complete c _ _ (rule.behind {a = a} {p = p} {e = e} w h) =
     let r = term_complete c e (Pointer p) h in
@@ -200,12 +228,14 @@ mutual
   complete _ _ (rule.block {c = c} {ss = ss} h) = row_complete (enter c) ss h
   complete _ _ (rule.declare {c = c} {b = b} {x = x} f) = place_then (declared_faults c b x) [] (unless_true (is_free c x) (fault.Redeclared b) f) refl
   complete _ _ (rule.declare_as {c = c} {b = b} {x = x} {k = k} {j = j} {e = e} f t p) =
-      let d = bind c x k in
+      let d = bind c x (Single k) in
       let r = value_complete d e j t in
       place_then (declared_faults c b x) (initial_faults d k e) (unless_true (is_free c x) (fault.Redeclared b) f)
       (node_joined (value_faults d e) (void_faults d e ++ passing_faults k (kind_of d e) (start e)) r.faultless
       (none_joined (void_faults d e) (passing_faults k (kind_of d e) (start e)) r.given
       (subst (λ v. least (passing_faults k v (start e)) ≡ None) (sym r.same) (passing_complete k j (start e) p))))
+  complete _ _ (rule.declare_array {c = c} {b = b} {x = x} {d = d} {is_local = is_local} {n = n} f o l u) =
+      place_then (array_faults c is_local b x d n) [] (array_complete c is_local b x d n f o l u) refl
   complete _ _ (rule.assign {c = c} {a = a} {p = p} {e = e} {k = k} {j = j} t u s) =
       let q = place_complete c p k t in
       let r = value_complete c e j u in

@@ -9,6 +9,7 @@ use Rattle.clmodel.specs.declared.tree.VariableType.TheVariants as kind
 use Rattle.clmodel.specs.declared.type_fault.TypeFault.{TypeFault}
 use Rattle.clmodel.specs.declared.type_fault.TypeFault.TheVariants as fault
 use Rattle.clmodel.specs.Tree.{Stmts, Func, Funcs}
+use Rattle.clmodel.specs.declared.declaration.Declaration.TheVariants.{Single}
 use Rattle.clmodel.specs.Typing.Context.{Context, Scope, Signature, signature_of, is_reserved, is_free, bind, after_all}
 use Rattle.clmodel.specs.Typing.Least.{Places, least, earlier, first}
 use Rattle.clmodel.specs.Typing.Faults.{unless, row_faults}
@@ -20,19 +21,19 @@ use Rattle.cltypes.proofs.Bodies.{left_all}
 
 -- the parameters, one after the other
 
-with_one : (c : Context) (ps : List Parameter) (p : Parameter) → with_params c (ps ++ p ∷ []) ≡ bind (with_params c ps) p.name p.kind
+with_one : (c : Context) (ps : List Parameter) (p : Parameter) → with_params c (ps ++ p ∷ []) ≡ bind (with_params c ps) p.name (Single p.kind)
 with_one c [] p = refl
-with_one c (q ∷ ps) p = with_one (bind c q.name q.kind) ps p
+with_one c (q ∷ ps) p = with_one (bind c q.name (Single q.kind)) ps p
 
 params_one : (c : Context) (ps : List Parameter) (p : Parameter)
     → params_faults c (ps ++ p ∷ []) ≡ params_faults c ps ++ unless (is_free (with_params c ps) p.name) (fault.Redeclared p.name_at) ∷ []
 params_one c [] p = refl
-params_one c (q ∷ ps) p = ap (λ z. unless (is_free c q.name) (fault.Redeclared q.name_at) ∷ z) (params_one (bind c q.name q.kind) ps p)
+params_one c (q ∷ ps) p = ap (λ z. unless (is_free c q.name) (fault.Redeclared q.name_at) ∷ z) (params_one (bind c q.name (Single q.kind)) ps p)
 
 params_rest : (c : Context) (ps : List Parameter) (i : ℕ) → params_faults c ps ≡ params_faults c (take i ps) ++ params_faults (with_params c (take i ps)) (drop i ps)
 params_rest c ps zero = refl
 params_rest c [] (suc i) = refl
-params_rest c (p ∷ ps) (suc i) = ap (λ z. unless (is_free c p.name) (fault.Redeclared p.name_at) ∷ z) (params_rest (bind c p.name p.kind) ps i)
+params_rest c (p ∷ ps) (suc i) = ap (λ z. unless (is_free c p.name) (fault.Redeclared p.name_at) ∷ z) (params_rest (bind c p.name (Single p.kind)) ps i)
 
 -- what stands for a parameter past the end
 abbrev pub no_parameter : Parameter
@@ -73,9 +74,9 @@ parameter_free c s ps i p h g w n e =
     (first_one own None (unless_true (is_free (with_params c (take i ps)) p.name) (fault.Redeclared p.name_at) (ap (λ z. is_free z p.name) (sym w) ∙ e)))
 
 pub parameter_bound : (c s t : Context) (ps : List Parameter) (i : ℕ) (p : Parameter) → i < length ps → p ≡ get_or ps i no_parameter → s ≡ with_params c (take i ps)
-    → t ≡ bind s p.name p.kind → t ≡ with_params c (take (i + 1) ps)
+    → t ≡ bind s p.name (Single p.kind) → t ≡ with_params c (take (i + 1) ps)
 parameter_bound c s t ps i p h g w b =
-    b ∙ ap (λ z. bind z p.name p.kind) w ∙ sym (with_one c (take i ps) p) ∙ ap (with_params c) (sym (next_parameter ps i p h g))
+    b ∙ ap (λ z. bind z p.name (Single p.kind)) w ∙ sym (with_one c (take i ps) p) ∙ ap (with_params c) (sym (next_parameter ps i p h g))
 
 -- what a function's text leaves as it is
 
@@ -88,7 +89,7 @@ fixed_without c (scope ∷ scopes) = refl
 
 params_fixed : (c : Context) (ps : List Parameter) → fixed (with_params c ps) ≡ fixed c
 params_fixed c [] = refl
-params_fixed c (p ∷ ps) = params_fixed (bind c p.name p.kind) ps
+params_fixed c (p ∷ ps) = params_fixed (bind c p.name (Single p.kind)) ps
 
 body_fixed : (c : Context) (ss : Stmts) → fixed (after_all c ss) ≡ fixed c
 body_fixed c ss = let d = after_all c ss in sym (fixed_without d d.outer) ∙ ap fixed (left_all c ss) ∙ fixed_without c c.outer

@@ -1,81 +1,74 @@
 -- A program is typed exactly where none of its places has a fault.
 use Rattle.std.proofs.Common.{◌≡◌, ℕ, ◌≤◌, Bool, true, false, not, ◌||◌, nat_le, List, [], ◌∷◌, ◌++◌, Option, None, Some, is_some, refl, arith}
-use Rattle.std.proofs.lemmas.Bool.Decides.{nat_tests}
 use Rattle.clmodel.specs.declared.tree.Parameter.{Parameter}
 use Rattle.clmodel.specs.declared.type_fault.TypeFault.{TypeFault}
 use Rattle.clmodel.specs.declared.type_fault.TypeFault.TheVariants as fault
 use Rattle.clmodel.specs.Tree.{Func, Funcs, NoFunc, ThenFunc, Program}
+use Rattle.clmodel.specs.declared.declaration.Declaration.TheVariants.{Single}
 use Rattle.clmodel.specs.Typing.Context.{Context, is_free, bind}
 use Rattle.clmodel.specs.Typing.Least.{least, first}
 use Rattle.clmodel.specs.Typing.Faults.{unless, declared_faults, row_faults}
-use Rattle.clmodel.specs.Typing.Sizes.{Size, loop_limit, node_limit, row_returns}
+use Rattle.clmodel.specs.Typing.Sizes.{Size, loop_limit, byte_limit, node_limit, row_returns}
 use Rattle.clmodel.specs.Typing.Functions.{names, begin, with_params, AreParams, is_new, size_of, IsTypedFunction, AreTypedFunctions, params_faults, heading_faults, end_faults, function_faults, functions_faults, program_faults}
 use Rattle.clmodel.specs.Typing.{IsTypedProgram, IsTypeFault}
 use Rattle.cltypes.specs.Answers.{IsExactlyTyped}
 use Rattle.cltypes_scope.proofs.Least.{earlier_none, first_none, first_some, one_least}
-use Rattle.cltypes.proofs.Splits.{places_split, places_joined, one_place, place_then, unless_none, unless_true}
+use Rattle.cltypes.proofs.Splits.{places_split, places_joined, one_place, place_then, unless_none, unless_true, same_le, le_test, where_it, or_not}
 use Rattle.cltypes.proofs.ExactStatements.{row_sound, row_complete}
 
 params_sound : (c : Context) (ps : List Parameter) → first (params_faults c ps) ≡ None → AreParams c ps
 params_sound c [] n = tt
 params_sound c (p ∷ ps) n =
-    let r = earlier_none (least (declared_faults c p.name_at p.name)) (first (params_faults (bind c p.name p.kind) ps)) n in
-    (unless_none (is_free c p.name) (fault.Redeclared p.name_at) r.0, params_sound (bind c p.name p.kind) ps r.1)
+    let r = earlier_none (least (declared_faults c p.name_at p.name)) (first (params_faults (bind c p.name (Single p.kind)) ps)) n in
+    (unless_none (is_free c p.name) (fault.Redeclared p.name_at) r.0, params_sound (bind c p.name (Single p.kind)) ps r.1)
 
 params_complete : (c : Context) (ps : List Parameter) → AreParams c ps → first (params_faults c ps) ≡ None
 params_complete c [] h = refl
 params_complete c (p ∷ ps) h =
-    place_then (declared_faults c p.name_at p.name) (params_faults (bind c p.name p.kind) ps)
-    (unless_true (is_free c p.name) (fault.Redeclared p.name_at) h.0) (params_complete (bind c p.name p.kind) ps h.1)
-
-same_le : (m n : ℕ) → nat_le m n ≡ true → m ≤ n
-same_le m n e = grind (arith, nat_tests)
-
-le_test : (m n : ℕ) → m ≤ n → nat_le m n ≡ true
-le_test m n e = grind (arith, nat_tests)
-
--- what holds where another does
-where_it : (b d : Bool) → (not b || d) ≡ true → b ≡ true → d ≡ true
-where_it true d h e = h
-where_it false d h e = absurd (cc)
-
-or_not : (b d : Bool) → (b ≡ true → d ≡ true) → (not b || d) ≡ true
-or_not true d h = h refl
-or_not false d h = refl
+    place_then (declared_faults c p.name_at p.name) (params_faults (bind c p.name (Single p.kind)) ps)
+    (unless_true (is_free c p.name) (fault.Redeclared p.name_at) h.0) (params_complete (bind c p.name (Single p.kind)) ps h.1)
 
 -- the end of a function's body, of this size
 record HasEnd (f : Func) (s : Size) : Type 0 where
   returns : is_some f.result ≡ true → row_returns f.body ≡ true
   loops : f.is_kernel ≡ true → s.loops ≤ loop_limit
+  bytes : f.is_kernel ≡ true → s.bytes ≤ byte_limit
   nodes : f.is_kernel ≡ true → s.nodes ≤ node_limit
 
 end_sound : (f : Func) (s : Size) → first (end_faults f s) ≡ None → HasEnd f s
 end_sound f s n =
     let a = not (is_some f.result) || row_returns f.body in
     let b = not f.is_kernel || nat_le s.loops loop_limit in
+    let e = not f.is_kernel || nat_le s.bytes byte_limit in
     let d = not f.is_kernel || nat_le s.nodes node_limit in
     let p = unless a (fault.MissingReturn f.name_at) in
     let q = unless b (fault.TooManyLoops f.name_at) in
+    let v = unless e (fault.TooLarge f.name_at) in
     let r = unless d (fault.TooLarge f.name_at) in
-    let t = earlier_none (least p) (first (q ∷ r ∷ [])) n in
-    let u = earlier_none (least q) (first (r ∷ [])) t.1 in
+    let t = earlier_none (least p) (first (q ∷ v ∷ r ∷ [])) n in
+    let u = earlier_none (least q) (first (v ∷ r ∷ [])) t.1 in
+    let w = earlier_none (least v) (first (r ∷ [])) u.1 in
     record {
       returns = where_it (is_some f.result) (row_returns f.body) (unless_none a (fault.MissingReturn f.name_at) t.0);
       loops = λ k. same_le s.loops loop_limit (where_it f.is_kernel (nat_le s.loops loop_limit) (unless_none b (fault.TooManyLoops f.name_at) u.0) k);
-      nodes = λ k. same_le s.nodes node_limit (where_it f.is_kernel (nat_le s.nodes node_limit) (unless_none d (fault.TooLarge f.name_at) (one_place r u.1)) k);
+      bytes = λ k. same_le s.bytes byte_limit (where_it f.is_kernel (nat_le s.bytes byte_limit) (unless_none e (fault.TooLarge f.name_at) w.0) k);
+      nodes = λ k. same_le s.nodes node_limit (where_it f.is_kernel (nat_le s.nodes node_limit) (unless_none d (fault.TooLarge f.name_at) (one_place r w.1)) k);
     }
 
 end_complete : (f : Func) (s : Size) → HasEnd f s → first (end_faults f s) ≡ None
 end_complete f s h =
     let a = not (is_some f.result) || row_returns f.body in
     let b = not f.is_kernel || nat_le s.loops loop_limit in
+    let e = not f.is_kernel || nat_le s.bytes byte_limit in
     let d = not f.is_kernel || nat_le s.nodes node_limit in
     let p = unless a (fault.MissingReturn f.name_at) in
     let q = unless b (fault.TooManyLoops f.name_at) in
+    let v = unless e (fault.TooLarge f.name_at) in
     let r = unless d (fault.TooLarge f.name_at) in
-    place_then p (q ∷ r ∷ []) (unless_true a (fault.MissingReturn f.name_at) (or_not (is_some f.result) (row_returns f.body) h.returns))
-    (place_then q (r ∷ []) (unless_true b (fault.TooManyLoops f.name_at) (or_not f.is_kernel (nat_le s.loops loop_limit) (λ k. le_test s.loops loop_limit (h.loops k))))
-    (place_then r [] (unless_true d (fault.TooLarge f.name_at) (or_not f.is_kernel (nat_le s.nodes node_limit) (λ k. le_test s.nodes node_limit (h.nodes k)))) refl))
+    place_then p (q ∷ v ∷ r ∷ []) (unless_true a (fault.MissingReturn f.name_at) (or_not (is_some f.result) (row_returns f.body) h.returns))
+    (place_then q (v ∷ r ∷ []) (unless_true b (fault.TooManyLoops f.name_at) (or_not f.is_kernel (nat_le s.loops loop_limit) (λ k. le_test s.loops loop_limit (h.loops k))))
+    (place_then v (r ∷ []) (unless_true e (fault.TooLarge f.name_at) (or_not f.is_kernel (nat_le s.bytes byte_limit) (λ k. le_test s.bytes byte_limit (h.bytes k))))
+    (place_then r [] (unless_true d (fault.TooLarge f.name_at) (or_not f.is_kernel (nat_le s.nodes node_limit) (λ k. le_test s.nodes node_limit (h.nodes k)))) refl)))
 
 function_sound : (all : List ℕ) (fs : Funcs) (f : Func) → first (function_faults all fs f) ≡ None → IsTypedFunction all fs f
 function_sound all fs f n =
@@ -92,6 +85,7 @@ function_sound all fs f n =
       body = row_sound (with_params (begin all fs f) f.parameters) f.body u.1;
       returns = e.returns;
       loops = e.loops;
+      bytes = e.bytes;
       nodes = e.nodes;
     }
 
@@ -103,7 +97,7 @@ function_complete all fs f h =
     place_then (heading_faults fs f) (params ++ body ++ end) (unless_true (is_new fs f.name) (fault.Redeclared f.name_at) h.name)
     (places_joined (params ++ body) end
     (places_joined params body (params_complete (begin all fs f) f.parameters h.parameters) (row_complete (with_params (begin all fs f) f.parameters) f.body h.body))
-    (end_complete f (size_of fs f) (record { returns = h.returns; loops = h.loops; nodes = h.nodes })))
+    (end_complete f (size_of fs f) (record { returns = h.returns; loops = h.loops; bytes = h.bytes; nodes = h.nodes })))
 
 functions_sound : (all : List ℕ) (fs : Funcs) → first (functions_faults all fs) ≡ None → AreTypedFunctions all fs
 functions_sound all NoFunc n = tt

@@ -1,5 +1,6 @@
 -- No fault in the parts of a list.
-use Rattle.std.proofs.Common.{◌≡◌, Bool, true, false, not, ◌||◌, ◌&&◌, List, [], ◌∷◌, ◌++◌, None, refl, sym, ap, ◌∙◌}
+use Rattle.std.proofs.Common.{◌≡◌, ℕ, ◌≤◌, nat_le, Bool, true, false, not, ◌||◌, ◌&&◌, List, [], ◌∷◌, ◌++◌, None, refl, sym, ap, ◌∙◌, arith}
+use Rattle.std.proofs.lemmas.Bool.Decides.{nat_tests}
 use Rattle.clmodel.specs.declared.type_fault.TypeFault.{TypeFault}
 use Rattle.clmodel.specs.Typing.Least.{Places, head, lesser, least, earlier, first, node}
 use Rattle.clmodel.specs.Typing.Faults.{unless}
@@ -73,3 +74,18 @@ pub implies : (a b : Bool) → (b ≡ true → a ≡ true) → (a || not b) ≡ 
 implies true b h = refl
 implies false true h = h refl
 implies false false h = refl
+
+pub same_le : (m n : ℕ) → nat_le m n ≡ true → m ≤ n
+same_le m n e = grind (arith, nat_tests)
+
+pub le_test : (m n : ℕ) → m ≤ n → nat_le m n ≡ true
+le_test m n e = grind (arith, nat_tests)
+
+-- what holds where another does
+pub where_it : (b d : Bool) → (not b || d) ≡ true → b ≡ true → d ≡ true
+where_it true d h e = h
+where_it false d h e = absurd (cc)
+
+pub or_not : (b d : Bool) → (b ≡ true → d ≡ true) → (not b || d) ≡ true
+or_not true d h = h refl
+or_not false d h = refl

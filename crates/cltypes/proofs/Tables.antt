@@ -1,10 +1,11 @@
 -- A node's own faults against the rule of the node, by the types of its parts.
-use Rattle.std.proofs.Common.{◌≡◌, ℕ, true, not, ◌||◌, [], ◌∷◌, None, refl, sym, ap, ◌∙◌, subst}
+use Rattle.std.proofs.Common.{◌≡◌, ℕ, true, not, ◌||◌, [], ◌∷◌, None, Some, is_some, refl, sym, ap, ◌∙◌, subst}
 use Rattle.clnum.specs.Builtins.{is_same}
 use Rattle.clnum.specs.declared.int_type.IntType.{IntType}
 use Rattle.clnum.specs.declared.int_type.IntType.TheVariants.{Char, Uchar, Short, Ushort, Int, Uint, Long, Ulong}
 use Rattle.clnum.specs.declared.operators.BinaryOperator.{BinaryOperator}
 use Rattle.clnum.specs.declared.operators.BinaryOperator.TheVariants.{Add, Subtract}
+use Rattle.clmodel.specs.declared.declaration.Declaration.{Declaration}
 use Rattle.clmodel.specs.declared.tree.AddressSpace.{AddressSpace}
 use Rattle.clmodel.specs.declared.tree.AddressSpace.TheVariants.{Global, Local, Constant}
 use Rattle.clmodel.specs.declared.tree.InfixOperator.{InfixOperator}
@@ -13,11 +14,12 @@ use Rattle.clmodel.specs.declared.tree.PointerType.{PointerType}
 use Rattle.clmodel.specs.declared.tree.VariableType.{VariableType}
 use Rattle.clmodel.specs.declared.tree.VariableType.TheVariants.{Integer as Number, Pointer}
 use Rattle.clmodel.specs.declared.type_fault.TypeFault.TheVariants as fault
-use Rattle.clmodel.specs.Typing.Context.{Meaning, Bound, Callable, Current, BuiltInFunction, Barrier, Unknown}
+use Rattle.clmodel.specs.declared.declaration.Declaration.TheVariants.{Single, LocalArray, PrivateArray}
+use Rattle.clmodel.specs.Typing.Context.{value_type, element_type, Meaning, Bound, Callable, Current, BuiltInFunction, Barrier, Unknown}
 use Rattle.clmodel.specs.Typing.Least.{least}
 use Rattle.clmodel.specs.Typing.Rules as rule
 use Rattle.clmodel.specs.Typing.Rules.{is_writable, Passes, Operates}
-use Rattle.clmodel.specs.Typing.Faults.{unless, integer_faults, pointer_faults, is_same_space, passing_faults, name_faults, front_faults, moves, takes_pointer, is_sum, operand_faults, assigning_faults, name_kind, binary_type, store_faults}
+use Rattle.clmodel.specs.Typing.Faults.{unless, integer_faults, pointer_faults, is_same_space, passing_faults, name_faults, front_faults, address_faults, whole_faults, moves, takes_pointer, is_sum, operand_faults, assigning_faults, name_kind, front_kind, binary_type, store_faults}
 use Rattle.cltypes.proofs.Splits.{none_split, some_fault, unless_none, unless_true, three_none, three_true, implied, implies}
 
 -- types
@@ -70,22 +72,82 @@ pub pointer_sound : (k : VariableType) (a : ℕ) → least (pointer_faults k a) 
 pointer_sound (Pointer p) a e = (p, refl)
 pointer_sound (Number t) a e = absurd (some_fault (fault.TypeMismatch a) [] e)
 
-pub name_sound : (m : Meaning) (a : ℕ) → least (name_faults m a) ≡ None → m ≡ Bound (name_kind m)
-name_sound (Bound k) a e = refl
+-- a name that has a value
+pub record IsValue (m : Meaning) : Type 0 where
+  pub declared : Declaration
+  pub is : m ≡ Bound declared
+  pub typed : value_type declared ≡ Some (name_kind m)
+
+pub name_sound : (m : Meaning) (a : ℕ) → least (name_faults m a) ≡ None → IsValue m
+name_sound (Bound (Single k)) a e = record { declared = Single k; is = refl; typed = refl }
+name_sound (Bound (LocalArray t)) a e = record { declared = LocalArray t; is = refl; typed = refl }
+name_sound (Bound (PrivateArray t)) a e = absurd (some_fault (fault.WrongSpace a) [] e)
 name_sound (Callable s) a e = absurd (some_fault (fault.TypeMismatch a) [] e)
 name_sound (Current s) a e = absurd (some_fault (fault.TypeMismatch a) [] e)
 name_sound (BuiltInFunction f) a e = absurd (some_fault (fault.TypeMismatch a) [] e)
 name_sound Barrier a e = absurd (some_fault (fault.TypeMismatch a) [] e)
 name_sound Unknown a e = absurd (some_fault (fault.UnknownName a) [] e)
 
-pub front_sound : (m : Meaning) (a : ℕ) → least (front_faults m a) ≡ None → (p : PointerType) × (m ≡ Bound (Pointer p))
-front_sound (Bound (Pointer p)) a e = (p, refl)
-front_sound (Bound (Number t)) a e = absurd (some_fault (fault.TypeMismatch a) [] e)
+pub name_complete : (d : Declaration) (k : VariableType) (a : ℕ) → value_type d ≡ Some k → least (name_faults (Bound d) a) ≡ None
+name_complete d k a h = unless_true (is_some (value_type d)) (fault.WrongSpace a) (ap is_some h)
+
+-- a name that has elements
+pub record IsFront (m : Meaning) : Type 0 where
+  pub declared : Declaration
+  pub element : IntType
+  pub is : m ≡ Bound declared
+  pub typed : element_type declared ≡ Some element
+  pub kind : front_kind m ≡ Number element
+
+pub front_sound : (m : Meaning) (a : ℕ) → least (front_faults m a) ≡ None → IsFront m
+front_sound (Bound (Single (Pointer p))) a e = record { declared = Single (Pointer p); element = p.element; is = refl; typed = refl; kind = refl }
+front_sound (Bound (Single (Number t))) a e = absurd (some_fault (fault.TypeMismatch a) [] e)
+front_sound (Bound (LocalArray t)) a e = record { declared = LocalArray t; element = t; is = refl; typed = refl; kind = refl }
+front_sound (Bound (PrivateArray t)) a e = record { declared = PrivateArray t; element = t; is = refl; typed = refl; kind = refl }
 front_sound (Callable s) a e = absurd (some_fault (fault.TypeMismatch a) [] e)
 front_sound (Current s) a e = absurd (some_fault (fault.TypeMismatch a) [] e)
 front_sound (BuiltInFunction f) a e = absurd (some_fault (fault.TypeMismatch a) [] e)
 front_sound Barrier a e = absurd (some_fault (fault.TypeMismatch a) [] e)
 front_sound Unknown a e = absurd (some_fault (fault.UnknownName a) [] e)
+
+pub front_complete : (d : Declaration) (t : IntType) (a : ℕ) → element_type d ≡ Some t → least (front_faults (Bound d) a) ≡ None
+front_complete d t a h = unless_true (is_some (element_type d)) (fault.TypeMismatch a) (ap is_some h)
+
+-- a name whose elements have addresses
+pub record IsAddressed (m : Meaning) : Type 0 where
+  pub declared : Declaration
+  pub pointer : PointerType
+  pub is : m ≡ Bound declared
+  pub typed : value_type declared ≡ Some (Pointer pointer)
+  pub kind : name_kind m ≡ Pointer pointer
+
+pub address_sound : (m : Meaning) (a b : ℕ) → least (address_faults m a b) ≡ None → IsAddressed m
+address_sound (Bound (Single (Pointer p))) a b e = record { declared = Single (Pointer p); pointer = p; is = refl; typed = refl; kind = refl }
+address_sound (Bound (Single (Number t))) a b e = absurd (some_fault (fault.TypeMismatch b) [] e)
+address_sound (Bound (LocalArray t)) a b e = record { declared = LocalArray t; pointer = _; is = refl; typed = refl; kind = refl }
+address_sound (Bound (PrivateArray t)) a b e = absurd (some_fault (fault.WrongSpace a) [] e)
+address_sound (Callable s) a b e = absurd (some_fault (fault.TypeMismatch b) [] e)
+address_sound (Current s) a b e = absurd (some_fault (fault.TypeMismatch b) [] e)
+address_sound (BuiltInFunction f) a b e = absurd (some_fault (fault.TypeMismatch b) [] e)
+address_sound Barrier a b e = absurd (some_fault (fault.TypeMismatch b) [] e)
+address_sound Unknown a b e = absurd (some_fault (fault.UnknownName b) [] e)
+
+pub address_complete : (d : Declaration) (p : PointerType) (a b : ℕ) → value_type d ≡ Some (Pointer p) → least (address_faults (Bound d) a b) ≡ None
+address_complete (Single (Pointer q)) p a b h = refl
+address_complete (Single (Number t)) p a b h = absurd (cc)
+address_complete (LocalArray t) p a b h = refl
+address_complete (PrivateArray t) p a b h = absurd (cc)
+
+-- a variable that is assigned to
+pub whole_sound : (m : Meaning) (a : ℕ) → least (whole_faults m a) ≡ None → m ≡ Bound (Single (name_kind m))
+whole_sound (Bound (Single k)) a e = refl
+whole_sound (Bound (LocalArray t)) a e = absurd (some_fault (fault.NotAssignable a) [] e)
+whole_sound (Bound (PrivateArray t)) a e = absurd (some_fault (fault.NotAssignable a) [] e)
+whole_sound (Callable s) a e = absurd (some_fault (fault.TypeMismatch a) [] e)
+whole_sound (Current s) a e = absurd (some_fault (fault.TypeMismatch a) [] e)
+whole_sound (BuiltInFunction f) a e = absurd (some_fault (fault.TypeMismatch a) [] e)
+whole_sound Barrier a e = absurd (some_fault (fault.TypeMismatch a) [] e)
+whole_sound Unknown a e = absurd (some_fault (fault.UnknownName a) [] e)
 
 -- a value given
 

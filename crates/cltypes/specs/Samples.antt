@@ -12,6 +12,7 @@ use Rattle.clmodel.specs.declared.tree.VariableType.TheVariants as kind
 use Rattle.clmodel.specs.declared.type_fault.TypeFault.{TypeFault}
 use Rattle.clmodel.specs.declared.type_fault.TypeFault.TheVariants.{UnknownName, Redeclared, TypeMismatch, NotAssignable, Recursion, WrongArgumentCount, WrongSpace, BadBarrierFlags, AtomicValueUsed, TooManyLoops, TooLarge, MissingReturn}
 use Rattle.clmodel.specs.Tree.{Term, NoTerm, Number, Variable, Element, ElementAddress, Dereference, Call, Cast, Binary, Choice, Whole, Part, Behind, Stmt, Stmts, NoStmt, then_all, then_stmts, Func, Funcs, NoFunc, ThenFunc, then_funcs, Empty, Block, Declare, DeclareAs, Assign, Step, CallOnly, If, IfElse, While, DoWhile, For, Break, Continue, Return, ReturnValue, Without, With, Always, While_}
+use Rattle.clmodel.specs.declared.declaration.Declaration.TheVariants.{Single}
 use Rattle.clmodel.specs.Typing.Context.{Context, Signature}
 use Rattle.clmodel.specs.Typing.Least.{first}
 use Rattle.clmodel.specs.Typing.Faults.{row_faults}
@@ -37,12 +38,12 @@ here = record {
   current = 26;
   signature = record { is_kernel = true; result = None; parameters = [] };
   in_loop = false;
-  inner = (27, global Int)
-      ∷ (28, kind.Pointer (record { space = Global; is_const = true; element = Int }))
-      ∷ (29, kind.Pointer (record { space = Constant; is_const = false; element = Int }))
-      ∷ (30, global Long)
-      ∷ (31, kind.Integer Int)
-      ∷ (32, kind.Integer Char)
+  inner = (27, Single (global Int))
+      ∷ (28, Single (kind.Pointer (record { space = Global; is_const = true; element = Int })))
+      ∷ (29, Single (kind.Pointer (record { space = Constant; is_const = false; element = Int })))
+      ∷ (30, Single (global Long))
+      ∷ (31, Single (kind.Integer Int))
+      ∷ (32, Single (kind.Integer Char))
       ∷ [];
   outer = [];
 }
@@ -253,7 +254,7 @@ samples =
 
 -- the bodies of helpers: g has two nodes, and h a loop in a loop and ten nodes
 abbrev bodies : Sizes
-bodies = (44, record { loops = 0; nodes = 2 }) ∷ (42, record { loops = 2; nodes = 10 }) ∷ []
+bodies = (44, record { loops = 0; bytes = 0; nodes = 2 }) ∷ (42, record { loops = 2; bytes = 0; nodes = 10 }) ∷ []
 
 -- statements, how many nodes they have and how deep their loops are nested
 abbrev pub counted : List (Stmt × (ℕ × ℕ))

@@ -4,15 +4,16 @@
 ghost use Rattle.std.specs.Prelude.{◌≡◌, ◌++◌};
 ghost use Rattle.clmodel.specs.Tree.{term, place};
 ghost use Rattle.clmodel.specs.Typing.Least.{least, first, node};
-ghost use Rattle.clmodel.specs.Typing.Faults.{integer_faults, pointer_faults, assigning_faults, store_faults, target_faults, place_faults, value_faults, initial_faults, assignment_faults};
+ghost use Rattle.clmodel.specs.Typing.Faults.{integer_faults, pointer_faults, assigning_faults, whole_faults, store_faults, stored_faults, target_faults, place_faults, value_faults, initial_faults, assignment_faults};
 ghost use Rattle.cltypes_scope.specs.Answers.{Checks};
 ghost use Rattle.cltypes_scope.specs.Names.{meaning_of};
 ghost use Rattle.cltypes.specs.Views.{target_of};
 
+use clmodel::declaration::Declaration;
 use clmodel::tree::{AddressSpace, Expression, Target, VariableType};
 use clmodel::type_fault::TypeFault;
 use clnum::BinaryOperator;
-use cltypes_scope::kinds::{element_kind, name_kind};
+use cltypes_scope::kinds::{element_kind, front_kind, name_kind};
 use cltypes_scope::{
     Context, Meaning, Operand, check_expression, check_value, checked, front_fault, integer_fault,
     lesser, moves, name_fault, passing_fault, pointer_fault, void_fault,
@@ -44,16 +45,35 @@ fn store_fault(kind: VariableType, at: u32) -> Option<TypeFault>
     }
 }
 
+/// A name that is assigned to.
+fn whole_fault(meaning: Meaning<'_>, at: u32) -> Option<TypeFault>
+    ensures { result ≡ least (whole_faults (meaning_of meaning.entry) at) }
+{
+    match meaning {
+        Meaning::Bound(Declaration::LocalArray(_) | Declaration::PrivateArray(_)) => Some(
+            TypeFault::NotAssignable { at },
+        ),
+        _ => name_fault(meaning, at),
+    }
+}
+
+/// What a name in front of an index is declared as, stored to.
+fn stored_fault(meaning: Meaning<'_>, at: u32) -> Option<TypeFault>
+    ensures { result ≡ least (stored_faults (meaning_of meaning.entry) at) }
+{
+    match meaning {
+        Meaning::Bound(Declaration::Single(kind)) => store_fault(kind, at),
+        _ => None,
+    }
+}
+
 /// An element that is assigned to: the name in front, and the index.
 #[tactic(auto, using(cltypes_scope::proofs::Least::least_append))]
 fn target_fault(meaning: Meaning<'_>, at: u32, index: Operand) -> Option<TypeFault>
     ensures { result ≡ least (target_faults (meaning_of meaning.entry) at ++ integer_faults index.kind index.at) }
 {
     lesser(
-        lesser(
-            front_fault(meaning, at),
-            store_fault(name_kind(meaning), at),
-        ),
+        lesser(front_fault(meaning, at), stored_fault(meaning, at)),
         integer_fault(index),
     )
 }
@@ -73,17 +93,13 @@ pub fn check_target(context: &Context, target: &Target) -> Result<Operand, TypeF
     match target {
         Target::Variable { at, name } => {
             let meaning = context.meaning(*name);
-            checked(name_fault(meaning, *at), name_kind(meaning), *at)
+            checked(whole_fault(meaning, *at), name_kind(meaning), *at)
         }
         Target::Element { at, name, index } => match check_expression(context, index) {
             Err(fault) => Err(fault),
             Ok(index) => {
                 let meaning = context.meaning(*name);
-                checked(
-                    target_fault(meaning, *at, index),
-                    element_kind(name_kind(meaning)),
-                    *at,
-                )
+                checked(target_fault(meaning, *at, index), front_kind(meaning), *at)
             }
         },
         Target::Dereference { at, pointer } => match check_expression(context, pointer) {

@@ -11,6 +11,7 @@ ghost use Rattle.cltypes_limits.specs.Limits.{IsSummary};
 ghost use Rattle.cltypes.specs.Answers.{Ends};
 
 use crate::statements::{check_statements, ended};
+use clmodel::declaration::Declaration;
 use clmodel::tree::{Function, Parameter};
 use clmodel::type_fault::TypeFault;
 use cltypes_limits::{Summaries, end_fault};
@@ -28,7 +29,8 @@ fn declare_parameters(context: &mut Context, parameters: &[Parameter]) -> Result
                 at: parameter.name_at,
             });
         }
-        if context.bind(parameter.name, parameter.kind).is_err() {
+        let declared = Declaration::Single(parameter.kind);
+        if context.bind(parameter.name, declared).is_err() {
             return Err(TypeFault::OutOfMemory);
         }
     }

@@ -1,20 +1,27 @@
 //! The faults of statements and declarations.
 #![tactic(auto)]
 
-ghost use Rattle.std.specs.Prelude.{◌≡◌, ℕ, None, Some, IfOk, IfErr};
+ghost use Rattle.std.specs.Prelude.{◌≡◌, ℕ, true, None, Some, IfOk, IfErr};
 ghost use Rattle.clmodel.specs.Tree.{If, IfElse, While, DoWhile, For, Break, term, stmt, maybe_term, declared, returned};
-ghost use Rattle.clmodel.specs.Typing.Context.{bind, enter, turning, after, after_part, after_all};
+ghost use Rattle.clmodel.specs.declared.declaration.Declaration.TheVariants.{Single};
+ghost use Rattle.clmodel.specs.Typing.Context.{array, is_free, bind, enter, turning, after, after_part, after_all};
 ghost use Rattle.clmodel.specs.Typing.Least.{least, first, node};
-ghost use Rattle.clmodel.specs.Typing.Faults.{term_faults, condition_parts, condition_faults, return_faults, faults, part_faults, row_faults};
+ghost use Rattle.clmodel.specs.Typing.Faults.{term_faults, condition_parts, condition_faults, return_faults, array_faults, faults, part_faults, row_faults};
 ghost use Rattle.cltypes_scope.specs.Answers.{Checks};
 ghost use Rattle.cltypes_limits.specs.Limits.{statements};
 ghost use Rattle.cltypes.specs.Answers.{Ends};
 ghost use Rattle.cltypes.specs.Views.{held, turns_faults};
 
 use crate::assignments::{assignment_fault, check_target, initial_fault};
+use clmodel::declaration::Declaration;
 use clmodel::tree::{Expression, Statement, VariableType};
 use clmodel::type_fault::TypeFault;
+use clnum::{IntType, Value};
+use cltypes_limits::array_length;
 use cltypes_scope::{Context, Spot, check_call, check_expression, integer_fault, lesser};
+
+/// How many elements an array may have.
+const LENGTH_LIMIT: u64 = 32_768;
 
 /// What the statement of a condition that may be left out has against it, or the first fault inside.
 fn check_condition(
@@ -94,18 +101,72 @@ fn check_declaration(
     value: &Option<Box<Expression>>,
 ) -> Result<(), TypeFault>
     ensures first { (at : ℕ) → Ends result (first (faults context.old (declared at kind name_at name value.now))) }
-    ensures bound { IfOk result (λ _. context.new ≡ bind context.old name kind) }
+    ensures bound { IfOk result (λ _. context.new ≡ bind context.old name (Single kind)) }
 {
     if !context.is_free(name) {
         return Err(TypeFault::Redeclared { at: name_at });
     }
-    if context.bind(name, kind).is_err() {
+    if context.bind(name, Declaration::Single(kind)).is_err() {
         return Err(TypeFault::OutOfMemory);
     }
     match value {
         None => Ok(()),
         Some(value) => ended(initial_fault(context, kind, value)),
     }
+}
+
+/// What an array is declared as.
+fn array(is_local: bool, element: IntType) -> Declaration
+    ensures { result ≡ array is_local element }
+{
+    if is_local {
+        Declaration::LocalArray(element)
+    } else {
+        Declaration::PrivateArray(element)
+    }
+}
+
+/// The declaration of an array: its name, where it is local the block that it stands in, and how many elements it has.
+fn array_fault(
+    context: &Context,
+    is_local: bool,
+    name_at: u32,
+    name: u32,
+    length_at: u32,
+    length: Value,
+) -> Option<TypeFault>
+    ensures { result ≡ least (array_faults context.now is_local name_at name length_at length) }
+{
+    let count = array_length(length);
+    if !context.is_free(name) {
+        Some(TypeFault::Redeclared { at: name_at })
+    } else if is_local && !context.is_outermost() {
+        Some(TypeFault::WrongSpace { at: name_at })
+    } else if count < 1 || count > LENGTH_LIMIT {
+        Some(TypeFault::TooLarge { at: length_at })
+    } else {
+        None
+    }
+}
+
+/// Declares what has no fault, or answers its fault. Err(OutOfMemory) may come at any time.
+fn declare(
+    context: &mut Context,
+    name: u32,
+    declared: Declaration,
+    fault: Option<TypeFault>,
+) -> Result<(), TypeFault>
+    requires { fault ≡ None → is_free context.old name ≡ true }
+    ensures first { Ends result fault }
+    ensures bound { IfOk result (λ _. context.new ≡ bind context.old name declared) }
+{
+    if let Some(fault) = fault {
+        return Err(fault);
+    }
+    if context.bind(name, declared).is_err() {
+        return Err(TypeFault::OutOfMemory);
+    }
+    Ok(())
 }
 
 /// Checks a statement or a declaration, which what follows it sees, or answers its first fault. Err(OutOfMemory) may come at any time.
@@ -124,7 +185,19 @@ fn check_statement(context: &mut Context, statement: &Statement) -> Result<(), T
             value,
             ..
         } => check_declaration(context, *kind, *name_at, *name, value),
-        Statement::DeclareArray { at, .. } => Err(TypeFault::TypeMismatch { at: *at }),
+        Statement::DeclareArray {
+            is_local,
+            element,
+            name_at,
+            name,
+            length_at,
+            length,
+            ..
+        } => {
+            let declared = array(*is_local, *element);
+            let fault = array_fault(context, *is_local, *name_at, *name, *length_at, *length);
+            declare(context, *name, declared, fault)
+        }
         Statement::Assign {
             target,
             operator,

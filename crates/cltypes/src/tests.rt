@@ -10,6 +10,7 @@ use clnum::{IntType, Value};
 use std::alloc::{AllocError, Global};
 use std::test::Fail;
 
+mod arrays;
 mod barriers;
 mod spaces;
 

@@ -1,7 +1,10 @@
 -- Sizes of what lies behind a box, and sizes up to the limits.
-use Rattle.std.proofs.Common.{◌≡◌, ℕ, Option, None, Some, refl, ap, ◌∙◌}
+use Rattle.std.proofs.Common.{◌≡◌, ℕ, ◌*◌, ◌/◌, min, Option, None, Some, refl, ap, ◌∙◌, arith}
 use Rattle.std.specs.Prelude.{Box}
 use Rattle.std.specs.declared.alloc.Global.{Global}
+use Rattle.clnum.specs.Integer.{bits}
+use Rattle.clnum.specs.declared.int_type.IntType.{IntType}
+use Rattle.clnum.specs.declared.int_type.IntType.TheVariants.{Char, Uchar, Short, Ushort, Int, Uint, Long, Ulong}
 use Rattle.clmodel.specs.declared.tree.Expression.{Expression}
 use Rattle.clmodel.specs.declared.tree.Statement as rust
 use Rattle.clmodel.specs.declared.tree.Statement.{Statement}
@@ -24,3 +27,14 @@ for_view table at None None condition body = refl
 for_view table at None (Some t) condition body = refl
 for_view table at (Some s) None condition body = refl
 for_view table at (Some s) (Some t) condition body = refl
+
+-- bytes up to a limit, of a number of elements up to it
+pub capped_bytes : (t : IntType) (n : ℕ) → min (bits t / 8 * min n 4097) 4097 ≡ min (bits t / 8 * n) 4097
+capped_bytes Char n = omega arith
+capped_bytes Uchar n = omega arith
+capped_bytes Short n = omega arith
+capped_bytes Ushort n = omega arith
+capped_bytes Int n = omega arith
+capped_bytes Uint n = omega arith
+capped_bytes Long n = omega arith
+capped_bytes Ulong n = omega arith

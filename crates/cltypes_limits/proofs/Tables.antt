@@ -13,11 +13,11 @@ use Rattle.cltypes_limits.specs.declared.size.Size.{Size}
 use Rattle.cltypes_limits.specs.Limits.{capped, plain, plain_entry, IsSummary}
 
 -- two sizes are one where their numbers are
-abbrev of : ℕ → ℕ → Size
-of l n = record { loops = l; nodes = n }
+abbrev of : ℕ → ℕ → ℕ → Size
+of l b n = record { loops = l; bytes = b; nodes = n }
 
-made : {l m n k : ℕ} → l ≡ m → n ≡ k → of l n ≡ of m k
-made {l} {m} {n} {k} h g = ap (λ z. of z n) h ∙ ap (λ z. of m z) g
+made : {l m b d n k : ℕ} → l ≡ m → b ≡ d → n ≡ k → of l b n ≡ of m d k
+made {l} {m} {b} {d} {n} {k} h i g = ap (λ z. of z b n) h ∙ ap (λ z. of m z n) i ∙ ap (λ z. of m d z) g
 
 -- sizes that are one up to the limits
 record Alike (s t : counted.Size) : Type 0 where
@@ -26,6 +26,9 @@ record Alike (s t : counted.Size) : Type 0 where
 loops_of : {s t : counted.Size} → Alike s t → (capped s).loops ≡ (capped t).loops
 loops_of h = ap (λ z. z.loops) h.same
 
+bytes_of : {s t : counted.Size} → Alike s t → (capped s).bytes ≡ (capped t).bytes
+bytes_of h = ap (λ z. z.bytes) h.same
+
 nodes_of : {s t : counted.Size} → Alike s t → (capped s).nodes ≡ (capped t).nodes
 nodes_of h = ap (λ z. z.nodes) h.same
 
@@ -33,16 +36,16 @@ equal : (s : counted.Size) → Alike s s
 equal s = record { same = refl }
 
 same_beside : {s t q r : counted.Size} → Alike s q → Alike t r → Alike (beside s t) (beside q r)
-same_beside h g = record { same = made (omega (arith, loops_of h, loops_of g)) (omega (arith, nodes_of h, nodes_of g)) }
+same_beside h g = record { same = made (omega (arith, loops_of h, loops_of g)) (omega (arith, bytes_of h, bytes_of g)) (omega (arith, nodes_of h, nodes_of g)) }
 
 same_node : {s t : counted.Size} → Alike s t → Alike (one_node s) (one_node t)
-same_node h = record { same = made (loops_of h) (omega (arith, nodes_of h)) }
+same_node h = record { same = made (loops_of h) (bytes_of h) (omega (arith, nodes_of h)) }
 
 same_loop : {s t : counted.Size} → Alike s t → Alike (one_loop s) (one_loop t)
-same_loop h = record { same = made (omega (arith, loops_of h)) (omega (arith, nodes_of h)) }
+same_loop h = record { same = made (omega (arith, loops_of h)) (bytes_of h) (omega (arith, nodes_of h)) }
 
 pub capped_again : (s : counted.Size) → capped (plain (capped s)) ≡ capped s
-capped_again s = made (omega arith) (omega arith)
+capped_again s = made (omega arith) (omega arith) (omega arith)
 
 module _ (A B : Sizes) (same : (x : ℕ) → Alike (size_in A x) (size_in B x)) where
   mutual

@@ -5,15 +5,15 @@ use Rattle.std.specs.declared.alloc.Global.{Global}
 use Rattle.clmodel.specs.declared.tree.Statement.{Statement}
 use Rattle.clmodel.specs.Tree.{Stmts, NoStmt, then_stmts, stmt, Funcs}
 use Rattle.clmodel.specs.Typing.Sizes as counted
-use Rattle.clmodel.specs.Typing.Sizes.{Sizes, loop_limit, node_limit, nothing, size, sizes_of}
+use Rattle.clmodel.specs.Typing.Sizes.{Sizes, loop_limit, byte_limit, node_limit, nothing, size, sizes_of}
 use Rattle.cltypes_limits.specs.declared.size.Size.{Size}
 
 -- numbers above the limits are one more than these
 abbrev pub capped : counted.Size → Size
-capped s = record { loops = min s.loops (suc loop_limit); nodes = min s.nodes (suc node_limit) }
+capped s = record { loops = min s.loops (suc loop_limit); bytes = min s.bytes (suc byte_limit); nodes = min s.nodes (suc node_limit) }
 
 abbrev pub plain : Size → counted.Size
-plain s = record { loops = s.loops; nodes = s.nodes }
+plain s = record { loops = s.loops; bytes = s.bytes; nodes = s.nodes }
 
 abbrev pub plain_entry : ℕ × Size → ℕ × counted.Size
 plain_entry e = (e.0, plain e.1)

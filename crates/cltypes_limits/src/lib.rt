@@ -13,5 +13,5 @@ mod tests;
 
 pub use ends::end_fault;
 pub use returns::always_returns;
-pub use size::Size;
+pub use size::{Size, array_length};
 pub use summaries::Summaries;

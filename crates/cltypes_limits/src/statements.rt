@@ -19,10 +19,15 @@ fn statement_size(table: &Summaries, statement: &Statement) -> Size
     match statement {
         Statement::Empty { .. }
         | Statement::Declare { value: None, .. }
-        | Statement::DeclareArray { .. }
         | Statement::Break { .. }
         | Statement::Continue { .. }
         | Statement::Return { value: None, .. } => Size::leaf(),
+        Statement::DeclareArray {
+            is_local,
+            element,
+            length,
+            ..
+        } => Size::array(*is_local, *element, *length),
         Statement::Block { body, .. } => row_size(table, body).in_node(),
         Statement::Declare {
             value: Some(value),

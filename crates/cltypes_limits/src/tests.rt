@@ -63,7 +63,8 @@ fn helpers_that_call_twice(rt: HostRuntime) -> Result<(), Fail> {
         doubling(alloc, &mut table, FIRST + 3)?,
         Size {
             loops: 0,
-            nodes: 22
+            bytes: 0,
+            nodes: 22,
         }
     );
     let mut table = Summaries::new(alloc);
@@ -71,7 +72,8 @@ fn helpers_that_call_twice(rt: HostRuntime) -> Result<(), Fail> {
         doubling(alloc, &mut table, FIRST + 63)?,
         Size {
             loops: 0,
-            nodes: 20_001
+            bytes: 0,
+            nodes: 20_001,
         }
     );
     let kernel = function(alloc, true, 200, vec![in alloc; call(alloc, FIRST + 63)]?);
@@ -90,7 +92,11 @@ fn loops_in_helpers(rt: HostRuntime) -> Result<(), Fail> {
     let body = vec![in alloc; turning(alloc, 0)?]?;
     assert_eq!(rt;
         table.add(&function(alloc, false, FIRST, body))?,
-        Size { loops: 1, nodes: 3 }
+        Size {
+            loops: 1,
+            bytes: 0,
+            nodes: 3,
+        }
     );
     for name in FIRST..FIRST + 7 {
         let body = vec![in alloc; turning(alloc, name)?]?;
@@ -102,7 +108,8 @@ fn loops_in_helpers(rt: HostRuntime) -> Result<(), Fail> {
         size,
         Size {
             loops: 8,
-            nodes: 25
+            bytes: 0,
+            nodes: 25,
         }
     );
     assert_eq!(rt; end_fault(&eight, size), None);
@@ -130,6 +137,74 @@ fn a_value_that_is_not_always_given(rt: HostRuntime) -> Result<(), Fail> {
     assert_eq!(rt;
         end_fault(&helper, size),
         Some(TypeFault::MissingReturn { at: 5 })
+    );
+    Ok(())
+}
+
+/// The declaration of an array.
+fn array(is_local: bool, element: IntType, length: i128) -> Statement {
+    Statement::DeclareArray {
+        at: 0,
+        is_local,
+        element,
+        name_at: 4,
+        name: 100,
+        length_at: 10,
+        length: Value::wrapped(IntType::Ulong, length),
+    }
+}
+
+#[test]
+fn bytes_of_arrays(rt: HostRuntime) -> Result<(), Fail> {
+    let alloc = rt.alloc();
+    let mut table = Summaries::new(alloc);
+    // 512 longs are 4,096 bytes, and one char more is too much
+    let helper = function(
+        alloc,
+        false,
+        FIRST,
+        vec![in alloc; array(false, IntType::Long, 512)]?,
+    );
+    assert_eq!(rt;
+        table.add(&helper)?,
+        Size {
+            loops: 0,
+            bytes: 4096,
+            nodes: 1,
+        }
+    );
+    let enough = function(
+        alloc,
+        true,
+        200,
+        vec![in alloc; call(alloc, FIRST), array(true, IntType::Int, 32_768)]?,
+    );
+    let size = table.add(&enough)?;
+    assert_eq!(rt; end_fault(&enough, size), None);
+    let too_many = function(
+        alloc,
+        true,
+        201,
+        vec![in alloc; array(false, IntType::Char, 1), call(alloc, FIRST)]?,
+    );
+    let size = table.add(&too_many)?;
+    assert_eq!(rt;
+        end_fault(&too_many, size),
+        Some(TypeFault::TooLarge { at: 5 })
+    );
+    let greatest = function(
+        alloc,
+        false,
+        202,
+        vec![in alloc; array(false, IntType::Ulong, 18_446_744_073_709_551_615)]?,
+    );
+    assert_eq!(rt;
+        table.add(&greatest)?,
+        Size {
+            loops: 0,
+            bytes: 4097,
+            nodes: 1,
+        }
     );
     Ok(())
 }

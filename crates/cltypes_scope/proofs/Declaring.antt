@@ -2,7 +2,7 @@
 use Rattle.std.proofs.Common.{◌≡◌, ℕ, unwrap_or, Bool, true, false, not, ◌&&◌, Option, None, Some, is_some, refl, sym, ap, ◌∙◌, true≢false, List, [], ◌∷◌, map, cond}
 use Rattle.std.specs.List.{find}
 use Rattle.std.specs.Option.{option_or}
-use Rattle.clmodel.specs.declared.tree.VariableType.{VariableType}
+use Rattle.clmodel.specs.declared.declaration.Declaration.{Declaration}
 use Rattle.clmodel.specs.Typing.Context.{Context, Scope, declared, variable, is_free, is_reserved, among}
 
 middle : (a b d : Bool) → (a && b && d) ≡ true → b ≡ true
@@ -22,7 +22,7 @@ module _ {M : Type 0} (entries : M → Scope) (x : ℕ) where
   abbrev pub holds : M → Bool
   holds m = is_some (declared (entries m) x)
 
-  held_from : (n m : M) (ms : List M) (o : Option VariableType) → declared (entries n) x ≡ o → (find holds ms ≡ Some m → variable (map entries ms) x ≡ declared (entries m) x)
+  held_from : (n m : M) (ms : List M) (o : Option Declaration) → declared (entries n) x ≡ o → (find holds ms ≡ Some m → variable (map entries ms) x ≡ declared (entries m) x)
       → cond (is_some o) (Some n) (find holds ms) ≡ Some m → option_or o (variable (map entries ms) x) ≡ declared (entries m) x
   held_from n m ms None e others h = others h
   held_from n m ms (Some k) e others h = sym e ∙ ap (λ r. declared (entries (unwrap_or r n)) x) h
@@ -31,7 +31,7 @@ module _ {M : Type 0} (entries : M → Scope) (x : ℕ) where
   held [] m h = absurd (true≢false (ap is_some (sym h)))
   held (n ∷ ms) m h = held_from n m ms (declared (entries n) x) refl (held ms m) h
 
-  unheld_from : (n : M) (ms : List M) (o : Option VariableType) → (find holds ms ≡ None → variable (map entries ms) x ≡ None)
+  unheld_from : (n : M) (ms : List M) (o : Option Declaration) → (find holds ms ≡ None → variable (map entries ms) x ≡ None)
       → cond (is_some o) (Some n) (find holds ms) ≡ None → option_or o (variable (map entries ms) x) ≡ None
   unheld_from n ms None others h = others h
   unheld_from n ms (Some k) others h = absurd (true≢false (ap is_some h))

@@ -2,13 +2,13 @@
 use Rattle.std.proofs.Common.{◌≡◌, ℕ, List, [], ◌∷◌, ◌++◌, Option, None, Some, Result, refl, sym, ap, ◌∙◌}
 use Rattle.std.specs.List.{slice_get}
 use Rattle.std.specs.Option.{option_or}
-use Rattle.clmodel.specs.declared.tree.VariableType.{VariableType}
+use Rattle.clmodel.specs.declared.declaration.Declaration.{Declaration}
 use Rattle.clmodel.specs.declared.type_fault.TypeFault.{TypeFault}
 use Rattle.clmodel.specs.Tree as tree
 use Rattle.clmodel.specs.Tree.{Term, Terms, NoTerm, ThenTerm}
 use Rattle.clmodel.specs.Typing.Context.{Context, Meaning, Bound, Callable, Current, BuiltInFunction, Barrier, Unknown, declared, variable, found, function_meaning, meaning, fenced}
 use Rattle.clmodel.specs.Typing.Least.{least, first, node}
-use Rattle.clmodel.specs.Typing.Faults.{Inside, Want, start, integer_faults, pointer_faults, name_faults, front_faults, operand_faults, argument_faults, name_kind, element_kind, unary_type, binary_type, choice_type, call_kind, wanted, kind_of, last_kind, arguments_faults, inside_call, call_faults, callee_faults, barrier_faults, term_faults, terms_faults}
+use Rattle.clmodel.specs.Typing.Faults.{Inside, Want, start, integer_faults, pointer_faults, name_faults, front_faults, address_faults, operand_faults, argument_faults, name_kind, front_kind, element_kind, unary_type, binary_type, choice_type, call_kind, wanted, kind_of, last_kind, arguments_faults, inside_call, call_faults, callee_faults, barrier_faults, term_faults, terms_faults}
 use Rattle.clmodel.specs.Typing.Rules.{count}
 use Rattle.cltypes_scope.specs.Fenced.{AreAlike}
 use Rattle.cltypes_scope.specs.Answers.{Checks}
@@ -22,11 +22,11 @@ two f a x b y p q = ap (λ z. f z b) p ∙ ap (f x) q
 
 -- names
 
-found_over : (o p : Option VariableType) (m : Meaning) → found (option_or o p) m ≡ found o (found p m)
+found_over : (o p : Option Declaration) (m : Meaning) → found (option_or o p) m ≡ found o (found p m)
 found_over None p m = refl
 found_over (Some k) p m = refl
 
-found_again : (o : Option VariableType) (m : Meaning) → found o m ≡ found o (found o m)
+found_again : (o : Option Declaration) (m : Meaning) → found o m ≡ found o (found o m)
 found_again None m = refl
 found_again (Some k) m = refl
 
@@ -78,13 +78,13 @@ mutual
       record {
         faults = two node (term_faults c e) (term_faults d e) _ _ r.faults
             (two (λ m k. front_faults m a ++ integer_faults k (start e)) (meaning c x) (meaning d x) (kind_of c e) (kind_of d e) (h x) r.kind);
-        kind = ap (λ m. element_kind (name_kind m)) (h x);
+        kind = ap front_kind (h x);
       }
   term_same c d h (tree.ElementAddress a b x e) =
       let r = term_same c d h e in
       record {
         faults = two node (term_faults c e) (term_faults d e) _ _ r.faults
-            (two (λ m k. front_faults m b ++ integer_faults k (start e)) (meaning c x) (meaning d x) (kind_of c e) (kind_of d e) (h x) r.kind);
+            (two (λ m k. address_faults m a b ++ integer_faults k (start e)) (meaning c x) (meaning d x) (kind_of c e) (kind_of d e) (h x) r.kind);
         kind = ap name_kind (h x);
       }
   term_same c d h (tree.Dereference a e) =

@@ -5,13 +5,13 @@ ghost use Rattle.std.specs.Prelude.{◌≡◌, ◌&&◌, not, [], ◌∷◌, tru
 ghost use Rattle.std.specs.List.{find};
 ghost use Rattle.std.specs.Option.{option_copied};
 ghost use Rattle.clmodel.specs.Typing.Context as typing;
-ghost use Rattle.clmodel.specs.Typing.Context.{declared, variable, function_meaning, meaning, is_free, is_reserved, bind, enter};
+ghost use Rattle.clmodel.specs.Typing.Context.{declared, variable, function_meaning, meaning, is_free, is_outermost, is_reserved, bind, enter};
 ghost use Rattle.cltypes_scope.specs.Names.{signature_of, meaning_of, nowhere, with_function, begun, ended, with_loop, left, no_signature};
 
 use crate::meaning::{Meaning, Signature};
 use clmodel::barrier::is_barrier;
+use clmodel::declaration::Declaration;
 use clmodel::setup::built_in_named;
-use clmodel::tree::VariableType;
 use clnum::IntType;
 use indexmap::{IndexMap, IndexSet};
 use std::alloc::{AllocError, Global};
@@ -29,10 +29,10 @@ pub fn is_reserved(name: u32) -> bool
     name < RESERVED_NAMES
 }
 
-/// The variables of a scope, in the order of their declarations.
-type Scope = IndexMap<u32, VariableType>;
+/// What a scope declares, in the order of the text.
+type Scope = IndexMap<u32, Declaration>;
 
-/// The last of these scopes that has a variable of this name.
+/// The last of these scopes that declares this name.
 fn last_holder(scopes: &[Scope], name: u32) -> Option<&Scope>
     ensures { option_copied result ≡ find (λ scope. is_some (declared scope.entries name)) (reverse scopes.now) }
 {
@@ -144,6 +144,13 @@ impl Context {
         self.in_loop
     }
 
+    /// Whether the place is the outermost block of a kernel.
+    pub fn is_outermost(&self) -> bool
+        ensures { result ≡ is_outermost self.now }
+    {
+        self.signature.is_kernel && self.outer.is_empty()
+    }
+
     /// Says whether the place is in a loop of the function.
     pub fn set_in_loop(&mut self, in_loop: bool)
         ensures { self.new ≡ with_loop self.old in_loop }
@@ -151,12 +158,12 @@ impl Context {
         self.in_loop = in_loop;
     }
 
-    /// The type of the variable of a name, in the innermost scope that has it.
-    fn variable(&self, name: u32) -> Option<VariableType>
+    /// What the innermost scope that declares a name declares it as.
+    fn variable(&self, name: u32) -> Option<Declaration>
         ensures { result ≡ variable (self.now.inner ∷ self.now.outer) name }
     {
-        if let Some(kind) = self.inner.get(&name) {
-            return Some(*kind);
+        if let Some(declared) = self.inner.get(&name) {
+            return Some(*declared);
         }
         match last_holder(&self.outer, name) {
             Some(scope) => scope.get(&name).copied(),
@@ -189,7 +196,7 @@ impl Context {
         ensures { meaning_of result ≡ meaning self.now name }
     {
         match self.variable(name) {
-            Some(kind) => Meaning::Bound(kind),
+            Some(declared) => Meaning::Bound(declared),
             None => self.function_meaning(name),
         }
     }
@@ -209,13 +216,14 @@ impl Context {
         !is_reserved(name) && !self.before.contains_key(&name)
     }
 
-    /// Declares a variable in the innermost scope, where its name is free. Err where memory is wanting: nothing changes then.
-    pub fn bind(&mut self, name: u32, kind: VariableType) -> Result<(), AllocError>
+    /// Declares a variable or an array in the innermost scope, where its name is free. Err where memory is wanting: nothing changes
+    /// then.
+    pub fn bind(&mut self, name: u32, declared: Declaration) -> Result<(), AllocError>
         requires { is_free self.old name ≡ true }
-        ensures bound { OnOk result (self.new ≡ bind self.old name kind) }
+        ensures bound { OnOk result (self.new ≡ bind self.old name declared) }
         ensures err { OnErr result (self.new ≡ self.old) }
     {
-        self.inner.insert(name, kind)?;
+        self.inner.insert(name, declared)?;
         Ok(())
     }
 

@@ -12,11 +12,14 @@ ghost use Rattle.cltypes_scope.specs.Answers.{Checks};
 ghost use Rattle.cltypes_scope.specs.Views.{spot_of, operand_of, arguments_of};
 
 use crate::faults::{
-    Arguments, Operand, Spot, argument_fault, call_fault, choice_fault, element_fault,
+    Arguments, Operand, Spot, argument_fault, call_fault, choice_fault, element_address_fault,
+    element_fault,
     integer_fault, lesser, name_fault, operand_fault, pointer_fault, wanted,
 };
 use crate::flags::flags_fault;
-use crate::kinds::{binary_type, call_kind, choice_type, element_kind, name_kind, unary_type};
+use crate::kinds::{
+    binary_type, call_kind, choice_type, element_kind, front_kind, name_kind, unary_type,
+};
 use crate::meaning::Meaning;
 use crate::names::{Names, meaning_among, names_inside};
 use clmodel::tree::{Expression, InfixOperator, VariableType};
@@ -98,7 +101,7 @@ fn check_element(
             let meaning = meaning_among(names, name);
             checked(
                 element_fault(meaning, at, index),
-                element_kind(name_kind(meaning)),
+                front_kind(meaning),
                 at,
             )
         }
@@ -121,7 +124,7 @@ fn check_address(
         Ok(index) => {
             let meaning = meaning_among(names, name);
             checked(
-                element_fault(meaning, name_at, index),
+                element_address_fault(meaning, at, name_at, index),
                 name_kind(meaning),
                 at,
             )

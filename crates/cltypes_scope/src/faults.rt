@@ -4,7 +4,7 @@
 ghost use Rattle.std.specs.Prelude.{◌≡◌, ◌++◌, length, map, option_map};
 ghost use Rattle.std.specs.List.{slice_get};
 ghost use Rattle.clmodel.specs.Typing.Least.{number, offset, is_up_to, lesser, least};
-ghost use Rattle.clmodel.specs.Typing.Faults.{is_same_space, moves, takes_pointer, is_sum, integer_faults, pointer_faults, passing_faults, name_faults, front_faults, operand_faults, wants, has_value, helper_faults, callee_faults, wanted, ForParameter, same_faults, atomic_faults, argument_faults, integer_wants, atomic_wants};
+ghost use Rattle.clmodel.specs.Typing.Faults.{is_same_space, moves, takes_pointer, is_sum, integer_faults, pointer_faults, passing_faults, name_faults, front_faults, address_faults, operand_faults, wants, has_value, helper_faults, callee_faults, wanted, ForParameter, same_faults, atomic_faults, argument_faults, integer_wants, atomic_wants};
 ghost use Rattle.clmodel.specs.Typing.Rules.{has_operand};
 ghost use Rattle.clnum.specs.Builtins.{is_same};
 ghost use Rattle.clmodel.specs.declared.tree.VariableType.TheVariants.{Pointer};
@@ -12,7 +12,9 @@ ghost use Rattle.clmodel.specs.Typing.Context as typing;
 ghost use Rattle.cltypes_scope.specs.Names.{signature_of, meaning_of};
 ghost use Rattle.cltypes_scope.specs.Views.{want_of, spot_of};
 
+use crate::kinds::element_type;
 use crate::meaning::{Meaning, Signature};
+use clmodel::declaration::Declaration;
 use clmodel::setup::{AtomicFunction, BuiltIn};
 use clmodel::tree::{AddressSpace, InfixOperator, PointerType, VariableType};
 use clmodel::type_fault::TypeFault;
@@ -186,11 +188,12 @@ pub fn passing_fault(to: VariableType, value: Operand) -> Option<TypeFault>
     }
 }
 
-/// A name as a value, or assigned to.
+/// A name as a value.
 pub fn name_fault(meaning: Meaning<'_>, at: u32) -> Option<TypeFault>
     ensures { result ≡ least (name_faults (meaning_of meaning.entry) at) }
 {
     match meaning {
+        Meaning::Bound(Declaration::PrivateArray(_)) => Some(TypeFault::WrongSpace { at }),
         Meaning::Bound(_) => None,
         Meaning::Callable(_)
         | Meaning::Current(_)
@@ -205,12 +208,39 @@ pub fn front_fault(meaning: Meaning<'_>, at: u32) -> Option<TypeFault>
     ensures { result ≡ least (front_faults (meaning_of meaning.entry) at) }
 {
     match meaning {
-        Meaning::Bound(kind) => pointer_fault(Operand { kind, at }),
+        Meaning::Bound(declared) => if element_type(declared).is_some() {
+            None
+        } else {
+            Some(TypeFault::TypeMismatch { at })
+        },
         _ => name_fault(meaning, at),
     }
 }
 
-/// An element, or its address: the name in front, and the index.
+/// A name in front of an index, of whose element the address is taken: the address begins at `at`, and the name at `name_at`.
+fn address_fault(meaning: Meaning<'_>, at: u32, name_at: u32) -> Option<TypeFault>
+    ensures { result ≡ least (address_faults (meaning_of meaning.entry) at name_at) }
+{
+    match meaning {
+        Meaning::Bound(Declaration::PrivateArray(_)) => Some(TypeFault::WrongSpace { at }),
+        _ => front_fault(meaning, name_at),
+    }
+}
+
+/// The address of an element, which begins at `at`: the name in front, and the index.
+#[tactic(auto, using(crate::proofs::Least::least_append))]
+pub fn element_address_fault(
+    meaning: Meaning<'_>,
+    at: u32,
+    name_at: u32,
+    index: Operand,
+) -> Option<TypeFault>
+    ensures { result ≡ least (address_faults (meaning_of meaning.entry) at name_at ++ integer_faults index.kind index.at) }
+{
+    lesser(address_fault(meaning, at, name_at), integer_fault(index))
+}
+
+/// An element: the name in front, and the index.
 #[tactic(auto, using(crate::proofs::Least::least_append))]
 pub fn element_fault(meaning: Meaning<'_>, at: u32, index: Operand) -> Option<TypeFault>
     ensures { result ≡ least (front_faults (meaning_of meaning.entry) at ++ integer_faults index.kind index.at) }

@@ -3,12 +3,14 @@
 
 ghost use Rattle.std.specs.Prelude.{◌≡◌};
 ghost use Rattle.clnum.specs.Operations.{unary_kind, binary_kind};
-ghost use Rattle.clmodel.specs.Typing.Faults.{name_kind, element_kind, unary_type, number_kind, binary_type, choice_type, integer_call_kind, result_kind, call_kind};
+ghost use Rattle.clmodel.specs.Typing.Faults.{name_kind, front_kind, element_kind, unary_type, number_kind, binary_type, choice_type, integer_call_kind, result_kind, call_kind};
+ghost use Rattle.clmodel.specs.Typing.Context.{value_type, element_type};
 ghost use Rattle.cltypes_scope.specs.Names.{meaning_of};
 
 use crate::meaning::Meaning;
+use clmodel::declaration::Declaration;
 use clmodel::setup::BuiltIn;
-use clmodel::tree::{InfixOperator, VariableType};
+use clmodel::tree::{AddressSpace, InfixOperator, PointerType, VariableType};
 use clnum::{BinaryOperator, Builtin, IntType, UnaryOperator};
 
 /// The type of a value of an operator on one integer: its type is promoted, but `!` gives int.
@@ -47,12 +49,54 @@ pub fn binary_kind(operator: BinaryOperator, left: IntType, right: IntType) -> I
     }
 }
 
-/// The type of a name: that of the variable that it stands for.
+/// The type of the value of what is declared: of a local array a pointer, and of a private one none.
+pub fn value_type(declared: Declaration) -> Option<VariableType>
+    ensures { result ≡ value_type declared }
+{
+    match declared {
+        Declaration::Single(kind) => Some(kind),
+        Declaration::LocalArray(element) => Some(VariableType::Pointer(PointerType {
+            space: AddressSpace::Local,
+            is_const: false,
+            element,
+        })),
+        Declaration::PrivateArray(_) => None,
+    }
+}
+
+/// The type of the elements of what is declared, where it can stand in front of an index.
+pub fn element_type(declared: Declaration) -> Option<IntType>
+    ensures { result ≡ element_type declared }
+{
+    match declared {
+        Declaration::Single(VariableType::Integer(_)) => None,
+        Declaration::Single(VariableType::Pointer(pointer)) => Some(pointer.element),
+        Declaration::LocalArray(element) | Declaration::PrivateArray(element) => Some(element),
+    }
+}
+
+/// The type of a name's value.
 pub fn name_kind(meaning: Meaning<'_>) -> VariableType
     ensures { result ≡ name_kind (meaning_of meaning.entry) }
 {
     match meaning {
-        Meaning::Bound(kind) => kind,
+        Meaning::Bound(declared) => match value_type(declared) {
+            Some(kind) => kind,
+            None => VariableType::Integer(IntType::Int),
+        },
+        _ => VariableType::Integer(IntType::Int),
+    }
+}
+
+/// The type of an element behind a name.
+pub fn front_kind(meaning: Meaning<'_>) -> VariableType
+    ensures { result ≡ front_kind (meaning_of meaning.entry) }
+{
+    match meaning {
+        Meaning::Bound(declared) => match element_type(declared) {
+            Some(element) => VariableType::Integer(element),
+            None => VariableType::Integer(IntType::Int),
+        },
         _ => VariableType::Integer(IntType::Int),
     }
 }

@@ -1,6 +1,7 @@
 //! What a name can stand for.
 #![tactic(auto)]
 
+use clmodel::declaration::Declaration;
 use clmodel::setup::BuiltIn;
 use clmodel::tree::VariableType;
 use clnum::IntType;
@@ -18,8 +19,8 @@ pub struct Signature {
 /// What a name stands for.
 #[derive(Clone, Copy, Debug)]
 pub enum Meaning<'a> {
-    /// A variable or a parameter
-    Bound(VariableType),
+    /// A variable, a parameter or an array
+    Bound(Declaration),
     /// A function of the text before this one
     Callable(&'a Signature),
     /// The function whose text this is

@@ -10,6 +10,7 @@ ghost use Rattle.cltypes_scope.specs.Fenced.{names_of, AreAlike};
 use crate::context::Context;
 use crate::flags::is_fence;
 use crate::meaning::Meaning;
+use clmodel::declaration::Declaration;
 use clmodel::tree::VariableType;
 use clnum::IntType;
 
@@ -26,7 +27,7 @@ pub fn meaning_among(names: Names<'_>, name: u32) -> Meaning<'_>
     ensures { meaning_of result ≡ meaning (names_of names.entry) name }
 {
     if names.in_barrier && is_fence(name) {
-        Meaning::Bound(VariableType::Integer(IntType::Uint))
+        Meaning::Bound(Declaration::Single(VariableType::Integer(IntType::Uint)))
     } else {
         names.context.meaning(name)
     }

@@ -1,6 +1,6 @@
 -- The machine: what each command answers and leaves.
 use Rattle.std.specs.Prelude.{◌≡◌, ℕ, ◌+◌, ◌==◌, ◌⊎◌, Bool, true, false, not, ◌&&◌, ◌||◌, nat_le, nat_lt, if◌then◌else◌, IsTrue, List, [], ◌∷◌, ◌++◌, length, map, take, drop, replicate, slice_get, Option, None, Some, is_some, Result, Ok, Err}
-use Rattle.std.specs.List.{list_any}
+use Rattle.std.specs.List.{list_any, sum_by}
 use Rattle.std.specs.Map.{set_value}
 use Rattle.std.specs.Option.{option_map_or, unwrap_or, MatchOption}
 use Rattle.clmodel.specs.Law.{CleanWith, Reaches, RunsIntoFault}
@@ -9,14 +9,14 @@ use Rattle.clmodel.specs.Run.{Events, State}
 use Rattle.clmodel.specs.declared.fault.Fault.{Fault}
 use Rattle.clmodel.specs.Next.{launch_of}
 use Rattle.clmodel.specs.Outcome.{events_of, IsMerged}
-use Rattle.clmodel.specs.Setup.{Setup, buffer_names}
+use Rattle.clmodel.specs.Setup.{Setup, buffer_names, local_objects}
 use Rattle.clmodel.specs.Tree.{Program, NoFunc, program}
 use Rattle.clmodel.specs.declared.setup.Argument.{Argument}
 use Rattle.clmodel.specs.declared.setup.Argument.TheVariants as argument
 use Rattle.clmodel.specs.declared.setup.Range.{Range}
 use Rattle.device_store.specs.Buffers.{bytes_in, with_bytes}
 use Rattle.device_store.specs.Builds.{Builds}
-use Rattle.device_store.specs.Kernels.{local_bytes, KernelState, kernel_number, parameters_of, with_argument, new_kernel, no_kernel, suits}
+use Rattle.device_store.specs.Kernels.{KernelState, kernel_number, parameters_of, with_argument, new_kernel, no_kernel, suits}
 use Rattle.device_store.specs.Ranges.{is_bad_dimension, is_bad_group, is_too_many}
 use Rattle.device_store.specs.Tables.{Table, is, find, with_values}
 use Rattle.device_store.specs.declared.command.BuildFault.{BuildFault}
@@ -129,7 +129,7 @@ row m (command.Launch kernel range) =
     ∷ (is_bad_group range, BadGroupSize)
     ∷ (is_too_many range, TooManyItems)
     ∷ (list_any (λ a. not (is_some a)) (kernel_of m kernel).arguments, ArgumentsMissing)
-    ∷ (nat_lt 32768 (local_bytes (kernel_of m kernel).arguments), LocalTooLarge)
+    ∷ (nat_lt 32768 (sum_by (λ o. o.size) (local_objects (setup_of m (kernel_of m kernel) range))), LocalTooLarge)
     ∷ []
 
 -- A program that is built is there from then on. A source that isn't built is refused.

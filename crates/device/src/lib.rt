@@ -22,9 +22,10 @@ use clmodel::text::{Bytes, Name};
 use cltypes::Checked;
 use device_store::build::build;
 pub use device_store::command::{BuildFault, Command, Refusal, Reply};
-use device_store::kernel::{Kernel, is_local_too_large, kernel_number, parameters_of, suits};
+use device_store::kernel::{Kernel, kernel_number, parameters_of, suits};
 use device_store::ranges::{is_bad_dimension, is_bad_group, is_too_many};
 pub use device_store::table::Table;
+use item_step::is_local_too_large;
 pub use prepared::Prepared;
 use std::alloc::{AllocError, Global};
 
@@ -249,7 +250,7 @@ impl Device {
         if kernel.lacks_argument() {
             return Err(Refusal::ArgumentsMissing);
         }
-        if is_local_too_large(kernel.arguments(), 0) {
+        if is_local_too_large(&checked.tree, kernel.function(), kernel.arguments()) {
             return Err(Refusal::LocalTooLarge);
         }
         Ok(Prepared {

@@ -13,13 +13,6 @@ pub clipped : (n p m : ℕ) → min (n * min p m) m ≡ min (n * p) m
 clipped zero p m = omega arith
 clipped (suc n) p m = grind arith
 
-pub clipped_sum : (n p m : ℕ) → min (n + min p m) m ≡ min (n + p) m
-clipped_sum n p m = omega arith
-
--- a sum that is cut off at a number is above a smaller one where the sum is
-pub clipped_above : (n p : ℕ) → nat_lt 32768 (min (min n (2 ^ 64 - 1) + p) (2 ^ 64 - 1)) ≡ nat_lt 32768 (n + p)
-clipped_above n p = grind (arith, nat_tests)
-
 neither : (a b : Bool) → (a || b) ≡ false → (a ≡ false) × (b ≡ false)
 neither false false h = (refl, refl)
 neither false true h = cc

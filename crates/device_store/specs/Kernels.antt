@@ -1,6 +1,5 @@
 -- Kernels with their arguments (OpenCL 1.2, 5.7).
 use Rattle.std.specs.Prelude.{ℕ, ℤ, Bool, true, false, not, ◌&&◌, nat_le, int_le, List, Option, None, Some, is_some, position, slice_set, [], replicate}
-use Rattle.std.specs.List.{sum_by}
 use Rattle.std.specs.Option.{option_map, option_and_then, option_map_or}
 use Rattle.clnum.specs.Integer.{least, greatest}
 use Rattle.clnum.specs.declared.int_type.IntType.{IntType}
@@ -64,12 +63,3 @@ suits (variable_type.Pointer p) (argument.Value n) = false
 suits (variable_type.Integer kind) (argument.Value n) = is_in_range kind n
 suits (variable_type.Integer kind) (argument.Buffer name) = false
 suits (variable_type.Integer kind) (argument.Local size) = false
-
--- the bytes of local memory that an argument asks for (5.7.2, 6.5.2)
-abbrev pub local_size : Option Argument → ℕ
-local_size (Some (argument.Local size)) = size
-local_size _ = 0
-
--- so of all arguments: the plain sum
-abbrev pub local_bytes : List (Option Argument) → ℕ
-local_bytes arguments = sum_by local_size arguments

@@ -1,14 +1,14 @@
 //! Kernels with their arguments (OpenCL 1.2, section 5.7).
 #![tactic(auto)]
 
-ghost use Rattle.std.specs.Prelude.{◌≡◌, ◌<◌, ◌+◌, ◌-◌, ◌^◌, ℕ, position, None, Some, length, map, replicate, slice_set, IfOk, IfSome, is_some, true, not, min, nat_lt};
+ghost use Rattle.std.specs.Prelude.{◌≡◌, ◌<◌, ℕ, position, None, Some, length, map, replicate, slice_set, IfOk, IfSome, is_some, true, not};
 ghost use Rattle.std.specs.List.{list_any};
 ghost use Rattle.std.specs.Map.{set_value};
 ghost use Rattle.std.specs.Option.{option_map, unwrap_or};
 ghost use Rattle.clmodel.specs.Tree.{program, func, then_funcs, NoFunc};
 ghost use Rattle.clmodel.specs.Setup.{kernel_in};
 ghost use Rattle.device_store.specs.Tables.{is, find};
-ghost use Rattle.device_store.specs.Kernels.{kernel_number, names_kernel, parameters_of, with_argument, new_kernel, no_kernel, is_in_range, suits, local_size, local_bytes};
+ghost use Rattle.device_store.specs.Kernels.{kernel_number, names_kernel, parameters_of, with_argument, new_kernel, no_kernel, is_in_range, suits};
 
 use crate::table::Table;
 use clmodel::setup::Argument;
@@ -178,33 +178,4 @@ pub fn suits(kind: VariableType, argument: &Argument) -> bool
         (VariableType::Integer(kind), Argument::Value(n)) => is_in_range(kind, *n),
         _ => false,
     }
-}
-
-/// The bytes of local memory that an argument asks for.
-fn local_size(argument: &Option<Argument>) -> u64
-    ensures { result ≡ local_size argument.now }
-{
-    match argument {
-        Some(Argument::Local(size)) => *size,
-        _ => 0,
-    }
-}
-
-/// The bytes of local memory that arguments ask for, or the greatest number where they are more.
-#[tactic(auto, using(crate::proofs::Sizes::clipped_sum))]
-fn local_bytes(arguments: &[Option<Argument>]) -> u64
-    ensures { result ≡ min (local_bytes arguments.now) (2 ^ 64 - 1) }
-{
-    match arguments {
-        [] => 0,
-        [first, rest @ ..] => local_size(first).saturating_add(local_bytes(rest)),
-    }
-}
-
-/// Whether arguments ask for more local memory than a group may have, with so many bytes of other local objects.
-#[tactic(auto, using(crate::proofs::Sizes::clipped_above))]
-pub fn is_local_too_large(arguments: &[Option<Argument>], others: u64) -> bool
-    ensures { result ≡ nat_lt 32768 (local_bytes arguments.now + others) }
-{
-    local_bytes(arguments).saturating_add(others) > MAX_LOCAL
 }

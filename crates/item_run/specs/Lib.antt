@@ -1,3 +1,4 @@
+pub mod Arrays
 pub mod Leading
 pub mod Running
 pub mod Givens

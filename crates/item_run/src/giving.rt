@@ -4,16 +4,21 @@
 ghost use Rattle.std.specs.Prelude.{◌≡◌, ℕ, List, IsTrue};
 ghost use Rattle.clmodel.specs.Next.{Run};
 ghost use Rattle.regcode.specs.Machine.{State, act, with_put};
+ghost use Rattle.item_run.specs.Arrays.{registers_with};
 ghost use Rattle.item_run.specs.Givens.{given};
 ghost use Rattle.item_run.specs.Leading.{Leads};
 ghost use Rattle.item_run.specs.Running.{gives, target};
 
+use crate::elements::elements_of;
 use crate::halt::Halt;
 use crate::operators::work_dim;
 use crate::parameters::parameter;
+use crate::pointers::local_pointer;
+use crate::private_array::PrivateArray;
 use crate::surroundings::Surroundings;
 use crate::values::{
     asked, changed, common, converted, hold, joined, known, of_both, of_first, offset, pointed,
+    private_element,
 };
 use clmodel::operand::Operand;
 use regcode::Instruction;
@@ -22,11 +27,12 @@ use regcode::Instruction;
 pub fn value_of(
     surroundings: &Surroundings<'_>,
     registers: &[Option<Operand>],
+    arrays: &[PrivateArray],
     instruction: &Instruction,
 ) -> Result<Option<Operand>, Halt>
     requires { IsTrue (gives instruction.now) }
     ensures { (place : ℕ) (counters : List ℕ) (on after : State → Run) →
-        let state : State = record { place = place; registers = registers.now; counters = counters } in
+        let state : State = record { place = place; registers = registers_with registers.now arrays.now; counters = counters } in
         Leads result (act (given surroundings.now) (Some instruction.now) on after state) (λ v. on (with_put state (target instruction.now) v)) }
 {
     match instruction {
@@ -65,6 +71,24 @@ pub fn value_of(
         Instruction::Argument { number, kind, .. } => {
             Ok(parameter(surroundings.buffers, surroundings.arguments, *number, *kind))
         }
+        Instruction::Local {
+            number,
+            element,
+            ..
+        } => Ok(Some(Operand::Pointed(local_pointer(*number, *element)))),
+        Instruction::PrivateLoad {
+            array,
+            index,
+            element,
+            name,
+            ..
+        } => private_element(
+            registers,
+            elements_of(arrays, *array),
+            *index,
+            *element,
+            *name,
+        ),
         Instruction::Point { from, .. } => pointed(registers, *from),
         Instruction::Offset { pointer, index, .. } => { offset(registers, *pointer, *index) }
         _ => Err(Halt::Finish),

@@ -4,12 +4,14 @@
 mod accesses;
 mod asking;
 mod counters;
+mod elements;
 mod giving;
 mod halt;
 mod item;
 mod operators;
 mod parameters;
 mod pointers;
+mod private_array;
 mod run;
 mod stepping;
 mod surroundings;

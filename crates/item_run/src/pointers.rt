@@ -1,15 +1,17 @@
 //! How pointers move, and which values are numbers or pointers (OpenCL 1.2, section 6.5).
 #![tactic(auto)]
 
-ghost use Rattle.std.specs.Prelude.{◌≡◌, ◌+ℤ◌, ◌-ℤ◌};
+ghost use Rattle.std.specs.Prelude.{◌≡◌, ◌+ℤ◌, ◌-ℤ◌, pos};
 ghost use Rattle.clnum.specs.Integer.{Integer, wrap};
 ghost use Rattle.clnum.specs.declared.int_type.IntType.TheVariants as int_type;
 ghost use Rattle.clmodel.specs.Next as next;
 ghost use Rattle.clmodel.specs.Next.{Run};
+ghost use Rattle.clmodel.specs.declared.access.Object.TheVariants as object;
 ghost use Rattle.clmodel.specs.declared.operand.Pointer.{Pointer};
 ghost use Rattle.item_run.specs.Leading.{Leads};
 
 use crate::halt::Halt;
+use clmodel::access::Object;
 use clmodel::operand::{Operand, Pointer};
 use clnum::{IntType, Value};
 
@@ -66,6 +68,24 @@ pub fn moved_back(pointer: Operand, index: Operand) -> Result<Pointer, Halt>
             Operand::Pointed(_) => Err(Halt::Finish),
         },
         Operand::Integral(_) => Err(Halt::Finish),
+    }
+}
+
+/// An index as the offset of a pointer would be it.
+pub fn index_of(index: Value) -> i64
+    ensures { result ≡ next.index_of index }
+{
+    index.added_to(0)
+}
+
+/// A pointer to the start of a local object.
+pub fn local_pointer(number: u32, element: IntType) -> Pointer
+    ensures { result ≡ record { object = object.Local number; element = element; offset = pos 0 } }
+{
+    Pointer {
+        object: Object::Local(number),
+        element,
+        offset: 0,
     }
 }
 

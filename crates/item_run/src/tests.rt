@@ -74,6 +74,7 @@ fn code(alloc: Global) -> Result<Code, Fail> {
     let int = RegisterKind::Integer(IntType::Int);
     let tables = Tables {
         registers: vec![in alloc; RegisterKind::Pointer(IntType::Int), int, int]?,
+        arrays: Vec::new(alloc),
         names: 0,
         parameters: vec![in alloc; POINTER]?,
         loops: vec![in alloc; 0, 0, 0, 0, 0, 1, 1, 1, 1, 1, 1, 1, 0]?,
@@ -132,15 +133,19 @@ fn run(alloc: Global, item: &mut Item<'_>, number: i128) -> Result<Done, AllocEr
     Ok(done)
 }
 
-/// What an item with a budget has done.
-fn outcome(alloc: Global, budget: u32, number: i128) -> Result<Done, Fail> {
-    let code = code(alloc)?;
-    // the one item of a range without dimensions
-    let range = Range {
+/// A range without dimensions, of one item.
+fn nowhere(alloc: Global) -> Range {
+    Range {
         global: Numbers::new(Vec::new(alloc)),
         local: Numbers::new(Vec::new(alloc)),
         offset: Numbers::new(Vec::new(alloc)),
-    };
+    }
+}
+
+/// What an item with a budget has done.
+fn outcome(alloc: Global, budget: u32, number: i128) -> Result<Done, Fail> {
+    let code = code(alloc)?;
+    let range = nowhere(alloc);
     let buffers = vec![in alloc; Name::copy_of(alloc, b"b")?, Name::copy_of(alloc, b"a")?]?;
     let arguments = vec![in alloc; Some(Argument::Buffer(Name::copy_of(alloc, b"a")?))]?;
     let surroundings = Surroundings {
@@ -180,5 +185,95 @@ fn past_the_budget(rt: HostRuntime) -> Result<(), Fail> {
     );
     assert_eq!(rt; done.turns.as_slice(), [1, 2].as_slice());
     assert_eq!(rt; done.cause, Some(Cause::Budget));
+    Ok(())
+}
+
+const NEGATIVE: i128 = -5;
+
+/// `char p[2]; p[1] = -5; *q = p[1]; p[0]`, where `q` points to a local object.
+fn with_arrays(alloc: Global) -> Result<Code, Fail> {
+    let load = Instruction::PrivateLoad {
+        to: 3,
+        array: 0,
+        index: 1,
+        element: IntType::Char,
+        name: 6,
+    };
+    let instructions = vec![in alloc;
+        Instruction::UnsetArray {
+            array: 0,
+            length: 2
+        },
+        int(1, 1),
+        int(2, NEGATIVE),
+        Instruction::PrivateStore {
+            array: 0,
+            index: 1,
+            value: 2,
+            element: IntType::Char,
+            name: 6
+        },
+        load,
+        Instruction::Local {
+            to: 0,
+            number: 4,
+            element: IntType::Int
+        },
+        Instruction::Store {
+            pointer: 0,
+            value: 3
+        },
+        int(1, 0),
+        load,
+        Instruction::End,
+    ]?;
+    let int = RegisterKind::Integer(IntType::Int);
+    let char = RegisterKind::Integer(IntType::Char);
+    let tables = Tables {
+        registers: vec![in alloc; RegisterKind::Pointer(IntType::Int), int, int, char]?,
+        arrays: vec![in alloc; 2]?,
+        names: 7,
+        parameters: Vec::new(alloc),
+        loops: vec![in alloc; 0, 0, 0, 0, 0, 0, 0, 0, 0, 0]?,
+    };
+    Ok(verify(instructions, tables)?)
+}
+
+/// What is stored into a private array is loaded from there again, and an element that isn't set is a fault.
+#[test]
+fn arrays(rt: HostRuntime) -> Result<(), Fail> {
+    let alloc = rt.alloc();
+    let code = with_arrays(alloc)?;
+    let range = nowhere(alloc);
+    let surroundings = Surroundings {
+        context: Context {
+            alloc,
+            item: 0,
+            range: &range,
+            group_counts: &[],
+            group_size: 1,
+        },
+        buffers: &[],
+        arguments: &[],
+    };
+    let mut item = Item::start(&code, surroundings, 9)?;
+    let Action::Access {
+        object: Object::Local(4),
+        element: 0,
+        operation: Operation::Store(Width::Four, stored),
+    } = item.next()
+    else {
+        return Err(Fail::from("no store"));
+    };
+    assert_eq!(rt; stored, bits(NEGATIVE));
+    item.answer(Answer::Done);
+    let unset = Cause::UnsetElement {
+        array: 6,
+        element: 0,
+    };
+    let Action::Fault(cause) = item.next() else {
+        return Err(Fail::from("no fault"));
+    };
+    assert_eq!(rt; cause, unset);
     Ok(())
 }

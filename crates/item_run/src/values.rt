@@ -11,12 +11,13 @@ ghost use Rattle.clmodel.specs.declared.operand.Operand.{Operand};
 ghost use Rattle.clmodel.specs.declared.operand.Operand.TheVariants as operand;
 ghost use Rattle.clmodel.specs.declared.setup.BuiltIn.TheVariants as built_in;
 ghost use Rattle.clmodel.specs.declared.tree.VariableType.TheVariants as variable_type;
-ghost use Rattle.regcode.specs.Machine.{filled, reg};
+ghost use Rattle.regcode.specs.Machine.{filled, item_at};
 ghost use Rattle.item_run.specs.Leading.{Leads};
 
+use crate::elements::element;
 use crate::halt::Halt;
 use crate::operators::{chosen_value, combined, of_one, of_two, work_item};
-use crate::pointers::{moved, number, pointing};
+use crate::pointers::{index_of, moved, number, pointing};
 use clmodel::action::Cause;
 use clmodel::operand::Operand;
 use clmodel::setup::WorkItemFunction;
@@ -26,7 +27,7 @@ use item_state::context::Context;
 
 /// What a register has.
 pub fn register(registers: &[Option<Operand>], number: u32) -> Option<Operand>
-    ensures { result ≡ reg registers.now number }
+    ensures { result ≡ item_at None registers.now number }
 {
     let place = number as usize;
     if place < registers.len() {
@@ -38,7 +39,7 @@ pub fn register(registers: &[Option<Operand>], number: u32) -> Option<Operand>
 
 /// An operand.
 pub fn operand(registers: &[Option<Operand>], number: u32) -> Result<Operand, Halt>
-    ensures { (after : Operand → Run) → Leads result (filled (reg registers.now number) after) after }
+    ensures { (after : Operand → Run) → Leads result (filled (item_at None registers.now number) after) after }
 {
     match register(registers, number) {
         Some(value) => Ok(value),
@@ -48,7 +49,7 @@ pub fn operand(registers: &[Option<Operand>], number: u32) -> Result<Operand, Ha
 
 /// The value of a variable of a name, which must be set.
 pub fn known(registers: &[Option<Operand>], from: u32, name: u32) -> Result<Option<Operand>, Halt>
-    ensures { (after : Option Operand → Run) → Leads result (next.known name (reg registers.now from) (λ v. after (Some v))) after }
+    ensures { (after : Option Operand → Run) → Leads result (next.known name (item_at None registers.now from) (λ v. after (Some v))) after }
 {
     match register(registers, from) {
         Some(value) => Ok(Some(value)),
@@ -75,7 +76,7 @@ pub fn hold(
     from: u32,
     kind: VariableType,
 ) -> Result<Option<Operand>, Halt>
-    ensures { (after : Option Operand → Run) → Leads result (filled (reg registers.now from) (λ v. after (Some (next.held kind v)))) after }
+    ensures { (after : Option Operand → Run) → Leads result (filled (item_at None registers.now from) (λ v. after (Some (next.held kind v)))) after }
 {
     let value = operand(registers, from)?;
     Ok(Some(held(kind, value)))
@@ -87,7 +88,7 @@ pub fn converted(
     from: u32,
     kind: IntType,
 ) -> Result<Option<Operand>, Halt>
-    ensures { (after : Option Operand → Run) → Leads result (filled (reg registers.now from) (λ v. next.number v (λ n. after (Some (operand.Integral (converted n kind)))))) after }
+    ensures { (after : Option Operand → Run) → Leads result (filled (item_at None registers.now from) (λ v. next.number v (λ n. after (Some (operand.Integral (converted n kind)))))) after }
 {
     let value = operand(registers, from)?;
     let number = number(value)?;
@@ -100,7 +101,7 @@ pub fn common(
     from: u32,
     other: IntType,
 ) -> Result<Option<Operand>, Halt>
-    ensures { (after : Option Operand → Run) → Leads result (filled (reg registers.now from) (λ v. next.chosen_value v (variable_type.Integer other) (λ w. after (Some w)))) after }
+    ensures { (after : Option Operand → Run) → Leads result (filled (item_at None registers.now from) (λ v. next.chosen_value v (variable_type.Integer other) (λ w. after (Some w)))) after }
 {
     let value = operand(registers, from)?;
     let value = chosen_value(value, other)?;
@@ -113,7 +114,7 @@ pub fn changed(
     from: u32,
     operator: UnaryOperator,
 ) -> Result<Option<Operand>, Halt>
-    ensures { (after : Option Operand → Run) → Leads result (filled (reg registers.now from) (λ v. next.number v (λ n. after (Some (operand.Integral (unary_value operator n)))))) after }
+    ensures { (after : Option Operand → Run) → Leads result (filled (item_at None registers.now from) (λ v. next.number v (λ n. after (Some (operand.Integral (unary_value operator n)))))) after }
 {
     let value = operand(registers, from)?;
     let number = number(value)?;
@@ -127,7 +128,7 @@ pub fn joined(
     left: u32,
     right: u32,
 ) -> Result<Option<Operand>, Halt>
-    ensures { (after : Option Operand → Run) → Leads result (filled (reg registers.now left) (λ v. filled (reg registers.now right) (λ w. next.combined operator v w (λ x. after (Some x))))) after }
+    ensures { (after : Option Operand → Run) → Leads result (filled (item_at None registers.now left) (λ v. filled (item_at None registers.now right) (λ w. next.combined operator v w (λ x. after (Some x))))) after }
 {
     let left = operand(registers, left)?;
     let right = operand(registers, right)?;
@@ -141,7 +142,7 @@ pub fn of_first(
     function: Builtin,
     first: u32,
 ) -> Result<Option<Operand>, Halt>
-    ensures { (after : Option Operand → Run) → Leads result (filled (reg registers.now first) (λ v. next.integer_call function (v ∷ []) (λ x. after (Some x)))) after }
+    ensures { (after : Option Operand → Run) → Leads result (filled (item_at None registers.now first) (λ v. next.integer_call function (v ∷ []) (λ x. after (Some x)))) after }
 {
     let first = operand(registers, first)?;
     let value = of_one(function, first)?;
@@ -155,7 +156,7 @@ pub fn of_both(
     first: u32,
     second: u32,
 ) -> Result<Option<Operand>, Halt>
-    ensures { (after : Option Operand → Run) → Leads result (filled (reg registers.now first) (λ v. filled (reg registers.now second) (λ w. next.integer_call function (v ∷ w ∷ []) (λ x. after (Some x))))) after }
+    ensures { (after : Option Operand → Run) → Leads result (filled (item_at None registers.now first) (λ v. filled (item_at None registers.now second) (λ w. next.integer_call function (v ∷ w ∷ []) (λ x. after (Some x))))) after }
 {
     let first = operand(registers, first)?;
     let second = operand(registers, second)?;
@@ -170,7 +171,7 @@ pub fn asked(
     function: WorkItemFunction,
     dimension: u32,
 ) -> Result<Option<Operand>, Halt>
-    ensures { (after : Option Operand → Run) → Leads result (filled (reg registers.now dimension) (λ d. next.call (here context.now) (Some (built_in.WorkItem function)) (d ∷ []) (λ x. after (Some x)))) after }
+    ensures { (after : Option Operand → Run) → Leads result (filled (item_at None registers.now dimension) (λ d. next.call (here context.now) (Some (built_in.WorkItem function)) (d ∷ []) (λ x. after (Some x)))) after }
 {
     let dimension = operand(registers, dimension)?;
     Ok(Some(work_item(context, function, dimension)))
@@ -178,7 +179,7 @@ pub fn asked(
 
 /// An operand that is a pointer.
 pub fn pointed(registers: &[Option<Operand>], from: u32) -> Result<Option<Operand>, Halt>
-    ensures { (after : Option Operand → Run) → Leads result (filled (reg registers.now from) (λ v. next.pointing v (λ p. after (Some (operand.Pointed p))))) after }
+    ensures { (after : Option Operand → Run) → Leads result (filled (item_at None registers.now from) (λ v. next.pointing v (λ p. after (Some (operand.Pointed p))))) after }
 {
     let value = operand(registers, from)?;
     let pointer = pointing(value)?;
@@ -191,10 +192,26 @@ pub fn offset(
     pointer: u32,
     index: u32,
 ) -> Result<Option<Operand>, Halt>
-    ensures { (after : Option Operand → Run) → Leads result (filled (reg registers.now pointer) (λ p. filled (reg registers.now index) (λ i. next.moved p i (λ q. after (Some (operand.Pointed q)))))) after }
+    ensures { (after : Option Operand → Run) → Leads result (filled (item_at None registers.now pointer) (λ p. filled (item_at None registers.now index) (λ i. next.moved p i (λ q. after (Some (operand.Pointed q)))))) after }
 {
     let pointer = operand(registers, pointer)?;
     let index = operand(registers, index)?;
     let moved = moved(pointer, index)?;
     Ok(Some(Operand::Pointed(moved)))
+}
+
+/// An element of a private array; a fault with its name where there is none, or none that is set.
+pub fn private_element(
+    registers: &[Option<Operand>],
+    elements: &[Option<u64>],
+    index: u32,
+    kind: IntType,
+    name: u32,
+) -> Result<Option<Operand>, Halt>
+    ensures { (after : Option Operand → Run) → Leads result (filled (item_at None registers.now index) (λ i. next.read_element name kind elements.now i (λ v. after (Some v)))) after }
+{
+    let index = operand(registers, index)?;
+    let index = number(index)?;
+    let value = element(elements, name, index_of(index), kind)?;
+    Ok(Some(value))
 }

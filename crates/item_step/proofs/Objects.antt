@@ -23,6 +23,10 @@ objects_more ps arguments i p below is =
     let n : i + 1 ≡ suc i = omega arith in
     ap (λ k. parameter_objects (take k ps) arguments) n ∙ objects_next ps arguments i p below is
 
+pub objects_more_at : (ps : List Parameter) (arguments : List (Option Argument)) (i : ℕ) (d : Parameter) → i < length ps
+    → parameter_objects (take (i + 1) ps) arguments ≡ parameter_objects (take i ps) arguments ++ object_at arguments i (get_or ps i d) ∷ []
+objects_more_at ps arguments i d below = objects_more ps arguments i (get_or ps i d) below (get_or_default ps i d (get_or ps i d) below)
+
 pub names_more : (ps : List Parameter) (arguments : List (Option Argument)) (i : ℕ) (d : Parameter) → i < length ps
     → map (λ o. o.name) (parameter_objects (take i ps) arguments) ++ (get_or ps i d).name ∷ [] ≡ map (λ o. o.name) (parameter_objects (take (i + 1) ps) arguments)
 names_more ps arguments i d below =

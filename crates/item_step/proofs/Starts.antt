@@ -17,12 +17,12 @@ given_with launch number buffers = record { here = here_of (setup_of launch) num
 
 -- it acts as comes next
 pub acts_as_next : (launch : Launch) (number : ℕ) (buffers : List (List ℕ)) (item : Running) → buffers ≡ launch.buffers.items
-    → item ≡ record { code = launch.code; given = given_with launch number buffers; state = at_start (length launch.code.registers); ticks = launch.setup.budget }
+    → item ≡ record { code = launch.code; given = given_with launch number buffers; state = at_start (length launch.code.registers) (length launch.code.arrays); ticks = launch.setup.budget }
     → (answers : List Answer) → action_of item answers ≡ next (setup_of launch) number answers
 unfolding acts
 acts_as_next launch number buffers item named is answers =
     ap (λ i. action_of i answers) is
-    ∙ ap (λ names. acts_from (given_with launch number names) launch.code.instructions launch.setup.budget (at_start (length launch.code.registers)) answers)
+    ∙ ap (λ names. acts_from (given_with launch number names) launch.code.instructions launch.setup.budget (at_start (length launch.code.registers) (length launch.code.arrays)) answers)
     (named ∙ launch.named)
     ∙ launch.faithful number answers
 
@@ -30,5 +30,5 @@ acts_as_next launch number buffers item named is answers =
 pub ends_at_once : (code : Listing) (setup : Setup) → code.instructions ≡ instruction.End ∷ [] → setup.program.functions ≡ NoFunc → ActsAsNext code setup
 unfolding acts next
 ends_at_once code setup code_is none item answers =
-    ap (λ is. acts_from (given_of setup item) is setup.budget (at_start (length code.registers)) answers) code_is
+    ap (λ is. acts_from (given_of setup item) is setup.budget (at_start (length code.registers) (length code.arrays)) answers) code_is
     ∙ sym (ap (λ fs. walk (run_of setup item (functions_before fs setup.kernel) (kernel_in fs setup.kernel)) setup.budget answers) none)

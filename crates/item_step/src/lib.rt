@@ -8,4 +8,5 @@ mod setup;
 mod tests;
 
 pub use launch::Launch;
+pub use local_objects::is_local_too_large;
 pub use setup::Setup;

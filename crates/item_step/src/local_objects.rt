@@ -1,15 +1,20 @@
 //! The objects in the local memory of a group (OpenCL 1.2, section 6.5.2).
 #![tactic(auto)]
 
-ghost use Rattle.std.specs.Prelude.{◌≡◌, None, get_or, map, IfOk};
+ghost use Rattle.std.specs.Prelude.{◌≡◌, ◌-◌, ◌^◌, None, get_or, map, min, nat_lt, IfOk};
 ghost use Rattle.std.specs.Option.{option_map};
 ghost use Rattle.clmodel.specs.Setup as model;
-ghost use Rattle.clmodel.specs.Tree.{func, then_funcs, NoFunc};
-ghost use Rattle.item_step.specs.Objects.{Lists};
+ghost use Rattle.clmodel.specs.Tree as tree;
+ghost use Rattle.clmodel.specs.Tree.{func, program, stmt, then_funcs, then_stmts, NoFunc, NoStmt};
+ghost use Rattle.item_step.specs.Objects.{Lists, all_sizes, capped, listed};
 
 use clmodel::setup::Argument;
-use clmodel::tree::{Function, Parameter};
+use clmodel::tree::{Function, Parameter, Statement, Tree};
+use clnum::{IntType, Value};
 use std::alloc::{AllocError, Global};
+
+/// The most bytes of local memory that a group may have.
+const MAX_LOCAL: u64 = 32768;
 
 /// The local objects of a kernel in the order of their numbers: the numbers of their names, and their sizes in bytes.
 #[derive(Debug, Drop)]
@@ -48,6 +53,75 @@ fn parameter_objects(
     Ok(LocalObjects { names, sizes })
 }
 
+/// How many elements an array has, by the number in its brackets.
+fn array_length(length: Value) -> u64
+    ensures { result ≡ tree.array_length length }
+{
+    let number = length.number();
+    if number < 0 { 0 } else { number as u64 }
+}
+
+/// The bytes of an array, or the greatest number where they are more.
+fn array_bytes(element: IntType, length: Value) -> u64
+    ensures { result ≡ min (tree.array_bytes element length) (2 ^ 64 - 1) }
+{
+    let width = u64::from(element.bits() / 8);
+    width.saturating_mul(array_length(length))
+}
+
+/// The local object of a declaration: the number of its name, and its bytes, or the greatest number where they are more.
+fn declared_object(statement: &Statement) -> Option<(u32, u64)>
+    ensures { listed result ≡ map capped (model.declared_object (stmt statement.now)) }
+{
+    match statement {
+        Statement::Declare { name, .. } => Some((*name, 0)),
+        Statement::DeclareArray {
+            is_local,
+            element,
+            name,
+            length,
+            ..
+        } => {
+            let size = if *is_local {
+                array_bytes(*element, *length)
+            } else {
+                0
+            };
+            Some((*name, size))
+        }
+        _ => None,
+    }
+}
+
+/// The bytes of the local object of a declaration, or the greatest number where they are more.
+fn declared_size(statement: &Statement) -> u64
+    ensures { result ≡ all_sizes (map capped (model.declared_object (stmt statement.now))) }
+{
+    match declared_object(statement) {
+        Some(object) => object.1,
+        None => 0,
+    }
+}
+
+/// The local objects that the outermost block of a kernel declares. One of more bytes than can be counted is want of memory.
+fn declared_objects(alloc: Global, body: &[Statement]) -> Result<LocalObjects, AllocError>
+    ensures { IfOk result (Lists (model.body_objects (then_stmts NoStmt (map stmt body.now)))) }
+{
+    let mut names = Vec::new(alloc);
+    let mut sizes = Vec::new(alloc);
+    for statement in body {
+        let Some(object) = declared_object(statement) else {
+            continue;
+        };
+        if object.1 == u64::MAX {
+            return Err(AllocError);
+        }
+        names.push(object.0)?;
+        sizes.push(object.1)?;
+    }
+    Ok(LocalObjects { names, sizes })
+}
+
 /// The kernel of a name's number: the last function of the name that is one.
 #[tactic(auto, using(crate::proofs::Functions::one_more))]
 fn kernel_in(functions: &[Function], number: u32) -> Option<&Function>
@@ -72,10 +146,53 @@ pub(crate) fn local_objects(
     ensures { IfOk result (Lists (model.objects_of (model.kernel_in (then_funcs NoFunc (map func functions.now)) number) arguments.now)) }
 {
     match kernel_in(functions, number) {
-        Some(kernel) => parameter_objects(alloc, &kernel.parameters, arguments),
+        Some(kernel) => {
+            let mut objects = parameter_objects(alloc, &kernel.parameters, arguments)?;
+            let declared = declared_objects(alloc, &kernel.body)?;
+            objects.names.extend_from_slice(&declared.names)?;
+            objects.sizes.extend_from_slice(&declared.sizes)?;
+            Ok(objects)
+        }
         None => Ok(LocalObjects {
             names: Vec::new(alloc),
             sizes: Vec::new(alloc),
         }),
+    }
+}
+
+/// The bytes of the local objects of parameters with these arguments, or the greatest number where they are more.
+fn parameter_bytes(parameters: &[Parameter], arguments: &[Option<Argument>]) -> u64
+    ensures { result ≡ min (all_sizes (model.parameter_objects parameters.now arguments.now)) (2 ^ 64 - 1) }
+{
+    let mut bytes = 0u64;
+    for place in 0..parameters.len() {
+        bytes = bytes.saturating_add(local_size(arguments, place));
+    }
+    bytes
+}
+
+/// The bytes of the local objects that the outermost block of a kernel declares, or the greatest number where they are more.
+#[tactic(auto, using(crate::proofs::Declarations::bytes_more))]
+fn declared_bytes(body: &[Statement]) -> u64
+    ensures { result ≡ min (all_sizes (model.body_objects (then_stmts NoStmt (map stmt body.now)))) (2 ^ 64 - 1) }
+{
+    let mut bytes = 0u64;
+    for statement in body {
+        bytes = bytes.saturating_add(declared_size(statement));
+    }
+    bytes
+}
+
+/// Whether the local objects of the kernel of a name's number, with these arguments, are more than a group may have.
+#[tactic(auto, using(crate::proofs::Declarations::all_above))]
+pub fn is_local_too_large(tree: &Tree, number: u32, arguments: &[Option<Argument>]) -> bool
+    ensures { result ≡ nat_lt 32768 (all_sizes (model.objects_of (model.kernel_in (program tree.now).functions number) arguments.now)) }
+{
+    match kernel_in(tree.functions.as_slice(), number) {
+        Some(kernel) => {
+            let bytes = parameter_bytes(&kernel.parameters, arguments);
+            bytes.saturating_add(declared_bytes(&kernel.body)) > MAX_LOCAL
+        }
+        None => false,
     }
 }

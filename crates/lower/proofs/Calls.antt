@@ -15,11 +15,11 @@ use Rattle.regcode.specs.declared.instruction.Instruction.{Instruction}
 use Rattle.regcode.specs.declared.instruction.Instruction.TheVariants as instruction
 use Rattle.regcode.proofs.Agreement.{Agree, ends, unset_runs, hold_runs, argument_runs}
 use Rattle.regcode.proofs.Registers.{reg_kept}
-use Rattle.lower_expr.specs.Scope.{Scope, register_at, view}
+use Rattle.lower_expr.specs.Scope.{Scope, register_at, Sees, free_level}
 use Rattle.lower_expr.specs.Agreement.{HasAt, Hold}
 use Rattle.lower_expr.proofs.Places.{has_left, has_right}
-use Rattle.lower_code.specs.Code.{Exits, variable, Calls, no_value_code, stmts_code, parameter_variables, pass_code, result_in, body_code, call_code, arguments_code, kernel_code}
-use Rattle.lower.proofs.Scopes.{kind_small}
+use Rattle.lower_code.specs.Code.{Exits, variable, with_variable, Calls, no_value_code, stmts_code, parameter_variables, pass_code, result_in, body_code, call_code, arguments_code, kernel_code}
+use Rattle.lower.proofs.Scopes.{same_self, kind_small}
 use Rattle.lower.proofs.Stands.{Stands, Returned, put_stands, stands_to, stands_here, here_at}
 use Rattle.lower.proofs.Parts.{Placed}
 use Rattle.lower.proofs.Rights.{CallsRun}
@@ -40,39 +40,39 @@ hold_above level kind registers v numbers values placed held = go (level + 1) (o
         (reg_kept registers (register_at level kind) v i ne ∙ held.0, go (higher + 1) (omega arith) numbers values placed.1 held.1)
 
 -- one more variable at a level
-declared_at : (base : ℕ) (variables : Variables) (level name : ℕ) (kind : VariableType) (registers : Registers) (vs : Variables) (content : Option Operand) → level ≡ base + length variables → view base variables registers ≡ vs
-    → view base (variable name kind ∷ variables) (put registers (register_at level kind) content) ≡ record { name = name; kind = kind; content = content } ∷ vs
-declared_at base variables level name kind registers vs content e same =
-    subst (λ l. view base (variable name kind ∷ variables) (put registers (register_at l kind) content) ≡ record { name = name; kind = kind; content = content } ∷ vs) (sym e)
-    (declared_seen (record { base = base; variables = variables }) name kind registers vs content same)
+declared_at : (scope : Scope) (level name : ℕ) (kind : VariableType) (registers : Registers) (vs : Variables) (content : Option Operand) → level ≡ free_level scope → Sees scope registers vs
+    → Sees (with_variable scope name kind) (put registers (register_at level kind) content) (next.variable name kind content ∷ vs)
+declared_at scope level name kind registers vs content e same =
+    subst (λ l. Sees (with_variable scope name kind) (put registers (register_at l kind) content) (next.variable name kind content ∷ vs)) (sym e)
+    (declared_seen scope name kind registers vs content same)
 
 module _ (given : Given) (code : List Instruction) (limit : ℕ) where
   -- parameters are given the arguments of a call
   pass_runs : (ps : List Parameter) (numbers : List ℕ) (values : List Operand) (base level : ℕ) (variables vs : Variables) (s : State) (ts : List ℕ) (at : ℕ) (now : State) (run : Run)
-      → level ≡ base + length variables → Stands base s ts at now → view base variables now.registers ≡ vs → Hold now.registers numbers values → Placed level numbers → HasAt code at (pass_code ps numbers level)
-      → ((last : State) → Stands base s ts (at + length (pass_code ps numbers level)) last → view base (parameter_variables ps variables) last.registers ≡ next.passed ps values vs → Agree given code limit last run)
+      → level ≡ base + length variables → Stands base s ts at now → Sees (record { base = base; variables = variables }) now.registers vs → Hold now.registers numbers values → Placed level numbers → HasAt code at (pass_code ps numbers level)
+      → ((last : State) → Stands base s ts (at + length (pass_code ps numbers level)) last → Sees (record { base = base; variables = parameter_variables ps variables }) last.registers (next.passed ps values vs) → Agree given code limit last run)
       → Agree given code limit now run
   pass_runs [] numbers values base level variables vs s ts at now run e stands same held placed has go = go now (stands_to base s ts at now (at + 0) (omega arith) stands) same
   pass_runs (p ∷ ps) [] [] base level variables vs s ts at now run e stands same held placed has go =
       let last = with_put now (register_at level p.kind) None in
       unset_runs given code limit now run (register_at level p.kind) (here_at code at _ base s ts now stands has.0)
-      (pass_runs ps [] [] base (level + 1) (variable p.name p.kind ∷ variables) (record { name = p.name; kind = p.kind; content = None } ∷ vs) s ts (at + 1) last run (omega (arith, e))
-      (put_stands base level p.kind s ts at now None (omega (arith, e)) stands) (declared_at base variables level p.name p.kind now.registers vs None e same) tt tt has.1
+      (pass_runs ps [] [] base (level + 1) (variable p.name p.kind ∷ variables) (next.variable p.name p.kind None ∷ vs) s ts (at + 1) last run (omega (arith, e))
+      (put_stands base level p.kind s ts at now None (omega (arith, e)) stands) (declared_at (record { base = base; variables = variables }) level p.name p.kind now.registers vs None e same) tt tt has.1
       (λ final at_end sees. go final (stands_to base s ts _ final _ (omega arith) at_end) sees))
   pass_runs (p ∷ ps) [] (v ∷ values) base level variables vs s ts at now run e stands same held placed has go = absurd held
   pass_runs (p ∷ ps) (i ∷ numbers) [] base level variables vs s ts at now run e stands same held placed has go = absurd held
   pass_runs (p ∷ ps) (i ∷ numbers) (v ∷ values) base level variables vs s ts at now run e stands same held' placed has go =
       let last = with_put now (register_at level p.kind) (Some (held p.kind v)) in
       hold_runs given code limit now run (register_at level p.kind) i p.kind v (here_at code at _ base s ts now stands has.0) held'.0
-      (pass_runs ps numbers values base (level + 1) (variable p.name p.kind ∷ variables) (record { name = p.name; kind = p.kind; content = Some (held p.kind v) } ∷ vs) s ts (at + 1) last run (omega (arith, e))
-      (put_stands base level p.kind s ts at now (Some (held p.kind v)) (omega (arith, e)) stands) (declared_at base variables level p.name p.kind now.registers vs (Some (held p.kind v)) e same)
+      (pass_runs ps numbers values base (level + 1) (variable p.name p.kind ∷ variables) (next.variable p.name p.kind (Some (held p.kind v)) ∷ vs) s ts (at + 1) last run (omega (arith, e))
+      (put_stands base level p.kind s ts at now (Some (held p.kind v)) (omega (arith, e)) stands) (declared_at (record { base = base; variables = variables }) level p.name p.kind now.registers vs (Some (held p.kind v)) e same)
       (hold_above level p.kind now.registers (Some (held p.kind v)) numbers values placed.1 held'.1) placed.1 has.1
       (λ final at_end sees. go final (stands_to base s ts _ final _ (omega arith) at_end) sees))
 
   -- parameters are given the arguments of the launch
   arguments_run : (ps : List Parameter) (arguments : List (Option Argument)) (level : ℕ) (variables vs : Variables) (s : State) (at : ℕ) (now : State) (run : Run)
-      → level ≡ length variables → ((i : ℕ) → argument_at given.arguments (level + i) ≡ argument_at arguments i) → Stands 0 s [] at now → view 0 variables now.registers ≡ vs → HasAt code at (arguments_code ps level)
-      → ((last : State) → Stands 0 s [] (at + length (arguments_code ps level)) last → view 0 (parameter_variables ps variables) last.registers ≡ bound given.buffers level ps arguments vs → Agree given code limit last run)
+      → level ≡ length variables → ((i : ℕ) → argument_at given.arguments (level + i) ≡ argument_at arguments i) → Stands 0 s [] at now → Sees (record { base = 0; variables = variables }) now.registers vs → HasAt code at (arguments_code ps level)
+      → ((last : State) → Stands 0 s [] (at + length (arguments_code ps level)) last → Sees (record { base = 0; variables = parameter_variables ps variables }) last.registers (bound given.buffers level ps arguments vs) → Agree given code limit last run)
       → Agree given code limit now run
   arguments_run [] arguments level variables vs s at now run e from stands same has go = go now (stands_to 0 s [] at now (at + 0) (omega arith) stands) same
   arguments_run (p ∷ ps) [] level variables vs s at now run e from stands same has go =
@@ -80,20 +80,22 @@ module _ (given : Given) (code : List Instruction) (limit : ℕ) where
       let last = with_put now (register_at level p.kind) value in
       let is : value ≡ content given.buffers level p.kind None = ap (content given.buffers level p.kind) (ap (argument_at given.arguments) (let n : level ≡ level + 0 = omega arith in n) ∙ from 0) in
       argument_runs given code limit now run (register_at level p.kind) level p.kind (here_at code at _ 0 s [] now stands has.0)
-      (arguments_run ps [] (level + 1) (variable p.name p.kind ∷ variables) (record { name = p.name; kind = p.kind; content = content given.buffers level p.kind None } ∷ vs) s (at + 1) last run (omega (arith, e))
+      (arguments_run ps [] (level + 1) (variable p.name p.kind ∷ variables) (next.variable p.name p.kind (content given.buffers level p.kind None) ∷ vs) s (at + 1) last run (omega (arith, e))
       (λ i. ap (argument_at given.arguments) (let n : level + 1 + i ≡ level + suc i = omega arith in n) ∙ from (suc i))
       (put_stands 0 level p.kind s [] at now value (omega arith) stands)
-      (declared_at 0 variables level p.name p.kind now.registers vs value (omega (arith, e)) same ∙ ap (λ c. record { name = p.name; kind = p.kind; content = c } ∷ vs) is) has.1
+      (subst (λ c. Sees (record { base = 0; variables = variable p.name p.kind ∷ variables }) last.registers (next.variable p.name p.kind c ∷ vs)) is
+      (declared_at (record { base = 0; variables = variables }) level p.name p.kind now.registers vs value (omega (arith, e)) same)) has.1
       (λ final at_end sees. go final (stands_to 0 s [] _ final _ (omega arith) at_end) sees))
   arguments_run (p ∷ ps) (argument ∷ arguments) level variables vs s at now run e from stands same has go =
       let value = content given.buffers level p.kind (argument_at given.arguments level) in
       let last = with_put now (register_at level p.kind) value in
       let is : value ≡ content given.buffers level p.kind argument = ap (content given.buffers level p.kind) (ap (argument_at given.arguments) (let n : level ≡ level + 0 = omega arith in n) ∙ from 0) in
       argument_runs given code limit now run (register_at level p.kind) level p.kind (here_at code at _ 0 s [] now stands has.0)
-      (arguments_run ps arguments (level + 1) (variable p.name p.kind ∷ variables) (record { name = p.name; kind = p.kind; content = content given.buffers level p.kind argument } ∷ vs) s (at + 1) last run (omega (arith, e))
+      (arguments_run ps arguments (level + 1) (variable p.name p.kind ∷ variables) (next.variable p.name p.kind (content given.buffers level p.kind argument) ∷ vs) s (at + 1) last run (omega (arith, e))
       (λ i. ap (argument_at given.arguments) (let n : level + 1 + i ≡ level + suc i = omega arith in n) ∙ from (suc i))
       (put_stands 0 level p.kind s [] at now value (omega arith) stands)
-      (declared_at 0 variables level p.name p.kind now.registers vs value (omega (arith, e)) same ∙ ap (λ c. record { name = p.name; kind = p.kind; content = c } ∷ vs) is) has.1
+      (subst (λ c. Sees (record { base = 0; variables = variable p.name p.kind ∷ variables }) last.registers (next.variable p.name p.kind c ∷ vs)) is
+      (declared_at (record { base = 0; variables = variables }) level p.name p.kind now.registers vs value (omega (arith, e)) same)) has.1
       (λ final at_end sees. go final (stands_to 0 s [] _ final _ (omega arith) at_end) sees))
 
 returned_none : (result : Option IntType) → returned_as result None ≡ None
@@ -103,7 +105,7 @@ returned_none (Some kind) = refl
 -- a function's body, whose ends all lead to the end of its code
 module _ (given : Given) (code : List Instruction) (most : ℕ) (calls : Calls) (results : ℕ → Option IntType) (helpers : Helpers) (run_calls : CallsRun given code most calls results helpers) (inside : ℕ → ℕ) where
   pub body_runs : (f : Func) (limit : ℕ) → limit ≤ most → (level : ℕ) (s : State) (ts : List ℕ) (site at : ℕ) (now : State) (vs : Variables) (k : Follows)
-      → Stands level s ts at now → view level (parameter_variables f.parameters []) now.registers ≡ vs → HasAt code at (body_code calls results inside f level (length ts) site)
+      → Stands level s ts at now → Sees (record { base = level; variables = parameter_variables f.parameters [] }) now.registers vs → HasAt code at (body_code calls results inside f level (length ts) site)
       → ((last : State) (vs : Variables) → Stands level s ts (at + length (body_code calls results inside f level (length ts) site)) last → Returned f.result level last.registers None → Agree given code limit last (k.next vs))
       → ((last : State) (vs : Variables) → Stands level s ts (at + length (body_code calls results inside f level (length ts) site)) last → Returned f.result level last.registers None → Agree given code limit last (k.broken vs))
       → ((last : State) (vs : Variables) → Stands level s ts (at + length (body_code calls results inside f level (length ts) site)) last → Returned f.result level last.registers None → Agree given code limit last (k.continued vs))
@@ -142,7 +144,7 @@ module _ (given : Given) (code : List Instruction) (most : ℕ) (earlier : Funcs
       let first = pass_code f.parameters numbers level in
       let second = body_code (call_code earlier) (result_in earlier) (sites_in earlier) f level (length ts) site in
       let lengths = length-append first second in
-      pass_runs given code limit f.parameters numbers values level level [] [] now ts now.place now _ (omega arith) (stands_here level now ts turns) refl held placed (has_left code first second now.place has)
+      pass_runs given code limit f.parameters numbers values level level [] [] now ts now.place now _ (omega arith) (stands_here level now ts turns) (record { same = refl; arrays = refl }) held placed (has_left code first second now.place has)
       (λ middle stands sees.
       let to_end : (now.place + length first) + length second ≡ now.place + length (first ++ second) = omega (arith, lengths) in
       body_runs given code most (call_code earlier) (result_in earlier) (helper most given.here earlier) run_calls (sites_in earlier) f limit below level now ts site (now.place + length first) middle (next.passed f.parameters values []) (as_call f.result after)
@@ -197,7 +199,7 @@ kernel_runs given most earlier f limit start below zero_is =
     let at_end : (now : State) → Stands 0 start [] (length first + length second) now → Agree given code limit now finish =
     λ now stands. ends given code limit now (here_at code (length first + length second) _ 0 start [] now stands end.0) in
     arguments_run given code limit f.parameters given.arguments 0 [] [] start 0 start _ refl (λ i. ap (argument_at given.arguments) (let n : 0 + i ≡ i = omega arith in n))
-    (record { at = zero_is; kept = λ i less. refl; turns = refl }) refl (has_left code first (second ++ last) 0 has)
+    (record { at = zero_is; kept = same_self 0 start.registers; turns = refl }) (record { same = refl; arrays = refl }) (has_left code first (second ++ last) 0 has)
     (λ now stands sees.
     body_runs given code most (call_code earlier) (result_in earlier) (helper most given.here earlier) (calls_run given code most earlier) (sites_in earlier) f limit below 0 start [] 0 (length first) now _ at_the_end
     (stands_to 0 start [] _ now (length first) (omega arith) stands) sees (has_left code second last (length first) rest)

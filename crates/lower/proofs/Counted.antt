@@ -1,8 +1,8 @@
 -- The tables of code, one instruction at a time.
-use Rattle.std.proofs.Common.{◌≡◌, ℕ, ◌+◌, ◌<◌, max, List, [], ◌∷◌, ◌++◌, length, drop, get_or, ap, sym, ◌∙◌, arith, append_assoc}
+use Rattle.std.proofs.Common.{◌≡◌, ℕ, zero, suc, ◌+◌, ◌<◌, ◌≤◌, max, slice_set, refl, List, [], ◌∷◌, ◌++◌, length, drop, get_or, ap, sym, ◌∙◌, arith, append_assoc}
 use Rattle.std.proofs.lemmas.List.{drop_more}
 use Rattle.regcode.specs.declared.instruction.Instruction.{Instruction}
-use Rattle.lower.specs.Tables.{registers_of, room, register_count, names_of, name_count, depth_after, loops_from}
+use Rattle.lower.specs.Tables.{registers_of, room, register_count, names_of, name_count, widened, lengths_with, lengths_from, depth_after, loops_from}
 
 here : (code : List Instruction) (i : ℕ) (x : Instruction) → i < length code → x ≡ get_or code i x → drop i code ≡ x ∷ drop (i + 1) code
 here code i x below is = drop_more code i x below ∙ ap (λ y. y ∷ drop (i + 1) code) (sym is)
@@ -25,3 +25,20 @@ loops_more code i x loops depth after below is wanted before =
     append_assoc loops (depth ∷ []) _
     ∙ (ap (λ d. loops ++ depth ∷ loops_from d (drop (i + 1) code)) wanted
     ∙ (ap (λ ys. loops ++ loops_from depth ys) (sym (here code i x below is)) ∙ before))
+
+pub lengths_more : (code : List Instruction) (i : ℕ) (x : Instruction) (lengths now : List ℕ) → i < length code → x ≡ get_or code i x → now ≡ lengths_with lengths x
+    → lengths_from lengths (drop i code) ≡ lengths_from [] code → lengths_from now (drop (i + 1) code) ≡ lengths_from [] code
+lengths_more code i x lengths now below is wanted before =
+    ap (λ ls. lengths_from ls (drop (i + 1) code)) wanted ∙ (ap (λ ys. lengths_from lengths ys) (sym (here code i x below is)) ∙ before)
+
+-- a private array that isn't there yet
+pub widened_more : (lengths : List ℕ) (array count : ℕ) → length lengths ≤ array → widened (lengths ++ 0 ∷ []) array count ≡ widened lengths array count
+widened_more [] zero count h = refl
+widened_more [] (suc array) count h = refl
+widened_more (most ∷ lengths) zero count h = absurd (omega (arith, h))
+widened_more (most ∷ lengths) (suc array) count h = ap (λ rest. most ∷ rest) (widened_more lengths array count (omega (arith, h)))
+
+pub widened_set : (lengths : List ℕ) (array count most : ℕ) → array < length lengths → most ≡ get_or lengths array most → slice_set lengths array (max most count) ≡ widened lengths array count
+widened_set [] array count most h e = absurd (omega (arith, h))
+widened_set (first ∷ lengths) zero count most h e = ap (λ m. max m count ∷ lengths) e
+widened_set (first ∷ lengths) (suc array) count most h e = ap (λ rest. first ∷ rest) (widened_set lengths array count most (omega (arith, h)) e)

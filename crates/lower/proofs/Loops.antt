@@ -6,7 +6,7 @@ use Rattle.regcode.specs.Machine.{State, Given, with_turns, passed, onward}
 use Rattle.regcode.specs.declared.instruction.Instruction.{Instruction}
 use Rattle.regcode.specs.declared.instruction.Instruction.TheVariants as instruction
 use Rattle.regcode.proofs.Agreement.{Agree, with_fewer, enter_runs, jump_runs, turn_runs, back_runs, branch_runs}
-use Rattle.lower_expr.specs.Scope.{Scope, seen, free_level}
+use Rattle.lower_expr.specs.Scope.{Scope, Sees, free_level}
 use Rattle.lower_expr.specs.Expressions.{expr_code, register_for}
 use Rattle.lower_expr.specs.Agreement.{HasAt}
 use Rattle.lower_expr.proofs.Places.{has_left, has_right, has_moved, seen_kept}
@@ -39,15 +39,15 @@ none_left given code s run = record { by = λ count ticks below enough. absurd (
 module _ (given : Given) (code : List Instruction) (bound : ℕ) (scope : Scope) (s : State) (ts : List ℕ) (turn condition back by : ℕ)
     (holds : Variables → (Bool → Run) → Run) (body : ℕ → Variables → (Variables → Run) → Run) (after : Variables → Run)
     (turn_there : slice_get code turn ≡ Some (instruction.Turn (length ts))) (back_there : slice_get code back ≡ Some (instruction.Back by)) (goes_back : turn + by ≡ back)
-    (condition_runs : (fewer count : ℕ) (now : State) (vs : Variables) (run : Bool → Run) → Stands scope.base s (ts ++ count ∷ []) condition now → seen scope now.registers ≡ vs
-    → ((last : State) → Stands scope.base s (ts ++ count ∷ []) back last → seen scope last.registers ≡ vs → Agree given code fewer last (run true))
-    → ((last : State) → Stands scope.base s (ts ++ count ∷ []) (back + 1) last → seen scope last.registers ≡ vs → Agree given code fewer last (run false))
+    (condition_runs : (fewer count : ℕ) (now : State) (vs : Variables) (run : Bool → Run) → Stands scope.base s (ts ++ count ∷ []) condition now → Sees scope now.registers vs
+    → ((last : State) → Stands scope.base s (ts ++ count ∷ []) back last → Sees scope last.registers vs → Agree given code fewer last (run true))
+    → ((last : State) → Stands scope.base s (ts ++ count ∷ []) (back + 1) last → Sees scope last.registers vs → Agree given code fewer last (run false))
     → Agree given code fewer now (holds vs run))
-    (body_runs : (fewer : ℕ) → fewer ≤ bound → (count : ℕ) (now : State) (vs : Variables) (again : Variables → Run) → Stands scope.base s (ts ++ count ∷ []) (turn + 1) now → seen scope now.registers ≡ vs
-    → ((last : State) (vs : Variables) → Stands scope.base s (ts ++ count ∷ []) condition last → seen scope last.registers ≡ vs → Agree given code fewer last (again vs))
+    (body_runs : (fewer : ℕ) → fewer ≤ bound → (count : ℕ) (now : State) (vs : Variables) (again : Variables → Run) → Stands scope.base s (ts ++ count ∷ []) (turn + 1) now → Sees scope now.registers vs
+    → ((last : State) (vs : Variables) → Stands scope.base s (ts ++ count ∷ []) condition last → Sees scope last.registers vs → Agree given code fewer last (again vs))
     → Agree given code fewer now (body count vs again))
-    (after_runs : (now : State) (vs : Variables) → Stands scope.base s ts (back + 1) now → seen scope now.registers ≡ vs → Agree given code bound now (after vs)) where
-  pub turns_run : (most fewer : ℕ) → fewer ≤ most → fewer ≤ bound → (count : ℕ) (now : State) (vs : Variables) → Stands scope.base s (ts ++ count ∷ []) condition now → seen scope now.registers ≡ vs
+    (after_runs : (now : State) (vs : Variables) → Stands scope.base s ts (back + 1) now → Sees scope now.registers vs → Agree given code bound now (after vs)) where
+  pub turns_run : (most fewer : ℕ) → fewer ≤ most → fewer ≤ bound → (count : ℕ) (now : State) (vs : Variables) → Stands scope.base s (ts ++ count ∷ []) condition now → Sees scope now.registers vs
       → Agree given code fewer now (turns most holds body after count vs)
   turns_run zero zero enough below count now vs stands same = none_left given code now _
   turns_run zero (suc fewer) enough below count now vs stands same = absurd (omega (arith, enough))
@@ -65,7 +65,7 @@ module _ (given : Given) (code : List Instruction) (bound : ℕ) (scope : Scope)
       (λ last at_end sees. with_fewer given code bound (suc fewer) last (after vs) below (after_runs last vs (stands_out scope.base s ts count (back + 1) last at_end) sees))
 
   -- from the first turn on
-  pub first_turn_runs : (most fewer : ℕ) → fewer ≤ most → fewer ≤ bound → (now : State) (vs : Variables) → Stands scope.base s (ts ++ 0 ∷ []) turn now → seen scope now.registers ≡ vs
+  pub first_turn_runs : (most fewer : ℕ) → fewer ≤ most → fewer ≤ bound → (now : State) (vs : Variables) → Stands scope.base s (ts ++ 0 ∷ []) turn now → Sees scope now.registers vs
       → Agree given code fewer now (tick (body 1 vs (turns most holds body after 1)))
   first_turn_runs most zero enough below now vs stands same = none_left given code now _
   first_turn_runs most (suc fewer) enough below now vs stands same =
@@ -77,9 +77,9 @@ module _ (given : Given) (code : List Instruction) (bound : ℕ) (scope : Scope)
 
 -- a condition
 pub holds_runs : (given : Given) (code : List Instruction) (scope : Scope) (t : MaybeTerm) (s : State) (place back : ℕ) → HasAt code place (condition_code scope t) → place + length (condition_code scope t) ≡ back
-    → (ts : List ℕ) (bound : ℕ) (now : State) (vs : Variables) (run : Bool → Run) → Stands scope.base s ts place now → seen scope now.registers ≡ vs
-    → ((last : State) → Stands scope.base s ts back last → seen scope last.registers ≡ vs → Agree given code bound last (run true))
-    → ((last : State) → Stands scope.base s ts (back + 1) last → seen scope last.registers ≡ vs → Agree given code bound last (run false))
+    → (ts : List ℕ) (bound : ℕ) (now : State) (vs : Variables) (run : Bool → Run) → Stands scope.base s ts place now → Sees scope now.registers vs
+    → ((last : State) → Stands scope.base s ts back last → Sees scope last.registers vs → Agree given code bound last (run true))
+    → ((last : State) → Stands scope.base s ts (back + 1) last → Sees scope last.registers vs → Agree given code bound last (run false))
     → Agree given code bound now (condition given.here t vs run)
 holds_runs given code scope Always s place back has e ts bound now vs run stands same holding failing =
     holding now (stands_to scope.base s ts place now back (omega (arith, e)) stands) same
@@ -103,11 +103,11 @@ module _ (given : Given) (code : List Instruction) (bound most : ℕ) (below : b
     (body : ℕ → Variables → (Variables → Run) → Run) (after : Variables → Run) where
   -- it begins with its condition
   pub while_runs : HasAt code at (while_code (length ts) inner (condition_code scope t))
-      → ((fewer : ℕ) → fewer ≤ bound → (count : ℕ) (now : State) (vs : Variables) (again : Variables → Run) → Stands scope.base s (ts ++ count ∷ []) (at + 3) now → seen scope now.registers ≡ vs
-      → ((last : State) (vs : Variables) → Stands scope.base s (ts ++ count ∷ []) (at + 3 + length inner) last → seen scope last.registers ≡ vs → Agree given code fewer last (again vs))
+      → ((fewer : ℕ) → fewer ≤ bound → (count : ℕ) (now : State) (vs : Variables) (again : Variables → Run) → Stands scope.base s (ts ++ count ∷ []) (at + 3) now → Sees scope now.registers vs
+      → ((last : State) (vs : Variables) → Stands scope.base s (ts ++ count ∷ []) (at + 3 + length inner) last → Sees scope last.registers vs → Agree given code fewer last (again vs))
       → Agree given code fewer now (body count vs again))
-      → ((now : State) (vs : Variables) → Stands scope.base s ts (at + length (while_code (length ts) inner (condition_code scope t))) now → seen scope now.registers ≡ vs → Agree given code bound now (after vs))
-      → (now : State) (vs : Variables) → Stands scope.base s ts at now → seen scope now.registers ≡ vs
+      → ((now : State) (vs : Variables) → Stands scope.base s ts (at + length (while_code (length ts) inner (condition_code scope t))) now → Sees scope now.registers vs → Agree given code bound now (after vs))
+      → (now : State) (vs : Variables) → Stands scope.base s ts at now → Sees scope now.registers vs
       → Agree given code bound now (turns most (condition given.here t) body after 0 vs)
   while_runs has body_runs after_runs now vs stands same =
       let c = condition_code scope t in
@@ -132,11 +132,11 @@ module _ (given : Given) (code : List Instruction) (bound most : ℕ) (below : b
 
   -- it begins with its body
   pub do_runs : HasAt code at (do_code (length ts) inner (condition_code scope t))
-      → ((fewer : ℕ) → fewer ≤ bound → (count : ℕ) (now : State) (vs : Variables) (again : Variables → Run) → Stands scope.base s (ts ++ count ∷ []) (at + 2) now → seen scope now.registers ≡ vs
-      → ((last : State) (vs : Variables) → Stands scope.base s (ts ++ count ∷ []) (at + 2 + length inner) last → seen scope last.registers ≡ vs → Agree given code fewer last (again vs))
+      → ((fewer : ℕ) → fewer ≤ bound → (count : ℕ) (now : State) (vs : Variables) (again : Variables → Run) → Stands scope.base s (ts ++ count ∷ []) (at + 2) now → Sees scope now.registers vs
+      → ((last : State) (vs : Variables) → Stands scope.base s (ts ++ count ∷ []) (at + 2 + length inner) last → Sees scope last.registers vs → Agree given code fewer last (again vs))
       → Agree given code fewer now (body count vs again))
-      → ((now : State) (vs : Variables) → Stands scope.base s ts (at + length (do_code (length ts) inner (condition_code scope t))) now → seen scope now.registers ≡ vs → Agree given code bound now (after vs))
-      → (now : State) (vs : Variables) → Stands scope.base s ts at now → seen scope now.registers ≡ vs
+      → ((now : State) (vs : Variables) → Stands scope.base s ts (at + length (do_code (length ts) inner (condition_code scope t))) now → Sees scope now.registers vs → Agree given code bound now (after vs))
+      → (now : State) (vs : Variables) → Stands scope.base s ts at now → Sees scope now.registers vs
       → Agree given code bound now (tick (body 1 vs (turns most (condition given.here t) body after 1)))
   do_runs has body_runs after_runs now vs stands same =
       let c = condition_code scope t in

@@ -1,14 +1,13 @@
 -- Assignments, whose right sides may be calls of helpers.
-use Rattle.std.proofs.Common.{◌≡◌, ℕ, ◌+◌, ◌<◌, ◌≤◌, Bool, true, false, Option, None, Some, List, ◌∷◌, ◌++◌, length, take, pos, refl, sym, ap, ◌∙◌, subst, arith, length-append}
+use Rattle.std.proofs.Common.{◌≡◌, ℕ, ◌+◌, ◌*◌, ◌<◌, ◌≤◌, if◌then◌else◌, Bool, true, false, Option, None, Some, List, ◌∷◌, ◌++◌, length, take, pos, refl, sym, ap, ◌∙◌, subst, arith, length-append}
 use Rattle.clnum.specs.declared.int_type.IntType.{IntType}
 use Rattle.clnum.specs.declared.int_type.IntType.TheVariants.{Int}
 use Rattle.clnum.specs.declared.operators.BinaryOperator.{BinaryOperator}
 use Rattle.clmodel.specs.Barrier.{fences}
-use Rattle.clmodel.specs.Next.{Run, finish, Variables, Helpers, combined, reach, fetch, one, infix_type, argument_type, call_type, HelperCall, value_of, assigned, call_only, call_statement}
+use Rattle.clmodel.specs.Next.{Run, finish, Variables, Destination, is_array, Helpers, combined, reach, fetch, one, infix_type, argument_type, call_type, HelperCall, value_of, assigned, call_only, call_statement}
 use Rattle.clmodel.specs.Next as next
 use Rattle.clmodel.specs.Tree.{Term, Terms, Place, Whole, Part, Behind}
 use Rattle.clmodel.specs.declared.operand.Operand.{Operand}
-use Rattle.clmodel.specs.declared.operand.Destination.{Destination}
 use Rattle.clmodel.specs.declared.setup.BuiltIn.{BuiltIn}
 use Rattle.clmodel.specs.declared.tree.InfixOperator.TheVariants.{Arithmetic}
 use Rattle.clmodel.specs.declared.tree.VariableType.{VariableType}
@@ -18,15 +17,15 @@ use Rattle.regcode.specs.declared.instruction.Instruction.{Instruction}
 use Rattle.regcode.specs.declared.instruction.Instruction.TheVariants as instruction
 use Rattle.regcode.proofs.Agreement.{Agree, ends, constant_runs, binary_runs}
 use Rattle.regcode.proofs.Registers.{reg_put}
-use Rattle.lower_expr.specs.Scope.{Scope, register_at, seen, free_level}
+use Rattle.lower_expr.specs.Scope.{Scope, register_at, Sees, free_level}
 use Rattle.lower_expr.specs.Expressions.{kind_named, kind_of, terms_code, place_code, place_register, register_for, registers_for, call_only_code}
-use Rattle.lower_expr.specs.Agreement.{HasAt, Hold}
+use Rattle.lower_expr.specs.Agreement.{HasAt, Hold, HoldsPart, HoldsPlace}
 use Rattle.lower_expr.proofs.Places.{has_left, has_right, has_moved, register_below, seen_kept}
 use Rattle.lower_expr.proofs.Expressions.{expr_runs, terms_run}
 use Rattle.lower_code.specs.Code.{Calls, result_type, needed_code, place_type, fetch_code, put_code, combine_code, right_code, right_type, assign_code, compound_code, step_code, call_only_statement}
-use Rattle.lower.proofs.Scopes.{Same, put_same, view_same}
+use Rattle.lower.proofs.Scopes.{Same, reached_same, put_same, sees_same}
 use Rattle.lower.proofs.Stands.{Stands, Returned, stands_then, reached_stands, put_stands, stands_to, stands_here, here_at, seen_stands}
-use Rattle.lower.proofs.Parts.{Held, Placed, arguments_placed, reach_runs, fetch_runs, put_runs, put_unset, binary_unset, wait_runs, only_runs}
+use Rattle.lower.proofs.Parts.{Placed, arguments_placed, reach_runs, fetch_runs, put_runs, put_unset, binary_unset, wait_runs, only_runs}
 
 -- what the code of calls owes: it acts as the helpers do, and leaves their values
 pub record CallsRun (given : Given) (code : List Instruction) (most : ℕ) (calls : Calls) (results : ℕ → Option IntType) (helpers : Helpers) : Type 0 where
@@ -35,20 +34,33 @@ pub record CallsRun (given : Given) (code : List Instruction) (most : ℕ) (call
       → ((last : State) (v : Option Operand) → Stands level now ts (now.place + length (calls name numbers level (length ts) site)) last → Returned (results name) level last.registers v → Agree given code bound last (after v))
       → Agree given code bound now (helpers name values site ts after)
 
--- a pointer at hand is still there where lower registers are kept
-pub held_kept : (registers now : Registers) (pointer : ℕ) (place : Place) (to : Destination) → reg now pointer ≡ reg registers pointer → Held registers pointer place to → Held now pointer place to
-held_kept registers now pointer (Whole at name) to e h = h
-held_kept registers now pointer (Part at name index) to e h = (h.0, h.1, e ∙ h.2)
-held_kept registers now pointer (Behind at term) to e h = (h.0, h.1, e ∙ h.2)
+-- what a destination goes by is still there where lower registers are kept
+held_kept : (scope : Scope) (registers now : Registers) (register : ℕ) (place : Place) (to : Destination) → reg now register ≡ reg registers register
+    → HoldsPlace scope registers register place to → HoldsPlace scope now register place to
+held_kept scope registers now register (Whole at name) to e h = h
+held_kept scope registers now register (Part at name index) to e h = part (is_array scope.variables name) h
+  where
+    part : (b : Bool) → HoldsPart b registers register name to → HoldsPart b now register name to
+    part true h = (h.0, h.1, e ∙ h.2)
+    part false h = (h.0, h.1, e ∙ h.2)
+held_kept scope registers now register (Behind at term) to e h = (h.0, h.1, e ∙ h.2)
 
--- where that pointer is
+-- where that is
+either_below : (b : Bool) (m n k : ℕ) → m < k → n < k → (if b then m else n) < k
+either_below true m n k h g = h
+either_below false m n k h g = g
+
+place_below : (scope : Scope) (level higher : ℕ) (place : Place) → level < higher → place_register scope level place < 16 * higher
+place_below scope level higher (Whole at name) less = omega (arith, less)
+place_below scope level higher (Part at name index) less =
+    either_below (is_array scope.variables name) (register_for scope level index) (register_at level (kind_named scope name)) (16 * higher)
+    (register_below level (kind_of scope index) higher less) (register_below level (kind_named scope name) higher less)
+place_below scope level higher (Behind at term) less = register_below level (kind_of scope term) higher less
+
 pub pointer_kept : (scope : Scope) (level higher : ℕ) (place : Place) (to : Destination) (registers now : Registers) → level < higher → Same higher registers now
-    → Held registers (place_register scope level place) place to → Held now (place_register scope level place) place to
-pointer_kept scope level higher (Whole at name) to registers now less same h = h
-pointer_kept scope level higher (Part at name index) to registers now less same h =
-    held_kept registers now (register_at level (kind_named scope name)) (Part at name index) to (same _ (register_below level (kind_named scope name) higher less)) h
-pointer_kept scope level higher (Behind at term) to registers now less same h =
-    held_kept registers now (register_for scope level term) (Behind at term) to (same _ (register_below level (kind_of scope term) higher less)) h
+    → HoldsPlace scope registers (place_register scope level place) place to → HoldsPlace scope now (place_register scope level place) place to
+pointer_kept scope level higher place to registers now less same h =
+    held_kept scope registers now (place_register scope level place) place to (same.registers _ (place_below scope level higher place less)) h
 
 module _ (given : Given) (code : List Instruction) (most : ℕ) (calls : Calls) (results : ℕ → Option IntType) (helpers : Helpers) (run_calls : CallsRun given code most calls results helpers) (inside : ℕ → ℕ) (result : Option IntType) (bound : ℕ) (below : bound ≤ most) where
   -- a call whose value is wanted
@@ -62,7 +74,7 @@ module _ (given : Given) (code : List Instruction) (most : ℕ) (calls : Calls) 
 
   -- the right side
   pub right_runs : (scope : Scope) (level : ℕ) (c : Option HelperCall) (value : Term) (site : ℕ) (ts : List ℕ) (now : State) (vs : Variables) (after : Operand → Run) → free_level scope ≤ level
-      → seen scope now.registers ≡ vs → take (length ts) now.counters ≡ ts → HasAt code now.place (right_code calls results inside result scope level c value (length ts) site)
+      → Sees scope now.registers vs → take (length ts) now.counters ≡ ts → HasAt code now.place (right_code calls results inside result scope level c value (length ts) site)
       → ((last : State) (v : Option Operand) → Stands level now ts (now.place + length (right_code calls results inside result scope level c value (length ts) site)) last
       → reg last.registers (register_at level (right_type calls results inside result scope c value)) ≡ v → Agree given code bound last (value_of v after))
       → Agree given code bound now (assigned most given.here helpers inside c value site ts vs after)
@@ -89,9 +101,9 @@ module _ (given : Given) (code : List Instruction) (most : ℕ) (calls : Calls) 
 
   -- a value is put there, if there is one
   put_wanted : (scope : Scope) (place : Place) (s : State) (ts : List ℕ) (at : ℕ) (now : State) (vs : Variables) (pointer level : ℕ) (from : VariableType) (to : Destination) (v : Option Operand) (run : Variables → Run) → free_level scope ≤ level
-      → Stands scope.base s ts at now → seen scope now.registers ≡ vs → Held now.registers pointer place to → reg now.registers (register_at level from) ≡ v
+      → Stands scope.base s ts at now → Sees scope now.registers vs → HoldsPlace scope now.registers pointer place to → reg now.registers (register_at level from) ≡ v
       → HasAt code at (put_code scope place pointer (register_at level from))
-      → ((last : State) (after : Variables) → Stands scope.base s ts (at + length (put_code scope place pointer (register_at level from))) last → seen scope last.registers ≡ after → Agree given code bound last (run after))
+      → ((last : State) (after : Variables) → Stands scope.base s ts (at + length (put_code scope place pointer (register_at level from))) last → Sees scope last.registers after → Agree given code bound last (run after))
       → Agree given code bound now (value_of v (λ v. next.put to v vs run))
   put_wanted scope place s ts at now vs pointer level from to None run free stands same held is has go =
       put_unset given code bound scope place s ts at now pointer (register_at level from) to stands held is has
@@ -100,10 +112,10 @@ module _ (given : Given) (code : List Instruction) (most : ℕ) (calls : Calls) 
 
   -- the operator of a compound assignment
   pub combine_runs : (scope : Scope) (place : Place) (operator : BinaryOperator) (kind : VariableType) (s : State) (ts : List ℕ) (at : ℕ) (now : State) (vs : Variables) (to : Destination) (old : Operand) (v : Option Operand) (run : Variables → Run)
-      → Stands scope.base s ts at now → seen scope now.registers ≡ vs → Held now.registers (place_register scope (free_level scope) place) place to
+      → Stands scope.base s ts at now → Sees scope now.registers vs → HoldsPlace scope now.registers (place_register scope (free_level scope) place) place to
       → reg now.registers (register_at (free_level scope + 1) (place_type scope place)) ≡ Some old → reg now.registers (register_at (free_level scope + 2) kind) ≡ v
       → HasAt code at (combine_code scope place (free_level scope) operator kind (register_at (free_level scope + 1) (place_type scope place)) (register_at (free_level scope + 2) kind))
-      → ((last : State) (after : Variables) → Stands scope.base s ts (at + length (combine_code scope place (free_level scope) operator kind (register_at (free_level scope + 1) (place_type scope place)) (register_at (free_level scope + 2) kind))) last → seen scope last.registers ≡ after → Agree given code bound last (run after))
+      → ((last : State) (after : Variables) → Stands scope.base s ts (at + length (combine_code scope place (free_level scope) operator kind (register_at (free_level scope + 1) (place_type scope place)) (register_at (free_level scope + 2) kind))) last → Sees scope last.registers after → Agree given code bound last (run after))
       → Agree given code bound now (value_of v (λ v. combined operator old v (λ new. next.put to new vs run)))
   combine_runs scope place operator kind s ts at now vs to old None run stands same held is none has go =
       binary_unset given code bound now _ operator (register_at (free_level scope + 1) (place_type scope place)) (register_at (free_level scope + 2) kind) old (here_at code at _ scope.base s ts now stands has.0) is none
@@ -117,15 +129,15 @@ module _ (given : Given) (code : List Instruction) (most : ℕ) (calls : Calls) 
       let kept = put_same (level + 1) type (level + 1) now.registers (Some new) (omega arith) in
       put_runs given code bound scope place s ts (at + 1) last vs (place_register scope level place) (level + 1) type to new run (omega arith)
       (put_stands scope.base (level + 1) type s ts at now (Some new) (omega arith) stands)
-      (view_same scope.base scope.variables now.registers last.registers (put_same (level + 1) type level now.registers (Some new) (omega arith)) ∙ same)
+      (sees_same scope now.registers last.registers vs (put_same (level + 1) type level now.registers (Some new) (omega arith)) same)
       (pointer_kept scope level (level + 1) place to now.registers last.registers (omega arith) kept held)
       (reg_put now.registers target (Some new)) has.1
       (λ final after at_end sees. go final after (stands_to scope.base s ts _ final _ (omega arith) at_end) sees))
 
   -- an assignment
   pub assign_runs : (scope : Scope) (place : Place) (c : Option HelperCall) (value : Term) (site : ℕ) (ts : List ℕ) (s : State) (at : ℕ) (now : State) (vs : Variables) (run : Variables → Run)
-      → Stands scope.base s ts at now → seen scope now.registers ≡ vs → HasAt code at (assign_code calls results inside result scope (free_level scope) place c value (length ts) site)
-      → ((last : State) (after : Variables) → Stands scope.base s ts (at + length (assign_code calls results inside result scope (free_level scope) place c value (length ts) site)) last → seen scope last.registers ≡ after → Agree given code bound last (run after))
+      → Stands scope.base s ts at now → Sees scope now.registers vs → HasAt code at (assign_code calls results inside result scope (free_level scope) place c value (length ts) site)
+      → ((last : State) (after : Variables) → Stands scope.base s ts (at + length (assign_code calls results inside result scope (free_level scope) place c value (length ts) site)) last → Sees scope last.registers after → Agree given code bound last (run after))
       → Agree given code bound now (reach given.here place vs (λ to. assigned most given.here helpers inside c value site ts vs (λ v. next.put to v vs run)))
   assign_runs scope place c value site ts s at now vs run stands same has go =
       let level = free_level scope in
@@ -153,8 +165,8 @@ module _ (given : Given) (code : List Instruction) (most : ℕ) (calls : Calls) 
 
   -- a compound assignment
   pub compound_runs : (scope : Scope) (place : Place) (operator : BinaryOperator) (c : Option HelperCall) (value : Term) (site : ℕ) (ts : List ℕ) (s : State) (at : ℕ) (now : State) (vs : Variables) (run : Variables → Run)
-      → Stands scope.base s ts at now → seen scope now.registers ≡ vs → HasAt code at (compound_code calls results inside result scope (free_level scope) place operator c value (length ts) site)
-      → ((last : State) (after : Variables) → Stands scope.base s ts (at + length (compound_code calls results inside result scope (free_level scope) place operator c value (length ts) site)) last → seen scope last.registers ≡ after → Agree given code bound last (run after))
+      → Stands scope.base s ts at now → Sees scope now.registers vs → HasAt code at (compound_code calls results inside result scope (free_level scope) place operator c value (length ts) site)
+      → ((last : State) (after : Variables) → Stands scope.base s ts (at + length (compound_code calls results inside result scope (free_level scope) place operator c value (length ts) site)) last → Sees scope last.registers after → Agree given code bound last (run after))
       → Agree given code bound now (reach given.here place vs (λ to. fetch to vs (λ old. assigned most given.here helpers inside c value site ts vs (λ v. combined operator old v (λ new. next.put to new vs run)))))
   compound_runs scope place operator c value site ts s at now vs run stands same has go =
       let level = free_level scope in
@@ -185,16 +197,16 @@ module _ (given : Given) (code : List Instruction) (most : ℕ) (calls : Calls) 
       (stands_then scope.base (level + 2) s ts (middle.place + length second) later (later.place + length third) last (omega arith) reached' arrived)
       (seen_stands scope (level + 2) later ts (later.place + length third) last vs (omega arith) arrived sees')
       (pointer_kept scope level (level + 2) place to later.registers last.registers (omega arith) arrived.kept
-      (pointer_kept scope level (level + 1) place to middle.registers later.registers (omega arith) q.kept held))
-      (arrived.kept target (register_below (level + 1) (place_type scope place) (level + 2) (omega arith)) ∙ old_is)
+      (pointer_kept scope level (level + 1) place to middle.registers later.registers (omega arith) (reached_same (level + 1) middle (middle.place + length second) later q) held))
+      (arrived.kept.registers target (register_below (level + 1) (place_type scope place) (level + 2) (omega arith)) ∙ old_is)
       is (has_right code third fourth later.place (later.place + length third) refl rest')
       (λ final after at_end final_sees.
       go final after (stands_to scope.base s ts _ final _ (let a = r.at in let b = stands.at in let d = q.at in omega (arith, a, b, d, lengths, lengths', lengths'')) at_end) final_sees))))
 
   -- `++` and `--`
   pub step_runs : (scope : Scope) (place : Place) (operator : BinaryOperator) (ts : List ℕ) (s : State) (at : ℕ) (now : State) (vs : Variables) (run : Variables → Run)
-      → Stands scope.base s ts at now → seen scope now.registers ≡ vs → HasAt code at (step_code calls results inside result scope (free_level scope) place operator)
-      → ((last : State) (after : Variables) → Stands scope.base s ts (at + length (step_code calls results inside result scope (free_level scope) place operator)) last → seen scope last.registers ≡ after → Agree given code bound last (run after))
+      → Stands scope.base s ts at now → Sees scope now.registers vs → HasAt code at (step_code calls results inside result scope (free_level scope) place operator)
+      → ((last : State) (after : Variables) → Stands scope.base s ts (at + length (step_code calls results inside result scope (free_level scope) place operator)) last → Sees scope last.registers after → Agree given code bound last (run after))
       → Agree given code bound now (reach given.here place vs (λ to. fetch to vs (λ old. combined operator old one (λ new. next.put to new vs run))))
   step_runs scope place operator ts s at now vs run stands same has go =
       let level = free_level scope in
@@ -223,22 +235,22 @@ module _ (given : Given) (code : List Instruction) (most : ℕ) (calls : Calls) 
       constant_runs given code bound later _ number (record { kind = Int; number = pos 1 }) rest'.0
       (combine_runs scope place operator (Integer Int) s ts (middle.place + length second + 1) last vs to old (Some one) run
       (put_stands scope.base (level + 2) (Integer Int) s ts (middle.place + length second) later (Some one) (omega arith) reached')
-      (view_same scope.base scope.variables later.registers last.registers (put_same (level + 2) (Integer Int) level later.registers (Some one) (omega arith)) ∙ sees')
+      (sees_same scope later.registers last.registers vs (put_same (level + 2) (Integer Int) level later.registers (Some one) (omega arith)) sees')
       (pointer_kept scope level (level + 2) place to later.registers last.registers (omega arith) kept
-      (pointer_kept scope level (level + 1) place to middle.registers later.registers (omega arith) q.kept held))
-      (kept target (register_below (level + 1) (place_type scope place) (level + 2) (omega arith)) ∙ old_is)
+      (pointer_kept scope level (level + 1) place to middle.registers later.registers (omega arith) (reached_same (level + 1) middle (middle.place + length second) later q) held))
+      (kept.registers target (register_below (level + 1) (place_type scope place) (level + 2) (omega arith)) ∙ old_is)
       (reg_put later.registers number (Some one)) (has_moved code fourth (later.place + 1) (middle.place + length second + 1) (ap (λ n. n + 1) q.at) rest'.1)
       (λ final after at_end final_sees.
       go final after (stands_to scope.base s ts _ final _ (let a = r.at in let b = stands.at in let d = q.at in omega (arith, a, b, d, lengths, lengths')) at_end) final_sees))))
 
   -- a call that is a whole statement
   pub only_call_runs : (scope : Scope) (is_barrier : Bool) (function : Option BuiltIn) (name : ℕ) (arguments : Terms) (site : ℕ) (ts : List ℕ) (s : State) (at : ℕ) (now : State) (vs : Variables) (run : Run)
-      → Stands scope.base s ts at now → seen scope now.registers ≡ vs → HasAt code at (call_only_statement calls results inside result scope is_barrier function name arguments (length ts) site)
-      → ((last : State) → Stands scope.base s ts (at + length (call_only_statement calls results inside result scope is_barrier function name arguments (length ts) site)) last → seen scope last.registers ≡ vs → Agree given code bound last run)
+      → Stands scope.base s ts at now → Sees scope now.registers vs → HasAt code at (call_only_statement calls results inside result scope is_barrier function name arguments (length ts) site)
+      → ((last : State) → Stands scope.base s ts (at + length (call_only_statement calls results inside result scope is_barrier function name arguments (length ts) site)) last → Sees scope last.registers vs → Agree given code bound last run)
       → Agree given code bound now (call_statement most given.here helpers inside is_barrier function name arguments site ts vs run)
   only_call_runs scope true function name arguments site ts s at now vs run stands same has go =
       wait_runs given code bound (fences arguments) scope.base s ts at now site run stands has
-      (λ last at_end kept. go last at_end (ap (seen scope) kept ∙ same))
+      (λ last at_end kept. go last at_end (subst (λ registers. Sees scope registers vs) (sym kept) same))
   only_call_runs scope false (Some function) name arguments site ts s at now vs run stands same has go =
       let level = free_level scope in
       let numbers = registers_for scope level arguments in
@@ -254,7 +266,7 @@ module _ (given : Given) (code : List Instruction) (most : ℕ) (calls : Calls) 
       (has_right code first second now.place (now.place + length first) refl here)
       (λ last at_end kept.
       go last (stands_to scope.base s ts _ last _ (let b = stands.at in omega (arith, b, lengths)) at_end)
-      (view_same scope.base scope.variables middle.registers last.registers kept ∙ seen_kept scope level now (now.place + length first) middle vs (omega arith) r same)))
+      (sees_same scope middle.registers last.registers vs kept (seen_kept scope level now (now.place + length first) middle vs (omega arith) r same))))
   only_call_runs scope false None name arguments site ts s at now vs run stands same has go =
       let level = free_level scope in
       let numbers = registers_for scope level arguments in

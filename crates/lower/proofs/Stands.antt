@@ -5,15 +5,16 @@ use Rattle.clmodel.specs.Next.{Run, Variables, Follows, leave, returned_as}
 use Rattle.clmodel.specs.declared.operand.Operand.{Operand}
 use Rattle.clmodel.specs.declared.tree.VariableType.{VariableType}
 use Rattle.clmodel.specs.declared.tree.VariableType.TheVariants.{Integer}
-use Rattle.regcode.specs.Machine.{State, Given, Registers, reg, with_put, passed, onward}
+use Rattle.regcode.specs.Machine.{State, Given, Registers, reg, with_put, with_array, passed, onward}
 use Rattle.regcode.specs.declared.instruction.Instruction.{Instruction}
 use Rattle.regcode.proofs.Agreement.{Agree, with_fewer}
-use Rattle.lower_expr.specs.Scope.{Scope, register_at, view, seen, free_level}
+use Rattle.lower_expr.specs.Scope.{Scope, register_at, Sees, free_level}
 use Rattle.lower_expr.specs.Agreement.{Reached}
+use Rattle.lower_expr.proofs.Places.{sees_kept}
 use Rattle.lower_code.specs.Code.{Exits}
-use Rattle.lower.proofs.Scopes.{Same, put_same, view_same, Within, outer_left}
+use Rattle.lower.proofs.Scopes.{Same, same_self, same_then, reached_same, put_same, array_same, Within, outer_left}
 
--- a state at a place, with the registers below a level of another state, inside loops that have made these turns
+-- a state at a place, with the registers and the private arrays below a level of another state, inside loops that have made these turns
 pub record Stands (level : ℕ) (s : State) (ts : List ℕ) (place : ℕ) (now : State) : Type 0 where
   pub at : now.place ≡ place
   pub kept : Same level s.registers now.registers
@@ -39,9 +40,9 @@ Returned (Some kind) level registers v = reg registers (register_at level (Integ
 
 -- at each of its ends the code agrees with what follows there
 pub record Ends (given : Given) (code : List Instruction) (bound : ℕ) (result : Option IntType) (s : State) (scope : Scope) (after : Variables) (ts : List ℕ) (places : Places) (k : Follows) : Type 0 where
-  pub next : (now : State) (vs : Variables) → Stands scope.base s ts places.next now → view scope.base after now.registers ≡ vs → Agree given code bound now (k.next vs)
-  pub broken : (now : State) (vs : Variables) → Stands scope.base s ts places.broken now → leave (length scope.variables) vs ≡ seen scope now.registers → Agree given code bound now (k.broken vs)
-  pub continued : (now : State) (vs : Variables) → Stands scope.base s ts places.continued now → leave (length scope.variables) vs ≡ seen scope now.registers → Agree given code bound now (k.continued vs)
+  pub next : (now : State) (vs : Variables) → Stands scope.base s ts places.next now → Sees (record scope { variables = after }) now.registers vs → Agree given code bound now (k.next vs)
+  pub broken : (now : State) (vs : Variables) → Stands scope.base s ts places.broken now → Sees scope now.registers (leave (length scope.variables) vs) → Agree given code bound now (k.broken vs)
+  pub continued : (now : State) (vs : Variables) → Stands scope.base s ts places.continued now → Sees scope now.registers (leave (length scope.variables) vs) → Agree given code bound now (k.continued vs)
   pub returned : (now : State) (v : Option Operand) → Stands scope.base s ts places.returned now → Returned result scope.base now.registers (returned_as result v) → Agree given code bound now (k.returned v)
 
 -- the turns of the outer loops, and of the innermost
@@ -70,18 +71,23 @@ all_turns (t ∷ ts) = ap (λ l. t ∷ l) (all_turns ts)
 pub stands_then : (level higher : ℕ) (s : State) (ts : List ℕ) (place : ℕ) (now : State) (later : ℕ) (last : State) → level ≤ higher
     → Stands level s ts place now → Stands higher now ts later last → Stands level s ts later last
 stands_then level higher s ts place now later last less h g =
-    record { at = g.at; kept = λ i below. g.kept i (omega (arith, less, below)) ∙ h.kept i below; turns = g.turns }
+    record { at = g.at; kept = same_then level higher s.registers now.registers last.registers less h.kept g.kept; turns = g.turns }
 
 pub reached_stands : (level higher : ℕ) (s : State) (ts : List ℕ) (place : ℕ) (now : State) (later : ℕ) (last : State) → level ≤ higher
     → Stands level s ts place now → Reached higher now later last → Stands level s ts later last
 reached_stands level higher s ts place now later last less h g =
-    record { at = g.at; kept = λ i below. g.kept i (omega (arith, less, below)) ∙ h.kept i below; turns = ap (take (length ts)) g.turns ∙ h.turns }
+    record { at = g.at; kept = same_then level higher s.registers now.registers last.registers less h.kept (reached_same higher now later last g); turns = ap (take (length ts)) g.turns ∙ h.turns }
 
--- a register of a higher level is written
+-- a register or a private array of a higher level is written
 pub put_stands : (level higher : ℕ) (kind : VariableType) (s : State) (ts : List ℕ) (place : ℕ) (now : State) (v : Option Operand) → level ≤ higher
     → Stands level s ts place now → Stands level s ts (place + 1) (with_put now (register_at higher kind) v)
 put_stands level higher kind s ts place now v less h =
-    record { at = ap (λ n. n + 1) h.at; kept = λ i below. put_same higher kind level now.registers v less i below ∙ h.kept i below; turns = h.turns }
+    record { at = ap (λ n. n + 1) h.at; kept = same_then level level s.registers now.registers _ (omega arith) h.kept (put_same higher kind level now.registers v less); turns = h.turns }
+
+pub array_stands : (level higher : ℕ) (s : State) (ts : List ℕ) (place : ℕ) (now : State) (elements : List (Option ℕ)) → level ≤ higher
+    → Stands level s ts place now → Stands level s ts (place + 1) (with_array now higher elements)
+array_stands level higher s ts place now elements less h =
+    record { at = ap (λ n. n + 1) h.at; kept = same_then level level s.registers now.registers _ (omega arith) h.kept (array_same higher level now.registers elements less); turns = h.turns }
 
 pub passed_stands : (level : ℕ) (s : State) (ts : List ℕ) (place : ℕ) (now : State) → Stands level s ts place now → Stands level s ts (place + 1) (passed now)
 passed_stands level s ts place now h = record { at = ap (λ n. n + 1) h.at; kept = h.kept; turns = h.turns }
@@ -93,7 +99,7 @@ pub stands_to : (level : ℕ) (s : State) (ts : List ℕ) (place : ℕ) (now : S
 stands_to level s ts place now later e h = record { at = h.at ∙ e; kept = h.kept; turns = h.turns }
 
 pub stands_here : (level : ℕ) (s : State) (ts : List ℕ) → take (length ts) s.counters ≡ ts → Stands level s ts s.place s
-stands_here level s ts e = record { at = refl; kept = λ i below. refl; turns = e }
+stands_here level s ts e = record { at = refl; kept = same_self level s.registers; turns = e }
 
 -- out of a loop
 pub stands_out : (level : ℕ) (s : State) (ts : List ℕ) (count place : ℕ) (now : State) → Stands level s (ts ++ count ∷ []) place now → Stands level s ts place now
@@ -105,9 +111,9 @@ here_at code place i level s ts now h e = ap (slice_get code) h.at ∙ e
 
 -- what the scope sees while its registers are kept
 pub seen_stands : (scope : Scope) (level : ℕ) (s : State) (ts : List ℕ) (place : ℕ) (now : State) (vs : Variables) → free_level scope ≤ level → Stands level s ts place now
-    → seen scope s.registers ≡ vs → seen scope now.registers ≡ vs
+    → Sees scope s.registers vs → Sees scope now.registers vs
 seen_stands scope level s ts place now vs free h e =
-    view_same scope.base scope.variables s.registers now.registers (λ i below. h.kept i (omega (arith, free, below))) ∙ e
+    sees_kept scope s.registers now.registers vs (λ i below. h.kept.registers i (omega (arith, free, below))) (λ a below. h.kept.arrays a (omega (arith, free, below))) e
 
 -- fewer ticks are left
 pub ends_fewer : (given : Given) (code : List Instruction) (bound fewer : ℕ) (result : Option IntType) (s : State) (scope : Scope) (after : Variables) (ts : List ℕ) (places : Places) (k : Follows)
@@ -126,15 +132,15 @@ pub ends_within : (given : Given) (code : List Instruction) (bound : ℕ) (resul
 ends_within given code bound result s scope inner after ts places k w h =
     record {
       next = h.next;
-      broken = λ now vs at e. h.broken now vs at (outer_left scope.base scope.variables inner vs now.registers w e);
-      continued = λ now vs at e. h.continued now vs at (outer_left scope.base scope.variables inner vs now.registers w e);
+      broken = λ now vs at e. h.broken now vs at (outer_left scope inner vs now.registers w e);
+      continued = λ now vs at e. h.continued now vs at (outer_left scope inner vs now.registers w e);
       returned = h.returned;
     }
 
 -- from an end to the next
 pub ends_before : (given : Given) (code : List Instruction) (bound : ℕ) (result : Option IntType) (s : State) (scope : Scope) (after middle : Variables) (ts : List ℕ) (places : Places) (place : ℕ) (k : Follows) (next : Variables → Run)
     → Ends given code bound result s scope after ts places k
-    → ((now : State) (vs : Variables) → Stands scope.base s ts place now → view scope.base middle now.registers ≡ vs → Agree given code bound now (next vs))
+    → ((now : State) (vs : Variables) → Stands scope.base s ts place now → Sees (record scope { variables = middle }) now.registers vs → Agree given code bound now (next vs))
     → Ends given code bound result s scope middle ts (record places { next = place }) (record k { next = next })
 ends_before given code bound result s scope after middle ts places place k next h agree =
     record { next = agree; broken = h.broken; continued = h.continued; returned = h.returned }

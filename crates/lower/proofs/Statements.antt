@@ -1,26 +1,29 @@
 -- The code of a statement acts as the statement does.
-use Rattle.std.proofs.Common.{◌≡◌, ℕ, ◌+◌, ◌≤◌, ◌==◌, true, false, Option, None, Some, List, [], ◌∷◌, ◌++◌, length, drop, slice_get, refl, sym, ap, ap₂, ◌∙◌, subst, arith, length-append, eq-eqb}
+use Rattle.std.proofs.Common.{◌≡◌, ℕ, zero, suc, ◌+◌, ◌≤◌, ◌==◌, pos, replicate, Bool, true, false, Option, None, Some, List, [], ◌∷◌, ◌++◌, length, drop, slice_get, refl, sym, ap, ap₂, ◌∙◌, subst, arith, length-append, eq-eqb}
 use Rattle.clnum.specs.declared.int_type.IntType.{IntType}
 use Rattle.clmodel.specs.Barrier.{is_barrier}
 use Rattle.clmodel.specs.BuiltIns.{built_in}
-use Rattle.clmodel.specs.Next.{Run, Variables, Helpers, Follows, leave, leaving, in_loop, assign, held, helper_call, value_of, step_operator, sites, part_sites, all_sites, returned_as, exec, exec_part, exec_all}
-use Rattle.clmodel.specs.Tree.{Stmt, Empty, Block, Declare, DeclareAs, DeclareArray, Assign, Step, CallOnly, If, IfElse, While, DoWhile, For, Break, Continue, Return, ReturnValue, Stmts, NoStmt, ThenStmt, MaybeStmt, Without, With, While_}
+use Rattle.clmodel.specs.Next.{Run, Variables, Helpers, Follows, leave, leaving, in_loop, assign, held, helper_call, value_of, private_array, has_elements, step_operator, sites, part_sites, all_sites, returned_as, exec, exec_part, exec_all}
+use Rattle.clmodel.specs.Next as bindings
+use Rattle.clmodel.specs.Tree.{array_length, Stmt, Empty, Block, Declare, DeclareAs, DeclareArray, Assign, Step, CallOnly, If, IfElse, While, DoWhile, For, Break, Continue, Return, ReturnValue, Stmts, NoStmt, ThenStmt, MaybeStmt, Without, With, While_}
+use Rattle.clmodel.specs.declared.access.Object.TheVariants as object
 use Rattle.clmodel.specs.declared.operand.Operand.{Operand}
+use Rattle.clmodel.specs.declared.operand.Operand.TheVariants.{Pointed}
 use Rattle.clmodel.specs.declared.tree.VariableType.{VariableType}
 use Rattle.clmodel.specs.declared.tree.VariableType.TheVariants.{Integer}
-use Rattle.regcode.specs.Machine.{State, Given, Registers, reg, put, with_put, passed, onward}
+use Rattle.regcode.specs.Machine.{State, Given, Registers, reg, put, array_of, put_array, with_put, with_array, passed, onward}
 use Rattle.regcode.specs.declared.instruction.Instruction.{Instruction}
 use Rattle.regcode.specs.declared.instruction.Instruction.TheVariants as instruction
-use Rattle.regcode.proofs.Agreement.{Agree, with_fewer, ends, unset_runs, hold_runs, jump_runs, branch_runs}
-use Rattle.regcode.proofs.Registers.{reg_put}
-use Rattle.lower_expr.specs.Scope.{Scope, register_at, view, seen, free_level}
+use Rattle.regcode.proofs.Agreement.{Agree, with_fewer, ends, unset_runs, local_runs, unset_array_runs, hold_runs, jump_runs, branch_runs}
+use Rattle.regcode.proofs.Registers.{reg_put, array_put}
+use Rattle.lower_expr.specs.Scope.{Scope, register_at, seen_elements, Sees, free_level}
 use Rattle.lower_expr.specs.Expressions.{expr_code, register_for}
 use Rattle.lower_expr.specs.Agreement.{HasAt}
 use Rattle.lower_expr.proofs.Places.{has_left, has_right, has_moved, seen_kept}
 use Rattle.lower_expr.proofs.Expressions.{expr_runs}
-use Rattle.lower_code.specs.Code.{Exits, past, body_exits, variable, with_variable, variables_after, variables_after_part, variables_after_all, Calls, no_value_code, value_code, condition_code, while_code, right_code, right_type, stmt_code, part_code, stmts_code}
-use Rattle.lower.proofs.Scopes.{put_same, view_same, view_length, Within, within_self, within_one, within_trans, leave_view, leave_self, outer_left}
-use Rattle.lower.proofs.Stands.{Stands, Places, Leads, Returned, Ends, reached_stands, put_stands, passed_stands, onward_stands, stands_to, stands_then, stands_out, here_at, seen_stands, ends_within, ends_before}
+use Rattle.lower_code.specs.Code.{Exits, past, body_exits, variable, with_variable, array_variable, local_pointer, variables_after, variables_after_part, variables_after_all, Calls, no_value_code, value_code, condition_code, while_code, right_code, right_type, stmt_code, part_code, stmts_code}
+use Rattle.lower.proofs.Scopes.{same_then, put_same, array_same, sees_same, view_length, Within, within_self, within_one, within_trans, left_seen, outer_left, self_left}
+use Rattle.lower.proofs.Stands.{Stands, Places, Leads, Returned, Ends, reached_stands, put_stands, array_stands, passed_stands, onward_stands, stands_to, stands_then, stands_out, here_at, seen_stands, ends_within, ends_before}
 use Rattle.lower.proofs.Parts.{hold_unset}
 use Rattle.lower.proofs.Rights.{CallsRun, right_runs, assign_runs, compound_runs, step_runs, only_call_runs}
 use Rattle.lower.proofs.Loops.{while_runs, do_runs}
@@ -29,6 +32,7 @@ use Rattle.lower.proofs.Loops.{while_runs, do_runs}
 pub within_after : (variables : Variables) (s : Stmt) → Within variables (variables_after variables s)
 within_after variables (Declare at kind name_at name) = within_one (variable name kind) variables
 within_after variables (DeclareAs at kind name_at name value) = within_one (variable name kind) variables
+within_after variables (DeclareArray at is_local element name_at name length_at count) = within_one (array_variable is_local element (array_length count) name) variables
 within_after variables _ = within_self variables
 
 within_part : (variables : Variables) (s : MaybeStmt) → Within variables (variables_after_part variables s)
@@ -40,29 +44,51 @@ within_all variables NoStmt = within_self variables
 within_all variables (ThenStmt ss s) =
     within_trans variables (variables_after_all variables ss) (variables_after (variables_after_all variables ss) s) (within_all variables ss) (within_after (variables_after_all variables ss) s)
 
--- the variables of an inner scope are left
-left_seen : (base : ℕ) (outer inner : Variables) (registers : Registers) (vs : Variables) (count : ℕ) → Within outer inner → count ≡ length outer
-    → view base inner registers ≡ vs → view base outer registers ≡ leave count vs
-left_seen base outer inner registers vs count w e same = sym (leave_view base outer inner registers count w e) ∙ ap (leave count) same
-
-count_seen : (scope : Scope) (registers : Registers) (vs : Variables) → seen scope registers ≡ vs → length vs ≡ length scope.variables
-count_seen scope registers vs e = sym (ap length e) ∙ view_length scope.base scope.variables registers
+-- as many variables are seen as are in scope
+count_seen : (scope : Scope) (registers : Registers) (vs : Variables) → Sees scope registers vs → length vs ≡ length scope.variables
+count_seen scope registers vs e = sym (ap length e.same) ∙ view_length scope.base scope.variables registers
 
 same_name : (name : ℕ) → (name == name) ≡ true
 same_name name = eq-eqb name name refl
 
 -- an assignment to the innermost variable
 assign_innermost : (name : ℕ) (kind : VariableType) (content : Option Operand) (v : Operand) (vs : Variables)
-    → assign (record { name = name; kind = kind; content = content } ∷ vs) name v ≡ record { name = name; kind = kind; content = Some (held kind v) } ∷ vs
+    → assign (bindings.variable name kind content ∷ vs) name v ≡ bindings.variable name kind (Some (held kind v)) ∷ vs
 assign_innermost name kind content v vs =
-    ap (λ b. elim b as (λ _. Variables) [ true ↦ record { name = name; kind = kind; content = Some (held kind v) } ∷ vs | false ↦ record { name = name; kind = kind; content = content } ∷ assign vs name v ]) (same_name name)
+    ap (λ b. elim b as (λ _. Variables) [ true ↦ bindings.variable name kind (Some (held kind v)) ∷ vs | false ↦ bindings.variable name kind content ∷ assign vs name v ]) (same_name name)
 
 -- a variable is declared, or given its first value
-pub declared_seen : (scope : Scope) (name : ℕ) (kind : VariableType) (registers : Registers) (vs : Variables) (content : Option Operand) → seen scope registers ≡ vs
-    → view scope.base (variable name kind ∷ scope.variables) (put registers (register_at (free_level scope) kind) content) ≡ record { name = name; kind = kind; content = content } ∷ vs
+pub declared_seen : (scope : Scope) (name : ℕ) (kind : VariableType) (registers : Registers) (vs : Variables) (content : Option Operand) → Sees scope registers vs
+    → Sees (with_variable scope name kind) (put registers (register_at (free_level scope) kind) content) (bindings.variable name kind content ∷ vs)
 declared_seen scope name kind registers vs content e =
-    ap₂ (λ c others. record { name = name; kind = kind; content = c } ∷ others) (reg_put registers (register_at (free_level scope) kind) content)
-    (view_same scope.base scope.variables registers _ (put_same (free_level scope) kind (free_level scope) registers content (omega arith)) ∙ e)
+    let now = put registers (register_at (free_level scope) kind) content in
+    let outer = sees_same scope registers now vs (put_same (free_level scope) kind (free_level scope) registers content (omega arith)) e in
+    record {
+      same = ap₂ (λ c others. bindings.variable name kind c ∷ others) (reg_put registers (register_at (free_level scope) kind) content) outer.same;
+      arrays = ap (λ bs. false ∷ bs) outer.arrays;
+    }
+
+-- so is a private array, whose elements are unset
+unset_elements : (n : ℕ) → seen_elements (replicate n None) (replicate n None) ≡ replicate n None
+unset_elements zero = refl
+unset_elements (suc n) = refl
+
+array_declared : (scope : Scope) (name : ℕ) (element : IntType) (n : ℕ) (registers : Registers) (vs : Variables) → Sees scope registers vs
+    → Sees (record scope { variables = private_array element n name ∷ scope.variables })
+    (put_array (put registers (register_at (free_level scope) (Integer element)) None) (free_level scope) (replicate n None)) (private_array element n name ∷ vs)
+array_declared scope name element n registers vs e =
+    let level = free_level scope in
+    let r = register_at level (Integer element) in
+    let middle = put registers r None in
+    let now = put_array middle level (replicate n None) in
+    let kept = same_then level level registers middle now (omega arith) (put_same level (Integer element) level registers None (omega arith)) (array_same level level middle (replicate n None) (omega arith)) in
+    let outer = sees_same scope registers now vs kept e in
+    let elements = ap (seen_elements (replicate n None)) (array_put middle level (replicate n None)) ∙ unset_elements n in
+    record {
+      same = ap₂ (λ (c : Option Operand) (others : Variables). record (private_array element n name) { content = c; elements = seen_elements (replicate n None) (array_of now level) } ∷ others) (reg_put registers r None) outer.same
+          ∙ ap (λ (xs : List (Option ℕ)). record (private_array element n name) { content = None; elements = xs } ∷ vs) elements;
+      arrays = ap₂ (λ (xs : List (Option ℕ)) (bs : List Bool). has_elements xs ∷ bs) elements outer.arrays;
+    }
 
 -- at the end of a block its variables are left
 ends_leaving : (given : Given) (code : List Instruction) (bound : ℕ) (result : Option IntType) (s : State) (scope : Scope) (inner : Variables) (ts : List ℕ) (places : Places) (k : Follows) (count : ℕ)
@@ -70,7 +96,7 @@ ends_leaving : (given : Given) (code : List Instruction) (bound : ℕ) (result :
     → Ends given code bound result s scope inner ts places (record k { next = leaving count k.next })
 ends_leaving given code bound result s scope inner ts places k count w e h =
     record {
-      next = λ now vs stands same. h.next now (leave count vs) stands (left_seen scope.base scope.variables inner now.registers vs count w e same);
+      next = λ now vs stands same. h.next now (leave count vs) stands (left_seen scope inner now.registers vs count w e same);
       broken = h.broken;
       continued = h.continued;
       returned = h.returned;
@@ -100,32 +126,32 @@ value_runs given code bound (Some kind) s level ts place from v now run stands i
 
 -- a variable's first value
 first_value_runs : (given : Given) (code : List Instruction) (bound : ℕ) (scope : Scope) (name : ℕ) (kind : VariableType) (from : ℕ) (s : State) (ts : List ℕ) (place : ℕ) (now : State) (vs : Variables) (v : Option Operand) (run : Variables → Run)
-    → Stands scope.base s ts place now → seen scope now.registers ≡ vs → reg now.registers from ≡ v → slice_get code place ≡ Some (instruction.Hold (register_at (free_level scope) kind) from kind)
-    → ((last : State) (after : Variables) → Stands scope.base s ts (place + 1) last → view scope.base (variable name kind ∷ scope.variables) last.registers ≡ after → Agree given code bound last (run after))
-    → Agree given code bound now (value_of v (λ v. run (assign (record { name = name; kind = kind; content = None } ∷ vs) name v)))
+    → Stands scope.base s ts place now → Sees scope now.registers vs → reg now.registers from ≡ v → slice_get code place ≡ Some (instruction.Hold (register_at (free_level scope) kind) from kind)
+    → ((last : State) (after : Variables) → Stands scope.base s ts (place + 1) last → Sees (record scope { variables = variable name kind ∷ scope.variables }) last.registers after → Agree given code bound last (run after))
+    → Agree given code bound now (value_of v (λ v. run (assign (bindings.variable name kind None ∷ vs) name v)))
 first_value_runs given code bound scope name kind from s ts place now vs None run stands same is here go =
     hold_unset given code bound now (register_at (free_level scope) kind) from kind (here_at code place _ scope.base s ts now stands here) is
 first_value_runs given code bound scope name kind from s ts place now vs (Some v) run stands same is here go =
     let r = register_at (free_level scope) kind in
     hold_runs given code bound now _ r from kind v (here_at code place _ scope.base s ts now stands here) is
-    (go (with_put now r (Some (held kind v))) (assign (record { name = name; kind = kind; content = None } ∷ vs) name v)
+    (go (with_put now r (Some (held kind v))) (assign (bindings.variable name kind None ∷ vs) name v)
     (put_stands scope.base (free_level scope) kind s ts place now (Some (held kind v)) (omega arith) stands)
-    (declared_seen scope name kind now.registers vs (Some (held kind v)) same ∙ sym (assign_innermost name kind None v vs)))
+    (subst (λ l. Sees (with_variable scope name kind) (put now.registers r (Some (held kind v))) l) (sym (assign_innermost name kind None v vs)) (declared_seen scope name kind now.registers vs (Some (held kind v)) same)))
 
 -- The ends of a part of a loop: broken, it goes on behind the loop; else with what comes next in the loop.
 loop_ends : (given : Given) (code : List Instruction) (bound fewer : ℕ) (result : Option IntType) (s : State) (scope : Scope) (inner after : Variables) (ts : List ℕ) (count : ℕ) (places : Places) (k : Follows) (place : ℕ) (again : Variables → Run) (n m : ℕ)
     → fewer ≤ bound → Within scope.variables inner → Within inner after → n ≡ length scope.variables → m ≡ length inner
     → Ends given code bound result s scope scope.variables ts places k
-    → ((last : State) (vs : Variables) → Stands scope.base s (ts ++ count ∷ []) place last → view scope.base inner last.registers ≡ vs → Agree given code fewer last (again vs))
+    → ((last : State) (vs : Variables) → Stands scope.base s (ts ++ count ∷ []) place last → Sees (record scope { variables = inner }) last.registers vs → Agree given code fewer last (again vs))
     → Ends given code fewer result s (record scope { variables = inner }) after (ts ++ count ∷ []) (record { next = place; broken = places.next; continued = place; returned = places.returned })
     (in_loop k (leaving m again) (leaving n k.next))
 loop_ends given code bound fewer result s scope inner after ts count places k place again n m less w w' e e' h agree =
     record {
-      next = λ now vs stands same. agree now (leave m vs) stands (left_seen scope.base inner after now.registers vs m w' e' same);
+      next = λ now vs stands same. agree now (leave m vs) stands (left_seen (record scope { variables = inner }) after now.registers vs m w' e' same);
       broken = λ now vs stands left.
           with_fewer given code bound fewer now _ less
-          (h.next now (leave n vs) (stands_out scope.base s ts count places.next now stands) (sym (outer_left scope.base scope.variables inner vs now.registers w left) ∙ ap (λ c. leave c vs) (sym e)));
-      continued = λ now vs stands left. agree now (leave m vs) stands (sym left ∙ ap (λ c. leave c vs) (sym e'));
+          (h.next now (leave n vs) (stands_out scope.base s ts count places.next now stands) (subst (λ c. Sees scope now.registers (leave c vs)) (sym e) (outer_left scope inner vs now.registers w left)));
+      continued = λ now vs stands left. agree now (leave m vs) stands (subst (λ c. Sees (record scope { variables = inner }) now.registers (leave c vs)) (sym e') left);
       returned = λ now v stands is. with_fewer given code bound fewer now _ less (h.returned now v (stands_out scope.base s ts count places.returned now stands) is);
     }
 
@@ -139,7 +165,7 @@ module _ (given : Given) (code : List Instruction) (most : ℕ) (calls : Calls) 
 
   mutual
     pub stmt_runs : (st : Stmt) (bound : ℕ) → bound ≤ most → (scope : Scope) (s : State) (ts : List ℕ) (site : ℕ) (exits : Exits) (places : Places) (k : Follows) (at : ℕ) (now : State) (vs : Variables)
-        → Stands scope.base s ts at now → seen scope now.registers ≡ vs
+        → Stands scope.base s ts at now → Sees scope now.registers vs
         → StandsAt at (stmt_code calls results inside result scope st (length ts) site exits) places.next → Leads exits places
         → Ends given code bound result s scope (variables_after scope.variables st) ts places k
         → Agree given code bound now (exec most given.here helpers inside st site ts k vs)
@@ -151,7 +177,7 @@ module _ (given : Given) (code : List Instruction) (most : ℕ) (calls : Calls) 
     stmt_runs (Declare at' kind name_at name) bound below scope s ts site exits places k at now vs stands same (has, end) leads h =
         let r = register_at (free_level scope) kind in
         unset_runs given code bound now _ r (here_at code at _ scope.base s ts now stands has.0)
-        (h.next (with_put now r None) (record { name = name; kind = kind; content = None } ∷ vs)
+        (h.next (with_put now r None) (bindings.variable name kind None ∷ vs)
         (stands_to scope.base s ts (at + 1) _ places.next (omega (arith, end)) (put_stands scope.base (free_level scope) kind s ts at now None (omega arith) stands))
         (declared_seen scope name kind now.registers vs None same))
     stmt_runs (DeclareAs at' kind name_at name value) bound below scope s ts site exits places k at now vs stands same (has, end) leads h =
@@ -159,7 +185,7 @@ module _ (given : Given) (code : List Instruction) (most : ℕ) (calls : Calls) 
         let r = register_at level kind in
         let inner = with_variable scope name kind in
         let c = helper_call value in
-        let unset : Variables = record { name = name; kind = kind; content = None } ∷ vs in
+        let unset : Variables = bindings.variable name kind None ∷ vs in
         let first = right_code calls results inside result inner (level + 1) c value (length ts) site in
         let from = register_at (level + 1) (right_type calls results inside result inner c value) in
         let last : List Instruction = instruction.Hold r from kind ∷ [] in
@@ -172,13 +198,33 @@ module _ (given : Given) (code : List Instruction) (most : ℕ) (calls : Calls) 
         (has_moved code first (at + 1) next.place (sym stands'.at) (has_left code first last (at + 1) has.1))
         (λ final v arrived is.
         let old = seen_stands inner (level + 1) next ts _ final unset (omega arith) arrived sees in
-        let outer : view scope.base scope.variables final.registers ≡ vs = ap (drop 1) old in
+        let outer : Sees scope final.registers vs = record { same = ap (drop 1) old.same; arrays = ap (λ bs. drop 1 bs) old.arrays } in
         first_value_runs given code bound scope name kind from s ts (at + 1 + length first) final vs v k.next
         (stands_to scope.base s ts _ final (at + 1 + length first) (ap (λ n. n + length first) stands'.at) (stands_then scope.base (level + 1) s ts (at + 1) next (next.place + length first) final (omega arith) stands' arrived)) outer is
         (has_right code first last (at + 1) (at + 1 + length first) refl has.1).0
         (λ very_last after at_end sees'. h.next very_last after (stands_to scope.base s ts _ very_last places.next (omega (arith, end, lengths)) at_end) sees')))
-    stmt_runs (DeclareArray at' is_local element name_at name length_at count) bound below scope s ts site exits places k at now vs stands same (has, end) leads h =
-        ends given code bound now (here_at code at _ scope.base s ts now stands has.0)
+    stmt_runs (DeclareArray at' true element name_at name length_at count) bound below scope s ts site exits places k at now vs stands same (has, end) leads h =
+        let level = free_level scope in
+        let kind = local_pointer element in
+        let r = register_at level kind in
+        let start : ℕ → Option Operand = λ number. Some (Pointed (record { object = object.Local number; element = element; offset = pos 0 })) in
+        let first = start (length scope.variables) in
+        local_runs given code bound now _ r (length scope.variables) element (here_at code at _ scope.base s ts now stands has.0)
+        (h.next (with_put now r first) (bindings.variable name kind (start (length vs)) ∷ vs)
+        (stands_to scope.base s ts (at + 1) _ places.next (omega (arith, end)) (put_stands scope.base level kind s ts at now first (omega arith) stands))
+        (subst (λ n. Sees (with_variable scope name kind) (put now.registers r first) (bindings.variable name kind (start n) ∷ vs)) (sym (count_seen scope now.registers vs same))
+        (declared_seen scope name kind now.registers vs first same)))
+    stmt_runs (DeclareArray at' false element name_at name length_at count) bound below scope s ts site exits places k at now vs stands same (has, end) leads h =
+        let level = free_level scope in
+        let n = array_length count in
+        let r = register_at level (Integer element) in
+        let middle = with_put now r None in
+        let stands' = put_stands scope.base level (Integer element) s ts at now None (omega arith) stands in
+        unset_runs given code bound now _ r (here_at code at _ scope.base s ts now stands has.0)
+        (unset_array_runs given code bound middle _ level n (here_at code (at + 1) _ scope.base s ts middle stands' has.1.0)
+        (h.next (with_array middle level (replicate n None)) (private_array element n name ∷ vs)
+        (stands_to scope.base s ts (at + 1 + 1) _ places.next (omega (arith, end)) (array_stands scope.base level s ts (at + 1) middle (replicate n None) (omega arith) stands'))
+        (array_declared scope name element n now.registers vs same)))
     stmt_runs (Assign at' place None value) bound below scope s ts site exits places k at now vs stands same (has, end) leads h =
         assign_runs given code most calls results helpers run_calls inside result bound below scope place (helper_call value) value site ts s at now vs k.next stands same has
         (λ last after at_end sees. h.next last after (stands_to scope.base s ts _ last places.next end at_end) sees)
@@ -338,18 +384,18 @@ module _ (given : Given) (code : List Instruction) (most : ℕ) (calls : Calls) 
         (λ final vs4 at_condition sees4. agree final vs4 (stands_to scope.base s (ts ++ count ∷ []) pc final _ (omega (arith, both)) at_condition) sees4)))))
         (λ final vs' at_end sees'.
         h.next final (leave (length vs) vs') (stands_to scope.base s ts _ final places.next (omega (arith, end, lengths)) at_end)
-        (left_seen scope.base scope.variables inner final.registers vs' (length vs) w count_outer sees'))
+        (left_seen scope inner final.registers vs' (length vs) w count_outer sees'))
         middle start at_loop sees))
     stmt_runs (Break at') bound below scope s ts site exits places k at now vs stands same (has, end) leads h =
         jump_runs given code bound now (k.broken vs) exits.broken (here_at code at _ scope.base s ts now stands has.0)
         (h.broken (onward now exits.broken) vs
         (stands_to scope.base s ts _ (onward now exits.broken) places.broken (let l = leads.broken in omega (arith, end, l)) (onward_stands scope.base s ts at now exits.broken stands))
-        (ap (leave (length scope.variables)) (sym same) ∙ leave_self scope.base scope.variables now.registers))
+        (self_left scope now.registers vs same))
     stmt_runs (Continue at') bound below scope s ts site exits places k at now vs stands same (has, end) leads h =
         jump_runs given code bound now (k.continued vs) exits.continued (here_at code at _ scope.base s ts now stands has.0)
         (h.continued (onward now exits.continued) vs
         (stands_to scope.base s ts _ (onward now exits.continued) places.continued (let l = leads.continued in omega (arith, end, l)) (onward_stands scope.base s ts at now exits.continued stands))
-        (ap (leave (length scope.variables)) (sym same) ∙ leave_self scope.base scope.variables now.registers))
+        (self_left scope now.registers vs same))
     stmt_runs (Return at') bound below scope s ts site exits places k at now vs stands same (has, end) leads h =
         let first = no_value_code result scope.base in
         let jump : List Instruction = instruction.Jump exits.returned ∷ [] in
@@ -379,7 +425,7 @@ module _ (given : Given) (code : List Instruction) (most : ℕ) (calls : Calls) 
         (stands_to scope.base s ts _ (onward final exits.returned) places.returned (let l = leads.returned in let y = stands.at in omega (arith, end, l, y, lengths, lengths')) (onward_stands scope.base s ts (now.place + length first + length second) final exits.returned stands')) returned)))
 
     pub part_runs : (st : MaybeStmt) (bound : ℕ) → bound ≤ most → (scope : Scope) (s : State) (ts : List ℕ) (site : ℕ) (exits : Exits) (places : Places) (k : Follows) (at : ℕ) (now : State) (vs : Variables)
-        → Stands scope.base s ts at now → seen scope now.registers ≡ vs
+        → Stands scope.base s ts at now → Sees scope now.registers vs
         → StandsAt at (part_code calls results inside result scope st (length ts) site exits) places.next → Leads exits places
         → Ends given code bound result s scope (variables_after_part scope.variables st) ts places k
         → Agree given code bound now (exec_part most given.here helpers inside st site ts k vs)
@@ -389,7 +435,7 @@ module _ (given : Given) (code : List Instruction) (most : ℕ) (calls : Calls) 
         stmt_runs st bound below scope s ts site exits places k at now vs stands same there leads h
 
     pub stmts_run : (ss : Stmts) (bound : ℕ) → bound ≤ most → (scope : Scope) (s : State) (ts : List ℕ) (site : ℕ) (exits : Exits) (places : Places) (k : Follows) (at : ℕ) (now : State) (vs : Variables)
-        → Stands scope.base s ts at now → seen scope now.registers ≡ vs
+        → Stands scope.base s ts at now → Sees scope now.registers vs
         → StandsAt at (stmts_code calls results inside result scope ss (length ts) site exits) places.next → Leads exits places
         → Ends given code bound result s scope (variables_after_all scope.variables ss) ts places k
         → Agree given code bound now (exec_all most given.here helpers inside ss site ts k vs)

@@ -12,11 +12,13 @@ use Rattle.clmodel.specs.BuiltIns.{built_in}
 use Rattle.clmodel.specs.Next.{base_type, infix_type, call_type, argument_type}
 use Rattle.clmodel.specs.Tree as tree
 use Rattle.clmodel.specs.Tree.{Term, Terms, NoTerm, ThenTerm, Place}
-use Rattle.clmodel.specs.Typing.Context.{Context, Signature, Meaning, meaning, Bound, Callable, Current, BuiltInFunction, Barrier, Unknown, found, called, signature_of, function_meaning}
+use Rattle.clmodel.specs.Typing.Context.{Context, Signature, Single, LocalArray, PrivateArray, value_type, element_type, Meaning, meaning, Bound, Callable, Current, BuiltInFunction, Barrier, Unknown, found, called, signature_of, function_meaning}
 use Rattle.clmodel.specs.Typing.Context as context
 use Rattle.clmodel.specs.Typing.Rules as rule
 use Rattle.clmodel.specs.Typing.Rules.{Types, TypesAll, TypesPlace, Operates, Calls}
+use Rattle.clmodel.specs.declared.declaration.Declaration.{Declaration}
 use Rattle.clmodel.specs.declared.setup.BuiltIn.{BuiltIn}
+use Rattle.clmodel.specs.declared.tree.AddressSpace.TheVariants.{Local}
 use Rattle.clmodel.specs.declared.tree.InfixOperator.{InfixOperator}
 use Rattle.clmodel.specs.declared.tree.InfixOperator.TheVariants.{Arithmetic}
 use Rattle.clmodel.specs.declared.tree.PointerType.{PointerType}
@@ -24,10 +26,10 @@ use Rattle.clmodel.specs.declared.tree.VariableType.{VariableType}
 use Rattle.clmodel.specs.declared.tree.VariableType.TheVariants.{Integer, Pointer}
 use Rattle.regcode.specs.declared.instruction.Instruction.{Instruction}
 use Rattle.regcode.specs.declared.instruction.Instruction.TheVariants as instruction
-use Rattle.lower_expr.specs.Scope.{Scope, register_at, register_of}
-use Rattle.lower_expr.specs.Expressions.{kind_of, kind_named, register_for, registers_for, expr_code, terms_code, place_code, variable_code, element_code, infix_code, truth_code, branch_code, call_code, count}
-use Rattle.lower.specs.Accepted.{Is, Matches, Suits, Suit, ExpressionsSuit, PlacesSuit}
-use Rattle.lower.proofs.Suiting.{same_integer, is_at, is_as, suit_both, constant_suits, move_suits, convert_suits, common_suits, unary_suits, binary_suits, one_suits, two_suit, dimensions_suit, query_suits, point_suits, offset_suits, load_suits, branch_suits}
+use Rattle.lower_expr.specs.Scope.{Scope, register_at, register_of, level_of}
+use Rattle.lower_expr.specs.Expressions.{kind_of, kind_named, register_for, registers_for, expr_code, terms_code, place_code, variable_code, element_of, private_load, element_code, address_code, infix_code, truth_code, branch_code, call_code, count}
+use Rattle.lower.specs.Accepted.{declared_kind, is_private, Is, Matches, Suits, Suit, ExpressionsSuit, PlacesSuit}
+use Rattle.lower.proofs.Suiting.{same_integer, is_at, is_as, suit_both, constant_suits, move_suits, convert_suits, common_suits, unary_suits, binary_suits, one_suits, two_suit, dimensions_suit, query_suits, point_suits, offset_suits, load_suits, private_load_suits, branch_suits}
 
 common_either : (a b : IntType) → common a b ≡ common b a
 unfolding common conversions.promoted
@@ -60,7 +62,7 @@ choice_is : (b : Bool) (s : Signature) (m : Meaning) (g : BuiltIn) → (if b the
 choice_is true s m g e = absurd (cc)
 choice_is false s m g e = e
 
-found_is : (v : Option VariableType) (m : Meaning) (g : BuiltIn) → found v m ≡ BuiltInFunction g → m ≡ BuiltInFunction g
+found_is : (v : Option Declaration) (m : Meaning) (g : BuiltIn) → found v m ≡ BuiltInFunction g → m ≡ BuiltInFunction g
 found_is None m g e = e
 found_is (Some k) m g e = absurd (cc)
 
@@ -81,7 +83,7 @@ choice_waits : (b : Bool) (s : Signature) (m : Meaning) → (if b then Current s
 choice_waits true s m e = absurd (cc)
 choice_waits false s m e = e
 
-found_waits : (v : Option VariableType) (m : Meaning) → found v m ≡ Barrier → m ≡ Barrier
+found_waits : (v : Option Declaration) (m : Meaning) → found v m ≡ Barrier → m ≡ Barrier
 found_waits None m e = e
 found_waits (Some k) m e = absurd (cc)
 
@@ -143,13 +145,31 @@ call_is _ _ _ k rule.popcount e = cc
 call_is _ _ _ k (rule.atomic h a w) e = absurd (cc)
 call_is _ _ _ k (rule.atomic_alone h a w) e = absurd (cc)
 
+-- the type of a name's value, and of its elements
+same_kind : (j k : VariableType) → Some j ≡ Some k → j ≡ k
+same_kind j k e = ap (λ o. elim o as (λ _. VariableType) [ None ↦ j | Some l ↦ l ]) e
+
+same_element : (t u : IntType) → Some t ≡ Some u → t ≡ u
+same_element t u e = ap (λ o. elim o as (λ _. IntType) [ None ↦ t | Some s ↦ s ]) e
+
+pub value_is : (d : Declaration) (k : VariableType) → value_type d ≡ Some k → declared_kind d ≡ k
+value_is (Single j) k e = same_kind j k e
+value_is (LocalArray t) k e = same_kind (declared_kind (LocalArray t)) k e
+value_is (PrivateArray t) k e = absurd (cc)
+
+pub element_is : (d : Declaration) (t : IntType) → element_type d ≡ Some t → base_type (declared_kind d) ≡ t
+element_is (Single (Integer j)) t e = absurd (cc)
+element_is (Single (Pointer p)) t e = same_element p.element t e
+element_is (LocalArray j) t e = same_element j t e
+element_is (PrivateArray j) t e = same_element j t e
+
 module _ (c : Context) (scope : Scope) (m : Matches c scope) where
   mutual
     pub type_is : (e : Term) (k : VariableType) → Types c e k → kind_of scope e ≡ k
     type_is _ _ rule.number = refl
-    type_is _ _ (rule.variable {x = x} {k = k} is) = (m x k is).declared
-    type_is _ _ (rule.element {x = x} {p = p} is index) = ap (λ k. Integer (base_type k)) (m x (Pointer p) is).declared
-    type_is _ _ (rule.address {x = x} {p = p} is index) = (m x (Pointer p) is).declared
+    type_is _ _ (rule.variable {x = x} {d = d} {k = k} is value) = (m x d is).declared ∙ value_is d k value
+    type_is _ _ (rule.element {x = x} {d = d} {t = t} is of index) = ap (λ k. Integer (base_type k)) (m x d is).declared ∙ ap Integer (element_is d t of)
+    type_is _ _ (rule.address {x = x} {d = d} {p = p} is value index) = (m x d is).declared ∙ value_is d (Pointer p) value
     type_is _ _ (rule.dereference {p = p} {e = e} pointer) = ap (λ k. Integer (base_type k)) (type_is e (Pointer p) pointer)
     type_is _ _ (rule.call {x = x} {f = f} {es = es} {ks = ks} {k = k} is arguments calls) =
         ap₂ (λ g t. Integer (call_type g t)) (built_in_is c x f is) (argument_is scope es ∙ ap last_of (types_are es ks arguments)) ∙ call_is f ks (Some k) k calls refl
@@ -166,24 +186,67 @@ module _ (c : Context) (scope : Scope) (m : Matches c scope) where
 
   module _ (parameters : List VariableType) where
     -- a variable's value
-    pub variable_suits : (level : ℕ) (kind : VariableType) (name : ℕ) (k : VariableType) → meaning c name ≡ Bound k → kind ≡ k
+    pub variable_suits : (level : ℕ) (kind : VariableType) (name : ℕ) (d : Declaration) (k : VariableType) → meaning c name ≡ Bound d → declared_kind d ≡ k → kind ≡ k
         → Suit parameters (variable_code (register_at level kind) (register_of scope name) name)
-    variable_suits level kind name k is e =
-        let there = m name k is in
+    variable_suits level kind name d k is held e =
+        let there = m name d is in
         subst (λ o. Suit parameters (variable_code (register_at level kind) o name)) (sym there.register)
-        (move_suits parameters (register_at level kind) (register_at there.level k) name k (is_as level kind k e) (is_at there.level k), tt)
+        (move_suits parameters (register_at level kind) (register_at there.level (declared_kind d)) name k (is_as level kind k e) (is_as there.level (declared_kind d) k held), tt)
 
     -- a pointer moved by an index
-    element_suits : (level name : ℕ) (p : PointerType) (index : List Instruction) (register : ℕ) (t : IntType) → meaning c name ≡ Bound (Pointer p)
+    element_suits : (level name : ℕ) (d : Declaration) (p : PointerType) (index : List Instruction) (register : ℕ) (t : IntType) → meaning c name ≡ Bound d → declared_kind d ≡ Pointer p
         → Suit parameters index → Is register (Integer t)
         → Suit parameters (element_code (register_at level (kind_named scope name)) (register_of scope name) name index register)
-    element_suits level name p index register t is fits of =
+    element_suits level name d p index register t is held fits of =
         let to = register_at level (kind_named scope name) in
-        let kind = (m name (Pointer p) is).declared in
+        let kind = (m name d is).declared ∙ held in
         let last : List Instruction = instruction.Offset to to register ∷ [] in
-        suit_both parameters (variable_code to (register_of scope name) name) (index ++ last) (variable_suits level (kind_named scope name) name (Pointer p) is kind)
+        suit_both parameters (variable_code to (register_of scope name) name) (index ++ last) (variable_suits level (kind_named scope name) name d (Pointer p) is held kind)
         (suit_both parameters index last fits
         (offset_suits parameters to to register p.element t (is_as level (kind_named scope name) (Pointer p) kind) (is_as level (kind_named scope name) (Pointer p) kind) of, tt))
+
+    -- what a pointer that is moved points to, or an element of a private array
+    pointed_suits : (level name : ℕ) (d : Declaration) (p : PointerType) (index : Term) (t : IntType) → meaning c name ≡ Bound d → declared_kind d ≡ Pointer p → Types c index (Integer t)
+        → Suit parameters (expr_code scope (level + 1) index)
+        → Suit parameters (address_code scope level name index ++ instruction.Load (register_at level (Integer (element_of scope name))) (register_at level (kind_named scope name)) ∷ [])
+    pointed_suits level name d p index t is held types fits =
+        let kind = kind_named scope name in
+        let same = (m name d is).declared ∙ held in
+        suit_both parameters (address_code scope level name index) (instruction.Load (register_at level (Integer (element_of scope name))) (register_at level kind) ∷ [])
+        (element_suits level name d p (expr_code scope (level + 1) index) (register_for scope (level + 1) index) t is held fits (is_as (level + 1) (kind_of scope index) (Integer t) (type_is index (Integer t) types))) (
+          load_suits parameters (register_at level (Integer (element_of scope name))) (register_at level kind) p.element
+              (is_as level (Integer (element_of scope name)) (Integer p.element) (ap (λ k. Integer (base_type k)) same)) (is_as level kind (Pointer p) same),
+          tt,
+        )
+
+    private_suits : (level name : ℕ) (index : Term) (t : IntType) → Types c index (Integer t) → Suit parameters (expr_code scope level index)
+        → Suit parameters (expr_code scope level index ++ private_load scope (register_at level (Integer (element_of scope name))) name (register_for scope level index) ∷ [])
+    private_suits level name index t types fits =
+        suit_both parameters (expr_code scope level index) (private_load scope (register_at level (Integer (element_of scope name))) name (register_for scope level index) ∷ []) fits (
+          private_load_suits parameters (register_at level (Integer (element_of scope name))) (level_of scope name) (register_for scope level index) name (element_of scope name) t
+              (is_at level (Integer (element_of scope name))) (is_as level (kind_of scope index) (Integer t) (type_is index (Integer t) types)),
+          tt,
+        )
+
+    loaded_suits : (level name : ℕ) (d : Declaration) (index : Term) (t u : IntType) → meaning c name ≡ Bound d → element_type d ≡ Some t → Types c index (Integer u)
+        → Suit parameters (expr_code scope level index) → Suit parameters (expr_code scope (level + 1) index)
+        → Suit parameters (if is_private d then expr_code scope level index ++ private_load scope (register_at level (Integer (element_of scope name))) name (register_for scope level index) ∷ []
+        else address_code scope level name index ++ instruction.Load (register_at level (Integer (element_of scope name))) (register_at level (kind_named scope name)) ∷ [])
+    loaded_suits level name (Single (Integer j)) index t u is of types fits higher = absurd (cc)
+    loaded_suits level name (Single (Pointer p)) index t u is of types fits higher = pointed_suits level name (Single (Pointer p)) p index u is refl types higher
+    loaded_suits level name (LocalArray j) index t u is of types fits higher = pointed_suits level name (LocalArray j) (record { space = Local; is_const = false; element = j }) index u is refl types higher
+    loaded_suits level name (PrivateArray j) index t u is of types fits higher = private_suits level name index u types fits
+
+    reached_suits : (level name : ℕ) (d : Declaration) (index : Term) (t u : IntType) → meaning c name ≡ Bound d → element_type d ≡ Some t → Types c index (Integer u)
+        → Suit parameters (expr_code scope level index) → Suit parameters (expr_code scope (level + 1) index)
+        → Suit parameters (if is_private d then expr_code scope level index else address_code scope level name index)
+    reached_suits level name (Single (Integer j)) index t u is of types fits higher = absurd (cc)
+    reached_suits level name (Single (Pointer p)) index t u is of types fits higher =
+        element_suits level name (Single (Pointer p)) p (expr_code scope (level + 1) index) (register_for scope (level + 1) index) u is refl higher (is_as (level + 1) (kind_of scope index) (Integer u) (type_is index (Integer u) types))
+    reached_suits level name (LocalArray j) index t u is of types fits higher =
+        element_suits level name (LocalArray j) (record { space = Local; is_const = false; element = j }) (expr_code scope (level + 1) index) (register_for scope (level + 1) index) u is refl higher
+        (is_as (level + 1) (kind_of scope index) (Integer u) (type_is index (Integer u) types))
+    reached_suits level name (PrivateArray j) index t u is of types fits higher = fits
 
     truth_suits : (level : ℕ) (kind : VariableType) → kind ≡ Integer Int → Suit parameters (truth_code (register_at level kind))
     truth_suits level kind e =
@@ -234,19 +297,15 @@ module _ (c : Context) (scope : Scope) (m : Matches c scope) where
     mutual
       pub expression_suits : (level : ℕ) (e : Term) (k : VariableType) → Types c e k → Suit parameters (expr_code scope level e)
       expression_suits level _ _ (rule.number {v = v}) = (constant_suits parameters (register_at level (Integer v.kind)) v (is_at level (Integer v.kind)), tt)
-      expression_suits level _ _ (rule.variable {x = x} {k = k} is) = variable_suits level (kind_named scope x) x k is (m x k is).declared
-      expression_suits level _ _ (rule.element {x = x} {p = p} {u = u} {e = e} is index) =
-          let kind = kind_named scope x in
-          let same = (m x (Pointer p) is).declared in
-          suit_both parameters (element_code (register_at level kind) (register_of scope x) x (expr_code scope (level + 1) e) (register_for scope (level + 1) e))
-          (instruction.Load (register_at level (Integer (base_type kind))) (register_at level kind) ∷ [])
-          (element_suits level x p (expr_code scope (level + 1) e) (register_for scope (level + 1) e) u is (expression_suits (level + 1) e (Integer u) index) (is_as (level + 1) (kind_of scope e) (Integer u) (type_is e (Integer u) index))) (
-            load_suits parameters (register_at level (Integer (base_type kind))) (register_at level kind) p.element
-                (is_as level (Integer (base_type kind)) (Integer p.element) (ap (λ k. Integer (base_type k)) same)) (is_as level kind (Pointer p) same),
-            tt,
-          )
-      expression_suits level _ _ (rule.address {x = x} {p = p} {u = u} {e = e} is index) =
-          element_suits level x p (expr_code scope (level + 1) e) (register_for scope (level + 1) e) u is (expression_suits (level + 1) e (Integer u) index) (is_as (level + 1) (kind_of scope e) (Integer u) (type_is e (Integer u) index))
+      expression_suits level _ _ (rule.variable {x = x} {d = d} {k = k} is value) =
+          variable_suits level (kind_named scope x) x d k is (value_is d k value) ((m x d is).declared ∙ value_is d k value)
+      expression_suits level _ _ (rule.element {x = x} {d = d} {t = t} {u = u} {e = e} is of index) =
+          subst (λ b. Suit parameters (if b then expr_code scope level e ++ private_load scope (register_at level (Integer (element_of scope x))) x (register_for scope level e) ∷ []
+          else address_code scope level x e ++ instruction.Load (register_at level (Integer (element_of scope x))) (register_at level (kind_named scope x)) ∷ [])) (sym (m x d is).array)
+          (loaded_suits level x d e t u is of index (expression_suits level e (Integer u) index) (expression_suits (level + 1) e (Integer u) index))
+      expression_suits level _ _ (rule.address {x = x} {d = d} {p = p} {u = u} {e = e} is value index) =
+          element_suits level x d p (expr_code scope (level + 1) e) (register_for scope (level + 1) e) u is (value_is d (Pointer p) value) (expression_suits (level + 1) e (Integer u) index)
+          (is_as (level + 1) (kind_of scope e) (Integer u) (type_is e (Integer u) index))
       expression_suits level _ _ (rule.dereference {p = p} {e = e} pointer) =
           let same = type_is e (Pointer p) pointer in
           suit_both parameters (expr_code scope level e) (instruction.Load (register_at level (Integer (base_type (kind_of scope e)))) (register_for scope level e) ∷ []) (expression_suits level e (Pointer p) pointer) (
@@ -301,8 +360,9 @@ module _ (c : Context) (scope : Scope) (m : Matches c scope) where
 
     pub place_suits : (level : ℕ) (place : Place) (k : VariableType) → TypesPlace c place k → Suit parameters (place_code scope level place)
     place_suits level _ _ (rule.whole is) = tt
-    place_suits level _ _ (rule.part {x = x} {p = p} {u = u} {e = e} is writable index) =
-        element_suits level x p (expr_code scope (level + 1) e) (register_for scope (level + 1) e) u is (expression_suits (level + 1) e (Integer u) index) (is_as (level + 1) (kind_of scope e) (Integer u) (type_is e (Integer u) index))
+    place_suits level _ _ (rule.part {x = x} {d = d} {t = t} {u = u} {e = e} is of stored index) =
+        subst (λ b. Suit parameters (if b then expr_code scope level e else address_code scope level x e)) (sym (m x d is).array)
+        (reached_suits level x d e t u is of index (expression_suits level e (Integer u) index) (expression_suits (level + 1) e (Integer u) index))
     place_suits level _ _ (rule.behind {p = p} {e = e} writable pointer) =
         let is = is_as level (kind_of scope e) (Pointer p) (type_is e (Pointer p) pointer) in
         suit_both parameters (expr_code scope level e) (instruction.Point (register_for scope level e) (register_for scope level e) ∷ []) (expression_suits level e (Pointer p) pointer)

@@ -159,6 +159,26 @@ module _ (parameters : List VariableType) where
     subst (λ o. HasType o kind) (sym (ap (λ ps. slice_get ps index) same ∙ at)) refl,
   )
 
+  pub local_suits : (to number : ℕ) (element : IntType) → register_kind to ≡ Pointer element → Suits parameters (instruction.Local to number element)
+  local_suits to number element is code same wide = takes (kind_at code to) (Some (Pointer element)) (Pointer element) (wide.registers.0 ∙ ap Some is) refl
+
+  pub unset_array_suits : (array count : ℕ) → Suits parameters (instruction.UnsetArray array count)
+  unset_array_suits array count code same wide = wide.arrays
+
+  pub private_load_suits : (to array index name : ℕ) (element kind : IntType) → Is to (variable_type.Integer element) → Is index (variable_type.Integer kind)
+      → Suits parameters (instruction.PrivateLoad to array index element name)
+  private_load_suits to array index name element kind is of code same wide = (
+    takes (kind_at code to) (Some (Integer element)) (Integer element) (wide.registers.0 ∙ ap Some is) refl,
+    (subst (λ o. IsTrue (is_integer o)) (sym (wide.registers.1.0 ∙ ap Some of)) refl, (wide.arrays, let n = wide.names in omega (arith, n))),
+  )
+
+  pub private_store_suits : (array index value name : ℕ) (element kind other : IntType) → Is index (variable_type.Integer kind) → Is value (variable_type.Integer other)
+      → Suits parameters (instruction.PrivateStore array index value element name)
+  private_store_suits array index value name element kind other of by code same wide = (
+    subst (λ o. IsTrue (is_integer o)) (sym (wide.registers.0 ∙ ap Some of)) refl,
+    (subst (λ o. IsTrue (is_integer o)) (sym (wide.registers.1.0 ∙ ap Some by)) refl, (wide.arrays, let n = wide.names in omega (arith, n))),
+  )
+
   pub point_suits : (to from : ℕ) (kind : VariableType) → Is to kind → Is from kind → IsTrue (is_pointer (Some (kind_of kind))) → Suits parameters (instruction.Point to from)
   point_suits to from kind is of points code same wide = (
     takes (kind_at code to) (kind_at code from) (kind_of kind) (wide.registers.0 ∙ ap Some is) (wide.registers.1.0 ∙ ap Some of),

@@ -4,10 +4,11 @@ use Rattle.std.proofs.lemmas.List.{length-append}
 use Rattle.std.proofs.Math.Nat.{le-max_left, le-max_right, eq-or-lt_of_le}
 use Rattle.clmodel.specs.declared.tree.VariableType.{VariableType}
 use Rattle.regcode.specs.Listing.{Listing}
-use Rattle.regcode.specs.Rules.{kind_at}
+use Rattle.regcode.specs.Rules.{kind_at, HasRoom}
 use Rattle.regcode.specs.declared.instruction.Instruction.{Instruction}
-use Rattle.lower.specs.Tables.{register_kind, register_kinds, registers_of, room, register_count, names_of, name_count, depth_after, loops_from, tabled}
-use Rattle.lower.specs.Accepted.{Has, Suits, Suit, SuitFits}
+use Rattle.regcode.specs.declared.instruction.Instruction.TheVariants as instruction
+use Rattle.lower.specs.Tables.{register_kind, register_kinds, registers_of, room, register_count, names_of, name_count, widened, lengths_with, lengths_from, depth_after, loops_from, tabled}
+use Rattle.lower.specs.Accepted.{Has, HasArray, Suits, Suit, SuitFits}
 
 kinds_counted : (n : ℕ) → length (register_kinds n) ≡ n
 kinds_counted zero = refl
@@ -65,6 +66,66 @@ names_there (first ∷ code) (suc place) i is =
     let b = names_there code place i is in
     omega (arith, a, b)
 
+-- the lengths of private arrays grow with the code
+widened_here : (lengths : List ℕ) (array count : ℕ) → HasRoom (slice_get (widened lengths array count) array) count
+widened_here [] zero count = omega arith
+widened_here [] (suc array) count = widened_here [] array count
+widened_here (most ∷ lengths) zero count = le-max_right most count
+widened_here (most ∷ lengths) (suc array) count = widened_here lengths array count
+
+widened_within : (lengths : List ℕ) (array count : ℕ) → array < length (widened lengths array count)
+widened_within [] zero count = omega arith
+widened_within [] (suc array) count = let h = widened_within [] array count in omega (arith, h)
+widened_within (most ∷ lengths) zero count = omega arith
+widened_within (most ∷ lengths) (suc array) count = let h = widened_within lengths array count in omega (arith, h)
+
+widened_longer : (lengths : List ℕ) (array count : ℕ) → length lengths ≤ length (widened lengths array count)
+widened_longer [] array count = omega arith
+widened_longer (most ∷ lengths) zero count = omega arith
+widened_longer (most ∷ lengths) (suc array) count = let h = widened_longer lengths array count in omega (arith, h)
+
+widened_kept : (lengths : List ℕ) (array count a n : ℕ) → HasRoom (slice_get lengths a) n → HasRoom (slice_get (widened lengths array count) a) n
+widened_kept [] array count a n h = absurd h
+widened_kept (most ∷ lengths) zero count zero n h = let g = le-max_left most count in omega (arith, g, h)
+widened_kept (most ∷ lengths) zero count (suc a) n h = h
+widened_kept (most ∷ lengths) (suc array) count zero n h = h
+widened_kept (most ∷ lengths) (suc array) count (suc a) n h = widened_kept lengths array count a n h
+
+with_longer : (lengths : List ℕ) (i : Instruction) → length lengths ≤ length (lengths_with lengths i)
+with_longer lengths (instruction.UnsetArray array count) = widened_longer lengths array count
+with_longer lengths (instruction.PrivateLoad to array index element name) = widened_longer lengths array 0
+with_longer lengths (instruction.PrivateStore array index value element name) = widened_longer lengths array 0
+with_longer lengths _ = omega arith
+
+with_kept : (lengths : List ℕ) (i : Instruction) (a n : ℕ) → HasRoom (slice_get lengths a) n → HasRoom (slice_get (lengths_with lengths i) a) n
+with_kept lengths (instruction.UnsetArray array count) a n h = widened_kept lengths array count a n h
+with_kept lengths (instruction.PrivateLoad to array index element name) a n h = widened_kept lengths array 0 a n h
+with_kept lengths (instruction.PrivateStore array index value element name) a n h = widened_kept lengths array 0 a n h
+with_kept lengths _ a n h = h
+
+array_here : (lengths : List ℕ) (i : Instruction) → HasArray (lengths_with lengths i) i
+array_here lengths (instruction.UnsetArray array count) = widened_here lengths array count
+array_here lengths (instruction.PrivateLoad to array index element name) = widened_within lengths array 0
+array_here lengths (instruction.PrivateStore array index value element name) = widened_within lengths array 0
+array_here lengths _ = tt
+
+array_kept : (lengths : List ℕ) (j i : Instruction) → HasArray lengths i → HasArray (lengths_with lengths j) i
+array_kept lengths j (instruction.UnsetArray array count) h = with_kept lengths j array count h
+array_kept lengths j (instruction.PrivateLoad to array index element name) h = let g = with_longer lengths j in omega (arith, g, h)
+array_kept lengths j (instruction.PrivateStore array index value element name) h = let g = with_longer lengths j in omega (arith, g, h)
+array_kept lengths j _ h = h
+
+arrays_kept : (code : List Instruction) (lengths : List ℕ) (i : Instruction) → HasArray lengths i → HasArray (lengths_from lengths code) i
+arrays_kept [] lengths i h = h
+arrays_kept (j ∷ code) lengths i h = arrays_kept code (lengths_with lengths j) i (array_kept lengths j i h)
+
+arrays_there : (code : List Instruction) (lengths : List ℕ) (place : ℕ) (i : Instruction) → slice_get code place ≡ Some i → HasArray (lengths_from lengths code) i
+arrays_there [] lengths place i is = absurd (cc)
+arrays_there (first ∷ code) lengths zero i is =
+    subst (λ o. elim o as (λ _. Type 0) [ None ↦ Unit {0} | Some j ↦ HasArray (lengths_from (lengths_with lengths first) code) j ]) is
+    (arrays_kept code (lengths_with lengths first) first (array_here lengths first))
+arrays_there (first ∷ code) lengths (suc place) i is = arrays_there code (lengths_with lengths first) place i is
+
 suit_there : (parameters : List VariableType) (code : List Instruction) (place : ℕ) (i : Instruction) → Suit parameters code → slice_get code place ≡ Some i → Suits parameters i
 suit_there parameters [] place i h is = absurd (cc)
 suit_there parameters (first ∷ code) zero i h is =
@@ -76,6 +137,7 @@ suit_fits parameters code suit place i is =
     suit_there parameters code place i suit is (tabled code parameters) refl
     (record {
       registers = tables_have (tabled code parameters) (register_count code) (λ r below. kinds_have (register_count code) r below) (registers_of i) (room_there code place i is);
+      arrays = arrays_there code [] place i is;
       names = names_there code place i is;
     })
 

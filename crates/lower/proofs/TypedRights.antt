@@ -1,5 +1,5 @@
 -- The code of what typed statements assign, and of the calls in them, names registers of the kinds that its instructions want.
-use Rattle.std.proofs.Common.{◌≡◌, ℕ, ◌+◌, Bool, true, false, IsTrue, Option, None, Some, List, [], ◌∷◌, ◌++◌, length, slice_get, refl, ap, ap₂, sym, subst, ◌∙◌, arith}
+use Rattle.std.proofs.Common.{◌≡◌, ℕ, ◌+◌, if◌then◌else◌, Bool, true, false, IsTrue, Option, None, Some, List, [], ◌∷◌, ◌++◌, length, slice_get, refl, ap, ap₂, sym, subst, ◌∙◌, arith}
 use Rattle.std.proofs.lemmas.List.{length-append}
 use Rattle.clnum.specs.declared.int_type.IntType.{IntType}
 use Rattle.clnum.specs.declared.int_type.IntType.TheVariants.{Char, Uchar, Short, Ushort, Int, Uint, Long, Ulong}
@@ -9,11 +9,14 @@ use Rattle.clmodel.specs.BuiltIns.{built_in}
 use Rattle.clmodel.specs.Next.{base_type, infix_type, argument_type, call_type, step_operator, helper_or, helper_call}
 use Rattle.clmodel.specs.Tree as tree
 use Rattle.clmodel.specs.Tree.{Term, Terms, Place, MaybeTerm}
-use Rattle.clmodel.specs.Typing.Context.{Context, Signature, signature_of, meaning, BuiltInFunction, Barrier}
+use Rattle.clmodel.specs.Typing.Context.{Context, Signature, Single, LocalArray, PrivateArray, element_type, Bound, signature_of, meaning, BuiltInFunction, Barrier}
 use Rattle.clmodel.specs.Typing.Rules as rule
 use Rattle.clmodel.specs.Typing.Rules.{Types, TypesAll, TypesPlace, Passes, Operates, AreGiven, CallsHelper, Gives, IsCondition}
 use Rattle.clmodel.specs.declared.action.Fences.{Fences}
+use Rattle.clmodel.specs.declared.declaration.Declaration.{Declaration}
 use Rattle.clmodel.specs.declared.setup.BuiltIn.{BuiltIn}
+use Rattle.clmodel.specs.declared.tree.AddressSpace.TheVariants.{Local}
+use Rattle.clmodel.specs.declared.tree.PointerType.{PointerType}
 use Rattle.clmodel.specs.declared.tree.InfixOperator.TheVariants.{Arithmetic}
 use Rattle.clmodel.specs.declared.tree.VariableType.{VariableType}
 use Rattle.clmodel.specs.declared.tree.VariableType.TheVariants.{Integer, Pointer}
@@ -21,12 +24,12 @@ use Rattle.regcode.specs.Rules as rules
 use Rattle.regcode.specs.declared.instruction.Instruction.{Instruction}
 use Rattle.regcode.specs.declared.instruction.Instruction.TheVariants as instruction
 use Rattle.regcode.specs.declared.tables.RegisterKind.TheVariants as register_kinds
-use Rattle.lower_expr.specs.Scope.{Scope, register_at, free_level}
-use Rattle.lower_expr.specs.Expressions.{kind_of, kind_named, register_for, registers_for, expr_code, terms_code, place_code, place_register, call_only_code, count}
+use Rattle.lower_expr.specs.Scope.{Scope, register_at, level_of, free_level}
+use Rattle.lower_expr.specs.Expressions.{kind_of, kind_named, element_of, private_load, private_store, register_for, registers_for, expr_code, terms_code, place_code, place_register, call_only_code, count}
 use Rattle.lower_code.specs.Code.{Calls, result_type, needed_code, no_value_code, value_code, hold_code, place_type, fetch_code, put_code, combine_code, wait_code, condition_code, turn_code, right_code, right_type, assign_code, compound_code, step_code, call_only_statement}
-use Rattle.lower.specs.Accepted.{Is, Matches, Suit}
-use Rattle.lower.proofs.Suiting.{is_at, is_as, suit_both, constant_suits, unset_suits, hold_suits, binary_suits, store_suits, load_suits, update_suits, update_by_one_suits, branch_suits}
-use Rattle.lower.proofs.Suited.{built_in_is, barrier_is, infix_is, call_is, argument_is, last_of, types_are, type_is, numbered, registers_are, variable_suits, call_suits, expression_suits, terms_suit, place_suits}
+use Rattle.lower.specs.Accepted.{declared_kind, is_private, Is, Matches, Suit}
+use Rattle.lower.proofs.Suiting.{is_at, is_as, suit_both, constant_suits, unset_suits, hold_suits, binary_suits, store_suits, load_suits, private_load_suits, private_store_suits, update_suits, update_by_one_suits, branch_suits}
+use Rattle.lower.proofs.Suited.{element_is, built_in_is, barrier_is, infix_is, call_is, argument_is, last_of, types_are, type_is, numbered, registers_are, variable_suits, call_suits, expression_suits, terms_suit, place_suits}
 use Rattle.lower.proofs.Scoped.{callable_is}
 
 -- the registers of arguments can be given to parameters of these types, as far as there are both
@@ -59,9 +62,9 @@ no_helper : (c : Context) (e : Term) (k : VariableType) → Types c e k → help
 no_helper c _ _ (rule.call {x = x} {f = f} {es = es} is arguments calls) =
     ap (λ g. helper_or g (record { name = x; arguments = es })) (built_in_is c x f is)
 no_helper c _ _ rule.number = refl
-no_helper c _ _ (rule.variable is) = refl
-no_helper c _ _ (rule.element is index) = refl
-no_helper c _ _ (rule.address is index) = refl
+no_helper c _ _ (rule.variable is value) = refl
+no_helper c _ _ (rule.element is of index) = refl
+no_helper c _ _ (rule.address is value index) = refl
 no_helper c _ _ (rule.dereference pointer) = refl
 no_helper c _ _ (rule.unary operand) = refl
 no_helper c _ _ (rule.cast operand) = refl
@@ -115,8 +118,8 @@ module _ (parameters : List VariableType) where
 
 module _ (c : Context) (scope : Scope) (m : Matches c scope) where
   place_is : (place : Place) (k : VariableType) → TypesPlace c place k → place_type scope place ≡ k
-  place_is _ _ (rule.whole {x = x} {k = k} is) = (m x k is).declared
-  place_is _ _ (rule.part {x = x} {p = p} is writable index) = ap (λ k. Integer (base_type k)) (m x (Pointer p) is).declared
+  place_is _ _ (rule.whole {x = x} {k = k} is) = (m x (Single k) is).declared
+  place_is _ _ (rule.part {x = x} {d = d} {t = t} is of stored index) = ap (λ k. Integer (base_type k)) (m x d is).declared ∙ ap Integer (element_is d t of)
   place_is _ _ (rule.behind {p = p} {e = e} writable pointer) = ap (λ k. Integer (base_type k)) (type_is c scope m e (Pointer p) pointer)
 
   filled : (level : ℕ) (ps : List VariableType) (es : Terms) → AreGiven c ps es → Filled ps (registers_for scope level es)
@@ -132,16 +135,53 @@ module _ (c : Context) (scope : Scope) (m : Matches c scope) where
         suit_both parameters (terms_code scope level es) (expr_code scope (level + count es) e) (terms_given level ps es given)
         (expression_suits c scope m parameters (level + count es) e k types)
 
-    fetch_suits : (level : ℕ) (place : Place) (k : VariableType) → TypesPlace c place k
-        → Suit parameters (fetch_code scope place (place_register scope level place) (register_at (level + 1) (place_type scope place)))
-    fetch_suits level _ _ (rule.whole {x = x} {k = k} is) = variable_suits c scope m parameters (level + 1) (kind_named scope x) x k is (m x k is).declared
-    fetch_suits level _ _ (rule.part {x = x} {p = p} is writable index) =
+    -- an element behind a pointer
+    pointer_loaded : (level x : ℕ) (d : Declaration) (p : PointerType) → meaning c x ≡ Bound d → declared_kind d ≡ Pointer p
+        → Suit parameters (instruction.Load (register_at (level + 1) (Integer (element_of scope x))) (register_at level (kind_named scope x)) ∷ [])
+    pointer_loaded level x d p is held =
         let kind = kind_named scope x in
-        let same = (m x (Pointer p) is).declared in (
-          load_suits parameters (register_at (level + 1) (Integer (base_type kind))) (register_at level kind) p.element
-              (is_as (level + 1) (Integer (base_type kind)) (Integer p.element) (ap (λ k. Integer (base_type k)) same)) (is_as level kind (Pointer p) same),
+        let same = (m x d is).declared ∙ held in (
+          load_suits parameters (register_at (level + 1) (Integer (element_of scope x))) (register_at level kind) p.element
+              (is_as (level + 1) (Integer (element_of scope x)) (Integer p.element) (ap (λ k. Integer (base_type k)) same)) (is_as level kind (Pointer p) same),
           tt,
         )
+
+    pointer_stored : (level from x : ℕ) (d : Declaration) (p : PointerType) (u : IntType) → meaning c x ≡ Bound d → declared_kind d ≡ Pointer p → Is from (Integer u)
+        → Suit parameters (instruction.Store (register_at level (kind_named scope x)) from ∷ [])
+    pointer_stored level from x d p u is held of =
+        (store_suits parameters (register_at level (kind_named scope x)) from p.element u (is_as level (kind_named scope x) (Pointer p) ((m x d is).declared ∙ held)) of, tt)
+
+    -- an element, by the index of a private array or a pointer
+    part_loaded : (level x : ℕ) (d : Declaration) (e : Term) (t u : IntType) → meaning c x ≡ Bound d → element_type d ≡ Some t → Types c e (Integer u)
+        → Suit parameters (if is_private d then private_load scope (register_at (level + 1) (Integer (element_of scope x))) x (if is_private d then register_for scope level e else register_at level (kind_named scope x)) ∷ []
+        else instruction.Load (register_at (level + 1) (Integer (element_of scope x))) (if is_private d then register_for scope level e else register_at level (kind_named scope x)) ∷ [])
+    part_loaded level x (Single (Integer j)) e t u is of index = absurd (cc)
+    part_loaded level x (Single (Pointer p)) e t u is of index = pointer_loaded level x (Single (Pointer p)) p is refl
+    part_loaded level x (LocalArray j) e t u is of index = pointer_loaded level x (LocalArray j) (record { space = Local; is_const = false; element = j }) is refl
+    part_loaded level x (PrivateArray j) e t u is of index = (
+      private_load_suits parameters (register_at (level + 1) (Integer (element_of scope x))) (level_of scope x) (register_for scope level e) x (element_of scope x) u
+          (is_at (level + 1) (Integer (element_of scope x))) (is_as level (kind_of scope e) (Integer u) (type_is c scope m e (Integer u) index)),
+      tt,
+    )
+
+    part_stored : (level from x : ℕ) (d : Declaration) (e : Term) (t u v : IntType) → meaning c x ≡ Bound d → element_type d ≡ Some t → Types c e (Integer u) → Is from (Integer v)
+        → Suit parameters (if is_private d then private_store scope x (if is_private d then register_for scope level e else register_at level (kind_named scope x)) from ∷ []
+        else instruction.Store (if is_private d then register_for scope level e else register_at level (kind_named scope x)) from ∷ [])
+    part_stored level from x (Single (Integer j)) e t u v is of index by = absurd (cc)
+    part_stored level from x (Single (Pointer p)) e t u v is of index by = pointer_stored level from x (Single (Pointer p)) p v is refl by
+    part_stored level from x (LocalArray j) e t u v is of index by = pointer_stored level from x (LocalArray j) (record { space = Local; is_const = false; element = j }) v is refl by
+    part_stored level from x (PrivateArray j) e t u v is of index by =
+        (private_store_suits parameters (level_of scope x) (register_for scope level e) from x (element_of scope x) u v (is_as level (kind_of scope e) (Integer u) (type_is c scope m e (Integer u) index)) by, tt)
+
+    fetch_suits : (level : ℕ) (place : Place) (k : VariableType) → TypesPlace c place k
+        → Suit parameters (fetch_code scope place (place_register scope level place) (register_at (level + 1) (place_type scope place)))
+    fetch_suits level _ _ (rule.whole {x = x} {k = k} is) = variable_suits c scope m parameters (level + 1) (kind_named scope x) x (Single k) k is refl (m x (Single k) is).declared
+    fetch_suits level _ _ (rule.part {x = x} {d = d} {t = t} {u = u} {e = e} is of stored index) =
+        let target = register_at (level + 1) (Integer (element_of scope x)) in
+        let there = register_for scope level e in
+        let pointer = register_at level (kind_named scope x) in
+        subst (λ b. Suit parameters (if b then private_load scope target x (if b then there else pointer) ∷ [] else instruction.Load target (if b then there else pointer) ∷ [])) (sym (m x d is).array)
+        (part_loaded level x d e t u is of index)
     fetch_suits level _ _ (rule.behind {p = p} {e = e} writable pointer) =
         let kind = kind_of scope e in
         let same = type_is c scope m e (Pointer p) pointer in (
@@ -153,14 +193,17 @@ module _ (c : Context) (scope : Scope) (m : Matches c scope) where
     put_suits : (level from : ℕ) (place : Place) (k r : VariableType) → TypesPlace c place k → Passes k r → Is from r
         → Suit parameters (put_code scope place (place_register scope level place) from)
     put_suits level from _ _ r (rule.whole {x = x} {k = k} is) passes of =
-        let there = m x k is in
+        let there = m x (Single k) is in
         subst (λ o. Suit parameters (hold_code o from (kind_named scope x))) (sym there.register) (
           hold_suits parameters (register_at there.level k) from (kind_named scope x) r (is_as there.level k (kind_named scope x) (sym there.declared)) of
               (subst (λ q. Passes q r) (sym there.declared) passes),
           tt,
         )
-    put_suits level from _ _ _ (rule.part {x = x} {p = p} is writable index) (rule.integers {u = u}) of =
-        (store_suits parameters (register_at level (kind_named scope x)) from p.element u (is_as level (kind_named scope x) (Pointer p) (m x (Pointer p) is).declared) of, tt)
+    put_suits level from _ _ _ (rule.part {x = x} {d = d} {t = t} {u = u} {e = e} is of stored index) (rule.integers {u = v}) by =
+        let there = register_for scope level e in
+        let pointer = register_at level (kind_named scope x) in
+        subst (λ b. Suit parameters (if b then private_store scope x (if b then there else pointer) from ∷ [] else instruction.Store (if b then there else pointer) from ∷ [])) (sym (m x d is).array)
+        (part_stored level from x d e t u v is of index by)
     put_suits level from _ _ _ (rule.behind {p = p} {e = e} writable pointer) (rule.integers {u = u}) of =
         (store_suits parameters (register_for scope level e) from p.element u (is_as level (kind_of scope e) (Pointer p) (type_is c scope m e (Pointer p) pointer)) of, tt)
 

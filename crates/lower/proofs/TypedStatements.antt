@@ -1,9 +1,9 @@
 -- The code of typed statements names registers of the kinds that its instructions want.
-use Rattle.std.proofs.Common.{◌≡◌, ℕ, ◌+◌, ◌++◌, Option, Some, List, [], ◌∷◌, length, subst}
+use Rattle.std.proofs.Common.{◌≡◌, ℕ, ◌+◌, ◌++◌, Bool, true, false, Option, Some, List, [], ◌∷◌, length, subst}
 use Rattle.clnum.specs.declared.int_type.IntType.{IntType}
 use Rattle.clmodel.specs.Next.{helper_call, sites, part_sites, all_sites}
-use Rattle.clmodel.specs.Tree.{Stmt, Stmts, MaybeStmt, While_}
-use Rattle.clmodel.specs.Typing.Context.{Context, Signature, signature_of, bind, enter, turning, for_context, after_all}
+use Rattle.clmodel.specs.Tree.{array_length, Stmt, Stmts, MaybeStmt, While_}
+use Rattle.clmodel.specs.Typing.Context.{Context, Signature, Single, signature_of, bind, enter, turning, for_context, after_all}
 use Rattle.clmodel.specs.Typing.Rules as rule
 use Rattle.clmodel.specs.Typing.Rules.{IsTyped, IsTypedPart, AreTyped}
 use Rattle.clmodel.specs.declared.tree.VariableType.{VariableType}
@@ -11,9 +11,9 @@ use Rattle.clmodel.specs.declared.tree.VariableType.TheVariants.{Integer}
 use Rattle.regcode.specs.declared.instruction.Instruction.TheVariants as instruction
 use Rattle.lower_expr.specs.Scope.{Scope, register_at, free_level}
 use Rattle.lower_expr.specs.Expressions.{kind_of, register_for, expr_code}
-use Rattle.lower_code.specs.Code.{Exits, past, body_exits, with_variable, scope_after_part, scope_after_all, Calls, no_value_code, value_code, condition_code, while_code, right_code, right_type, stmt_code, part_code, stmts_code}
+use Rattle.lower_code.specs.Code.{Exits, past, body_exits, with_variable, local_pointer, array_code, scope_after_part, scope_after_all, Calls, no_value_code, value_code, condition_code, while_code, right_code, right_type, stmt_code, part_code, stmts_code}
 use Rattle.lower.specs.Accepted.{Matches, Suit}
-use Rattle.lower.proofs.Suiting.{is_at, is_as, suit_both, unset_suits, hold_suits, branch_suits}
+use Rattle.lower.proofs.Suiting.{is_at, is_as, suit_both, unset_suits, hold_suits, local_suits, unset_array_suits, branch_suits}
 use Rattle.lower.proofs.Suited.{type_is, expression_suits}
 use Rattle.lower.proofs.Scoped.{matches_bind, matches_part, matches_all, after_part_before, after_all_before}
 use Rattle.lower.proofs.TypedRights.{CallSuits, no_value_suits, value_suits, turn_suits, condition_suits, step_suits, only_suits, only_barrier_suits, only_helper_suits, right_is, right_suits, assign_suits, compound_suits}
@@ -26,6 +26,10 @@ module _ (parameters : List VariableType) (calls : Calls) (results : ℕ → Opt
   known_as : (before other : List (ℕ × Signature)) → before ≡ other → ((x : ℕ) (s : Signature) → signature_of other x ≡ Some s → CallSuits parameters calls results x s)
       → (x : ℕ) (s : Signature) → signature_of before x ≡ Some s → CallSuits parameters calls results x s
   known_as before other e known x s is = known x s (subst (λ b. signature_of b x ≡ Some s) e is)
+
+  array_suits : (is_local : Bool) (t : IntType) (count number level : ℕ) → Suit parameters (array_code is_local t count number level)
+  array_suits true t count number level = (local_suits parameters (register_at level (local_pointer t)) number t (is_at level (local_pointer t)), tt)
+  array_suits false t count number level = (unset_suits parameters (register_at level (Integer t)), (unset_array_suits parameters level count, tt))
 
   mutual
     pub stmt_suits : (c : Context) (s : Stmt) → IsTyped c s → (scope : Scope) → Matches c scope → Known c → (depth site : ℕ) (exits : Exits)
@@ -40,12 +44,14 @@ module _ (parameters : List VariableType) (calls : Calls) (results : ℕ → Opt
         let kind = right_type calls results inside result inner (helper_call e) e in (
           unset_suits parameters (register_at level k),
           suit_both parameters (right_code calls results inside result inner (level + 1) (helper_call e) e depth site) _
-              (right_suits (bind c x k) inner within parameters calls results inside result known (level + 1) e j gives depth site) (
+              (right_suits (bind c x (Single k)) inner within parameters calls results inside result known (level + 1) e j gives depth site) (
                 hold_suits parameters (register_at level k) (register_at (level + 1) kind) k j (is_at level k)
-                    (is_as (level + 1) kind j (right_is (bind c x k) inner within parameters calls results inside result known e j gives)) passes,
+                    (is_as (level + 1) kind j (right_is (bind c x (Single k)) inner within parameters calls results inside result known e j gives)) passes,
                 tt,
               ),
         )
+    stmt_suits _ _ (rule.declare_array {is_local = is_local} {t = t} {n = n} free outermost some few) scope m known depth site exits =
+        array_suits is_local t (array_length n) (length scope.variables) (free_level scope)
     stmt_suits _ _ (rule.assign {c = c} {p = p} {e = e} {k = k} {j = j} place gives passes) scope m known depth site exits =
         assign_suits c scope m parameters calls results inside result known (free_level scope) p e k j place gives passes depth site
     stmt_suits _ _ (rule.assign_by {c = c} {p = p} {op = op} {e = e} {k = k} {j = j} {r = r} place gives operates passes) scope m known depth site exits =

@@ -6,9 +6,9 @@ use Rattle.clnum.specs.declared.int_type.IntType.TheVariants.{Int}
 use Rattle.clnum.specs.declared.operators.BinaryOperator.{BinaryOperator}
 use Rattle.clmodel.specs.Barrier.{is_barrier, fences}
 use Rattle.clmodel.specs.BuiltIns.{built_in}
-use Rattle.clmodel.specs.Next.{helper_call, helper_or, step_operator, sites, part_sites, all_sites}
+use Rattle.clmodel.specs.Next.{is_array, helper_call, helper_or, step_operator, sites, part_sites, all_sites}
 use Rattle.clmodel.specs.Tree as tree
-use Rattle.clmodel.specs.Tree.{Term, Terms, Place, Whole, Part, Behind, Stmt, Empty, Block, Declare, DeclareAs, DeclareArray, Assign, Step, CallOnly, If, IfElse, While, DoWhile, For, Break, Continue, Return, ReturnValue, Stmts, NoStmt, ThenStmt, MaybeStmt, Without, With, MaybeTerm, Always, While_}
+use Rattle.clmodel.specs.Tree.{array_length, Term, Terms, Place, Whole, Part, Behind, Stmt, Empty, Block, Declare, DeclareAs, DeclareArray, Assign, Step, CallOnly, If, IfElse, While, DoWhile, For, Break, Continue, Return, ReturnValue, Stmts, NoStmt, ThenStmt, MaybeStmt, Without, With, MaybeTerm, Always, While_}
 use Rattle.clmodel.specs.Typing.Sizes.{Sizes, size_in, term_size, terms_size, place_size, condition_size, size, part_size, row_size}
 use Rattle.clmodel.specs.declared.action.Fences.{Fences}
 use Rattle.clmodel.specs.declared.setup.BuiltIn.{BuiltIn}
@@ -19,9 +19,9 @@ use Rattle.regcode.specs.declared.instruction.Instruction.{Instruction}
 use Rattle.regcode.specs.declared.instruction.Instruction.TheVariants as instruction
 use Rattle.lower_expr.specs.Scope.{Scope, free_level, register_at, register_of}
 use Rattle.lower_expr.specs.Expressions.{kind_named, register_for, registers_for, expr_code, terms_code, place_code, place_register, call_only_code}
-use Rattle.lower_code.specs.Code.{Exits, past, body_exits, Calls, with_variable, scope_after_part, scope_after_all, needed_code, no_value_code, value_code, hold_code, place_type, fetch_code, put_code, combine_code, wait_code, condition_code, while_code, right_code, right_type, call_only_statement, stmt_code, part_code, stmts_code}
+use Rattle.lower_code.specs.Code.{Exits, past, body_exits, Calls, with_variable, scope_after_part, scope_after_all, needed_code, no_value_code, value_code, hold_code, array_code, place_type, fetch_code, put_code, combine_code, wait_code, condition_code, while_code, right_code, right_type, call_only_statement, stmt_code, part_code, stmts_code}
 use Rattle.lower.specs.Accepted.{Flat, Sound}
-use Rattle.lower.proofs.Flat.{flat_both, variable_flat, call_flat, expression_flat, terms_flat, place_flat}
+use Rattle.lower.proofs.Flat.{flat_both, either_flat, variable_flat, call_flat, expression_flat, terms_flat, place_flat}
 use Rattle.lower.proofs.Sound.{leads_at, sound_flat, sound_more, sound_then, sound_both, sound_exit, sound_barrier, sound_test, sound_branch, sound_sides}
 use Rattle.lower.proofs.SoundLoops.{sound_do, sound_while}
 
@@ -31,16 +31,20 @@ hold_flat (Some to) from kind = (tt, tt)
 
 put_flat : (scope : Scope) (place : Place) (pointer from : ℕ) → Flat (put_code scope place pointer from)
 put_flat scope (Whole at name) pointer from = hold_flat (register_of scope name) from (kind_named scope name)
-put_flat scope (Part at name index) pointer from = (tt, tt)
+put_flat scope (Part at name index) pointer from = either_flat (is_array scope.variables name) _ _ (tt, tt) (tt, tt)
 put_flat scope (Behind at term) pointer from = (tt, tt)
 
 fetch_flat : (scope : Scope) (place : Place) (pointer to : ℕ) → Flat (fetch_code scope place pointer to)
 fetch_flat scope (Whole at name) pointer to = variable_flat to (register_of scope name) name
-fetch_flat scope (Part at name index) pointer to = (tt, tt)
+fetch_flat scope (Part at name index) pointer to = either_flat (is_array scope.variables name) _ _ (tt, tt) (tt, tt)
 fetch_flat scope (Behind at term) pointer to = (tt, tt)
 
 combine_flat : (scope : Scope) (place : Place) (level : ℕ) (operator : BinaryOperator) (kind : VariableType) (old right : ℕ) → Flat (combine_code scope place level operator kind old right)
 combine_flat scope place level operator kind old right = (tt, put_flat scope place (place_register scope level place) _)
+
+array_flat : (is_local : Bool) (element : IntType) (count number level : ℕ) → Flat (array_code is_local element count number level)
+array_flat true element count number level = (tt, tt)
+array_flat false element count number level = (tt, (tt, tt))
 
 needed_flat : (t : Option IntType) → Flat (needed_code t)
 needed_flat None = (tt, tt)
@@ -127,7 +131,7 @@ module _ (sizes : Sizes) (calls : Calls) (results : ℕ → Option IntType) (ins
         sound_both n depth exits (instruction.Unset (register_at (free_level scope) kind) ∷ []) (first ++ last)
         (sound_flat n depth _ _ (tt, tt))
         (sound_both n depth exits first last (right_sound inner (free_level scope + 1) value depth site _) (sound_flat n depth exits last (tt, tt)))
-    stmt_sound scope (DeclareArray at is_local element name_at name length_at count) depth site exits = sound_flat _ depth exits _ (tt, tt)
+    stmt_sound scope (DeclareArray at is_local element name_at name length_at count) depth site exits = sound_flat _ depth exits _ (array_flat is_local element (array_length count) (length scope.variables) (free_level scope))
     stmt_sound scope (Assign at place None value) depth site exits =
         let n = max (place_size sizes place).loops (term_size sizes value).loops in
         let level = free_level scope in

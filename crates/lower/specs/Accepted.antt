@@ -1,21 +1,24 @@
 -- What the instructions of typed trees owe to their tables, one by one (own).
-use Rattle.std.specs.Prelude.{◌≡◌, ℕ, ◌+◌, ◌≤◌, nat_eq, Option, None, Some, List, [], ◌∷◌, length, map, slice_get}
+use Rattle.std.specs.Prelude.{◌≡◌, ℕ, ◌+◌, ◌<◌, ◌≤◌, Bool, true, false, nat_eq, Option, None, Some, List, [], ◌∷◌, length, map, slice_get}
 use Rattle.std.specs.Map.{lookup}
+use Rattle.clmodel.specs.Next.{is_array}
+use Rattle.clmodel.specs.declared.declaration.Declaration.{Declaration}
 use Rattle.clmodel.specs.declared.tree.VariableType.{VariableType}
+use Rattle.clmodel.specs.declared.tree.VariableType.TheVariants.{Integer}
 use Rattle.regcode.specs.Listing.{Listing}
-use Rattle.regcode.specs.Rules.{kind_at, kind_of, Fits, loops_at, most_loops, Leads, Goes, IsVerified}
+use Rattle.regcode.specs.Rules.{kind_at, kind_of, HasRoom, Fits, loops_at, most_loops, Leads, Goes, IsVerified}
 use Rattle.regcode.specs.declared.instruction.Instruction.{Instruction}
 use Rattle.clnum.specs.declared.int_type.IntType.{IntType}
 use Rattle.clmodel.specs.Setup.{kernel_in, functions_before}
 use Rattle.clmodel.specs.Tree.{Program, Term, Place, Stmts, Func, Funcs, NoFunc, ThenFunc}
 use Rattle.clmodel.specs.Typing.{IsTypedProgram}
 use Rattle.clmodel.specs.Typing.Sizes.{Sizes, size_in, row_size, sizes_of}
-use Rattle.clmodel.specs.Typing.Context.{Context, meaning, Bound}
+use Rattle.clmodel.specs.Typing.Context.{Context, Single, LocalArray, PrivateArray, meaning, Bound}
 use Rattle.clmodel.specs.Typing.Rules.{Types, TypesPlace}
 use Rattle.lower_expr.specs.Scope.{Scope, register_at, register_of}
 use Rattle.lower_expr.specs.Expressions.{kind_named, expr_code, place_code}
 use Rattle.regcode.specs.declared.instruction.Instruction.TheVariants as instruction
-use Rattle.lower_code.specs.Code.{Exits, Calls, stmts_code, kernel_code}
+use Rattle.lower_code.specs.Code.{local_pointer, Exits, Calls, stmts_code, kernel_code}
 use Rattle.lower.specs.Tables.{register_kind, registers_of, names_of, depth_after, tabled}
 
 -- these registers are in the tables, each with its kind
@@ -23,9 +26,17 @@ abbrev pub Has : Listing → List ℕ → Type 0
 Has code [] = Unit {0}
 Has code (r ∷ rs) = (kind_at code r ≡ Some (register_kind r)) × Has code rs
 
+-- the private array that an instruction names is there, and long enough for its declaration
+abbrev pub HasArray : List ℕ → Instruction → Type 0
+HasArray lengths (instruction.UnsetArray array count) = HasRoom (slice_get lengths array) count
+HasArray lengths (instruction.PrivateLoad to array index element name) = array < length lengths
+HasArray lengths (instruction.PrivateStore array index value element name) = array < length lengths
+HasArray lengths _ = Unit {0}
+
 -- what an instruction names is in the tables
 pub record Wide (code : Listing) (i : Instruction) : Type 0 where
   pub registers : Has code (registers_of i)
+  pub arrays : HasArray code.arrays i
   pub names : names_of i ≤ code.names
 
 -- an instruction that fits all tables with these parameters that have what it names
@@ -40,15 +51,27 @@ Suit parameters (i ∷ is) = Suits parameters i × Suit parameters is
 abbrev pub Is : ℕ → VariableType → Type 0
 Is r kind = register_kind r ≡ kind_of kind
 
--- a variable's register and type
-pub record InScope (scope : Scope) (name : ℕ) (kind : VariableType) : Type 0 where
+-- the type of the variable that a declaration adds, and whether it is a private array
+abbrev pub declared_kind : Declaration → VariableType
+declared_kind (Single k) = k
+declared_kind (LocalArray t) = local_pointer t
+declared_kind (PrivateArray t) = Integer t
+
+abbrev pub is_private : Declaration → Bool
+is_private (Single k) = false
+is_private (LocalArray t) = false
+is_private (PrivateArray t) = true
+
+-- a variable's register and type, and whether it is a private array
+pub record InScope (scope : Scope) (name : ℕ) (d : Declaration) : Type 0 where
   pub level : ℕ
-  pub register : register_of scope name ≡ Some (register_at level kind)
-  pub declared : kind_named scope name ≡ kind
+  pub register : register_of scope name ≡ Some (register_at level (declared_kind d))
+  pub declared : kind_named scope name ≡ declared_kind d
+  pub array : is_array scope.variables name ≡ is_private d
 
 -- a scope of code has the variables of a context
 abbrev pub Matches : Context → Scope → Type 0
-Matches c scope = (name : ℕ) (kind : VariableType) → meaning c name ≡ Bound kind → InScope scope name kind
+Matches c scope = (name : ℕ) (d : Declaration) → meaning c name ≡ Bound d → InScope scope name d
 
 -- the code of typed expressions, and of what is assigned to
 abbrev pub ExpressionsSuit : Type 0

@@ -38,6 +38,9 @@ registers_of (instruction.Builtin to function first (Some second)) = to ∷ firs
 registers_of (instruction.Dimensions to) = to ∷ []
 registers_of (instruction.Query to function dimension) = to ∷ dimension ∷ []
 registers_of (instruction.Argument to index kind) = to ∷ []
+registers_of (instruction.Local to number element) = to ∷ []
+registers_of (instruction.PrivateLoad to array index element name) = to ∷ index ∷ []
+registers_of (instruction.PrivateStore array index value element name) = index ∷ value ∷ []
 registers_of (instruction.Point to from) = to ∷ from ∷ []
 registers_of (instruction.Offset to pointer index) = to ∷ pointer ∷ index ∷ []
 registers_of (instruction.Load to pointer) = to ∷ pointer ∷ []
@@ -60,12 +63,33 @@ register_count (i ∷ is) = max (room (registers_of i)) (register_count is)
 -- one more than the name that an instruction has
 abbrev pub names_of : Instruction → ℕ
 names_of (instruction.Move to from name) = name + 1
+names_of (instruction.PrivateLoad to array index element name) = name + 1
+names_of (instruction.PrivateStore array index value element name) = name + 1
 names_of _ = 0
 
 -- how many names there are
 abbrev pub name_count : List Instruction → ℕ
 name_count [] = 0
 name_count (i ∷ is) = max (names_of i) (name_count is)
+
+-- the lengths of private arrays, where one has so many elements at least
+abbrev pub widened : List ℕ → (array count : ℕ) → List ℕ
+widened [] zero count = count ∷ []
+widened [] (suc array) count = 0 ∷ widened [] array count
+widened (most ∷ lengths) zero count = max most count ∷ lengths
+widened (most ∷ lengths) (suc array) count = most ∷ widened lengths array count
+
+-- those that an instruction wants besides: its array is there, and long enough for its declaration
+abbrev pub lengths_with : List ℕ → Instruction → List ℕ
+lengths_with lengths (instruction.UnsetArray array count) = widened lengths array count
+lengths_with lengths (instruction.PrivateLoad to array index element name) = widened lengths array 0
+lengths_with lengths (instruction.PrivateStore array index value element name) = widened lengths array 0
+lengths_with lengths _ = lengths
+
+-- each private array's greatest length
+abbrev pub lengths_from : List ℕ → List Instruction → List ℕ
+lengths_from lengths [] = lengths
+lengths_from lengths (i ∷ is) = lengths_from (lengths_with lengths i) is
 
 -- how many loops are entered behind an instruction: a loop ends with its way back
 abbrev pub depth_after : ℕ → Instruction → ℕ
@@ -84,6 +108,7 @@ tabled code parameters =
     record {
       instructions = code;
       registers = register_kinds (register_count code);
+      arrays = lengths_from [] code;
       names = name_count code;
       parameters = parameters;
       loops = loops_from 0 code;

@@ -1,7 +1,7 @@
 //! The tables of code, by its instructions.
 #![tactic(auto)]
 
-ghost use Rattle.std.specs.Prelude.{◌≡◌, [], ◌∷◌, IfOk};
+ghost use Rattle.std.specs.Prelude.{◌≡◌, [], ◌∷◌, IfOk, OnOk};
 ghost use Rattle.regcode.specs.Listed.{listing};
 ghost use Rattle.lower.specs.Tables as spec;
 
@@ -10,7 +10,7 @@ use clnum::IntType;
 use regcode::{Instruction, RegisterKind, Tables};
 use std::alloc::{AllocError, Global};
 
-/// One more than a register's number.
+/// One more than the number of a register or of a private array.
 fn past(register: u32) -> usize
     ensures { result ≡ spec.room (register ∷ []) }
 {
@@ -32,6 +32,7 @@ fn registers_wanted(instruction: &Instruction) -> usize
         Instruction::Constant { to, .. }
         | Instruction::Unset { to }
         | Instruction::Dimensions { to }
+        | Instruction::Local { to, .. }
         | Instruction::Argument { to, .. } => past(to),
         Instruction::Move { to, from, .. }
         | Instruction::Hold { to, from, .. }
@@ -58,6 +59,8 @@ fn registers_wanted(instruction: &Instruction) -> usize
             ..
         } => past(to).max(past_both(first, second)),
         Instruction::Query { to, dimension, .. } => past_both(to, dimension),
+        Instruction::PrivateLoad { to, index, .. } => past_both(to, index),
+        Instruction::PrivateStore { index, value, .. } => past_both(index, value),
         Instruction::Offset { to, pointer, index } => past(to).max(past_both(pointer, index)),
         Instruction::Load { to, pointer } => past_both(to, pointer),
         Instruction::Store { pointer, value } => past_both(pointer, value),
@@ -72,7 +75,8 @@ fn registers_wanted(instruction: &Instruction) -> usize
             ..
         } => past_both(pointer, value),
         Instruction::JumpIfZero { test, .. } => past(test),
-        Instruction::Barrier { .. }
+        Instruction::UnsetArray { .. }
+        | Instruction::Barrier { .. }
         | Instruction::Enter { .. }
         | Instruction::Turn { .. }
         | Instruction::Jump { .. }
@@ -135,7 +139,9 @@ fn names_wanted(instruction: &Instruction) -> Result<u32, AllocError>
     ensures { IfOk result (λ count. count ≡ spec.names_of instruction.now) }
 {
     match instruction {
-        Instruction::Move { name, .. } => name.checked_add(1).ok_or(AllocError),
+        Instruction::Move { name, .. }
+        | Instruction::PrivateLoad { name, .. }
+        | Instruction::PrivateStore { name, .. } => name.checked_add(1).ok_or(AllocError),
         _ => Ok(0),
     }
 }
@@ -149,6 +155,42 @@ fn name_count(code: &[Instruction]) -> Result<u32, AllocError>
         count = names_wanted(instruction)?.max(count);
     }
     Ok(count)
+}
+
+/// Gives a private array so many elements at least.
+fn widen(lengths: &mut Vec<u32>, array: u32, count: u32) -> Result<(), AllocError>
+    ensures { OnOk result (lengths.new.items ≡ spec.widened lengths.old.items array count) }
+{
+    for _ in 0..past(array).saturating_sub(lengths.len()) {
+        lengths.push(0)?;
+    }
+    let most = lengths[array as usize];
+    lengths[array as usize] = most.max(count);
+    Ok(())
+}
+
+/// Gives the private array of an instruction, if it has one, what it wants.
+fn widen_for(lengths: &mut Vec<u32>, instruction: &Instruction) -> Result<(), AllocError>
+    ensures { OnOk result (lengths.new.items ≡ spec.lengths_with lengths.old.items instruction.now) }
+{
+    match *instruction {
+        Instruction::UnsetArray { array, length } => widen(lengths, array, length),
+        Instruction::PrivateLoad { array, .. } | Instruction::PrivateStore { array, .. } => widen(
+            lengths, array, 0,
+        ),
+        _ => Ok(()),
+    }
+}
+
+/// Each private array's greatest length.
+fn lengths_of(alloc: Global, code: &[Instruction]) -> Result<Vec<u32>, AllocError>
+    ensures { IfOk result (λ lengths. lengths.items ≡ spec.lengths_from [] code.now) }
+{
+    let mut lengths = Vec::new(alloc);
+    for instruction in code {
+        widen_for(&mut lengths, instruction)?;
+    }
+    Ok(lengths)
 }
 
 /// How many loops are entered behind an instruction. Err where it is no number of 32 bits.
@@ -185,6 +227,7 @@ pub fn tables_of(
 {
     Ok(Tables {
         registers: register_kinds(alloc, register_count(code))?,
+        arrays: lengths_of(alloc, code)?,
         names: name_count(code)?,
         parameters,
         loops: loops_of(alloc, code)?,

@@ -1,9 +1,9 @@
-pub mod Arguments
 pub mod Chosen
 pub mod Helpers
 pub mod Calling
 pub mod Rows
 pub mod Lists
 pub mod Parameters
+pub mod Places
 pub mod Splits
 pub mod Turns

@@ -1,23 +1,24 @@
 -- The register code of statements, of helper functions in place of their calls, and of kernels (own).
-use Rattle.std.specs.Prelude.{ℕ, ◌+◌, ◌==◌, pos, Bool, true, false, Option, None, Some, List, [], ◌∷◌, ◌++◌, length}
+use Rattle.std.specs.Prelude.{ℕ, ◌+◌, ◌==◌, pos, Bool, true, false, Option, None, Some, List, [], ◌∷◌, ◌++◌, if◌then◌else◌, length}
 use Rattle.clnum.specs.declared.int_type.IntType.{IntType}
 use Rattle.clnum.specs.declared.int_type.IntType.TheVariants.{Int}
 use Rattle.clnum.specs.declared.operators.BinaryOperator.{BinaryOperator}
 use Rattle.clmodel.specs.Barrier.{is_barrier, fences}
 use Rattle.clmodel.specs.BuiltIns.{built_in}
-use Rattle.clmodel.specs.Next.{Variables, base_type, infix_type, argument_type, call_type, step_operator, HelperCall, helper_call, sites, part_sites, all_sites, sites_in}
-use Rattle.clmodel.specs.Tree.{Term, Terms, Place, Whole, Part, Behind, Stmt, Empty, Block, Declare, DeclareAs, DeclareArray, Assign, Step, CallOnly, If, IfElse, While, DoWhile, For, Break, Continue, Return, ReturnValue, Stmts, NoStmt, ThenStmt, MaybeStmt, Without, With, MaybeTerm, Always, While_, Func, Funcs, NoFunc, ThenFunc}
+use Rattle.clmodel.specs.Next as next
+use Rattle.clmodel.specs.Next.{Binding, Variables, is_array, private_array, base_type, infix_type, argument_type, call_type, step_operator, HelperCall, helper_call, sites, part_sites, all_sites, sites_in}
+use Rattle.clmodel.specs.Tree.{Term, Terms, Place, Whole, Part, Behind, Stmt, Empty, Block, Declare, DeclareAs, DeclareArray, Assign, Step, CallOnly, If, IfElse, While, DoWhile, For, Break, Continue, Return, ReturnValue, Stmts, NoStmt, ThenStmt, MaybeStmt, Without, With, MaybeTerm, Always, While_, array_length, Func, Funcs, NoFunc, ThenFunc}
 use Rattle.clmodel.specs.declared.tree.InfixOperator.TheVariants.{Arithmetic}
+use Rattle.clmodel.specs.declared.tree.AddressSpace.TheVariants.{Local}
 use Rattle.clmodel.specs.declared.tree.VariableType.{VariableType}
-use Rattle.clmodel.specs.declared.tree.VariableType.TheVariants.{Integer}
+use Rattle.clmodel.specs.declared.tree.VariableType.TheVariants.{Integer, Pointer}
 use Rattle.clmodel.specs.declared.tree.Parameter.{Parameter}
 use Rattle.clmodel.specs.declared.action.Fences.{Fences}
 use Rattle.clmodel.specs.declared.setup.BuiltIn.{BuiltIn}
-use Rattle.clmodel.specs.declared.operand.Binding.{Binding}
 use Rattle.regcode.specs.declared.instruction.Instruction.{Instruction}
 use Rattle.regcode.specs.declared.instruction.Instruction.TheVariants as instruction
 use Rattle.lower_expr.specs.Scope.{Scope, free_level, register_at, register_of}
-use Rattle.lower_expr.specs.Expressions.{kind_of, kind_named, register_for, registers_for, expr_code, terms_code, variable_code, call_only_code, place_code, place_register}
+use Rattle.lower_expr.specs.Expressions.{kind_of, kind_named, element_of, private_load, private_store, register_for, registers_for, expr_code, terms_code, variable_code, call_only_code, place_code, place_register}
 
 -- How far behind the end of a statement's code its other ends are: what follows a loop that is broken, the condition or the third part of one that is
 -- continued, and the end of the function.
@@ -36,7 +37,16 @@ body_exits rest exits = record { broken = rest; continued = 0; returned = rest +
 
 -- a variable of a scope
 abbrev pub variable : ℕ → VariableType → Binding
-variable name kind = record { name = name; kind = kind; content = None }
+variable name kind = next.variable name kind None
+
+-- the type of the variable that points to a local array
+abbrev pub local_pointer : IntType → VariableType
+local_pointer element = Pointer (record { space = Local; is_const = false; element = element })
+
+-- an array of a scope, of so many elements
+abbrev pub array_variable : (is_local : Bool) → IntType → (count : ℕ) → ℕ → Binding
+array_variable true element count name = variable name (local_pointer element)
+array_variable false element count name = private_array element count name
 
 abbrev pub with_variable : Scope → ℕ → VariableType → Scope
 with_variable scope name kind = record scope { variables = variable name kind ∷ scope.variables }
@@ -45,6 +55,7 @@ with_variable scope name kind = record scope { variables = variable name kind �
 abbrev pub variables_after : Variables → Stmt → Variables
 variables_after variables (Declare at kind name_at name) = variable name kind ∷ variables
 variables_after variables (DeclareAs at kind name_at name value) = variable name kind ∷ variables
+variables_after variables (DeclareArray at is_local element name_at name length_at count) = array_variable is_local element (array_length count) name ∷ variables
 variables_after variables _ = variables
 
 abbrev pub variables_after_part : Variables → MaybeStmt → Variables
@@ -94,23 +105,31 @@ abbrev pub hold_code : Option ℕ → ℕ → VariableType → List Instruction
 hold_code None from kind = instruction.Hold from from kind ∷ []
 hold_code (Some to) from kind = instruction.Hold to from kind ∷ []
 
+-- The declaration of an array at a level, behind so many variables: a pointer to its object in local memory, which has their number, or so many elements,
+-- none of which is set, of the private array of the level.
+abbrev pub array_code : (is_local : Bool) → IntType → (count number level : ℕ) → List Instruction
+array_code true element count number level = instruction.Local (register_at level (local_pointer element)) number element ∷ []
+array_code false element count number level = instruction.Unset (register_at level (Integer element)) ∷ instruction.UnsetArray level count ∷ []
+
 -- the type of what is assigned to
 abbrev pub place_type : Scope → Place → VariableType
 place_type scope (Whole at name) = kind_named scope name
-place_type scope (Part at name index) = Integer (base_type (kind_named scope name))
+place_type scope (Part at name index) = Integer (element_of scope name)
 place_type scope (Behind at pointer) = Integer (base_type (kind_of scope pointer))
 
--- the value that is there
+-- The value that is there, by the register of its index in a private array or of the pointer to it.
 abbrev pub fetch_code : Scope → Place → ℕ → ℕ → List Instruction
-fetch_code scope (Whole at name) pointer to = variable_code to (register_of scope name) name
-fetch_code scope (Part at name index) pointer to = instruction.Load to pointer ∷ []
-fetch_code scope (Behind at term) pointer to = instruction.Load to pointer ∷ []
+fetch_code scope (Whole at name) reached to = variable_code to (register_of scope name) name
+fetch_code scope (Part at name index) reached to =
+    if is_array scope.variables name then private_load scope to name reached ∷ [] else instruction.Load to reached ∷ []
+fetch_code scope (Behind at term) reached to = instruction.Load to reached ∷ []
 
 -- a register's value is put there
 abbrev pub put_code : Scope → Place → ℕ → ℕ → List Instruction
-put_code scope (Whole at name) pointer from = hold_code (register_of scope name) from (kind_named scope name)
-put_code scope (Part at name index) pointer from = instruction.Store pointer from ∷ []
-put_code scope (Behind at term) pointer from = instruction.Store pointer from ∷ []
+put_code scope (Whole at name) reached from = hold_code (register_of scope name) from (kind_named scope name)
+put_code scope (Part at name index) reached from =
+    if is_array scope.variables name then private_store scope name reached from ∷ [] else instruction.Store reached from ∷ []
+put_code scope (Behind at term) reached from = instruction.Store reached from ∷ []
 
 -- an operator on what is there and on a right operand, both of which are at hand, and its value is put there
 abbrev pub combine_code : Scope → Place → ℕ → BinaryOperator → VariableType → ℕ → ℕ → List Instruction
@@ -205,7 +224,7 @@ module _ (calls : Calls) (results : ℕ → Option IntType) (inside : ℕ → �
         instruction.Unset (register_at (free_level scope) kind)
         ∷ (right_code (with_variable scope name kind) (free_level scope + 1) (helper_call value) value depth site
         ++ instruction.Hold (register_at (free_level scope) kind) (register_at (free_level scope + 1) (right_type (with_variable scope name kind) (helper_call value) value)) kind ∷ [])
-    stmt_code scope (DeclareArray at is_local element name_at name length_at count) depth site exits = instruction.End ∷ []
+    stmt_code scope (DeclareArray at is_local element name_at name length_at count) depth site exits = array_code is_local element (array_length count) (length scope.variables) (free_level scope)
     stmt_code scope (Assign at place None value) depth site exits = assign_code scope (free_level scope) place (helper_call value) value depth site
     stmt_code scope (Assign at place (Some operator) value) depth site exits = compound_code scope (free_level scope) place operator (helper_call value) value depth site
     stmt_code scope (Step at place is_increment) depth site exits = step_code scope (free_level scope) place (step_operator is_increment)

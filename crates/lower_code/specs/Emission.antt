@@ -1,5 +1,5 @@
 -- How the code of statements is emitted (own).
-use Rattle.std.specs.Prelude.{ℕ, ◌+◌, ◌++◌, length, Option, None, Some, Box, List, [], ◌∷◌, map, take}
+use Rattle.std.specs.Prelude.{ℕ, ◌+◌, ◌++◌, Bool, true, false, length, Option, None, Some, Box, List, [], ◌∷◌, map, take}
 use Rattle.std.specs.declared.alloc.Global.{Global}
 use Rattle.std.specs.Borrow.{Bor}
 use Rattle.clnum.specs.declared.int_type.IntType.{IntType}
@@ -7,6 +7,7 @@ use Rattle.clmodel.specs.Next.{sites_in, part_sites}
 use Rattle.clmodel.specs.Tree.{Stmt, Stmts, NoStmt, stmt, then_stmts, MaybeStmt, Without, With, MaybeTerm, Always, While_, term, Place, Whole, Part, Behind, Funcs, NoFunc, then_funcs, func}
 use Rattle.clmodel.specs.declared.tree.Expression.{Expression}
 use Rattle.clmodel.specs.declared.tree.Function.{Function}
+use Rattle.clmodel.specs.declared.tree.Statement as statement
 use Rattle.clmodel.specs.declared.tree.Statement.{Statement}
 use Rattle.regcode.specs.declared.instruction.Instruction.{Instruction}
 use Rattle.regcode.specs.declared.instruction.Instruction.TheVariants as instruction
@@ -23,6 +24,30 @@ use Rattle.lower_code.specs.declared.positions.Position.{Position}
 use Rattle.lower_code.specs.declared.positions.Setting.{Setting}
 use Rattle.lower_code.specs.declared.sites.Callee.{Callee}
 use Rattle.lower_code.specs.declared.sites.Callee.TheVariants as callee
+
+-- the statements by what emits them: declarations, assignments and calls, loops, and jumps
+abbrev pub is_declaration : Statement → Bool
+is_declaration (statement.Declare at kind name_at name value) = true
+is_declaration (statement.DeclareArray at is_local element name_at name length_at count) = true
+is_declaration _ = false
+
+abbrev pub is_assignment : Statement → Bool
+is_assignment (statement.Assign at to operator value) = true
+is_assignment (statement.Step at to is_increment) = true
+is_assignment (statement.Call at name arguments) = true
+is_assignment _ = false
+
+abbrev pub is_loop : Statement → Bool
+is_loop (statement.While' at condition p body) = true
+is_loop (statement.DoWhile' at p body condition) = true
+is_loop (statement.For' at first condition third p body) = true
+is_loop _ = false
+
+abbrev pub is_jump : Statement → Bool
+is_jump (statement.Break at) = true
+is_jump (statement.Continue at) = true
+is_jump (statement.Return at value) = true
+is_jump _ = false
 
 abbrev pub functions_of : List Function → Funcs
 functions_of functions = then_funcs NoFunc (map func functions)
@@ -70,7 +95,7 @@ place_name (Part at name index) = name
 place_name (Behind at pointer) = 0
 
 abbrev pub destination_of : Scope → Place → Destination
-destination_of scope to = record { name = place_name to; pointer = place_kind scope to }
+destination_of scope to = record { name = place_name to; kind = place_kind scope to }
 
 -- the body of a helper that is called
 abbrev pub called_code : Calls → Option Call → ℕ → ℕ → List Instruction

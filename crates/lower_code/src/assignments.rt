@@ -15,10 +15,9 @@ ghost use Rattle.lower_code.specs.Emission.{functions_of, split_code};
 
 use crate::backward::Backward;
 use crate::destinations::{combine, destination_type, fetch, put, reach};
-use crate::fences::fences;
 use crate::functions::find;
-use crate::sites::is_barrier;
 use clmodel::action::Fences;
+use clmodel::barrier::{fences, is_barrier};
 use clmodel::setup::{BuiltIn, built_in_named};
 use clmodel::tree::{Expression, Function, Target, VariableType};
 use clnum::{BinaryOperator, IntType, Value};

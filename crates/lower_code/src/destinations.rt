@@ -10,18 +10,18 @@ ghost use Rattle.lower_code.specs.Emission.{place_name, destination_of};
 
 use clmodel::tree::{InfixOperator, Target, VariableType};
 use clnum::BinaryOperator;
-use lower_expr::emission::emit_target;
+use lower_expr::emission::{TargetKind, emit_target};
 use lower_expr::scope::{Scope, level_above, register_at};
-use lower_expr::tails::add;
+use lower_expr::tails::{add, private_load, private_store};
 use lower_expr::types::{base_type, infix_type};
 use regcode::Instruction;
 use std::alloc::AllocError;
 
-/// What is assigned to: a variable of a name, or what a pointer of a type points to.
+/// What is assigned to: a variable of a name, an element of its array by an index of a type, or what a pointer of a type points to.
 #[derive(Clone, Copy, Debug, PartialEq, Eq)]
 pub struct Destination {
     name: u32,
-    pointer: Option<VariableType>,
+    kind: TargetKind,
 }
 
 /// The name of a variable that is assigned to or read; 0 where there is none.
@@ -35,7 +35,7 @@ fn target_name(target: &Target) -> u32
     }
 }
 
-/// Adds the code of what is assigned to, which leaves a pointer to it at a level.
+/// Adds the code of what is assigned to, which leaves its index or a pointer to it at a level.
 pub fn reach(
     scope: &Scope,
     level: u32,
@@ -45,10 +45,10 @@ pub fn reach(
     ensures code { IfOk result (λ _. code.new.items ≡ code.old.items ++ place_code scope.now level (place target.now)) }
     ensures found { IfOk result (λ destination. destination ≡ destination_of scope.now (place target.now)) }
 {
-    let pointer = emit_target(scope, level, target, code)?;
+    let kind = emit_target(scope, level, target, code)?;
     Ok(Destination {
         name: target_name(target),
-        pointer,
+        kind,
     })
 }
 
@@ -56,9 +56,10 @@ pub fn reach(
 pub fn destination_type(scope: &Scope, destination: Destination) -> VariableType
     ensures { (to : Place) → destination ≡ destination_of scope.now to → result ≡ spec.place_type scope.now to }
 {
-    match destination.pointer {
-        None => scope.kind(destination.name),
-        Some(pointer) => VariableType::Integer(base_type(pointer)),
+    match destination.kind {
+        TargetKind::Variable => scope.kind(destination.name),
+        TargetKind::Index(_) => VariableType::Integer(base_type(scope.kind(destination.name))),
+        TargetKind::Pointer(pointer) => VariableType::Integer(base_type(pointer)),
     }
 }
 
@@ -73,9 +74,13 @@ pub fn fetch(
     ensures { OnOk result ((place : Place) → destination ≡ destination_of scope.now place
         → code.new.items ≡ code.old.items ++ spec.fetch_code scope.now place (place_register scope.now level place) to) }
 {
-    match destination.pointer {
-        None => fetch_variable(scope, destination.name, to, code),
-        Some(pointer) => {
+    match destination.kind {
+        TargetKind::Variable => fetch_variable(scope, destination.name, to, code),
+        TargetKind::Index(index) => {
+            let index = register_at(level, index)?;
+            private_load(scope, to, destination.name, index, code)
+        }
+        TargetKind::Pointer(pointer) => {
             let pointer = register_at(level, pointer)?;
             add(code, Instruction::Load { to, pointer })
         }
@@ -111,9 +116,13 @@ pub fn put(
     ensures { OnOk result ((place : Place) → destination ≡ destination_of scope.now place
         → code.new.items ≡ code.old.items ++ spec.put_code scope.now place (place_register scope.now level place) from) }
 {
-    match destination.pointer {
-        None => hold(scope, destination.name, from, code),
-        Some(pointer) => {
+    match destination.kind {
+        TargetKind::Variable => hold(scope, destination.name, from, code),
+        TargetKind::Index(index) => {
+            let index = register_at(level, index)?;
+            private_store(scope, destination.name, index, from, code)
+        }
+        TargetKind::Pointer(pointer) => {
             let pointer = register_at(level, pointer)?;
             add(
                 code,

@@ -4,7 +4,6 @@
 mod assignments;
 mod backward;
 mod destinations;
-mod fences;
 mod functions;
 mod kernels;
 mod loops;

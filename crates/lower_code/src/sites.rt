@@ -8,6 +8,7 @@ ghost use Rattle.clmodel.specs.Next as next;
 ghost use Rattle.clmodel.specs.Tree.{stmt, term};
 ghost use Rattle.lower_code.specs.Emission.{all_of, callee_sites, inside, part_of};
 
+use clmodel::barrier::is_barrier;
 use clmodel::setup::built_in_named;
 use clmodel::tree::{Expression, Function, Statement};
 use std::alloc::AllocError;
@@ -18,13 +19,6 @@ pub enum Callee {
     Nothing,
     Barrier,
     Helper(u32),
-}
-
-/// Whether a name is that of the barrier.
-pub fn is_barrier(name: u32) -> bool
-    ensures { result ≡ barrier.is_barrier name }
-{
-    name == 14
 }
 
 /// What a call that is a whole statement calls.

@@ -5,12 +5,12 @@
 //! barriers are counted before they are numbered. (A program whose helpers call one another too often does not pass its type check.)
 #![tactic(auto)]
 
-ghost use Rattle.std.specs.Prelude.{◌≡◌, ◌++◌, OnOk};
+ghost use Rattle.std.specs.Prelude.{◌≡◌, ◌++◌, true, OnOk};
 ghost use Rattle.std.specs.Option.{option_map};
 ghost use Rattle.clmodel.specs.Tree as tree;
 ghost use Rattle.clmodel.specs.Tree.{func, stmt, term};
 ghost use Rattle.lower_code.specs.Code.{call_code, body_code, result_in};
-ghost use Rattle.lower_code.specs.Emission.{functions_of, inside, statement_code, row_code, maybe_code, split_code, all_of, part_of, test_of, turns_code};
+ghost use Rattle.lower_code.specs.Emission.{is_declaration, is_assignment, is_loop, is_jump, functions_of, inside, statement_code, row_code, maybe_code, split_code, all_of, part_of, test_of, turns_code};
 
 use crate::assignments::{Split, assign, call_statement, compound, declare_as, put_step};
 use crate::backward::Backward;
@@ -21,7 +21,8 @@ use crate::loops::{
 use crate::positions::{Exits, Position, Setting};
 use crate::sites::{site_before, site_behind, site_behind_all, site_behind_part};
 use crate::variables::{
-    declare_all, declare_parameters, declare_part, leave, leave_part, put_passed, put_unset,
+    declare_all, declare_parameters, declare_part, leave, leave_part, put_array, put_passed,
+    put_unset,
 };
 use clmodel::tree::{Expression, Function, Statement};
 use lower_expr::scope::{Scope, level_above};
@@ -63,6 +64,46 @@ fn emit_statement(
     match statement {
         Statement::Empty { .. } => Ok(()),
         Statement::Block { body, .. } => emit_all(setting, scope, body, position, code),
+        Statement::Declare { .. } | Statement::DeclareArray { .. } => {
+            emit_declaration(setting, scope, statement, position, code)
+        }
+        Statement::Assign { .. } | Statement::Step { .. } | Statement::Call { .. } => {
+            emit_assignment(setting, scope, statement, position, code)
+        }
+        Statement::If {
+            condition,
+            chosen,
+            ..
+        } => emit_if(setting, scope, condition, chosen, position, code),
+        Statement::IfElse {
+            condition,
+            chosen,
+            otherwise,
+            ..
+        } => emit_choice(setting, scope, condition, chosen, otherwise, position, code),
+        Statement::While { .. } | Statement::DoWhile { .. } | Statement::For { .. } => {
+            emit_loop(setting, scope, statement, position, code)
+        }
+        Statement::Break { .. } | Statement::Continue { .. } | Statement::Return { .. } => {
+            put_jump(setting, scope, statement, position, code)
+        }
+    }
+}
+
+/// Puts a declaration before the code.
+#[cycle(emission)]
+fn emit_declaration(
+    setting: &Setting<'_>,
+    scope: &mut Scope,
+    statement: &Statement,
+    position: Position,
+    code: &mut Backward,
+) -> Result<(), AllocError>
+    requires { is_declaration statement.now ≡ true }
+    ensures code { OnOk result (code.new ≡ statement_code setting.now scope.old (stmt statement.now) position ++ code.old) }
+    ensures scope { OnOk result (scope.new ≡ scope.old) }
+{
+    match statement {
         Statement::Declare {
             kind,
             name,
@@ -75,7 +116,29 @@ fn emit_statement(
                 emit_split(setting.functions, split, position, code)
             }
         },
-        Statement::DeclareArray { .. } => code.put(Instruction::End),
+        Statement::DeclareArray {
+            is_local,
+            element,
+            length,
+            ..
+        } => put_array(scope, *is_local, *element, *length, code),
+        _ => unreachable!(),
+    }
+}
+
+/// Puts an assignment, or a call that is a whole statement, before the code.
+#[cycle(emission)]
+fn emit_assignment(
+    setting: &Setting<'_>,
+    scope: &Scope,
+    statement: &Statement,
+    position: Position,
+    code: &mut Backward,
+) -> Result<(), AllocError>
+    requires { is_assignment statement.now ≡ true }
+    ensures { OnOk result (code.new ≡ statement_code setting.now scope.now (stmt statement.now) position ++ code.old) }
+{
+    match statement {
         Statement::Assign {
             target,
             operator,
@@ -104,21 +167,24 @@ fn emit_statement(
             let split = call_statement(scope, *name, arguments, position.depth, position.site)?;
             emit_split(setting.functions, split, position, code)
         }
-        Statement::If {
-            condition,
-            chosen,
-            ..
-        } => {
-            let end = code.len();
-            emit_statement(setting, scope, chosen, position, code)?;
-            put_test(scope, condition, code.added(end)?, code)
-        }
-        Statement::IfElse {
-            condition,
-            chosen,
-            otherwise,
-            ..
-        } => emit_choice(setting, scope, condition, chosen, otherwise, position, code),
+        _ => unreachable!(),
+    }
+}
+
+/// Puts a loop before the code.
+#[cycle(emission)]
+fn emit_loop(
+    setting: &Setting<'_>,
+    scope: &mut Scope,
+    statement: &Statement,
+    position: Position,
+    code: &mut Backward,
+) -> Result<(), AllocError>
+    requires { is_loop statement.now ≡ true }
+    ensures code { OnOk result (code.new ≡ statement_code setting.now scope.old (stmt statement.now) position ++ code.old) }
+    ensures scope { OnOk result (scope.new ≡ scope.old) }
+{
+    match statement {
         Statement::While {
             condition,
             body,
@@ -154,22 +220,32 @@ fn emit_statement(
             position,
             code,
         ),
-        Statement::Break { .. } => code.put(Instruction::Jump {
-            by: position.exits.broken,
-        }),
+        _ => unreachable!(),
+    }
+}
+
+/// Puts a jump out of a loop or of the function before the code.
+fn put_jump(
+    setting: &Setting<'_>,
+    scope: &Scope,
+    statement: &Statement,
+    position: Position,
+    code: &mut Backward,
+) -> Result<(), AllocError>
+    requires { is_jump statement.now ≡ true }
+    ensures { OnOk result (code.new ≡ statement_code setting.now scope.now (stmt statement.now) position ++ code.old) }
+{
+    let exits = position.exits;
+    match statement {
+        Statement::Break { .. } => code.put(Instruction::Jump { by: exits.broken }),
         Statement::Continue { .. } => code.put(Instruction::Jump {
-            by: position.exits.continued,
+            by: exits.continued,
         }),
         Statement::Return { value, .. } => match value {
-            None => put_return(setting.result, scope, position.exits.returned, code),
-            Some(value) => put_return_value(
-                setting.result,
-                scope,
-                value,
-                position.exits.returned,
-                code,
-            ),
+            None => put_return(setting.result, scope, exits.returned, code),
+            Some(value) => put_return_value(setting.result, scope, value, exits.returned, code),
         },
+        _ => unreachable!(),
     }
 }
 
@@ -288,6 +364,24 @@ pub fn emit_body(
         position,
         code,
     )
+}
+
+/// Puts a choice without a second side before the code.
+#[cycle(emission)]
+fn emit_if(
+    setting: &Setting<'_>,
+    scope: &mut Scope,
+    condition: &Expression,
+    chosen: &Statement,
+    position: Position,
+    code: &mut Backward,
+) -> Result<(), AllocError>
+    ensures code { OnOk result (code.new ≡ statement_code setting.now scope.old (tree.If 0 (term condition.now) (stmt chosen.now)) position ++ code.old) }
+    ensures scope { OnOk result (scope.new ≡ scope.old) }
+{
+    let end = code.len();
+    emit_statement(setting, scope, chosen, position, code)?;
+    put_test(scope, condition, code.added(end)?, code)
 }
 
 /// Puts a choice between two statements before the code.

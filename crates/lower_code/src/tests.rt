@@ -29,6 +29,10 @@ const OPERAND: u32 = 31;
 
 const INDEX: u32 = 32;
 
+const SHARED: u32 = 33;
+
+const ARRAY: u32 = 34;
+
 const INT: VariableType = VariableType::Integer(IntType::Int);
 
 /// `global int *`
@@ -244,5 +248,119 @@ fn a_kernel_with_a_helper_a_loop_and_a_barrier(rt: HostRuntime) -> Result<(), Fa
         assert_eq!(rt; code.as_slice(), expected.as_slice());
     }
     assert!(rt; emit_kernel(alloc, functions.as_slice(), HELPER)?.is_none());
+    Ok(())
+}
+
+fn array(is_local: bool, name: u32, length: i128) -> Statement {
+    Statement::DeclareArray {
+        at: 0,
+        is_local,
+        element: IntType::Int,
+        name_at: 0,
+        name,
+        length_at: 0,
+        length: Value::wrapped(IntType::Int, length),
+    }
+}
+
+fn element_set(
+    alloc: Global,
+    index: i128,
+    operator: Option<BinaryOperator>,
+    value: Expression,
+) -> Result<Statement, AllocError> {
+    let target = Target::Element {
+        at: 0,
+        name: ARRAY,
+        index: Box::new(alloc, number(index))?,
+    };
+    Ok(Statement::Assign {
+        at: 0,
+        target: Box::new(alloc, target)?,
+        operator,
+        value: Box::new(alloc, value)?,
+    })
+}
+
+/// `local int s[4]; int a[2]; a[0] = 1; a[1] += a[0];`
+fn with_arrays(alloc: Global) -> Result<Function, AllocError> {
+    let first = Expression::Element {
+        at: 0,
+        name: ARRAY,
+        index: Box::new(alloc, number(0))?,
+    };
+    let body = vec![in alloc;
+        array(true, SHARED, 4),
+        array(false, ARRAY, 2),
+        element_set(alloc, 0, None, number(1))?,
+        element_set(alloc, 1, Some(BinaryOperator::Add), first)?,
+    ]?;
+    Ok(Function {
+        is_kernel: true,
+        result: None,
+        name_at: 0,
+        name: KERNEL,
+        parameters: vec![in alloc; parameter(POINTER, INTS)]?,
+        body_at: 0,
+        body,
+    })
+}
+
+fn private_load(to: u32, index: u32) -> Instruction {
+    Instruction::PrivateLoad {
+        to,
+        array: 2,
+        index,
+        element: IntType::Int,
+        name: ARRAY,
+    }
+}
+
+fn private_store(index: u32, value: u32) -> Instruction {
+    Instruction::PrivateStore {
+        array: 2,
+        index,
+        value,
+        element: IntType::Int,
+        name: ARRAY,
+    }
+}
+
+#[test]
+fn a_local_and_a_private_array(rt: HostRuntime) -> Result<(), Fail> {
+    let alloc = rt.alloc();
+    let functions = vec![in alloc; with_arrays(alloc)?]?;
+    let expected = vec![in alloc;
+        Instruction::Argument {
+            to: 12,
+            number: 0,
+            kind: INTS
+        },
+        Instruction::Local {
+            to: 28,
+            number: 1,
+            element: IntType::Int
+        },
+        Instruction::Unset { to: 36 },
+        Instruction::UnsetArray {
+            array: 2,
+            length: 2
+        },
+        constant(52, 0),
+        constant(68, 1),
+        private_store(52, 68),
+        constant(52, 1),
+        private_load(68, 52),
+        constant(84, 0),
+        private_load(84, 84),
+        operation(BinaryOperator::Add, 68, 84),
+        private_store(52, 68),
+        Instruction::End,
+    ]?;
+    let found = emit_kernel(alloc, functions.as_slice(), KERNEL)?;
+    assert!(rt; found.is_some());
+    if let Some(code) = found {
+        assert_eq!(rt; code.as_slice(), expected.as_slice());
+    }
     Ok(())
 }

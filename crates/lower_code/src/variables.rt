@@ -1,7 +1,8 @@
 //! The variables of blocks and of functions, and the registers that they are given.
 #![tactic(auto)]
 
-ghost use Rattle.std.specs.Prelude.{◌≡◌, ◌++◌, [], ◌∷◌, drop, IfOk, OnOk};
+ghost use Rattle.std.specs.Prelude.{◌≡◌, ◌++◌, [], ◌∷◌, drop, length, IfOk, OnOk};
+ghost use Rattle.clmodel.specs.Tree as tree;
 ghost use Rattle.clmodel.specs.Tree.{stmt};
 ghost use Rattle.regcode.specs.declared.instruction.Instruction.TheVariants as instruction;
 ghost use Rattle.lower_expr.specs.Scope.{Scope, free_level, register_at};
@@ -9,10 +10,49 @@ ghost use Rattle.lower_code.specs.Code as spec;
 ghost use Rattle.lower_code.specs.Emission.{all_of, part_of};
 
 use crate::backward::Backward;
-use clmodel::tree::{Parameter, Statement, VariableType};
-use lower_expr::scope::{Scope, level_at, register_at};
+use clmodel::tree::{AddressSpace, Parameter, PointerType, Statement, VariableType};
+use clnum::{IntType, Value};
+use lower_expr::scope::{Scope, level_at, register_at, word};
 use regcode::Instruction;
 use std::alloc::AllocError;
+
+/// How many elements an array has, by the number in its brackets. Err where there are too many.
+fn array_length(length: Value) -> Result<u32, AllocError>
+    ensures { IfOk result (λ count. count ≡ tree.array_length length) }
+{
+    let number = length.number();
+    if number < 0 {
+        return Ok(0);
+    }
+    word(number as usize)
+}
+
+/// The type of the variable that points to a local array.
+fn local_pointer(element: IntType) -> VariableType
+    ensures { result ≡ spec.local_pointer element }
+{
+    VariableType::Pointer(PointerType {
+        space: AddressSpace::Local,
+        is_const: false,
+        element,
+    })
+}
+
+/// Declares an array.
+fn declare_array(
+    scope: &mut Scope,
+    is_local: bool,
+    element: IntType,
+    name: u32,
+    length: Value,
+) -> Result<(), AllocError>
+    ensures { OnOk result (scope.new ≡ record scope.old { variables = spec.array_variable is_local element (tree.array_length length) name ∷ scope.old.variables }) }
+{
+    if is_local {
+        return scope.declare(name, local_pointer(element));
+    }
+    scope.declare_array(name, element, array_length(length)?)
+}
 
 /// Declares the variable of a declaration.
 pub fn declare(scope: &mut Scope, statement: &Statement) -> Result<(), AllocError>
@@ -20,6 +60,13 @@ pub fn declare(scope: &mut Scope, statement: &Statement) -> Result<(), AllocErro
 {
     match statement {
         Statement::Declare { kind, name, .. } => scope.declare(*name, *kind),
+        Statement::DeclareArray {
+            is_local,
+            element,
+            name,
+            length,
+            ..
+        } => declare_array(scope, *is_local, *element, *name, *length),
         _ => Ok(()),
     }
 }
@@ -48,8 +95,11 @@ pub fn declare_all(scope: &mut Scope, statements: &[Statement]) -> Result<(), Al
 pub fn leave(scope: &mut Scope, statement: &Statement)
     ensures { (before : Scope) → scope.old ≡ spec.scope_after before (stmt statement.now) → scope.new ≡ before }
 {
-    if let Statement::Declare { .. } = statement {
-        scope.leave(scope.len().saturating_sub(1));
+    match statement {
+        Statement::Declare { .. } | Statement::DeclareArray { .. } => {
+            scope.leave(scope.len().saturating_sub(1));
+        }
+        _ => {}
     }
 }
 
@@ -128,5 +178,31 @@ pub fn put_unset(scope: &Scope, kind: VariableType, code: &mut Backward) -> Resu
 {
     let level = scope.free_level()?;
     let to = register_at(level, kind)?;
+    code.put(Instruction::Unset { to })
+}
+
+/// Puts the declaration of an array before the code.
+pub fn put_array(
+    scope: &Scope,
+    is_local: bool,
+    element: IntType,
+    size: Value,
+    code: &mut Backward,
+) -> Result<(), AllocError>
+    ensures { OnOk result (code.new ≡ spec.array_code is_local element (tree.array_length size) (length scope.now.variables) (free_level scope.now) ++ code.old) }
+{
+    let array = scope.free_level()?;
+    if is_local {
+        let to = register_at(array, local_pointer(element))?;
+        let number = word(scope.len())?;
+        return code.put(Instruction::Local {
+            to,
+            number,
+            element,
+        });
+    }
+    let to = register_at(array, VariableType::Integer(element))?;
+    let length = array_length(size)?;
+    code.put(Instruction::UnsetArray { array, length })?;
     code.put(Instruction::Unset { to })
 }

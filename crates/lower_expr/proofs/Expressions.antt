@@ -1,18 +1,17 @@
 -- The code of an expression acts as its evaluation.
-use Rattle.std.proofs.Common.{◌≡◌, ℕ, ◌+◌, ◌≤◌, true, false, Option, None, Some, List, [], ◌∷◌, ◌++◌, length, refl, ap, sym, subst, ◌∙◌, arith, if◌then◌else◌}
+use Rattle.std.proofs.Common.{◌≡◌, ℕ, ◌+◌, ◌≤◌, Bool, true, false, Option, None, Some, List, [], ◌∷◌, ◌++◌, length, slice_get, refl, ap, sym, subst, ◌∙◌, arith, if◌then◌else◌}
 use Rattle.std.proofs.lemmas.List.{length-append}
 use Rattle.clnum.specs.Integer.{converted}
 use Rattle.clnum.specs.Operations.{truth, unary_value}
 use Rattle.clnum.specs.declared.int_type.IntType.TheVariants.{Int}
 use Rattle.clmodel.specs.BuiltIns.{built_in}
-use Rattle.clmodel.specs.Next.{Run, Variables, known, look, moved, load, pointing, number, test, settle, join, call, combined, chosen_value, base_type, infix_type, type_of, eval, eval_all, reach}
+use Rattle.clmodel.specs.Next.{Run, Variables, known, look, moved, load, pointing, number, test, settle, join, call, combined, chosen_value, base_type, infix_type, type_of, eval, eval_all, reach, declared_type, is_array, read_element, load_element}
+use Rattle.clmodel.specs.Next.Expressions.{Destination, Named, ElementOf, Through}
 use Rattle.clmodel.specs.Tree as tree
 use Rattle.clmodel.specs.Tree.{Term, Terms, NoTerm, ThenTerm, Place}
 use Rattle.clmodel.specs.declared.operand.Operand.{Operand}
 use Rattle.clmodel.specs.declared.operand.Operand.TheVariants.{Integral, Pointed}
 use Rattle.clmodel.specs.declared.operand.Pointer.{Pointer}
-use Rattle.clmodel.specs.declared.operand.Destination.{Destination}
-use Rattle.clmodel.specs.declared.operand.Destination.TheVariants as destination
 use Rattle.clmodel.specs.declared.setup.BuiltIn.{BuiltIn}
 use Rattle.clmodel.specs.declared.setup.BuiltIn.TheVariants as built_in_function
 use Rattle.clmodel.specs.declared.tree.InfixOperator.{InfixOperator}
@@ -21,13 +20,13 @@ use Rattle.clmodel.specs.declared.tree.VariableType.{VariableType}
 use Rattle.clmodel.specs.declared.tree.VariableType.TheVariants.{Integer}
 use Rattle.regcode.specs.declared.instruction.Instruction.{Instruction}
 use Rattle.regcode.specs.declared.instruction.Instruction.TheVariants as instruction
-use Rattle.regcode.specs.Machine.{State, Given, reg, with_put, passed, onward}
+use Rattle.regcode.specs.Machine.{State, Given, Registers, reg, array_of, with_put, passed, onward}
 use Rattle.regcode.proofs.Registers.{reg_put}
-use Rattle.lower_expr.specs.Scope.{Scope, register_at, register_of, seen, free_level}
-use Rattle.lower_expr.specs.Expressions.{expr_code, terms_code, place_code, place_register, register_for, registers_for, kind_of, kind_named, variable_code, element_code, truth_code, infix_code, branch_code, choice_code, call_code, count}
-use Rattle.lower_expr.specs.Agreement.{HasAt, Reached, Hold, Follows, FollowsAll, FollowsPlace}
-use Rattle.regcode.proofs.Agreement.{Agree, ends, constant_runs, unset_runs, move_runs, jump_runs, convert_runs, common_runs, unary_runs, binary_runs, one_integer_runs, two_integers_run, dimensions_run, query_runs, point_runs, offset_runs, load_runs, branch_runs}
-use Rattle.lower_expr.proofs.Places.{has_left, has_right, has_moved, reached_here, reached_put, reached_then, register_kept, seen_kept, reached_to, reached_passed, reached_onward, found, look_seen, type_seen, hold_then, arguments_kept}
+use Rattle.lower_expr.specs.Scope.{Scope, register_at, register_of, level_of, Sees, free_level}
+use Rattle.lower_expr.specs.Expressions.{expr_code, terms_code, place_code, place_register, register_for, registers_for, kind_of, kind_named, variable_code, element_of, private_load, element_code, address_code, truth_code, infix_code, branch_code, choice_code, call_code, count}
+use Rattle.lower_expr.specs.Agreement.{HasAt, Reached, Hold, HoldsPart, Follows, FollowsAll, FollowsPlace}
+use Rattle.regcode.proofs.Agreement.{Agree, ends, constant_runs, unset_runs, move_runs, jump_runs, convert_runs, common_runs, unary_runs, binary_runs, one_integer_runs, two_integers_run, dimensions_run, query_runs, point_runs, offset_runs, load_runs, private_load_runs, branch_runs}
+use Rattle.lower_expr.proofs.Places.{has_left, has_right, has_moved, reached_here, reached_put, reached_then, register_kept, seen_kept, reached_to, reached_passed, reached_onward, found, look_seen, type_seen, array_seen, elements_seen, hold_then, arguments_kept}
 
 -- a call is one instruction
 call_length : (function : Option BuiltIn) (to : ℕ) (numbers : List ℕ) → length (call_code function to numbers) ≡ 1
@@ -47,7 +46,7 @@ module _ (given : Given) (code : List Instruction) (bound : ℕ) where
   -- from states where the variables hold these values the code of an expression acts as its evaluation
   abbrev Runs : Scope → ℕ → Term → Variables → Type 0
   Runs scope level e vs =
-      (now : State) (next : Operand → Run) → seen scope now.registers ≡ vs → HasAt code now.place (expr_code scope level e)
+      (now : State) (next : Operand → Run) → Sees scope now.registers vs → HasAt code now.place (expr_code scope level e)
       → Follows given code bound level now (now.place + length (expr_code scope level e)) (register_for scope level e) next
       → Agree given code bound now (eval given.here e vs next)
 
@@ -75,7 +74,7 @@ module _ (given : Given) (code : List Instruction) (bound : ℕ) where
 
   -- a pointer variable's value, moved by an index, whose code acts as its evaluation
   element_runs : (scope : Scope) (level name : ℕ) (index : Term) (s : State) (place : ℕ) (vs : Variables) (after : Pointer → Run)
-      → free_level scope ≤ level → seen scope s.registers ≡ vs
+      → free_level scope ≤ level → Sees scope s.registers vs
       → Runs scope (level + 1) index vs
       → HasAt code s.place (element_code (register_at level (kind_named scope name)) (register_of scope name) name (expr_code scope (level + 1) index) (register_for scope (level + 1) index))
       → s.place + length (element_code (register_at level (kind_named scope name)) (register_of scope name) name (expr_code scope (level + 1) index) (register_for scope (level + 1) index)) ≡ place
@@ -104,6 +103,76 @@ module _ (given : Given) (code : List Instruction) (bound : ℕ) where
       (reached_then level level s (now.place + length inner) later place (with_put later to (Some (Pointed moved_to))) (omega arith) way
       (reached_put level kind later (Some (Pointed moved_to)) place (let a = r.at in let b = q.at in omega (arith, a, b, whole))))
       (reg_put later.registers to (Some (Pointed moved_to)))))))
+
+  -- an element of a private array, by the index that a register holds
+  pub private_load_run : (scope : Scope) (name to index : ℕ) (now : State) (vs : Variables) (i : Operand) (after : Operand → Run)
+      → is_array scope.variables name ≡ true → Sees scope now.registers vs → slice_get code now.place ≡ Some (private_load scope to name index) → reg now.registers index ≡ Some i
+      → ((x : Operand) → Agree given code bound (with_put now to (Some x)) (after x)) → Agree given code bound now (load_element vs name i after)
+  private_load_run scope name to index now vs i after is same here held go =
+      subst (λ xs. Agree given code bound now (read_element name (base_type (declared_type vs name)) xs i after)) (elements_seen scope now.registers name vs is same)
+      (subst (λ k. Agree given code bound now (read_element name k (array_of now.registers (level_of scope name)) i after)) (ap base_type (type_seen scope now.registers vs (tree.Variable 0 name) same))
+      (private_load_runs given code bound now after to (level_of scope name) index (element_of scope name) name i here held go))
+
+  -- an element of a private array, or what a pointer that is moved points to
+  array_runs : (scope : Scope) (level name : ℕ) (index : Term) (s : State) (vs : Variables) (after : Operand → Run)
+      → free_level scope ≤ level → Sees scope s.registers vs → is_array scope.variables name ≡ true → Runs scope level index vs
+      → HasAt code s.place (expr_code scope level index ++ private_load scope (register_at level (Integer (element_of scope name))) name (register_for scope level index) ∷ [])
+      → Follows given code bound level s (s.place + length (expr_code scope level index ++ private_load scope (register_at level (Integer (element_of scope name))) name (register_for scope level index) ∷ []))
+      (register_at level (Integer (element_of scope name))) after
+      → Agree given code bound s (eval given.here index vs (λ i. load_element vs name i after))
+  array_runs scope level name index s vs after free same is index_runs has go =
+      let kind = Integer (element_of scope name) in
+      let inner = expr_code scope level index in
+      let end : List Instruction = private_load scope (register_at level kind) name (register_for scope level index) ∷ [] in
+      index_runs s (λ i. load_element vs name i after) same (has_left code inner end s.place has)
+      (λ i now r held.
+      let here = has_right code inner end s.place now.place (sym r.at) has in
+      private_load_run scope name (register_at level kind) (register_for scope level index) now vs i after is (seen_kept scope level s (s.place + length inner) now vs free r same) here.0 held
+      (last level kind s (s.place + length inner) now _ after r (omega (arith, length-append inner end)) go))
+
+  loaded_runs : (scope : Scope) (level name : ℕ) (index : Term) (s : State) (vs : Variables) (after : Operand → Run)
+      → free_level scope ≤ level → Sees scope s.registers vs → Runs scope (level + 1) index vs
+      → HasAt code s.place (address_code scope level name index ++ instruction.Load (register_at level (Integer (element_of scope name))) (register_at level (kind_named scope name)) ∷ [])
+      → Follows given code bound level s (s.place + length (address_code scope level name index ++ instruction.Load (register_at level (Integer (element_of scope name))) (register_at level (kind_named scope name)) ∷ []))
+      (register_at level (Integer (element_of scope name))) after
+      → Agree given code bound s (known name (look vs name) (λ p. eval given.here index vs (λ i. moved p i (λ q. load q after))))
+  loaded_runs scope level name index s vs after free same index_runs has go =
+      let kind = kind_named scope name in
+      let to = register_at level kind in
+      let before = address_code scope level name index in
+      let end : List Instruction = instruction.Load (register_at level (Integer (element_of scope name))) to ∷ [] in
+      let middle = s.place + length before in
+      element_runs scope level name index s middle vs (λ q. load q after) free same index_runs (has_left code before end s.place has) refl
+      (λ p now r held.
+      let here = has_right code before end s.place now.place (sym r.at) has in
+      load_runs given code bound bound now after (register_at level (Integer (element_of scope name))) to (Pointed p) (omega arith) here.0 held
+      (last level (Integer (element_of scope name)) s middle now _ after r (omega (arith, length-append before end)) go))
+
+  either_runs : (scope : Scope) (level name : ℕ) (index : Term) (s : State) (vs : Variables) (after : Operand → Run)
+      → free_level scope ≤ level → Sees scope s.registers vs → Runs scope level index vs → Runs scope (level + 1) index vs → (b : Bool) → is_array scope.variables name ≡ b
+      → HasAt code s.place (if b then expr_code scope level index ++ private_load scope (register_at level (Integer (element_of scope name))) name (register_for scope level index) ∷ []
+      else address_code scope level name index ++ instruction.Load (register_at level (Integer (element_of scope name))) (register_at level (kind_named scope name)) ∷ [])
+      → Follows given code bound level s (s.place + length (if b then expr_code scope level index ++ private_load scope (register_at level (Integer (element_of scope name))) name (register_for scope level index) ∷ []
+      else address_code scope level name index ++ instruction.Load (register_at level (Integer (element_of scope name))) (register_at level (kind_named scope name)) ∷ []))
+      (register_at level (Integer (element_of scope name))) after
+      → Agree given code bound s (if b then eval given.here index vs (λ i. load_element vs name i after)
+      else known name (look vs name) (λ p. eval given.here index vs (λ i. moved p i (λ q. load q after))))
+  either_runs scope level name index s vs after free same index_runs higher_runs true is has go = array_runs scope level name index s vs after free same is index_runs has go
+  either_runs scope level name index s vs after free same index_runs higher_runs false is has go = loaded_runs scope level name index s vs after free same higher_runs has go
+
+  -- the index of an element of a private array, or a pointer that is moved
+  part_runs : (scope : Scope) (level name : ℕ) (index : Term) (s : State) (vs : Variables) (after : Destination → Run)
+      → free_level scope ≤ level → Sees scope s.registers vs → Runs scope level index vs → Runs scope (level + 1) index vs → (b : Bool)
+      → HasAt code s.place (if b then expr_code scope level index else address_code scope level name index)
+      → ((to : Destination) (now : State) → Reached level s (s.place + length (if b then expr_code scope level index else address_code scope level name index)) now
+      → HoldsPart b now.registers (if b then register_for scope level index else register_at level (kind_named scope name)) name to
+      → Agree given code bound now (after to))
+      → Agree given code bound s (if b then eval given.here index vs (λ i. after (ElementOf name i))
+      else known name (look vs name) (λ p. eval given.here index vs (λ i. moved p i (λ q. after (Through q)))))
+  part_runs scope level name index s vs after free same index_runs higher_runs true has go =
+      index_runs s (λ i. after (ElementOf name i)) same has (λ i now r held. go (ElementOf name i) now r (i, refl, held))
+  part_runs scope level name index s vs after free same index_runs higher_runs false has go =
+      element_runs scope level name index s _ vs (λ q. after (Through q)) free same higher_runs has refl (λ p now r held. go (Through p) now r (p, refl, held))
 
   -- the int 1, and past the other one; or the int 0
   true_runs : (level : ℕ) (s : State) (before : ℕ) (now : State) (place : ℕ) (after : Operand → Run) → Reached level s before now
@@ -135,8 +204,8 @@ module _ (given : Given) (code : List Instruction) (bound : ℕ) where
   truth_runs level s before now place from w after r has held e go =
       let there = has_moved code (instruction.JumpIfZero from 2 ∷ truth_code (register_at level (Integer Int))) before now.place (sym r.at) has in
       branch_runs given code bound now _ from 2 w there.0 held
-      (true_runs level s (before + 1) (passed now) place after (record { at = ap (λ n. n + 1) r.at; kept = r.kept; turns = r.turns }) has.1 (omega (arith, e)) go)
-      (false_runs level s (before + 3) (onward now 2) place after (record { at = let a = r.at in omega (arith, a); kept = r.kept; turns = r.turns })
+      (true_runs level s (before + 1) (passed now) place after (record { at = ap (λ n. n + 1) r.at; kept = r.kept; arrays = r.arrays; turns = r.turns }) has.1 (omega (arith, e)) go)
+      (false_runs level s (before + 3) (onward now 2) place after (record { at = let a = r.at in omega (arith, a); kept = r.kept; arrays = r.arrays; turns = r.turns })
       (has_moved code (instruction.Constant (register_at level (Integer Int)) (truth false) ∷ []) (before + 1 + 1 + 1) (before + 3) (omega arith) has.1.1.1) (omega (arith, e)) go)
 
   -- a built-in function on values that registers hold
@@ -170,7 +239,7 @@ module _ (given : Given) (code : List Instruction) (bound : ℕ) where
 
   -- an operator behind its left operand
   infix_runs : (scope : Scope) (level : ℕ) (operator : InfixOperator) (left right : Term) (s : State) (middle : ℕ) (now : State) (place : ℕ) (vs : Variables) (v : Operand) (after : Operand → Run)
-      → free_level scope ≤ level → seen scope s.registers ≡ vs → Runs scope (level + 1) right vs → Reached level s middle now → reg now.registers (register_for scope level left) ≡ Some v
+      → free_level scope ≤ level → Sees scope s.registers vs → Runs scope (level + 1) right vs → Reached level s middle now → reg now.registers (register_for scope level left) ≡ Some v
       → HasAt code middle (infix_code operator (register_at level (infix_type operator (kind_of scope left) (kind_of scope right))) (register_for scope level left) (register_for scope (level + 1) right) (expr_code scope (level + 1) right))
       → middle + length (infix_code operator (register_at level (infix_type operator (kind_of scope left) (kind_of scope right))) (register_for scope level left) (register_for scope (level + 1) right) (expr_code scope (level + 1) right)) ≡ place
       → Follows given code bound level s place (register_at level (infix_type operator (kind_of scope left) (kind_of scope right))) after
@@ -227,7 +296,7 @@ module _ (given : Given) (code : List Instruction) (bound : ℕ) where
 
   -- a branch of a choice
   chosen_runs : (scope : Scope) (level : ℕ) (e other : Term) (kind : VariableType) (s : State) (before : ℕ) (now : State) (vs : Variables) (after : Operand → Run)
-      → free_level scope ≤ level → seen scope s.registers ≡ vs → Runs scope level e vs → Reached level s before now
+      → free_level scope ≤ level → Sees scope s.registers vs → Runs scope level e vs → Reached level s before now
       → HasAt code before (branch_code (register_at level kind) (expr_code scope level e) (register_for scope level e) (kind_of scope other))
       → Follows given code bound level s (before + length (branch_code (register_at level kind) (expr_code scope level e) (register_for scope level e) (kind_of scope other))) (register_at level kind) after
       → Agree given code bound now (eval given.here e vs (λ w. chosen_value w (type_of vs other) after))
@@ -245,7 +314,7 @@ module _ (given : Given) (code : List Instruction) (bound : ℕ) where
 
   -- a choice behind its condition
   choice_runs : (scope : Scope) (level : ℕ) (condition chosen otherwise : Term) (kind : VariableType) (s : State) (middle : ℕ) (now : State) (place : ℕ) (vs : Variables) (v : Operand) (after : Operand → Run)
-      → free_level scope ≤ level → seen scope s.registers ≡ vs → Runs scope level chosen vs → Runs scope level otherwise vs
+      → free_level scope ≤ level → Sees scope s.registers vs → Runs scope level chosen vs → Runs scope level otherwise vs
       → Reached level s middle now → reg now.registers (register_for scope level condition) ≡ Some v
       → HasAt code middle (choice_code (register_for scope level condition)
       (branch_code (register_at level kind) (expr_code scope level chosen) (register_for scope level chosen) (kind_of scope otherwise))
@@ -278,7 +347,7 @@ module _ (given : Given) (code : List Instruction) (bound : ℕ) where
 
   -- The code of an expression, of arguments, and of a place acts as their evaluation.
   mutual
-    pub expr_runs : (scope : Scope) (level : ℕ) (e : Term) (s : State) (vs : Variables) (after : Operand → Run) → free_level scope ≤ level → seen scope s.registers ≡ vs
+    pub expr_runs : (scope : Scope) (level : ℕ) (e : Term) (s : State) (vs : Variables) (after : Operand → Run) → free_level scope ≤ level → Sees scope s.registers vs
         → HasAt code s.place (expr_code scope level e)
         → Follows given code bound level s (s.place + length (expr_code scope level e)) (register_for scope level e) after
         → Agree given code bound s (eval given.here e vs after)
@@ -292,18 +361,11 @@ module _ (given : Given) (code : List Instruction) (bound : ℕ) where
         element_runs scope level name index s _ vs (λ q. after (Pointed q)) free same
         (λ now next seen_now there follows. expr_runs scope (level + 1) index now vs next (omega (arith, free)) seen_now there follows) has refl (λ p now r held. go (Pointed p) now r held)
     expr_runs scope level (tree.Element at name index) s vs after free same has go =
-        let kind = kind_named scope name in
-        let inner = expr_code scope (level + 1) index in
-        let to = register_at level kind in
-        let before = element_code to (register_of scope name) name inner (register_for scope (level + 1) index) in
-        let end : List Instruction = instruction.Load (register_at level (Integer (base_type kind))) to ∷ [] in
-        let middle = s.place + length before in
-        element_runs scope level name index s middle vs (λ q. load q after) free same
-        (λ now next seen_now there follows. expr_runs scope (level + 1) index now vs next (omega (arith, free)) seen_now there follows) (has_left code before end s.place has) refl
-        (λ p now r held.
-        let here = has_right code before end s.place now.place (sym r.at) has in
-        load_runs given code bound bound now after (register_at level (Integer (base_type kind))) to (Pointed p) (omega arith) here.0 held
-        (last level (Integer (base_type kind)) s middle now _ after r (omega (arith, length-append before end)) go))
+        subst (λ b. Agree given code bound s (if b then eval given.here index vs (λ i. load_element vs name i after)
+        else known name (look vs name) (λ p. eval given.here index vs (λ i. moved p i (λ q. load q after))))) (array_seen scope s.registers name vs same)
+        (either_runs scope level name index s vs after free same
+        (λ now next seen_now there follows. expr_runs scope level index now vs next free seen_now there follows)
+        (λ now next seen_now there follows. expr_runs scope (level + 1) index now vs next (omega (arith, free)) seen_now there follows) (is_array scope.variables name) refl has go)
     expr_runs scope level (tree.Dereference at pointer) s vs after free same has go =
         let kind = kind_of scope (tree.Dereference at pointer) in
         let inner = expr_code scope level pointer in
@@ -365,7 +427,7 @@ module _ (given : Given) (code : List Instruction) (bound : ℕ) where
         (λ state next seen_now there follows. expr_runs scope level otherwise state vs next free seen_now there follows) r held
         (has_right code before end s.place (s.place + length before) refl has) (omega (arith, length-append before end)) go)
 
-    pub terms_run : (scope : Scope) (level : ℕ) (es : Terms) (s : State) (vs : Variables) (after : List Operand → Run) → free_level scope ≤ level → seen scope s.registers ≡ vs
+    pub terms_run : (scope : Scope) (level : ℕ) (es : Terms) (s : State) (vs : Variables) (after : List Operand → Run) → free_level scope ≤ level → Sees scope s.registers vs
         → HasAt code s.place (terms_code scope level es)
         → FollowsAll given code bound level s (s.place + length (terms_code scope level es)) (registers_for scope level es) after
         → Agree given code bound s (eval_all given.here es vs after)
@@ -385,24 +447,27 @@ module _ (given : Given) (code : List Instruction) (bound : ℕ) where
         (hold_then later.registers (registers_for scope level es) values (register_for scope (level + count es) e) v
         (arguments_kept scope level es values now (now.place + length inner) later q held) value_held)))
 
-  pub place_runs : (scope : Scope) (level : ℕ) (to : Place) (s : State) (vs : Variables) (after : Destination → Run) → free_level scope ≤ level → seen scope s.registers ≡ vs
+  pub place_runs : (scope : Scope) (level : ℕ) (to : Place) (s : State) (vs : Variables) (after : Destination → Run) → free_level scope ≤ level → Sees scope s.registers vs
       → HasAt code s.place (place_code scope level to)
-      → FollowsPlace given code bound level s (s.place + length (place_code scope level to)) (place_register scope level to) to after
+      → FollowsPlace given code bound scope level s (s.place + length (place_code scope level to)) (place_register scope level to) to after
       → Agree given code bound s (reach given.here to vs after)
-  place_runs scope level (tree.Whole at name) s vs after free same has go = go s (reached_here level s (s.place + 0) (omega arith))
+  place_runs scope level (tree.Whole at name) s vs after free same has go = go (Named name) s (reached_here level s (s.place + 0) (omega arith)) refl
   place_runs scope level (tree.Part at name index) s vs after free same has go =
-      element_runs scope level name index s _ vs (λ q. after (destination.Behind q)) free same
-      (λ now next seen_now there follows. expr_runs scope (level + 1) index now vs next (omega (arith, free)) seen_now there follows) has refl (λ p now r held. go p now r held)
+      subst (λ b. Agree given code bound s (if b then eval given.here index vs (λ i. after (ElementOf name i))
+      else known name (look vs name) (λ p. eval given.here index vs (λ i. moved p i (λ q. after (Through q)))))) (array_seen scope s.registers name vs same)
+      (part_runs scope level name index s vs after free same
+      (λ now next seen_now there follows. expr_runs scope level index now vs next free seen_now there follows)
+      (λ now next seen_now there follows. expr_runs scope (level + 1) index now vs next (omega (arith, free)) seen_now there follows) (is_array scope.variables name) has go)
   place_runs scope level (tree.Behind at pointer) s vs after free same has go =
       let kind = kind_of scope pointer in
       let inner = expr_code scope level pointer in
       let to = register_for scope level pointer in
       let end : List Instruction = instruction.Point to to ∷ [] in
-      expr_runs scope level pointer s vs (λ p. pointing p (λ q. after (destination.Behind q))) free same (has_left code inner end s.place has)
+      expr_runs scope level pointer s vs (λ p. pointing p (λ q. after (Through q))) free same (has_left code inner end s.place has)
       (λ p now r held.
       let here = has_right code inner end s.place now.place (sym r.at) has in
-      point_runs given code bound now (λ q. after (destination.Behind q)) to to p here.0 held
-      (λ q. go q (with_put now to (Some (Pointed q)))
+      point_runs given code bound now (λ q. after (Through q)) to to p here.0 held
+      (λ q. go (Through q) (with_put now to (Some (Pointed q)))
       (reached_then level level s (s.place + length inner) now (s.place + length (inner ++ end)) _ (omega arith) r
       (reached_put level kind now (Some (Pointed q)) (s.place + length (inner ++ end)) (let a = r.at in omega (arith, a, length-append inner end))))
-      (reg_put now.registers to (Some (Pointed q)))))
+      (q, refl, reg_put now.registers to (Some (Pointed q)))))

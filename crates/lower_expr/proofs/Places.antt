@@ -1,20 +1,21 @@
 -- Where the variables and the values are, and where the instructions stand.
-use Rattle.std.proofs.Common.{◌≡◌, ◌≢◌, ℕ, ◌+◌, ◌*◌, ◌<◌, ◌≤◌, ◌==◌, Bool, true, false, Option, None, Some, List, [], ◌∷◌, ◌++◌, length, refl, ap, ap₂, sym, subst, ◌∙◌, arith}
+use Rattle.std.proofs.Common.{◌≡◌, ◌≢◌, ℕ, ◌+◌, ◌*◌, ◌<◌, ◌≤◌, ◌==◌, Bool, true, false, Option, None, Some, List, [], ◌∷◌, ◌++◌, length, drop, get_or, refl, ap, ap₂, sym, subst, ◌∙◌, arith}
+use Rattle.std.proofs.lemmas.Bool.{false≢true}
 use Rattle.clnum.specs.Conversions.{common}
 use Rattle.clnum.specs.Operations.{unary_kind}
 use Rattle.clnum.specs.declared.int_type.IntType.{IntType}
 use Rattle.clnum.specs.declared.int_type.IntType.TheVariants.{Char, Uchar, Short, Ushort, Int, Uint, Long, Ulong}
 use Rattle.clmodel.specs.BuiltIns.{built_in}
-use Rattle.clmodel.specs.Next.{Variables, look, declared_type, type_of, argument_type, base_type, call_type, infix_type}
+use Rattle.clmodel.specs.Next.{Binding, Variables, look, declared_type, elements_of, has_elements, is_array, type_of, argument_type, base_type, call_type, infix_type}
 use Rattle.clmodel.specs.Tree as tree
 use Rattle.clmodel.specs.Tree.{Term, Terms, NoTerm, ThenTerm}
 use Rattle.clmodel.specs.declared.operand.Operand.{Operand}
 use Rattle.clmodel.specs.declared.tree.VariableType.{VariableType}
 use Rattle.clmodel.specs.declared.tree.VariableType.TheVariants.{Integer, Pointer}
-use Rattle.regcode.specs.Machine.{State, Registers, reg, with_put, passed, onward}
+use Rattle.regcode.specs.Machine.{State, Registers, item_at, reg, array_of, with_put, passed, onward}
 use Rattle.regcode.specs.declared.instruction.Instruction.{Instruction}
 use Rattle.regcode.proofs.Registers.{reg_kept}
-use Rattle.lower_expr.specs.Scope.{Scope, integer_number, kind_number, register_at, register_in, view, seen, free_level}
+use Rattle.lower_expr.specs.Scope.{Scope, integer_number, kind_number, register_at, register_in, level_in, level_of, seen_elements, view, arrays_in, Sees, free_level}
 use Rattle.lower_expr.specs.Expressions.{registers_for, register_for, count}
 use Rattle.lower_expr.specs.Agreement.{HasAt, Reached, Hold}
 
@@ -54,44 +55,99 @@ has_moved code xs place later e h = subst (λ n. HasAt code n xs) e h
 
 -- no step, a step, two ways one after the other
 pub reached_here : (level : ℕ) (s : State) (place : ℕ) → s.place ≡ place → Reached level s place s
-reached_here level s place e = record { at = e; kept = λ i h. refl; turns = refl }
+reached_here level s place e = record { at = e; kept = λ i h. refl; arrays = refl; turns = refl }
 
 pub reached_put : (level : ℕ) (kind : VariableType) (s : State) (v : Option Operand) (place : ℕ) → s.place + 1 ≡ place → Reached level s place (with_put s (register_at level kind) v)
 reached_put level kind s v place e =
-    record { at = e; kept = λ i h. reg_kept s.registers (register_at level kind) v i (register_not_below level kind i h); turns = refl }
+    record { at = e; kept = λ i h. reg_kept s.registers (register_at level kind) v i (register_not_below level kind i h); arrays = refl; turns = refl }
 
 pub reached_then : (level higher : ℕ) (s : State) (place : ℕ) (now : State) (later : ℕ) (last : State) → level ≤ higher
     → Reached level s place now → Reached higher now later last → Reached level s later last
 reached_then level higher s place now later last h r q =
-    record { at = q.at; kept = λ i b. q.kept i (omega (arith, h, b)) ∙ r.kept i b; turns = q.turns ∙ r.turns }
+    record { at = q.at; kept = λ i b. q.kept i (omega (arith, h, b)) ∙ r.kept i b; arrays = q.arrays ∙ r.arrays; turns = q.turns ∙ r.turns }
 
 pub reached_to : (level : ℕ) (s : State) (place : ℕ) (now : State) (later : ℕ) → place ≡ later → Reached level s place now → Reached level s later now
-reached_to level s place now later e r = record { at = r.at ∙ e; kept = r.kept; turns = r.turns }
+reached_to level s place now later e r = record { at = r.at ∙ e; kept = r.kept; arrays = r.arrays; turns = r.turns }
 
 pub reached_passed : (level : ℕ) (s : State) (place : ℕ) (now : State) → Reached level s place now → Reached level s (place + 1) (passed now)
-reached_passed level s place now r = record { at = ap (λ n. n + 1) r.at; kept = r.kept; turns = r.turns }
+reached_passed level s place now r = record { at = ap (λ n. n + 1) r.at; kept = r.kept; arrays = r.arrays; turns = r.turns }
 
 pub reached_onward : (level : ℕ) (s : State) (place : ℕ) (now : State) (by : ℕ) → Reached level s place now → Reached level s (place + 1 + by) (onward now by)
-reached_onward level s place now by r = record { at = ap (λ n. n + 1 + by) r.at; kept = r.kept; turns = r.turns }
+reached_onward level s place now by r = record { at = ap (λ n. n + 1 + by) r.at; kept = r.kept; arrays = r.arrays; turns = r.turns }
 
 -- a register of a level keeps its value on the way to a state that keeps the registers below a higher one
 pub register_kept : (level : ℕ) (kind : VariableType) (higher : ℕ) (s : State) (place : ℕ) (now : State) (v : Option Operand) → level < higher
     → Reached higher s place now → reg s.registers (register_at level kind) ≡ v → reg now.registers (register_at level kind) ≡ v
 register_kept level kind higher s place now v h r e = r.kept (register_at level kind) (register_below level kind higher h) ∙ e
 
--- what the variables in scope hold, while their registers keep it
-view_kept : (base : ℕ) (variables : Variables) (before after : Registers) → ((i : ℕ) → i < 16 * (base + length variables) → reg after i ≡ reg before i)
-    → view base variables after ≡ view base variables before
-view_kept base [] before after h = refl
-view_kept base (variable ∷ variables) before after h =
-    ap₂ (λ (c : Option Operand) (vs : Variables). record variable { content = c } ∷ vs)
-    (h (register_at (base + length variables) variable.kind) (register_below (base + length variables) variable.kind (base + length (variable ∷ variables)) (omega arith)))
-    (view_kept base variables before after (λ i b. h i (omega (arith, b))))
+-- one variable more, which holds the same
+same_then : (variable : Binding) (c d : Option Operand) (xs ys : List (Option ℕ)) (vs ws : Variables) → c ≡ d → xs ≡ ys → vs ≡ ws
+    → record variable { content = c; elements = seen_elements variable.elements xs } ∷ vs ≡ record variable { content = d; elements = seen_elements variable.elements ys } ∷ ws
+same_then variable c d xs ys vs ws e f g =
+    ap₂ (λ (o : Option Operand) (us : Variables). record variable { content = o; elements = seen_elements variable.elements xs } ∷ us) e g
+    ∙ ap (λ (zs : List (Option ℕ)). record variable { content = d; elements = seen_elements variable.elements zs } ∷ ws) f
+
+-- what the variables in scope hold, while their registers and their private arrays keep it
+pub view_kept : (base : ℕ) (variables : Variables) (before after : Registers) → ((i : ℕ) → i < 16 * (base + length variables) → reg after i ≡ reg before i)
+    → ((a : ℕ) → a < base + length variables → array_of after a ≡ array_of before a) → view base variables after ≡ view base variables before
+view_kept base [] before after h k = refl
+view_kept base (variable ∷ variables) before after h k =
+    let level = base + length variables in
+    same_then variable _ _ (array_of after level) (array_of before level) _ _
+    (h (register_at level variable.kind) (register_below level variable.kind (base + length (variable ∷ variables)) (omega arith))) (k level (omega arith))
+    (view_kept base variables before after (λ i b. h i (omega (arith, b))) (λ a b. k a (omega (arith, b))))
+
+pub sees_kept : (scope : Scope) (before after : Registers) (variables : Variables) → ((i : ℕ) → i < 16 * free_level scope → reg after i ≡ reg before i)
+    → ((a : ℕ) → a < free_level scope → array_of after a ≡ array_of before a) → Sees scope before variables → Sees scope after variables
+sees_kept scope before after variables h k e =
+    let is = view_kept scope.base scope.variables before after h k in
+    record { same = is ∙ e.same; arrays = ap arrays_in is ∙ e.arrays }
 
 pub seen_kept : (scope : Scope) (level : ℕ) (s : State) (place : ℕ) (now : State) (variables : Variables) → free_level scope ≤ level → Reached level s place now
-    → seen scope s.registers ≡ variables → seen scope now.registers ≡ variables
+    → Sees scope s.registers variables → Sees scope now.registers variables
 seen_kept scope level s place now variables h r e =
-    view_kept scope.base scope.variables s.registers now.registers (λ i b. r.kept i (omega (arith, h, b))) ∙ e
+    sees_kept scope s.registers now.registers variables (λ i b. r.kept i (omega (arith, h, b))) (λ a b. ap (λ arrays. item_at [] arrays a) r.arrays) e
+
+-- the elements of the private array of a name, as they are seen
+elements_in : (base : ℕ) (variables : Variables) (registers : Registers) (name : ℕ)
+    → elements_of (view base variables registers) name ≡ seen_elements (elements_of variables name) (array_of registers (level_in base variables name))
+elements_in base [] registers name = refl
+elements_in base (variable ∷ variables) registers name =
+    elements_case variable.elements (base + length variables) (elements_of (view base variables registers) name) (elements_of variables name) (level_in base variables name)
+    (name == variable.name) (elements_in base variables registers name)
+  where
+    elements_case : (own : List (Option ℕ)) (l : ℕ) (p q : List (Option ℕ)) (m : ℕ) (b : Bool) → p ≡ seen_elements q (array_of registers m)
+        → elim b as (λ _. List (Option ℕ)) [ true ↦ seen_elements own (array_of registers l) | false ↦ p ]
+        ≡ seen_elements (elim b as (λ _. List (Option ℕ)) [ true ↦ own | false ↦ q ]) (array_of registers (elim b as (λ _. ℕ) [ true ↦ l | false ↦ m ]))
+    elements_case own l p q m true h = refl
+    elements_case own l p q m false h = h
+
+-- a name is that of a private array, whether as it was declared or as it is seen
+array_in : (base : ℕ) (variables : Variables) (registers : Registers) (name : ℕ) → arrays_in (view base variables registers) ≡ arrays_in variables
+    → is_array (view base variables registers) name ≡ is_array variables name
+array_in base [] registers name h = refl
+array_in base (variable ∷ variables) registers name h =
+    array_case (seen_elements variable.elements (array_of registers (base + length variables))) variable.elements (elements_of (view base variables registers) name) (elements_of variables name)
+    (name == variable.name) (ap (λ bs. get_or bs 0 false) h) (array_in base variables registers name (ap (λ bs. drop 1 bs) h))
+  where
+    array_case : (now own other rest : List (Option ℕ)) (b : Bool) → has_elements now ≡ has_elements own → has_elements other ≡ has_elements rest
+        → has_elements (elim b as (λ _. List (Option ℕ)) [ true ↦ now | false ↦ other ]) ≡ has_elements (elim b as (λ _. List (Option ℕ)) [ true ↦ own | false ↦ rest ])
+    array_case now own other rest true h k = h
+    array_case now own other rest false h k = k
+
+pub array_seen : (scope : Scope) (registers : Registers) (name : ℕ) (variables : Variables) → Sees scope registers variables → is_array scope.variables name ≡ is_array variables name
+array_seen scope registers name variables e = sym (array_in scope.base scope.variables registers name e.arrays) ∙ ap (λ vs. is_array vs name) e.same
+
+-- such an array has the elements of its level
+pub array_held : (own held : List (Option ℕ)) → has_elements own ≡ true → held ≡ seen_elements own held
+array_held [] held h = absurd (false≢true h)
+array_held (element ∷ own) held h = refl
+
+pub elements_seen : (scope : Scope) (registers : Registers) (name : ℕ) (variables : Variables) → is_array scope.variables name ≡ true → Sees scope registers variables
+    → array_of registers (level_of scope name) ≡ elements_of variables name
+elements_seen scope registers name variables is e =
+    array_held (elements_of scope.variables name) (array_of registers (level_of scope name)) is
+    ∙ sym (elements_in scope.base scope.variables registers name) ∙ ap (λ vs. elements_of vs name) e.same
 
 -- what a register has, if there is one
 abbrev pub found : Registers → Option ℕ → Option Operand
@@ -108,9 +164,9 @@ look_in base (variable ∷ variables) registers name =
     look_case registers p i j true h = refl
     look_case registers p i j false h = h
 
-pub look_seen : (scope : Scope) (registers : Registers) (name : ℕ) (variables : Variables) → seen scope registers ≡ variables
+pub look_seen : (scope : Scope) (registers : Registers) (name : ℕ) (variables : Variables) → Sees scope registers variables
     → found registers (register_in scope.base scope.variables name) ≡ look variables name
-look_seen scope registers name variables e = sym (look_in scope.base scope.variables registers name) ∙ ap (λ vs. look vs name) e
+look_seen scope registers name variables e = sym (look_in scope.base scope.variables registers name) ∙ ap (λ vs. look vs name) e.same
 
 -- types go by what is declared, whatever the variables hold
 declared_seen : (base : ℕ) (variables : Variables) (registers : Registers) (name : ℕ) → declared_type (view base variables registers) name ≡ declared_type variables name
@@ -140,8 +196,8 @@ mutual
   arguments_in base vs registers NoTerm = refl
   arguments_in base vs registers (ThenTerm es e) = ap base_type (type_in base vs registers e)
 
-pub type_seen : (scope : Scope) (registers : Registers) (variables : Variables) (e : Term) → seen scope registers ≡ variables → type_of scope.variables e ≡ type_of variables e
-type_seen scope registers variables e h = sym (type_in scope.base scope.variables registers e) ∙ ap (λ vs. type_of vs e) h
+pub type_seen : (scope : Scope) (registers : Registers) (variables : Variables) (e : Term) → Sees scope registers variables → type_of scope.variables e ≡ type_of variables e
+type_seen scope registers variables e h = sym (type_in scope.base scope.variables registers e) ∙ ap (λ vs. type_of vs e) h.same
 
 -- registers that hold values, and one more
 pub hold_then : (registers : Registers) (numbers : List ℕ) (values : List Operand) (i : ℕ) (v : Operand) → Hold registers numbers values → reg registers i ≡ Some v

@@ -1,25 +1,26 @@
 -- That code acts as a run does (own).
-use Rattle.std.specs.Prelude.{◌≡◌, ℕ, ◌+◌, ◌*◌, ◌<◌, Some, List, [], ◌∷◌, slice_get}
-use Rattle.clmodel.specs.Next.{Run}
+use Rattle.std.specs.Prelude.{◌≡◌, ℕ, ◌+◌, ◌*◌, ◌<◌, Bool, true, false, Some, List, [], ◌∷◌, slice_get}
+use Rattle.clmodel.specs.Next.{Run, is_array}
+use Rattle.clmodel.specs.Next.Expressions.{Destination, Named, ElementOf, Through}
 use Rattle.clmodel.specs.Tree.{Place, Whole, Part, Behind}
 use Rattle.clmodel.specs.declared.operand.Operand.{Operand}
 use Rattle.clmodel.specs.declared.operand.Operand.TheVariants.{Pointed}
 use Rattle.clmodel.specs.declared.operand.Pointer.{Pointer}
-use Rattle.clmodel.specs.declared.operand.Destination.{Destination}
-use Rattle.clmodel.specs.declared.operand.Destination.TheVariants as destination
 use Rattle.regcode.specs.Machine.{Registers, reg, State, Given}
 use Rattle.regcode.specs.declared.instruction.Instruction.{Instruction}
 use Rattle.regcode.proofs.Agreement.{Agree}
+use Rattle.lower_expr.specs.Scope.{Scope}
 
 -- these instructions stand in the code from a place on
 abbrev pub HasAt : List Instruction → ℕ → List Instruction → Type 0
 HasAt code place [] = Unit {0}
 HasAt code place (i ∷ rest) = (slice_get code place ≡ Some i) × HasAt code (place + 1) rest
 
--- a state is at a place, with the registers below a level and the turns of another state
+-- a state is at a place, with the registers below a level, the private arrays and the turns of another state
 pub record Reached (level : ℕ) (s : State) (place : ℕ) (now : State) : Type 0 where
   pub at : now.place ≡ place
   pub kept : (i : ℕ) → i < 16 * level → reg now.registers i ≡ reg s.registers i
+  pub arrays : now.registers.arrays ≡ s.registers.arrays
   pub turns : now.counters ≡ s.counters
 
 -- these registers hold these values
@@ -28,6 +29,22 @@ Hold registers [] [] = Unit {0}
 Hold registers [] (v ∷ values) = ⊥
 Hold registers (i ∷ numbers) [] = ⊥
 Hold registers (i ∷ numbers) (v ∷ values) = (reg registers i ≡ Some v) × Hold registers numbers values
+
+-- A register holds what a destination goes by: the index of an element of a private array, or a pointer. A variable as a whole goes by its name.
+abbrev pub HoldsIndex : Registers → ℕ → ℕ → Destination → Type 0
+HoldsIndex registers register name to = (i : Operand) × (to ≡ ElementOf name i) × (reg registers register ≡ Some i)
+
+abbrev pub HoldsPointer : Registers → ℕ → Destination → Type 0
+HoldsPointer registers register to = (p : Pointer) × (to ≡ Through p) × (reg registers register ≡ Some (Pointed p))
+
+abbrev pub HoldsPart : Bool → Registers → ℕ → ℕ → Destination → Type 0
+HoldsPart true registers register name to = HoldsIndex registers register name to
+HoldsPart false registers register name to = HoldsPointer registers register to
+
+abbrev pub HoldsPlace : Scope → Registers → ℕ → Place → Destination → Type 0
+HoldsPlace scope registers register (Whole at name) to = to ≡ Named name
+HoldsPlace scope registers register (Part at name index) to = HoldsPart (is_array scope.variables name) registers register name to
+HoldsPlace scope registers register (Behind at pointer) to = HoldsPointer registers register to
 
 -- The code agrees with what follows a value, where the value is in a register at a place; with what follows values; and with what follows a destination.
 abbrev pub Follows : Given → List Instruction → ℕ → ℕ → State → ℕ → ℕ → (Operand → Run) → Type 0
@@ -38,12 +55,7 @@ abbrev pub FollowsAll : Given → List Instruction → ℕ → ℕ → State →
 FollowsAll given code bound level s place numbers after =
     (values : List Operand) (now : State) → Reached level s place now → Hold now.registers numbers values → Agree given code bound now (after values)
 
-abbrev pub FollowsPointer : Given → List Instruction → ℕ → ℕ → State → ℕ → ℕ → (Destination → Run) → Type 0
-FollowsPointer given code bound level s place to after =
-    (p : Pointer) (now : State) → Reached level s place now → reg now.registers to ≡ Some (Pointed p) → Agree given code bound now (after (destination.Behind p))
-
-abbrev pub FollowsPlace : Given → List Instruction → ℕ → ℕ → State → ℕ → ℕ → Place → (Destination → Run) → Type 0
-FollowsPlace given code bound level s place to (Whole at name) after =
-    (now : State) → Reached level s place now → Agree given code bound now (after (destination.Named name))
-FollowsPlace given code bound level s place to (Part at name index) after = FollowsPointer given code bound level s place to after
-FollowsPlace given code bound level s place to (Behind at pointer) after = FollowsPointer given code bound level s place to after
+abbrev pub FollowsPlace : Given → List Instruction → ℕ → Scope → ℕ → State → ℕ → ℕ → Place → (Destination → Run) → Type 0
+FollowsPlace given code bound scope level s place register to after =
+    (destination : Destination) (now : State) → Reached level s place now → HoldsPlace scope now.registers register to destination
+    → Agree given code bound now (after destination)

@@ -1,11 +1,11 @@
 -- Where register code keeps the variables in scope and the values of expressions (own).
-use Rattle.std.specs.Prelude.{ℕ, ◌+◌, ◌*◌, ◌==◌, true, false, Option, None, Some, [], ◌∷◌, length}
+use Rattle.std.specs.Prelude.{◌≡◌, ℕ, ◌+◌, ◌*◌, ◌==◌, Bool, true, false, Option, None, Some, List, [], ◌∷◌, length, map}
 use Rattle.clnum.specs.declared.int_type.IntType.{IntType}
 use Rattle.clnum.specs.declared.int_type.IntType.TheVariants.{Char, Uchar, Short, Ushort, Int, Uint, Long, Ulong}
-use Rattle.clmodel.specs.Next.{Variables}
+use Rattle.clmodel.specs.Next.{Variables, variable, private_array, has_elements}
 use Rattle.clmodel.specs.declared.tree.VariableType.{VariableType}
 use Rattle.clmodel.specs.declared.tree.VariableType.TheVariants.{Integer, Pointer}
-use Rattle.regcode.specs.Machine.{Registers, reg}
+use Rattle.regcode.specs.Machine.{Registers, reg, array_of}
 
 abbrev pub integer_number : IntType → ℕ
 integer_number Char = 0
@@ -26,7 +26,8 @@ kind_number (Pointer pointer) = 8 + integer_number pointer.element
 abbrev pub register_at : ℕ → VariableType → ℕ
 register_at level kind = 16 * level + kind_number kind
 
--- The variables in scope, innermost first (what they hold is of no account), and the level of the outermost: each further one is a level up.
+-- The variables in scope, innermost first, and the level of the outermost: each further one is a level up. What they hold is of no account, but whether
+-- they are private arrays: such a one has elements.
 pub record Scope : Type 0 where
   pub base : ℕ
   pub variables : Variables
@@ -44,20 +45,52 @@ register_in base (variable ∷ variables) name =
 abbrev pub register_of : Scope → ℕ → Option ℕ
 register_of scope name = register_in scope.base scope.variables name
 
+-- The level of the innermost variable of a name; the lowest where there is none. It is the number of its private array, if it is one.
+abbrev pub level_in : ℕ → Variables → ℕ → ℕ
+level_in base [] name = base
+level_in base (variable ∷ variables) name = elim (name == variable.name) [ true ↦ base + length variables | false ↦ level_in base variables name ]
+
+abbrev pub level_of : Scope → ℕ → ℕ
+level_of scope name = level_in scope.base scope.variables name
+
 -- the place of the innermost variable of a name, counted from the outermost
 abbrev pub last_place : Variables → ℕ → Option ℕ
 last_place [] name = None
 last_place (variable ∷ variables) name = elim (name == variable.name) [ true ↦ Some (length variables) | false ↦ last_place variables name ]
 
--- the variables, each with what its register holds
+-- the elements of a variable: those that the private array of its level has, if it is one
+abbrev pub seen_elements : (own held : List (Option ℕ)) → List (Option ℕ)
+seen_elements [] held = []
+seen_elements (element ∷ elements) held = held
+
+-- the variables, each with what its register and its private array hold
 abbrev pub view : ℕ → Variables → Registers → Variables
 view base [] registers = []
 view base (variable ∷ variables) registers =
-    record variable { content = reg registers (register_at (base + length variables) variable.kind) } ∷ view base variables registers
+    record variable {
+      content = reg registers (register_at (base + length variables) variable.kind);
+      elements = seen_elements variable.elements (array_of registers (base + length variables));
+    } ∷ view base variables registers
 
 abbrev pub seen : Scope → Registers → Variables
 seen scope registers = view scope.base scope.variables registers
 
+-- which of the variables are private arrays
+abbrev pub arrays_in : Variables → List Bool
+arrays_in variables = map (λ variable. has_elements variable.elements) variables
+
+-- The registers hold what these variables do, and the private arrays among them have been declared.
+pub record Shows (base : ℕ) (variables : Variables) (registers : Registers) (now : Variables) : Type 0 where
+  pub same : view base variables registers ≡ now
+  pub arrays : arrays_in (view base variables registers) ≡ arrays_in variables
+
+abbrev pub Sees : Scope → Registers → Variables → Type 0
+Sees scope registers now = Shows scope.base scope.variables registers now
+
 -- with one variable more
 abbrev pub declared : Scope → ℕ → VariableType → Scope
-declared scope name kind = record scope { variables = record { name = name; kind = kind; content = None } ∷ scope.variables }
+declared scope name kind = record scope { variables = variable name kind None ∷ scope.variables }
+
+-- with one private array more, of so many elements
+abbrev pub declared_array : Scope → ℕ → IntType → ℕ → Scope
+declared_array scope name element count = record scope { variables = private_array element count name ∷ scope.variables }

@@ -4,11 +4,13 @@
 ghost use Rattle.std.specs.Prelude.{◌≡◌, ◌++◌, IfOk};
 ghost use Rattle.clmodel.specs.Next.{argument_type};
 ghost use Rattle.clmodel.specs.Tree.{term, terms, place};
-ghost use Rattle.lower_expr.specs.Expressions.{kind_of, expr_code, terms_code, registers_for, place_code, place_kind};
+ghost use Rattle.lower_expr.specs.Expressions.{kind_of, kind_named, expr_code, address_code, terms_code, registers_for, place_code, place_kind};
 
 use crate::jumps::{begin_choice, begin_infix, between_branches, end_choice, end_infix};
 use crate::scope::{Scope, level_above, level_at, register_at};
-use crate::tails::{Arguments, call, cast, load, number, offset, point, unary, variable};
+use crate::tails::{
+    Arguments, array_element, call, cast, load, number, offset, point, unary, variable,
+};
 use crate::types::base_type;
 use clmodel::setup::built_in_named;
 use clmodel::tree::{Expression, Target, VariableType};
@@ -33,17 +35,16 @@ pub fn emit_expression(
         Expression::Number { value, .. } => number(level, *value, code),
         Expression::Variable { name, .. } => variable(scope, level, *name, code),
         Expression::Element { name, index, .. } => {
-            let pointer = variable(scope, level, *name, code)?;
-            let index = emit_expression(scope, level_above(level)?, index, code)?;
-            offset(level, pointer, index, code)?;
+            if scope.is_array(*name) {
+                let index = emit_expression(scope, level, index, code)?;
+                return array_element(scope, level, *name, index, code);
+            }
+            let pointer = emit_address(scope, level, *name, index, code)?;
             load(level, pointer, code)
         }
-        Expression::ElementAddress { name, index, .. } => {
-            let pointer = variable(scope, level, *name, code)?;
-            let index = emit_expression(scope, level_above(level)?, index, code)?;
-            offset(level, pointer, index, code)?;
-            Ok(pointer)
-        }
+        Expression::ElementAddress { name, index, .. } => emit_address(
+            scope, level, *name, index, code,
+        ),
         Expression::Dereference { pointer, .. } => {
             let pointer = emit_expression(scope, level, pointer, code)?;
             load(level, pointer, code)
@@ -101,6 +102,25 @@ pub fn emit_expression(
     }
 }
 
+/// Adds the code of a pointer variable's value moved by an index, which leaves it at a level, and gives its type. Err where memory is
+/// wanting, or there are too few registers.
+#[cycle(emission)]
+fn emit_address(
+    scope: &Scope,
+    level: u32,
+    name: u32,
+    index: &Expression,
+    code: &mut Vec<Instruction>,
+) -> Result<VariableType, AllocError>
+    ensures code { IfOk result (λ pointer. code.new.items ≡ code.old.items ++ address_code scope.now level name (term index.now)) }
+    ensures kind { IfOk result (λ pointer. pointer ≡ kind_named scope.now name) }
+{
+    let pointer = variable(scope, level, name, code)?;
+    let index = emit_expression(scope, level_above(level)?, index, code)?;
+    offset(level, pointer, index, code)?;
+    Ok(pointer)
+}
+
 /// Adds the code of arguments, from left to right, and gives the registers where their values are, the first at a level, and each
 /// further one a level above. Err where memory is wanting, or there are too few registers.
 #[cycle(emission)]
@@ -125,29 +145,42 @@ pub fn emit_arguments(
     Ok(Arguments { registers, kind })
 }
 
-/// Adds the code of what is assigned to, which leaves a pointer to it at a level, and gives the pointer's type; nothing where it is
-/// a variable as a whole (C99 6.5.16). Err where memory is wanting, or there are too few registers.
+/// What is left at a level for what is assigned to.
+#[derive(Clone, Copy, Debug, PartialEq, Eq)]
+pub enum TargetKind {
+    /// Nothing: it is a variable as a whole
+    Variable,
+    /// The index of an element of a private array, of this type
+    Index(VariableType),
+    /// A pointer of this type
+    Pointer(VariableType),
+}
+
+/// Adds the code of what is assigned to, which leaves its index or a pointer to it at a level, and gives which of them, and its type;
+/// nothing where it is a variable as a whole (C99 6.5.16). Err where memory is wanting, or there are too few registers.
 pub fn emit_target(
     scope: &Scope,
     level: u32,
     target: &Target,
     code: &mut Vec<Instruction>,
-) -> Result<Option<VariableType>, AllocError>
-    ensures code { IfOk result (λ pointer. code.new.items ≡ code.old.items ++ place_code scope.now level (place target.now)) }
-    ensures kind { IfOk result (λ pointer. pointer ≡ place_kind scope.now (place target.now)) }
+) -> Result<TargetKind, AllocError>
+    ensures code { IfOk result (λ found. code.new.items ≡ code.old.items ++ place_code scope.now level (place target.now)) }
+    ensures kind { IfOk result (λ found. found ≡ place_kind scope.now (place target.now)) }
 {
     match target {
-        Target::Variable { .. } => Ok(None),
+        Target::Variable { .. } => Ok(TargetKind::Variable),
         Target::Element { name, index, .. } => {
-            let pointer = variable(scope, level, *name, code)?;
-            let index = emit_expression(scope, level_above(level)?, index, code)?;
-            offset(level, pointer, index, code)?;
-            Ok(Some(pointer))
+            if scope.is_array(*name) {
+                let index = emit_expression(scope, level, index, code)?;
+                return Ok(TargetKind::Index(index));
+            }
+            let pointer = emit_address(scope, level, *name, index, code)?;
+            Ok(TargetKind::Pointer(pointer))
         }
         Target::Dereference { pointer, .. } => {
             let pointer = emit_expression(scope, level, pointer, code)?;
             point(level, pointer, code)?;
-            Ok(Some(pointer))
+            Ok(TargetKind::Pointer(pointer))
         }
     }
 }

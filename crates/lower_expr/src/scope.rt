@@ -5,8 +5,8 @@ ghost use Rattle.std.specs.Prelude.{◌≡◌, ℕ, ◌+◌, ◌<◌, [], ◌∷
 ghost use Rattle.clmodel.specs.Next as next;
 ghost use Rattle.lower_expr.specs.Scope as spec;
 ghost use Rattle.lower_expr.specs.Expressions as expressions;
+ghost use Rattle.lower_expr.specs.Index.{empty};
 
-use clmodel::operand::Binding;
 use clmodel::tree::VariableType;
 use clnum::IntType;
 use indexmap::IndexMap;
@@ -74,10 +74,18 @@ pub fn level_at(base: u32, count: usize) -> Result<u32, AllocError>
     base.checked_add(count).ok_or(AllocError)
 }
 
+/// A variable: its name, its declared type, and how many elements it has, if it is a private array; its type is that of the elements then.
+#[derive(Clone, Copy, Debug, PartialEq, Eq)]
+pub struct Variable {
+    name: u32,
+    kind: VariableType,
+    elements: u32,
+}
+
 /// A variable in scope, and the place of the one of its name that it hides.
 #[derive(Clone, Copy, Debug, PartialEq, Eq)]
 pub struct Entry {
-    variable: Binding,
+    variable: Variable,
     hidden: Option<usize>,
 }
 
@@ -140,11 +148,37 @@ impl Scope {
         ensures declared { OnOk result (self.new ≡ spec.declared self.old name kind) }
         ensures err { OnErr result (self.new ≡ self.old) }
     {
-        let variable = Binding {
+        self.add(Variable {
             name,
             kind,
-            content: None,
-        };
+            elements: 0,
+        })
+    }
+
+    /// Declares a private array of so many elements, which is the innermost variable from now on. Err where memory is wanting: nothing
+    /// changes then.
+    pub fn declare_array(
+        &mut self,
+        name: u32,
+        element: IntType,
+        count: u32,
+    ) -> Result<(), AllocError>
+        ensures declared { OnOk result (self.new ≡ spec.declared_array self.old name element count) }
+        ensures err { OnErr result (self.new ≡ self.old) }
+    {
+        self.add(Variable {
+            name,
+            kind: VariableType::Integer(element),
+            elements: count,
+        })
+    }
+
+    /// Adds a variable, the innermost from now on. Err where memory is wanting: nothing changes then.
+    fn add(&mut self, variable: Variable) -> Result<(), AllocError>
+        ensures added { OnOk result (self.new ≡ record self.old { variables = empty variable ∷ self.old.variables }) }
+        ensures err { OnErr result (self.new ≡ self.old) }
+    {
+        let name = variable.name;
         let hidden = self.place(name);
         let place = self.entries.len();
         self.entries.push(Entry { variable, hidden })?;
@@ -192,6 +226,27 @@ impl Scope {
         match self.place(name) {
             Some(place) => self.entries[place].variable.kind,
             None => VariableType::Integer(IntType::Int),
+        }
+    }
+
+    /// Whether the innermost variable of a name is a private array.
+    pub fn is_array(&self, name: u32) -> bool
+        ensures { result ≡ next.is_array self.now.variables name }
+    {
+        match self.place(name) {
+            Some(place) => self.entries[place].variable.elements > 0,
+            None => false,
+        }
+    }
+
+    /// The level of the innermost variable of a name, which is the number of its private array; the lowest where there is none. Err
+    /// where there are no so many levels.
+    pub fn level(&self, name: u32) -> Result<u32, AllocError>
+        ensures { IfOk result (λ level. level ≡ spec.level_of self.now name) }
+    {
+        match self.place(name) {
+            Some(place) => level_at(self.base, place),
+            None => Ok(self.base),
         }
     }
 

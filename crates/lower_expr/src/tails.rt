@@ -107,6 +107,74 @@ pub fn load(
     Ok(kind)
 }
 
+/// Adds the load of an element of the private array of a name, by the index that a register holds.
+pub fn private_load(
+    scope: &Scope,
+    to: u32,
+    name: u32,
+    index: u32,
+    code: &mut Vec<Instruction>,
+) -> Result<(), AllocError>
+    ensures { OnOk result (code.new.items ≡ code.old.items ++ expressions.private_load scope.now to name index ∷ []) }
+{
+    let array = scope.level(name)?;
+    let element = base_type(scope.kind(name));
+    add(
+        code,
+        Instruction::PrivateLoad {
+            to,
+            array,
+            index,
+            element,
+            name,
+        },
+    )
+}
+
+/// Adds the load of an element of the private array of a name at a level, by its index of this type there, and gives its type.
+pub fn array_element(
+    scope: &Scope,
+    level: u32,
+    name: u32,
+    index: VariableType,
+    code: &mut Vec<Instruction>,
+) -> Result<VariableType, AllocError>
+    ensures code { IfOk result (λ kind. code.new.items ≡ code.old.items
+        ++ expressions.private_load scope.now (register_at level (kinds.Integer (expressions.element_of scope.now name))) name (register_at level index) ∷ []) }
+    ensures kind { IfOk result (λ kind. kind ≡ kinds.Integer (expressions.element_of scope.now name)) }
+{
+    let kind = VariableType::Integer(base_type(scope.kind(name)));
+    let to = register_at(level, kind)?;
+    let index = register_at(level, index)?;
+    private_load(scope, to, name, index, code)?;
+    Ok(kind)
+}
+
+/// Adds the store of what a register holds in an element of the private array of a name, by the index that another holds.
+pub fn private_store(
+    scope: &Scope,
+    name: u32,
+    index: u32,
+    value: u32,
+    code: &mut Vec<Instruction>,
+) -> Result<(), AllocError>
+    ensures { OnOk result (code.new.items ≡ code.old.items ++ expressions.private_store scope.now name index value ∷ []) }
+{
+    let array = scope.level(name)?;
+    let kind = scope.kind(name);
+    let element = base_type(kind);
+    add(
+        code,
+        Instruction::PrivateStore {
+            array,
+            index,
+            value,
+            element,
+            name,
+        },
+    )
+}
+
 /// Adds the test that a value of this type at a level is a pointer.
 pub fn point(
     level: u32,

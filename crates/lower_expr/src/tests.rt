@@ -1,9 +1,9 @@
 //! The code of small expressions.
 #![tactic(auto)]
 
-use crate::emission::{emit_expression, emit_target};
+use crate::emission::{TargetKind, emit_expression, emit_target};
 use crate::scope::Scope;
-use crate::tails::call_only;
+use crate::tails::{call_only, private_store};
 use clmodel::setup::{AtomicFunction, BuiltIn};
 use clmodel::tree::{AddressSpace, Expression, InfixOperator, PointerType, Target, VariableType};
 use clnum::{BinaryOperator, IntType, UnaryOperator, Value};
@@ -18,6 +18,9 @@ const MAX: u32 = 9;
 const POINTER: u32 = 27;
 
 const CHAR: u32 = 28;
+
+/// An array of shorts.
+const ARRAY: u32 = 29;
 
 /// The two variables, the pointer outside.
 fn scope(alloc: Global) -> Result<Scope, AllocError> {
@@ -73,6 +76,57 @@ fn an_element(rt: HostRuntime) -> Result<(), Fail> {
         Instruction::Load {
             to: 68,
             pointer: 76
+        },
+    ]?;
+    assert_eq!(rt; code.as_slice(), expected.as_slice());
+    Ok(())
+}
+
+#[test]
+fn an_element_of_an_array(rt: HostRuntime) -> Result<(), Fail> {
+    let alloc = rt.alloc();
+    let mut scope = scope(alloc)?;
+    scope.declare_array(ARRAY, IntType::Short, 3)?;
+    let target = Target::Element {
+        at: 0,
+        name: ARRAY,
+        index: boxed(alloc, CHAR)?,
+    };
+    let read = Expression::Element {
+        at: 0,
+        name: ARRAY,
+        index: boxed(alloc, CHAR)?,
+    };
+    let mut code = Vec::new(alloc);
+    let kind = emit_target(&scope, 5, &target, &mut code)?;
+    assert_eq!(rt; kind, TargetKind::Index(VariableType::Integer(IntType::Char)));
+    let kind = emit_expression(&scope, 6, &read, &mut code)?;
+    assert_eq!(rt; kind, VariableType::Integer(IntType::Short));
+    private_store(&scope, ARRAY, 80, 98, &mut code)?;
+    let expected = vec![in alloc;
+        Instruction::Move {
+            to: 80,
+            from: 48,
+            name: CHAR
+        },
+        Instruction::Move {
+            to: 96,
+            from: 48,
+            name: CHAR
+        },
+        Instruction::PrivateLoad {
+            to: 98,
+            array: 4,
+            index: 96,
+            element: IntType::Short,
+            name: ARRAY
+        },
+        Instruction::PrivateStore {
+            array: 4,
+            index: 80,
+            value: 98,
+            element: IntType::Short,
+            name: ARRAY
         },
     ]?;
     assert_eq!(rt; code.as_slice(), expected.as_slice());
@@ -217,7 +271,7 @@ fn what_is_assigned_to(rt: HostRuntime) -> Result<(), Fail> {
         pointer: boxed(alloc, POINTER)?,
     };
     let mut code = Vec::new(alloc);
-    assert!(rt; emit_target(&scope, 4, &target, &mut code)?.is_some());
+    emit_target(&scope, 4, &target, &mut code)?;
     call_only(BuiltIn::Atomic(AtomicFunction::Inc), 0, &[76], &mut code)?;
     let expected = vec![in alloc;
         Instruction::Move {

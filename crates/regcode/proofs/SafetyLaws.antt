@@ -1,5 +1,5 @@
 -- Verified code never sticks: instruction by instruction.
-use Rattle.std.proofs.Common.{◌≡◌, ℕ, zero, suc, ◌+◌, ◌<◌, ◌≤◌, ◌++◌, ◌⊎◌, inl, inr, Bool, true, false, IsTrue, if◌then◌else◌, Option, None, Some, List, [], ◌∷◌, Result, Ok, Err, length, take, replicate, slice_get, refl, ap, sym, ◌∙◌, subst, arith}
+use Rattle.std.proofs.Common.{◌≡◌, ℕ, zero, suc, ℤ, pos, negsuc, ◌+◌, ◌<◌, ◌≤◌, ◌++◌, ◌⊎◌, inl, inr, Bool, true, false, IsTrue, if◌then◌else◌, Option, None, Some, List, [], ◌∷◌, Result, Ok, Err, length, take, replicate, slice_get, refl, ap, sym, ◌∙◌, subst, arith}
 use Rattle.std.proofs.lemmas.Bool.{false≢true, cases_eq}
 use Rattle.std.proofs.lemmas.List.{length-take-le, length-append}
 use Rattle.std.proofs.lemmas.Option.{none-some, slice_get-get_or}
@@ -17,7 +17,8 @@ use Rattle.clnum.specs.declared.operators.UnaryOperator.{UnaryOperator}
 use Rattle.clnum.specs.declared.operators.UnaryOperator.TheVariants as unary_operator
 use Rattle.clnum.specs.declared.operators.Builtin.{Builtin}
 use Rattle.clnum.specs.declared.operators.Builtin.TheVariants as builtin
-use Rattle.clmodel.specs.Next.{Run, number, pointing, moved, load, store, atomic_call, combined, arithmetic, test, integer_call, given_value, content, held, known}
+use Rattle.clmodel.specs.Next.{Run, fail, number, pointing, moved, load, store, element_value, read_element, element_set, write_element, atomic_call, combined, arithmetic, test, integer_call, given_value, content, held, known}
+use Rattle.clmodel.specs.declared.action.Cause.{Cause}
 use Rattle.clmodel.specs.declared.operand.Operand.{Operand}
 use Rattle.clmodel.specs.declared.operand.Operand.TheVariants.{Integral, Pointed}
 use Rattle.clmodel.specs.declared.operand.Pointer.{Pointer as PointerValue}
@@ -27,7 +28,7 @@ use Rattle.clmodel.specs.declared.setup.AtomicFunction.{AtomicFunction}
 use Rattle.clmodel.specs.declared.tree.VariableType.{VariableType}
 use Rattle.clmodel.specs.declared.tree.VariableType.TheVariants as variable_type
 use Rattle.regcode.specs.Listing.{Listing}
-use Rattle.regcode.specs.Machine.{State, Given, Registers, reg, put, act, filled, with_put, with_turns, passed, onward, argument_at}
+use Rattle.regcode.specs.Machine.{State, Given, Registers, reg, put, item_at, act, filled, with_put, with_array, with_turns, passed, onward, argument_at}
 use Rattle.regcode.specs.Rules.{IsVerified, Fits, Goes, Takes, Leads, kind_at, loops_at, kind_of, held_kind, number_kind, common_kind, changed_kind, combined_kind, of_one_kind, of_two_kind, offset_kind, loaded_kind, is_integer, is_pointer, is_atomic, is_turn}
 use Rattle.regcode.specs.Safety.{Suits, operand_kind, MayEnd, GoesOn, ended, failed, on_at, after_at, asked, ticked, IsNext, NeverSticks}
 use Rattle.regcode.specs.declared.instruction.Instruction.{Instruction}
@@ -162,6 +163,30 @@ module _ (Ends : Type 0) (Next : State → Type 0) (on after : State → Run) wh
   of_two_safe builtin.Rotate (Integral v) (Integral w) f r takes h = same_safe (is_same v.kind w.kind) v.kind _ f r refl takes h
   of_two_safe _ _ _ f r takes h = absurd (takes_nothing r takes)
 
+  value_safe : (name : ℕ) (i : ℤ) (kind : IntType) (found : Option (Option ℕ)) (f : Operand → Run) → ((x : Operand) → operand_kind x ≡ IntegerKind kind → Safe (f x))
+      → Safe (element_value name i kind found f)
+  value_safe name i kind None f h = failed _
+  value_safe name i kind (Some None) f h = failed _
+  value_safe name i kind (Some (Some n)) f h = h _ refl
+
+  read_safe : (name : ℕ) (kind : IntType) (elements : List (Option ℕ)) (i : Operand) (f : Operand → Run) → IsTrue (is_integer (Some (operand_kind i)))
+      → ((x : Operand) → operand_kind x ≡ IntegerKind kind → Safe (f x)) → Safe (read_element name kind elements i f)
+  read_safe name kind elements i f integer h = number_safe i _ integer (λ n is. value_safe name _ kind _ f h)
+
+  if_safe : (b : Bool) (run : Run) (cause : Cause) → Safe run → Safe (if b then run else fail cause)
+  if_safe true run cause h = h
+  if_safe false run cause h = failed _
+
+  set_safe : (name : ℕ) (i : ℤ) (kind : IntType) (elements : List (Option ℕ)) (v : Integer) (f : List (Option ℕ) → Run) → ((xs : List (Option ℕ)) → Safe (f xs))
+      → Safe (element_set name i kind elements v f)
+  set_safe name (pos i) kind elements v f h = if_safe _ _ _ (h _)
+  set_safe name (negsuc i) kind elements v f h = failed _
+
+  write_safe : (name : ℕ) (kind : IntType) (elements : List (Option ℕ)) (i v : Operand) (f : List (Option ℕ) → Run) → IsTrue (is_integer (Some (operand_kind i)))
+      → IsTrue (is_integer (Some (operand_kind v))) → ((xs : List (Option ℕ)) → Safe (f xs)) → Safe (write_element name kind elements i v f)
+  write_safe name kind elements i v f integer other h =
+      number_safe i _ integer (λ n is. number_safe v _ other (λ m is'. set_safe name _ kind elements m f h))
+
   atomic_pointer : (v : Operand) → IsTrue (is_atomic (Some (operand_kind v))) → IsTrue (is_pointer (Some (operand_kind v)))
   atomic_pointer (Integral v) h = absurd (false≢true h)
   atomic_pointer (Pointed p) h = refl
@@ -237,6 +262,12 @@ module _ (code : Listing) (s : State) (suits : Suits code s) where
   put_next : (to : ℕ) (v : Operand) → kind_at code to ≡ Some (operand_kind v) → Leads code (s.place + 1) (loops_at code s.place) → IsNext code s (with_put s to (Some v))
   put_next to v is leads = set_next to (Some v) (λ w e. is ∙ ap (option_map operand_kind) e) leads
 
+  array_next : (array : ℕ) (elements : List (Option ℕ)) → Leads code (s.place + 1) (loops_at code s.place) → IsNext code s (with_array s array elements)
+  array_next array elements leads =
+      let counted = suits.counted in
+      let few = leads.1 in
+      record { suits = record { inside = leads.0; typed = suits.typed; counted = omega (arith, counted, few) }; forward = inl (omega arith) }
+
   onward_next : (next : ℕ) → s.place < next → Leads code next (loops_at code s.place) → IsNext code s (record s { place = next })
   onward_next next further leads =
       let counted = suits.counted in
@@ -305,6 +336,17 @@ module _ (code : Listing) (s : State) (suits : Suits code s) where
         on_at _ (put_next to _ (number_takes Ulong d _ (subst (λ k. Takes (kind_at code to) (number_kind Ulong k)) (suits.typed dimension d e) fits)) goes))
     does (instruction.Argument to index kind) fits goes =
         on_at _ (set_next to _ (λ w e. takes_is _ _ fits.0 ∙ content_is given.buffers index kind (argument_at given.arguments index) w e) goes)
+    does (instruction.Local to object element) fits goes = on_at _ (put_next to _ (takes_is _ _ fits) goes)
+    does (instruction.UnsetArray array count) fits goes = on_at _ (array_next array _ goes)
+    does (instruction.PrivateLoad to array index element name) fits goes =
+        filled_safe _ _ on after _ _ (λ e. inr (index, (0, omega arith, refl), e)) (λ i e.
+        read_safe _ _ on after name element _ i _ (subst (λ k. IsTrue (is_integer k)) (suits.typed index i e) fits.1)
+        (λ x kind. on_at _ (put_next to x (takes_is _ _ fits.0 ∙ ap Some (sym kind)) goes)))
+    does (instruction.PrivateStore array index value element name) fits goes =
+        filled_safe _ _ on after _ _ (λ e. inr (index, (0, omega arith, refl), e)) (λ i e.
+        filled_safe _ _ on after _ _ (λ e'. inr (value, (1, omega arith, refl), e')) (λ v e'.
+        write_safe _ _ on after name element _ i v _ (subst (λ k. IsTrue (is_integer k)) (suits.typed index i e) fits.0)
+        (subst (λ k. IsTrue (is_integer k)) (suits.typed value v e') fits.1) (λ xs. on_at _ (array_next array xs goes))))
     does (instruction.Point to from) fits goes =
         filled_safe _ _ on after _ _ (λ e. inr (from, (0, omega arith, refl), e)) (λ v e.
         pointing_safe _ _ on after v _ (subst (λ k. IsTrue (is_pointer k)) (suits.typed from v e) fits.1) (λ q is.
@@ -350,7 +392,7 @@ module _ (code : Listing) (s : State) (suits : Suits code s) where
     does instruction.End fits goes = ended (inl refl)
 
 -- no register has a value at the start
-unset_at_start : (count r : ℕ) → reg (replicate count None) r ≡ None
+unset_at_start : (count r : ℕ) → item_at {A = Option Operand} None (replicate count None) r ≡ None
 unset_at_start zero r = refl
 unset_at_start (suc count) zero = refl
 unset_at_start (suc count) (suc r) = unset_at_start count r

@@ -9,6 +9,7 @@ listing instructions tables =
     record {
       instructions = instructions;
       registers = tables.registers.items;
+      arrays = tables.arrays.items;
       names = tables.names;
       parameters = tables.parameters.items;
       loops = tables.loops.items;

@@ -36,6 +36,8 @@ operands (instruction.Binary to operator left right) = left ∷ right ∷ []
 operands (instruction.Builtin to function first None) = first ∷ []
 operands (instruction.Builtin to function first (Some second)) = first ∷ second ∷ []
 operands (instruction.Query to function dimension) = dimension ∷ []
+operands (instruction.PrivateLoad to array index element name) = index ∷ []
+operands (instruction.PrivateStore array index value element name) = index ∷ value ∷ []
 operands (instruction.Point to from) = from ∷ []
 operands (instruction.Offset to pointer index) = pointer ∷ index ∷ []
 operands (instruction.Load to pointer) = pointer ∷ []
@@ -65,7 +67,7 @@ pub record IsNext (code : Listing) (s : State) (next : State) : Type 0 where
 
 -- Verified code suits its start. In a state that suits it an instruction is there, and whatever follows, it goes on in states that suit it; it ends only at its end or for want of an operand.
 pub record NeverSticks (code : Listing) : Type 0 where
-  pub start : Suits code (at_start (length code.registers))
+  pub start : Suits code (at_start (length code.registers) (length code.arrays))
   pub next : (given : Given) (s : State) → Suits code s → (on after : State → Run)
       → (i : Instruction) × (slice_get code.instructions s.place ≡ Some i)
       × GoesOn (MayEnd i s.registers) (IsNext code s) on after (act given (slice_get code.instructions s.place) on after s)

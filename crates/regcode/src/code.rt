@@ -77,6 +77,13 @@ impl Code {
         self.tables.registers.get(number).copied()
     }
 
+    /// How many elements each private array has at most.
+    pub fn arrays(&self) -> &[u32]
+        ensures { result.now ≡ self.now.arrays }
+    {
+        &self.tables.arrays
+    }
+
     /// How many names there are.
     pub fn names(&self) -> u32
         ensures { result ≡ self.now.names }

@@ -26,6 +26,8 @@ enum Part {
     Register(u32),
     /// The element that the pointer in a register points to
     Element(u32),
+    /// The element of a private array at the index in a register
+    Private { array: u32, index: u32 },
     Number(u64),
     Value(Value),
     Type(IntType),
@@ -79,6 +81,38 @@ fn parts(place: usize, instruction: &Instruction) -> [Option<Part>; 3]
             number: place,
             kind,
         } => { (register(to), number(place), Some(Part::Variable(kind))) }
+        Instruction::Local {
+            to,
+            number: object,
+            element,
+        } => { (register(to), number(object), Some(Part::Type(element))) }
+        Instruction::UnsetArray { array, length } => (number(array), number(length), None),
+        Instruction::PrivateLoad {
+            to,
+            array,
+            index,
+            element,
+            ..
+        } => {
+            (
+                register(to),
+                Some(Part::Private { array, index }),
+                Some(Part::Type(element)),
+            )
+        }
+        Instruction::PrivateStore {
+            array,
+            index,
+            value,
+            element,
+            ..
+        } => {
+            (
+                Some(Part::Private { array, index }),
+                register(value),
+                Some(Part::Type(element)),
+            )
+        }
         Instruction::Point { to, from } => (register(to), register(from), None),
         Instruction::Offset { to, pointer, index } => {
             (register(to), register(pointer), register(index))
@@ -187,6 +221,16 @@ fn write_part<W: Write>(part: Part, writer: &mut W) -> Result<(), WriteFailed>
             ],
             writer,
         ),
+        Part::Private { array, index } => write_pieces(
+            &[
+                Piece::Word("a"),
+                Piece::Number(u64::from(array)),
+                Piece::Word("[r"),
+                Piece::Number(u64::from(index)),
+                Piece::Word("]"),
+            ],
+            writer,
+        ),
         Part::Number(number) => write_piece(Piece::Number(number), writer),
         Part::Value(value) => write_pieces(
             &[
@@ -252,7 +296,8 @@ fn write_lines<W: Write>(instructions: &[Instruction], writer: &mut W) -> Result
 }
 
 /// Writes code as text, a line for each instruction: its place, its name, and what it names, as `12 load r37, [r44]`. Registers
-/// stand behind an `r`, in square brackets where what they point to is meant; a jump names the place that it leads to; a variable
+/// stand behind an `r`, in square brackets where what they point to is meant, or behind an `a` and a private array's number the element at
+/// their index; a jump names the place that it leads to; a variable
 /// is named by its name's place in the tree's table of names. Takes no memory.
 ///
 /// `Write` comes where the writer fails; then a beginning of the text may have been written.

@@ -6,7 +6,7 @@ use clmodel::setup::{AtomicFunction, WorkItemFunction};
 use clmodel::tree::VariableType;
 use clnum::{BinaryOperator, Builtin, IntType, UnaryOperator, Value};
 
-/// An instruction. Registers are named by their numbers, variables by their names' places in the tree's table of names, loops by
+/// An instruction. Registers and private arrays are named by their numbers, variables by their names' places in the tree's table of names, loops by
 /// their depth: 0 is the outermost. `to` is the register that is written.
 #[derive(Clone, Copy, Debug, PartialEq, Eq)]
 pub enum Instruction {
@@ -77,6 +77,33 @@ pub enum Instruction {
         to: u32,
         number: u32,
         kind: VariableType,
+    },
+    /// A pointer to the start of the local object of a number
+    Local {
+        to: u32,
+        number: u32,
+        element: IntType,
+    },
+    /// A private array is declared: it has so many elements, and none is set
+    UnsetArray {
+        array: u32,
+        length: u32,
+    },
+    /// An element of a private array; a fault with its name where there is none, or none that is set
+    PrivateLoad {
+        to: u32,
+        array: u32,
+        index: u32,
+        element: IntType,
+        name: u32,
+    },
+    /// An element of a private array is set; a fault with its name where there is none
+    PrivateStore {
+        array: u32,
+        index: u32,
+        value: u32,
+        element: IntType,
+        name: u32,
     },
     /// A pointer as it is
     Point {

@@ -53,6 +53,16 @@ impl Judged<'_> {
         }
     }
 
+    /// Whether a private array has room for so many elements.
+    fn has_room(&self, array: u32, count: u32) -> bool
+        ensures { IsTrue result ↔ spec.HasRoom (slice_get self.now.tables.now.arrays.items array) count }
+    {
+        match self.tables.arrays.get(array as usize) {
+            Some(most) => count <= *most,
+            None => false,
+        }
+    }
+
     /// Whether an instruction names registers and entries of tables that are there, of the kinds that it wants.
     fn fits(&self, instruction: &Instruction) -> bool
         ensures { IsTrue result ↔ spec.Fits (listing self.now.instructions.now self.now.tables.now) instruction.now }
@@ -116,6 +126,35 @@ impl Judged<'_> {
             ),
             Instruction::Argument { to, number, kind } => self.takes(*to, Some(kind_of(*kind)))
                 && self.is_parameter(*number, *kind),
+            Instruction::Local { to, element, .. } => self.takes(
+                *to,
+                Some(RegisterKind::Pointer(*element)),
+            ),
+            Instruction::UnsetArray { array, length } => self.has_room(*array, *length),
+            Instruction::PrivateLoad {
+                to,
+                array,
+                index,
+                element,
+                name,
+            } => {
+                self.takes(*to, Some(RegisterKind::Integer(*element)))
+                    && is_integer(self.kind(*index))
+                    && (*array as usize) < self.tables.arrays.len()
+                    && *name < self.tables.names
+            }
+            Instruction::PrivateStore {
+                array,
+                index,
+                value,
+                name,
+                ..
+            } => {
+                is_integer(self.kind(*index))
+                    && is_integer(self.kind(*value))
+                    && (*array as usize) < self.tables.arrays.len()
+                    && *name < self.tables.names
+            }
             Instruction::Point { to, from } => self.takes(*to, self.kind(*from))
                 && is_pointer(self.kind(*from)),
             Instruction::Offset { to, pointer, index } => self.takes(

@@ -58,7 +58,7 @@ const POINTER: VariableType = VariableType::Pointer(PointerType {
 
 const INT: VariableType = VariableType::Integer(IntType::Int);
 
-/// Registers of int, uint, a pointer to int, and ulong; a pointer and an int as parameters; as many loops as are told.
+/// Registers of int, uint, a pointer to int, and ulong; a private array of four elements at most; a pointer and an int as parameters; as many loops as are told.
 fn tables(alloc: Global, loops: Vec<u32>) -> Result<Tables, AllocError> {
     Ok(Tables {
         registers: vec![in alloc;
@@ -67,6 +67,7 @@ fn tables(alloc: Global, loops: Vec<u32>) -> Result<Tables, AllocError> {
             RegisterKind::Pointer(IntType::Int),
             RegisterKind::Integer(IntType::Ulong),
         ]?,
+        arrays: vec![in alloc; 4]?,
         names: 6,
         parameters: vec![in alloc; INT, POINTER]?,
         loops,

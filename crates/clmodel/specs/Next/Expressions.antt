@@ -1,5 +1,5 @@
 -- Evaluation of expressions, as a tree of actions (OpenCL 1.2, 6.3 and 6.12; C99 6.5).
-use Rattle.std.specs.Prelude.{ℕ, zero, suc, ◌-◌, ◌==◌, ℤ, pos, ◌+ℤ◌, ◌-ℤ◌, Bool, true, false, not, if◌then◌else◌, Option, None, Some, List, [], ◌∷◌, ◌++◌, length, drop, Result, Ok, Err}
+use Rattle.std.specs.Prelude.{ℕ, zero, suc, ◌-◌, ◌==◌, ℤ, pos, negsuc, ◌+ℤ◌, ◌-ℤ◌, Bool, true, false, not, if◌then◌else◌, Option, None, Some, List, [], ◌∷◌, ◌++◌, length, drop, nat_lt, slice_get, slice_set, Result, Ok, Err}
 use Rattle.std.specs.Ordering.{int_eq}
 use Rattle.clnum.specs.Integer.{Integer, bits_of, wrap, converted, is_signed}
 use Rattle.clnum.specs.Conversions.{common, unsigned_of}
@@ -40,9 +40,6 @@ use Rattle.clmodel.specs.declared.setup.AtomicFunction.TheVariants as atomic
 use Rattle.clmodel.specs.declared.operand.Operand.{Operand}
 use Rattle.clmodel.specs.declared.operand.Operand.TheVariants.{Integral, Pointed}
 use Rattle.clmodel.specs.declared.operand.Pointer.{Pointer}
-use Rattle.clmodel.specs.declared.operand.Binding.{Binding}
-use Rattle.clmodel.specs.declared.operand.Destination.{Destination}
-use Rattle.clmodel.specs.declared.operand.Destination.TheVariants as destination
 
 -- What is still to be done: actions that come one after the answer of another, and loop turns between them.
 pub data Run : Type 0 where
@@ -60,6 +57,25 @@ walk (ask wanted after) (suc ticks) [] = wanted
 walk (ask wanted after) (suc ticks) (answer ∷ answers) = walk (after answer) ticks answers
 walk (tick after) zero answers = action.Fault cause.Budget
 walk (tick after) (suc ticks) answers = walk after ticks answers
+
+-- A variable in scope: its name, its declared type, and what it holds, if it is set. A private array is of its elements' type and holds nothing itself:
+-- of each element it has the low bits of its number, as memory would, if that element is set (6.5.4).
+pub record Binding : Type 0 where
+  pub name : ℕ
+  pub kind : VariableType
+  pub content : Option Operand
+  pub elements : List (Option ℕ)
+
+-- a variable that is no array
+abbrev pub variable : ℕ → VariableType → Option Operand → Binding
+variable name kind content = record { name = name; kind = kind; content = content; elements = [] }
+
+-- What is assigned to, once its index or its pointer has been evaluated (C99 6.5.16): the variable of a name, an element of the private array of a name, by
+-- the value of its index, or the element that a pointer points to.
+pub data Destination : Type 0 where
+  Named : ℕ → Destination
+  ElementOf : (name : ℕ) → (index : Operand) → Destination
+  Through : Pointer → Destination
 
 -- the variables in scope, innermost first
 abbrev pub Variables : Type 0
@@ -86,6 +102,25 @@ abbrev pub assign : Variables → ℕ → Operand → Variables
 assign [] name v = []
 assign (variable ∷ variables) name v =
     elim (name == variable.name) [ true ↦ record variable { content = Some (held variable.kind v) } ∷ variables | false ↦ variable ∷ assign variables name v ]
+
+-- the elements of the private array of a name; another variable has none
+abbrev pub elements_of : Variables → ℕ → List (Option ℕ)
+elements_of [] name = []
+elements_of (variable ∷ variables) name = elim (name == variable.name) [ true ↦ variable.elements | false ↦ elements_of variables name ]
+
+abbrev pub has_elements : List (Option ℕ) → Bool
+has_elements [] = false
+has_elements (element ∷ elements) = true
+
+-- whether the innermost variable of a name is a private array
+abbrev pub is_array : Variables → ℕ → Bool
+is_array variables name = has_elements (elements_of variables name)
+
+-- the private array of a name has other elements
+abbrev pub with_elements : Variables → ℕ → List (Option ℕ) → Variables
+with_elements [] name elements = []
+with_elements (variable ∷ variables) name elements =
+    elim (name == variable.name) [ true ↦ record variable { elements = elements } ∷ variables | false ↦ variable ∷ with_elements variables name elements ]
 
 -- the outermost variables, so many: those of a block are left at its end
 abbrev pub leave : ℕ → Variables → Variables
@@ -148,6 +183,35 @@ abbrev pub store : Pointer → Operand → Run → Run
 store p (Integral v) after =
     ask (action.Access p.object p.offset (operation.Store (element_width p.element) (bits_of p.element v.number))) (λ _. after)
 store p (Pointed q) after = finish
+
+-- an index as the offset of a pointer would be it: 64 wrapped bits, read as signed
+abbrev pub index_of : Integer → ℤ
+index_of i = wrap Long i.number
+
+-- the element at an index, if there is one
+abbrev pub element_at : List (Option ℕ) → ℤ → Option (Option ℕ)
+element_at elements (pos i) = slice_get elements i
+element_at elements (negsuc i) = None
+
+-- the value of what is at an index of the private array of a name
+abbrev pub element_value : (name : ℕ) → (index : ℤ) → IntType → Option (Option ℕ) → (Operand → Run) → Run
+element_value name i kind None after = fail (cause.PrivateBounds name i)
+element_value name i kind (Some None) after = fail (cause.UnsetElement name i)
+element_value name i kind (Some (Some n)) after = after (Integral (wrapped kind (pos n)))
+
+-- an element of the private array of a name is read, which is no action
+abbrev pub read_element : (name : ℕ) → IntType → List (Option ℕ) → (index : Operand) → (Operand → Run) → Run
+read_element name kind elements i after = number i (λ n. element_value name (index_of n) kind (element_at elements (index_of n)) after)
+
+-- the elements of the private array of a name with the low bits of a number at an index
+abbrev pub element_set : (name : ℕ) → (index : ℤ) → IntType → List (Option ℕ) → Integer → (List (Option ℕ) → Run) → Run
+element_set name (pos i) kind elements v after =
+    if nat_lt i (length elements) then after (slice_set elements i (Some (bits_of kind v.number))) else fail (cause.PrivateBounds name (pos i))
+element_set name (negsuc i) kind elements v after = fail (cause.PrivateBounds name (negsuc i))
+
+-- a number is put into an element of the private array of a name, which is no action
+abbrev pub write_element : (name : ℕ) → IntType → List (Option ℕ) → (index value : Operand) → (List (Option ℕ) → Run) → Run
+write_element name kind elements i v after = number i (λ n. number v (λ m. element_set name (index_of n) kind elements m after))
 
 -- the class of an atomic function at an element type: the least and the greatest go by its sign
 abbrev pub class_of : AtomicFunction → IntType → Class
@@ -234,6 +298,15 @@ abbrev pub base_type : VariableType → IntType
 base_type (variable_type.Integer kind) = kind
 base_type (variable_type.Pointer pointer) = pointer.element
 
+-- an element of the private array of a name
+abbrev pub load_element : Variables → (name : ℕ) → (index : Operand) → (Operand → Run) → Run
+load_element variables name i after = read_element name (base_type (declared_type variables name)) (elements_of variables name) i after
+
+-- the variables with a number in an element of the private array of a name
+abbrev pub store_element : Variables → (name : ℕ) → (index value : Operand) → (Variables → Run) → Run
+store_element variables name i v after =
+    write_element name (base_type (declared_type variables name)) (elements_of variables name) i v (λ elements. after (with_elements variables name elements))
+
 -- the type of an operator's value
 abbrev pub infix_type : InfixOperator → VariableType → VariableType → VariableType
 infix_type (Arithmetic operator) (variable_type.Integer a) (variable_type.Integer b) = variable_type.Integer (binary_kind operator a b)
@@ -291,7 +364,9 @@ abbrev mutual
   eval here (Number at value) variables after = after (Integral value)
   eval here (Variable at name) variables after = known name (look variables name) after
   eval here (Element at name index) variables after =
-      known name (look variables name) (λ p. eval here index variables (λ i. moved p i (λ q. load q after)))
+      if is_array variables name
+      then eval here index variables (λ i. load_element variables name i after)
+      else known name (look variables name) (λ p. eval here index variables (λ i. moved p i (λ q. load q after)))
   eval here (ElementAddress at name_at name index) variables after =
       known name (look variables name) (λ p. eval here index variables (λ i. moved p i (λ q. after (Pointed q))))
   eval here (Dereference at pointer) variables after = eval here pointer variables (λ p. pointing p (λ q. load q after))
@@ -311,22 +386,26 @@ abbrev mutual
   eval_all here (ThenTerm terms term) variables after =
       eval_all here terms variables (λ values. eval here term variables (λ v. after (values ++ v ∷ [])))
 
--- what is assigned to: its pointer is read, and then its index evaluated
+-- what is assigned to: its pointer is read, if it has one, and then its index evaluated
 abbrev pub reach : Here → Place → Variables → (Destination → Run) → Run
-reach here (Whole at name) variables after = after (destination.Named name)
+reach here (Whole at name) variables after = after (Named name)
 reach here (Part at name index) variables after =
-    known name (look variables name) (λ p. eval here index variables (λ i. moved p i (λ q. after (destination.Behind q))))
-reach here (Behind at pointer) variables after = eval here pointer variables (λ p. pointing p (λ q. after (destination.Behind q)))
+    if is_array variables name
+    then eval here index variables (λ i. after (ElementOf name i))
+    else known name (look variables name) (λ p. eval here index variables (λ i. moved p i (λ q. after (Through q))))
+reach here (Behind at pointer) variables after = eval here pointer variables (λ p. pointing p (λ q. after (Through q)))
 
 -- the value that is there
 abbrev pub fetch : Destination → Variables → (Operand → Run) → Run
-fetch (destination.Named name) variables after = known name (look variables name) after
-fetch (destination.Behind p) variables after = load p after
+fetch (Named name) variables after = known name (look variables name) after
+fetch (ElementOf name i) variables after = load_element variables name i after
+fetch (Through p) variables after = load p after
 
 -- a value is put there
 abbrev pub put : Destination → Operand → Variables → (Variables → Run) → Run
-put (destination.Named name) v variables after = after (assign variables name v)
-put (destination.Behind p) v variables after = store p v (after variables)
+put (Named name) v variables after = after (assign variables name v)
+put (ElementOf name i) v variables after = store_element variables name i v after
+put (Through p) v variables after = store p v (after variables)
 
 -- `++` adds 1, `--` takes 1 away
 abbrev pub step_operator : Bool → BinaryOperator

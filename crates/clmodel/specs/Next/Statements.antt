@@ -1,17 +1,21 @@
 -- Execution of statements and of helper functions, as a tree of actions (OpenCL 1.2, 6.9, 6.11 and 6.12.8; C99 6.5.2.2, 6.5.16 and 6.8).
-use Rattle.std.specs.Prelude.{ℕ, zero, suc, ◌+◌, ◌==◌, Bool, true, false, if◌then◌else◌, Option, None, Some, List, [], ◌∷◌, ◌++◌, length}
+use Rattle.std.specs.Prelude.{ℕ, zero, suc, ◌+◌, ◌==◌, pos, Bool, true, false, if◌then◌else◌, Option, None, Some, List, [], ◌∷◌, ◌++◌, length, replicate}
+use Rattle.clnum.specs.Integer.{Integer}
 use Rattle.clnum.specs.declared.int_type.IntType.{IntType}
 use Rattle.clmodel.specs.BuiltIns.{built_in}
 use Rattle.clmodel.specs.Barrier.{is_barrier, fences}
-use Rattle.clmodel.specs.Next.Expressions.{Run, finish, fail, ask, tick, Variables, held, assign, leave, combined, test, Here, call_only, eval, eval_all, reach, fetch, put, step_operator, one}
-use Rattle.clmodel.specs.Tree.{Term, Number, Variable, Element, ElementAddress, Dereference, Call, Unary, Cast, Binary, Choice, Terms, Stmt, Empty, Block, Declare, DeclareAs, DeclareArray, Assign, Step, CallOnly, If, IfElse, While, DoWhile, For, Break, Continue, Return, ReturnValue, Stmts, NoStmt, ThenStmt, MaybeStmt, Without, With, MaybeTerm, Always, While_, Funcs, NoFunc, ThenFunc}
+use Rattle.clmodel.specs.Next.Expressions.{Run, finish, fail, ask, tick, Variables, Binding, variable, held, assign, leave, combined, test, Here, call_only, eval, eval_all, reach, fetch, put, step_operator, one}
+use Rattle.clmodel.specs.Tree.{Term, Number, Variable, Element, ElementAddress, Dereference, Call, Unary, Cast, Binary, Choice, Terms, array_length, Stmt, Empty, Block, Declare, DeclareAs, DeclareArray, Assign, Step, CallOnly, If, IfElse, While, DoWhile, For, Break, Continue, Return, ReturnValue, Stmts, NoStmt, ThenStmt, MaybeStmt, Without, With, MaybeTerm, Always, While_, Funcs, NoFunc, ThenFunc}
 use Rattle.clmodel.specs.declared.tree.VariableType.TheVariants as variable_type
 use Rattle.clmodel.specs.declared.tree.Parameter.{Parameter}
 use Rattle.clmodel.specs.declared.action.Action.TheVariants as action
 use Rattle.clmodel.specs.declared.action.Cause.TheVariants as cause
 use Rattle.clmodel.specs.declared.action.Fences.{Fences}
 use Rattle.clmodel.specs.declared.setup.BuiltIn.{BuiltIn}
+use Rattle.clmodel.specs.declared.access.Object.TheVariants as object
 use Rattle.clmodel.specs.declared.operand.Operand.{Operand}
+use Rattle.clmodel.specs.declared.operand.Operand.TheVariants.{Pointed}
+use Rattle.clmodel.specs.declared.tree.AddressSpace.TheVariants.{Local}
 
 -- What follows a statement, by the way that it ends: it is done, or it breaks a loop, continues one, or returns, with a value if it has one.
 pub record Follows : Type 0 where
@@ -115,6 +119,21 @@ abbrev pub wait : Option Fences → ℕ → List ℕ → Run → Run
 wait (Some named) site ts after = ask (action.Barrier (record { site = site; turns = ts }) named) (λ _. after)
 wait None site ts after = finish
 
+-- A pointer to the first element of the local array that is declared behind so many variables: its object has their number (6.5.2).
+abbrev pub local_array : IntType → (number : ℕ) → ℕ → Binding
+local_array element number name =
+    variable name (variable_type.Pointer (record { space = Local; is_const = false; element = element }))
+    (Some (Pointed (record { object = object.Local number; element = element; offset = pos 0 })))
+
+-- a private array of so many elements, none of which is set
+abbrev pub private_array : IntType → ℕ → ℕ → Binding
+private_array element count name = record { name = name; kind = variable_type.Integer element; content = None; elements = replicate count None }
+
+-- an array that is declared
+abbrev pub declared_array : (is_local : Bool) → IntType → ℕ → Integer → Variables → Binding
+declared_array true element name count variables = local_array element (length variables) name
+declared_array false element name count variables = private_array element (array_length count) name
+
 -- Execution with a bound on the turns of a loop, for an item, with the helpers that can be called and the barriers in each.
 module _ (most : ℕ) (here : Here) (helpers : Helpers) (inside : ℕ → ℕ) where
   -- the right side of an assignment: the call of a helper, or another expression
@@ -130,16 +149,16 @@ module _ (most : ℕ) (here : Here) (helpers : Helpers) (inside : ℕ → ℕ) w
   call_statement false None name arguments site ts variables after =
       eval_all here arguments variables (λ values. helpers name values site ts (λ _. after))
 
-  -- A statement whose first barrier has this number, inside loops that have made these turns. (Arrays have no meaning yet.)
+  -- A statement whose first barrier has this number, inside loops that have made these turns.
   abbrev mutual
     pub exec : Stmt → (site : ℕ) → (ts : List ℕ) → Follows → Variables → Run
     exec (Empty at) site ts k variables = k.next variables
     exec (Block at body) site ts k variables = exec_all body site ts (record k { next = leaving (length variables) k.next }) variables
-    exec (Declare at kind name_at name) site ts k variables = k.next (record { name = name; kind = kind; content = None } ∷ variables)
+    exec (Declare at kind name_at name) site ts k variables = k.next (variable name kind None ∷ variables)
     exec (DeclareAs at kind name_at name value) site ts k variables =
-        let unset : Variables = record { name = name; kind = kind; content = None } ∷ variables in
+        let unset : Variables = variable name kind None ∷ variables in
         assigned (helper_call value) value site ts unset (λ v. k.next (assign unset name v))
-    exec (DeclareArray at is_local element name_at name length_at count) site ts k variables = finish
+    exec (DeclareArray at is_local element name_at name length_at count) site ts k variables = k.next (declared_array is_local element name count variables ∷ variables)
     exec (Assign at place None value) site ts k variables =
         reach here place variables (λ to. assigned (helper_call value) value site ts variables (λ v. put to v variables k.next))
     exec (Assign at place (Some operator) value) site ts k variables =
@@ -192,8 +211,8 @@ module _ (most : ℕ) (here : Here) (helpers : Helpers) (inside : ℕ → ℕ) w
 -- Parameters are fresh variables, which hold the arguments, converted.
 abbrev pub passed : List Parameter → List Operand → Variables → Variables
 passed [] values variables = variables
-passed (p ∷ ps) [] variables = passed ps [] (record { name = p.name; kind = p.kind; content = None } ∷ variables)
-passed (p ∷ ps) (v ∷ values) variables = passed ps values (record { name = p.name; kind = p.kind; content = Some (held p.kind v) } ∷ variables)
+passed (p ∷ ps) [] variables = passed ps [] (variable p.name p.kind None ∷ variables)
+passed (p ∷ ps) (v ∷ values) variables = passed ps values (variable p.name p.kind (Some (held p.kind v)) ∷ variables)
 
 -- what a function of a type returns: a value is converted to it
 abbrev pub returned_as : Option IntType → Option Operand → Option Operand

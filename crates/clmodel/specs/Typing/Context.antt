@@ -7,15 +7,32 @@ use Rattle.clnum.specs.declared.int_type.IntType.{IntType}
 use Rattle.clnum.specs.declared.int_type.IntType.TheVariants.{Uint}
 use Rattle.clmodel.specs.Barrier.{is_barrier, local_fence, global_fence}
 use Rattle.clmodel.specs.BuiltIns.{built_in}
+use Rattle.clmodel.specs.declared.declaration.Declaration.{Declaration}
+pub use Rattle.clmodel.specs.declared.declaration.Declaration.TheVariants.{Single, LocalArray, PrivateArray}
 use Rattle.clmodel.specs.declared.setup.BuiltIn.{BuiltIn}
+use Rattle.clmodel.specs.declared.tree.AddressSpace.TheVariants.{Local}
 use Rattle.clmodel.specs.declared.tree.VariableType.{VariableType}
-use Rattle.clmodel.specs.declared.tree.VariableType.TheVariants.{Integer as Number}
+use Rattle.clmodel.specs.declared.tree.VariableType.TheVariants.{Integer as Number, Pointer}
 use Rattle.clmodel.specs.Tree as tree
 use Rattle.clmodel.specs.Tree.{Stmt, Stmts, NoStmt, ThenStmt, MaybeStmt, Without, With}
 
--- the variables of a scope with their types, in the order of their declarations
+-- The type of the value of what is declared. That of a local array is a pointer to its first element (C99 6.3.2.1, paragraph 3); a private array
+-- has none, since there are no pointers to private memory (own).
+abbrev pub value_type : Declaration → Option VariableType
+value_type (Single k) = Some k
+value_type (LocalArray t) = Some (Pointer (record { space = Local; is_const = false; element = t }))
+value_type (PrivateArray t) = None
+
+-- the type of the elements of what is declared, where it can stand in front of an index
+abbrev pub element_type : Declaration → Option IntType
+element_type (Single (Number t)) = None
+element_type (Single (Pointer p)) = Some p.element
+element_type (LocalArray t) = Some t
+element_type (PrivateArray t) = Some t
+
+-- what is declared in a scope, in the order of the text
 abbrev pub Scope : Type 0
-Scope = List (ℕ × VariableType)
+Scope = List (ℕ × Declaration)
 
 -- what a call of a function of the text has to know of it
 pub record Signature : Type 0 where
@@ -33,19 +50,19 @@ pub record Context : Type 0 where
   pub outer : List Scope  -- those around it, the innermost first
 
 pub data Meaning : Type 0 where
-  Bound : VariableType → Meaning
+  Bound : Declaration → Meaning
   Callable : Signature → Meaning  -- a function before this one
   Current : Signature → Meaning  -- the function itself
   BuiltInFunction : BuiltIn → Meaning
   Barrier : Meaning
   Unknown : Meaning
 
--- the type of a scope's variable of a name
-abbrev pub declared : Scope → ℕ → Option VariableType
+-- what a scope declares a name as
+abbrev pub declared : Scope → ℕ → Option Declaration
 declared scope x = lookup (nat_eq x) scope
 
--- the type of the variable of a name: that of the first of these scopes that has one
-abbrev pub variable : List Scope → ℕ → Option VariableType
+-- what the first of these scopes that declares a name declares it as
+abbrev pub variable : List Scope → ℕ → Option Declaration
 variable [] x = None
 variable (scope ∷ scopes) x = option_or (declared scope x) (variable scopes x)
 
@@ -66,15 +83,15 @@ called None None false = Unknown
 abbrev pub signature_of : List (ℕ × Signature) → ℕ → Option Signature
 signature_of functions x = lookup (nat_eq x) functions
 
-abbrev pub found : Option VariableType → Meaning → Meaning
+abbrev pub found : Option Declaration → Meaning → Meaning
 found None m = m
-found (Some kind) m = Bound kind
+found (Some d) m = Bound d
 
 -- A function of the text whose text has begun, or a built-in one. Functions that come later are unknown.
 abbrev pub function_meaning : Context → ℕ → Meaning
 function_meaning c x = if nat_eq x c.current then Current c.signature else called (signature_of c.before x) (built_in x) (is_barrier x)
 
--- a variable, or a function
+-- a variable or an array, or a function
 abbrev pub meaning : Context → ℕ → Meaning
 meaning c x = found (variable (c.inner ∷ c.outer) x) (function_meaning c x)
 
@@ -82,12 +99,12 @@ meaning c x = found (variable (c.inner ∷ c.outer) x) (function_meaning c x)
 abbrev pub is_reserved : ℕ → Bool
 is_reserved x = nat_lt x 26
 
--- whether a variable of this name may be declared: an outer scope's is hidden by it
+-- whether a variable or an array of this name may be declared: an outer scope's is hidden by it
 abbrev pub is_free : Context → ℕ → Bool
 is_free c x = not (is_reserved x) && not (is_some (declared c.inner x)) && not (among x c.all)
 
-abbrev pub bind : Context → ℕ → VariableType → Context
-bind c x kind = record c { inner = c.inner ++ (x, kind) ∷ [] }
+abbrev pub bind : Context → ℕ → Declaration → Context
+bind c x d = record c { inner = c.inner ++ (x, d) ∷ [] }
 
 -- a new scope inside
 abbrev pub enter : Context → Context
@@ -95,16 +112,29 @@ enter c = record c { inner = []; outer = c.inner ∷ c.outer }
 
 -- the arguments of a barrier, in which the names of the fences stand for numbers (6.12.8)
 abbrev pub fenced : Context → Context
-fenced c = bind (bind (enter c) local_fence (Number Uint)) global_fence (Number Uint)
+fenced c = bind (bind (enter c) local_fence (Single (Number Uint))) global_fence (Single (Number Uint))
+
+abbrev pub is_empty : List Scope → Bool
+is_empty [] = true
+is_empty (scope ∷ scopes) = false
+
+-- whether this is the outermost block of a kernel
+abbrev pub is_outermost : Context → Bool
+is_outermost c = c.signature.is_kernel && is_empty c.outer
 
 -- the body of a loop: a block (C99 6.8.5, paragraph 5), in which `break` and `continue` may stand
 abbrev pub turning : Context → Context
 turning c = record c { in_loop = true; inner = []; outer = c.inner ∷ c.outer }
 
+abbrev pub array : (is_local : Bool) → IntType → Declaration
+array true t = LocalArray t
+array false t = PrivateArray t
+
 -- What follows a statement sees what it declares.
 abbrev pub after : Context → Stmt → Context
-after c (tree.Declare a kind b x) = bind c x kind
-after c (tree.DeclareAs a kind b x e) = bind c x kind
+after c (tree.Declare a kind b x) = bind c x (Single kind)
+after c (tree.DeclareAs a kind b x e) = bind c x (Single kind)
+after c (tree.DeclareArray a is_local t b x d n) = bind c x (array is_local t)
 after c _ = c
 
 abbrev pub after_all : Context → Stmts → Context

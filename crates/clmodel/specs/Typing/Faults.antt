@@ -1,6 +1,7 @@
 -- The faults of a tree: for each place the list of its faults, in no order, and the places in the order of the text, children before parents.
-use Rattle.std.specs.Prelude.{ℕ, Bool, true, false, not, ◌||◌, ◌&&◌, nat_eq, List, [], ◌∷◌, ◌++◌, map, Option, None, Some, is_some, length}
+use Rattle.std.specs.Prelude.{ℕ, Bool, true, false, not, ◌||◌, ◌&&◌, nat_eq, nat_le, List, [], ◌∷◌, ◌++◌, map, Option, None, Some, is_some, length}
 use Rattle.std.specs.List.{slice_get}
+use Rattle.clnum.specs.Integer.{Integer}
 use Rattle.clnum.specs.Builtins.{is_same}
 use Rattle.clnum.specs.Conversions.{common, unsigned_of}
 use Rattle.clnum.specs.Operations.{unary_kind, binary_kind}
@@ -23,10 +24,10 @@ use Rattle.clmodel.specs.declared.tree.VariableType.TheVariants.{Integer as Numb
 use Rattle.clmodel.specs.declared.type_fault.TypeFault.{TypeFault}
 use Rattle.clmodel.specs.declared.type_fault.TypeFault.TheVariants as fault
 use Rattle.clmodel.specs.Tree as tree
-use Rattle.clmodel.specs.Tree.{Term, Terms, NoTerm, ThenTerm, Place, Stmt, Stmts, NoStmt, ThenStmt, MaybeStmt, Without, With, MaybeTerm, Always, While_}
-use Rattle.clmodel.specs.Typing.Context.{Context, Signature, Meaning, meaning, Bound, Callable, Current, BuiltInFunction, Barrier, Unknown, is_free, bind, enter, fenced, turning, for_context, after_all}
+use Rattle.clmodel.specs.Tree.{Term, Terms, NoTerm, ThenTerm, array_length, Place, Stmt, Stmts, NoStmt, ThenStmt, MaybeStmt, Without, With, MaybeTerm, Always, While_}
+use Rattle.clmodel.specs.Typing.Context.{Context, Signature, Single, LocalArray, PrivateArray, value_type, element_type, is_outermost, Meaning, meaning, Bound, Callable, Current, BuiltInFunction, Barrier, Unknown, is_free, bind, enter, fenced, turning, for_context, after_all}
 use Rattle.clmodel.specs.Typing.Least.{Places, node}
-use Rattle.clmodel.specs.Typing.Rules.{is_constant, is_writable, is_atomic, has_operand, count}
+use Rattle.clmodel.specs.Typing.Rules.{is_constant, is_writable, is_stored, length_limit, is_atomic, has_operand, count}
 
 abbrev pub unless : Bool → TypeFault → List TypeFault
 unless true f = []
@@ -76,9 +77,9 @@ passing_faults (Pointer p) (Pointer q) a =
     ++ unless (p.is_const || not q.is_const) (fault.NotAssignable a)
     ++ unless (is_same_space p.space q.space) (fault.WrongSpace a)
 
--- a name as a value, or assigned to
+-- a name as a value
 abbrev pub name_faults : Meaning → ℕ → List TypeFault
-name_faults (Bound k) a = []
+name_faults (Bound d) a = unless (is_some (value_type d)) (fault.WrongSpace a)
 name_faults (Callable s) a = fault.TypeMismatch a ∷ []
 name_faults (Current s) a = fault.TypeMismatch a ∷ []
 name_faults (BuiltInFunction f) a = fault.TypeMismatch a ∷ []
@@ -87,8 +88,19 @@ name_faults Unknown a = fault.UnknownName a ∷ []
 
 -- a name in front of an index
 abbrev pub front_faults : Meaning → ℕ → List TypeFault
-front_faults (Bound k) a = pointer_faults k a
+front_faults (Bound d) a = unless (is_some (element_type d)) (fault.TypeMismatch a)
 front_faults m a = name_faults m a
+
+-- a name in front of an index, of whose element the address is taken: where the address and the name begin
+abbrev pub address_faults : Meaning → (at name : ℕ) → List TypeFault
+address_faults (Bound (PrivateArray t)) a b = fault.WrongSpace a ∷ []
+address_faults m a b = front_faults m b
+
+-- a name that is assigned to
+abbrev pub whole_faults : Meaning → ℕ → List TypeFault
+whole_faults (Bound (LocalArray t)) a = fault.NotAssignable a ∷ []
+whole_faults (Bound (PrivateArray t)) a = fault.NotAssignable a ∷ []
+whole_faults m a = name_faults m a
 
 -- operators that move the pointer on their left, and that one that moves a pointer on its right
 abbrev pub moves : BinaryOperator → Bool
@@ -172,7 +184,7 @@ callee_faults spot (BuiltInFunction f) a n =
 callee_faults spot Barrier a n = unless (is_statement spot) (fault.TypeMismatch a) ++ unless (nat_eq n 1) (fault.WrongArgumentCount a)
 callee_faults spot (Callable s) a n = helper_faults spot s a n
 callee_faults spot (Current s) a n = helper_faults spot s a n ++ fault.Recursion a ∷ []
-callee_faults spot (Bound k) a n = fault.TypeMismatch a ∷ []
+callee_faults spot (Bound d) a n = fault.TypeMismatch a ∷ []
 callee_faults spot Unknown a n = fault.UnknownName a ∷ []
 
 -- what arguments it wants
@@ -203,9 +215,22 @@ argument_faults (Some AnAtomicPointer) j k a = atomic_faults k a
 argument_faults (Some (ForParameter p)) j k a = passing_faults p k a
 
 -- The type of an expression, if it has no faults.
+abbrev pub type_or_int : Option VariableType → VariableType
+type_or_int (Some k) = k
+type_or_int None = Number Int
+
 abbrev pub name_kind : Meaning → VariableType
-name_kind (Bound k) = k
+name_kind (Bound d) = type_or_int (value_type d)
 name_kind _ = Number Int
+
+abbrev pub number_or_int : Option IntType → VariableType
+number_or_int (Some t) = Number t
+number_or_int None = Number Int
+
+-- of an element behind a name
+abbrev pub front_kind : Meaning → VariableType
+front_kind (Bound d) = number_or_int (element_type d)
+front_kind _ = Number Int
 
 -- the type of what a value of this type points to
 abbrev pub element_kind : VariableType → VariableType
@@ -255,7 +280,7 @@ abbrev mutual
   pub kind_of : Context → Term → VariableType
   kind_of c (tree.Number a v) = Number v.kind
   kind_of c (tree.Variable a x) = name_kind (meaning c x)
-  kind_of c (tree.Element a x e) = element_kind (name_kind (meaning c x))
+  kind_of c (tree.Element a x e) = front_kind (meaning c x)
   kind_of c (tree.ElementAddress a b x e) = name_kind (meaning c x)
   kind_of c (tree.Dereference a e) = element_kind (kind_of c e)
   kind_of c (tree.Call a x es) = call_kind (meaning c x) (last_kind c es)
@@ -298,7 +323,7 @@ abbrev mutual
   term_faults c (tree.Number a v) = [] ∷ []
   term_faults c (tree.Variable a x) = name_faults (meaning c x) a ∷ []
   term_faults c (tree.Element a x e) = node (term_faults c e) (front_faults (meaning c x) a ++ integer_faults (kind_of c e) (start e))
-  term_faults c (tree.ElementAddress a b x e) = node (term_faults c e) (front_faults (meaning c x) b ++ integer_faults (kind_of c e) (start e))
+  term_faults c (tree.ElementAddress a b x e) = node (term_faults c e) (address_faults (meaning c x) a b ++ integer_faults (kind_of c e) (start e))
   term_faults c (tree.Dereference a e) = node (term_faults c e) (pointer_faults (kind_of c e) (start e))
   term_faults c (tree.Call a x es) = node (terms_faults (inside_call (meaning c x) c) es) (call_faults c Inside (meaning c x) a es)
   term_faults c (tree.Unary a op e) = node (term_faults c e) (integer_faults (kind_of c e) (start e))
@@ -319,19 +344,23 @@ store_faults (Number t) a = []
 store_faults (Pointer p) a = unless (is_writable p) (fault.NotAssignable a)
 
 -- a name in front of the index of what is assigned to
+abbrev pub stored_faults : Meaning → ℕ → List TypeFault
+stored_faults (Bound d) a = unless (is_stored d) (fault.NotAssignable a)
+stored_faults _ a = []
+
 abbrev pub target_faults : Meaning → ℕ → List TypeFault
-target_faults m a = front_faults m a ++ store_faults (name_kind m) a
+target_faults m a = front_faults m a ++ stored_faults m a
 
 -- What is assigned to: its parts, then itself.
 abbrev pub place_faults : Context → Place → Places
-place_faults c (tree.Whole a x) = name_faults (meaning c x) a ∷ []
+place_faults c (tree.Whole a x) = whole_faults (meaning c x) a ∷ []
 place_faults c (tree.Part a x e) = node (term_faults c e) (target_faults (meaning c x) a ++ integer_faults (kind_of c e) (start e))
 place_faults c (tree.Behind a e) = node (term_faults c e) (pointer_faults (kind_of c e) (start e) ++ store_faults (kind_of c e) a)
 
 -- its type, if it has no faults
 abbrev pub place_kind : Context → Place → VariableType
 place_kind c (tree.Whole a x) = name_kind (meaning c x)
-place_kind c (tree.Part a x e) = element_kind (name_kind (meaning c x))
+place_kind c (tree.Part a x e) = front_kind (meaning c x)
 place_kind c (tree.Behind a e) = element_kind (kind_of c e)
 
 -- What is assigned, or initialises a variable. A helper may be called here.
@@ -350,6 +379,13 @@ void_faults c e = []
 
 abbrev pub declared_faults : Context → (at name : ℕ) → List TypeFault
 declared_faults c b x = unless (is_free c x) (fault.Redeclared b)
+
+-- an array: its name, where it is local the block that it stands in, and how many elements it has
+abbrev pub array_faults : Context → (is_local : Bool) → (at name length_at : ℕ) → Integer → List TypeFault
+array_faults c is_local b x d n =
+    declared_faults c b x
+    ++ unless (not is_local || is_outermost c) (fault.WrongSpace b)
+    ++ unless (nat_le 1 (array_length n) && nat_le (array_length n) length_limit) (fault.TooLarge d)
 
 -- an initialiser
 abbrev pub initial_faults : Context → VariableType → Term → Places
@@ -381,8 +417,8 @@ abbrev mutual
   faults c (tree.Empty a) = []
   faults c (tree.Block a ss) = row_faults (enter c) ss
   faults c (tree.Declare a k b x) = declared_faults c b x ∷ []
-  faults c (tree.DeclareAs a k b x e) = declared_faults c b x ∷ initial_faults (bind c x k) k e
-  faults c (tree.DeclareArray a is_local t b x d n) = (fault.TypeMismatch a ∷ []) ∷ []
+  faults c (tree.DeclareAs a k b x e) = declared_faults c b x ∷ initial_faults (bind c x (Single k)) k e
+  faults c (tree.DeclareArray a is_local t b x d n) = array_faults c is_local b x d n ∷ []
   faults c (tree.Assign a p op e) = node (place_faults c p ++ value_faults c e) (assignment_faults c p op e)
   faults c (tree.Step a p is_increment) = place_faults c p
   faults c (tree.CallOnly a x es) = node (terms_faults (inside_call (meaning c x) c) es) (call_faults c WholeStatement (meaning c x) a es)

@@ -4,11 +4,11 @@ use Rattle.clmodel.specs.declared.tree.Parameter.{Parameter}
 use Rattle.clmodel.specs.declared.type_fault.TypeFault.{TypeFault}
 use Rattle.clmodel.specs.declared.type_fault.TypeFault.TheVariants as fault
 use Rattle.clmodel.specs.Tree.{Func, Funcs, NoFunc, ThenFunc, Program}
-use Rattle.clmodel.specs.Typing.Context.{Context, Signature, signature_of, with_name, is_reserved, is_free, bind}
+use Rattle.clmodel.specs.Typing.Context.{Context, Signature, Single, signature_of, with_name, is_reserved, is_free, bind}
 use Rattle.clmodel.specs.Typing.Least.{Places}
 use Rattle.clmodel.specs.Typing.Rules.{AreTyped}
 use Rattle.clmodel.specs.Typing.Faults.{unless, declared_faults, row_faults}
-use Rattle.clmodel.specs.Typing.Sizes.{Size, row_size, sizes_of, loop_limit, node_limit, row_returns}
+use Rattle.clmodel.specs.Typing.Sizes.{Size, row_size, sizes_of, loop_limit, byte_limit, node_limit, row_returns}
 
 -- names of functions, each once, in the order of the text
 abbrev pub names : Funcs → List ℕ
@@ -29,12 +29,12 @@ begin all fs f = record { all = all; before = signatures fs; current = f.name; s
 
 abbrev pub with_params : Context → List Parameter → Context
 with_params c [] = c
-with_params c (p ∷ ps) = with_params (bind c p.name p.kind) ps
+with_params c (p ∷ ps) = with_params (bind c p.name (Single p.kind)) ps
 
 -- each parameter has a name that is free
 abbrev pub AreParams : Context → List Parameter → Type 0
 AreParams c [] = Unit {0}
-AreParams c (p ∷ ps) = (is_free c p.name ≡ true) × AreParams (bind c p.name p.kind) ps
+AreParams c (p ∷ ps) = (is_free c p.name ≡ true) × AreParams (bind c p.name (Single p.kind)) ps
 
 -- a name for a function, with these before it
 abbrev pub is_new : Funcs → ℕ → Bool
@@ -51,6 +51,7 @@ pub record IsTypedFunction (all : List ℕ) (fs : Funcs) (f : Func) : Type 0 whe
   pub body : AreTyped (with_params (begin all fs f) f.parameters) f.body
   pub returns : is_some f.result ≡ true → row_returns f.body ≡ true
   pub loops : f.is_kernel ≡ true → (size_of fs f).loops ≤ loop_limit
+  pub bytes : f.is_kernel ≡ true → (size_of fs f).bytes ≤ byte_limit
   pub nodes : f.is_kernel ≡ true → (size_of fs f).nodes ≤ node_limit
 
 abbrev pub AreTypedFunctions : List ℕ → Funcs → Type 0
@@ -59,16 +60,17 @@ AreTypedFunctions all (ThenFunc fs f) = AreTypedFunctions all fs × IsTypedFunct
 
 abbrev pub params_faults : Context → List Parameter → Places
 params_faults c [] = []
-params_faults c (p ∷ ps) = declared_faults c p.name_at p.name ∷ params_faults (bind c p.name p.kind) ps
+params_faults c (p ∷ ps) = declared_faults c p.name_at p.name ∷ params_faults (bind c p.name (Single p.kind)) ps
 
 abbrev pub heading_faults : Funcs → Func → List TypeFault
 heading_faults fs f = unless (is_new fs f.name) (fault.Redeclared f.name_at)
 
--- Behind the body, at the function's name: a value that isn't always given, then for a kernel its loops, then its nodes.
+-- Behind the body, at the function's name: a value that isn't always given, then for a kernel its loops, its private arrays, then its nodes.
 abbrev pub end_faults : Func → Size → Places
 end_faults f s =
     unless (not (is_some f.result) || row_returns f.body) (fault.MissingReturn f.name_at)
     ∷ unless (not f.is_kernel || nat_le s.loops loop_limit) (fault.TooManyLoops f.name_at)
+    ∷ unless (not f.is_kernel || nat_le s.bytes byte_limit) (fault.TooLarge f.name_at)
     ∷ unless (not f.is_kernel || nat_le s.nodes node_limit) (fault.TooLarge f.name_at)
     ∷ []
 

@@ -1,5 +1,5 @@
 -- The rules of types (OpenCL 1.2, 6.1 to 6.12; C99 6.5, 6.7 and 6.8).
-use Rattle.std.specs.Prelude.{◌≡◌, ℕ, suc, Bool, true, false, not, ◌&&◌, List, [], ◌∷◌, ◌++◌, length, Option, None, Some}
+use Rattle.std.specs.Prelude.{◌≡◌, ℕ, suc, ◌≤◌, Bool, true, false, not, ◌&&◌, List, [], ◌∷◌, ◌++◌, length, Option, None, Some}
 use Rattle.std.specs.List.{slice_get}
 use Rattle.clnum.specs.Integer.{Integer}
 use Rattle.clnum.specs.Conversions.{common, unsigned_of}
@@ -12,6 +12,7 @@ use Rattle.clnum.specs.declared.operators.UnaryOperator.{UnaryOperator}
 use Rattle.clnum.specs.declared.operators.Builtin.TheVariants as integer
 use Rattle.clmodel.specs.Barrier.{fences}
 use Rattle.clmodel.specs.declared.action.Fences.{Fences}
+use Rattle.clmodel.specs.declared.declaration.Declaration.{Declaration}
 use Rattle.clmodel.specs.declared.setup.AtomicFunction.{AtomicFunction}
 use Rattle.clmodel.specs.declared.setup.AtomicFunction.TheVariants.{Inc, Dec}
 use Rattle.clmodel.specs.declared.setup.BuiltIn.{BuiltIn}
@@ -25,8 +26,8 @@ use Rattle.clmodel.specs.declared.tree.PointerType.{PointerType}
 use Rattle.clmodel.specs.declared.tree.VariableType.{VariableType}
 use Rattle.clmodel.specs.declared.tree.VariableType.TheVariants.{Integer as Number, Pointer}
 use Rattle.clmodel.specs.Tree as tree
-use Rattle.clmodel.specs.Tree.{Term, Terms, NoTerm, ThenTerm, Place, Stmt, Stmts, NoStmt, ThenStmt, MaybeStmt, Without, With, MaybeTerm, Always, While_}
-use Rattle.clmodel.specs.Typing.Context.{Context, Signature, meaning, Bound, Callable, BuiltInFunction, Barrier, is_free, bind, enter, turning, for_context, after_all}
+use Rattle.clmodel.specs.Tree.{Term, Terms, NoTerm, ThenTerm, array_length, Place, Stmt, Stmts, NoStmt, ThenStmt, MaybeStmt, Without, With, MaybeTerm, Always, While_}
+use Rattle.clmodel.specs.Typing.Context.{Context, Signature, Single, LocalArray, PrivateArray, value_type, element_type, is_outermost, meaning, Bound, Callable, BuiltInFunction, Barrier, is_free, bind, enter, turning, for_context, after_all}
 
 abbrev pub is_constant : AddressSpace → Bool
 is_constant Global = false
@@ -36,6 +37,17 @@ is_constant Constant = true
 -- whether what a pointer of this type points to can be stored to (6.5.3, 6.8.f)
 abbrev pub is_writable : PointerType → Bool
 is_writable p = not p.is_const && not (is_constant p.space)
+
+-- whether the elements of what is declared can be stored to
+abbrev pub is_stored : Declaration → Bool
+is_stored (Single (Number t)) = true
+is_stored (Single (Pointer p)) = is_writable p
+is_stored (LocalArray t) = true
+is_stored (PrivateArray t) = true
+
+-- how many elements an array may have (own)
+abbrev pub length_limit : ℕ
+length_limit = 32768
 
 -- whether atomic functions work on this type
 abbrev pub is_atomic : IntType → Bool
@@ -82,11 +94,11 @@ mutual
   -- An expression and its type.
   pub data Types (c : Context) : Term → VariableType → Type 0 where
     number : {a : ℕ} {v : Integer} → Types c (tree.Number a v) (Number v.kind)
-    variable : {a x : ℕ} {k : VariableType} → meaning c x ≡ Bound k → Types c (tree.Variable a x) k
-    element : {a x : ℕ} {p : PointerType} {u : IntType} {e : Term}
-        → meaning c x ≡ Bound (Pointer p) → Types c e (Number u) → Types c (tree.Element a x e) (Number p.element)
-    address : {a b x : ℕ} {p : PointerType} {u : IntType} {e : Term}
-        → meaning c x ≡ Bound (Pointer p) → Types c e (Number u) → Types c (tree.ElementAddress a b x e) (Pointer p)
+    variable : {a x : ℕ} {d : Declaration} {k : VariableType} → meaning c x ≡ Bound d → value_type d ≡ Some k → Types c (tree.Variable a x) k
+    element : {a x : ℕ} {d : Declaration} {t u : IntType} {e : Term}
+        → meaning c x ≡ Bound d → element_type d ≡ Some t → Types c e (Number u) → Types c (tree.Element a x e) (Number t)
+    address : {a b x : ℕ} {d : Declaration} {p : PointerType} {u : IntType} {e : Term}
+        → meaning c x ≡ Bound d → value_type d ≡ Some (Pointer p) → Types c e (Number u) → Types c (tree.ElementAddress a b x e) (Pointer p)
     dereference : {a : ℕ} {p : PointerType} {e : Term} → Types c e (Pointer p) → Types c (tree.Dereference a e) (Number p.element)
     call : {a x : ℕ} {f : BuiltIn} {es : Terms} {ks : List VariableType} {k : VariableType}
         → meaning c x ≡ BuiltInFunction f → TypesAll c es ks → Calls f ks (Some k) → Types c (tree.Call a x es) k
@@ -105,9 +117,9 @@ mutual
 
 -- What can be assigned to, and its type.
 pub data TypesPlace (c : Context) : Place → VariableType → Type 0 where
-  whole : {a x : ℕ} {k : VariableType} → meaning c x ≡ Bound k → TypesPlace c (tree.Whole a x) k
-  part : {a x : ℕ} {p : PointerType} {u : IntType} {e : Term}
-      → meaning c x ≡ Bound (Pointer p) → is_writable p ≡ true → Types c e (Number u) → TypesPlace c (tree.Part a x e) (Number p.element)
+  whole : {a x : ℕ} {k : VariableType} → meaning c x ≡ Bound (Single k) → TypesPlace c (tree.Whole a x) k
+  part : {a x : ℕ} {d : Declaration} {t u : IntType} {e : Term}
+      → meaning c x ≡ Bound d → element_type d ≡ Some t → is_stored d ≡ true → Types c e (Number u) → TypesPlace c (tree.Part a x e) (Number t)
   behind : {a : ℕ} {p : PointerType} {e : Term} → is_writable p ≡ true → Types c e (Pointer p) → TypesPlace c (tree.Behind a e) (Number p.element)
 
 abbrev pub count : Terms → ℕ
@@ -144,7 +156,11 @@ mutual
     block : {c : Context} {a : ℕ} {ss : Stmts} → AreTyped (enter c) ss → IsTyped c (tree.Block a ss)
     declare : {c : Context} {a b x : ℕ} {k : VariableType} → is_free c x ≡ true → IsTyped c (tree.Declare a k b x)
     declare_as : {c : Context} {a b x : ℕ} {k j : VariableType} {e : Term}
-        → is_free c x ≡ true → Gives (bind c x k) e j → Passes k j → IsTyped c (tree.DeclareAs a k b x e)
+        → is_free c x ≡ true → Gives (bind c x (Single k)) e j → Passes k j → IsTyped c (tree.DeclareAs a k b x e)
+    -- A local array is declared in the outermost block of a kernel alone (6.8).
+    declare_array : {c : Context} {a b x d : ℕ} {is_local : Bool} {t : IntType} {n : Integer}
+        → is_free c x ≡ true → (is_local ≡ true → is_outermost c ≡ true) → 1 ≤ array_length n → array_length n ≤ length_limit
+        → IsTyped c (tree.DeclareArray a is_local t b x d n)
     assign : {c : Context} {a : ℕ} {p : Place} {e : Term} {k j : VariableType}
         → TypesPlace c p k → Gives c e j → Passes k j → IsTyped c (tree.Assign a p None e)
     -- as the operator's value assigned (C99 6.5.16.2)

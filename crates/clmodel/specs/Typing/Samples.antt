@@ -1,5 +1,5 @@
--- Statements in a kernel with barriers and with pointers to each address space, each with its first fault; the offsets count from the
--- statement's start. Names: 8 `min`, 14 `barrier`, 22 `atomic_inc`, 24 and 25 the fences, 26 the kernel, 27 `a`, 28 `s`, 29 `t`, 30 `u`, 31 `n`.
+-- Statements in a kernel with barriers, with pointers to each address space and with arrays, each with its first fault; the offsets count from the
+-- statement's start. Names: 8 `min`, 14 `barrier`, 22 `atomic_inc`, 24 and 25 the fences, 26 the kernel, 27 `a`, 28 `s`, 29 `t`, 30 `u`, 31 `n`, 32 `p`, 33 `q`.
 use Rattle.std.specs.Prelude.{◌≡◌, ℕ, pos, Bool, true, false, List, [], ◌∷◌, map, Option, None, Some}
 use Rattle.clnum.specs.declared.int_type.IntType.TheVariants.{Int}
 use Rattle.clnum.specs.declared.operators.BinaryOperator.{BinaryOperator}
@@ -10,16 +10,16 @@ use Rattle.clmodel.specs.declared.tree.InfixOperator.TheVariants.{Arithmetic}
 use Rattle.clmodel.specs.declared.tree.VariableType.{VariableType}
 use Rattle.clmodel.specs.declared.tree.VariableType.TheVariants as kind
 use Rattle.clmodel.specs.declared.type_fault.TypeFault.{TypeFault}
-use Rattle.clmodel.specs.declared.type_fault.TypeFault.TheVariants.{UnknownName, TypeMismatch, NotAssignable, WrongArgumentCount, WrongSpace, BadBarrierFlags}
-use Rattle.clmodel.specs.Tree.{Term, Number, Variable, ElementAddress, Call, Binary, NoTerm, then_all, Whole, Part, Stmt, Assign, CallOnly}
-use Rattle.clmodel.specs.Typing.Context.{Context}
+use Rattle.clmodel.specs.declared.type_fault.TypeFault.TheVariants.{UnknownName, Redeclared, TypeMismatch, NotAssignable, WrongArgumentCount, WrongSpace, BadBarrierFlags, TooLarge}
+use Rattle.clmodel.specs.Tree.{Term, Number, Variable, Element, ElementAddress, Dereference, Call, Binary, NoTerm, then_all, Whole, Part, Stmt, Block, DeclareArray, Assign, Step, CallOnly, NoStmt, then_stmts}
+use Rattle.clmodel.specs.Typing.Context.{Context, Single, LocalArray, PrivateArray}
 use Rattle.clmodel.specs.Typing.Least.{first}
 use Rattle.clmodel.specs.Typing.Faults.{faults}
 
 abbrev pointer : AddressSpace → Bool → VariableType
 pointer space is_const = kind.Pointer (record { space = space; is_const = is_const; element = Int })
 
--- `__kernel void f(__global int *a, __local int *s, __constant int *t, __constant const int *u, int n)`
+-- in `__kernel void f(__global int *a, __local int *s, __constant int *t, __constant const int *u, int n)`, behind `int p[4]; __local int q[4];`
 abbrev here : Context
 here = record {
   all = 26 ∷ [];
@@ -27,7 +27,15 @@ here = record {
   current = 26;
   signature = record { is_kernel = true; result = None; parameters = [] };
   in_loop = false;
-  inner = (27, pointer Global false) ∷ (28, pointer Local false) ∷ (29, pointer Constant false) ∷ (30, pointer Constant true) ∷ (31, kind.Integer Int) ∷ [];
+  inner =
+      (27, Single (pointer Global false))
+      ∷ (28, Single (pointer Local false))
+      ∷ (29, Single (pointer Constant false))
+      ∷ (30, Single (pointer Constant true))
+      ∷ (31, Single (kind.Integer Int))
+      ∷ (32, PrivateArray Int)
+      ∷ (33, LocalArray Int)
+      ∷ [];
   outer = [];
 }
 
@@ -49,6 +57,10 @@ barrier es = CallOnly 0 14 (then_all NoTerm es)
 
 abbrev increment : Term → Stmt
 increment e = CallOnly 0 22 (then_all NoTerm (e ∷ []))
+
+-- `int x[n];` and `__local int x[n];`
+abbrev array : Bool → (name_at name length_at : ℕ) → ℕ → Stmt
+array is_local b x d n = DeclareArray 0 is_local Int b x d (record { kind = Int; number = pos n })
 
 -- `n = e;` and `s = e;`
 abbrev set : ℕ → Term → Stmt
@@ -100,6 +112,40 @@ samples =
     ∷ (increment (Variable 11 29), Some (WrongSpace 11))
     -- atomic_inc(&u[1]);
     ∷ (increment (ElementAddress 11 12 30 (one 14)), Some (NotAssignable 11))
+    -- n = p[1];
+    ∷ (set 31 (Element 4 32 (one 6)), None)
+    -- p[1] = 1;
+    ∷ (Assign 0 (Part 0 32 (one 2)) None (one 7), None)
+    -- n = p;
+    ∷ (set 31 (Variable 4 32), Some (WrongSpace 4))
+    -- n = *p;
+    ∷ (set 31 (Dereference 4 (Variable 5 32)), Some (WrongSpace 5))
+    -- s = &p[1];
+    ∷ (set 28 (ElementAddress 4 5 32 (one 7)), Some (WrongSpace 4))
+    -- p = 1;
+    ∷ (set 32 (one 4), Some (NotAssignable 0))
+    -- p++;
+    ∷ (Step 0 (Whole 0 32) true, Some (NotAssignable 0))
+    -- p();
+    ∷ (CallOnly 0 32 NoTerm, Some (TypeMismatch 0))
+    -- s = q;
+    ∷ (set 28 (Variable 4 33), None)
+    -- s = &q[1];
+    ∷ (set 28 (ElementAddress 4 5 33 (one 7)), None)
+    -- q = s;
+    ∷ (set 33 (Variable 4 28), Some (NotAssignable 0))
+    -- int y[32768];
+    ∷ (array false 4 40 6 32768, None)
+    -- int y[32769];
+    ∷ (array false 4 40 6 32769, Some (TooLarge 6))
+    -- int y[0];
+    ∷ (array false 4 40 6 0, Some (TooLarge 6))
+    -- int p[0];
+    ∷ (array false 4 32 6 0, Some (Redeclared 4))
+    -- __local int y[4];
+    ∷ (array true 12 40 14 4, None)
+    -- { __local int y[0]; }
+    ∷ (Block 0 (then_stmts NoStmt (array true 14 40 16 0 ∷ [])), Some (WrongSpace 14))
     ∷ []
 
 abbrev pub AreSampled : Type 0

@@ -1,32 +1,38 @@
--- What a body holds, with the bodies of the functions that it calls in place of their calls (own): how deep its loops are nested, and how
--- many nodes it has: statements, declarations, what is assigned to, and expressions. A call that is a statement is one node.
+-- What a body holds, with the bodies of the functions that it calls in place of their calls (own): how deep its loops are nested, how many
+-- bytes its private arrays have, and how many nodes it has: statements, declarations, what is assigned to, and expressions. A call that is a statement is one node.
 use Rattle.std.specs.Prelude.{ℕ, suc, ◌+◌, max, Bool, true, false, ◌||◌, ◌&&◌, nat_eq, List, [], ◌∷◌, ◌++◌, Option, None, Some}
 use Rattle.std.specs.Map.{lookup}
 use Rattle.clmodel.specs.Tree as tree
-use Rattle.clmodel.specs.Tree.{Term, Terms, NoTerm, ThenTerm, Place, Stmt, Stmts, NoStmt, ThenStmt, MaybeStmt, Without, With, MaybeTerm, Always, While_, Func, Funcs, NoFunc, ThenFunc}
+use Rattle.clmodel.specs.Tree.{Term, Terms, NoTerm, ThenTerm, array_bytes, Place, Stmt, Stmts, NoStmt, ThenStmt, MaybeStmt, Without, With, MaybeTerm, Always, While_, Func, Funcs, NoFunc, ThenFunc}
 
 pub record Size : Type 0 where
   pub loops : ℕ
+  pub bytes : ℕ
   pub nodes : ℕ
 
 abbrev pub nothing : Size
-nothing = record { loops = 0; nodes = 0 }
+nothing = record { loops = 0; bytes = 0; nodes = 0 }
 
 -- one beside the other
 abbrev pub beside : Size → Size → Size
-beside s t = record { loops = max s.loops t.loops; nodes = s.nodes + t.nodes }
+beside s t = record { loops = max s.loops t.loops; bytes = s.bytes + t.bytes; nodes = s.nodes + t.nodes }
 
 -- a node round what it holds
 abbrev pub one_node : Size → Size
-one_node s = record { loops = s.loops; nodes = suc s.nodes }
+one_node s = record s { nodes = suc s.nodes }
 
 -- a loop round what it holds
 abbrev pub one_loop : Size → Size
-one_loop s = record { loops = suc s.loops; nodes = suc s.nodes }
+one_loop s = record s { loops = suc s.loops; nodes = suc s.nodes }
 
 -- a single node
 abbrev pub leaf : Size
 leaf = one_node nothing
+
+-- an array: if it is private, with its bytes
+abbrev pub array_size : (is_local : Bool) → ℕ → Size
+array_size true bytes = leaf
+array_size false bytes = record leaf { bytes = bytes }
 
 -- Sizes of the bodies of functions, by the functions' names.
 abbrev pub Sizes : Type 0
@@ -74,7 +80,7 @@ module _ (sizes : Sizes) where
     size (tree.Block a ss) = one_node (row_size ss)
     size (tree.Declare a k b x) = leaf
     size (tree.DeclareAs a k b x e) = one_node (term_size e)
-    size (tree.DeclareArray a is_local t b x d n) = leaf
+    size (tree.DeclareArray a is_local t b x d n) = array_size is_local (array_bytes t n)
     size (tree.Assign a p op e) = one_node (beside (place_size p) (term_size e))
     size (tree.Step a p is_increment) = one_node (place_size p)
     size (tree.CallOnly a x es) = one_node (beside (terms_size es) (size_in sizes x))
@@ -106,6 +112,10 @@ sizes_of (ThenFunc fs f) = sizes_of fs ++ (f.name, row_size (sizes_of fs) f.body
 -- how deep the loops of a kernel may be nested
 abbrev pub loop_limit : ℕ
 loop_limit = 8
+
+-- how many bytes the private arrays of a kernel may have
+abbrev pub byte_limit : ℕ
+byte_limit = 4096
 
 -- how many nodes the body of a kernel may have
 abbrev pub node_limit : ℕ

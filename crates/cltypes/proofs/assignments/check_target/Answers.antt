@@ -3,7 +3,7 @@ use Rattle.clmodel.specs.Tree as tree
 use Rattle.clmodel.specs.Tree.{term, place}
 use Rattle.clmodel.specs.Typing.Context.{meaning}
 use Rattle.clmodel.specs.Typing.Least.{least}
-use Rattle.clmodel.specs.Typing.Faults.{target_faults, integer_faults, pointer_faults, store_faults, term_faults, name_kind, element_kind}
+use Rattle.clmodel.specs.Typing.Faults.{target_faults, integer_faults, pointer_faults, store_faults, term_faults, front_kind, element_kind}
 use Rattle.cltypes_scope.specs.Views.{operand_of}
 use Rattle.cltypes_scope.proofs.Follows.{inside, checks_as, operand, one_here}
 use Rattle.cltypes.proofs.Bodies.{place_along, place_fault_along}
@@ -26,10 +26,10 @@ returns-in-Ok c =
     let m = meaning x e.name in
     let r = c.checked-in-Ok.result in
     place_along x (tree.Part e.at e.name i) _ r (ap place e.is ∙ ap (λ z. tree.Part e.at e.name (term z)) (sym c.deref.ensures))
-    (one_here (term_faults x i) (λ z. target_faults m e.at ++ integer_faults z.kind z.at) (λ z. operand (element_kind (name_kind m)) e.at) j (operand_of x i) r c.in-Ok.ensures
-    (checks_as r c.target_fault.result (least (target_faults m e.at ++ integer_faults j.kind j.at)) c.element_kind.result (element_kind (name_kind m)) e.at
+    (one_here (term_faults x i) (λ z. target_faults m e.at ++ integer_faults z.kind z.at) (λ z. operand (front_kind m) e.at) j (operand_of x i) r c.in-Ok.ensures
+    (checks_as r c.target_fault.result (least (target_faults m e.at ++ integer_faults j.kind j.at)) c.front_kind.result (front_kind m) e.at
     (c.target_fault.ensures ∙ ap (λ z. least (target_faults z e.at ++ integer_faults j.kind j.at)) c.meaning-meaning-in-Ok.ensures)
-    (c.element_kind.ensures ∙ ap element_kind (c.name_kind-in-Ok.ensures ∙ ap name_kind c.meaning-meaning-in-Ok.ensures))
+    (c.front_kind.ensures ∙ ap front_kind c.meaning-meaning-in-Ok.ensures)
     c.checked-in-Ok.ensures))
 
 pub returns-in-Err-check_expression : goal.returns-in-Err-check_expression
@@ -51,5 +51,5 @@ returns-in-Ok-check_expression c =
     let r = c.checked-in-Ok-check_expression.result in
     place_along x (tree.Behind e.at i) _ r (ap place e.is ∙ ap (λ z. tree.Behind e.at (term z)) (sym d.ensures))
     (one_here (term_faults x i) (λ z. pointer_faults z.kind z.at ++ store_faults z.kind e.at) (λ z. operand (element_kind z.kind) e.at) j (operand_of x i) r c.in-Ok-check_expression.ensures
-    (checks_as r c.behind_fault.result (least (pointer_faults j.kind j.at ++ store_faults j.kind e.at)) c.element_kind-in-Ok-check_expression.result (element_kind j.kind) e.at
-    c.behind_fault.ensures c.element_kind-in-Ok-check_expression.ensures c.checked-in-Ok-check_expression.ensures))
+    (checks_as r c.behind_fault.result (least (pointer_faults j.kind j.at ++ store_faults j.kind e.at)) c.element_kind.result (element_kind j.kind) e.at
+    c.behind_fault.ensures c.element_kind.ensures c.checked-in-Ok-check_expression.ensures))

@@ -4,7 +4,7 @@ use Rattle.clmodel.specs.Tree as tree
 use Rattle.clmodel.specs.Tree.{term, terms}
 use Rattle.clmodel.specs.Typing.Context.{meaning}
 use Rattle.clmodel.specs.Typing.Least.{least}
-use Rattle.clmodel.specs.Typing.Faults.{front_faults, integer_faults, pointer_faults, operand_faults, term_faults, name_kind, element_kind, unary_type, binary_type, choice_type, wanted}
+use Rattle.clmodel.specs.Typing.Faults.{front_faults, address_faults, integer_faults, pointer_faults, operand_faults, term_faults, name_kind, front_kind, element_kind, unary_type, binary_type, choice_type, wanted}
 use Rattle.cltypes_scope.specs.Names.{meaning_of}
 use Rattle.cltypes_scope.specs.Fenced.{names_of}
 use Rattle.cltypes_scope.specs.Views.{operand_of, want_of, spot_of}
@@ -39,10 +39,10 @@ check_element-returns-in-Ok t c =
     let m = meaning x c.args.name in
     let r = c.checked.result in
     let n = c.meaning_among-meaning.ensures in
-    one_here (term_faults x i) (λ z. front_faults m a ++ integer_faults z.kind z.at) (λ z. operand (element_kind (name_kind m)) a) j (operand_of x i) r c.in-Ok.ensures
-    (checks_as r c.element_fault.result (least (front_faults m a ++ integer_faults j.kind j.at)) c.element_kind.result (element_kind (name_kind m)) a
+    one_here (term_faults x i) (λ z. front_faults m a ++ integer_faults z.kind z.at) (λ z. operand (front_kind m) a) j (operand_of x i) r c.in-Ok.ensures
+    (checks_as r c.element_fault.result (least (front_faults m a ++ integer_faults j.kind j.at)) c.front_kind.result (front_kind m) a
     (c.element_fault.ensures ∙ ap (λ z. least (front_faults z a ++ integer_faults j.kind j.at)) n)
-    (c.element_kind.ensures ∙ ap element_kind (c.name_kind.ensures ∙ ap name_kind n))
+    (c.front_kind.ensures ∙ ap front_kind n)
     c.checked.ensures)
 
 -- its address
@@ -53,15 +53,16 @@ check_address-returns-in-Err t c = inside (term_faults (names_of c.args.names) (
 pub check_address-returns-in-Ok : goal.check_address-returns-in-Ok
 check_address-returns-in-Ok t c =
     let x = names_of c.args.names in
+    let a = c.args.at in
     let b = c.args.name_at in
     let i = term c.args.index.now in
     let j = c.in-Ok.index in
     let m = meaning x c.args.name in
     let r = c.checked.result in
     let n = c.meaning_among-meaning.ensures in
-    one_here (term_faults x i) (λ z. front_faults m b ++ integer_faults z.kind z.at) (λ z. operand (name_kind m) c.args.at) j (operand_of x i) r c.in-Ok.ensures
-    (checks_as r c.element_fault.result (least (front_faults m b ++ integer_faults j.kind j.at)) c.name_kind.result (name_kind m) c.args.at
-    (c.element_fault.ensures ∙ ap (λ z. least (front_faults z b ++ integer_faults j.kind j.at)) n)
+    one_here (term_faults x i) (λ z. address_faults m a b ++ integer_faults z.kind z.at) (λ z. operand (name_kind m) c.args.at) j (operand_of x i) r c.in-Ok.ensures
+    (checks_as r c.element_address_fault.result (least (address_faults m a b ++ integer_faults j.kind j.at)) c.name_kind.result (name_kind m) c.args.at
+    (c.element_address_fault.ensures ∙ ap (λ z. least (address_faults z a b ++ integer_faults j.kind j.at)) n)
     (c.name_kind.ensures ∙ ap name_kind n)
     c.checked.ensures)
 

@@ -11,7 +11,7 @@ pub returns : goal.returns
 unfolding next ActsAsTheTree
 returns c setup f code is lowered item answers =
     let earlier = functions_before setup.program.functions setup.kernel in
-    let start = at_start (length code.registers) in
+    let start = at_start (length code.registers) (length code.arrays) in
     let run = run_of setup item earlier (Some f) in
     acts_as code setup item run
     (subst (λ instructions. Agree (given_of setup item) instructions (suc setup.budget) start run) (sym lowered)

@@ -23,8 +23,8 @@ emit_statement-returns-in-Block-clause-code t c =
     (block_is c.args.statement.now c.in-Block.at c.in-Block.body c.deref.result.now c.in-Block.is c.deref.ensures.value)
     c.emit_all.ensures.code
 
-pub emit_statement-returns-in_ok-split-in-Some-clause-code : goal.emit_statement-returns-in_ok-split-in-Some-clause-code
-emit_statement-returns-in_ok-split-in-Some-clause-code t c =
+pub emit_declaration-returns-in_ok-split-in-Some-clause-code : goal.emit_declaration-returns-in_ok-split-in-Some-clause-code
+emit_declaration-returns-in_ok-split-in-Some-clause-code t c =
     let s = c.args.setting.now in
     let p = c.args.position in
     let fs = functions_of s.functions.now in
@@ -34,30 +34,30 @@ emit_statement-returns-in_ok-split-in-Some-clause-code t c =
     ∙ ap (λ x. statement_code s c.args.scope.now x p) (declare_is c.args.statement.now c.in-Declare.at c.in-Declare.kind c.in-Declare.name_at c.in-Declare.name c.in-Declare.value c.in-Some.value c.deref-in-Some.result.now c.in-Declare.is c.in-Some.is c.deref-in-Some.ensures) in
     placed c.emit_split.result c.emit_split.new.code c.args.code.now (split_code (call_code fs) split p.depth p.site) (statement_code s c.args.scope.now (stmt c.args.statement.now) p) same c.emit_split.ensures
 
-pub emit_statement-returns-in_ok-split-in-None-operator-clause-code : goal.emit_statement-returns-in_ok-split-in-None-operator-clause-code
-emit_statement-returns-in_ok-split-in-None-operator-clause-code t c =
+pub emit_assignment-returns-in_ok-split-in-None : goal.emit_assignment-returns-in_ok-split-in-None
+emit_assignment-returns-in_ok-split-in-None t c =
     let s = c.args.setting.now in
     let p = c.args.position in
     let fs = functions_of s.functions.now in
-    let split = c.in_ok-split-in-None-operator.split in
+    let split = c.in_ok-split-in-None.split in
     let same : split_code (call_code fs) split p.depth p.site ≡ statement_code s c.args.scope.now (stmt c.args.statement.now) p =
-    c.in_ok-split-in-None-operator.ensures (call_code fs) (inside s.functions.now) s.result p.depth p.site
-    ∙ ap (λ x. statement_code s c.args.scope.now x p) (assign_is c.args.statement.now c.in-Assign.at c.in-Assign.target c.in-Assign.operator c.in-Assign.value None c.deref-in-None-operator.result.now c.deref-in-None-operator-2.result.now c.in-Assign.is c.in-None-operator.is c.deref-in-None-operator.ensures c.deref-in-None-operator-2.ensures) in
-    placed c.emit_split-in-None-operator.result c.emit_split-in-None-operator.new.code c.args.code.now (split_code (call_code fs) split p.depth p.site) (statement_code s c.args.scope.now (stmt c.args.statement.now) p) same c.emit_split-in-None-operator.ensures
+    c.in_ok-split-in-None.ensures (call_code fs) (inside s.functions.now) s.result p.depth p.site
+    ∙ ap (λ x. statement_code s c.args.scope.now x p) (assign_is c.args.statement.now c.in-Assign.at c.in-Assign.target c.in-Assign.operator c.in-Assign.value None c.deref-in-None.result.now c.deref-in-None-2.result.now c.in-Assign.is c.in-None.is c.deref-in-None.ensures c.deref-in-None-2.ensures) in
+    placed c.emit_split-in-None.result c.emit_split-in-None.new.code c.args.code.now (split_code (call_code fs) split p.depth p.site) (statement_code s c.args.scope.now (stmt c.args.statement.now) p) same c.emit_split-in-None.ensures
 
-pub emit_statement-returns-in_ok-split-in-Some-operator-clause-code : goal.emit_statement-returns-in_ok-split-in-Some-operator-clause-code
-emit_statement-returns-in_ok-split-in-Some-operator-clause-code t c =
+pub emit_assignment-returns-in_ok-split-in-Some : goal.emit_assignment-returns-in_ok-split-in-Some
+emit_assignment-returns-in_ok-split-in-Some t c =
     let s = c.args.setting.now in
     let p = c.args.position in
     let fs = functions_of s.functions.now in
-    let split = c.in_ok-split-in-Some-operator.split in
+    let split = c.in_ok-split-in-Some.split in
     let same : split_code (call_code fs) split p.depth p.site ≡ statement_code s c.args.scope.now (stmt c.args.statement.now) p =
-    c.in_ok-split-in-Some-operator.ensures (call_code fs) (inside s.functions.now) s.result p.depth p.site
-    ∙ ap (λ x. statement_code s c.args.scope.now x p) (assign_is c.args.statement.now c.in-Assign.at c.in-Assign.target c.in-Assign.operator c.in-Assign.value (Some c.in-Some-operator.operator) c.deref-in-Some-operator.result.now c.deref-in-Some-operator-2.result.now c.in-Assign.is c.in-Some-operator.is c.deref-in-Some-operator.ensures c.deref-in-Some-operator-2.ensures) in
-    placed c.emit_split-in-Some-operator.result c.emit_split-in-Some-operator.new.code c.args.code.now (split_code (call_code fs) split p.depth p.site) (statement_code s c.args.scope.now (stmt c.args.statement.now) p) same c.emit_split-in-Some-operator.ensures
+    c.in_ok-split-in-Some.ensures (call_code fs) (inside s.functions.now) s.result p.depth p.site
+    ∙ ap (λ x. statement_code s c.args.scope.now x p) (assign_is c.args.statement.now c.in-Assign.at c.in-Assign.target c.in-Assign.operator c.in-Assign.value (Some c.in-Some.operator) c.deref-in-Some.result.now c.deref-in-Some-2.result.now c.in-Assign.is c.in-Some.is c.deref-in-Some.ensures c.deref-in-Some-2.ensures) in
+    placed c.emit_split-in-Some.result c.emit_split-in-Some.new.code c.args.code.now (split_code (call_code fs) split p.depth p.site) (statement_code s c.args.scope.now (stmt c.args.statement.now) p) same c.emit_split-in-Some.ensures
 
-pub emit_statement-returns-in_ok-split-in-Call-clause-code : goal.emit_statement-returns-in_ok-split-in-Call-clause-code
-emit_statement-returns-in_ok-split-in-Call-clause-code t c =
+pub emit_assignment-returns-in_ok-split-in-Call : goal.emit_assignment-returns-in_ok-split-in-Call
+emit_assignment-returns-in_ok-split-in-Call t c =
     let s = c.args.setting.now in
     let p = c.args.position in
     let fs = functions_of s.functions.now in
@@ -67,8 +67,8 @@ emit_statement-returns-in_ok-split-in-Call-clause-code t c =
     ∙ ap (λ x. statement_code s c.args.scope.now x p) (sym (call_is c.args.statement.now c.in-Call.at c.in-Call.name c.in-Call.arguments c.deref-in-Call.result.now c.in-Call.is c.deref-in-Call.ensures.value)) in
     placed c.emit_split-in-Call.result c.emit_split-in-Call.new.code c.args.code.now (split_code (call_code fs) split p.depth p.site) (statement_code s c.args.scope.now (stmt c.args.statement.now) p) same c.emit_split-in-Call.ensures
 
-pub emit_statement-returns-in-Step-clause-code : goal.emit_statement-returns-in-Step-clause-code
-emit_statement-returns-in-Step-clause-code t c =
+pub emit_assignment-returns-in-Step : goal.emit_assignment-returns-in-Step
+emit_assignment-returns-in-Step t c =
     let s = c.args.setting.now in
     let p = c.args.position in
     let fs = functions_of s.functions.now in

@@ -10,5 +10,5 @@ returns-clause-bound c =
     let s = c.self.inside in
     let none = ap (λ v. declared v.inner c.args.name) c.self.view_is ∙ undeclared c.args.self.now c.args.name c.requires in
     ap (λ es. record (the_view s) { inner = es })
-    (c.in_ok-insert.ensures.entries ∙ insert_entry-new nat_eq s.inner c.args.name c.args.kind none)
-    ∙ ap (λ v. bind v c.args.name c.args.kind) c.self.view_is
+    (c.in_ok-insert.ensures.entries ∙ insert_entry-new nat_eq s.inner c.args.name c.args.declared none)
+    ∙ ap (λ v. bind v c.args.name c.args.declared) c.self.view_is

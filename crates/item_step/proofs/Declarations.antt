@@ -1,0 +1,106 @@
+-- One declaration more.
+use Rattle.std.proofs.Common.{◌≡◌, ◌≢◌, ℕ, ◌+◌, ◌-◌, ◌^◌, ◌<◌, min, Bool, nat_lt, Option, None, Some, List, [], ◌∷◌, ◌++◌, length, take, get_or, map, refl, ap, sym, ◌∙◌, subst, arith}
+use Rattle.std.proofs.lemmas.List.{take_more, map-append, append-nil}
+use Rattle.std.proofs.lemmas.List.Sums.{sum_by-append}
+use Rattle.std.proofs.lemmas.Bool.Decides.{nat_tests}
+use Rattle.clmodel.specs.Setup.{LocalObject, declared_object, body_objects, parameter_objects, local_size}
+use Rattle.clmodel.specs.Tree.{Stmt, Stmts, stmt, then_stmts, NoStmt, ThenStmt}
+use Rattle.clmodel.specs.declared.setup.Argument.{Argument}
+use Rattle.clmodel.specs.declared.tree.Parameter.{Parameter}
+use Rattle.clmodel.specs.declared.tree.Statement.{Statement}
+use Rattle.item_step.specs.Objects.{all_sizes, capped, listed}
+use Rattle.item_step.proofs.Objects.{object_at, objects_more_at}
+
+then_last : (ss : Stmts) (ts : List Stmt) (t : Stmt) → then_stmts ss (ts ++ t ∷ []) ≡ ThenStmt (then_stmts ss ts) t
+then_last ss [] t = refl
+then_last ss (s ∷ ts) t = then_last (ThenStmt ss s) ts t
+
+-- the local objects that the first statements of a block declare
+abbrev pub declared_in : List Statement → List LocalObject
+declared_in ss = body_objects (then_stmts NoStmt (map stmt ss))
+
+one_more : (ss : List Statement) (i : ℕ) (s : Statement) → i < length ss → s ≡ get_or ss i s → declared_in (take (i + 1) ss) ≡ declared_in (take i ss) ++ declared_object (stmt s)
+one_more ss i s below is =
+    ap declared_in (take_more ss i s below ∙ ap (λ t. take i ss ++ t ∷ []) (sym is))
+    ∙ ap (λ ts. body_objects (then_stmts NoStmt ts)) (map-append stmt (take i ss) (s ∷ []))
+    ∙ ap body_objects (then_last NoStmt (map stmt (take i ss)) (stmt s))
+
+names_capped : (objects : List LocalObject) → map (λ o. o.name) (map capped objects) ≡ map (λ o. o.name) objects
+names_capped [] = refl
+names_capped (o ∷ objects) = ap (λ names. o.name ∷ names) (names_capped objects)
+
+size_one : (objects : List LocalObject) (n : ℕ) → map (λ o. o.size) (map capped objects) ≡ n ∷ [] → n ≢ 2 ^ 64 - 1 → n ∷ [] ≡ map (λ o. o.size) objects
+size_one [] n is h = let e = ap length is in absurd (omega (arith, e))
+size_one (o ∷ []) n is h =
+    let e : min o.size (2 ^ 64 - 1) ≡ n = ap (λ sizes. get_or sizes 0 0) is in
+    let f : n ≡ o.size = omega (arith, e, h) in
+    ap (λ k. k ∷ []) f
+size_one (o ∷ p ∷ rest) n is h = let e = ap length is in absurd (omega (arith, e))
+
+-- a statement that declares an object
+pub names_more : (ss : List Statement) (i : ℕ) (s : Statement) (object : ℕ × ℕ) → i < length ss → s ≡ get_or ss i s → listed (Some object) ≡ map capped (declared_object (stmt s))
+    → map (λ o. o.name) (declared_in (take i ss)) ++ object.0 ∷ [] ≡ map (λ o. o.name) (declared_in (take (i + 1) ss))
+names_more ss i s object below there is =
+    ap (λ names. map (λ o. o.name) (declared_in (take i ss)) ++ names) (ap (map (λ o. o.name)) is ∙ names_capped (declared_object (stmt s)))
+    ∙ sym (ap (map (λ o. o.name)) (one_more ss i s below there) ∙ map-append (λ o. o.name) (declared_in (take i ss)) (declared_object (stmt s)))
+
+pub sizes_more : (ss : List Statement) (i : ℕ) (s : Statement) (object : ℕ × ℕ) → i < length ss → s ≡ get_or ss i s → listed (Some object) ≡ map capped (declared_object (stmt s)) → object.1 ≢ 2 ^ 64 - 1
+    → map (λ o. o.size) (declared_in (take i ss)) ++ object.1 ∷ [] ≡ map (λ o. o.size) (declared_in (take (i + 1) ss))
+sizes_more ss i s object below there is h =
+    ap (λ sizes. map (λ o. o.size) (declared_in (take i ss)) ++ sizes) (size_one (declared_object (stmt s)) object.1 (sym (ap (map (λ o. o.size)) is)) h)
+    ∙ sym (ap (map (λ o. o.size)) (one_more ss i s below there) ∙ map-append (λ o. o.size) (declared_in (take i ss)) (declared_object (stmt s)))
+
+empty : (objects : List LocalObject) → [] ≡ map capped objects → [] ≡ objects
+empty [] is = refl
+empty (o ∷ objects) is = let e = ap length is in absurd (omega (arith, e))
+
+-- a statement that declares none
+pub none_more : (ss : List Statement) (i : ℕ) (s : Statement) → i < length ss → s ≡ get_or ss i s → listed None ≡ map capped (declared_object (stmt s)) → declared_in (take i ss) ≡ declared_in (take (i + 1) ss)
+none_more ss i s below there is =
+    sym (append-nil (declared_in (take i ss)))
+    ∙ ap (λ objects. declared_in (take i ss) ++ objects) (empty (declared_object (stmt s)) is)
+    ∙ sym (one_more ss i s below there)
+
+clip_one : (x a t u m : ℕ) → min (x + min a m + t) m ≡ min (x + min a m + u) m → min (x + (min a m + t)) m ≡ min (x + (a + u)) m
+clip_one x a t u m h = omega (arith, h)
+
+-- a sum that is cut off may be one of sizes that are
+capped_sum : (objects : List LocalObject) (x : ℕ) → min (x + all_sizes (map capped objects)) (2 ^ 64 - 1) ≡ min (x + all_sizes objects) (2 ^ 64 - 1)
+capped_sum [] x = refl
+capped_sum (o ∷ objects) x =
+    clip_one x o.size (all_sizes (map capped objects)) (all_sizes objects) (2 ^ 64 - 1) (capped_sum objects (x + min o.size (2 ^ 64 - 1)))
+
+clip_sum : (n p m : ℕ) → min (min n m + p) m ≡ min (n + p) m
+clip_sum n p m = omega arith
+
+-- the bytes of one statement more
+pub bytes_more : (ss : List Statement) (i : ℕ) (s : Statement) → i < length ss → s ≡ get_or ss i s
+    → min (min (all_sizes (declared_in (take i ss))) (2 ^ 64 - 1) + all_sizes (map capped (declared_object (stmt s)))) (2 ^ 64 - 1)
+    ≡ min (all_sizes (declared_in (take (i + 1) ss))) (2 ^ 64 - 1)
+bytes_more ss i s below there =
+    let x = all_sizes (declared_in (take i ss)) in
+    clip_sum x (all_sizes (map capped (declared_object (stmt s)))) (2 ^ 64 - 1)
+    ∙ capped_sum (declared_object (stmt s)) x
+    ∙ ap (λ n. min n (2 ^ 64 - 1)) (sym (ap all_sizes (one_more ss i s below there) ∙ sum_by-append (λ (o : LocalObject). o.size) (declared_in (take i ss)) (declared_object (stmt s))))
+
+size_alone : (size x : ℕ) → x + size ≡ x + (size + 0)
+size_alone size x = omega arith
+
+-- the bytes of one parameter more
+pub parameter_more : (ps : List Parameter) (arguments : List (Option Argument)) (i : ℕ) (d : Parameter) → i < length ps
+    → min (min (all_sizes (parameter_objects (take i ps) arguments)) (2 ^ 64 - 1) + local_size (get_or arguments i None)) (2 ^ 64 - 1)
+    ≡ min (all_sizes (parameter_objects (take (i + 1) ps) arguments)) (2 ^ 64 - 1)
+parameter_more ps arguments i d below =
+    let x = all_sizes (parameter_objects (take i ps) arguments) in
+    let size = local_size (get_or arguments i None) in
+    clip_sum x size (2 ^ 64 - 1)
+    ∙ ap (λ n. min n (2 ^ 64 - 1)) (size_alone size x)
+    ∙ ap (λ n. min n (2 ^ 64 - 1)) (sym (ap all_sizes (objects_more_at ps arguments i d below) ∙ sum_by-append (λ (o : LocalObject). o.size) (parameter_objects (take i ps) arguments) (object_at arguments i (get_or ps i d) ∷ [])))
+
+-- sums that are cut off, against a smaller number
+pub above : (p d : ℕ) → nat_lt 32768 (min (min p (2 ^ 64 - 1) + min d (2 ^ 64 - 1)) (2 ^ 64 - 1)) ≡ nat_lt 32768 (p + d)
+above p d = grind (arith, nat_tests)
+
+-- the bytes of a kernel's local objects
+pub all_above : (parameters declared : List LocalObject) → nat_lt 32768 (min (min (all_sizes parameters) (2 ^ 64 - 1) + min (all_sizes declared) (2 ^ 64 - 1)) (2 ^ 64 - 1)) ≡ nat_lt 32768 (all_sizes (parameters ++ declared))
+all_above parameters declared = above (all_sizes parameters) (all_sizes declared) ∙ ap (nat_lt 32768) (sym (sum_by-append (λ (o : LocalObject). o.size) parameters declared))
