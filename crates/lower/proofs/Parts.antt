@@ -1,6 +1,7 @@
 -- The parts of statements: what is assigned to, the values of calls, and built-in functions.
 use Rattle.std.proofs.Common.{◌≡◌, ℕ, zero, suc, ℤ, pos, negsuc, ◌+◌, ◌*◌, ◌≤◌, ◌≢◌, Bool, true, false, if◌then◌else◌, nat_lt, slice_set, Option, None, Some, List, [], ◌∷◌, ◌++◌, length, slice_get, refl, sym, ap, ◌∙◌, subst, arith, length-append}
-use Rattle.clnum.specs.Integer.{Integer, bits_of}
+use Rattle.clnum.specs.Integer.{bits_of}
+use Rattle.clnum.specs.Integer as numbers
 use Rattle.clnum.specs.declared.int_type.IntType.{IntType}
 use Rattle.clnum.specs.declared.operators.BinaryOperator.{BinaryOperator}
 use Rattle.clmodel.specs.Next.{Run, finish, fail, ask, Variables, base_type, has_elements, is_array, with_elements, index_of, element_set, write_element, store_element, Helpers, assign, declared_type, held, known, look, load, store, combined, reach, fetch, infix_type, HelperCall, value_of, assigned, call, call_only, wait}
@@ -72,7 +73,7 @@ set_some [] i n = refl
 set_some (element ∷ elements) zero n = refl
 set_some (element ∷ elements) (suc i) n = refl
 
-set_kept : (ticks : ℕ) (name : ℕ) (i : ℤ) (kind : IntType) (elements : List (Option ℕ)) (v : Integer) (f g : List (Option ℕ) → Run) → has_elements elements ≡ true
+set_kept : (ticks : ℕ) (name : ℕ) (i : ℤ) (kind : IntType) (elements : List (Option ℕ)) (v : numbers.Integer) (f g : List (Option ℕ) → Run) → has_elements elements ≡ true
     → ((new : List (Option ℕ)) → has_elements new ≡ true → Alike ticks (f new) (g new)) → Alike ticks (element_set name i kind elements v f) (element_set name i kind elements v g)
 set_kept ticks name (pos i) kind elements v f g some h = inside (nat_lt i (length elements))
   where
