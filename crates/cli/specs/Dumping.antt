@@ -7,24 +7,23 @@ use Rattle.ends.specs.Sink.{Sink, Wrote, Stopped, CountsUp}
 use Rattle.ends.specs.Source.{Are}
 use Rattle.lower.specs.Names.{kernel_number, LowersNamed}
 use Rattle.regcode.specs.Listing.{Listing}
+use Rattle.regcode.specs.Text.{text_of}
 use Rattle.simfile.specs.Lines.{check_line}
 use Rattle.cli.specs.declared.session.RunFault.{RunFault}
 use Rattle.cli.specs.declared.session.RunFault.TheVariants as fault
 
--- a text of the code of a program's kernel was written
+-- the text of code of a program's kernel was written
 pub record Told (program : Program) (kernel : List ℕ) (old new : Sink) : Type 0 where
   pub code : Listing
-  pub text : List ℕ
   pub lowered : LowersNamed program kernel code
-  pub wrote : Wrote old new text
+  pub wrote : Wrote old new (text_of code.instructions)
   pub released : new.held ≡ []
 
--- a write failed at a text of the code of a program's kernel
+-- a write failed, and a beginning of the text of code of a program's kernel was written
 pub record Broke (program : Program) (kernel : List ℕ) (old new : Sink) : Type 0 where
   pub code : Listing
-  pub text : List ℕ
   pub lowered : LowersNamed program kernel code
-  pub stopped : Stopped old new text
+  pub stopped : Stopped old new (text_of code.instructions)
 
 -- the program has no such kernel, and nothing was written
 pub record Lacks (program : Program) (kernel : List ℕ) (old new : Sink) : Type 0 where

@@ -3,7 +3,8 @@
 
 ghost use Rattle.std.specs.Prelude.{◌≡◌, [], IfOk, IfErr, OnOk};
 ghost use Rattle.clmodel.specs.Tree.{program};
-ghost use Rattle.regcode.specs.Dumping.{Writes};
+ghost use Rattle.ends.specs.Sink.{Puts};
+ghost use Rattle.regcode.specs.Text.{text_of};
 ghost use Rattle.cli.specs.Dumping.{Told, Untold, Dumped, Undumped};
 
 use crate::checking::tell;
@@ -17,7 +18,7 @@ use std::alloc::{AllocError, Global};
 
 /// Writes code as text, and lets go of it.
 fn write_code<W: Write>(code: &Code, writer: &mut W) -> Result<(), WriteFailed>
-    ensures text { Writes (W.sink writer.old) result (W.sink writer.new) }
+    ensures text { Puts (W.sink writer.old) result (W.sink writer.new) (text_of code.now.instructions) }
     ensures released { OnOk result ((W.sink writer.new).held ≡ []) }
 {
     match dump(code, writer) {

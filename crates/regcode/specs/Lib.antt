@@ -1,6 +1,7 @@
-pub mod Dumping
+pub mod Parts
 pub mod Listed
 pub mod Listing
 pub mod Machine
 pub mod Rules
 pub mod Safety
+pub mod Text

@@ -1,8 +1,12 @@
 //! Code as text.
 #![tactic(auto)]
 
-ghost use Rattle.std.specs.Prelude.{◌<◌, ◌^◌};
-ghost use Rattle.regcode.specs.Dumping.{Writes};
+ghost use Rattle.std.specs.Prelude.{◌≡◌, ◌+◌, ◌-◌, ◌<◌, ◌^◌, Some};
+ghost use Rattle.std.specs.List.{flat_map};
+ghost use Rattle.ends.specs.Sink.{Puts};
+ghost use Rattle.regcode.specs.declared.dumping.Part.TheVariants as part;
+ghost use Rattle.regcode.specs.Parts.{piece_text, part_text, behind, parts_text};
+ghost use Rattle.regcode.specs.Text.{listed, names_in, line_of, text_of, variable_type};
 
 use crate::code::Code;
 use crate::instruction::Instruction;
@@ -35,6 +39,9 @@ enum Part {
     Fences(Fences),
 }
 
+/// What an instruction names, one after another.
+type Parts = (Option<Part>, Option<Part>, Option<Part>);
+
 /// A piece of a line.
 #[derive(Clone, Copy, Debug)]
 enum Piece {
@@ -46,10 +53,11 @@ enum Piece {
 }
 
 /// What the instruction at a place names. Jumps name the place that they lead to.
-fn parts(place: usize, instruction: &Instruction) -> [Option<Part>; 3]
+fn parts(place: usize, instruction: &Instruction) -> Parts
     requires { place < 2 ^ 63 }
+    ensures { parts_text result.0 result.1 result.2 ≡ listed (names_in place instruction.now) }
 {
-    let parts = match *instruction {
+    match *instruction {
         Instruction::Unset { to } | Instruction::Dimensions { to } => (register(to), None, None),
         Instruction::Constant { to, value } => (register(to), Some(Part::Value(value)), None),
         Instruction::Move { to, from, name } => (register(to), register(from), number(name)),
@@ -138,33 +146,39 @@ fn parts(place: usize, instruction: &Instruction) -> [Option<Part>; 3]
         Instruction::JumpIfZero { test, by } => (register(test), onward(place, by), None),
         Instruction::Back { by } => (back(place, by), None, None),
         Instruction::End => (None, None, None),
-    };
-    [parts.0, parts.1, parts.2]
+    }
 }
 
-fn register(number: u32) -> Option<Part> {
+fn register(number: u32) -> Option<Part>
+    ensures { result ≡ Some (part.Register number) }
+{
     Some(Part::Register(number))
 }
 
-fn number(number: u32) -> Option<Part> {
+fn number(number: u32) -> Option<Part>
+    ensures { result ≡ Some (part.Number number) }
+{
     Some(Part::Number(u64::from(number)))
 }
 
 /// The place past so many further instructions.
 fn onward(place: usize, by: u32) -> Option<Part>
     requires { place < 2 ^ 63 }
+    ensures { result ≡ Some (part.Number (place + 1 + by)) }
 {
     Some(Part::Number(place as u64 + 1 + u64::from(by)))
 }
 
 /// The place so many instructions back.
-fn back(place: usize, by: u32) -> Option<Part> {
+fn back(place: usize, by: u32) -> Option<Part>
+    ensures { result ≡ Some (part.Number (place - by)) }
+{
     Some(Part::Number((place as u64).saturating_sub(u64::from(by))))
 }
 
 /// Writes a piece of a line.
 fn write_piece<W: Write>(piece: Piece, writer: &mut W) -> Result<(), WriteFailed>
-    ensures { Writes (W.sink writer.old) result (W.sink writer.new) }
+    ensures { Puts (W.sink writer.old) result (W.sink writer.new) (piece_text piece) }
 {
     match piece {
         Piece::Word(word) => writer.write(word.as_bytes()),
@@ -175,7 +189,7 @@ fn write_piece<W: Write>(piece: Piece, writer: &mut W) -> Result<(), WriteFailed
 
 /// Writes pieces one after another.
 fn write_pieces<W: Write>(pieces: &[Piece], writer: &mut W) -> Result<(), WriteFailed>
-    ensures { Writes (W.sink writer.old) result (W.sink writer.new) }
+    ensures { Puts (W.sink writer.old) result (W.sink writer.new) (flat_map piece_text pieces.now) }
 {
     for piece in pieces {
         write_piece(*piece, writer)?;
@@ -185,7 +199,7 @@ fn write_pieces<W: Write>(pieces: &[Piece], writer: &mut W) -> Result<(), WriteF
 
 /// Writes a variable's type.
 fn write_variable<W: Write>(kind: VariableType, writer: &mut W) -> Result<(), WriteFailed>
-    ensures { Writes (W.sink writer.old) result (W.sink writer.new) }
+    ensures { Puts (W.sink writer.old) result (W.sink writer.new) (variable_type kind) }
 {
     match kind {
         VariableType::Integer(kind) => write_piece(Piece::Word(type_word(kind)), writer),
@@ -206,7 +220,7 @@ fn write_variable<W: Write>(kind: VariableType, writer: &mut W) -> Result<(), Wr
 
 /// Writes what an instruction names.
 fn write_part<W: Write>(part: Part, writer: &mut W) -> Result<(), WriteFailed>
-    ensures { Writes (W.sink writer.old) result (W.sink writer.new) }
+    ensures { Puts (W.sink writer.old) result (W.sink writer.new) (part_text part) }
 {
     match part {
         Part::Register(number) => write_pieces(
@@ -252,7 +266,7 @@ fn write_behind<W: Write>(
     part: Option<Part>,
     writer: &mut W,
 ) -> Result<(), WriteFailed>
-    ensures { Writes (W.sink writer.old) result (W.sink writer.new) }
+    ensures { Puts (W.sink writer.old) result (W.sink writer.new) (behind (piece_text front) part) }
 {
     let Some(part) = part else {
         return Ok(());
@@ -268,7 +282,7 @@ fn write_line<W: Write>(
     writer: &mut W,
 ) -> Result<(), WriteFailed>
     requires { place < 2 ^ 63 }
-    ensures { Writes (W.sink writer.old) result (W.sink writer.new) }
+    ensures { Puts (W.sink writer.old) result (W.sink writer.new) (line_of place instruction.now) }
 {
     write_pieces(
         &[
@@ -278,7 +292,7 @@ fn write_line<W: Write>(
         ],
         writer,
     )?;
-    let [first, second, third] = parts(place, instruction);
+    let (first, second, third) = parts(place, instruction);
     write_behind(Piece::Word(" "), first, writer)?;
     write_behind(Piece::Word(", "), second, writer)?;
     write_behind(Piece::Word(", "), third, writer)?;
@@ -287,7 +301,7 @@ fn write_line<W: Write>(
 
 /// Writes one instruction after another.
 fn write_lines<W: Write>(instructions: &[Instruction], writer: &mut W) -> Result<(), WriteFailed>
-    ensures { Writes (W.sink writer.old) result (W.sink writer.new) }
+    ensures { Puts (W.sink writer.old) result (W.sink writer.new) (text_of instructions.now) }
 {
     for (place, instruction) in instructions.iter().enumerate() {
         write_line(place, instruction, writer)?;
@@ -302,7 +316,7 @@ fn write_lines<W: Write>(instructions: &[Instruction], writer: &mut W) -> Result
 ///
 /// `Write` comes where the writer fails; then a beginning of the text may have been written.
 pub fn dump<W: Write>(code: &Code, writer: &mut W) -> Result<(), DumpFault>
-    ensures { Writes (W.sink writer.old) result (W.sink writer.new) }
+    ensures { Puts (W.sink writer.old) result (W.sink writer.new) (text_of code.now.instructions) }
 {
     match write_lines(code.instructions(), writer) {
         Ok(()) => Ok(()),

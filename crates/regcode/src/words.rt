@@ -1,6 +1,9 @@
 //! The words of instructions.
 #![tactic(auto)]
 
+ghost use Rattle.std.specs.Prelude.{◌≡◌};
+ghost use Rattle.regcode.specs.Text as text;
+
 use crate::instruction::Instruction;
 use clmodel::action::Fences;
 use clmodel::setup::{AtomicFunction, WorkItemFunction};
@@ -8,7 +11,9 @@ use clmodel::tree::AddressSpace;
 use clnum::{BinaryOperator, Builtin, IntType, UnaryOperator};
 
 /// The name of a type (OpenCL 1.2, section 6.1.1).
-pub fn type_word(kind: IntType) -> &'static str {
+pub fn type_word(kind: IntType) -> &'static str
+    ensures { result.now ≡ text.type_word kind }
+{
     match kind {
         IntType::Char => "char",
         IntType::Uchar => "uchar",
@@ -22,7 +27,9 @@ pub fn type_word(kind: IntType) -> &'static str {
 }
 
 /// The qualifier of an address space (OpenCL 1.2, section 6.5), with a space behind it.
-pub fn space_word(space: AddressSpace) -> &'static str {
+pub fn space_word(space: AddressSpace) -> &'static str
+    ensures { result.now ≡ text.space_word space }
+{
     match space {
         AddressSpace::Global => "__global ",
         AddressSpace::Local => "__local ",
@@ -31,7 +38,9 @@ pub fn space_word(space: AddressSpace) -> &'static str {
 }
 
 /// The flags of a barrier (OpenCL 1.2, section 6.12.8).
-pub fn fences_word(fences: Fences) -> &'static str {
+pub fn fences_word(fences: Fences) -> &'static str
+    ensures { result.now ≡ text.fences_word fences }
+{
     match (fences.local, fences.global) {
         (true, true) => "local and global",
         (true, false) => "local",
@@ -40,7 +49,9 @@ pub fn fences_word(fences: Fences) -> &'static str {
     }
 }
 
-fn unary_word(operator: UnaryOperator) -> &'static str {
+fn unary_word(operator: UnaryOperator) -> &'static str
+    ensures { result.now ≡ text.unary_word operator }
+{
     match operator {
         UnaryOperator::Plus => "plus",
         UnaryOperator::Negate => "negate",
@@ -49,7 +60,9 @@ fn unary_word(operator: UnaryOperator) -> &'static str {
     }
 }
 
-fn binary_word(operator: BinaryOperator) -> &'static str {
+fn binary_word(operator: BinaryOperator) -> &'static str
+    ensures { result.now ≡ text.binary_word operator }
+{
     match operator {
         BinaryOperator::Add => "add",
         BinaryOperator::Subtract => "subtract",
@@ -70,7 +83,9 @@ fn binary_word(operator: BinaryOperator) -> &'static str {
     }
 }
 
-fn builtin_word(function: Builtin) -> &'static str {
+fn builtin_word(function: Builtin) -> &'static str
+    ensures { result.now ≡ text.builtin_word function }
+{
     match function {
         Builtin::Min => "min",
         Builtin::Max => "max",
@@ -81,7 +96,9 @@ fn builtin_word(function: Builtin) -> &'static str {
     }
 }
 
-fn query_word(function: WorkItemFunction) -> &'static str {
+fn query_word(function: WorkItemFunction) -> &'static str
+    ensures { result.now ≡ text.query_word function }
+{
     match function {
         WorkItemFunction::GlobalId => "get_global_id",
         WorkItemFunction::LocalId => "get_local_id",
@@ -93,7 +110,9 @@ fn query_word(function: WorkItemFunction) -> &'static str {
     }
 }
 
-fn update_word(function: AtomicFunction) -> &'static str {
+fn update_word(function: AtomicFunction) -> &'static str
+    ensures { result.now ≡ text.update_word function }
+{
     match function {
         AtomicFunction::Add => "atomic_add",
         AtomicFunction::Sub => "atomic_sub",
@@ -108,7 +127,9 @@ fn update_word(function: AtomicFunction) -> &'static str {
 }
 
 /// The name of an instruction: that of its operator or its function, if it has one.
-pub fn instruction_word(instruction: &Instruction) -> &'static str {
+pub fn instruction_word(instruction: &Instruction) -> &'static str
+    ensures { result.now ≡ text.word_of instruction.now }
+{
     match instruction {
         Instruction::Constant { .. } => "constant",
         Instruction::Unset { .. } => "unset",

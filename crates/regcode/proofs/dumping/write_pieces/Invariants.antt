@@ -1,7 +1,8 @@
-use Rattle.std.proofs.Common.{Result, Ok}
-use Rattle.ends.specs.declared.WriteFailed.{WriteFailed}
-use Rattle.regcode.specs.Dumping.{Writes}
+use Rattle.std.proofs.Common.{take}
+use Rattle.std.specs.List.{flat_map}
+use Rattle.ends.specs.Sink.{Wrote}
+use Rattle.regcode.specs.Parts.{piece_text}
 use Rattle.regcode.proofs.dumping.write_pieces.Given as goal
 
 abbrev pub invariant-loop-piece : goal.invariant-loop-piece
-invariant-loop-piece g l = Writes {E = WriteFailed} (g.W.Write.sink l.initial.writer) (Ok (tt {0})) (g.W.Write.sink l.writer)
+invariant-loop-piece g l = Wrote (g.W.Write.sink l.initial.writer) (g.W.Write.sink l.writer) (flat_map piece_text (take l.piece-index l.pieces))

@@ -1,0 +1,32 @@
+-- The text of the parts of a line.
+use Rattle.std.specs.Prelude.{ℕ, Option, None, Some, List, [], ◌∷◌, ◌++◌, codes, decimal}
+use Rattle.std.specs.Fmt.{signed_decimal}
+use Rattle.regcode.specs.declared.dumping.Part.{Part}
+use Rattle.regcode.specs.declared.dumping.Part.TheVariants as part
+use Rattle.regcode.specs.declared.dumping.Piece.{Piece}
+use Rattle.regcode.specs.declared.dumping.Piece.TheVariants as piece
+use Rattle.regcode.specs.Text.{joined, type_word, fences_word, register, pointed, private, typed, variable_type}
+
+abbrev pub piece_text : Piece → List ℕ
+piece_text (piece.Word word) = word.now
+piece_text (piece.Number number) = decimal number
+piece_text (piece.Signed number) = signed_decimal number
+
+abbrev pub part_text : Part → List ℕ
+part_text (part.Register r) = register r
+part_text (part.Element r) = pointed r
+part_text (part.Private array r) = private array r
+part_text (part.Number number) = decimal number
+part_text (part.Value value) = typed value
+part_text (part.Type kind) = type_word kind
+part_text (part.Variable kind) = variable_type kind
+part_text (part.Fences fences) = fences_word fences
+
+-- a part behind what stands in front of it, if it is there
+abbrev pub behind : List ℕ → Option Part → List ℕ
+behind front None = []
+behind front (Some p) = front ++ part_text p
+
+-- the parts of a line behind its name
+abbrev pub parts_text : (first second third : Option Part) → List ℕ
+parts_text first second third = joined (behind (codes " ") first ∷ behind (codes ", ") second ∷ behind (codes ", ") third ∷ [])
