@@ -4,7 +4,8 @@ use Rattle.clnum.specs.declared.int_type.IntType.{IntType}
 use Rattle.clmodel.specs.declared.tree.Function.{Function}
 use Rattle.clmodel.specs.Tree.{func}
 use Rattle.regcode.specs.declared.instruction.Instruction.{Instruction}
-use Rattle.lower_code.specs.Code.{call_code, result_in, pass_code, body_code}
+use Rattle.lower_place.specs.Variables.{pass_code}
+use Rattle.lower_code.specs.Code.{call_code, result_in, body_code}
 use Rattle.lower_code.specs.Emission.{functions_of, inside}
 use Rattle.lower_code.proofs.Lists.{functions_more}
 

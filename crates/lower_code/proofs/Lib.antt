@@ -3,7 +3,5 @@ pub mod Helpers
 pub mod Calling
 pub mod Rows
 pub mod Lists
-pub mod Parameters
-pub mod Places
 pub mod Splits
 pub mod Turns

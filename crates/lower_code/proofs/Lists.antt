@@ -8,7 +8,8 @@ use Rattle.clmodel.specs.declared.tree.Statement as rust_statement
 use Rattle.clmodel.specs.declared.tree.Statement.{Statement, size-Statement}
 use Rattle.clmodel.specs.Tree.{Block, row_stmts, Stmts, NoStmt, ThenStmt, stmt, then_stmts, Funcs, NoFunc, ThenFunc, then_funcs, func}
 use Rattle.clmodel.specs.Next.{all_sites, sites_in}
-use Rattle.lower_code.specs.Emission.{functions_of, all_of, inside}
+use Rattle.lower_place.specs.Emission.{all_of}
+use Rattle.lower_code.specs.Emission.{functions_of, inside}
 
 stmt_rows : (ss : Stmts) (n : _) (row : rust_statement.Row_of-Statement n) → row_stmts ss row ≡ then_stmts ss (map stmt (rust_statement.items-the_row-Statement n row))
 stmt_rows ss n rust_statement.end_of-Statement = refl
@@ -27,19 +28,6 @@ blocks at ss =
 
 pub block_is : (s : Statement) (at : ℕ) (ss : Vec Statement Global) (xs : List Statement) → s ≡ rust_statement.Block at ss → xs ≡ ss.items → Block at (all_of xs) ≡ stmt s
 block_is s at ss xs p q = ap (λ ys. Block at (all_of ys)) q ∙ sym (blocks at ss) ∙ ap stmt (sym p)
-
-stmts_more : (ss : Stmts) (ts : List Statement) (i : ℕ) (d : Statement) → i < length ts
-    → then_stmts ss (map stmt (take (suc i) ts)) ≡ ThenStmt (then_stmts ss (map stmt (take i ts))) (stmt (get_or ts i d))
-stmts_more ss [] i d h = absurd (omega arith)
-stmts_more ss (t ∷ ts) zero d h = refl
-stmts_more ss (t ∷ ts) (suc i) d h = stmts_more (ThenStmt ss (stmt t)) ts i d (omega arith)
-
--- the first statements with one more
-pub row_more : (ts : List Statement) (i : ℕ) (t : Statement) → i < length ts → t ≡ get_or ts i t
-    → all_of (take (i + 1) ts) ≡ ThenStmt (all_of (take i ts)) (stmt t)
-row_more ts i t h p =
-    let e : i + 1 ≡ suc i = omega arith in
-    ap (λ n. all_of (take n ts)) e ∙ stmts_more NoStmt ts i t h ∙ ap (λ x. ThenStmt (all_of (take i ts)) (stmt x)) (sym p)
 
 funcs_more : (fs : Funcs) (gs : List Function) (i : ℕ) (d : Function) → i < length gs
     → then_funcs fs (map func (take (suc i) gs)) ≡ ThenFunc (then_funcs fs (map func (take i gs))) (func (get_or gs i d))

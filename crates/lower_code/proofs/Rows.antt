@@ -11,7 +11,8 @@ use Rattle.regcode.specs.declared.instruction.Instruction.{Instruction}
 use Rattle.regcode.specs.declared.instruction.Instruction.TheVariants as instruction
 use Rattle.lower_expr.specs.Scope.{Scope, free_level}
 use Rattle.lower_expr.specs.Expressions.{expr_code, register_for}
-use Rattle.lower_code.specs.Code.{Calls, Exits, past, body_exits, stmt_code, stmts_code, part_code, call_code, result_in, scope_after_all, if_else_code, condition_code, while_code}
+use Rattle.lower_place.specs.Variables.{scope_after_all}
+use Rattle.lower_code.specs.Code.{Calls, Exits, past, body_exits, stmt_code, stmts_code, part_code, call_code, result_in, if_else_code, condition_code, while_code}
 use Rattle.lower_code.specs.Emission.{functions_of, inside, exits_of, statement_code, maybe_code, turns_code}
 use Rattle.lower_code.specs.declared.positions.Exits as declared
 use Rattle.lower_code.specs.declared.positions.Position.{Position}

@@ -1,24 +1,22 @@
 -- The register code of statements, of helper functions in place of their calls, and of kernels (own).
-use Rattle.std.specs.Prelude.{ℕ, ◌+◌, ◌==◌, pos, Bool, true, false, Option, None, Some, List, [], ◌∷◌, ◌++◌, if◌then◌else◌, length}
+use Rattle.std.specs.Prelude.{ℕ, ◌+◌, ◌==◌, pos, Bool, true, false, Option, None, Some, List, [], ◌∷◌, ◌++◌, length}
 use Rattle.clnum.specs.declared.int_type.IntType.{IntType}
 use Rattle.clnum.specs.declared.int_type.IntType.TheVariants.{Int}
 use Rattle.clnum.specs.declared.operators.BinaryOperator.{BinaryOperator}
 use Rattle.clmodel.specs.Barrier.{is_barrier, fences}
 use Rattle.clmodel.specs.BuiltIns.{built_in}
-use Rattle.clmodel.specs.Next as next
-use Rattle.clmodel.specs.Next.{Binding, Variables, is_array, private_array, base_type, infix_type, argument_type, call_type, step_operator, HelperCall, helper_call, sites, part_sites, all_sites, sites_in}
-use Rattle.clmodel.specs.Tree.{Term, Terms, Place, Whole, Part, Behind, Stmt, Empty, Block, Declare, DeclareAs, DeclareArray, Assign, Step, CallOnly, If, IfElse, While, DoWhile, For, Break, Continue, Return, ReturnValue, Stmts, NoStmt, ThenStmt, MaybeStmt, Without, With, MaybeTerm, Always, While_, array_length, Func, Funcs, NoFunc, ThenFunc}
-use Rattle.clmodel.specs.declared.tree.InfixOperator.TheVariants.{Arithmetic}
-use Rattle.clmodel.specs.declared.tree.AddressSpace.TheVariants.{Local}
+use Rattle.clmodel.specs.Next.{argument_type, call_type, step_operator, HelperCall, helper_call, sites, part_sites, all_sites, sites_in}
+use Rattle.clmodel.specs.Tree.{Term, Terms, Place, Stmt, Empty, Block, Declare, DeclareAs, DeclareArray, Assign, Step, CallOnly, If, IfElse, While, DoWhile, For, Break, Continue, Return, ReturnValue, Stmts, NoStmt, ThenStmt, MaybeStmt, Without, With, MaybeTerm, Always, While_, array_length, Func, Funcs, NoFunc, ThenFunc}
 use Rattle.clmodel.specs.declared.tree.VariableType.{VariableType}
-use Rattle.clmodel.specs.declared.tree.VariableType.TheVariants.{Integer, Pointer}
-use Rattle.clmodel.specs.declared.tree.Parameter.{Parameter}
+use Rattle.clmodel.specs.declared.tree.VariableType.TheVariants.{Integer}
 use Rattle.clmodel.specs.declared.action.Fences.{Fences}
 use Rattle.clmodel.specs.declared.setup.BuiltIn.{BuiltIn}
 use Rattle.regcode.specs.declared.instruction.Instruction.{Instruction}
 use Rattle.regcode.specs.declared.instruction.Instruction.TheVariants as instruction
-use Rattle.lower_expr.specs.Scope.{Scope, free_level, register_at, register_of}
-use Rattle.lower_expr.specs.Expressions.{kind_of, kind_named, element_of, private_load, private_store, register_for, registers_for, expr_code, terms_code, variable_code, call_only_code, place_code, place_register}
+use Rattle.lower_expr.specs.Scope.{Scope, free_level, register_at}
+use Rattle.lower_expr.specs.Expressions.{kind_of, register_for, registers_for, expr_code, terms_code, call_only_code, place_code, place_register}
+pub use Rattle.lower_place.specs.Places.{hold_code, place_type, fetch_code, put_code, combine_code}
+pub use Rattle.lower_place.specs.Variables.{variable, local_pointer, array_variable, with_variable, variables_after, variables_after_part, variables_after_all, scope_after, scope_after_part, scope_after_all, array_code, parameter_variables, pass_code, arguments_code}
 
 -- How far behind the end of a statement's code its other ends are: what follows a loop that is broken, the condition or the third part of one that is
 -- continued, and the end of the function.
@@ -34,46 +32,6 @@ past count exits = record { broken = count + exits.broken; continued = count + e
 -- those of a part of a loop, behind which stand so many instructions of it: continued, the loop goes on with the first of them
 abbrev pub body_exits : ℕ → Exits → Exits
 body_exits rest exits = record { broken = rest; continued = 0; returned = rest + exits.returned }
-
--- a variable of a scope
-abbrev pub variable : ℕ → VariableType → Binding
-variable name kind = next.variable name kind None
-
--- the type of the variable that points to a local array
-abbrev pub local_pointer : IntType → VariableType
-local_pointer element = Pointer (record { space = Local; is_const = false; element = element })
-
--- an array of a scope, of so many elements
-abbrev pub array_variable : (is_local : Bool) → IntType → (count : ℕ) → ℕ → Binding
-array_variable true element count name = variable name (local_pointer element)
-array_variable false element count name = private_array element count name
-
-abbrev pub with_variable : Scope → ℕ → VariableType → Scope
-with_variable scope name kind = record scope { variables = variable name kind ∷ scope.variables }
-
--- The variables behind a statement: a declaration adds one.
-abbrev pub variables_after : Variables → Stmt → Variables
-variables_after variables (Declare at kind name_at name) = variable name kind ∷ variables
-variables_after variables (DeclareAs at kind name_at name value) = variable name kind ∷ variables
-variables_after variables (DeclareArray at is_local element name_at name length_at count) = array_variable is_local element (array_length count) name ∷ variables
-variables_after variables _ = variables
-
-abbrev pub variables_after_part : Variables → MaybeStmt → Variables
-variables_after_part variables Without = variables
-variables_after_part variables (With statement) = variables_after variables statement
-
-abbrev pub variables_after_all : Variables → Stmts → Variables
-variables_after_all variables NoStmt = variables
-variables_after_all variables (ThenStmt statements statement) = variables_after (variables_after_all variables statements) statement
-
-abbrev pub scope_after : Scope → Stmt → Scope
-scope_after scope statement = record scope { variables = variables_after scope.variables statement }
-
-abbrev pub scope_after_part : Scope → MaybeStmt → Scope
-scope_after_part scope part = record scope { variables = variables_after_part scope.variables part }
-
-abbrev pub scope_after_all : Scope → Stmts → Scope
-scope_after_all scope statements = record scope { variables = variables_after_all scope.variables statements }
 
 -- The code of a call: the helper's name, the registers of the arguments, the level of the first, the number of loops round the call, and the number of
 -- its first barrier. Its value is left at that level.
@@ -99,43 +57,6 @@ no_value_code (Some kind) level = instruction.Unset (register_at level (Integer 
 abbrev pub value_code : Option IntType → ℕ → ℕ → List Instruction
 value_code None level from = []
 value_code (Some kind) level from = instruction.Hold (register_at level (Integer kind)) from (Integer kind) ∷ []
-
--- a variable is given a register's value; where there is none of the name, the value is only asked for
-abbrev pub hold_code : Option ℕ → ℕ → VariableType → List Instruction
-hold_code None from kind = instruction.Hold from from kind ∷ []
-hold_code (Some to) from kind = instruction.Hold to from kind ∷ []
-
--- The declaration of an array at a level, behind so many variables: a pointer to its object in local memory, which has their number, or so many elements,
--- none of which is set, of the private array of the level.
-abbrev pub array_code : (is_local : Bool) → IntType → (count number level : ℕ) → List Instruction
-array_code true element count number level = instruction.Local (register_at level (local_pointer element)) number element ∷ []
-array_code false element count number level = instruction.Unset (register_at level (Integer element)) ∷ instruction.UnsetArray level count ∷ []
-
--- the type of what is assigned to
-abbrev pub place_type : Scope → Place → VariableType
-place_type scope (Whole at name) = kind_named scope name
-place_type scope (Part at name index) = Integer (element_of scope name)
-place_type scope (Behind at pointer) = Integer (base_type (kind_of scope pointer))
-
--- The value that is there, by the register of its index in a private array or of the pointer to it.
-abbrev pub fetch_code : Scope → Place → ℕ → ℕ → List Instruction
-fetch_code scope (Whole at name) reached to = variable_code to (register_of scope name) name
-fetch_code scope (Part at name index) reached to =
-    if is_array scope.variables name then private_load scope to name reached ∷ [] else instruction.Load to reached ∷ []
-fetch_code scope (Behind at term) reached to = instruction.Load to reached ∷ []
-
--- a register's value is put there
-abbrev pub put_code : Scope → Place → ℕ → ℕ → List Instruction
-put_code scope (Whole at name) reached from = hold_code (register_of scope name) from (kind_named scope name)
-put_code scope (Part at name index) reached from =
-    if is_array scope.variables name then private_store scope name reached from ∷ [] else instruction.Store reached from ∷ []
-put_code scope (Behind at term) reached from = instruction.Store reached from ∷ []
-
--- an operator on what is there and on a right operand, both of which are at hand, and its value is put there
-abbrev pub combine_code : Scope → Place → ℕ → BinaryOperator → VariableType → ℕ → ℕ → List Instruction
-combine_code scope place level operator kind old right =
-    let to = register_at (level + 1) (infix_type (Arithmetic operator) (place_type scope place) kind) in
-    instruction.Binary to operator old right ∷ put_code scope place (place_register scope level place) to
 
 -- a wait at a barrier
 abbrev pub wait_code : Option Fences → ℕ → ℕ → List Instruction
@@ -266,17 +187,6 @@ module _ (calls : Calls) (results : ℕ → Option IntType) (inside : ℕ → �
         let last = stmt_code (scope_after_all scope statements) statement depth (site + all_sites inside statements) exits in
         stmts_code scope statements depth site (past (length last) exits) ++ last
 
--- the parameters of a function, the last innermost
-abbrev pub parameter_variables : List Parameter → Variables → Variables
-parameter_variables [] variables = variables
-parameter_variables (p ∷ ps) variables = parameter_variables ps (variable p.name p.kind ∷ variables)
-
--- the parameters from a level on are given the arguments of a call
-abbrev pub pass_code : List Parameter → List ℕ → ℕ → List Instruction
-pass_code [] arguments level = []
-pass_code (p ∷ ps) [] level = instruction.Unset (register_at level p.kind) ∷ pass_code ps [] (level + 1)
-pass_code (p ∷ ps) (argument ∷ arguments) level = instruction.Hold (register_at level p.kind) argument p.kind ∷ pass_code ps arguments (level + 1)
-
 -- the type of a helper's value; one calls only functions before it
 abbrev pub result_in : Funcs → ℕ → Option IntType
 result_in NoFunc name = None
@@ -298,11 +208,6 @@ call_code (ThenFunc earlier f) name arguments level depth site =
       | true ↦ pass_code f.parameters arguments level ++ body_code (call_code earlier) (result_in earlier) (sites_in earlier) f level depth site
       | false ↦ call_code earlier name arguments level depth site
     ]
-
--- the parameters from a level on are given the arguments of the launch
-abbrev pub arguments_code : List Parameter → ℕ → List Instruction
-arguments_code [] level = []
-arguments_code (p ∷ ps) level = instruction.Argument (register_at level p.kind) level p.kind ∷ arguments_code ps (level + 1)
 
 -- A kernel, with the functions before it.
 abbrev pub kernel_code : Funcs → Func → List Instruction

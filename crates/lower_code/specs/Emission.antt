@@ -4,20 +4,18 @@ use Rattle.std.specs.declared.alloc.Global.{Global}
 use Rattle.std.specs.Borrow.{Bor}
 use Rattle.clnum.specs.declared.int_type.IntType.{IntType}
 use Rattle.clmodel.specs.Next.{sites_in, part_sites}
-use Rattle.clmodel.specs.Tree.{Stmt, Stmts, NoStmt, stmt, then_stmts, MaybeStmt, Without, With, MaybeTerm, Always, While_, term, Place, Whole, Part, Behind, Funcs, NoFunc, then_funcs, func}
+use Rattle.clmodel.specs.Tree.{Stmt, Stmts, stmt, MaybeStmt, Without, With, MaybeTerm, Always, While_, term, Funcs, NoFunc, then_funcs, func}
 use Rattle.clmodel.specs.declared.tree.Expression.{Expression}
 use Rattle.clmodel.specs.declared.tree.Function.{Function}
 use Rattle.clmodel.specs.declared.tree.Statement as statement
 use Rattle.clmodel.specs.declared.tree.Statement.{Statement}
 use Rattle.regcode.specs.declared.instruction.Instruction.{Instruction}
 use Rattle.regcode.specs.declared.instruction.Instruction.TheVariants as instruction
-use Rattle.lower_expr.specs.Expressions.{place_kind}
 use Rattle.lower_expr.specs.Scope.{Scope}
 use Rattle.lower_code.specs.Code as spec
 use Rattle.lower_code.specs.Code.{Calls, stmt_code, stmts_code, part_code, call_code, pass_code, body_code, result_in, condition_code, body_exits, while_code}
 use Rattle.lower_code.specs.declared.assignments.Call.{Call}
 use Rattle.lower_code.specs.declared.assignments.Split.{Split}
-use Rattle.lower_code.specs.declared.destinations.Destination.{Destination}
 use Rattle.lower_code.specs.declared.functions.Found.{Found}
 use Rattle.lower_code.specs.declared.positions.Exits.{Exits}
 use Rattle.lower_code.specs.declared.positions.Position.{Position}
@@ -52,13 +50,6 @@ is_jump _ = false
 abbrev pub functions_of : List Function → Funcs
 functions_of functions = then_funcs NoFunc (map func functions)
 
-abbrev pub all_of : List Statement → Stmts
-all_of statements = then_stmts NoStmt (map stmt statements)
-
-abbrev pub part_of : Option (Bor Statement) → MaybeStmt
-part_of None = Without
-part_of (Some s) = With (stmt s.now)
-
 abbrev pub boxed_part : Option (Box Statement Global) → MaybeStmt
 boxed_part None = Without
 boxed_part (Some s) = With (stmt s.value)
@@ -88,14 +79,6 @@ found_code functions (Some f) arguments level depth site =
 abbrev pub found_result : Option Found → Option IntType
 found_result None = None
 found_result (Some f) = f.function.now.result
-
-abbrev pub place_name : Place → ℕ
-place_name (Whole at name) = name
-place_name (Part at name index) = name
-place_name (Behind at pointer) = 0
-
-abbrev pub destination_of : Scope → Place → Destination
-destination_of scope to = record { name = place_name to; kind = place_kind scope to }
 
 -- the body of a helper that is called
 abbrev pub called_code : Calls → Option Call → ℕ → ℕ → List Instruction

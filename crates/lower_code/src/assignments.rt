@@ -13,8 +13,6 @@ ghost use Rattle.lower_code.specs.Code as spec;
 ghost use Rattle.lower_code.specs.Code.{Calls, result_in};
 ghost use Rattle.lower_code.specs.Emission.{functions_of, split_code};
 
-use crate::backward::Backward;
-use crate::destinations::{combine, destination_type, fetch, put, reach};
 use crate::functions::find;
 use clmodel::action::Fences;
 use clmodel::barrier::{fences, is_barrier};
@@ -25,6 +23,8 @@ use lower_expr::emission::{emit_arguments, emit_expression};
 use lower_expr::scope::{Scope, level_above, level_at, register_at};
 use lower_expr::tails::{add, call_only};
 use lower_expr::types::call_type;
+use lower_place::backward::Backward;
+use lower_place::destinations::{combine, destination_type, fetch, put, reach};
 use regcode::Instruction;
 use smallvec::SmallVec;
 use std::alloc::AllocError;

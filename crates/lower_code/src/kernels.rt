@@ -7,11 +7,11 @@ ghost use Rattle.clmodel.specs.Tree.{Func, NoFunc, func, then_funcs};
 ghost use Rattle.lower_code.specs.Code.{kernel_code};
 ghost use Rattle.lower_code.specs.Emission.{functions_of};
 
-use crate::backward::Backward;
 use crate::functions::kernel_named;
 use crate::statements::emit_body;
-use crate::variables::put_arguments;
 use clmodel::tree::Function;
+use lower_place::backward::Backward;
+use lower_place::variables::put_arguments;
 use regcode::Instruction;
 use std::alloc::{AllocError, Global};
 

@@ -2,8 +2,6 @@
 #![tactic(auto)]
 
 mod assignments;
-mod backward;
-mod destinations;
 mod functions;
 mod kernels;
 mod loops;
@@ -12,6 +10,5 @@ mod sites;
 mod statements;
 #[cfg(test)]
 mod tests;
-mod variables;
 
 pub use kernels::emit_kernel;

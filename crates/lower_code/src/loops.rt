@@ -10,12 +10,12 @@ ghost use Rattle.lower_expr.specs.Expressions.{expr_code, register_for};
 ghost use Rattle.lower_code.specs.Code as spec;
 ghost use Rattle.lower_code.specs.Emission.{test_of};
 
-use crate::backward::Backward;
 use clmodel::tree::{Expression, VariableType};
 use clnum::IntType;
 use lower_expr::emission::emit_expression;
 use lower_expr::scope::{Scope, register_at, word};
 use lower_expr::tails::add;
+use lower_place::backward::Backward;
 use regcode::Instruction;
 use std::alloc::AllocError;
 

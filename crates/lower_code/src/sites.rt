@@ -6,7 +6,8 @@ ghost use Rattle.clmodel.specs.BuiltIns.{built_in};
 ghost use Rattle.clmodel.specs.Barrier as barrier;
 ghost use Rattle.clmodel.specs.Next as next;
 ghost use Rattle.clmodel.specs.Tree.{stmt, term};
-ghost use Rattle.lower_code.specs.Emission.{all_of, callee_sites, inside, part_of};
+ghost use Rattle.lower_place.specs.Emission.{all_of, part_of};
+ghost use Rattle.lower_code.specs.Emission.{callee_sites, inside};
 
 use clmodel::barrier::is_barrier;
 use clmodel::setup::built_in_named;

@@ -9,23 +9,24 @@ ghost use Rattle.std.specs.Prelude.{◌≡◌, ◌++◌, true, OnOk};
 ghost use Rattle.std.specs.Option.{option_map};
 ghost use Rattle.clmodel.specs.Tree as tree;
 ghost use Rattle.clmodel.specs.Tree.{func, stmt, term};
+ghost use Rattle.lower_place.specs.Emission.{all_of, part_of};
 ghost use Rattle.lower_code.specs.Code.{call_code, body_code, result_in};
-ghost use Rattle.lower_code.specs.Emission.{is_declaration, is_assignment, is_loop, is_jump, functions_of, inside, statement_code, row_code, maybe_code, split_code, all_of, part_of, test_of, turns_code};
+ghost use Rattle.lower_code.specs.Emission.{is_declaration, is_assignment, is_loop, is_jump, functions_of, inside, statement_code, row_code, maybe_code, split_code, test_of, turns_code};
 
 use crate::assignments::{Split, assign, call_statement, compound, declare_as, put_step};
-use crate::backward::Backward;
 use crate::functions::find;
 use crate::loops::{
     begin_loop, end_do, end_while, put_no_value, put_return, put_return_value, put_test,
 };
 use crate::positions::{Exits, Position, Setting};
 use crate::sites::{site_before, site_behind, site_behind_all, site_behind_part};
-use crate::variables::{
+use clmodel::tree::{Expression, Function, Statement};
+use lower_expr::scope::{Scope, level_above};
+use lower_place::backward::Backward;
+use lower_place::variables::{
     declare_all, declare_parameters, declare_part, leave, leave_part, put_array, put_passed,
     put_unset,
 };
-use clmodel::tree::{Expression, Function, Statement};
-use lower_expr::scope::{Scope, level_above};
 use regcode::Instruction;
 use std::alloc::AllocError;
 

@@ -2,7 +2,8 @@ use Rattle.std.proofs.Common.{◌++◌, ap, ◌∙◌}
 use Rattle.clmodel.specs.Next.{helper_call}
 use Rattle.clmodel.specs.Tree.{place, term}
 use Rattle.lower_expr.specs.Expressions.{place_code, place_register}
-use Rattle.lower_code.specs.Code.{result_in, fetch_code}
+use Rattle.lower_place.specs.Places.{fetch_code}
+use Rattle.lower_code.specs.Code.{result_in}
 use Rattle.lower_code.specs.Emission.{functions_of}
 use Rattle.lower_code.proofs.Splits.{split_tail, compound_laid}
 use Rattle.lower_code.proofs.assignments.compound.Goals as goal

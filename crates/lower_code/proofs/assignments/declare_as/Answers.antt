@@ -3,7 +3,8 @@ use Rattle.clmodel.specs.Next.{helper_call}
 use Rattle.clmodel.specs.Tree.{term}
 use Rattle.regcode.specs.declared.instruction.Instruction.TheVariants as instruction
 use Rattle.lower_expr.specs.Scope.{Scope}
-use Rattle.lower_code.specs.Code.{result_in, right_code, right_type, with_variable}
+use Rattle.lower_place.specs.Variables.{with_variable}
+use Rattle.lower_code.specs.Code.{result_in, right_code, right_type}
 use Rattle.lower_code.specs.Emission.{functions_of}
 use Rattle.lower_code.proofs.Splits.{split_tail, declare_laid}
 use Rattle.lower_code.proofs.assignments.declare_as.Goals as goal

@@ -2,8 +2,10 @@ use Rattle.std.proofs.Common.{◌≡◌, ℕ, ◌+◌, ◌-◌, ◌<◌, arith, 
 use denote.Param.Weighed.{most}
 use Rattle.clmodel.specs.Next.{sites, all_sites}
 use Rattle.clmodel.specs.declared.tree.Statement.{size-Statement}
-use Rattle.lower_code.specs.Emission.{inside, all_of, callee_sites}
-use Rattle.lower_code.proofs.Lists.{block_is, row_more, weight_of, inside_hit, inside_miss}
+use Rattle.lower_place.specs.Emission.{all_of}
+use Rattle.lower_place.proofs.Lists.{row_more}
+use Rattle.lower_code.specs.Emission.{inside, callee_sites}
+use Rattle.lower_code.proofs.Lists.{block_is, weight_of, inside_hit, inside_miss}
 use Rattle.lower_code.proofs.sites.+sites.Goals as goal
 
 pub sites-returns-in-Block : goal.sites-returns-in-Block

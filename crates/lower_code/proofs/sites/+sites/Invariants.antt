@@ -1,6 +1,7 @@
 use Rattle.std.proofs.Common.{◌≡◌, ◌+◌, ◌-◌, ◌*◌, length, take}
 use Rattle.clmodel.specs.Next.{all_sites}
-use Rattle.lower_code.specs.Emission.{inside, all_of}
+use Rattle.lower_place.specs.Emission.{all_of}
+use Rattle.lower_code.specs.Emission.{inside}
 use Rattle.lower_code.proofs.Lists.{weight}
 use Rattle.lower_code.proofs.sites.+sites.Given as goal
 

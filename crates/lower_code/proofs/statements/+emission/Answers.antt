@@ -6,11 +6,14 @@ use Rattle.regcode.specs.declared.instruction.Instruction.{Instruction}
 use Rattle.regcode.specs.declared.instruction.Instruction.TheVariants as instruction
 use Rattle.lower_expr.specs.Scope.{Scope, free_level}
 use Rattle.lower_expr.specs.Expressions.{expr_code, register_for}
-use Rattle.lower_code.specs.Code.{Exits, past, stmt_code, stmts_code, step_code, while_code, call_code, result_in, scope_after_all}
-use Rattle.lower_code.specs.Emission.{functions_of, inside, statement_code, row_code, all_of, part_of, test_of, exits_of, split_code, turns_code}
+use Rattle.lower_place.specs.Variables.{scope_after_all}
+use Rattle.lower_place.specs.Emission.{all_of, part_of}
+use Rattle.lower_place.proofs.Lists.{row_more}
+use Rattle.lower_code.specs.Code.{Exits, past, stmt_code, stmts_code, step_code, while_code, call_code, result_in}
+use Rattle.lower_code.specs.Emission.{functions_of, inside, statement_code, row_code, test_of, exits_of, split_code, turns_code}
 use Rattle.lower_code.proofs.Calling.{assign_is, step_is, declare_is, call_is}
 use Rattle.lower_code.proofs.Rows.{row_laid, longer, placed, choice_placed, turns_placed}
-use Rattle.lower_code.proofs.Lists.{block_is, row_more, weight_of}
+use Rattle.lower_code.proofs.Lists.{block_is, weight_of}
 use Rattle.lower_code.proofs.statements.+emission.Goals as goal
 
 pub emit_call-emit_body-requires : goal.emit_call-emit_body-requires

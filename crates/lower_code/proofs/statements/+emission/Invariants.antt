@@ -2,8 +2,10 @@ use Rattle.std.proofs.Common.{◌≡◌, ◌+◌, ◌-◌, ◌*◌, ◌≤◌, �
 use denote.Param.Weighed.{most}
 use Rattle.clmodel.specs.Next.{all_sites}
 use Rattle.clmodel.specs.declared.tree.Statement.{size-Statement}
-use Rattle.lower_code.specs.Code.{stmts_code, call_code, result_in, scope_after_all, past}
-use Rattle.lower_code.specs.Emission.{functions_of, inside, all_of, exits_of, row_code}
+use Rattle.lower_place.specs.Variables.{scope_after_all}
+use Rattle.lower_place.specs.Emission.{all_of}
+use Rattle.lower_code.specs.Code.{stmts_code, call_code, result_in, past}
+use Rattle.lower_code.specs.Emission.{functions_of, inside, exits_of, row_code}
 use Rattle.lower_code.proofs.Lists.{weight, part_depth}
 use Rattle.lower_code.proofs.statements.+emission.Given as goal
 

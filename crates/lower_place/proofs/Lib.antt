@@ -1,0 +1,4 @@
+pub mod Backwards
+pub mod Lists
+pub mod Parameters
+pub mod Places
