@@ -1,9 +1,11 @@
 //! Laws of an item's next action, and of types.
 #![tactic(auto)]
 
-ghost use Rattle.std.specs.Prelude.{◌≡◌, ℕ, pos, map, List, [], ◌∷◌};
+ghost use Rattle.std.specs.Prelude.{◌≡◌, ◌≢◌, ◌⊎◌, ℕ, pos, ◌≤ℤ◌, ◌<ℤ◌, map, length, Option, None, Some, List, [], ◌∷◌};
+ghost use Rattle.clnum.specs.Integer.{Integer, converted};
+ghost use Rattle.clnum.specs.declared.int_type.IntType.{IntType};
 ghost use Rattle.clmodel.specs.Examples.{sum_by_helper, three_turns, continues, three_barriers, nested, through_local, kept_in_private, narrowed, unset_element, stored_before, loaded_behind, declared_again, in_local_array, stores, waits};
-ghost use Rattle.clmodel.specs.Next.{launch_of, next};
+ghost use Rattle.clmodel.specs.Next.{Run, fail, index_of, element_at, read_element, write_element, private_array, launch_of, next};
 ghost use Rattle.clmodel.specs.Law.{IsBounded};
 ghost use Rattle.clmodel.specs.Setup.{Setup};
 ghost use Rattle.clmodel.specs.Typing.Samples.{AreSampled};
@@ -13,6 +15,8 @@ ghost use Rattle.clmodel.specs.declared.access.Width.TheVariants.{Four};
 ghost use Rattle.clmodel.specs.declared.action.Action.TheVariants as action;
 ghost use Rattle.clmodel.specs.declared.action.Answer.TheVariants.{Done};
 ghost use Rattle.clmodel.specs.declared.action.Cause.TheVariants as cause;
+ghost use Rattle.clmodel.specs.declared.operand.Operand.{Operand};
+ghost use Rattle.clmodel.specs.declared.operand.Operand.TheVariants.{Integral};
 
 /// An item that has been answered as often as the budget allows makes no further action: each action is a tick.
 pub fn budget_bounds()
@@ -52,6 +56,20 @@ pub fn arrays()
     ensures unset_again { next (declared_again 9) 0 [] ≡ action.Fault (cause.UnsetElement 32 (pos 0)) }
     ensures local { next (in_local_array 9) 0 [] ≡ action.Access (object.Local 2) (pos 1) (operation.Store Four 3) }
     ensures sizes { (bytes : List ℕ → List ℕ) → (launch_of (in_local_array 9) bytes).local_sizes ≡ 0 ∷ 0 ∷ 8 ∷ [] }
+{}
+
+/// Elements of a private array of each type (OpenCL 1.2, sections 6.2.3 and 6.5.4; C99 6.5.2.1; range and unset are this project's own).
+/// What is put at an index in range is read there converted to the elements' type; the other elements stay, and so does the length.
+/// An index out of range is the bounds fault, for a number that is put as for one that is read; an element that isn't set is the unset fault,
+/// and no element is set where an array is declared.
+pub fn elements_keep()
+    ensures put { (name : ℕ) (kind : IntType) (elements : List (Option ℕ)) (i v : Integer) (after : Operand → Run) → pos 0 ≤ℤ index_of i → index_of i <ℤ pos (length elements) → write_element name kind elements (Integral i) (Integral v) (λ new. read_element name kind new (Integral i) after) ≡ after (Integral (converted v kind)) }
+    ensures kept { (name : ℕ) (kind : IntType) (elements : List (Option ℕ)) (i v j : Integer) (after : Operand → Run) → pos 0 ≤ℤ index_of i → index_of i <ℤ pos (length elements) → index_of i ≢ index_of j → write_element name kind elements (Integral i) (Integral v) (λ new. read_element name kind new (Integral j) after) ≡ read_element name kind elements (Integral j) after }
+    ensures as_many { (name : ℕ) (kind : IntType) (elements : List (Option ℕ)) (i v : Integer) (after : ℕ → Run) → pos 0 ≤ℤ index_of i → index_of i <ℤ pos (length elements) → write_element name kind elements (Integral i) (Integral v) (λ new. after (length new)) ≡ after (length elements) }
+    ensures put_outside { (name : ℕ) (kind : IntType) (elements : List (Option ℕ)) (i v : Integer) (after : List (Option ℕ) → Run) → (index_of i <ℤ pos 0) ⊎ (pos (length elements) ≤ℤ index_of i) → write_element name kind elements (Integral i) (Integral v) after ≡ fail (cause.PrivateBounds name (index_of i)) }
+    ensures read_outside { (name : ℕ) (kind : IntType) (elements : List (Option ℕ)) (i : Integer) (after : Operand → Run) → (index_of i <ℤ pos 0) ⊎ (pos (length elements) ≤ℤ index_of i) → read_element name kind elements (Integral i) after ≡ fail (cause.PrivateBounds name (index_of i)) }
+    ensures unset { (name : ℕ) (kind : IntType) (elements : List (Option ℕ)) (i : Integer) (after : Operand → Run) → element_at elements (index_of i) ≡ Some None → read_element name kind elements (Integral i) after ≡ fail (cause.UnsetElement name (index_of i)) }
+    ensures declared { (name : ℕ) (kind : IntType) (count : ℕ) (i : Integer) (after : Operand → Run) → pos 0 ≤ℤ index_of i → index_of i <ℤ pos count → read_element name kind (private_array kind count name).elements (Integral i) after ≡ fail (cause.UnsetElement name (index_of i)) }
 {}
 
 /// The first faults of some statements with barriers and pointers.
