@@ -1,5 +1,6 @@
 -- What is put into an element of a private array is what is read there, converted; the other elements and the other variables stay.
-use Rattle.std.proofs.Common.{◌≡◌, ◌≢◌, ℕ, zero, suc, ◌-◌, ◌^◌, ◌%◌, ◌<◌, ◌≤◌, ◌==◌, ℤ, pos, negsuc, ◌≤ℤ◌, ◌<ℤ◌, ◌⊎◌, inl, inr, Bool, true, false, nat_lt, if◌then◌else◌, Option, None, Some, List, [], ◌∷◌, length, replicate, slice_get, slice_set, refl, sym, ap, ◌∙◌, arith, lit<, lt-ltb}
+use Rattle.std.proofs.Common.{◌≡◌, ◌≢◌, ℕ, zero, suc, ◌-◌, ◌^◌, ◌%◌, ◌<◌, ◌≤◌, ◌==◌, ℤ, pos, negsuc, ◌≤ℤ◌, ◌<ℤ◌, ◌⊎◌, inl, inr, Bool, true, false, nat_lt, if◌then◌else◌, Option, None, Some, List, [], ◌∷◌, length, replicate, slice_get, slice_set, refl, sym, ap, ◌∙◌, arith, lit<, lt-ltb, eqb-true, ne_eqb}
+use mathlib.Core.Path.{fun_ext}
 use Rattle.std.proofs.Math.Nat.{mod-eq_of_lt}
 use Rattle.std.proofs.lemmas.Bool.Decides.{nat_tests}
 use Rattle.std.proofs.lemmas.Int.{ints}
@@ -9,9 +10,11 @@ use Rattle.clnum.specs.Operations.{wrapped}
 use Rattle.clnum.specs.declared.int_type.IntType.{IntType}
 use Rattle.clnum.specs.declared.int_type.IntType.TheVariants.{Char, Uchar, Short, Ushort, Int, Uint, Long, Ulong}
 use Rattle.clnum.proofs.Residues.{residue-below}
-use Rattle.clmodel.specs.Next.{Run, fail, element_at, element_value, element_set, read_element, write_element, index_of}
+use Rattle.clmodel.specs.Next.{Run, fail, Binding, Variables, look, declared_type, elements_of, with_elements, base_type, fetch, put, element_at, element_value, element_set, read_element, write_element, index_of}
+use Rattle.clmodel.specs.Next.Expressions.{ElementOf}
 use Rattle.clmodel.specs.declared.action.Cause.TheVariants as cause
 use Rattle.clmodel.specs.declared.operand.Operand.{Operand}
+use Rattle.clmodel.specs.declared.tree.VariableType.{VariableType}
 use Rattle.clmodel.specs.declared.operand.Operand.TheVariants.{Integral}
 use Rattle.clmodel.proofs.Steps.{if_true, if_false}
 
@@ -146,3 +149,100 @@ pub unset_at_first :
     (name : ℕ) (kind : IntType) (count : ℕ) (i : Integer) (after : Operand → Run) → pos 0 ≤ℤ index_of i → index_of i <ℤ pos count
     → read_element name kind (replicate count None) (Integral i) after ≡ fail (cause.UnsetElement name (index_of i))
 unset_at_first name kind count i after from below = read_unset name kind (replicate count None) i after (unset_at count (index_of i) from below)
+
+-- ---- arrays in scope
+
+module _ (name : ℕ) (new : List (Option ℕ)) where
+  -- the innermost of these variables, where it is the array and where it isn't
+  abbrev changed : Bool → Binding → Variables → Variables
+  changed b variable variables = elim b [ true ↦ record variable { elements = new } ∷ variables | false ↦ variable ∷ with_elements variables name new ]
+
+  look_stays : (variables : Variables) (x : ℕ) → look (with_elements variables name new) x ≡ look variables x
+  look_stays [] x = refl
+  look_stays (variable ∷ variables) x = go (name == variable.name) (look_stays variables x)
+    where
+      go : (b : Bool) → look (with_elements variables name new) x ≡ look variables x → look (changed b variable variables) x ≡ look (variable ∷ variables) x
+      go true h = refl
+      go false h = ap (λ o. elim (x == variable.name) as (λ _. Option Operand) [ true ↦ variable.content | false ↦ o ]) h
+
+  type_stays : (variables : Variables) (x : ℕ) → declared_type (with_elements variables name new) x ≡ declared_type variables x
+  type_stays [] x = refl
+  type_stays (variable ∷ variables) x = go (name == variable.name) (type_stays variables x)
+    where
+      go : (b : Bool) → declared_type (with_elements variables name new) x ≡ declared_type variables x
+          → declared_type (changed b variable variables) x ≡ declared_type (variable ∷ variables) x
+      go true h = refl
+      go false h = ap (λ k. elim (x == variable.name) as (λ _. VariableType) [ true ↦ variable.kind | false ↦ k ]) h
+
+  array_stays : (variables : Variables) (x : ℕ) → x ≢ name → elements_of (with_elements variables name new) x ≡ elements_of variables x
+  array_stays [] x apart = refl
+  array_stays (variable ∷ variables) x apart = go (name == variable.name) refl (array_stays variables x apart)
+    where
+      go : (b : Bool) → (name == variable.name) ≡ b → elements_of (with_elements variables name new) x ≡ elements_of variables x
+          → elements_of (changed b variable variables) x ≡ elements_of (variable ∷ variables) x
+      go true e h =
+          let other : (x == variable.name) ≡ false = ne_eqb x variable.name (λ p. apart (p ∙ sym (eqb-true name variable.name e))) in
+          ap (λ b. elim b as (λ _. List (Option ℕ)) [ true ↦ new | false ↦ elements_of variables x ]) other
+          ∙ sym (ap (λ b. elim b as (λ _. List (Option ℕ)) [ true ↦ variable.elements | false ↦ elements_of variables x ]) other)
+      go false e h = ap (λ o. elim (x == variable.name) as (λ _. List (Option ℕ)) [ true ↦ variable.elements | false ↦ o ]) h
+
+  array_there : (variables : Variables) → 0 < length (elements_of variables name) → elements_of (with_elements variables name new) name ≡ new
+  array_there [] some = absurd (omega arith)
+  array_there (variable ∷ variables) some = go (name == variable.name) refl some (λ k. array_there variables k)
+    where
+      go : (b : Bool) → (name == variable.name) ≡ b
+          → 0 < length (elim b as (λ _. List (Option ℕ)) [ true ↦ variable.elements | false ↦ elements_of variables name ])
+          → (0 < length (elements_of variables name) → elements_of (with_elements variables name new) name ≡ new)
+          → elements_of (changed b variable variables) name ≡ new
+      go true e k h = ap (λ b. elim b as (λ _. List (Option ℕ)) [ true ↦ new | false ↦ elements_of variables name ]) e
+      go false e k h =
+          ap (λ b. elim b as (λ _. List (Option ℕ)) [ true ↦ variable.elements | false ↦ elements_of (with_elements variables name new) name ]) e ∙ h k
+
+some_element : (count : ℕ) (z : ℤ) → pos 0 ≤ℤ z → z <ℤ pos count → 0 < count
+some_element count (pos n) from below = omega (arith, ints)
+some_element count (negsuc n) from below = absurd (omega (arith, ints))
+
+-- how an element of the array is read once the array has other elements
+read_new : (name : ℕ) (variables : Variables) (j : Integer) (after : Operand → Run) → 0 < length (elements_of variables name)
+    → ◌≡◌ {A = List (Option ℕ) → Run} (λ new. fetch (ElementOf name (Integral j)) (with_elements variables name new) after)
+    (λ new. read_element name (base_type (declared_type variables name)) new (Integral j) after)
+read_new name variables j after some =
+    fun_ext (λ new.
+    ap (λ k. read_element name (base_type k) (elements_of (with_elements variables name new) name) (Integral j) after) (type_stays name new variables name)
+    ∙ ap (λ es. read_element name (base_type (declared_type variables name)) es (Integral j) after) (array_there name new variables some))
+
+module _ (name : ℕ) (variables : Variables) (i v : Integer) (from : pos 0 ≤ℤ index_of i) (below : index_of i <ℤ pos (length (elements_of variables name))) where
+  abbrev kind : IntType
+  kind = base_type (declared_type variables name)
+
+  abbrev own : List (Option ℕ)
+  own = elements_of variables name
+
+  pub put_is_fetched : (after : Operand → Run)
+      → put (ElementOf name (Integral i)) (Integral v) variables (λ now. fetch (ElementOf name (Integral i)) now after)
+      ≡ after (Integral (converted v (base_type (declared_type variables name))))
+  put_is_fetched after =
+      ap (write_element name kind own (Integral i) (Integral v)) (read_new name variables i after (some_element (length own) (index_of i) from below))
+      ∙ put_is_read name kind own i v after from below
+
+  pub others_are_fetched : (j : Integer) (after : Operand → Run) → index_of i ≢ index_of j
+      → put (ElementOf name (Integral i)) (Integral v) variables (λ now. fetch (ElementOf name (Integral j)) now after)
+      ≡ fetch (ElementOf name (Integral j)) variables after
+  others_are_fetched j after apart =
+      ap (write_element name kind own (Integral i) (Integral v)) (read_new name variables j after (some_element (length own) (index_of i) from below))
+      ∙ others_stay name kind own i v j after from below apart
+
+  -- what the new elements don't change goes on as it was
+  unchanged : {X : Type 0} (of : Variables → X) (after : X → Run) → ((new : List (Option ℕ)) → of (with_elements variables name new) ≡ of variables)
+      → put (ElementOf name (Integral i)) (Integral v) variables (λ now. after (of now)) ≡ after (of variables)
+  unchanged of after stays =
+      ap (write_element name kind own (Integral i) (Integral v)) (fun_ext (λ new. ap after (stays new)))
+      ∙ length_stays name kind own i v (λ _. after (of variables)) from below
+
+  pub arrays_stay : (x : ℕ) (after : List (Option ℕ) → Run) → x ≢ name
+      → put (ElementOf name (Integral i)) (Integral v) variables (λ now. after (elements_of now x)) ≡ after (elements_of variables x)
+  arrays_stay x after apart = unchanged (λ now. elements_of now x) after (λ new. array_stays name new variables x apart)
+
+  pub variables_stay : (x : ℕ) (after : Option Operand → Run)
+      → put (ElementOf name (Integral i)) (Integral v) variables (λ now. after (look now x)) ≡ after (look variables x)
+  variables_stay x after = unchanged (λ now. look now x) after (λ new. look_stays name new variables x)

@@ -5,7 +5,8 @@ ghost use Rattle.std.specs.Prelude.{◌≡◌, ◌≢◌, ◌⊎◌, ℕ, pos, �
 ghost use Rattle.clnum.specs.Integer.{Integer, converted};
 ghost use Rattle.clnum.specs.declared.int_type.IntType.{IntType};
 ghost use Rattle.clmodel.specs.Examples.{sum_by_helper, three_turns, continues, three_barriers, nested, through_local, kept_in_private, narrowed, unset_element, stored_before, loaded_behind, declared_again, in_local_array, stores, waits};
-ghost use Rattle.clmodel.specs.Next.{Run, fail, index_of, element_at, read_element, write_element, private_array, launch_of, next};
+ghost use Rattle.clmodel.specs.Next.{Run, fail, Variables, look, declared_type, elements_of, base_type, fetch, put, index_of, element_at, read_element, write_element, private_array, launch_of, next};
+ghost use Rattle.clmodel.specs.Next.Expressions.{ElementOf};
 ghost use Rattle.clmodel.specs.Law.{IsBounded};
 ghost use Rattle.clmodel.specs.Setup.{Setup};
 ghost use Rattle.clmodel.specs.Typing.Samples.{AreSampled};
@@ -70,6 +71,15 @@ pub fn elements_keep()
     ensures read_outside { (name : ℕ) (kind : IntType) (elements : List (Option ℕ)) (i : Integer) (after : Operand → Run) → (index_of i <ℤ pos 0) ⊎ (pos (length elements) ≤ℤ index_of i) → read_element name kind elements (Integral i) after ≡ fail (cause.PrivateBounds name (index_of i)) }
     ensures unset { (name : ℕ) (kind : IntType) (elements : List (Option ℕ)) (i : Integer) (after : Operand → Run) → element_at elements (index_of i) ≡ Some None → read_element name kind elements (Integral i) after ≡ fail (cause.UnsetElement name (index_of i)) }
     ensures declared { (name : ℕ) (kind : IntType) (count : ℕ) (i : Integer) (after : Operand → Run) → pos 0 ≤ℤ index_of i → index_of i <ℤ pos count → read_element name kind (private_array kind count name).elements (Integral i) after ≡ fail (cause.UnsetElement name (index_of i)) }
+{}
+
+/// Private arrays in scope, as assignment finds them (C99 6.5.16): what is put into an element in range is fetched there converted to the
+/// elements' type, and the other elements, the other arrays and what variables hold stay.
+pub fn arrays_keep()
+    ensures put { (name : ℕ) (variables : Variables) (i v : Integer) → pos 0 ≤ℤ index_of i → index_of i <ℤ pos (length (elements_of variables name)) → (after : Operand → Run) → put (ElementOf name (Integral i)) (Integral v) variables (λ now. fetch (ElementOf name (Integral i)) now after) ≡ after (Integral (converted v (base_type (declared_type variables name)))) }
+    ensures kept { (name : ℕ) (variables : Variables) (i v : Integer) → pos 0 ≤ℤ index_of i → index_of i <ℤ pos (length (elements_of variables name)) → (j : Integer) (after : Operand → Run) → index_of i ≢ index_of j → put (ElementOf name (Integral i)) (Integral v) variables (λ now. fetch (ElementOf name (Integral j)) now after) ≡ fetch (ElementOf name (Integral j)) variables after }
+    ensures arrays { (name : ℕ) (variables : Variables) (i v : Integer) → pos 0 ≤ℤ index_of i → index_of i <ℤ pos (length (elements_of variables name)) → (x : ℕ) (after : List (Option ℕ) → Run) → x ≢ name → put (ElementOf name (Integral i)) (Integral v) variables (λ now. after (elements_of now x)) ≡ after (elements_of variables x) }
+    ensures variables { (name : ℕ) (variables : Variables) (i v : Integer) → pos 0 ≤ℤ index_of i → index_of i <ℤ pos (length (elements_of variables name)) → (x : ℕ) (after : Option Operand → Run) → put (ElementOf name (Integral i)) (Integral v) variables (λ now. after (look now x)) ≡ after (look variables x) }
 {}
 
 /// The first faults of some statements with barriers and pointers.
