@@ -1,10 +1,11 @@
 //! Laws of an item's next action, and of types.
 #![tactic(auto)]
 
-ghost use Rattle.std.specs.Prelude.{◌≡◌, ◌≢◌, ◌⊎◌, ℕ, pos, ◌≤ℤ◌, ◌<ℤ◌, map, length, Option, None, Some, List, [], ◌∷◌};
+ghost use Rattle.std.specs.Prelude.{◌≡◌, ◌≢◌, ◌⊎◌, ℕ, pos, negsuc, ◌≤ℤ◌, ◌<ℤ◌, map, length, Option, None, Some, List, [], ◌∷◌};
 ghost use Rattle.clnum.specs.Integer.{Integer, converted};
 ghost use Rattle.clnum.specs.declared.int_type.IntType.{IntType};
-ghost use Rattle.clmodel.specs.Examples.{sum_by_helper, three_turns, continues, three_barriers, nested, through_local, kept_in_private, narrowed, unset_element, stored_before, loaded_behind, declared_again, in_local_array, stores, waits};
+ghost use Rattle.clnum.specs.declared.int_type.IntType.TheVariants.{Uint, Ulong};
+ghost use Rattle.clmodel.specs.Examples.{sum_by_helper, three_turns, continues, three_barriers, nested, through_local, kept_in_private, narrowed, unset_element, stored_before, loaded_behind, declared_again, in_local_array, stepped, stepped_unset, put_at, added_at, added_to_unset, unset_index, unset_value, without_ticks, called_again, added_by_helper, shorter_behind, unset_behind, hidden, local_hidden, continued_past, numbered, passed_on, stores, waits};
 ghost use Rattle.clmodel.specs.Next.{Run, fail, Variables, look, declared_type, elements_of, base_type, fetch, put, index_of, element_at, read_element, write_element, private_array, launch_of, next};
 ghost use Rattle.clmodel.specs.Next.Expressions.{ElementOf};
 ghost use Rattle.clmodel.specs.Law.{IsBounded};
@@ -12,7 +13,7 @@ ghost use Rattle.clmodel.specs.Setup.{Setup};
 ghost use Rattle.clmodel.specs.Typing.Samples.{AreSampled};
 ghost use Rattle.clmodel.specs.declared.access.Object.TheVariants as object;
 ghost use Rattle.clmodel.specs.declared.access.Operation.TheVariants as operation;
-ghost use Rattle.clmodel.specs.declared.access.Width.TheVariants.{Four};
+ghost use Rattle.clmodel.specs.declared.access.Width.TheVariants.{One, Four};
 ghost use Rattle.clmodel.specs.declared.action.Action.TheVariants as action;
 ghost use Rattle.clmodel.specs.declared.action.Answer.TheVariants.{Done};
 ghost use Rattle.clmodel.specs.declared.action.Cause.TheVariants as cause;
@@ -57,6 +58,44 @@ pub fn arrays()
     ensures unset_again { next (declared_again 9) 0 [] ≡ action.Fault (cause.UnsetElement 32 (pos 0)) }
     ensures local { next (in_local_array 9) 0 [] ≡ action.Access (object.Local 2) (pos 1) (operation.Store Four 3) }
     ensures sizes { (bytes : List ℕ → List ℕ) → (launch_of (in_local_array 9) bytes).local_sizes ≡ 0 ∷ 0 ∷ 8 ∷ [] }
+{}
+
+/// In which order the parts of an assignment to an element are evaluated and tested, and how an index is read (own; C99 6.5.16 leaves the order open).
+pub fn elements_in_order()
+    ensures stepped { next (stepped 9) 0 [] ≡ stores 4294967168 }
+    ensures stepped_unset { next (stepped_unset 9) 0 [] ≡ action.Fault (cause.UnsetElement 32 (pos 1)) }
+    ensures all_bits { next (put_at (record { kind = Ulong; number = pos 18446744073709551615 }) 9) 0 [] ≡ action.Fault (cause.PrivateBounds 32 (negsuc 0)) }
+    ensures half_of_them { next (added_at (record { kind = Ulong; number = pos 9223372036854775808 }) 9) 0 [] ≡ action.Fault (cause.PrivateBounds 32 (negsuc 9223372036854775807)) }
+    ensures unsigned { next (put_at (record { kind = Uint; number = pos 4294967295 }) 9) 0 [] ≡ action.Fault (cause.PrivateBounds 32 (pos 4294967295)) }
+    ensures element_before_value { next (added_to_unset 9) 0 [] ≡ action.Fault (cause.UnsetElement 32 (pos 1)) }
+    ensures index_before_value { next (unset_index 9) 0 [] ≡ action.Fault (cause.UnsetVariable 31) }
+    ensures value_before_range { next (unset_value 9) 0 [] ≡ action.Fault (cause.UnsetVariable 31) }
+    ensures no_ticks { next (without_ticks 1) 0 [] ≡ stores 10 }
+    ensures no_ticks_behind { next (without_ticks 1) 0 (Done ∷ []) ≡ action.Fault (cause.PrivateBounds 32 (pos 1)) }
+{}
+
+/// Arrays in blocks, in turns of a loop and in helpers (OpenCL 1.2, section 6.5; C99 6.2.1, paragraph 4, and 6.2.4, paragraph 5).
+pub fn arrays_in_blocks()
+    ensures called { next (called_again 9) 0 [] ≡ stores 1 }
+    ensures called_again { next (called_again 9) 0 (Done ∷ []) ≡ action.Fault (cause.UnsetElement 32 (pos 0)) }
+    ensures added_by_helper { next (added_by_helper 9) 0 [] ≡ stores 9 }
+    ensures longer { next (shorter_behind 9) 0 [] ≡ stores 7 }
+    ensures shorter { next (shorter_behind 9) 0 (Done ∷ []) ≡ action.Fault (cause.PrivateBounds 34 (pos 2)) }
+    ensures unset_behind { next (unset_behind 9) 0 [] ≡ action.Fault (cause.UnsetElement 34 (pos 0)) }
+    ensures hidden { next (hidden 9) 0 [] ≡ stores 3 }
+    ensures seen_again { next (hidden 9) 0 (Done ∷ []) ≡ action.Access (object.Buffer 0) (pos 1) (operation.Store Four 1) }
+    ensures hiding { next (local_hidden 9) 0 (Done ∷ []) ≡ stores 6 }
+    ensures local_again { next (local_hidden 9) 0 (Done ∷ Done ∷ []) ≡ action.Access (object.Local 1) (pos 0) (operation.Load Four) }
+    ensures first_turn_continued { next (continued_past 9) 0 [] ≡ stores 1 }
+    ensures third_turn { next (continued_past 9) 0 (Done ∷ []) ≡ stores 2 }
+{}
+
+/// Local arrays: which objects they are, and how pointers to them are passed on (OpenCL 1.2, section 6.5.2).
+pub fn local_arrays()
+    ensures sizes { (bytes : List ℕ → List ℕ) → (launch_of (numbered 9) bytes).local_sizes ≡ 4 ∷ 0 ∷ 0 ∷ 0 ∷ 8 ∷ 8 ∷ [] }
+    ensures numbered { next (numbered 9) 0 [] ≡ action.Access (object.Local 5) (pos 0) (operation.Store Four 3) }
+    ensures narrow { next (numbered 9) 0 (Done ∷ []) ≡ action.Access (object.Local 4) (pos 4) (operation.Store One 9) }
+    ensures passed_on { next (passed_on 9) 0 [] ≡ action.Access (object.Local 2) (pos 4) (operation.Store Four 1) }
 {}
 
 /// Elements of a private array of each type (OpenCL 1.2, sections 6.2.3 and 6.5.4; C99 6.5.2.1; range and unset are this project's own).
