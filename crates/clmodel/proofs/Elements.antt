@@ -1,11 +1,11 @@
 -- What is put into an element of a private array is what is read there, converted; the other elements and the other variables stay.
-use Rattle.std.proofs.Common.{◌≡◌, ◌≢◌, ℕ, zero, suc, ◌-◌, ◌^◌, ◌%◌, ◌<◌, ◌≤◌, ◌==◌, ℤ, pos, negsuc, ◌≤ℤ◌, ◌<ℤ◌, ◌⊎◌, inl, inr, Bool, true, false, nat_lt, if◌then◌else◌, Option, None, Some, List, [], ◌∷◌, length, replicate, slice_get, slice_set, refl, sym, ap, ◌∙◌, arith, lit<, lt-ltb, eqb-true, ne_eqb}
+use Rattle.std.proofs.Common.{◌≡◌, ◌≢◌, ℕ, zero, suc, ◌^◌, ◌<◌, ◌≤◌, ◌==◌, ℤ, pos, negsuc, ◌≤ℤ◌, ◌<ℤ◌, ◌⊎◌, inl, inr, Bool, true, false, nat_lt, Option, None, Some, List, [], ◌∷◌, length, replicate, slice_get, slice_set, refl, sym, ap, ◌∙◌, arith, lit<, lt-ltb, eqb-true, ne_eqb}
 use mathlib.Core.Path.{fun_ext}
 use Rattle.std.proofs.Math.Nat.{mod-eq_of_lt}
 use Rattle.std.proofs.lemmas.Bool.Decides.{nat_tests}
 use Rattle.std.proofs.lemmas.Int.{ints}
 use Rattle.std.proofs.lemmas.Option.{slice_get_past}
-use Rattle.clnum.specs.Integer.{Integer, bits, residue, read_as, bits_of, wrap, converted}
+use Rattle.clnum.specs.Integer.{Integer, bits, read_as, bits_of, wrap, converted}
 use Rattle.clnum.specs.Operations.{wrapped}
 use Rattle.clnum.specs.declared.int_type.IntType.{IntType}
 use Rattle.clnum.specs.declared.int_type.IntType.TheVariants.{Char, Uchar, Short, Ushort, Int, Uint, Long, Ulong}
