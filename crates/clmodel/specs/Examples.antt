@@ -325,7 +325,7 @@ local_hidden =
     (local_ints 2
     ∷ into_q (number 5)
     ∷ block
-        (DeclareArray 0 false Int 0 33 0 (record { kind = Int; number = pos 1 }) ∷ into_q (number 6) ∷ store (Element 0 33 (number 0)) ∷ [])
+    (DeclareArray 0 false Int 0 33 0 (record { kind = Int; number = pos 1 }) ∷ into_q (number 6) ∷ store (Element 0 33 (number 0)) ∷ [])
     ∷ store_second (Element 0 33 (number 0))
     ∷ [])
 

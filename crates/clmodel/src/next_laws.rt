@@ -25,7 +25,7 @@ pub fn budget_bounds()
     ensures { (setup : Setup) (bytes : List ℕ → List ℕ) → IsBounded (launch_of setup bytes) setup.budget }
 {}
 
-/// What items of small kernels do (OpenCL 1.2, sections 6.9, 6.11 and 6.12.8; C99 6.8.5 and 6.8.6).
+/// What items of small kernels do (OpenCL 1.2, sections 6.9 and 6.12.8; C99 6.8.5 and 6.8.6).
 pub fn small_kernels()
     ensures helper_returns { next (sum_by_helper 5) 0 [] ≡ stores 10 }
     ensures turns_are_ticks { next (sum_by_helper 4) 0 [] ≡ action.Fault cause.Budget }
@@ -41,7 +41,8 @@ pub fn small_kernels()
     ensures outer_turn { next (nested 20) 0 (Done ∷ Done ∷ Done ∷ []) ≡ waits 0 (2 ∷ 1 ∷ []) }
 {}
 
-/// What an item does in local memory (OpenCL 1.2, section 6.5.2): its launch has an object for each parameter.
+/// What an item does in local memory (OpenCL 1.2, section 6.5.2): its launch has a place for an object for each
+/// parameter, of no bytes where that isn't local memory.
 pub fn local_memory()
     ensures sizes { (bytes : List ℕ → List ℕ) → (launch_of (through_local 9) bytes).local_sizes ≡ 0 ∷ 8 ∷ [] }
     ensures store { next (through_local 9) 0 [] ≡ action.Access (object.Local 1) (pos 0) (operation.Store Four 1) }
@@ -60,7 +61,8 @@ pub fn arrays()
     ensures sizes { (bytes : List ℕ → List ℕ) → (launch_of (in_local_array 9) bytes).local_sizes ≡ 0 ∷ 0 ∷ 8 ∷ [] }
 {}
 
-/// In which order the parts of an assignment to an element are evaluated and tested, and how an index is read (own; C99 6.5.16 leaves the order open).
+/// In which order the parts of an assignment to an element are evaluated and tested, and how an index is read (OpenCL
+/// 1.2, section 6.2.3; C99 6.5.2.1 and 6.5.16, which leaves the order open; the order, the range and 64 bits of an index are this project's own).
 pub fn elements_in_order()
     ensures stepped { next (stepped 9) 0 [] ≡ stores 4294967168 }
     ensures stepped_unset { next (stepped_unset 9) 0 [] ≡ action.Fault (cause.UnsetElement 32 (pos 1)) }
