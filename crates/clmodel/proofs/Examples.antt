@@ -1,13 +1,14 @@
 -- The next action of some kernels, computed.
-use Rattle.std.proofs.Common.{◌≡◌, pos, [], ◌∷◌, refl}
+use Rattle.std.proofs.Common.{◌≡◌, pos, negsuc, [], ◌∷◌, refl}
 use Rattle.clnum.specs.Conversions as conversions
 use Rattle.clnum.specs.Integer as integer
 use Rattle.clnum.specs.Operations as operations
+use Rattle.clnum.specs.declared.int_type.IntType.TheVariants.{Uint, Ulong}
 use Rattle.clmodel.specs.Next.{next}
-use Rattle.clmodel.specs.Examples.{stores, waits, sum_by_helper, three_turns, continues, three_barriers, nested, through_local, kept_in_private, narrowed, unset_element, stored_before, loaded_behind, declared_again, in_local_array}
+use Rattle.clmodel.specs.Examples.{stores, waits, sum_by_helper, three_turns, continues, three_barriers, nested, through_local, kept_in_private, narrowed, unset_element, stored_before, loaded_behind, declared_again, in_local_array, stepped, stepped_unset, put_at, added_at, added_to_unset, unset_index, unset_value, without_ticks, called_again, added_by_helper, shorter_behind, unset_behind, hidden, local_hidden, continued_past, numbered, passed_on}
 use Rattle.clmodel.specs.declared.access.Object.TheVariants as object
 use Rattle.clmodel.specs.declared.access.Operation.TheVariants as operation
-use Rattle.clmodel.specs.declared.access.Width.TheVariants.{Four}
+use Rattle.clmodel.specs.declared.access.Width.TheVariants.{One, Four}
 use Rattle.clmodel.specs.declared.action.Action.TheVariants as action
 use Rattle.clmodel.specs.declared.action.Answer.TheVariants.{Done}
 use Rattle.clmodel.specs.declared.action.Cause.TheVariants as cause
@@ -95,3 +96,103 @@ unset_again = refl
 pub array_is_local : next (in_local_array 9) 0 [] ≡ action.Access (object.Local 2) (pos 1) (operation.Store Four 3)
 unfolding next operations.binary_value integer.wrap conversions.common conversions.promoted integer.converted integer.bits_of
 array_is_local = refl
+
+pub array_stepped : next (stepped 9) 0 [] ≡ stores 4294967168
+unfolding next operations.binary_value integer.wrap conversions.common conversions.promoted integer.converted integer.bits_of
+array_stepped = refl
+
+pub array_stepped_unset : next (stepped_unset 9) 0 [] ≡ action.Fault (cause.UnsetElement 32 (pos 1))
+unfolding next operations.binary_value integer.wrap conversions.common conversions.promoted integer.converted integer.bits_of
+array_stepped_unset = refl
+
+pub array_all_bits : next (put_at (record { kind = Ulong; number = pos 18446744073709551615 }) 9) 0 [] ≡ action.Fault (cause.PrivateBounds 32 (negsuc 0))
+unfolding next operations.binary_value integer.wrap conversions.common conversions.promoted integer.converted integer.bits_of
+array_all_bits = refl
+
+pub array_half_of_them : next (added_at (record { kind = Ulong; number = pos 9223372036854775808 }) 9) 0 [] ≡ action.Fault (cause.PrivateBounds 32 (negsuc 9223372036854775807))
+unfolding next operations.binary_value integer.wrap conversions.common conversions.promoted integer.converted integer.bits_of
+array_half_of_them = refl
+
+pub array_unsigned : next (put_at (record { kind = Uint; number = pos 4294967295 }) 9) 0 [] ≡ action.Fault (cause.PrivateBounds 32 (pos 4294967295))
+unfolding next operations.binary_value integer.wrap conversions.common conversions.promoted integer.converted integer.bits_of
+array_unsigned = refl
+
+pub array_element_before_value : next (added_to_unset 9) 0 [] ≡ action.Fault (cause.UnsetElement 32 (pos 1))
+unfolding next operations.binary_value integer.wrap conversions.common conversions.promoted integer.converted integer.bits_of
+array_element_before_value = refl
+
+pub array_index_before_value : next (unset_index 9) 0 [] ≡ action.Fault (cause.UnsetVariable 31)
+unfolding next operations.binary_value integer.wrap conversions.common conversions.promoted integer.converted integer.bits_of
+array_index_before_value = refl
+
+pub array_value_before_range : next (unset_value 9) 0 [] ≡ action.Fault (cause.UnsetVariable 31)
+unfolding next operations.binary_value integer.wrap conversions.common conversions.promoted integer.converted integer.bits_of
+array_value_before_range = refl
+
+pub array_no_ticks : next (without_ticks 1) 0 [] ≡ stores 10
+unfolding next operations.binary_value integer.wrap conversions.common conversions.promoted integer.converted integer.bits_of
+array_no_ticks = refl
+
+pub array_no_ticks_behind : next (without_ticks 1) 0 (Done ∷ []) ≡ action.Fault (cause.PrivateBounds 32 (pos 1))
+unfolding next operations.binary_value integer.wrap conversions.common conversions.promoted integer.converted integer.bits_of
+array_no_ticks_behind = refl
+
+pub array_called : next (called_again 9) 0 [] ≡ stores 1
+unfolding next operations.binary_value integer.wrap conversions.common conversions.promoted integer.converted integer.bits_of
+array_called = refl
+
+pub array_called_again : next (called_again 9) 0 (Done ∷ []) ≡ action.Fault (cause.UnsetElement 32 (pos 0))
+unfolding next operations.binary_value integer.wrap conversions.common conversions.promoted integer.converted integer.bits_of
+array_called_again = refl
+
+pub array_added_by_helper : next (added_by_helper 9) 0 [] ≡ stores 9
+unfolding next operations.binary_value integer.wrap conversions.common conversions.promoted integer.converted integer.bits_of
+array_added_by_helper = refl
+
+pub array_longer : next (shorter_behind 9) 0 [] ≡ stores 7
+unfolding next operations.binary_value integer.wrap conversions.common conversions.promoted integer.converted integer.bits_of
+array_longer = refl
+
+pub array_shorter : next (shorter_behind 9) 0 (Done ∷ []) ≡ action.Fault (cause.PrivateBounds 34 (pos 2))
+unfolding next operations.binary_value integer.wrap conversions.common conversions.promoted integer.converted integer.bits_of
+array_shorter = refl
+
+pub array_unset_behind : next (unset_behind 9) 0 [] ≡ action.Fault (cause.UnsetElement 34 (pos 0))
+unfolding next operations.binary_value integer.wrap conversions.common conversions.promoted integer.converted integer.bits_of
+array_unset_behind = refl
+
+pub array_hidden : next (hidden 9) 0 [] ≡ stores 3
+unfolding next operations.binary_value integer.wrap conversions.common conversions.promoted integer.converted integer.bits_of
+array_hidden = refl
+
+pub array_seen_again : next (hidden 9) 0 (Done ∷ []) ≡ action.Access (object.Buffer 0) (pos 1) (operation.Store Four 1)
+unfolding next operations.binary_value integer.wrap conversions.common conversions.promoted integer.converted integer.bits_of
+array_seen_again = refl
+
+pub array_hiding : next (local_hidden 9) 0 (Done ∷ []) ≡ stores 6
+unfolding next operations.binary_value integer.wrap conversions.common conversions.promoted integer.converted integer.bits_of
+array_hiding = refl
+
+pub array_local_again : next (local_hidden 9) 0 (Done ∷ Done ∷ []) ≡ action.Access (object.Local 1) (pos 0) (operation.Load Four)
+unfolding next operations.binary_value integer.wrap conversions.common conversions.promoted integer.converted integer.bits_of
+array_local_again = refl
+
+pub array_first_turn_continued : next (continued_past 9) 0 [] ≡ stores 1
+unfolding next operations.binary_value integer.wrap conversions.common conversions.promoted integer.converted integer.bits_of
+array_first_turn_continued = refl
+
+pub array_third_turn : next (continued_past 9) 0 (Done ∷ []) ≡ stores 2
+unfolding next operations.binary_value integer.wrap conversions.common conversions.promoted integer.converted integer.bits_of
+array_third_turn = refl
+
+pub array_numbered : next (numbered 9) 0 [] ≡ action.Access (object.Local 5) (pos 0) (operation.Store Four 3)
+unfolding next operations.binary_value integer.wrap conversions.common conversions.promoted integer.converted integer.bits_of
+array_numbered = refl
+
+pub array_narrow : next (numbered 9) 0 (Done ∷ []) ≡ action.Access (object.Local 4) (pos 4) (operation.Store One 9)
+unfolding next operations.binary_value integer.wrap conversions.common conversions.promoted integer.converted integer.bits_of
+array_narrow = refl
+
+pub array_passed_on : next (passed_on 9) 0 [] ≡ action.Access (object.Local 2) (pos 4) (operation.Store Four 1)
+unfolding next operations.binary_value integer.wrap conversions.common conversions.promoted integer.converted integer.bits_of
+array_passed_on = refl

@@ -2,6 +2,7 @@ pub mod NextLaws
 pub mod Examples
 pub mod Bytes
 pub mod Steps
+pub mod Elements
 pub mod CellLaws
 pub mod Swaps
 pub mod Conflicts

@@ -1,10 +1,11 @@
--- Kernels on which the next action is computed. Names: 26 `f`, 27 `a`, 28 `g`, 29 `n`, 30 `s`, 31 `j`, 32 `p`, 33 `q`.
-use Rattle.std.specs.Prelude.{ℕ, pos, true, false, Option, None, Some, List, [], ◌∷◌}
-use Rattle.clnum.specs.declared.int_type.IntType.TheVariants.{Char, Int}
+-- Kernels on which the next action is computed. Names: 26 `f`, 27 `a`, 28 `g`, 29 `n`, 30 `s`, 31 `j`, 32 `p`, 33 `q`, 34 `r`.
+use Rattle.std.specs.Prelude.{ℕ, pos, Bool, true, false, Option, None, Some, List, [], ◌∷◌}
+use Rattle.clnum.specs.Integer as clnum
+use Rattle.clnum.specs.declared.int_type.IntType.TheVariants.{Char, Uchar, Int}
 use Rattle.clnum.specs.declared.operators.BinaryOperator.TheVariants as operator
 use Rattle.clnum.specs.declared.operators.UnaryOperator.TheVariants.{Negate}
 use Rattle.clmodel.specs.Setup.{Setup}
-use Rattle.clmodel.specs.Tree.{Term, Number, Variable, Element, Call, Unary, Binary, NoTerm, then_all, Whole, Part, Stmt, Block, DeclareAs, DeclareArray, Assign, Step, CallOnly, If, While, DoWhile, For, Break, Continue, ReturnValue, NoStmt, then_stmts, With, Always, While_, Func, NoFunc, then_funcs}
+use Rattle.clmodel.specs.Tree.{Term, Number, Variable, Element, Call, Unary, Binary, NoTerm, then_all, Whole, Part, Stmt, Block, Declare, DeclareAs, DeclareArray, Assign, Step, CallOnly, If, While, DoWhile, For, Break, Continue, ReturnValue, NoStmt, then_stmts, With, Always, While_, Func, NoFunc, then_funcs}
 use Rattle.clmodel.specs.declared.access.Object.TheVariants as object
 use Rattle.clmodel.specs.declared.access.Operation.TheVariants as operation
 use Rattle.clmodel.specs.declared.access.Width.TheVariants.{Four}
@@ -203,3 +204,178 @@ declared_again =
 -- `int n = 1; __local int q[2]; q[n] = 3;`
 abbrev pub in_local_array : ℕ → Setup
 in_local_array = launched [] (declare 29 (number 1) ∷ local_ints 2 ∷ Assign 0 (Part 0 33 (variable 29)) None (number 3) ∷ [])
+
+-- `char p[2]; p[0] = 127; p[0]++; a[0] = p[0];` and `int p[2]; p[1]++;`
+abbrev pub stepped : ℕ → Setup
+stepped =
+    launched
+    []
+    (DeclareArray 0 false Char 0 32 0 (record { kind = Int; number = pos 2 })
+    ∷ into_p (number 0) (number 127)
+    ∷ Step 0 (Part 0 32 (number 0)) true
+    ∷ store (of_p (number 0))
+    ∷ [])
+
+abbrev pub stepped_unset : ℕ → Setup
+stepped_unset = launched [] (private_ints 2 ∷ Step 0 (Part 0 32 (number 1)) true ∷ [])
+
+-- `int p[2]; p[i] = 1;` and `int p[2]; p[i] += 1;`
+abbrev pub put_at : clnum.Integer → ℕ → Setup
+put_at i = launched [] (private_ints 2 ∷ into_p (Number 0 i) (number 1) ∷ [])
+
+abbrev pub added_at : clnum.Integer → ℕ → Setup
+added_at i = launched [] (private_ints 2 ∷ Assign 0 (Part 0 32 (Number 0 i)) (Some operator.Add) (number 1) ∷ [])
+
+-- `int p[2]; p[1] += 1 / 0;`, `int p[2]; int j; p[j] = 1 / 0;` and `int p[2]; int j; p[9] = j;`
+abbrev pub added_to_unset : ℕ → Setup
+added_to_unset = launched [] (private_ints 2 ∷ Assign 0 (Part 0 32 (number 1)) (Some operator.Add) by_zero ∷ [])
+
+abbrev pub unset_index : ℕ → Setup
+unset_index = launched [] (private_ints 2 ∷ Declare 0 (Integer Int) 0 31 ∷ into_p (variable 31) by_zero ∷ [])
+
+abbrev pub unset_value : ℕ → Setup
+unset_value = launched [] (private_ints 2 ∷ Declare 0 (Integer Int) 0 31 ∷ into_p (number 9) (variable 31) ∷ [])
+
+-- `int p[1]; p[0] = 5; p[0] += p[0]; a[0] = p[0]; p[1] = 0;`
+abbrev pub without_ticks : ℕ → Setup
+without_ticks =
+    launched
+    []
+    (private_ints 1
+    ∷ into_p (number 0) (number 5)
+    ∷ Assign 0 (Part 0 32 (number 0)) (Some operator.Add) (of_p (number 0))
+    ∷ store (of_p (number 0))
+    ∷ into_p (number 1) (number 0)
+    ∷ [])
+
+-- `int g(int n) { int p[1]; if (n == 2) return p[0]; p[0] = n; return p[0]; }`, with `a[0] = g(1); a[0] = g(2);`
+abbrev pub called_again : ℕ → Setup
+called_again =
+    launched
+    (helper_g (
+    private_ints 1
+    ∷ If 0 (Binary 0 (Arithmetic operator.Equal) (variable 29) (number 2)) (ReturnValue 0 (of_p (number 0)))
+    ∷ into_p (number 0) (variable 29)
+    ∷ ReturnValue 0 (of_p (number 0))
+    ∷ []
+    ) ∷ [])
+    (store (call 28 (number 1 ∷ [])) ∷ store (call 28 (number 2 ∷ [])) ∷ [])
+
+-- `int g(int n) { int p[1]; p[0] = n * 2; return p[0]; }`, with `int p[2]; p[1] = 3; p[1] += g(p[1]); a[0] = p[1];`
+abbrev pub added_by_helper : ℕ → Setup
+added_by_helper =
+    launched
+    (helper_g (
+    private_ints 1
+    ∷ into_p (number 0) (Binary 0 (Arithmetic operator.Multiply) (variable 29) (number 2))
+    ∷ ReturnValue 0 (of_p (number 0))
+    ∷ []
+    ) ∷ [])
+    (private_ints 2
+    ∷ into_p (number 1) (number 3)
+    ∷ Assign 0 (Part 0 32 (number 1)) (Some operator.Add) (call 28 (of_p (number 1) ∷ []))
+    ∷ store (of_p (number 1))
+    ∷ [])
+
+-- `int r[count];` and `__local int r[count];`
+abbrev pub other_ints : (is_local : Bool) → ℕ → Stmt
+other_ints is_local count = DeclareArray 0 is_local Int 0 34 0 (record { kind = Int; number = pos count })
+
+-- `{ int p[3]; p[2] = 7; a[0] = p[2]; } { int r[2]; r[2] = 1; }`
+abbrev pub shorter_behind : ℕ → Setup
+shorter_behind =
+    launched
+    []
+    (block (private_ints 3 ∷ into_p (number 2) (number 7) ∷ store (of_p (number 2)) ∷ [])
+    ∷ block (other_ints false 2 ∷ Assign 0 (Part 0 34 (number 2)) None (number 1) ∷ [])
+    ∷ [])
+
+-- `{ int p[2]; p[0] = 7; } { int r[2]; a[0] = r[0]; }`
+abbrev pub unset_behind : ℕ → Setup
+unset_behind =
+    launched
+    []
+    (block (private_ints 2 ∷ into_p (number 0) (number 7) ∷ [])
+    ∷ block (other_ints false 2 ∷ store (Element 0 34 (number 0)) ∷ [])
+    ∷ [])
+
+-- `a[1] = e;`
+abbrev pub store_second : Term → Stmt
+store_second e = Assign 0 (Part 0 27 (number 1)) None e
+
+-- `int p[2]; p[0] = 1; { int p = 3; a[0] = p; } a[1] = p[0];`
+abbrev pub hidden : ℕ → Setup
+hidden =
+    launched
+    []
+    (private_ints 2
+    ∷ into_p (number 0) (number 1)
+    ∷ block (declare 32 (number 3) ∷ store (variable 32) ∷ [])
+    ∷ store_second (of_p (number 0))
+    ∷ [])
+
+-- `__local int q[2]; q[0] = 5; { int q[1]; q[0] = 6; a[0] = q[0]; } a[1] = q[0];`
+abbrev pub into_q : Term → Stmt
+into_q e = Assign 0 (Part 0 33 (number 0)) None e
+
+abbrev pub local_hidden : ℕ → Setup
+local_hidden =
+    launched
+    []
+    (local_ints 2
+    ∷ into_q (number 5)
+    ∷ block
+    (DeclareArray 0 false Int 0 33 0 (record { kind = Int; number = pos 1 }) ∷ into_q (number 6) ∷ store (Element 0 33 (number 0)) ∷ [])
+    ∷ store_second (Element 0 33 (number 0))
+    ∷ [])
+
+-- `int n = 0; do { int p[1]; p[0] = n; n++; if (p[0] == 0) continue; a[0] = p[0]; } while (n < 3);`
+abbrev pub continued_past : ℕ → Setup
+continued_past =
+    launched
+    []
+    (declare 29 (number 0)
+    ∷ DoWhile 0 (block (
+    private_ints 1
+    ∷ into_p (number 0) (variable 29)
+    ∷ increment 29
+    ∷ If 0 (Binary 0 (Arithmetic operator.Equal) (of_p (number 0)) (number 0)) (Continue 0)
+    ∷ store (of_p (number 0))
+    ∷ []
+    )) (less (variable 29) (number 3))
+    ∷ [])
+
+-- `__kernel void f(__local int *s, __global int *a) { int n = 3; int p[2]; __local uchar q[8]; { int j; } __local int r[2]; r[0] = n; q[4] = 9; }`, with
+-- 4 bytes of local memory
+abbrev pub numbered : ℕ → Setup
+numbered =
+    launched_with
+    (pointer Local 30 ∷ pointer Global 27 ∷ [])
+    (Some (argument.Local 4) ∷ Some (argument.Buffer (97 ∷ [])) ∷ [])
+    []
+    (declare 29 (number 3)
+    ∷ private_ints 2
+    ∷ DeclareArray 0 true Uchar 0 33 0 (record { kind = Int; number = pos 8 })
+    ∷ block (Declare 0 (Integer Int) 0 31 ∷ [])
+    ∷ other_ints true 2
+    ∷ Assign 0 (Part 0 34 (number 0)) None (variable 29)
+    ∷ Assign 0 (Part 0 33 (number 4)) None (number 9)
+    ∷ [])
+
+-- `void g(__local int *p) { p[3] = 1; }`, with `__local int r[2]; __local int q[4]; g(q + 1);`
+abbrev pub passed_on : ℕ → Setup
+passed_on =
+    launched
+    (record {
+      is_kernel = false;
+      result = None;
+      name_at = 0;
+      name = 28;
+      parameters = pointer Local 32 ∷ [];
+      body_at = 0;
+      body = then_stmts NoStmt (into_p (number 3) (number 1) ∷ []);
+    } ∷ [])
+    (other_ints true 2
+    ∷ local_ints 4
+    ∷ CallOnly 0 28 (then_all NoTerm (Binary 0 (Arithmetic operator.Add) (variable 33) (number 1) ∷ []))
+    ∷ [])

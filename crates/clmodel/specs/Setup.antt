@@ -86,7 +86,9 @@ names_among names (None ∷ arguments) = names_among names arguments
 abbrev pub buffer_names : Setup → List (List ℕ)
 buffer_names setup = names_among [] setup.arguments
 
--- An object in the local memory of a group: the number of its name, and its size in bytes (6.5.2).
+-- A place for an object in the local memory of a group: the number of its name, and its size in bytes (6.5.2). There is one for each parameter and for
+-- each variable and array, private ones too, of the outermost block: most are of no bytes, and are there for the numbers alone: that of a
+-- local array's object is the number of variables in scope before it (own).
 pub record LocalObject : Type 0 where
   pub name : ℕ
   pub size : ℕ
@@ -110,7 +112,7 @@ declared_object (DeclareArray at true element name_at name length_at count) = re
 declared_object (DeclareArray at false element name_at name length_at count) = record { name = name; size = 0 } ∷ []
 declared_object _ = []
 
--- those of a block, in the order of the text
+-- those of a block, in the order of the text; a block inside it, whose arrays aren't local, has none
 abbrev pub body_objects : Stmts → List LocalObject
 body_objects NoStmt = []
 body_objects (ThenStmt ss s) = body_objects ss ++ declared_object s
@@ -130,10 +132,12 @@ abbrev pub functions_before : Funcs → ℕ → Funcs
 functions_before NoFunc name = NoFunc
 functions_before (ThenFunc fs f) name = if f.is_kernel && (f.name == name) then fs else functions_before fs name
 
--- The local objects of a kernel with these arguments, by their numbers: those of its parameters, and those of its outermost block.
+-- The local objects of a kernel with these arguments, by their numbers: a place for each parameter, and then one for each declaration of its outermost
+-- block, most of no bytes (6.5.2).
 abbrev pub objects_of : Option Func → List (Option Argument) → List LocalObject
 objects_of None arguments = []
 objects_of (Some f) arguments = parameter_objects f.parameters arguments ++ body_objects f.body
 
+-- those of a launch
 abbrev pub local_objects : Setup → List LocalObject
 local_objects setup = objects_of (kernel_in setup.program.functions setup.kernel) setup.arguments

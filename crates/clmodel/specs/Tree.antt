@@ -152,9 +152,11 @@ abbrev pub natural : ℤ → ℕ
 natural (pos n) = n
 natural (negsuc n) = 0
 
+-- how many elements an array has, by the number in its brackets (C99 6.7.5.2)
 abbrev pub array_length : Integer → ℕ
 array_length count = natural count.number
 
+-- and how many bytes (OpenCL 1.2, 6.1.1)
 abbrev pub array_bytes : IntType → Integer → ℕ
 array_bytes element count = bits element / 8 * array_length count
 

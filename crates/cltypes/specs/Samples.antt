@@ -1,17 +1,17 @@
 -- Statements in a kernel and whole texts, each with its first fault; the offsets of statements count from the first one's start.
 use Prim.Native.Nat.{zero, suc}
-use Rattle.std.specs.Prelude.{◌≡◌, ℕ, ◌+◌, pos, true, false, List, [], ◌∷◌, map, Option, None, Some}
+use Rattle.std.specs.Prelude.{◌≡◌, ℕ, ◌+◌, pos, Bool, true, false, List, [], ◌∷◌, map, Option, None, Some}
 use Rattle.clnum.specs.declared.int_type.IntType.{IntType}
-use Rattle.clnum.specs.declared.int_type.IntType.TheVariants.{Char, Int, Long}
+use Rattle.clnum.specs.declared.int_type.IntType.TheVariants.{Char, Uchar, Int, Uint, Long}
 use Rattle.clnum.specs.declared.operators.BinaryOperator.TheVariants.{Add, Subtract, Multiply, BitOr, Equal}
-use Rattle.clmodel.specs.declared.tree.AddressSpace.TheVariants.{Global, Constant}
+use Rattle.clmodel.specs.declared.tree.AddressSpace.TheVariants.{Global, Local, Constant}
 use Rattle.clmodel.specs.declared.tree.InfixOperator.TheVariants.{Arithmetic, LogicalAnd}
 use Rattle.clmodel.specs.declared.tree.Parameter.{Parameter}
 use Rattle.clmodel.specs.declared.tree.VariableType.{VariableType}
 use Rattle.clmodel.specs.declared.tree.VariableType.TheVariants as kind
 use Rattle.clmodel.specs.declared.type_fault.TypeFault.{TypeFault}
 use Rattle.clmodel.specs.declared.type_fault.TypeFault.TheVariants.{UnknownName, Redeclared, TypeMismatch, NotAssignable, Recursion, WrongArgumentCount, WrongSpace, BadBarrierFlags, AtomicValueUsed, TooManyLoops, TooLarge, MissingReturn}
-use Rattle.clmodel.specs.Tree.{Term, NoTerm, Number, Variable, Element, ElementAddress, Dereference, Call, Cast, Binary, Choice, Whole, Part, Behind, Stmt, Stmts, NoStmt, then_all, then_stmts, Func, Funcs, NoFunc, ThenFunc, then_funcs, Empty, Block, Declare, DeclareAs, Assign, Step, CallOnly, If, IfElse, While, DoWhile, For, Break, Continue, Return, ReturnValue, Without, With, Always, While_}
+use Rattle.clmodel.specs.Tree.{Term, NoTerm, Number, Variable, Element, ElementAddress, Dereference, Call, Cast, Binary, Choice, Whole, Part, Behind, Stmt, Stmts, NoStmt, then_all, then_stmts, Func, Funcs, NoFunc, ThenFunc, then_funcs, Empty, Block, Declare, DeclareAs, DeclareArray, Assign, Step, CallOnly, If, IfElse, While, DoWhile, For, Break, Continue, Return, ReturnValue, Without, With, Always, While_}
 use Rattle.clmodel.specs.declared.declaration.Declaration.TheVariants.{Single}
 use Rattle.clmodel.specs.Typing.Context.{Context, Signature}
 use Rattle.clmodel.specs.Typing.Least.{first}
@@ -73,8 +73,11 @@ x at = Variable at 33
 abbrev z : ℕ → Term
 z at = Variable at 41
 
+abbrev number : (at n : ℕ) → Term
+number at n = Number at (record { kind = Int; number = pos n })
+
 abbrev one : ℕ → Term
-one at = Number at (record { kind = Int; number = pos 1 })
+one at = number at 1
 
 abbrev call : (at name : ℕ) → List Term → Term
 call at name es = Call at name (then_all NoTerm es)
@@ -85,6 +88,17 @@ set e = then_stmts NoStmt (Assign 0 (Whole 0 31) None e ∷ [])
 
 abbrev only : Stmt → Stmts
 only s = then_stmts NoStmt (s ∷ [])
+
+-- `t x[n];`, or `__local t x[n];`
+abbrev array : Bool → IntType → (at name_at name length_at : ℕ) → ℕ → Stmt
+array is_local t at name_at name length_at n = DeclareArray at is_local t name_at name length_at (record { kind = Int; number = pos n })
+
+-- behind `int x[2];` and behind `__local int x[2];`
+abbrev behind_private : Stmt → Stmts
+behind_private s = then_stmts NoStmt (array false Int 0 4 33 6 2 ∷ s ∷ [])
+
+abbrev behind_local : Stmt → Stmts
+behind_local s = then_stmts NoStmt (array true Int 0 12 33 14 2 ∷ s ∷ [])
 
 abbrev pub samples : List (Stmts × Option TypeFault)
 samples =
@@ -250,6 +264,43 @@ samples =
     ∷ (only (CallOnly 0 31 (then_all NoTerm (one 2 ∷ []))), Some (TypeMismatch 0))
     -- int h;
     ∷ (only (Declare 0 (kind.Integer Int) 4 42), Some (Redeclared 4))
+    -- int x[2]; a[1] = x;  A private array is no value, and there is no pointer to it.
+    ∷ (behind_private (Assign 10 (Part 10 27 (one 12)) None (x 17)), Some (WrongSpace 17))
+    -- int x[2]; a[1] = x[1];
+    ∷ (behind_private (Assign 10 (Part 10 27 (one 12)) None (Element 17 33 (one 19))), None)
+    -- int x[2]; x = y;  What is assigned to comes before the value.
+    ∷ (behind_private (Assign 10 (Whole 10 33) None (Variable 14 40)), Some (NotAssignable 10))
+    -- int x[2]; ++x;
+    ∷ (behind_private (Step 10 (Whole 12 33) true), Some (NotAssignable 12))
+    -- int x[2]; a[1] = *x;
+    ∷ (behind_private (Assign 10 (Part 10 27 (one 12)) None (Dereference 17 (x 18))), Some (WrongSpace 18))
+    -- int x[2]; atomic_add(&x[1], 1);
+    ∷ (behind_private (CallOnly 10 15 (then_all NoTerm (ElementAddress 21 22 33 (one 24) ∷ one 28 ∷ []))), Some (WrongSpace 21))
+    -- int x[2]; atomic_add(&x[a], 1);  Of one node the lowest number.
+    ∷ (behind_private (CallOnly 10 15 (then_all NoTerm (ElementAddress 21 22 33 (a 24) ∷ one 28 ∷ []))), Some (TypeMismatch 24))
+    -- int x[2]; y[x] = 1;
+    ∷ (behind_private (Assign 10 (Part 10 40 (x 12)) None (one 17)), Some (WrongSpace 12))
+    -- int x[2]; x();
+    ∷ (behind_private (CallOnly 10 33 NoTerm), Some (TypeMismatch 10))
+    -- int x[2]; if (x) y = 1;
+    ∷ (behind_private (If 10 (x 14) (Assign 17 (Whole 17 40) None (one 21))), Some (WrongSpace 14))
+    -- int x[2]; { int x; x = 1; }  An inner variable hides it.
+    ∷ (
+      behind_private (Block 10 (then_stmts NoStmt (Declare 12 (kind.Integer Int) 16 33 ∷ Assign 19 (Whole 19 33) None (one 23) ∷ []))),
+      None,
+    )
+    -- __local int x[2]; if (x) y = 1;  The kind of a condition comes behind what is controlled.
+    ∷ (behind_local (If 18 (x 22) (Assign 25 (Whole 25 40) None (one 29))), Some (UnknownName 25))
+    -- __local int x[2]; if (x) n = 1;
+    ∷ (behind_local (If 18 (x 22) (Assign 25 (Whole 25 31) None (one 29))), Some (TypeMismatch 22))
+    -- __local int x[2]; x += 1;
+    ∷ (behind_local (Assign 18 (Whole 18 33) (Some Add) (one 23)), Some (NotAssignable 18))
+    -- __local int x[2]; __global int *p = x;
+    ∷ (behind_local (DeclareAs 18 (global Int) 32 34 (x 36)), Some (WrongSpace 36))
+    -- __local int x[2]; *(x + 1) = x[1];
+    ∷ (behind_local (Assign 18 (Behind 18 (Binary 20 (Arithmetic Add) (x 20) (one 24))) None (Element 29 33 (one 31))), None)
+    -- { __local int x[0]; }  Of one place the lowest number.
+    ∷ (only (Block 0 (then_stmts NoStmt (array true Int 2 14 33 16 0 ∷ []))), Some (WrongSpace 14))
     ∷ []
 
 -- the bodies of helpers: g has two nodes, and h a loop in a loop and ten nodes
@@ -279,6 +330,9 @@ counted =
     ∷ (Block 0 (then_stmts NoStmt (Empty 2 ∷ [])), (2, 0))
     -- int x = 1;
     ∷ (DeclareAs 0 (kind.Integer Int) 4 33 (one 8), (2, 0))
+    -- int x[2];  With `__local` too.
+    ∷ (array false Int 0 4 33 6 2, (1, 0))
+    ∷ (array true Int 0 12 33 14 2, (1, 0))
     -- __global int *x = &a[1];
     ∷ (DeclareAs 0 (global Int) 14 33 (ElementAddress 18 19 27 (one 21)), (3, 0))
     -- barrier(CLK_LOCAL_MEM_FENCE | CLK_GLOBAL_MEM_FENCE);
@@ -320,7 +374,11 @@ abbrev doubling : (first so_many : ℕ) → Funcs
 doubling first zero = ThenFunc NoFunc (function None 0 first [] (Empty 0 ∷ []))
 doubling first (suc n) = ThenFunc (doubling first n) (function None 0 (first + suc n) [] (CallOnly 0 (first + n) NoTerm ∷ CallOnly 0 (first + n) NoTerm ∷ []))
 
--- whole texts, in which f is the name 26, g 27 and p 28
+-- `__local int *p`, where its name is
+abbrev local_parameter : (at name : ℕ) → Parameter
+local_parameter at name = record { name_at = at; name = name; kind = kind.Pointer (record { space = Local; is_const = false; element = Int }) }
+
+-- whole texts, in which f is the name 26, g 27, p 28, t 29 and u 30
 abbrev pub texts : List (Funcs × Option TypeFault)
 texts =
     -- kernel void f(int f) { }
@@ -373,6 +431,32 @@ texts =
     ∷ (ThenFunc (doubling 100 12) (kernel 40 27 [] (CallOnly 50 112 NoTerm ∷ CallOnly 50 112 NoTerm ∷ [])), Some (TooLarge 40))
     ∷ (doubling 100 63, None)
     ∷ (ThenFunc (doubling 100 62) (kernel 40 27 [] (CallOnly 50 162 NoTerm ∷ [])), Some (TooLarge 40))
+    -- void g() { __local int t[2]; } __kernel void f() { }  A helper has no local memory of its own.
+    ∷ (then_funcs NoFunc (function None 5 27 [] (array true Int 11 23 29 25 2 ∷ []) ∷ kernel 45 26 [] [] ∷ []), Some (WrongSpace 23))
+    -- __kernel void f(int t) { int t[0]; }
+    ∷ (then_funcs NoFunc (kernel 14 26 (parameter 20 29 ∷ []) (array false Int 25 29 29 31 0 ∷ []) ∷ []), Some (Redeclared 29))
+    -- void g(__local int *p) { } __kernel void f() { int t[2]; g(t, 1); }
+    ∷ (then_funcs NoFunc (function None 5 27 (local_parameter 20 28 ∷ []) [] ∷ kernel 41 26 [] (array false Int 47 51 29 53 2 ∷ CallOnly 57 27 (then_all NoTerm (Variable 59 29 ∷ one 62 ∷ [])) ∷ []) ∷ []), Some (WrongSpace 59))
+    -- void g(__local int *p) { } __kernel void f() { __local uint t[2]; g(t, 1); }
+    ∷ (then_funcs NoFunc (function None 5 27 (local_parameter 20 28 ∷ []) [] ∷ kernel 41 26 [] (array true Uint 47 60 29 62 2 ∷ CallOnly 66 27 (then_all NoTerm (Variable 68 29 ∷ one 71 ∷ [])) ∷ []) ∷ []), Some (TypeMismatch 68))
+    -- void g(__local int *p) { } __kernel void f() { __local int t[2]; g(t); }
+    ∷ (then_funcs NoFunc (function None 5 27 (local_parameter 20 28 ∷ []) [] ∷ kernel 41 26 [] (array true Int 47 59 29 61 2 ∷ CallOnly 65 27 (then_all NoTerm (Variable 67 29 ∷ [])) ∷ []) ∷ []), None)
+    -- __kernel void f() { do { int t[1]; t[0] = 0; } while (t[0]); }  The condition stands behind the block.
+    ∷ (then_funcs NoFunc (kernel 14 26 [] (DoWhile 20 (Block 23 (then_stmts NoStmt (array false Int 25 29 29 31 1 ∷ Assign 35 (Part 35 29 (number 37 0)) None (number 42 0) ∷ []))) (Element 54 29 (number 56 0)) ∷ []) ∷ []), Some (UnknownName 54))
+    -- __kernel void f() { __local char t[32768]; }
+    ∷ (then_funcs NoFunc (kernel 14 26 [] (array true Char 20 33 29 35 32768 ∷ []) ∷ []), None)
+    -- __kernel void f() { __local char t[32769]; }
+    ∷ (then_funcs NoFunc (kernel 14 26 [] (array true Char 20 33 29 35 32769 ∷ []) ∷ []), Some (TooLarge 35))
+    -- __kernel void f() { int t[32768]; }  A kernel's private arrays have 4096 bytes at most.
+    ∷ (then_funcs NoFunc (kernel 14 26 [] (array false Int 20 24 29 26 32768 ∷ []) ∷ []), Some (TooLarge 14))
+    -- void g() { uchar t[2048]; } __kernel void f() { g(); g(); }
+    ∷ (then_funcs NoFunc (function None 5 27 [] (array false Uchar 11 17 29 19 2048 ∷ []) ∷ kernel 42 26 [] (CallOnly 48 27 NoTerm ∷ CallOnly 53 27 NoTerm ∷ []) ∷ []), None)
+    -- void g() { uchar t[2048]; } __kernel void f() { uchar u[1]; g(); g(); }
+    ∷ (then_funcs NoFunc (function None 5 27 [] (array false Uchar 11 17 29 19 2048 ∷ []) ∷ kernel 42 26 [] (array false Uchar 48 54 30 56 1 ∷ CallOnly 60 27 NoTerm ∷ CallOnly 65 27 NoTerm ∷ []) ∷ []), Some (TooLarge 42))
+    -- void g() { int t[0]; } __kernel void f() { y = 1; }
+    ∷ (then_funcs NoFunc (function None 5 27 [] (array false Int 11 15 29 17 0 ∷ []) ∷ kernel 37 26 [] (Assign 43 (Whole 43 40) None (one 47) ∷ []) ∷ []), Some (TooLarge 17))
+    -- void g() { long t[32768]; } __kernel void f() { }
+    ∷ (then_funcs NoFunc (function None 5 27 [] (array false Long 11 16 29 18 32768 ∷ []) ∷ kernel 42 26 [] [] ∷ []), None)
     ∷ []
 
 -- each sample has that fault, or that size

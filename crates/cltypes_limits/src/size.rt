@@ -13,7 +13,7 @@ use std::cmp::max;
 /// How deep the loops of a kernel may be nested.
 pub(crate) const LOOP_LIMIT: u32 = 8;
 
-/// How many bytes the private arrays of a kernel may have.
+/// How many bytes the private arrays of a kernel may have (OpenCL 1.2, section 6.5.4; the limit is this project's own).
 pub(crate) const BYTE_LIMIT: u32 = 4096;
 
 /// How many nodes the body of a kernel may have.
@@ -28,7 +28,7 @@ pub struct Size {
     pub nodes: u32,
 }
 
-/// How many elements an array has, by the number in its brackets.
+/// How many elements an array has, by the number in its brackets (C99 6.7.5.2).
 pub fn array_length(length: Value) -> u64
     ensures { result ≡ array_length length }
 {
@@ -40,7 +40,7 @@ pub fn array_length(length: Value) -> u64
     }
 }
 
-/// How many bytes an array has, up to one more than a kernel's private arrays may have.
+/// How many bytes an array has (OpenCL 1.2, section 6.1.1), up to one more than a kernel's private arrays may have.
 #[tactic(auto, using(crate::proofs::Sums::capped_bytes))]
 fn array_bytes(element: IntType, length: Value) -> u32
     ensures { result ≡ min (array_bytes element length) (suc byte_limit) }
@@ -72,7 +72,7 @@ impl Size {
         }
     }
 
-    /// The size of the declaration of an array: a private one has its bytes.
+    /// The size of the declaration of an array: a private one has its bytes (OpenCL 1.2, sections 6.5.2 and 6.5.4).
     pub(crate) fn array(is_local: bool, element: IntType, length: Value) -> Size
         ensures { result ≡ capped (array_size is_local (array_bytes element length)) }
     {

@@ -59,7 +59,8 @@ walk (tick after) zero answers = action.Fault cause.Budget
 walk (tick after) (suc ticks) answers = walk after ticks answers
 
 -- A variable in scope: its name, its declared type, and what it holds, if it is set. A private array is of its elements' type and holds nothing itself:
--- of each element it has the low bits of its number, as memory would, if that element is set (6.5.4).
+-- of each element it has the low bits of its number, as memory would, if that element is set (6.5.4). Another variable has none, and so
+-- a private array of no elements, which no typed program declares, is no array here: its name is that of a variable that isn't set (own).
 pub record Binding : Type 0 where
   pub name : ℕ
   pub kind : VariableType
@@ -103,16 +104,17 @@ assign [] name v = []
 assign (variable ∷ variables) name v =
     elim (name == variable.name) [ true ↦ record variable { content = Some (held variable.kind v) } ∷ variables | false ↦ variable ∷ assign variables name v ]
 
--- the elements of the private array of a name; another variable has none
+-- the elements of the private array of a name (6.5.4); another variable has none
 abbrev pub elements_of : Variables → ℕ → List (Option ℕ)
 elements_of [] name = []
 elements_of (variable ∷ variables) name = elim (name == variable.name) [ true ↦ variable.elements | false ↦ elements_of variables name ]
 
+-- whether there is an element
 abbrev pub has_elements : List (Option ℕ) → Bool
 has_elements [] = false
 has_elements (element ∷ elements) = true
 
--- whether the innermost variable of a name is a private array
+-- whether the innermost variable of a name is a private array, and has elements; a local array is a pointer here (6.5.2), and so it isn't one
 abbrev pub is_array : Variables → ℕ → Bool
 is_array variables name = has_elements (elements_of variables name)
 
@@ -184,32 +186,34 @@ store p (Integral v) after =
     ask (action.Access p.object p.offset (operation.Store (element_width p.element) (bits_of p.element v.number))) (λ _. after)
 store p (Pointed q) after = finish
 
--- an index as the offset of a pointer would be it: 64 wrapped bits, read as signed
+-- an index as the offset of a pointer would be it: 64 wrapped bits, read as signed (own)
 abbrev pub index_of : Integer → ℤ
 index_of i = wrap Long i.number
 
--- the element at an index, if there is one
+-- the element at an index, if there is one (C99 6.5.2.1)
 abbrev pub element_at : List (Option ℕ) → ℤ → Option (Option ℕ)
 element_at elements (pos i) = slice_get elements i
 element_at elements (negsuc i) = None
 
--- the value of what is at an index of the private array of a name
+-- The value of what is at an index of the private array of a name (C99 6.5.2.1): its bits read as a number of the elements' type (6.2.3), as by a load.
+-- An index out of range and an element that isn't set are faults, the range first (own).
 abbrev pub element_value : (name : ℕ) → (index : ℤ) → IntType → Option (Option ℕ) → (Operand → Run) → Run
 element_value name i kind None after = fail (cause.PrivateBounds name i)
 element_value name i kind (Some None) after = fail (cause.UnsetElement name i)
 element_value name i kind (Some (Some n)) after = after (Integral (wrapped kind (pos n)))
 
--- an element of the private array of a name is read, which is no action
+-- an element of the private array of a name is read (C99 6.5.2.1), which is no action (own)
 abbrev pub read_element : (name : ℕ) → IntType → List (Option ℕ) → (index : Operand) → (Operand → Run) → Run
 read_element name kind elements i after = number i (λ n. element_value name (index_of n) kind (element_at elements (index_of n)) after)
 
--- the elements of the private array of a name with the low bits of a number at an index
+-- The elements of the private array of a name with the low bits of a number at an index (C99 6.5.2.1 and 6.5.16.1), as by a store. An index out of range
+-- is a fault (own).
 abbrev pub element_set : (name : ℕ) → (index : ℤ) → IntType → List (Option ℕ) → Integer → (List (Option ℕ) → Run) → Run
 element_set name (pos i) kind elements v after =
     if nat_lt i (length elements) then after (slice_set elements i (Some (bits_of kind v.number))) else fail (cause.PrivateBounds name (pos i))
 element_set name (negsuc i) kind elements v after = fail (cause.PrivateBounds name (negsuc i))
 
--- a number is put into an element of the private array of a name, which is no action
+-- a number is put into an element of the private array of a name (C99 6.5.2.1), which is no action (own)
 abbrev pub write_element : (name : ℕ) → IntType → List (Option ℕ) → (index value : Operand) → (List (Option ℕ) → Run) → Run
 write_element name kind elements i v after = number i (λ n. number v (λ m. element_set name (index_of n) kind elements m after))
 
@@ -298,11 +302,11 @@ abbrev pub base_type : VariableType → IntType
 base_type (variable_type.Integer kind) = kind
 base_type (variable_type.Pointer pointer) = pointer.element
 
--- an element of the private array of a name
+-- an element of the private array of a name among these variables is read (C99 6.5.2.1; own in its faults)
 abbrev pub load_element : Variables → (name : ℕ) → (index : Operand) → (Operand → Run) → Run
 load_element variables name i after = read_element name (base_type (declared_type variables name)) (elements_of variables name) i after
 
--- the variables with a number in an element of the private array of a name
+-- the variables with a number in an element of the private array of a name (C99 6.5.2.1 and 6.5.16; own in its faults)
 abbrev pub store_element : Variables → (name : ℕ) → (index value : Operand) → (Variables → Run) → Run
 store_element variables name i v after =
     write_element name (base_type (declared_type variables name)) (elements_of variables name) i v (λ elements. after (with_elements variables name elements))

@@ -1,4 +1,4 @@
--- Execution of statements and of helper functions, as a tree of actions (OpenCL 1.2, 6.9, 6.11 and 6.12.8; C99 6.5.2.2, 6.5.16 and 6.8).
+-- Execution of statements and of helper functions, as a tree of actions (OpenCL 1.2, 6.9 and 6.12.8; C99 6.5.2.2, 6.5.16 and 6.8).
 use Rattle.std.specs.Prelude.{ℕ, zero, suc, ◌+◌, ◌==◌, pos, Bool, true, false, if◌then◌else◌, Option, None, Some, List, [], ◌∷◌, ◌++◌, length, replicate}
 use Rattle.clnum.specs.Integer.{Integer}
 use Rattle.clnum.specs.declared.int_type.IntType.{IntType}
@@ -125,11 +125,11 @@ local_array element number name =
     variable name (variable_type.Pointer (record { space = Local; is_const = false; element = element }))
     (Some (Pointed (record { object = object.Local number; element = element; offset = pos 0 })))
 
--- a private array of so many elements, none of which is set
+-- A private array of so many elements (6.5.4), none of which is set: it is indeterminate each time its declaration is reached (C99 6.2.4, paragraph 5).
 abbrev pub private_array : IntType → ℕ → ℕ → Binding
 private_array element count name = record { name = name; kind = variable_type.Integer element; content = None; elements = replicate count None }
 
--- an array that is declared
+-- an array that is declared behind these variables (6.5.2 and 6.5.4)
 abbrev pub declared_array : (is_local : Bool) → IntType → ℕ → Integer → Variables → Binding
 declared_array true element name count variables = local_array element (length variables) name
 declared_array false element name count variables = private_array element (array_length count) name

@@ -23,7 +23,7 @@ value_type (Single k) = Some k
 value_type (LocalArray t) = Some (Pointer (record { space = Local; is_const = false; element = t }))
 value_type (PrivateArray t) = None
 
--- the type of the elements of what is declared, where it can stand in front of an index
+-- the type of the elements of what is declared, where it can stand in front of an index (C99 6.5.2.1)
 abbrev pub element_type : Declaration → Option IntType
 element_type (Single (Number t)) = None
 element_type (Single (Pointer p)) = Some p.element
@@ -118,7 +118,7 @@ abbrev pub is_empty : List Scope → Bool
 is_empty [] = true
 is_empty (scope ∷ scopes) = false
 
--- whether this is the outermost block of a kernel
+-- whether this is the outermost block of a kernel, where local arrays are declared (6.5.2)
 abbrev pub is_outermost : Context → Bool
 is_outermost c = c.signature.is_kernel && is_empty c.outer
 
@@ -126,6 +126,7 @@ is_outermost c = c.signature.is_kernel && is_empty c.outer
 abbrev pub turning : Context → Context
 turning c = record c { in_loop = true; inner = []; outer = c.inner ∷ c.outer }
 
+-- what a name is as an array (6.5.2 and 6.5.4)
 abbrev pub array : (is_local : Bool) → IntType → Declaration
 array true t = LocalArray t
 array false t = PrivateArray t

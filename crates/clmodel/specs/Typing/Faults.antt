@@ -380,7 +380,7 @@ void_faults c e = []
 abbrev pub declared_faults : Context → (at name : ℕ) → List TypeFault
 declared_faults c b x = unless (is_free c x) (fault.Redeclared b)
 
--- an array: its name, where it is local the block that it stands in, and how many elements it has
+-- an array: its name, where it is local the block that it stands in (6.5.2), and how many elements it has (own); all at one place (own)
 abbrev pub array_faults : Context → (is_local : Bool) → (at name length_at : ℕ) → Integer → List TypeFault
 array_faults c is_local b x d n =
     declared_faults c b x

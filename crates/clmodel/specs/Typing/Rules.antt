@@ -34,18 +34,18 @@ is_constant Global = false
 is_constant Local = false
 is_constant Constant = true
 
--- whether what a pointer of this type points to can be stored to (6.5.3, 6.8.f)
+-- whether what a pointer of this type points to can be stored to (6.5.3; C99 6.5.16, paragraph 2)
 abbrev pub is_writable : PointerType → Bool
 is_writable p = not p.is_const && not (is_constant p.space)
 
--- whether the elements of what is declared can be stored to
+-- whether the elements of what is declared can be stored to, where it can stand in front of an index (C99 6.5.2.1)
 abbrev pub is_stored : Declaration → Bool
 is_stored (Single (Number t)) = true
 is_stored (Single (Pointer p)) = is_writable p
 is_stored (LocalArray t) = true
 is_stored (PrivateArray t) = true
 
--- how many elements an array may have (own)
+-- how many elements an array may have (own); their number is always constant (6.9.d)
 abbrev pub length_limit : ℕ
 length_limit = 32768
 
@@ -157,7 +157,7 @@ mutual
     declare : {c : Context} {a b x : ℕ} {k : VariableType} → is_free c x ≡ true → IsTyped c (tree.Declare a k b x)
     declare_as : {c : Context} {a b x : ℕ} {k j : VariableType} {e : Term}
         → is_free c x ≡ true → Gives (bind c x (Single k)) e j → Passes k j → IsTyped c (tree.DeclareAs a k b x e)
-    -- A local array is declared in the outermost block of a kernel alone (6.8).
+    -- A local array is declared in the outermost block of a kernel alone (6.5.2), a private one in each block (6.5.4).
     declare_array : {c : Context} {a b x d : ℕ} {is_local : Bool} {t : IntType} {n : Integer}
         → is_free c x ≡ true → (is_local ≡ true → is_outermost c ≡ true) → 1 ≤ array_length n → array_length n ≤ length_limit
         → IsTyped c (tree.DeclareArray a is_local t b x d n)

@@ -1,5 +1,6 @@
 -- Statements in a kernel with barriers, with pointers to each address space and with arrays, each with its first fault; the offsets count from the
--- statement's start. Names: 8 `min`, 14 `barrier`, 22 `atomic_inc`, 24 and 25 the fences, 26 the kernel, 27 `a`, 28 `s`, 29 `t`, 30 `u`, 31 `n`, 32 `p`, 33 `q`.
+-- statement's start. Names: 8 `min`, 14 `barrier`, 22 `atomic_inc`, 24 and 25 the fences, 26 the kernel, 27 `a`, 28 `s`, 29 `t`, 30 `u`, 31 `n`, 32 `p`, 33 `q`;
+-- 40 `y` and 41 `z` stand for nothing.
 use Rattle.std.specs.Prelude.{◌≡◌, ℕ, pos, Bool, true, false, List, [], ◌∷◌, map, Option, None, Some}
 use Rattle.clnum.specs.declared.int_type.IntType.TheVariants.{Int}
 use Rattle.clnum.specs.declared.operators.BinaryOperator.{BinaryOperator}
@@ -11,7 +12,7 @@ use Rattle.clmodel.specs.declared.tree.VariableType.{VariableType}
 use Rattle.clmodel.specs.declared.tree.VariableType.TheVariants as kind
 use Rattle.clmodel.specs.declared.type_fault.TypeFault.{TypeFault}
 use Rattle.clmodel.specs.declared.type_fault.TypeFault.TheVariants.{UnknownName, Redeclared, TypeMismatch, NotAssignable, WrongArgumentCount, WrongSpace, BadBarrierFlags, TooLarge}
-use Rattle.clmodel.specs.Tree.{Term, Number, Variable, Element, ElementAddress, Dereference, Call, Binary, NoTerm, then_all, Whole, Part, Stmt, Block, DeclareArray, Assign, Step, CallOnly, NoStmt, then_stmts}
+use Rattle.clmodel.specs.Tree.{Term, Number, Variable, Element, ElementAddress, Dereference, Call, Binary, NoTerm, then_all, Whole, Part, Behind, Stmt, Block, DeclareArray, Assign, Step, CallOnly, NoStmt, then_stmts}
 use Rattle.clmodel.specs.Typing.Context.{Context, Single, LocalArray, PrivateArray}
 use Rattle.clmodel.specs.Typing.Least.{first}
 use Rattle.clmodel.specs.Typing.Faults.{faults}
@@ -124,10 +125,34 @@ samples =
     ∷ (set 28 (ElementAddress 4 5 32 (one 7)), Some (WrongSpace 4))
     -- p = 1;
     ∷ (set 32 (one 4), Some (NotAssignable 0))
+    -- p = y;  What is assigned to comes before the value.
+    ∷ (set 32 (Variable 4 40), Some (NotAssignable 0))
     -- p++;
     ∷ (Step 0 (Whole 0 32) true, Some (NotAssignable 0))
     -- p();
     ∷ (CallOnly 0 32 NoTerm, Some (TypeMismatch 0))
+    -- p[p] = 1;
+    ∷ (Assign 0 (Part 0 32 (Variable 2 32)) None (one 7), Some (WrongSpace 2))
+    -- y[p] = 1;  The index comes before the name in front of it.
+    ∷ (Assign 0 (Part 0 40 (Variable 2 32)) None (one 7), Some (WrongSpace 2))
+    -- s = &p[a];  Of one node the lowest number.
+    ∷ (set 28 (ElementAddress 4 5 32 (Variable 7 27)), Some (TypeMismatch 7))
+    -- atomic_inc(&p[1]);
+    ∷ (increment (ElementAddress 11 12 32 (one 14)), Some (WrongSpace 11))
+    -- q[1] = 1;
+    ∷ (Assign 0 (Part 0 33 (one 2)) None (one 7), None)
+    -- *q = 1;
+    ∷ (Assign 0 (Behind 0 (Variable 1 33)) None (one 5), None)
+    -- n = q[1];
+    ∷ (set 31 (Element 4 33 (one 6)), None)
+    -- n = q;
+    ∷ (set 31 (Variable 4 33), Some (TypeMismatch 4))
+    -- q++;
+    ∷ (Step 0 (Whole 0 33) true, Some (NotAssignable 0))
+    -- q();
+    ∷ (CallOnly 0 33 NoTerm, Some (TypeMismatch 0))
+    -- atomic_inc(q);
+    ∷ (increment (Variable 11 33), None)
     -- s = q;
     ∷ (set 28 (Variable 4 33), None)
     -- s = &q[1];
@@ -144,6 +169,8 @@ samples =
     ∷ (array false 4 32 6 0, Some (Redeclared 4))
     -- __local int y[4];
     ∷ (array true 12 40 14 4, None)
+    -- __local int q[0];
+    ∷ (array true 12 33 14 0, Some (Redeclared 12))
     -- { __local int y[0]; }
     ∷ (Block 0 (then_stmts NoStmt (array true 14 40 16 0 ∷ [])), Some (WrongSpace 14))
     ∷ []

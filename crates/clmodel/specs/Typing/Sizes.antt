@@ -29,7 +29,7 @@ one_loop s = record s { loops = suc s.loops; nodes = suc s.nodes }
 abbrev pub leaf : Size
 leaf = one_node nothing
 
--- an array: if it is private, with its bytes
+-- an array: if it is private (6.5.4), with its bytes; those of local arrays count where a kernel is launched, not here (own)
 abbrev pub array_size : (is_local : Bool) → ℕ → Size
 array_size true bytes = leaf
 array_size false bytes = record leaf { bytes = bytes }
