@@ -1,5 +1,5 @@
 -- What stands at the place of the innermost variable of a name.
-use Rattle.std.proofs.Common.{◌≡◌, ℕ, zero, suc, ◌+◌, ◌-◌, ◌<◌, ◌==◌, Bool, true, false, Option, None, Some, List, [], ◌∷◌, length, drop, replicate, reverse, get_or, nat_lt, refl, sym, ap, ◌∙◌, subst, arith, unwrap_or}
+use Rattle.std.proofs.Common.{◌≡◌, ℕ, zero, suc, ◌+◌, ◌-◌, ◌<◌, ◌==◌, Bool, true, false, Option, None, Some, List, [], ◌∷◌, length, drop, replicate, reverse, get_or, nat_lt, refl, sym, ap, ◌∙◌, subst, arith, unwrap_or, lt-ltb}
 use Rattle.std.proofs.lemmas.List.{get_or-reverse, length-reverse, reverse-reverse, length-map}
 use Rattle.clnum.specs.declared.int_type.IntType.TheVariants.{Int}
 use Rattle.clmodel.specs.Next.{Variables, declared_type, elements_of, has_elements, is_array}
@@ -75,7 +75,7 @@ found_elements entries name place default h =
 -- so many elements are some
 pub has_replicated : (n : ℕ) → has_elements (replicate n None) ≡ nat_lt 0 n
 has_replicated zero = refl
-has_replicated (suc n) = refl
+has_replicated (suc n) = sym (lt-ltb 0 (suc n) (omega arith))
 
 pub found_below : (entries : List Entry) (name place : ℕ) → last_place (variables_of (reverse entries)) name ≡ Some place → place < length entries
 found_below [] name place h = absurd (none_is_not_some h)

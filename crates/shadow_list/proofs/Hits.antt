@@ -1,20 +1,18 @@
 -- Which accesses conflict, and searches for the first that does.
-use Rattle.std.proofs.Common.{◌≡◌, ℕ, zero, suc, ◌+◌, ◌-◌, ◌<◌, ◌≤◌, ◌⊎◌, Bool, true, false, nat_lt, nat_le, not, ◌&&◌, if◌then◌else◌, Option, None, Some, List, [], ◌∷◌, length, drop, get_or, refl, sym, ap, ◌∙◌, subst, inl, inr, arith, ltb-true, leb-true}
+use Rattle.std.proofs.Common.{◌≡◌, ℕ, zero, suc, ◌+◌, ◌-◌, ◌<◌, ◌≤◌, ◌⊎◌, Bool, true, false, nat_lt, nat_le, ◌&&◌, if◌then◌else◌, Option, None, Some, List, [], ◌∷◌, length, drop, get_or, refl, sym, ap, ◌∙◌, subst, inl, inr, arith, ltb-true, leb-true}
 use Rattle.std.specs.Prelude.{is_some}
 use Rattle.std.specs.Option.{option_map}
 use Rattle.std.proofs.lemmas.Bool.{and_parts, false≢true}
-use Rattle.std.proofs.lemmas.List.{drop_more}
 use Rattle.clmodel.specs.Cells.{byte_count, covers}
 use Rattle.clmodel.specs.Launch.{unordered, same_region, share, clash, conflict_between}
 use Rattle.clmodel.specs.Run.{or_else}
 use Rattle.clmodel.specs.declared.access.Access.{Access}
-use Rattle.clmodel.specs.declared.access.Clash.{Clash}
 use Rattle.shadow_list.specs.Log.{hit_between, hit_on, hit_from, hit, IsThere}
 use Rattle.shadow_list.specs.declared.log.Entry.{Entry}
 use Rattle.shadow_list.specs.declared.log.Hit.{Hit}
 
 -- a truth value, by cases that keep its equation
-decided : {P : Type 0} (b : Bool) → (b ≡ true → P) → (b ≡ false → P) → P
+pub decided : {P : Type 0} (b : Bool) → (b ≡ true → P) → (b ≡ false → P) → P
 decided true positive negative = positive refl
 decided false positive negative = negative refl
 
@@ -87,11 +85,15 @@ at_entry g x byte log i d h =
     ∙ ap (λ n. or_else (hit_between g (get_or log i d) x byte) (hit_on g x byte (drop n log))) {x = suc i} {y = i + 1} (omega arith)
 
 -- an access that doesn't conflict is passed over
+pub past_over : (g : Bool) (x : Entry) (byte : ℕ) (y : Entry) (log : List Entry) → conflict_between g y.access x.access byte ≡ None
+    → hit_on g x byte (y ∷ log) ≡ hit_on g x byte log
+past_over g x byte y log a = ap (λ o. or_else (option_map (λ clash. record { clash = clash; earlier = y; later = x; byte = byte }) o) (hit_on g x byte log)) a
+
 pub past_entry : (g : Bool) (x : Entry) (byte : ℕ) (log : List Entry) (i : ℕ) (d : Entry) → i < length log
     → conflict_between g (get_or log i d).access x.access byte ≡ None → hit_on g x byte (drop i log) ≡ hit_on g x byte (drop (i + 1) log)
 past_entry g x byte log i d h a =
     at_entry g x byte log i d h
-    ∙ ap (λ o. or_else (option_map (λ clash. record { clash = clash; earlier = get_or log i d; later = x; byte = byte }) o) (hit_on g x byte (drop (i + 1) log))) a
+    ∙ past_over g x byte (get_or log i d) (drop (i + 1) log) a
 
 pub from_here : (g : Bool) (x : Entry) (log : List Entry) (byte count : ℕ) (found : Hit) → 0 < count
     → hit_on g x byte log ≡ Some found → hit_from g x log byte count ≡ Some found

@@ -1,4 +1,4 @@
-ghost use Rattle.std.specs.Prelude.{◌<◌};
+ghost use Rattle.std.specs.Prelude.{◌≡◌, ◌<◌};
 ghost use Rattle.shadow_list.specs.Log.{IsPlaced};
 
 use crate::{AccessLog, Accesses, Entry, Fenced, ListLog};
@@ -24,6 +24,8 @@ fn entry(item: u32, first: u64, kind: AccessKind, event: u32) -> Entry
 /// Notes an access, and tells the byte and the way of its conflict.
 fn noted<R: Abort>(rt: &R, log: &mut ListLog, entry: Entry) -> Option<(u64, Clash)>
     requires { IsPlaced entry }
+    ensures local { log.new.local_interval ≡ log.old.local_interval }
+    ensures global { log.new.global_interval ≡ log.old.global_interval }
 {
     match log.note(entry) {
         Ok(Some(hit)) => Some((hit.byte, hit.clash)),
@@ -60,6 +62,21 @@ fn a_fence_begins_an_interval(rt: HostRuntime) {
     if log.len() > 0 {
         assert_eq!(rt; log.get(0).access.interval, 1);
     }
+}
+
+#[test]
+fn a_fence_orders_accesses_of_its_address_space(rt: HostRuntime) {
+    let mut log = ListLog::new(rt.alloc());
+    let store = AccessKind::Store;
+    let race = Some((0, Clash::Race));
+    assert_eq!(rt; noted(&rt, &mut log, entry(0, 0, store, 0)), None);
+    log.fence(Fenced::Local);
+    assert_eq!(rt; noted(&rt, &mut log, entry(1, 0, store, 1)), race);
+    log.fence(Fenced::Global);
+    assert_eq!(rt; noted(&rt, &mut log, entry(2, 0, store, 2)), None);
+    assert_eq!(rt; noted(&rt, &mut log, entry(2, 0, store, 3)), None);
+    assert_eq!(rt; log.len(), 3);
+    assert_eq!(rt; noted(&rt, &mut log, entry(3, 0, store, 4)), race);
 }
 
 #[test]

@@ -31,7 +31,7 @@ emit_declaration-returns-in_ok-split-in-Some-clause-code t c =
     let split = c.in_ok-split-in-Some.split in
     let same : split_code (call_code fs) split p.depth p.site ≡ statement_code s c.args.scope.now (stmt c.args.statement.now) p =
     c.in_ok-split-in-Some.ensures.code (call_code fs) (inside s.functions.now) s.result p.depth p.site (exits_of p.exits)
-    ∙ ap (λ x. statement_code s c.args.scope.now x p) (declare_is c.args.statement.now c.in-Declare.at c.in-Declare.kind c.in-Declare.name_at c.in-Declare.name c.in-Declare.value c.in-Some.value c.deref-in-Some.result.now c.in-Declare.is c.in-Some.is c.deref-in-Some.ensures) in
+    ∙ ap (λ x. statement_code s c.args.scope.now x p) (declare_is c.args.statement.now c.in-Declare.at c.in-Declare.kind c.in-Declare.name_at c.in-Declare.name c.in-Declare.value c.in-Some.value c.deref.result.now c.in-Declare.is c.in-Some.is c.deref.ensures) in
     placed c.emit_split.result c.emit_split.new.code c.args.code.now (split_code (call_code fs) split p.depth p.site) (statement_code s c.args.scope.now (stmt c.args.statement.now) p) same c.emit_split.ensures
 
 pub emit_assignment-returns-in_ok-split-in-None : goal.emit_assignment-returns-in_ok-split-in-None
@@ -42,8 +42,8 @@ emit_assignment-returns-in_ok-split-in-None t c =
     let split = c.in_ok-split-in-None.split in
     let same : split_code (call_code fs) split p.depth p.site ≡ statement_code s c.args.scope.now (stmt c.args.statement.now) p =
     c.in_ok-split-in-None.ensures (call_code fs) (inside s.functions.now) s.result p.depth p.site
-    ∙ ap (λ x. statement_code s c.args.scope.now x p) (assign_is c.args.statement.now c.in-Assign.at c.in-Assign.target c.in-Assign.operator c.in-Assign.value None c.deref-in-None.result.now c.deref-in-None-2.result.now c.in-Assign.is c.in-None.is c.deref-in-None.ensures c.deref-in-None-2.ensures) in
-    placed c.emit_split-in-None.result c.emit_split-in-None.new.code c.args.code.now (split_code (call_code fs) split p.depth p.site) (statement_code s c.args.scope.now (stmt c.args.statement.now) p) same c.emit_split-in-None.ensures
+    ∙ ap (λ x. statement_code s c.args.scope.now x p) (assign_is c.args.statement.now c.in-Assign.at c.in-Assign.target c.in-Assign.operator c.in-Assign.value None c.deref.result.now c.deref-in-None.result.now c.in-Assign.is c.in-None.is c.deref.ensures c.deref-in-None.ensures) in
+    placed c.emit_split.result c.emit_split.new.code c.args.code.now (split_code (call_code fs) split p.depth p.site) (statement_code s c.args.scope.now (stmt c.args.statement.now) p) same c.emit_split.ensures
 
 pub emit_assignment-returns-in_ok-split-in-Some : goal.emit_assignment-returns-in_ok-split-in-Some
 emit_assignment-returns-in_ok-split-in-Some t c =

@@ -1,0 +1,101 @@
+-- Entries of earlier intervals neither conflict with an access nor are equal to it: a walk may begin behind them.
+use Rattle.std.proofs.Common.{◌≡◌, ℕ, zero, suc, ◌<◌, Bool, true, false, nat_eq, not, if◌then◌else◌, None, List, [], ◌∷◌, ◌++◌, length, ◌≤◌, ◌+◌, take, drop, refl, sym, ap, ◌∙◌, subst, inl, inr, arith}
+use Rattle.std.specs.Prelude.{All}
+use Rattle.std.proofs.lemmas.Bool.{false≢true, and_right, ne_eqb}
+use Rattle.std.proofs.lemmas.List.{take-append-le}
+use Rattle.std.proofs.lemmas.List.Elements.{All-head, All-tail, All-same, All-push}
+use Rattle.clmodel.specs.Cells.{byte_count}
+use Rattle.clmodel.specs.Launch.{same_region, conflict_between}
+use Rattle.clmodel.specs.Run.{or_else, by_region}
+use Rattle.clmodel.specs.declared.access.Access.{Access}
+use Rattle.clmodel.specs.declared.access.Region.{Region}
+use Rattle.clmodel.specs.declared.access.Region.TheVariants as region
+use Rattle.shadow_list.specs.Log.{in_buffer, hit_on, hit_from, hit, IsThere}
+use Rattle.shadow_list.specs.Past.{IsBefore}
+use Rattle.shadow_list.specs.declared.log.Entry.{Entry}
+use Rattle.shadow_list.proofs.Hits.{ordered, other_region, decided, past_over}
+
+-- before the interval of an access, or in the other memory
+abbrev pub IsPast : Entry → Entry → Type 0
+IsPast x = IsBefore (in_buffer x.access.region) x.access.interval
+
+one_memory : (a b : Region) → same_region a b ≡ true → in_buffer a ≡ in_buffer b
+one_memory (region.Buffer a) (region.Buffer b) h = refl
+one_memory (region.Buffer a) (region.Local h b) e = absurd (false≢true e)
+one_memory (region.Local g a) (region.Buffer b) e = absurd (false≢true e)
+one_memory (region.Local g a) (region.Local h b) e = refl
+
+no_conflict : (x y : Entry) (byte : ℕ) → IsPast x y → conflict_between true y.access x.access byte ≡ None
+no_conflict x y byte h =
+    decided (same_region y.access.region x.access.region)
+    (λ e. ordered true y.access x.access byte (and_right (not (nat_eq y.access.item x.access.item)) (nat_eq y.access.interval x.access.interval)
+    (ne_eqb y.access.interval x.access.interval (λ s. omega (arith, s, h (one_memory y.access.region x.access.region e))))))
+    (other_region true y.access x.access byte)
+
+same_on : (x : Entry) (byte n : ℕ) (log : List Entry) → All (IsPast x) (take n log) → hit_on true x byte log ≡ hit_on true x byte (drop n log)
+same_on x byte zero log h = refl
+same_on x byte (suc n) [] h = refl
+same_on x byte (suc n) (y ∷ log) h =
+    past_over true x byte y log (no_conflict x y byte (All-head (IsPast x) y (take n log) h)) ∙ same_on x byte n log (All-tail (IsPast x) y (take n log) h)
+
+-- the conflict is that with the entries behind
+same_hit : (x : Entry) (n : ℕ) (log : List Entry) → All (IsPast x) (take n log) → hit true x log ≡ hit true x (drop n log)
+unfolding hit
+same_hit x n log h = go x.access.first (byte_count x.access.width)
+  where
+    go : (byte count : ℕ) → hit_from true x log byte count ≡ hit_from true x (drop n log) byte count
+    go byte zero = refl
+    go byte (suc count) =
+        ap (λ o. or_else o (hit_from true x log (suc byte) count)) (same_on x byte n log h) ∙ ap (or_else (hit_on true x byte (drop n log))) (go (suc byte) count)
+
+not_same : (x y : Entry) → IsPast x y → y.access ≡ x.access → ⊥
+not_same x y h e = omega (arith, ap (λ (a : Access). a.interval) e, h (ap (λ (a : Access). in_buffer a.region) e))
+
+-- an access that is there is among the entries behind
+still_there : (x : Entry) (n : ℕ) (log : List Entry) → All (IsPast x) (take n log) → IsThere log x.access → IsThere (drop n log) x.access
+still_there x zero log h t = t
+still_there x (suc n) [] h t = elim t [ ]
+still_there x (suc n) (y ∷ log) h (inl e) = absurd (not_same x y (All-head (IsPast x) y (take n log) h) e)
+still_there x (suc n) (y ∷ log) h (inr t) = still_there x n log (All-tail (IsPast x) y (take n log) h) t
+
+there_in_all : (x : Access) (n : ℕ) (log : List Entry) → IsThere (drop n log) x → IsThere log x
+there_in_all x zero log t = t
+there_in_all x (suc n) [] t = elim t [ ]
+there_in_all x (suc n) (y ∷ log) t = inr (there_in_all x n log t)
+
+-- A walk through the rest of a log for an access that is the kept one.
+pub record Walk (e x : Entry) (n : ℕ) (log rest : List Entry) : Type 0 where
+  pub kept : e ≡ x
+  pub rest_is : rest ≡ drop n log
+  pub past : All (IsPast x) (take n log)
+
+pub walk_finds : (e x : Entry) (n : ℕ) (log rest : List Entry) → Walk e x n log rest → hit true e rest ≡ hit true x log
+walk_finds e x n log rest w = ap (λ y. hit true y rest) w.kept ∙ ap (hit true x) w.rest_is ∙ sym (same_hit x n log w.past)
+
+pub walk_sees : (e x : Entry) (n : ℕ) (log rest : List Entry) → Walk e x n log rest → IsThere rest e.access → IsThere log x.access
+walk_sees e x n log rest w t =
+    there_in_all x.access n log (subst (λ l. IsThere l x.access) w.rest_is (subst (λ (y : Entry). IsThere rest y.access) w.kept t))
+
+pub walk_misses : (e x : Entry) (n : ℕ) (log rest : List Entry) → Walk e x n log rest → IsThere log x.access → IsThere rest e.access
+walk_misses e x n log rest w t =
+    subst (λ (y : Entry). IsThere rest y.access) (sym w.kept) (subst (λ l. IsThere l x.access) (sym w.rest_is) (still_there x n log w.past t))
+
+-- ---- what a push leaves: the entries with one more, or as they were
+
+pub all_pushed : (P : Entry → Type 0) (old new : List Entry) (x : Entry) (ok : Bool) → new ≡ (if ok then old ++ x ∷ [] else old) → All P old → P x → All P new
+all_pushed P old new x true e h p = All-same P new (old ++ x ∷ []) e (All-push P old x h p)
+all_pushed P old new x false e h p = All-same P new old e h
+
+pub front_pushed : (P : Entry → Type 0) (n : ℕ) (old new : List Entry) (x : Entry) (ok : Bool) → new ≡ (if ok then old ++ x ∷ [] else old)
+    → n ≤ length old → All P (take n old) → All P (take n new)
+front_pushed P n old new x true e l h = All-same P (take n new) (take n old) (ap (take n) e ∙ take-append-le n old (x ∷ []) l) h
+front_pushed P n old new x false e l h = All-same P (take n new) (take n old) (ap (take n) e) h
+
+-- an access of the running interval was made before the next one
+pub local_before : (r : Region) (global local : ℕ) → in_buffer r ≡ false → by_region r global local < local + 1
+local_before (region.Buffer a) global local e = absurd (false≢true (sym e))
+local_before (region.Local g a) global local e = omega arith
+
+pub global_before : (r : Region) (global local : ℕ) → in_buffer r ≡ true → by_region r global local < global + 1
+global_before (region.Buffer a) global local e = omega arith
+global_before (region.Local g a) global local e = absurd (false≢true e)
