@@ -12,6 +12,8 @@ mod checks;
 #[cfg(test)]
 mod control_flow;
 #[cfg(test)]
+mod dumps;
+#[cfg(test)]
 mod failing_ends;
 #[cfg(test)]
 mod limits;
