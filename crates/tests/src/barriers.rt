@@ -120,3 +120,14 @@ fn local_memory_in_a_helper(rt: HostRuntime) {
         0,
     );
 }
+
+// The first item reads what another one would have stored: an unset read, where the buffer keeps its bytes.
+#[test]
+fn a_tile_without_its_barrier(rt: HostRuntime) {
+    check(
+        &rt,
+        "buffer a 16\nwrite a 0 01000000020000000300000004000000\nprogram p 6\n__kernel void reverse(__global int *a, __local int *tile) {\n    int i = get_local_id(0);\n    int last = get_local_size(0) - 1;\n    tile[i] = a[i];\n    a[i] = tile[last - i];\n}\nkernel k p reverse\narg k 0 buffer a\narg k 1 local 16\nlaunch k 4 4\nread a 0 16\n",
+        "ok\nok\nok\nok\nok\nok\nfault 5 unset item 0 load local 0 tile byte 12 schedule 0*2\ndata 01000000020000000300000004000000\n",
+        1,
+    );
+}

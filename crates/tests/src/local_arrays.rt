@@ -112,3 +112,14 @@ fn sizes_of_local_arrays(rt: HostRuntime) {
         2,
     );
 }
+
+// The example of arrays: sorted, reversed, and two faults.
+#[test]
+fn the_example(rt: HostRuntime) {
+    check(
+        &rt,
+        "buffer a 16\nwrite a 0 04000000010000000300000002000000\nbuffer out 16\nprogram p 31\n/* the number at a place among four, in an array of its own that is sorted */\nint sorted(__global const int *a, int place) {\n    int t[4];\n    for (int i = 0; i < 4; i++) t[i] = a[i];\n    for (int i = 0; i < 3; i++)\n        for (int j = 0; j < 3; j++)\n            if (t[j] > t[j + 1]) {\n                int x = t[j];\n                t[j] = t[j + 1];\n                t[j + 1] = x;\n            }\n    return t[place];\n}\n\n__kernel void reverse(__global const int *a, __global int *out) {\n    __local int tile[4];\n    int i = get_local_id(0);\n    tile[i] = i;\n    int x = sorted(a, i);\n    tile[i] += x * 10;\n    barrier(CLK_LOCAL_MEM_FENCE);\n    out[i] = tile[3 - i];\n}\n\n__kernel void unset(__global int *out) {\n    int t[2];\n    t[0] = 5;\n    out[0] = t[0] + t[1];\n}\n\n__kernel void outside(int n) { int t[4]; t[n] = 1; }\nkernel k p reverse\narg k 0 buffer a\narg k 1 buffer out\nlaunch k 4 4\nread out 0 16\nkernel l p unset\narg l 0 buffer out\nlaunch l 1 1\nkernel m p outside\narg m 0 value 4\nlaunch m 1 1\n",
+        "ok\nok\nok\nok\nok\nok\nok\nclean\ndata 2b00000020000000150000000a000000\nok\nok\nfault 5 unset item 0 private t element 1 schedule -\nok\nok\nfault 4 bounds item 0 private t element 4 schedule -\n",
+        1,
+    );
+}

@@ -182,3 +182,14 @@ fn an_array_in_a_helper(rt: HostRuntime) {
         0,
     );
 }
+
+// What a helper gives is stored in an element of its caller, whose array has the name of the other.
+#[test]
+fn a_helper_gives_an_element(rt: HostRuntime) {
+    check(
+        &rt,
+        "buffer a 4\nprogram p 1\nint g(int n) { int t[1]; t[0] = n; return t[0]; } __kernel void f(__global int *a) { int t[2]; t[1] = g(4); t[1] += g(5); a[0] = t[1]; }\nkernel k p f\narg k 0 buffer a\nlaunch k 1 1\nread a 0 4\n",
+        "ok\nok\nok\nok\nclean\ndata 09000000\n",
+        0,
+    );
+}
