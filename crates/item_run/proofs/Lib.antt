@@ -3,3 +3,4 @@ pub mod Turns
 pub mod ArrayLaws
 pub mod StateLaws
 pub mod AskingLaws
+pub mod LeadingLaws

@@ -1,7 +1,7 @@
 //! Private arrays.
 #![tactic(auto)]
 
-ghost use Rattle.std.specs.Prelude.{◌≡◌, ◌<◌, ◌≤◌, [], length, map, replicate, slice_set, IfOk};
+ghost use Rattle.std.specs.Prelude.{◌≡◌, ◌<◌, ◌≤◌, [], length, map, replicate, slice_set, take, IfOk};
 ghost use Rattle.item_run.specs.Arrays.{all_present, keeping};
 
 use std::alloc::{AllocError, Global};
@@ -48,7 +48,7 @@ impl PrivateArray {
         ensures { self.new ≡ keeping (replicate count None) self.old.most }
     {
         let count = count as usize;
-        self.elements[..count].fill(None);
+        clear(&mut self.elements, count);
         self.count = count;
     }
 
@@ -58,6 +58,17 @@ impl PrivateArray {
         ensures { self.new ≡ keeping (slice_set self.old.present place (Some bits)) self.old.most }
     {
         self.elements[place] = Some(bits);
+    }
+}
+
+/// The first so many elements are made unset.
+fn clear(elements: &mut Vec<Option<u64>>, count: usize)
+    requires { count ≤ length elements.old.items }
+    ensures kept { length elements.new.items ≡ length elements.old.items }
+    ensures unset { take count elements.new.items ≡ replicate count None }
+{
+    for i in 0..count {
+        elements[i] = None;
     }
 }
 

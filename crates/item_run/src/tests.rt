@@ -1,6 +1,9 @@
 //! A small code that runs, answered by hand.
 #![tactic(auto)]
 
+ghost use Rattle.std.specs.Prelude.{◌≡◌, []};
+ghost use Rattle.clmodel.specs.Setup.{group_counts, group_items};
+
 use crate::{Item, Surroundings};
 use clmodel::access::{Object, Operation, Width};
 use clmodel::action::{Action, Answer, Cause, Fences};
@@ -134,7 +137,10 @@ fn run(alloc: Global, item: &mut Item<'_>, number: i128) -> Result<Done, AllocEr
 }
 
 /// A range without dimensions, of one item.
-fn nowhere(alloc: Global) -> Range {
+fn nowhere(alloc: Global) -> Range
+    ensures counts { [] ≡ group_counts result }
+    ensures items { 1 ≡ group_items result }
+{
     Range {
         global: Numbers::new(Vec::new(alloc)),
         local: Numbers::new(Vec::new(alloc)),

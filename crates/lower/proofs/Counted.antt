@@ -33,7 +33,7 @@ lengths_more code i x lengths now below is wanted before =
 
 -- a private array that isn't there yet
 pub widened_more : (lengths : List ℕ) (array count : ℕ) → length lengths ≤ array → widened (lengths ++ 0 ∷ []) array count ≡ widened lengths array count
-widened_more [] zero count h = refl
+widened_more [] zero count h = let none : max 0 count ≡ count = omega arith in ap (λ m. m ∷ []) none
 widened_more [] (suc array) count h = refl
 widened_more (most ∷ lengths) zero count h = absurd (omega (arith, h))
 widened_more (most ∷ lengths) (suc array) count h = ap (λ rest. most ∷ rest) (widened_more lengths array count (omega (arith, h)))

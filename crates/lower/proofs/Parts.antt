@@ -1,10 +1,11 @@
 -- The parts of statements: what is assigned to, the values of calls, and built-in functions.
 use Rattle.std.proofs.Common.{◌≡◌, ℕ, zero, suc, ℤ, pos, negsuc, ◌+◌, ◌*◌, ◌≤◌, ◌≢◌, Bool, true, false, if◌then◌else◌, nat_lt, slice_set, Option, None, Some, List, [], ◌∷◌, ◌++◌, length, slice_get, refl, sym, ap, ◌∙◌, subst, arith, length-append}
-use Rattle.clnum.specs.Integer.{Integer, bits_of}
+use Rattle.clnum.specs.Integer.{bits_of}
+use Rattle.clnum.specs.Integer as numbers
 use Rattle.clnum.specs.declared.int_type.IntType.{IntType}
 use Rattle.clnum.specs.declared.operators.BinaryOperator.{BinaryOperator}
 use Rattle.clmodel.specs.Next.{Run, finish, fail, ask, Variables, base_type, has_elements, is_array, with_elements, index_of, element_set, write_element, store_element, Helpers, assign, declared_type, held, known, look, load, store, combined, reach, fetch, infix_type, HelperCall, value_of, assigned, call, call_only, wait}
-use Rattle.clmodel.specs.Next.Expressions.{Destination, Named, Through}
+use Rattle.clmodel.specs.Next.Expressions.{Destination, Through}
 use Rattle.clmodel.specs.Next as next
 use Rattle.clmodel.specs.Tree.{Variable, Terms, NoTerm, ThenTerm, Place, Whole, Part, Behind}
 use Rattle.clmodel.specs.declared.action.Action.TheVariants as action
@@ -17,7 +18,7 @@ use Rattle.clmodel.specs.declared.setup.BuiltIn.{BuiltIn}
 use Rattle.clmodel.specs.declared.setup.BuiltIn.TheVariants as built_in_function
 use Rattle.clmodel.specs.declared.tree.VariableType.{VariableType}
 use Rattle.clmodel.specs.declared.tree.VariableType.TheVariants.{Integer}
-use Rattle.regcode.specs.Machine.{State, Given, Registers, reg, array_of, with_put, with_array, passed}
+use Rattle.regcode.specs.Machine.{State, Given, reg, array_of, with_put, with_array, passed}
 use Rattle.regcode.specs.declared.instruction.Instruction.{Instruction}
 use Rattle.regcode.specs.declared.instruction.Instruction.TheVariants as instruction
 use Rattle.regcode.proofs.Agreement.{Alike, number_alike, Agree, steps, ends, hold_runs, load_runs, store_runs, update_runs, update_by_one_runs, barrier_runs}
@@ -72,7 +73,7 @@ set_some [] i n = refl
 set_some (element ∷ elements) zero n = refl
 set_some (element ∷ elements) (suc i) n = refl
 
-set_kept : (ticks : ℕ) (name : ℕ) (i : ℤ) (kind : IntType) (elements : List (Option ℕ)) (v : Integer) (f g : List (Option ℕ) → Run) → has_elements elements ≡ true
+set_kept : (ticks : ℕ) (name : ℕ) (i : ℤ) (kind : IntType) (elements : List (Option ℕ)) (v : numbers.Integer) (f g : List (Option ℕ) → Run) → has_elements elements ≡ true
     → ((new : List (Option ℕ)) → has_elements new ≡ true → Alike ticks (f new) (g new)) → Alike ticks (element_set name i kind elements v f) (element_set name i kind elements v g)
 set_kept ticks name (pos i) kind elements v f g some h = inside (nat_lt i (length elements))
   where

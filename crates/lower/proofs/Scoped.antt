@@ -5,13 +5,14 @@ use Rattle.std.specs.Option.{option_or}
 use Rattle.clmodel.specs.Tree as tree
 use Rattle.clmodel.specs.Next.{elements_of, has_elements}
 use Rattle.clmodel.specs.Tree.{array_length, Stmt, Stmts, NoStmt, ThenStmt, MaybeStmt, Without, With}
-use Rattle.clmodel.specs.Typing.Context.{Context, Signature, Single, LocalArray, PrivateArray, array, Meaning, meaning, Bound, Callable, Current, BuiltInFunction, Barrier, Unknown, declared, found, called, signature_of, function_meaning, is_reserved, is_free, among, bind, after, after_all, after_part}
+use Rattle.clmodel.specs.Typing.Context.{Context, Signature, array, Meaning, meaning, Bound, Callable, Current, BuiltInFunction, Barrier, Unknown, declared, found, called, signature_of, function_meaning, is_reserved, is_free, among, bind, after, after_all, after_part}
 use Rattle.clmodel.specs.Typing.Context as context
 use Rattle.clmodel.specs.Typing.Rules as rule
 use Rattle.clmodel.specs.Typing.Rules.{IsTyped, IsTypedPart, AreTyped}
 use Rattle.clmodel.specs.Typing.Functions.{with_params, AreParams}
 use Rattle.clnum.specs.declared.int_type.IntType.{IntType}
 use Rattle.clmodel.specs.declared.declaration.Declaration.{Declaration}
+use Rattle.clmodel.specs.declared.declaration.Declaration.TheVariants.{Single, LocalArray, PrivateArray}
 use Rattle.clmodel.specs.declared.setup.BuiltIn.{BuiltIn}
 use Rattle.clmodel.specs.declared.tree.Parameter.{Parameter}
 use Rattle.clmodel.specs.declared.tree.VariableType.{VariableType}

@@ -14,7 +14,7 @@ use Rattle.clmodel.specs.declared.tree.VariableType.TheVariants.{Integer}
 use Rattle.regcode.specs.Machine.{State, Given, Registers, reg, put, array_of, put_array, with_put, with_array, passed, onward}
 use Rattle.regcode.specs.declared.instruction.Instruction.{Instruction}
 use Rattle.regcode.specs.declared.instruction.Instruction.TheVariants as instruction
-use Rattle.regcode.proofs.Agreement.{Agree, with_fewer, ends, unset_runs, local_runs, unset_array_runs, hold_runs, jump_runs, branch_runs}
+use Rattle.regcode.proofs.Agreement.{Agree, with_fewer, unset_runs, local_runs, unset_array_runs, hold_runs, jump_runs, branch_runs}
 use Rattle.regcode.proofs.Registers.{reg_put, array_put}
 use Rattle.lower_expr.specs.Scope.{Scope, register_at, seen_elements, Sees, free_level}
 use Rattle.lower_expr.specs.Expressions.{expr_code, register_for}

@@ -12,11 +12,12 @@ use Rattle.clmodel.specs.BuiltIns.{built_in}
 use Rattle.clmodel.specs.Next.{base_type, infix_type, call_type, argument_type}
 use Rattle.clmodel.specs.Tree as tree
 use Rattle.clmodel.specs.Tree.{Term, Terms, NoTerm, ThenTerm, Place}
-use Rattle.clmodel.specs.Typing.Context.{Context, Signature, Single, LocalArray, PrivateArray, value_type, element_type, Meaning, meaning, Bound, Callable, Current, BuiltInFunction, Barrier, Unknown, found, called, signature_of, function_meaning}
+use Rattle.clmodel.specs.Typing.Context.{Context, Signature, value_type, element_type, Meaning, meaning, Bound, Callable, Current, BuiltInFunction, Barrier, Unknown, found, called, signature_of, function_meaning}
 use Rattle.clmodel.specs.Typing.Context as context
 use Rattle.clmodel.specs.Typing.Rules as rule
 use Rattle.clmodel.specs.Typing.Rules.{Types, TypesAll, TypesPlace, Operates, Calls}
 use Rattle.clmodel.specs.declared.declaration.Declaration.{Declaration}
+use Rattle.clmodel.specs.declared.declaration.Declaration.TheVariants.{Single, LocalArray, PrivateArray}
 use Rattle.clmodel.specs.declared.setup.BuiltIn.{BuiltIn}
 use Rattle.clmodel.specs.declared.tree.AddressSpace.TheVariants.{Local}
 use Rattle.clmodel.specs.declared.tree.InfixOperator.{InfixOperator}

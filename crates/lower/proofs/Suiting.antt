@@ -169,14 +169,18 @@ module _ (parameters : List VariableType) where
       → Suits parameters (instruction.PrivateLoad to array index element name)
   private_load_suits to array index name element kind is of code same wide = (
     takes (kind_at code to) (Some (Integer element)) (Integer element) (wide.registers.0 ∙ ap Some is) refl,
-    (subst (λ o. IsTrue (is_integer o)) (sym (wide.registers.1.0 ∙ ap Some of)) refl, (wide.arrays, let n = wide.names in omega (arith, n))),
+    subst (λ o. IsTrue (is_integer o)) (sym (wide.registers.1.0 ∙ ap Some of)) refl,
+    wide.arrays,
+    (let n = wide.names in omega (arith, n)),
   )
 
   pub private_store_suits : (array index value name : ℕ) (element kind other : IntType) → Is index (variable_type.Integer kind) → Is value (variable_type.Integer other)
       → Suits parameters (instruction.PrivateStore array index value element name)
   private_store_suits array index value name element kind other of by code same wide = (
     subst (λ o. IsTrue (is_integer o)) (sym (wide.registers.0 ∙ ap Some of)) refl,
-    (subst (λ o. IsTrue (is_integer o)) (sym (wide.registers.1.0 ∙ ap Some by)) refl, (wide.arrays, let n = wide.names in omega (arith, n))),
+    subst (λ o. IsTrue (is_integer o)) (sym (wide.registers.1.0 ∙ ap Some by)) refl,
+    wide.arrays,
+    (let n = wide.names in omega (arith, n)),
   )
 
   pub point_suits : (to from : ℕ) (kind : VariableType) → Is to kind → Is from kind → IsTrue (is_pointer (Some (kind_of kind))) → Suits parameters (instruction.Point to from)

@@ -9,11 +9,12 @@ use Rattle.clmodel.specs.BuiltIns.{built_in}
 use Rattle.clmodel.specs.Next.{base_type, infix_type, argument_type, call_type, step_operator, helper_or, helper_call}
 use Rattle.clmodel.specs.Tree as tree
 use Rattle.clmodel.specs.Tree.{Term, Terms, Place, MaybeTerm}
-use Rattle.clmodel.specs.Typing.Context.{Context, Signature, Single, LocalArray, PrivateArray, element_type, Bound, signature_of, meaning, BuiltInFunction, Barrier}
+use Rattle.clmodel.specs.Typing.Context.{Context, Signature, element_type, Bound, signature_of, meaning, BuiltInFunction, Barrier}
 use Rattle.clmodel.specs.Typing.Rules as rule
 use Rattle.clmodel.specs.Typing.Rules.{Types, TypesAll, TypesPlace, Passes, Operates, AreGiven, CallsHelper, Gives, IsCondition}
 use Rattle.clmodel.specs.declared.action.Fences.{Fences}
 use Rattle.clmodel.specs.declared.declaration.Declaration.{Declaration}
+use Rattle.clmodel.specs.declared.declaration.Declaration.TheVariants.{Single, LocalArray, PrivateArray}
 use Rattle.clmodel.specs.declared.setup.BuiltIn.{BuiltIn}
 use Rattle.clmodel.specs.declared.tree.AddressSpace.TheVariants.{Local}
 use Rattle.clmodel.specs.declared.tree.PointerType.{PointerType}

@@ -3,9 +3,10 @@ use Rattle.std.proofs.Common.{◌≡◌, ℕ, ◌+◌, ◌++◌, Bool, true, fal
 use Rattle.clnum.specs.declared.int_type.IntType.{IntType}
 use Rattle.clmodel.specs.Next.{helper_call, sites, part_sites, all_sites}
 use Rattle.clmodel.specs.Tree.{array_length, Stmt, Stmts, MaybeStmt, While_}
-use Rattle.clmodel.specs.Typing.Context.{Context, Signature, Single, signature_of, bind, enter, turning, for_context, after_all}
+use Rattle.clmodel.specs.Typing.Context.{Context, Signature, signature_of, bind, enter, turning, for_context, after_all}
 use Rattle.clmodel.specs.Typing.Rules as rule
 use Rattle.clmodel.specs.Typing.Rules.{IsTyped, IsTypedPart, AreTyped}
+use Rattle.clmodel.specs.declared.declaration.Declaration.TheVariants.{Single}
 use Rattle.clmodel.specs.declared.tree.VariableType.{VariableType}
 use Rattle.clmodel.specs.declared.tree.VariableType.TheVariants.{Integer}
 use Rattle.regcode.specs.declared.instruction.Instruction.TheVariants as instruction

@@ -3,6 +3,7 @@ use Rattle.std.specs.Prelude.{◌≡◌, ℕ, ◌+◌, ◌<◌, ◌≤◌, Bool,
 use Rattle.std.specs.Map.{lookup}
 use Rattle.clmodel.specs.Next.{is_array}
 use Rattle.clmodel.specs.declared.declaration.Declaration.{Declaration}
+use Rattle.clmodel.specs.declared.declaration.Declaration.TheVariants.{Single, LocalArray, PrivateArray}
 use Rattle.clmodel.specs.declared.tree.VariableType.{VariableType}
 use Rattle.clmodel.specs.declared.tree.VariableType.TheVariants.{Integer}
 use Rattle.regcode.specs.Listing.{Listing}
@@ -13,7 +14,7 @@ use Rattle.clmodel.specs.Setup.{kernel_in, functions_before}
 use Rattle.clmodel.specs.Tree.{Program, Term, Place, Stmts, Func, Funcs, NoFunc, ThenFunc}
 use Rattle.clmodel.specs.Typing.{IsTypedProgram}
 use Rattle.clmodel.specs.Typing.Sizes.{Sizes, size_in, row_size, sizes_of}
-use Rattle.clmodel.specs.Typing.Context.{Context, Single, LocalArray, PrivateArray, meaning, Bound}
+use Rattle.clmodel.specs.Typing.Context.{Context, meaning, Bound}
 use Rattle.clmodel.specs.Typing.Rules.{Types, TypesPlace}
 use Rattle.lower_expr.specs.Scope.{Scope, register_at, register_of}
 use Rattle.lower_expr.specs.Expressions.{kind_named, expr_code, place_code}

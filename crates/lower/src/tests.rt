@@ -51,6 +51,43 @@ fn tables(rt: HostRuntime) -> Result<(), Fail> {
     Ok(())
 }
 
+/// Private arrays: one of two lengths, one that is only read, and one of a number between them that isn't there.
+fn with_arrays(alloc: Global) -> Result<Vec<Instruction>, AllocError> {
+    Ok(vec![in alloc;
+        Instruction::UnsetArray {
+            array: 1,
+            length: 5
+        },
+        Instruction::UnsetArray {
+            array: 1,
+            length: 3
+        },
+        Instruction::PrivateLoad {
+            to: 36,
+            array: 3,
+            index: 68,
+            element: IntType::Int,
+            name: 40
+        },
+        Instruction::UnsetArray {
+            array: 0,
+            length: 2
+        },
+        Instruction::End,
+    ]?)
+}
+
+#[test]
+fn arrays(rt: HostRuntime) -> Result<(), Fail> {
+    let alloc = rt.alloc();
+    let code = with_arrays(alloc)?;
+    let tables = tables_of(alloc, &code, Vec::new(alloc))?;
+    assert_eq!(rt; tables.arrays.as_slice(), [2, 5, 0, 0].as_slice());
+    assert_eq!(rt; tables.registers.len(), 69);
+    assert_eq!(rt; tables.names, 41);
+    Ok(())
+}
+
 /// A program of a function `f` without a body, which may be a kernel.
 fn program(alloc: Global, is_kernel: bool) -> Result<Checked, Fail> {
     let mut names = Vec::new(alloc);

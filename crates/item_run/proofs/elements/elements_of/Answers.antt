@@ -1,4 +1,4 @@
-use Rattle.std.proofs.Common.{◌≡◌, sym, ap, ◌∙◌}
+use Rattle.std.proofs.Common.{sym, ap, ◌∙◌}
 use Rattle.item_run.proofs.ArrayLaws.{array_at, array_past}
 use Rattle.item_run.proofs.elements.elements_of.Goals as goal
 

@@ -1,11 +1,9 @@
-use Rattle.std.proofs.Common.{◌≡◌, ℕ, Option, Some, List, Result, sym, subst}
+use Rattle.std.proofs.Common.{ℕ, Option, Some, List, subst}
 use Rattle.clmodel.specs.Next.{Run, read_element}
 use Rattle.clmodel.specs.declared.operand.Operand.{Operand}
-use Rattle.regcode.specs.Machine.{State, act, filled, reg, with_put}
-use Rattle.regcode.specs.declared.instruction.Instruction.{Instruction}
+use Rattle.regcode.specs.Machine.{filled, reg, with_put}
 use Rattle.item_run.specs.Arrays.{registers_with}
 use Rattle.item_run.specs.Leading.{Leads}
-use Rattle.item_run.specs.Running.{target}
 use Rattle.item_run.proofs.giving.value_of.Goals as goal
 
 pub returns-in-Move : goal.returns-in-Move
@@ -58,6 +56,6 @@ returns-in-PrivateLoad c place counters on after =
     let next : Option Operand → Run = λ v. on (with_put (record { place = place; registers = registers; counters = counters }) c.in-PrivateLoad.to v) in
     rw c.in-PrivateLoad.is
     (subst
-      (λ (elements : List (Option ℕ)). Leads c.private_element.result
-        (filled (reg registers c.in-PrivateLoad.index) (λ i. read_element c.in-PrivateLoad.name c.in-PrivateLoad.element elements i (λ v. next (Some v)))) next)
-      c.elements_of.ensures (c.private_element.ensures next))
+    (λ (elements : List (Option ℕ)). Leads c.private_element.result
+    (filled (reg registers c.in-PrivateLoad.index) (λ i. read_element c.in-PrivateLoad.name c.in-PrivateLoad.element elements i (λ v. next (Some v)))) next)
+    c.elements_of.ensures (c.private_element.ensures next))

@@ -1,4 +1,4 @@
-use Rattle.std.proofs.Common.{◌≡◌, map, ap, ◌∙◌}
+use Rattle.std.proofs.Common.{map, ap, ◌∙◌}
 use Rattle.item_run.specs.Arrays.{Elements, all_present}
 use Rattle.item_run.proofs.ArrayLaws.{empty_more, room_more}
 use Rattle.item_run.proofs.private_array.arrays_of.Goals as goal

@@ -1,6 +1,6 @@
-use Rattle.std.proofs.Common.{◌≡◌, sym, ap, ◌∙◌, subst}
+use Rattle.std.proofs.Common.{◌∙◌}
 use Rattle.item_run.proofs.StateLaws.{leads_ok}
-use Rattle.item_run.proofs.AskingLaws.{leads_on, load_asks, stores_number, store_asks}
+use Rattle.item_run.proofs.AskingLaws.{leads_on, load_asks}
 use Rattle.item_run.proofs.item.Item.load.Goals as goal
 
 pub returns-in-Ok : goal.returns-in-Ok
