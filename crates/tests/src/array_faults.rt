@@ -321,3 +321,98 @@ fn what_the_grammar_refuses(rt: HostRuntime) {
         2,
     );
 }
+
+// Children before parents, the target before the value, and the lowest number at one node.
+#[test]
+fn the_first_of_several(rt: HostRuntime) {
+    check(
+        &rt,
+        "program p 1\n__kernel void f(__global int *a) { int t[2]; t = y; }\n",
+        "refused 10 BuildFailed type 4 NotAssignable at 45\n",
+        2,
+    );
+    check(
+        &rt,
+        "program p 1\n__kernel void f(__global int *a) { int t[2]; atomic_add(&t[a], 1); }\n",
+        "refused 10 BuildFailed type 3 TypeMismatch at 59\n",
+        2,
+    );
+    check(
+        &rt,
+        "program p 1\n__kernel void f(__global int *a) { int t[2]; y[t] = 1; }\n",
+        "refused 10 BuildFailed type 7 WrongSpace at 47\n",
+        2,
+    );
+    check(
+        &rt,
+        "program p 1\n__kernel void f(__global int *a) { int t[2]; if (t) y = 1; }\n",
+        "refused 10 BuildFailed type 7 WrongSpace at 49\n",
+        2,
+    );
+    check(
+        &rt,
+        "program p 1\n__kernel void f(__global int *a) { __local int t[2]; if (t) y = 1; }\n",
+        "refused 10 BuildFailed type 1 UnknownName at 60\n",
+        2,
+    );
+    check(
+        &rt,
+        "program p 1\n__kernel void f(int t) { int t[0]; }\n",
+        "refused 10 BuildFailed type 2 Redeclared at 29\n",
+        2,
+    );
+    check(
+        &rt,
+        "program p 1\nvoid g(__local int *p) { } __kernel void f() { int t[2]; g(t, 1); }\n",
+        "refused 10 BuildFailed type 7 WrongSpace at 59\n",
+        2,
+    );
+    check(
+        &rt,
+        "program p 1\nvoid g(__local int *p) { } __kernel void f() { __local uint t[2]; g(t, 1); }\n",
+        "refused 10 BuildFailed type 3 TypeMismatch at 68\n",
+        2,
+    );
+    check(
+        &rt,
+        "program p 1\n__kernel void f(__global int *a) { __local int t[2]; __global int *p = t; }\n",
+        "refused 10 BuildFailed type 7 WrongSpace at 71\n",
+        2,
+    );
+    check(
+        &rt,
+        "program p 1\n__kernel void f() { do { int t[1]; t[0] = 0; } while (t[0]); }\n",
+        "refused 10 BuildFailed type 1 UnknownName at 54\n",
+        2,
+    );
+    check(
+        &rt,
+        "program p 1\nvoid g() { int t[0]; } __kernel void f() { y = 1; }\n",
+        "refused 10 BuildFailed type 11 TooLarge at 17\n",
+        2,
+    );
+    check(
+        &rt,
+        "program p 1\n__kernel void f() { int t[32768]; }\n",
+        "refused 10 BuildFailed type 11 TooLarge at 14\n",
+        2,
+    );
+    check(
+        &rt,
+        "program p 1\n__kernel void f() { __private int t[2]; }\n",
+        "refused 10 BuildFailed syntax 3 Unexpected at 20\n",
+        2,
+    );
+    check(
+        &rt,
+        "program p 1\n__kernel void f() { const int t[2]; }\n",
+        "refused 10 BuildFailed syntax 3 Unexpected at 20\n",
+        2,
+    );
+    check(
+        &rt,
+        "program p 1\n__kernel void f() { __local int t; }\n",
+        "refused 10 BuildFailed syntax 3 Unexpected at 33\n",
+        2,
+    );
+}

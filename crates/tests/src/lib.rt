@@ -2,6 +2,8 @@
 #![tactic(auto)]
 
 #[cfg(test)]
+mod array_corners;
+#[cfg(test)]
 mod array_faults;
 #[cfg(test)]
 mod barriers;
