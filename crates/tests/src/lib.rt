@@ -2,9 +2,29 @@
 #![tactic(auto)]
 
 #[cfg(test)]
+mod array_corners;
+#[cfg(test)]
+mod array_faults;
+#[cfg(test)]
+mod barriers;
+#[cfg(test)]
+mod calls;
+#[cfg(test)]
+mod checks;
+#[cfg(test)]
 mod control_flow;
 #[cfg(test)]
+mod dumps;
+#[cfg(test)]
+mod failing_ends;
+#[cfg(test)]
+mod limits;
+#[cfg(test)]
+mod local_arrays;
+#[cfg(test)]
 mod local_memory;
+#[cfg(test)]
+mod private_arrays;
 #[cfg(test)]
 mod rows;
 #[cfg(test)]
