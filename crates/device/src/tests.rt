@@ -15,6 +15,20 @@ const TWO_DIMENSIONS: &[u8] = b"__kernel void f(__global int *a, int n) {
     a[i] = a[i] + n;
 }";
 
+/// An array of all the local memory that a group may have.
+const LOCAL_ARRAY: &[u8] = b"__kernel void f(__global int *a) {
+    __local int t[8192];
+    t[8191] = 7;
+    a[0] = t[8191];
+}";
+
+/// Arrays of one byte more.
+const LOCAL_ARRAYS: &[u8] = b"__kernel void f(__global int *a) {
+    __local int t[8192];
+    __local char u[1];
+    a[0] = 7;
+}";
+
 const STORE_PAST_THE_END: &[u8] = b"__kernel void f(__global int *a) { a[0] = 7; a[2] = 1; }";
 
 fn name(alloc: Global, text: &str) -> Result<Name, AllocError> {
@@ -275,4 +289,16 @@ fn refuses_launches(rt: HostRuntime) {
     refuses(&rt, &mut device, huge, Refusal::BadGroupSize);
     let groups = launch(alloc, &[2], &[1], &[0]);
     refuses(&rt, &mut device, groups, Refusal::TooManyItems);
+}
+
+#[test]
+fn refuses_local_arrays(rt: HostRuntime) {
+    let alloc = rt.alloc();
+    let mut device = ready(&rt, alloc, 4, LOCAL_ARRAY);
+    let launched = reply(&rt, &mut device, launch(alloc, &[1], &[1], &[0]));
+    assert!(rt; matches!(launched, Reply::Clean));
+    holds(&rt, alloc, &mut device, &[7, 0, 0, 0]);
+    let mut device = ready(&rt, alloc, 4, LOCAL_ARRAYS);
+    let larger = launch(alloc, &[1], &[1], &[0]);
+    refuses(&rt, &mut device, larger, Refusal::LocalTooLarge);
 }

@@ -8,10 +8,10 @@ use Rattle.group_run.specs.Examples.{waits, waiting}
 use Rattle.group_run.specs.Results.{IsRunnable}
 
 pub code_waits :
-    (given : Given) (count : ℕ) (answers : List Answer)
-    → acts_from given (instruction.Barrier 0 0 (record { local = true; global = false }) ∷ instruction.End ∷ []) 5 (at_start count) answers ≡ waits answers
-code_waits given count [] = refl
-code_waits given count (answer ∷ answers) = refl
+    (given : Given) (count arrays : ℕ) (answers : List Answer)
+    → acts_from given (instruction.Barrier 0 0 (record { local = true; global = false }) ∷ instruction.End ∷ []) 5 (at_start count arrays) answers ≡ waits answers
+code_waits given count arrays [] = refl
+code_waits given count arrays (answer ∷ answers) = refl
 
 pub waiting_ends : IsBounded waiting 1
 waiting_ends item [] b h = absurd (omega (arith, h))

@@ -92,6 +92,7 @@ fn waiting_code(alloc: Global) -> Result<Code, Fail>
     let tables = Tables {
         registers: Vec::new(alloc),
         names: 0,
+        arrays: Vec::new(alloc),
         parameters: Vec::new(alloc),
         loops: vec![in alloc; 0, 0]?,
     };

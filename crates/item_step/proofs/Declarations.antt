@@ -1,7 +1,7 @@
 -- One declaration more.
-use Rattle.std.proofs.Common.{◌≡◌, ◌≢◌, ℕ, ◌+◌, ◌-◌, ◌^◌, ◌<◌, min, Bool, nat_lt, Option, None, Some, List, [], ◌∷◌, ◌++◌, length, take, get_or, map, refl, ap, sym, ◌∙◌, subst, arith}
+use Rattle.std.proofs.Common.{◌≡◌, ◌≢◌, ℕ, ◌+◌, ◌-◌, ◌^◌, ◌<◌, min, nat_lt, Option, None, Some, List, [], ◌∷◌, ◌++◌, length, take, get_or, map, refl, ap, sym, ◌∙◌, arith}
 use Rattle.std.proofs.lemmas.List.{take_more, map-append, append-nil}
-use Rattle.std.proofs.lemmas.List.Sums.{sum_by-append}
+use Rattle.std.proofs.lemmas.List.Sums.{sum_by-append, sum_by-cons}
 use Rattle.std.proofs.lemmas.Bool.Decides.{nat_tests}
 use Rattle.clmodel.specs.Setup.{LocalObject, declared_object, body_objects, parameter_objects, local_size}
 use Rattle.clmodel.specs.Tree.{Stmt, Stmts, stmt, then_stmts, NoStmt, ThenStmt}
@@ -68,7 +68,9 @@ clip_one x a t u m h = omega (arith, h)
 capped_sum : (objects : List LocalObject) (x : ℕ) → min (x + all_sizes (map capped objects)) (2 ^ 64 - 1) ≡ min (x + all_sizes objects) (2 ^ 64 - 1)
 capped_sum [] x = refl
 capped_sum (o ∷ objects) x =
-    clip_one x o.size (all_sizes (map capped objects)) (all_sizes objects) (2 ^ 64 - 1) (capped_sum objects (x + min o.size (2 ^ 64 - 1)))
+    ap (λ n. min (x + n) (2 ^ 64 - 1)) (sum_by-cons (λ (p : LocalObject). p.size) (capped o) (map capped objects))
+    ∙ clip_one x o.size (all_sizes (map capped objects)) (all_sizes objects) (2 ^ 64 - 1) (capped_sum objects (x + min o.size (2 ^ 64 - 1)))
+    ∙ ap (λ n. min (x + n) (2 ^ 64 - 1)) (sym (sum_by-cons (λ (p : LocalObject). p.size) o objects))
 
 clip_sum : (n p m : ℕ) → min (min n m + p) m ≡ min (n + p) m
 clip_sum n p m = omega arith
@@ -83,7 +85,7 @@ bytes_more ss i s below there =
     ∙ capped_sum (declared_object (stmt s)) x
     ∙ ap (λ n. min n (2 ^ 64 - 1)) (sym (ap all_sizes (one_more ss i s below there) ∙ sum_by-append (λ (o : LocalObject). o.size) (declared_in (take i ss)) (declared_object (stmt s))))
 
-size_alone : (size x : ℕ) → x + size ≡ x + (size + 0)
+size_alone : (size x : ℕ) → x + size ≡ x + (0 + size)
 size_alone size x = omega arith
 
 -- the bytes of one parameter more

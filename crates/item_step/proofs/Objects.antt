@@ -1,5 +1,5 @@
 -- One parameter more.
-use Rattle.std.proofs.Common.{◌≡◌, ℕ, zero, suc, ◌+◌, ◌<◌, List, [], ◌∷◌, ◌++◌, length, take, get_or, map, Option, None, refl, ap, sym, subst, ◌∙◌, arith}
+use Rattle.std.proofs.Common.{◌≡◌, ℕ, zero, suc, ◌+◌, ◌<◌, List, [], ◌∷◌, ◌++◌, length, take, get_or, map, Option, None, ap, sym, ◌∙◌, arith}
 use Rattle.std.proofs.lemmas.List.{map-append, get_or_default}
 use Rattle.clmodel.specs.Setup.{LocalObject, local_size, parameter_objects}
 use Rattle.clmodel.specs.declared.setup.Argument.{Argument}
