@@ -1,4 +1,4 @@
-//! What an instruction that touches no memory gives: the values of registers and private arrays, or why there is none.
+//! What instructions that touch no memory give: the values of registers and the elements of private arrays, or why there are none.
 #![tactic(auto)]
 
 pub mod elements;
