@@ -1,6 +1,4 @@
-pub mod Arguments
 pub mod Turns
 pub mod ArrayLaws
 pub mod StateLaws
 pub mod AskingLaws
-pub mod LeadingLaws

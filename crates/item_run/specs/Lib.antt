@@ -1,6 +1,5 @@
-pub mod Arrays
-pub mod Leading
 pub mod Running
-pub mod Givens
 pub mod Sound
 pub mod Asking
+pub use Rattle.item_value.specs.Arrays
+pub use Rattle.item_value.specs.Givens

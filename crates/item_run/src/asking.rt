@@ -11,16 +11,17 @@ ghost use Rattle.regcode.specs.Machine.{State, act, filled, reg};
 ghost use Rattle.regcode.specs.Rules.{IsVerified};
 ghost use Rattle.regcode.specs.declared.instruction.Instruction.TheVariants as instruction;
 ghost use Rattle.item_run.specs.Asking.{asks, answered_state, wanted_action};
-ghost use Rattle.item_run.specs.Leading.{Leads};
+ghost use Rattle.item_value.specs.Leading.{Leads};
 ghost use Rattle.item_run.specs.Running.{action_of, is_asking};
 
 use crate::accesses::{load_of, store_of, update_of};
-use crate::halt::{Halt, Wanted};
 use crate::item::Item;
-use crate::pointers::{number, pointing};
+use crate::rest::Wanted;
 use clmodel::operand::Pointer;
 use clmodel::setup::AtomicFunction;
 use clnum::{Value, convert};
+use item_value::halt::Halt;
+use item_value::pointers::{number, pointing};
 use regcode::Instruction;
 
 impl<'a> Item<'a> {

@@ -1,23 +1,15 @@
-//! One work-item that runs verified code.
+//! One work-item that runs verified code: its state from one action to the next.
 #![tactic(auto)]
 
 mod accesses;
 mod asking;
 mod counters;
-mod elements;
-mod giving;
-mod halt;
 mod item;
-mod operators;
-mod parameters;
-mod pointers;
-mod private_array;
+mod rest;
 mod run;
 mod stepping;
-mod surroundings;
 #[cfg(test)]
 mod tests;
-mod values;
 
 pub use item::Item;
-pub use surroundings::Surroundings;
+pub use item_value::surroundings::Surroundings;

@@ -1,6 +1,6 @@
 use Rattle.std.proofs.Common.{◌∙◌}
-use Rattle.item_run.proofs.StateLaws.{leads_ok}
-use Rattle.item_run.proofs.AskingLaws.{leads_on, load_asks}
+use Rattle.item_value.proofs.LeadingLaws.{leads_ok, leads_on}
+use Rattle.item_run.proofs.AskingLaws.{load_asks}
 use Rattle.item_run.proofs.item.Item.load.Goals as goal
 
 pub returns-in-Ok : goal.returns-in-Ok

@@ -2,8 +2,8 @@ use Rattle.std.proofs.Common.{◌∙◌}
 use Rattle.clmodel.specs.Next as next
 use Rattle.clmodel.specs.declared.operand.Operand.TheVariants.{Integral}
 use Rattle.regcode.specs.Machine.{passed}
-use Rattle.item_run.proofs.StateLaws.{leads_ok}
-use Rattle.item_run.proofs.AskingLaws.{leads_on, stores_number, store_asks}
+use Rattle.item_value.proofs.LeadingLaws.{leads_ok, leads_on}
+use Rattle.item_run.proofs.AskingLaws.{stores_number, store_asks}
 use Rattle.item_run.proofs.item.Item.store.Goals as goal
 
 pub returns-in-Ok : goal.returns-in-Ok

@@ -2,8 +2,8 @@ use Rattle.std.proofs.Common.{Some, ◌∙◌}
 use Rattle.clnum.specs.Integer.{converted}
 use Rattle.clmodel.specs.Next as next
 use Rattle.regcode.specs.Machine.{passed}
-use Rattle.item_run.proofs.StateLaws.{leads_ok}
-use Rattle.item_run.proofs.AskingLaws.{leads_on, update_asks}
+use Rattle.item_value.proofs.LeadingLaws.{leads_ok, leads_on}
+use Rattle.item_run.proofs.AskingLaws.{update_asks}
 use Rattle.item_run.proofs.item.Item.update.Goals as goal
 
 pub returns-in-Ok : goal.returns-in-Ok

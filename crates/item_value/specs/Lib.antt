@@ -1,0 +1,4 @@
+pub mod Arrays
+pub mod Leading
+pub mod Givens
+pub mod Giving

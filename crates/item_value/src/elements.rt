@@ -1,0 +1,82 @@
+//! The elements of private arrays: how they are read, and where they are put.
+#![tactic(auto)]
+
+ghost use Rattle.std.specs.Prelude.{◌≡◌, ◌<◌, ℕ, [], Option, List, length, slice_set, IfOk};
+ghost use Rattle.clnum.specs.Integer.{Integer, bits_of};
+ghost use Rattle.clnum.specs.declared.int_type.IntType as int_type;
+ghost use Rattle.clmodel.specs.Next as next;
+ghost use Rattle.clmodel.specs.Next.{Run};
+ghost use Rattle.clmodel.specs.declared.operand.Operand.{Operand};
+ghost use Rattle.regcode.specs.Machine.{item_at};
+ghost use Rattle.item_value.specs.Arrays.{all_present};
+ghost use Rattle.item_value.specs.Leading.{Leads};
+
+use crate::halt::Halt;
+use crate::private_array::PrivateArray;
+use clmodel::action::Cause;
+use clmodel::operand::Operand;
+use clnum::{IntType, Value};
+
+/// The elements of the private array of a number.
+pub fn elements_of(arrays: &[PrivateArray], array: u32) -> &[Option<u64>]
+    ensures { result.now ≡ item_at [] (all_present arrays.now) array }
+{
+    let place = array as usize;
+    if place < arrays.len() {
+        arrays[place].as_slice()
+    } else {
+        &[]
+    }
+}
+
+/// What is at an index of the elements of an array.
+fn at_index(elements: &[Option<u64>], index: i64) -> Option<Option<u64>>
+    ensures { result ≡ next.element_at elements.now index }
+{
+    if index < 0 {
+        return None;
+    }
+    elements.get(index as usize).copied()
+}
+
+/// The value of the element at an index of the array of a name.
+pub(crate) fn element(
+    elements: &[Option<u64>],
+    name: u32,
+    index: i64,
+    kind: IntType,
+) -> Result<Operand, Halt>
+    ensures { (after : Operand → Run) → Leads result (next.element_value name index kind (next.element_at elements.now index) after) after }
+{
+    match at_index(elements, index) {
+        Some(Some(bits)) => Ok(Operand::Integral(Value::from_bits(kind, bits))),
+        Some(None) => Err(Halt::Fail(Cause::UnsetElement {
+            array: name,
+            element: index,
+        })),
+        None => Err(Halt::Fail(Cause::PrivateBounds {
+            array: name,
+            element: index,
+        })),
+    }
+}
+
+/// The place of the element at an index of the array of a name, where a number is put.
+pub fn place(elements: &[Option<u64>], name: u32, index: i64) -> Result<usize, Halt>
+    ensures put { (kind : int_type.IntType) (v : Integer) (after : List (Option ℕ) → Run) → Leads result (next.element_set name index kind elements.now v after) (λ place. after (slice_set elements.now place (Some (bits_of kind v.number)))) }
+    ensures within { IfOk result (λ place. place < length elements.now) }
+{
+    let fault = Halt::Fail(Cause::PrivateBounds {
+        array: name,
+        element: index,
+    });
+    if index < 0 {
+        return Err(fault);
+    }
+    let place = index as usize;
+    if place < elements.len() {
+        Ok(place)
+    } else {
+        Err(fault)
+    }
+}

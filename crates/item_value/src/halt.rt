@@ -1,0 +1,11 @@
+//! Why an item doesn't go on.
+#![tactic(auto)]
+
+use clmodel::action::Cause;
+
+/// An instruction has no next one: the item fails, or it has ended.
+#[derive(Clone, Copy, Debug, PartialEq, Eq)]
+pub enum Halt {
+    Fail(Cause),
+    Finish,
+}

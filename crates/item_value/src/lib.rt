@@ -1,0 +1,12 @@
+//! What instructions that touch no memory give: the values of registers and the elements of private arrays, or why there are none.
+#![tactic(auto)]
+
+pub mod elements;
+pub mod giving;
+pub mod halt;
+pub mod operators;
+mod parameters;
+pub mod pointers;
+pub mod private_array;
+pub mod surroundings;
+pub mod values;

@@ -1,0 +1,165 @@
+//! Operators and built-in functions on values (OpenCL 1.2, sections 6.3 and 6.12.3).
+#![tactic(auto)]
+
+ghost use Rattle.std.specs.Prelude.{◌≡◌, Bool, [], ◌∷◌, not, pos, length};
+ghost use Rattle.std.specs.Ordering.{int_eq};
+ghost use Rattle.clnum.specs.Operations as operations;
+ghost use Rattle.clnum.specs.declared.int_type.IntType.TheVariants as int_type;
+ghost use Rattle.clmodel.specs.Next as next;
+ghost use Rattle.clmodel.specs.Next.{Run};
+ghost use Rattle.clmodel.specs.Setup.{work_item_value};
+ghost use Rattle.clmodel.specs.declared.operand.Operand.{Operand};
+ghost use Rattle.clmodel.specs.declared.operand.Operand.TheVariants as operand;
+ghost use Rattle.clmodel.specs.declared.tree.VariableType.TheVariants as variable_type;
+ghost use Rattle.item_value.specs.Leading.{Leads};
+
+use crate::halt::Halt;
+use crate::pointers::{moved, moved_back};
+use clmodel::action::Cause;
+use clmodel::operand::Operand;
+use clmodel::setup::WorkItemFunction;
+use clnum::{ArithFault, BinaryOperator, Builtin, IntType, Value, binary, builtin, convert};
+use item_state::context::Context;
+
+/// What an operator on integers gave.
+fn arithmetic(outcome: Result<Value, ArithFault>) -> Result<Operand, Halt>
+    ensures { (after : Operand → Run) → Leads result (next.arithmetic outcome after) after }
+{
+    match outcome {
+        Ok(value) => Ok(Operand::Integral(value)),
+        Err(ArithFault::DivideByZero) => Err(Halt::Fail(Cause::DivideByZero)),
+        Err(ArithFault::DivideOverflow) => Err(Halt::Fail(Cause::DivideOverflow)),
+    }
+}
+
+/// A pointer moved on, as a value.
+fn advanced(pointer: Operand, by: Operand) -> Result<Operand, Halt>
+    ensures { (after : Operand → Run) → Leads result (next.moved pointer by (λ q. after (operand.Pointed q))) after }
+{
+    match moved(pointer, by) {
+        Ok(pointer) => Ok(Operand::Pointed(pointer)),
+        Err(halt) => Err(halt),
+    }
+}
+
+/// A pointer moved back, as a value.
+fn withdrawn(pointer: Operand, by: Operand) -> Result<Operand, Halt>
+    ensures { (after : Operand → Run) → Leads result (next.moved_back pointer by (λ q. after (operand.Pointed q))) after }
+{
+    match moved_back(pointer, by) {
+        Ok(pointer) => Ok(Operand::Pointed(pointer)),
+        Err(halt) => Err(halt),
+    }
+}
+
+/// An operator on two values: integers, or a pointer and an integer that is added to it or taken from it.
+pub(crate) fn combined(
+    operator: BinaryOperator,
+    first: Operand,
+    second: Operand,
+) -> Result<Operand, Halt>
+    ensures { (after : Operand → Run) → Leads result (next.combined operator first second after) after }
+{
+    match first {
+        Operand::Integral(v) => match second {
+            Operand::Integral(w) => arithmetic(binary(operator, v, w)),
+            Operand::Pointed(p) => match operator {
+                BinaryOperator::Add => advanced(Operand::Pointed(p), Operand::Integral(v)),
+                _ => Err(Halt::Finish),
+            },
+        },
+        Operand::Pointed(p) => match operator {
+            BinaryOperator::Add => advanced(Operand::Pointed(p), second),
+            BinaryOperator::Subtract => withdrawn(Operand::Pointed(p), second),
+            _ => Err(Halt::Finish),
+        },
+    }
+}
+
+/// Whether a number isn't zero.
+fn is_set(value: Value) -> bool
+    ensures { result ≡ not (int_eq value.number (pos 0)) }
+{
+    value.number() != 0
+}
+
+/// Whether a value is a number other than zero.
+pub fn test(value: Operand) -> Result<bool, Halt>
+    ensures { (after : Bool → Run) → Leads result (next.test value after) after }
+{
+    match value {
+        Operand::Integral(value) => Ok(is_set(value)),
+        Operand::Pointed(_) => Err(Halt::Finish),
+    }
+}
+
+/// A number in the common type of its own and another type (C99 6.3.1.8).
+pub(crate) fn chosen_value(value: Operand, other: IntType) -> Result<Operand, Halt>
+    ensures { (after : Operand → Run) → Leads result (next.chosen_value value (variable_type.Integer other) after) after }
+{
+    match value {
+        Operand::Integral(value) => {
+            let kind = value.kind().common(other);
+            Ok(Operand::Integral(convert(value, kind)))
+        }
+        Operand::Pointed(_) => Err(Halt::Finish),
+    }
+}
+
+/// The value of a function of integers.
+fn given_value(value: Option<Value>) -> Result<Operand, Halt>
+    ensures { (after : Operand → Run) → Leads result (next.given_value value after) after }
+{
+    match value {
+        Some(value) => Ok(Operand::Integral(value)),
+        None => Err(Halt::Finish),
+    }
+}
+
+/// A function of one integer.
+pub(crate) fn of_one(function: Builtin, a: Operand) -> Result<Operand, Halt>
+    ensures { (after : Operand → Run) → Leads result (next.integer_call function (a ∷ []) after) after }
+{
+    match a {
+        Operand::Integral(a) => given_value(builtin(function, &[a])),
+        Operand::Pointed(_) => Err(Halt::Finish),
+    }
+}
+
+/// A function of two integers.
+pub(crate) fn of_two(function: Builtin, a: Operand, b: Operand) -> Result<Operand, Halt>
+    ensures { (after : Operand → Run) → Leads result (next.integer_call function (a ∷ b ∷ []) after) after }
+{
+    match a {
+        Operand::Integral(a) => match b {
+            Operand::Integral(b) => given_value(builtin(function, &[a, b])),
+            Operand::Pointed(_) => Err(Halt::Finish),
+        },
+        Operand::Pointed(_) => Err(Halt::Finish),
+    }
+}
+
+/// A dimension: a number as a uint.
+fn dimension(value: Operand) -> usize
+    ensures { result ≡ next.dimension value }
+{
+    match value {
+        Operand::Integral(value) => value.bits_in(IntType::Uint) as usize,
+        Operand::Pointed(_) => 0,
+    }
+}
+
+/// What a work-item function gives.
+pub(crate) fn work_item(context: &Context<'_>, function: WorkItemFunction, d: Operand) -> Operand
+    ensures { result ≡ operand.Integral (operations.wrapped int_type.Ulong (pos (work_item_value context.now.range.now context.now.item function (next.dimension d)))) }
+{
+    Operand::Integral(context.work_item_value(function, dimension(d)))
+}
+
+/// The number of dimensions.
+pub(crate) fn work_dim(context: &Context<'_>) -> Operand
+    ensures { result ≡ operand.Integral (operations.wrapped int_type.Uint (pos (length context.now.range.now.global))) }
+{
+    let count = context.range.global.as_slice().len() as u64;
+    Operand::Integral(Value::from_bits(IntType::Uint, count))
+}
