@@ -2,7 +2,7 @@
 use Rattle.std.proofs.Common.{◌≡◌, ℕ, zero, suc, ◌+◌, ◌<◌, ◌≤◌, max, slice_set, refl, List, [], ◌∷◌, ◌++◌, length, drop, get_or, ap, sym, ◌∙◌, arith, append_assoc}
 use Rattle.std.proofs.lemmas.List.{drop_more}
 use Rattle.regcode.specs.declared.instruction.Instruction.{Instruction}
-use Rattle.lower.specs.Tables.{registers_of, room, register_count, names_of, name_count, widened, lengths_with, lengths_from, depth_after, loops_from}
+use Rattle.lower.specs.Tables.{registers_of, room, register_count, objects_of, object_count, names_of, name_count, widened, lengths_with, lengths_from, depth_after, loops_from}
 
 here : (code : List Instruction) (i : ℕ) (x : Instruction) → i < length code → x ≡ get_or code i x → drop i code ≡ x ∷ drop (i + 1) code
 here code i x below is = drop_more code i x below ∙ ap (λ y. y ∷ drop (i + 1) code) (sym is)
@@ -11,6 +11,12 @@ pub registers_more : (code : List Instruction) (i : ℕ) (x : Instruction) (coun
     → max count (register_count (drop i code)) ≡ register_count code → max (max count more) (register_count (drop (i + 1) code)) ≡ register_count code
 registers_more code i x count more below is wanted before =
     let all = ap register_count (here code i x below is) in
+    omega (arith, all, wanted, before)
+
+pub objects_more : (code : List Instruction) (i : ℕ) (x : Instruction) (count more : ℕ) → i < length code → x ≡ get_or code i x → more ≡ objects_of x
+    → max count (object_count (drop i code)) ≡ object_count code → max (max more count) (object_count (drop (i + 1) code)) ≡ object_count code
+objects_more code i x count more below is wanted before =
+    let all = ap object_count (here code i x below is) in
     omega (arith, all, wanted, before)
 
 pub names_more : (code : List Instruction) (i : ℕ) (x : Instruction) (count more : ℕ) → i < length code → x ≡ get_or code i x → more ≡ names_of x

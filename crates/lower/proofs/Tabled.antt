@@ -7,7 +7,7 @@ use Rattle.regcode.specs.Listing.{Listing}
 use Rattle.regcode.specs.Rules.{kind_at, HasRoom}
 use Rattle.regcode.specs.declared.instruction.Instruction.{Instruction}
 use Rattle.regcode.specs.declared.instruction.Instruction.TheVariants as instruction
-use Rattle.lower.specs.Tables.{register_kind, register_kinds, registers_of, room, register_count, names_of, name_count, widened, lengths_with, lengths_from, depth_after, loops_from, tabled}
+use Rattle.lower.specs.Tables.{register_kind, register_kinds, registers_of, room, greatest, register_count, objects_of, names_of, widened, lengths_with, lengths_from, depth_after, loops_from, tabled}
 use Rattle.lower.specs.Accepted.{Has, HasArray, Suits, Suit, SuitFits}
 
 kinds_counted : (n : ℕ) → length (register_kinds n) ≡ n
@@ -44,26 +44,16 @@ tables_have code n have (r ∷ rs) h =
     let b = le-max_right (r + 1) (room rs) in
     (have r (omega (arith, h, a)), tables_have code n have rs (omega (arith, h, b)))
 
-room_there : (code : List Instruction) (place : ℕ) (i : Instruction) → slice_get code place ≡ Some i → room (registers_of i) ≤ register_count code
-room_there [] place i is = absurd (cc)
-room_there (first ∷ code) zero i is =
-    let a = le-max_left (room (registers_of first)) (register_count code) in
-    let e : room (registers_of first) ≡ room (registers_of i) = ap (λ o. elim o as (λ _. ℕ) [ None ↦ 0 | Some j ↦ room (registers_of j) ]) is in
+-- no instruction has a greater number than the greatest
+greatest_there : (number : Instruction → ℕ) (code : List Instruction) (place : ℕ) (i : Instruction) → slice_get code place ≡ Some i → number i ≤ greatest number code
+greatest_there number [] place i is = absurd (cc)
+greatest_there number (first ∷ code) zero i is =
+    let a = le-max_left (number first) (greatest number code) in
+    let e : number first ≡ number i = ap (λ o. elim o as (λ _. ℕ) [ None ↦ 0 | Some j ↦ number j ]) is in
     omega (arith, a, e)
-room_there (first ∷ code) (suc place) i is =
-    let a = le-max_right (room (registers_of first)) (register_count code) in
-    let b = room_there code place i is in
-    omega (arith, a, b)
-
-names_there : (code : List Instruction) (place : ℕ) (i : Instruction) → slice_get code place ≡ Some i → names_of i ≤ name_count code
-names_there [] place i is = absurd (cc)
-names_there (first ∷ code) zero i is =
-    let a = le-max_left (names_of first) (name_count code) in
-    let e : names_of first ≡ names_of i = ap (λ o. elim o as (λ _. ℕ) [ None ↦ 0 | Some j ↦ names_of j ]) is in
-    omega (arith, a, e)
-names_there (first ∷ code) (suc place) i is =
-    let a = le-max_right (names_of first) (name_count code) in
-    let b = names_there code place i is in
+greatest_there number (first ∷ code) (suc place) i is =
+    let a = le-max_right (number first) (greatest number code) in
+    let b = greatest_there number code place i is in
     omega (arith, a, b)
 
 -- the lengths of private arrays grow with the code
@@ -136,9 +126,10 @@ pub suit_fits : SuitFits
 suit_fits parameters code suit place i is =
     suit_there parameters code place i suit is (tabled code parameters) refl
     (record {
-      registers = tables_have (tabled code parameters) (register_count code) (λ r below. kinds_have (register_count code) r below) (registers_of i) (room_there code place i is);
+      registers = tables_have (tabled code parameters) (register_count code) (λ r below. kinds_have (register_count code) r below) (registers_of i) (greatest_there (λ j. room (registers_of j)) code place i is);
       arrays = arrays_there code [] place i is;
-      names = names_there code place i is;
+      objects = greatest_there objects_of code place i is;
+      names = greatest_there names_of code place i is;
     })
 
 pub loops_counted : (depth : ℕ) (code : List Instruction) → length (loops_from depth code) ≡ length code

@@ -55,10 +55,14 @@ abbrev pub room : List ℕ → ℕ
 room [] = 0
 room (number ∷ numbers) = max (number + 1) (room numbers)
 
+-- the greatest number that an instruction of these has, 0 if there are none
+abbrev pub greatest : (Instruction → ℕ) → List Instruction → ℕ
+greatest number [] = 0
+greatest number (i ∷ is) = max (number i) (greatest number is)
+
 -- how many registers there are
 abbrev pub register_count : List Instruction → ℕ
-register_count [] = 0
-register_count (i ∷ is) = max (room (registers_of i)) (register_count is)
+register_count code = greatest (λ i. room (registers_of i)) code
 
 -- one more than the name that an instruction has
 abbrev pub names_of : Instruction → ℕ
@@ -69,8 +73,16 @@ names_of _ = 0
 
 -- how many names there are
 abbrev pub name_count : List Instruction → ℕ
-name_count [] = 0
-name_count (i ∷ is) = max (names_of i) (name_count is)
+name_count code = greatest names_of code
+
+-- one more than the local object that an instruction names
+abbrev pub objects_of : Instruction → ℕ
+objects_of (instruction.Local to number element) = number + 1
+objects_of _ = 0
+
+-- how many local objects there are
+abbrev pub object_count : List Instruction → ℕ
+object_count code = greatest objects_of code
 
 -- the lengths of private arrays, where one has so many elements at least
 abbrev pub widened : List ℕ → (array count : ℕ) → List ℕ
@@ -109,6 +121,7 @@ tabled code parameters =
       instructions = code;
       registers = register_kinds (register_count code);
       arrays = lengths_from [] code;
+      objects = object_count code;
       names = name_count code;
       parameters = parameters;
       loops = loops_from 0 code;

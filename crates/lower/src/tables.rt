@@ -134,6 +134,27 @@ fn register_kinds(alloc: Global, count: usize) -> Result<Vec<RegisterKind>, Allo
     Ok(kinds)
 }
 
+/// One more than the local object that an instruction names. Err where it is no number of 32 bits.
+fn objects_wanted(instruction: &Instruction) -> Result<u32, AllocError>
+    ensures { IfOk result (λ count. count ≡ spec.objects_of instruction.now) }
+{
+    match instruction {
+        Instruction::Local { number, .. } => number.checked_add(1).ok_or(AllocError),
+        _ => Ok(0),
+    }
+}
+
+/// How many local objects code has: one more than the greatest that it names.
+fn object_count(code: &[Instruction]) -> Result<u32, AllocError>
+    ensures { IfOk result (λ count. count ≡ spec.object_count code.now) }
+{
+    let mut count = 0;
+    for instruction in code {
+        count = objects_wanted(instruction)?.max(count);
+    }
+    Ok(count)
+}
+
 /// One more than the name that an instruction has. Err where it is no number of 32 bits.
 fn names_wanted(instruction: &Instruction) -> Result<u32, AllocError>
     ensures { IfOk result (λ count. count ≡ spec.names_of instruction.now) }
@@ -228,6 +249,7 @@ pub fn tables_of(
     Ok(Tables {
         registers: register_kinds(alloc, register_count(code))?,
         arrays: lengths_of(alloc, code)?,
+        objects: object_count(code)?,
         names: name_count(code)?,
         parameters,
         loops: loops_of(alloc, code)?,
