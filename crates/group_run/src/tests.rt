@@ -91,6 +91,8 @@ fn waiting_code(alloc: Global) -> Result<Code, Fail>
     ]?;
     let tables = Tables {
         registers: Vec::new(alloc),
+        arrays: Vec::new(alloc),
+        objects: 0,
         names: 0,
         arrays: Vec::new(alloc),
         parameters: Vec::new(alloc),

@@ -78,6 +78,7 @@ fn code(alloc: Global) -> Result<Code, Fail> {
     let tables = Tables {
         registers: vec![in alloc; RegisterKind::Pointer(IntType::Int), int, int]?,
         arrays: Vec::new(alloc),
+        objects: 0,
         names: 0,
         parameters: vec![in alloc; POINTER]?,
         loops: vec![in alloc; 0, 0, 0, 0, 0, 1, 1, 1, 1, 1, 1, 1, 0]?,
@@ -238,6 +239,7 @@ fn with_arrays(alloc: Global) -> Result<Code, Fail> {
     let tables = Tables {
         registers: vec![in alloc; RegisterKind::Pointer(IntType::Int), int, int, char]?,
         arrays: vec![in alloc; 2]?,
+        objects: 5,
         names: 7,
         parameters: Vec::new(alloc),
         loops: vec![in alloc; 0, 0, 0, 0, 0, 0, 0, 0, 0, 0]?,

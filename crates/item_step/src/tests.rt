@@ -23,6 +23,7 @@ fn ending(alloc: Global) -> Result<Code, Fail>
     let tables = Tables {
         registers: Vec::new(alloc),
         arrays: Vec::new(alloc),
+        objects: 0,
         names: 0,
         parameters: Vec::new(alloc),
         loops: vec![in alloc; 0]?,

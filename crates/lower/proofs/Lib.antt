@@ -8,6 +8,7 @@ pub mod Calls
 pub mod Suiting
 pub mod Suited
 pub mod Flat
+pub mod Below
 pub mod Tabled
 pub mod Sound
 pub mod SoundLoops

@@ -160,7 +160,8 @@ module _ (parameters : List VariableType) where
   )
 
   pub local_suits : (to number : ℕ) (element : IntType) → register_kind to ≡ Pointer element → Suits parameters (instruction.Local to number element)
-  local_suits to number element is code same wide = takes (kind_at code to) (Some (Pointer element)) (Pointer element) (wide.registers.0 ∙ ap Some is) refl
+  local_suits to number element is code same wide =
+      (takes (kind_at code to) (Some (Pointer element)) (Pointer element) (wide.registers.0 ∙ ap Some is) refl, let n = wide.objects in omega (arith, n))
 
   pub unset_array_suits : (array count : ℕ) → Suits parameters (instruction.UnsetArray array count)
   unset_array_suits array count code same wide = wide.arrays

@@ -1,5 +1,5 @@
 -- The tables of code, by its instructions (own).
-use Rattle.std.specs.Prelude.{ℕ, zero, suc, ◌+◌, ◌-◌, ◌%◌, max, get_or, None, Some, List, [], ◌∷◌, ◌++◌}
+use Rattle.std.specs.Prelude.{ℕ, zero, suc, ◌+◌, ◌-◌, ◌%◌, max, ◌==◌, if◌then◌else◌, get_or, None, Some, List, [], ◌∷◌, ◌++◌}
 use Rattle.clnum.specs.declared.int_type.IntType.TheVariants.{Char, Uchar, Short, Ushort, Int, Uint, Long, Ulong}
 use Rattle.clmodel.specs.declared.tree.VariableType.{VariableType}
 use Rattle.regcode.specs.Listing.{Listing}
@@ -18,10 +18,10 @@ kinds =
 abbrev pub register_kind : ℕ → RegisterKind
 register_kind register = get_or kinds (register % 16) (Integer Int)
 
--- those of so many registers
-abbrev pub register_kinds : ℕ → List RegisterKind
-register_kinds zero = []
-register_kinds (suc count) = register_kinds count ++ register_kind count ∷ []
+-- what each number below a count has
+abbrev pub each_below : {A : Type 0} → (ℕ → A) → ℕ → List A
+each_below of zero = []
+each_below of (suc count) = each_below of count ++ of count ∷ []
 
 -- the registers that an instruction names
 abbrev pub registers_of : Instruction → List ℕ
@@ -55,10 +55,14 @@ abbrev pub room : List ℕ → ℕ
 room [] = 0
 room (number ∷ numbers) = max (number + 1) (room numbers)
 
+-- the greatest number that an instruction of these has, 0 if there are none
+abbrev pub greatest : (Instruction → ℕ) → List Instruction → ℕ
+greatest number [] = 0
+greatest number (i ∷ is) = max (number i) (greatest number is)
+
 -- how many registers there are
 abbrev pub register_count : List Instruction → ℕ
-register_count [] = 0
-register_count (i ∷ is) = max (room (registers_of i)) (register_count is)
+register_count code = greatest (λ i. room (registers_of i)) code
 
 -- one more than the name that an instruction has
 abbrev pub names_of : Instruction → ℕ
@@ -69,27 +73,36 @@ names_of _ = 0
 
 -- how many names there are
 abbrev pub name_count : List Instruction → ℕ
-name_count [] = 0
-name_count (i ∷ is) = max (names_of i) (name_count is)
+name_count code = greatest names_of code
 
--- the lengths of private arrays, where one has so many elements at least
-abbrev pub widened : List ℕ → (array count : ℕ) → List ℕ
-widened [] zero count = count ∷ []
-widened [] (suc array) count = 0 ∷ widened [] array count
-widened (most ∷ lengths) zero count = max most count ∷ lengths
-widened (most ∷ lengths) (suc array) count = most ∷ widened lengths array count
+-- one more than the local object that an instruction names
+abbrev pub objects_of : Instruction → ℕ
+objects_of (instruction.Local to number element) = number + 1
+objects_of _ = 0
 
--- those that an instruction wants besides: its array is there, and long enough for its declaration
-abbrev pub lengths_with : List ℕ → Instruction → List ℕ
-lengths_with lengths (instruction.UnsetArray array count) = widened lengths array count
-lengths_with lengths (instruction.PrivateLoad to array index element name) = widened lengths array 0
-lengths_with lengths (instruction.PrivateStore array index value element name) = widened lengths array 0
-lengths_with lengths _ = lengths
+-- how many local objects there are
+abbrev pub object_count : List Instruction → ℕ
+object_count code = greatest objects_of code
 
--- each private array's greatest length
-abbrev pub lengths_from : List ℕ → List Instruction → List ℕ
-lengths_from lengths [] = lengths
-lengths_from lengths (i ∷ is) = lengths_from (lengths_with lengths i) is
+-- one more than the private array that an instruction names
+abbrev pub arrays_of : Instruction → ℕ
+arrays_of (instruction.UnsetArray array count) = array + 1
+arrays_of (instruction.PrivateLoad to array index element name) = array + 1
+arrays_of (instruction.PrivateStore array index value element name) = array + 1
+arrays_of _ = 0
+
+-- how many private arrays there are
+abbrev pub array_count : List Instruction → ℕ
+array_count code = greatest arrays_of code
+
+-- how many elements an instruction gives to a private array
+abbrev pub elements_for : ℕ → Instruction → ℕ
+elements_for array (instruction.UnsetArray other count) = if other == array then count else 0
+elements_for array _ = 0
+
+-- the most that one of these gives to it
+abbrev pub most_at : List Instruction → ℕ → ℕ
+most_at code array = greatest (elements_for array) code
 
 -- how many loops are entered behind an instruction: a loop ends with its way back
 abbrev pub depth_after : ℕ → Instruction → ℕ
@@ -107,8 +120,9 @@ abbrev pub tabled : List Instruction → List VariableType → Listing
 tabled code parameters =
     record {
       instructions = code;
-      registers = register_kinds (register_count code);
-      arrays = lengths_from [] code;
+      registers = each_below register_kind (register_count code);
+      arrays = each_below (most_at code) (array_count code);
+      objects = object_count code;
       names = name_count code;
       parameters = parameters;
       loops = loops_from 0 code;

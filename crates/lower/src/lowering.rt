@@ -1,7 +1,7 @@
 //! Lowering: from checked trees to verified code.
 #![tactic(auto)]
 
-ghost use Rattle.std.specs.Prelude.{◌≡◌, ◌↔◌, map, None, IfOk, IfErr, IfSome};
+ghost use Rattle.std.specs.Prelude.{◌≡◌, ◌↔◌, map, None, IfOk, IfErr, IfSome, IsSome};
 ghost use Rattle.clmodel.specs.Setup.{kernel_in};
 ghost use Rattle.clmodel.specs.Tree.{program, func, then_funcs, NoFunc};
 ghost use Rattle.regcode.specs.Listed.{listing};
@@ -48,7 +48,7 @@ struct Listed {
     tables: Tables,
 }
 
-/// The code of the kernel of a name's number with its tables, None where there is none.
+/// The code of the kernel of a name's number with its tables, None where there is none. Err only where there is one.
 fn list_kernel(
     alloc: Global,
     functions: &[Function],
@@ -57,6 +57,7 @@ fn list_kernel(
     ensures code { IfOk result (λ found. IfSome found (λ code.
         Lists (then_funcs NoFunc (map func functions.now)) number (listing code.instructions.items code.tables))) }
     ensures none { IfOk result (λ found. found ≡ None → kernel_in (then_funcs NoFunc (map func functions.now)) number ≡ None) }
+    ensures some { IfErr result (λ fault. IsSome (kernel_in (then_funcs NoFunc (map func functions.now)) number)) }
 {
     let Some(kernel) = kernel_in(functions, number as usize) else {
         return Ok(None);
@@ -75,7 +76,7 @@ fn list_kernel(
 /// The code of the kernel of a name's number.
 pub fn lower_kernel(alloc: Global, checked: &Checked, number: u32) -> Result<Code, LowerFault>
     ensures code { IfOk result (λ code. IsLowered (program checked.now.tree) number code) }
-    ensures none { IfErr result (λ fault. fault ≡ LowerFault.NoSuchKernel → kernel_in (program checked.now.tree).functions number ≡ None) }
+    ensures none { IfErr result (λ fault. (fault ≡ LowerFault.NoSuchKernel) ↔ (kernel_in (program checked.now.tree).functions number ≡ None)) }
 {
     acts_as_the_tree();
     typed_kernels_are_verified();

@@ -1,7 +1,7 @@
 //! The tables of code, by its instructions.
 #![tactic(auto)]
 
-ghost use Rattle.std.specs.Prelude.{◌≡◌, [], ◌∷◌, IfOk, OnOk};
+ghost use Rattle.std.specs.Prelude.{◌≡◌, ℕ, ◌≤◌, max, [], ◌∷◌, length, get_or, IfOk};
 ghost use Rattle.regcode.specs.Listed.{listing};
 ghost use Rattle.lower.specs.Tables as spec;
 
@@ -125,13 +125,34 @@ fn register_kind(register: usize) -> RegisterKind
 
 /// What so many registers may hold.
 fn register_kinds(alloc: Global, count: usize) -> Result<Vec<RegisterKind>, AllocError>
-    ensures { IfOk result (λ kinds. kinds.items ≡ spec.register_kinds count) }
+    ensures { IfOk result (λ kinds. kinds.items ≡ spec.each_below spec.register_kind count) }
 {
     let mut kinds = Vec::new(alloc);
     for register in 0..count {
         kinds.push(register_kind(register))?;
     }
     Ok(kinds)
+}
+
+/// One more than the local object that an instruction names. Err where it is no number of 32 bits.
+fn objects_wanted(instruction: &Instruction) -> Result<u32, AllocError>
+    ensures { IfOk result (λ count. count ≡ spec.objects_of instruction.now) }
+{
+    match instruction {
+        Instruction::Local { number, .. } => number.checked_add(1).ok_or(AllocError),
+        _ => Ok(0),
+    }
+}
+
+/// How many local objects code has: one more than the greatest that it names.
+fn object_count(code: &[Instruction]) -> Result<u32, AllocError>
+    ensures { IfOk result (λ count. count ≡ spec.object_count code.now) }
+{
+    let mut count = 0;
+    for instruction in code {
+        count = objects_wanted(instruction)?.max(count);
+    }
+    Ok(count)
 }
 
 /// One more than the name that an instruction has. Err where it is no number of 32 bits.
@@ -157,38 +178,48 @@ fn name_count(code: &[Instruction]) -> Result<u32, AllocError>
     Ok(count)
 }
 
-/// Gives a private array so many elements at least.
-fn widen(lengths: &mut Vec<u32>, array: u32, count: u32) -> Result<(), AllocError>
-    ensures { OnOk result (lengths.new.items ≡ spec.widened lengths.old.items array count) }
-{
-    for _ in 0..past(array).saturating_sub(lengths.len()) {
-        lengths.push(0)?;
-    }
-    let most = lengths[array as usize];
-    lengths[array as usize] = most.max(count);
-    Ok(())
-}
-
-/// Gives the private array of an instruction, if it has one, what it wants.
-fn widen_for(lengths: &mut Vec<u32>, instruction: &Instruction) -> Result<(), AllocError>
-    ensures { OnOk result (lengths.new.items ≡ spec.lengths_with lengths.old.items instruction.now) }
+/// One more than the private array that an instruction names.
+fn arrays_wanted(instruction: &Instruction) -> usize
+    ensures { result ≡ spec.arrays_of instruction.now }
 {
     match *instruction {
-        Instruction::UnsetArray { array, length } => widen(lengths, array, length),
-        Instruction::PrivateLoad { array, .. } | Instruction::PrivateStore { array, .. } => widen(
-            lengths, array, 0,
-        ),
-        _ => Ok(()),
+        Instruction::UnsetArray { array, .. }
+        | Instruction::PrivateLoad { array, .. }
+        | Instruction::PrivateStore { array, .. } => past(array),
+        _ => 0,
+    }
+}
+
+/// How many private arrays code has: one more than the greatest that it names.
+fn array_count(code: &[Instruction]) -> usize
+    ensures { result ≡ spec.array_count code.now }
+{
+    let mut count = 0;
+    for instruction in code {
+        count = count.max(arrays_wanted(instruction));
+    }
+    count
+}
+
+/// Gives the private array of an instruction, if it declares one, so many elements at least.
+fn raise(lengths: &mut Vec<u32>, instruction: &Instruction)
+    requires { spec.arrays_of instruction.now ≤ length lengths.now.items }
+    ensures count { length lengths.new.items ≡ length lengths.old.items }
+    ensures most { (array : ℕ) → get_or lengths.new.items array 0 ≡ max (get_or lengths.old.items array 0) (spec.elements_for array instruction.now) }
+{
+    if let Instruction::UnsetArray { array, length } = *instruction {
+        let most = lengths[array as usize];
+        lengths[array as usize] = most.max(length);
     }
 }
 
 /// Each private array's greatest length.
 fn lengths_of(alloc: Global, code: &[Instruction]) -> Result<Vec<u32>, AllocError>
-    ensures { IfOk result (λ lengths. lengths.items ≡ spec.lengths_from [] code.now) }
+    ensures { IfOk result (λ lengths. lengths.items ≡ spec.each_below (spec.most_at code.now) (spec.array_count code.now)) }
 {
-    let mut lengths = Vec::new(alloc);
+    let mut lengths = vec![in alloc; 0; array_count(code)]?;
     for instruction in code {
-        widen_for(&mut lengths, instruction)?;
+        raise(&mut lengths, instruction);
     }
     Ok(lengths)
 }
@@ -228,6 +259,7 @@ pub fn tables_of(
     Ok(Tables {
         registers: register_kinds(alloc, register_count(code))?,
         arrays: lengths_of(alloc, code)?,
+        objects: object_count(code)?,
         names: name_count(code)?,
         parameters,
         loops: loops_of(alloc, code)?,

@@ -51,7 +51,7 @@ fn tables(rt: HostRuntime) -> Result<(), Fail> {
     Ok(())
 }
 
-/// Private arrays: one of two lengths, one that is only read, and one of a number between them that isn't there.
+/// Private arrays: one of two lengths, one that is only read, and one of a number between them that isn't there; and a local object.
 fn with_arrays(alloc: Global) -> Result<Vec<Instruction>, AllocError> {
     Ok(vec![in alloc;
         Instruction::UnsetArray {
@@ -73,6 +73,11 @@ fn with_arrays(alloc: Global) -> Result<Vec<Instruction>, AllocError> {
             array: 0,
             length: 2
         },
+        Instruction::Local {
+            to: 12,
+            number: 7,
+            element: IntType::Int
+        },
         Instruction::End,
     ]?)
 }
@@ -84,6 +89,7 @@ fn arrays(rt: HostRuntime) -> Result<(), Fail> {
     let tables = tables_of(alloc, &code, Vec::new(alloc))?;
     assert_eq!(rt; tables.arrays.as_slice(), [2, 5, 0, 0].as_slice());
     assert_eq!(rt; tables.registers.len(), 69);
+    assert_eq!(rt; tables.objects, 8);
     assert_eq!(rt; tables.names, 41);
     Ok(())
 }

@@ -336,7 +336,7 @@ module _ (code : Listing) (s : State) (suits : Suits code s) where
         on_at _ (put_next to _ (number_takes Ulong d _ (subst (λ k. Takes (kind_at code to) (number_kind Ulong k)) (suits.typed dimension d e) fits)) goes))
     does (instruction.Argument to index kind) fits goes =
         on_at _ (set_next to _ (λ w e. takes_is _ _ fits.0 ∙ content_is given.buffers index kind (argument_at given.arguments index) w e) goes)
-    does (instruction.Local to object element) fits goes = on_at _ (put_next to _ (takes_is _ _ fits) goes)
+    does (instruction.Local to object element) fits goes = on_at _ (put_next to _ (takes_is _ _ fits.0) goes)
     does (instruction.UnsetArray array count) fits goes = on_at _ (array_next array _ goes)
     does (instruction.PrivateLoad to array index element name) fits goes =
         filled_safe _ _ on after _ _ (λ e. inr (index, (0, omega arith, refl), e)) (λ i e.

@@ -10,6 +10,7 @@ listing instructions tables =
       instructions = instructions;
       registers = tables.registers.items;
       arrays = tables.arrays.items;
+      objects = tables.objects;
       names = tables.names;
       parameters = tables.parameters.items;
       loops = tables.loops.items;

@@ -84,6 +84,13 @@ impl Code {
         &self.tables.arrays
     }
 
+    /// How many local objects there are.
+    pub fn objects(&self) -> u32
+        ensures { result ≡ self.now.objects }
+    {
+        self.tables.objects
+    }
+
     /// How many names there are.
     pub fn names(&self) -> u32
         ensures { result ≡ self.now.names }

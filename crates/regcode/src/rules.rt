@@ -126,10 +126,12 @@ impl Judged<'_> {
             ),
             Instruction::Argument { to, number, kind } => self.takes(*to, Some(kind_of(*kind)))
                 && self.is_parameter(*number, *kind),
-            Instruction::Local { to, element, .. } => self.takes(
-                *to,
-                Some(RegisterKind::Pointer(*element)),
-            ),
+            Instruction::Local {
+                to,
+                number,
+                element,
+            } => self.takes(*to, Some(RegisterKind::Pointer(*element)))
+                && *number < self.tables.objects,
             Instruction::UnsetArray { array, length } => self.has_room(*array, *length),
             Instruction::PrivateLoad {
                 to,

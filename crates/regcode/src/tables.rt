@@ -11,13 +11,15 @@ pub enum RegisterKind {
     Pointer(IntType),
 }
 
-/// The tables of code: registers, private arrays, names and parameters are named by their places here.
+/// The tables of code: registers, private arrays, local objects, names and parameters are named by their places here.
 #[derive(Debug, Drop)]
 pub struct Tables {
     /// What each register may hold
     pub registers: Vec<RegisterKind>,
     /// How many elements each private array has at most
     pub arrays: Vec<u32>,
+    /// How many local objects the launch has
+    pub objects: u32,
     /// How many names the tree's table of names has
     pub names: u32,
     /// The types of the kernel's parameters

@@ -58,7 +58,7 @@ const POINTER: VariableType = VariableType::Pointer(PointerType {
 
 const INT: VariableType = VariableType::Integer(IntType::Int);
 
-/// Registers of int, uint, a pointer to int, and ulong; a private array of four elements at most; a pointer and an int as parameters; as many loops as are told.
+/// Registers of int, uint, a pointer to int, and ulong; a private array of four elements at most; three local objects; a pointer and an int as parameters; as many loops as are told.
 fn tables(alloc: Global, loops: Vec<u32>) -> Result<Tables, AllocError> {
     Ok(Tables {
         registers: vec![in alloc;
@@ -68,6 +68,7 @@ fn tables(alloc: Global, loops: Vec<u32>) -> Result<Tables, AllocError> {
             RegisterKind::Integer(IntType::Ulong),
         ]?,
         arrays: vec![in alloc; 4]?,
+        objects: 3,
         names: 6,
         parameters: vec![in alloc; INT, POINTER]?,
         loops,
@@ -265,5 +266,24 @@ fn a_rule_fails(rt: HostRuntime) -> Result<(), Fail> {
     let alloc = rt.alloc();
     let judged = verify(going(alloc)?, tables(alloc, vec![in alloc; 0; 11]?)?);
     assert_eq!(rt; judged.is_err(), true);
+    Ok(())
+}
+
+/// A local object that isn't in the tables is in no verified code.
+#[test]
+fn local_objects(rt: HostRuntime) -> Result<(), Fail> {
+    let alloc = rt.alloc();
+    for (number, is_there) in [(2, true), (3, false)] {
+        let instructions = vec![in alloc;
+            Instruction::Local {
+                to: 2,
+                number,
+                element: IntType::Int
+            },
+            Instruction::End,
+        ]?;
+        let judged = verify(instructions, tables(alloc, vec![in alloc; 0; 2]?)?);
+        assert_eq!(rt; judged.is_ok(), is_there);
+    }
     Ok(())
 }

@@ -22,6 +22,8 @@ fn ending(alloc: Global) -> Result<Code, Fail>
     let instructions = vec![in alloc; Instruction::End]?;
     let tables = Tables {
         registers: Vec::new(alloc),
+        arrays: Vec::new(alloc),
+        objects: 0,
         names: 0,
         parameters: Vec::new(alloc),
         loops: vec![in alloc; 0]?,

@@ -9,4 +9,4 @@ pub returns-in-Some-clause-none : goal.returns-in-Some-clause-none
 returns-in-Some-clause-none c =
     let p = program c.args.checked.now.tree in
     let named : kernel_number p c.args.kernel.now ≡ Some c.in-Some.number = sym c.kernel_number.ensures ∙ c.in-Some.is in
-    IfErr-weaker c.lower_kernel.result _ _ (λ fault there. (λ is. absurd (named_found p c.args.kernel.now c.in-Some.number named (there is)), λ none. cc)) c.lower_kernel.ensures.none
+    IfErr-weaker c.lower_kernel.result _ _ (λ fault there. (λ is. absurd (named_found p c.args.kernel.now c.in-Some.number named (there.0 is)), λ none. cc)) c.lower_kernel.ensures.none
