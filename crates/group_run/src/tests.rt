@@ -94,7 +94,6 @@ fn waiting_code(alloc: Global) -> Result<Code, Fail>
         arrays: Vec::new(alloc),
         objects: 0,
         names: 0,
-        arrays: Vec::new(alloc),
         parameters: Vec::new(alloc),
         loops: vec![in alloc; 0, 0]?,
     };
