@@ -7,7 +7,7 @@ ghost use Rattle.clnum.specs.declared.int_type.IntType as int_type;
 ghost use Rattle.clmodel.specs.Next as next;
 ghost use Rattle.clmodel.specs.Next.{Run};
 ghost use Rattle.clmodel.specs.declared.operand.Operand.{Operand};
-ghost use Rattle.regcode.specs.Machine.{item_at};
+ghost use Rattle.regcode.specs.Machine.{entry_at};
 ghost use Rattle.item_value.specs.Arrays.{all_present};
 ghost use Rattle.item_value.specs.Leading.{Leads};
 
@@ -19,7 +19,7 @@ use clnum::{IntType, Value};
 
 /// The elements of the private array of a number.
 pub fn elements_of(arrays: &[PrivateArray], array: u32) -> &[Option<u64>]
-    ensures { result.now ≡ item_at [] (all_present arrays.now) array }
+    ensures { result.now ≡ entry_at [] (all_present arrays.now) array }
 {
     let place = array as usize;
     if place < arrays.len() {

@@ -11,7 +11,7 @@ ghost use Rattle.clmodel.specs.declared.operand.Operand.{Operand};
 ghost use Rattle.clmodel.specs.declared.operand.Operand.TheVariants as operand;
 ghost use Rattle.clmodel.specs.declared.setup.BuiltIn.TheVariants as built_in;
 ghost use Rattle.clmodel.specs.declared.tree.VariableType.TheVariants as variable_type;
-ghost use Rattle.regcode.specs.Machine.{filled, item_at};
+ghost use Rattle.regcode.specs.Machine.{filled, entry_at};
 ghost use Rattle.item_value.specs.Leading.{Leads};
 
 use crate::elements::element;
@@ -27,7 +27,7 @@ use item_state::context::Context;
 
 /// What a register has.
 pub fn register(registers: &[Option<Operand>], number: u32) -> Option<Operand>
-    ensures { result ≡ item_at None registers.now number }
+    ensures { result ≡ entry_at None registers.now number }
 {
     let place = number as usize;
     if place < registers.len() {
@@ -39,7 +39,7 @@ pub fn register(registers: &[Option<Operand>], number: u32) -> Option<Operand>
 
 /// An operand.
 pub(crate) fn operand(registers: &[Option<Operand>], number: u32) -> Result<Operand, Halt>
-    ensures { (after : Operand → Run) → Leads result (filled (item_at None registers.now number) after) after }
+    ensures { (after : Operand → Run) → Leads result (filled (entry_at None registers.now number) after) after }
 {
     match register(registers, number) {
         Some(value) => Ok(value),
@@ -53,7 +53,7 @@ pub(crate) fn known(
     from: u32,
     name: u32,
 ) -> Result<Option<Operand>, Halt>
-    ensures { (after : Option Operand → Run) → Leads result (next.known name (item_at None registers.now from) (λ v. after (Some v))) after }
+    ensures { (after : Option Operand → Run) → Leads result (next.known name (entry_at None registers.now from) (λ v. after (Some v))) after }
 {
     match register(registers, from) {
         Some(value) => Ok(Some(value)),
@@ -80,7 +80,7 @@ pub(crate) fn hold(
     from: u32,
     kind: VariableType,
 ) -> Result<Option<Operand>, Halt>
-    ensures { (after : Option Operand → Run) → Leads result (filled (item_at None registers.now from) (λ v. after (Some (next.held kind v)))) after }
+    ensures { (after : Option Operand → Run) → Leads result (filled (entry_at None registers.now from) (λ v. after (Some (next.held kind v)))) after }
 {
     let value = operand(registers, from)?;
     Ok(Some(held(kind, value)))
@@ -92,7 +92,7 @@ pub(crate) fn converted(
     from: u32,
     kind: IntType,
 ) -> Result<Option<Operand>, Halt>
-    ensures { (after : Option Operand → Run) → Leads result (filled (item_at None registers.now from) (λ v. next.number v (λ n. after (Some (operand.Integral (converted n kind)))))) after }
+    ensures { (after : Option Operand → Run) → Leads result (filled (entry_at None registers.now from) (λ v. next.number v (λ n. after (Some (operand.Integral (converted n kind)))))) after }
 {
     let value = operand(registers, from)?;
     let number = number(value)?;
@@ -105,7 +105,7 @@ pub(crate) fn common(
     from: u32,
     other: IntType,
 ) -> Result<Option<Operand>, Halt>
-    ensures { (after : Option Operand → Run) → Leads result (filled (item_at None registers.now from) (λ v. next.chosen_value v (variable_type.Integer other) (λ w. after (Some w)))) after }
+    ensures { (after : Option Operand → Run) → Leads result (filled (entry_at None registers.now from) (λ v. next.chosen_value v (variable_type.Integer other) (λ w. after (Some w)))) after }
 {
     let value = operand(registers, from)?;
     let value = chosen_value(value, other)?;
@@ -118,7 +118,7 @@ pub(crate) fn changed(
     from: u32,
     operator: UnaryOperator,
 ) -> Result<Option<Operand>, Halt>
-    ensures { (after : Option Operand → Run) → Leads result (filled (item_at None registers.now from) (λ v. next.number v (λ n. after (Some (operand.Integral (unary_value operator n)))))) after }
+    ensures { (after : Option Operand → Run) → Leads result (filled (entry_at None registers.now from) (λ v. next.number v (λ n. after (Some (operand.Integral (unary_value operator n)))))) after }
 {
     let value = operand(registers, from)?;
     let number = number(value)?;
@@ -132,7 +132,7 @@ pub(crate) fn joined(
     left: u32,
     right: u32,
 ) -> Result<Option<Operand>, Halt>
-    ensures { (after : Option Operand → Run) → Leads result (filled (item_at None registers.now left) (λ v. filled (item_at None registers.now right) (λ w. next.combined operator v w (λ x. after (Some x))))) after }
+    ensures { (after : Option Operand → Run) → Leads result (filled (entry_at None registers.now left) (λ v. filled (entry_at None registers.now right) (λ w. next.combined operator v w (λ x. after (Some x))))) after }
 {
     let left = operand(registers, left)?;
     let right = operand(registers, right)?;
@@ -146,7 +146,7 @@ pub(crate) fn of_first(
     function: Builtin,
     first: u32,
 ) -> Result<Option<Operand>, Halt>
-    ensures { (after : Option Operand → Run) → Leads result (filled (item_at None registers.now first) (λ v. next.integer_call function (v ∷ []) (λ x. after (Some x)))) after }
+    ensures { (after : Option Operand → Run) → Leads result (filled (entry_at None registers.now first) (λ v. next.integer_call function (v ∷ []) (λ x. after (Some x)))) after }
 {
     let first = operand(registers, first)?;
     let value = of_one(function, first)?;
@@ -160,7 +160,7 @@ pub(crate) fn of_both(
     first: u32,
     second: u32,
 ) -> Result<Option<Operand>, Halt>
-    ensures { (after : Option Operand → Run) → Leads result (filled (item_at None registers.now first) (λ v. filled (item_at None registers.now second) (λ w. next.integer_call function (v ∷ w ∷ []) (λ x. after (Some x))))) after }
+    ensures { (after : Option Operand → Run) → Leads result (filled (entry_at None registers.now first) (λ v. filled (entry_at None registers.now second) (λ w. next.integer_call function (v ∷ w ∷ []) (λ x. after (Some x))))) after }
 {
     let first = operand(registers, first)?;
     let second = operand(registers, second)?;
@@ -175,7 +175,7 @@ pub(crate) fn asked(
     function: WorkItemFunction,
     dimension: u32,
 ) -> Result<Option<Operand>, Halt>
-    ensures { (after : Option Operand → Run) → Leads result (filled (item_at None registers.now dimension) (λ d. next.call (here context.now) (Some (built_in.WorkItem function)) (d ∷ []) (λ x. after (Some x)))) after }
+    ensures { (after : Option Operand → Run) → Leads result (filled (entry_at None registers.now dimension) (λ d. next.call (here context.now) (Some (built_in.WorkItem function)) (d ∷ []) (λ x. after (Some x)))) after }
 {
     let dimension = operand(registers, dimension)?;
     Ok(Some(work_item(context, function, dimension)))
@@ -183,7 +183,7 @@ pub(crate) fn asked(
 
 /// An operand that is a pointer.
 pub(crate) fn pointed(registers: &[Option<Operand>], from: u32) -> Result<Option<Operand>, Halt>
-    ensures { (after : Option Operand → Run) → Leads result (filled (item_at None registers.now from) (λ v. next.pointing v (λ p. after (Some (operand.Pointed p))))) after }
+    ensures { (after : Option Operand → Run) → Leads result (filled (entry_at None registers.now from) (λ v. next.pointing v (λ p. after (Some (operand.Pointed p))))) after }
 {
     let value = operand(registers, from)?;
     let pointer = pointing(value)?;
@@ -196,7 +196,7 @@ pub(crate) fn offset(
     pointer: u32,
     index: u32,
 ) -> Result<Option<Operand>, Halt>
-    ensures { (after : Option Operand → Run) → Leads result (filled (item_at None registers.now pointer) (λ p. filled (item_at None registers.now index) (λ i. next.moved p i (λ q. after (Some (operand.Pointed q)))))) after }
+    ensures { (after : Option Operand → Run) → Leads result (filled (entry_at None registers.now pointer) (λ p. filled (entry_at None registers.now index) (λ i. next.moved p i (λ q. after (Some (operand.Pointed q)))))) after }
 {
     let pointer = operand(registers, pointer)?;
     let index = operand(registers, index)?;
@@ -212,7 +212,7 @@ pub(crate) fn private_element(
     kind: IntType,
     name: u32,
 ) -> Result<Option<Operand>, Halt>
-    ensures { (after : Option Operand → Run) → Leads result (filled (item_at None registers.now index) (λ i. next.read_element name kind elements.now i (λ v. after (Some v)))) after }
+    ensures { (after : Option Operand → Run) → Leads result (filled (entry_at None registers.now index) (λ i. next.read_element name kind elements.now i (λ v. after (Some v)))) after }
 {
     let index = operand(registers, index)?;
     let index = number(index)?;

@@ -2,7 +2,7 @@
 use Rattle.std.proofs.Common.{ℕ, ◌+◌, ◌≤◌, Bool, true, false, if◌then◌else◌, Option, None, Some, List, [], ◌∷◌, ◌++◌, length, arith}
 use Rattle.std.proofs.lemmas.List.{length-append}
 use Rattle.clmodel.specs.BuiltIns.{built_in}
-use Rattle.clmodel.specs.Next.{is_array}
+use Rattle.clmodel.specs.Next.{is_private_array}
 use Rattle.clmodel.specs.Tree.{Term, Number, Variable, Element, ElementAddress, Dereference, Call, Unary, Cast, Binary, Choice, Terms, NoTerm, ThenTerm, Place, Whole, Part, Behind}
 use Rattle.clmodel.specs.declared.setup.BuiltIn.{BuiltIn}
 use Rattle.clmodel.specs.declared.setup.BuiltIn.TheVariants as built_in_function
@@ -76,7 +76,7 @@ mutual
   expression_flat scope level (Number at value) = (tt, tt)
   expression_flat scope level (Variable at name) = variable_flat (register_at level (kind_named scope name)) (register_of scope name) name
   expression_flat scope level (Element at name index) =
-      either_flat (is_array scope.variables name) _ _
+      either_flat (is_private_array scope.variables name) _ _
       (flat_both (expr_code scope level index) _ (expression_flat scope level index) (tt, tt))
       (flat_both (element_code (register_at level (kind_named scope name)) (register_of scope name) name (expr_code scope (level + 1) index) (register_for scope (level + 1) index)) _
       (element_flat (register_at level (kind_named scope name)) (register_of scope name) name (expr_code scope (level + 1) index) (register_for scope (level + 1) index) (expression_flat scope (level + 1) index))
@@ -113,7 +113,7 @@ mutual
 pub place_flat : (scope : Scope) (level : ℕ) (place : Place) → Flat (place_code scope level place)
 place_flat scope level (Whole at name) = tt
 place_flat scope level (Part at name index) =
-    either_flat (is_array scope.variables name) _ _ (expression_flat scope level index)
+    either_flat (is_private_array scope.variables name) _ _ (expression_flat scope level index)
     (element_flat (register_at level (kind_named scope name)) (register_of scope name) name (expr_code scope (level + 1) index) (register_for scope (level + 1) index) (expression_flat scope (level + 1) index))
 place_flat scope level (Behind at pointer) =
     flat_both (expr_code scope level pointer) (instruction.Point (register_for scope level pointer) (register_for scope level pointer) ∷ []) (expression_flat scope level pointer) (tt, tt)

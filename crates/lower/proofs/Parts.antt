@@ -4,7 +4,7 @@ use Rattle.clnum.specs.Integer.{bits_of}
 use Rattle.clnum.specs.Integer as numbers
 use Rattle.clnum.specs.declared.int_type.IntType.{IntType}
 use Rattle.clnum.specs.declared.operators.BinaryOperator.{BinaryOperator}
-use Rattle.clmodel.specs.Next.{Run, finish, fail, ask, Variables, base_type, has_elements, is_array, with_elements, index_of, element_set, write_element, store_element, Helpers, assign, declared_type, held, known, look, load, store, combined, reach, fetch, infix_type, HelperCall, value_of, assigned, call, call_only, wait}
+use Rattle.clmodel.specs.Next.{Run, finish, fail, ask, Variables, base_type, has_elements, is_private_array, with_elements, index_of, element_set, write_element, store_element, Helpers, assign, declared_type, held, known, look, load, store, combined, reach, fetch, infix_type, HelperCall, value_of, assigned, call, call_only, wait}
 use Rattle.clmodel.specs.Next.Expressions.{Destination, Through}
 use Rattle.clmodel.specs.Next as next
 use Rattle.clmodel.specs.Tree.{Variable, Terms, NoTerm, ThenTerm, Place, Whole, Part, Behind}
@@ -24,7 +24,7 @@ use Rattle.regcode.specs.declared.instruction.Instruction.TheVariants as instruc
 use Rattle.regcode.proofs.Agreement.{Alike, number_alike, Agree, steps, ends, hold_runs, load_runs, store_runs, update_runs, update_by_one_runs, barrier_runs}
 use Rattle.regcode.proofs.Registers.{reg_put, reg_kept}
 use Rattle.lower_expr.specs.Scope.{Scope, register_at, register_of, level_of, Sees, free_level}
-use Rattle.lower_expr.specs.Expressions.{kind_named, element_of, private_load, private_store, count, place_code, place_register, register_for, registers_for, call_code, call_only_code}
+use Rattle.lower_expr.specs.Expressions.{kind_named, type_of_elements, private_load, private_store, count, place_code, place_register, register_for, registers_for, call_code, call_only_code}
 use Rattle.lower_expr.specs.Agreement.{HasAt, Reached, Hold, HoldsPart, HoldsPlace}
 use Rattle.lower_expr.proofs.Places.{has_moved, reached_put, array_seen, elements_seen, type_seen}
 use Rattle.lower_code.specs.Code.{hold_code, place_type, fetch_code, put_code, wait_code}
@@ -175,15 +175,15 @@ module _ (given : Given) (code : List Instruction) (bound : ℕ) where
   fetch_runs scope level (Whole at name) pointer to s vs after free same is has go =
       subst (λ to. Agree given code bound s (fetch to vs after)) (sym is)
       (expr_runs given code bound scope level (Variable at name) s vs after free same has (λ v now r h. go now v r h))
-  fetch_runs scope level (Part at name index) pointer to s vs after free same h has go = part (is_array scope.variables name) refl h has go
+  fetch_runs scope level (Part at name index) pointer to s vs after free same h has go = part (is_private_array scope.variables name) refl h has go
     where
       kind : VariableType
-      kind = Integer (element_of scope name)
+      kind = Integer (type_of_elements scope name)
 
       target : ℕ
       target = register_at level kind
 
-      part : (b : Bool) → is_array scope.variables name ≡ b → HoldsPart b s.registers pointer name to
+      part : (b : Bool) → is_private_array scope.variables name ≡ b → HoldsPart b s.registers pointer name to
           → HasAt code s.place (if b then private_load scope target name pointer ∷ [] else instruction.Load target pointer ∷ [])
           → ((now : State) (v : Operand) → Reached level s (s.place + length (if b then private_load scope target name pointer ∷ [] else instruction.Load target pointer ∷ [])) now → reg now.registers target ≡ Some v → Agree given code bound now (after v))
           → Agree given code bound s (fetch to vs after)
@@ -208,7 +208,7 @@ module _ (given : Given) (code : List Instruction) (bound : ℕ) where
 
   -- an element of a private array is set at an index at hand
   element_put : (scope : Scope) (s : State) (ts : List ℕ) (place : ℕ) (now : State) (name index from : ℕ) (i v : Operand) (vs : Variables) (run : Variables → Run)
-      → Stands scope.base s ts place now → Sees scope now.registers vs → is_array scope.variables name ≡ true → reg now.registers index ≡ Some i → reg now.registers from ≡ Some v
+      → Stands scope.base s ts place now → Sees scope now.registers vs → is_private_array scope.variables name ≡ true → reg now.registers index ≡ Some i → reg now.registers from ≡ Some v
       → slice_get code place ≡ Some (private_store scope name index from)
       → ((last : State) (after : Variables) → Stands scope.base s ts (place + 1) last → Sees scope last.registers after → Agree given code bound last (run after))
       → Agree given code bound now (store_element vs name i v run)
@@ -220,7 +220,7 @@ module _ (given : Given) (code : List Instruction) (bound : ℕ) where
       let follow : List (Option ℕ) → Run = λ elements. run (with_elements vs name elements) in
       subst (λ xs. Agree given code bound now (write_element name (base_type (declared_type vs name)) xs i v follow)) old_is
       (subst (λ k. Agree given code bound now (write_element name k old i v follow)) (ap base_type (type_seen scope now.registers vs (Variable 0 name) same))
-      (kept_store_runs now follow level index from (element_of scope name) name i v (here_at code place _ scope.base s ts now stands here) held value some
+      (kept_store_runs now follow level index from (type_of_elements scope name) name i v (here_at code place _ scope.base s ts now stands here) held value some
       (λ elements full.
       go (with_array now level elements) (with_elements vs name elements)
       (array_stands scope.base level s ts place now elements (level_from scope.base scope.variables name) stands)
@@ -234,12 +234,12 @@ module _ (given : Given) (code : List Instruction) (bound : ℕ) where
       → Agree given code bound now (next.put to v vs run)
   put_runs scope (Whole at' name) s ts at now vs pointer level from to v run free stands same is value has go =
       subst (λ to. Agree given code bound now (next.put to v vs run)) (sym is) (name_runs scope s ts at now vs name level from v run free stands same has value go)
-  put_runs scope (Part at' name index) s ts at now vs pointer level from to v run free stands same h value has go = part (is_array scope.variables name) refl h has go
+  put_runs scope (Part at' name index) s ts at now vs pointer level from to v run free stands same h value has go = part (is_private_array scope.variables name) refl h has go
     where
       source : ℕ
       source = register_at level from
 
-      part : (b : Bool) → is_array scope.variables name ≡ b → HoldsPart b now.registers pointer name to
+      part : (b : Bool) → is_private_array scope.variables name ≡ b → HoldsPart b now.registers pointer name to
           → HasAt code at (if b then private_store scope name pointer source ∷ [] else instruction.Store pointer source ∷ [])
           → ((last : State) (after : Variables) → Stands scope.base s ts (at + length (if b then private_store scope name pointer source ∷ [] else instruction.Store pointer source ∷ [])) last → Sees scope last.registers after → Agree given code bound last (run after))
           → Agree given code bound now (next.put to v vs run)
@@ -259,11 +259,11 @@ module _ (given : Given) (code : List Instruction) (bound : ℕ) where
       cases : (o : Option ℕ) → HasAt code at (hold_code o from (kind_named scope name)) → Agree given code bound now finish
       cases None has = hold_unset now from from (kind_named scope name) (here_at code at _ scope.base s ts now stands has.0) none
       cases (Some r) has = hold_unset now r from (kind_named scope name) (here_at code at _ scope.base s ts now stands has.0) none
-  put_unset scope (Part at' name index) s ts at now pointer from to stands h none has = part (is_array scope.variables name) h has
+  put_unset scope (Part at' name index) s ts at now pointer from to stands h none has = part (is_private_array scope.variables name) h has
     where
       part : (b : Bool) → HoldsPart b now.registers pointer name to
           → HasAt code at (if b then private_store scope name pointer from ∷ [] else instruction.Store pointer from ∷ []) → Agree given code bound now finish
-      part true h has = private_store_unset now (level_of scope name) pointer from (element_of scope name) name h.0 (here_at code at _ scope.base s ts now stands has.0) h.2 none
+      part true h has = private_store_unset now (level_of scope name) pointer from (type_of_elements scope name) name h.0 (here_at code at _ scope.base s ts now stands has.0) h.2 none
       part false h has = store_unset now pointer from (Pointed h.0) (here_at code at _ scope.base s ts now stands has.0) h.2 none
   put_unset scope (Behind at' term) s ts at now pointer from to stands h none has =
       store_unset now pointer from (Pointed h.0) (here_at code at _ scope.base s ts now stands has.0) h.2 none

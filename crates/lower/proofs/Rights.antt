@@ -4,7 +4,7 @@ use Rattle.clnum.specs.declared.int_type.IntType.{IntType}
 use Rattle.clnum.specs.declared.int_type.IntType.TheVariants.{Int}
 use Rattle.clnum.specs.declared.operators.BinaryOperator.{BinaryOperator}
 use Rattle.clmodel.specs.Barrier.{fences}
-use Rattle.clmodel.specs.Next.{Run, finish, Variables, Destination, is_array, Helpers, combined, reach, fetch, one, infix_type, argument_type, call_type, HelperCall, value_of, assigned, call_only, call_statement}
+use Rattle.clmodel.specs.Next.{Run, finish, Variables, Destination, is_private_array, Helpers, combined, reach, fetch, one, infix_type, argument_type, call_type, HelperCall, value_of, assigned, call_only, call_statement}
 use Rattle.clmodel.specs.Next as next
 use Rattle.clmodel.specs.Tree.{Term, Terms, Place, Whole, Part, Behind}
 use Rattle.clmodel.specs.declared.operand.Operand.{Operand}
@@ -38,7 +38,7 @@ pub record CallsRun (given : Given) (code : List Instruction) (most : ℕ) (call
 held_kept : (scope : Scope) (registers now : Registers) (register : ℕ) (place : Place) (to : Destination) → reg now register ≡ reg registers register
     → HoldsPlace scope registers register place to → HoldsPlace scope now register place to
 held_kept scope registers now register (Whole at name) to e h = h
-held_kept scope registers now register (Part at name index) to e h = part (is_array scope.variables name) h
+held_kept scope registers now register (Part at name index) to e h = part (is_private_array scope.variables name) h
   where
     part : (b : Bool) → HoldsPart b registers register name to → HoldsPart b now register name to
     part true h = (h.0, h.1, e ∙ h.2)
@@ -53,7 +53,7 @@ either_below false m n k h g = g
 place_below : (scope : Scope) (level higher : ℕ) (place : Place) → level < higher → place_register scope level place < 16 * higher
 place_below scope level higher (Whole at name) less = omega (arith, less)
 place_below scope level higher (Part at name index) less =
-    either_below (is_array scope.variables name) (register_for scope level index) (register_at level (kind_named scope name)) (16 * higher)
+    either_below (is_private_array scope.variables name) (register_for scope level index) (register_at level (kind_named scope name)) (16 * higher)
     (register_below level (kind_of scope index) higher less) (register_below level (kind_named scope name) higher less)
 place_below scope level higher (Behind at term) less = register_below level (kind_of scope term) higher less
 

@@ -2,11 +2,11 @@
 use Rattle.std.proofs.Common.{◌≡◌, ◌≢◌, ℕ, zero, suc, ◌+◌, ◌-◌, ◌*◌, ◌<◌, ◌≤◌, ◌==◌, Bool, true, false, Option, None, Some, List, [], ◌∷◌, ◌++◌, length, drop, refl, sym, ap, ap₂, ◌∙◌, subst, arith, append_assoc, length-append, length-drop, drop-drop}
 use Rattle.clnum.specs.declared.int_type.IntType.{IntType}
 use Rattle.clnum.specs.declared.int_type.IntType.TheVariants.{Char, Uchar, Short, Ushort, Int, Uint, Long, Ulong}
-use Rattle.clmodel.specs.Next.{Binding, Variables, declared_type, elements_of, has_elements, is_array, with_elements, held, assign, leave}
+use Rattle.clmodel.specs.Next.{Binding, Variables, declared_type, elements_of, has_elements, is_private_array, with_elements, held, assign, leave}
 use Rattle.clmodel.specs.declared.operand.Operand.{Operand}
 use Rattle.clmodel.specs.declared.tree.VariableType.{VariableType}
 use Rattle.clmodel.specs.declared.tree.VariableType.TheVariants.{Integer, Pointer}
-use Rattle.regcode.specs.Machine.{State, Registers, item_at, reg, put, array_of, put_array}
+use Rattle.regcode.specs.Machine.{State, Registers, entry_at, reg, put, array_of, put_array}
 use Rattle.regcode.proofs.Registers.{reg_put, reg_kept, array_put, array_kept}
 use Rattle.lower_expr.specs.Scope.{Scope, integer_number, kind_number, register_at, register_in, register_of, level_in, level_of, seen_elements, view, seen, arrays_in, Sees, free_level}
 use Rattle.lower_expr.specs.Expressions.{kind_named}
@@ -43,7 +43,7 @@ same_then level higher registers middle now less h g =
     }
 
 pub reached_same : (level : ℕ) (s : State) (place : ℕ) (now : State) → Reached level s place now → Same level s.registers now.registers
-reached_same level s place now r = record { registers = r.kept; arrays = λ a below. ap (λ arrays. item_at [] arrays a) r.arrays }
+reached_same level s place now r = record { registers = r.kept; arrays = λ a below. ap (λ arrays. entry_at [] arrays a) r.arrays }
 
 pub put_same : (level : ℕ) (kind : VariableType) (bound : ℕ) (registers : Registers) (v : Option Operand) → bound ≤ level → Same bound registers (put registers (register_at level kind) v)
 put_same level kind bound registers v h =
@@ -160,18 +160,18 @@ level_from base (variable ∷ variables) name = go (level_from base variables na
     go rest true = omega arith
     go rest false = rest
 
-level_below : (base : ℕ) (variables : Variables) (name : ℕ) → is_array variables name ≡ true → level_in base variables name < base + length variables
+level_below : (base : ℕ) (variables : Variables) (name : ℕ) → is_private_array variables name ≡ true → level_in base variables name < base + length variables
 level_below base [] name h = cc
 level_below base (variable ∷ variables) name h = go (level_below base variables name) (name == variable.name) h
   where
-    go : (is_array variables name ≡ true → level_in base variables name < base + length variables) → (b : Bool)
+    go : (is_private_array variables name ≡ true → level_in base variables name < base + length variables) → (b : Bool)
         → has_elements (elim b as (λ _. List (Option ℕ)) [ true ↦ variable.elements | false ↦ elements_of variables name ]) ≡ true
         → elim b as (λ _. ℕ) [ true ↦ base + length variables | false ↦ level_in base variables name ] < base + length (variable ∷ variables)
     go rest true h = omega arith
     go rest false h = let below = rest h in omega (arith, below)
 
 -- other elements of a private array
-elements_put : (base : ℕ) (variables : Variables) (registers : Registers) (name : ℕ) (elements : List (Option ℕ)) → is_array variables name ≡ true
+elements_put : (base : ℕ) (variables : Variables) (registers : Registers) (name : ℕ) (elements : List (Option ℕ)) → is_private_array variables name ≡ true
     → view base variables (put_array registers (level_in base variables name) elements) ≡ with_elements (view base variables registers) name elements
 elements_put base [] registers name elements h = cc
 elements_put base (variable ∷ variables) registers name elements h = go (elements_put base variables registers name elements) (name == variable.name) h
@@ -182,7 +182,7 @@ elements_put base (variable ∷ variables) registers name elements h = go (eleme
     top : Option Operand
     top = reg registers (register_at level variable.kind)
 
-    go : (is_array variables name ≡ true → view base variables (put_array registers (level_in base variables name) elements) ≡ with_elements (view base variables registers) name elements) → (b : Bool)
+    go : (is_private_array variables name ≡ true → view base variables (put_array registers (level_in base variables name) elements) ≡ with_elements (view base variables registers) name elements) → (b : Bool)
         → has_elements (elim b as (λ _. List (Option ℕ)) [ true ↦ variable.elements | false ↦ elements_of variables name ]) ≡ true
         → view base (variable ∷ variables) (put_array registers (elim b as (λ _. ℕ) [ true ↦ level | false ↦ level_in base variables name ]) elements)
         ≡ elim b as (λ _. Variables) [ true ↦ record variable { content = top; elements = elements } ∷ view base variables registers | false ↦ record variable { content = top; elements = seen_elements variable.elements (array_of registers level) } ∷ with_elements (view base variables registers) name elements ]
@@ -196,18 +196,18 @@ elements_put base (variable ∷ variables) registers name elements h = go (eleme
         let ne : lower ≢ level = λ e. absurd (omega (arith, e, below)) in
         ap₂ (λ (xs : List (Option ℕ)) (others : Variables). record variable { content = top; elements = seen_elements variable.elements xs } ∷ others) (array_kept registers lower elements level ne) (rest h)
 
-arrays_with : (variables : Variables) (name : ℕ) (elements : List (Option ℕ)) → is_array variables name ≡ true → has_elements elements ≡ true → arrays_in (with_elements variables name elements) ≡ arrays_in variables
+arrays_with : (variables : Variables) (name : ℕ) (elements : List (Option ℕ)) → is_private_array variables name ≡ true → has_elements elements ≡ true → arrays_in (with_elements variables name elements) ≡ arrays_in variables
 arrays_with [] name elements h e = refl
 arrays_with (variable ∷ variables) name elements h e = go (arrays_with variables name elements) (name == variable.name) h
   where
-    go : (is_array variables name ≡ true → has_elements elements ≡ true → arrays_in (with_elements variables name elements) ≡ arrays_in variables) → (b : Bool)
+    go : (is_private_array variables name ≡ true → has_elements elements ≡ true → arrays_in (with_elements variables name elements) ≡ arrays_in variables) → (b : Bool)
         → has_elements (elim b as (λ _. List (Option ℕ)) [ true ↦ variable.elements | false ↦ elements_of variables name ]) ≡ true
         → arrays_in (elim b as (λ _. Variables) [ true ↦ record variable { elements = elements } ∷ variables | false ↦ variable ∷ with_elements variables name elements ])
         ≡ has_elements variable.elements ∷ arrays_in variables
     go rest true h = ap (λ b. b ∷ arrays_in variables) (e ∙ sym h)
     go rest false h = ap (λ bs. has_elements variable.elements ∷ bs) (rest h e)
 
-pub stored_sees : (scope : Scope) (registers : Registers) (vs : Variables) (name : ℕ) (elements : List (Option ℕ)) → is_array scope.variables name ≡ true → has_elements elements ≡ true
+pub stored_sees : (scope : Scope) (registers : Registers) (vs : Variables) (name : ℕ) (elements : List (Option ℕ)) → is_private_array scope.variables name ≡ true → has_elements elements ≡ true
     → Sees scope registers vs → Sees scope (put_array registers (level_of scope name) elements) (with_elements vs name elements)
 stored_sees scope registers vs name elements is some same =
     let put_is = elements_put scope.base scope.variables registers name elements is in

@@ -28,7 +28,7 @@ use Rattle.clmodel.specs.declared.tree.VariableType.TheVariants.{Integer, Pointe
 use Rattle.regcode.specs.declared.instruction.Instruction.{Instruction}
 use Rattle.regcode.specs.declared.instruction.Instruction.TheVariants as instruction
 use Rattle.lower_expr.specs.Scope.{Scope, register_at, register_of, level_of}
-use Rattle.lower_expr.specs.Expressions.{kind_of, kind_named, register_for, registers_for, expr_code, terms_code, place_code, variable_code, element_of, private_load, element_code, address_code, infix_code, truth_code, branch_code, call_code, count}
+use Rattle.lower_expr.specs.Expressions.{kind_of, kind_named, register_for, registers_for, expr_code, terms_code, place_code, variable_code, type_of_elements, private_load, element_code, address_code, infix_code, truth_code, branch_code, call_code, count}
 use Rattle.lower.specs.Accepted.{declared_kind, is_private, Is, Matches, Suits, Suit, ExpressionsSuit, PlacesSuit}
 use Rattle.lower.proofs.Suiting.{same_integer, is_at, is_as, suit_both, constant_suits, move_suits, convert_suits, common_suits, unary_suits, binary_suits, one_suits, two_suit, dimensions_suit, query_suits, point_suits, offset_suits, load_suits, private_load_suits, branch_suits}
 
@@ -209,30 +209,30 @@ module _ (c : Context) (scope : Scope) (m : Matches c scope) where
     -- what a pointer that is moved points to, or an element of a private array
     pointed_suits : (level name : ℕ) (d : Declaration) (p : PointerType) (index : Term) (t : IntType) → meaning c name ≡ Bound d → declared_kind d ≡ Pointer p → Types c index (Integer t)
         → Suit parameters (expr_code scope (level + 1) index)
-        → Suit parameters (address_code scope level name index ++ instruction.Load (register_at level (Integer (element_of scope name))) (register_at level (kind_named scope name)) ∷ [])
+        → Suit parameters (address_code scope level name index ++ instruction.Load (register_at level (Integer (type_of_elements scope name))) (register_at level (kind_named scope name)) ∷ [])
     pointed_suits level name d p index t is held types fits =
         let kind = kind_named scope name in
         let same = (m name d is).declared ∙ held in
-        suit_both parameters (address_code scope level name index) (instruction.Load (register_at level (Integer (element_of scope name))) (register_at level kind) ∷ [])
+        suit_both parameters (address_code scope level name index) (instruction.Load (register_at level (Integer (type_of_elements scope name))) (register_at level kind) ∷ [])
         (element_suits level name d p (expr_code scope (level + 1) index) (register_for scope (level + 1) index) t is held fits (is_as (level + 1) (kind_of scope index) (Integer t) (type_is index (Integer t) types))) (
-          load_suits parameters (register_at level (Integer (element_of scope name))) (register_at level kind) p.element
-              (is_as level (Integer (element_of scope name)) (Integer p.element) (ap (λ k. Integer (base_type k)) same)) (is_as level kind (Pointer p) same),
+          load_suits parameters (register_at level (Integer (type_of_elements scope name))) (register_at level kind) p.element
+              (is_as level (Integer (type_of_elements scope name)) (Integer p.element) (ap (λ k. Integer (base_type k)) same)) (is_as level kind (Pointer p) same),
           tt,
         )
 
     private_suits : (level name : ℕ) (index : Term) (t : IntType) → Types c index (Integer t) → Suit parameters (expr_code scope level index)
-        → Suit parameters (expr_code scope level index ++ private_load scope (register_at level (Integer (element_of scope name))) name (register_for scope level index) ∷ [])
+        → Suit parameters (expr_code scope level index ++ private_load scope (register_at level (Integer (type_of_elements scope name))) name (register_for scope level index) ∷ [])
     private_suits level name index t types fits =
-        suit_both parameters (expr_code scope level index) (private_load scope (register_at level (Integer (element_of scope name))) name (register_for scope level index) ∷ []) fits (
-          private_load_suits parameters (register_at level (Integer (element_of scope name))) (level_of scope name) (register_for scope level index) name (element_of scope name) t
-              (is_at level (Integer (element_of scope name))) (is_as level (kind_of scope index) (Integer t) (type_is index (Integer t) types)),
+        suit_both parameters (expr_code scope level index) (private_load scope (register_at level (Integer (type_of_elements scope name))) name (register_for scope level index) ∷ []) fits (
+          private_load_suits parameters (register_at level (Integer (type_of_elements scope name))) (level_of scope name) (register_for scope level index) name (type_of_elements scope name) t
+              (is_at level (Integer (type_of_elements scope name))) (is_as level (kind_of scope index) (Integer t) (type_is index (Integer t) types)),
           tt,
         )
 
     loaded_suits : (level name : ℕ) (d : Declaration) (index : Term) (t u : IntType) → meaning c name ≡ Bound d → element_type d ≡ Some t → Types c index (Integer u)
         → Suit parameters (expr_code scope level index) → Suit parameters (expr_code scope (level + 1) index)
-        → Suit parameters (if is_private d then expr_code scope level index ++ private_load scope (register_at level (Integer (element_of scope name))) name (register_for scope level index) ∷ []
-        else address_code scope level name index ++ instruction.Load (register_at level (Integer (element_of scope name))) (register_at level (kind_named scope name)) ∷ [])
+        → Suit parameters (if is_private d then expr_code scope level index ++ private_load scope (register_at level (Integer (type_of_elements scope name))) name (register_for scope level index) ∷ []
+        else address_code scope level name index ++ instruction.Load (register_at level (Integer (type_of_elements scope name))) (register_at level (kind_named scope name)) ∷ [])
     loaded_suits level name (Single (Integer j)) index t u is of types fits higher = absurd (cc)
     loaded_suits level name (Single (Pointer p)) index t u is of types fits higher = pointed_suits level name (Single (Pointer p)) p index u is refl types higher
     loaded_suits level name (LocalArray j) index t u is of types fits higher = pointed_suits level name (LocalArray j) (record { space = Local; is_const = false; element = j }) index u is refl types higher
@@ -301,8 +301,8 @@ module _ (c : Context) (scope : Scope) (m : Matches c scope) where
       expression_suits level _ _ (rule.variable {x = x} {d = d} {k = k} is value) =
           variable_suits level (kind_named scope x) x d k is (value_is d k value) ((m x d is).declared ∙ value_is d k value)
       expression_suits level _ _ (rule.element {x = x} {d = d} {t = t} {u = u} {e = e} is of index) =
-          subst (λ b. Suit parameters (if b then expr_code scope level e ++ private_load scope (register_at level (Integer (element_of scope x))) x (register_for scope level e) ∷ []
-          else address_code scope level x e ++ instruction.Load (register_at level (Integer (element_of scope x))) (register_at level (kind_named scope x)) ∷ [])) (sym (m x d is).array)
+          subst (λ b. Suit parameters (if b then expr_code scope level e ++ private_load scope (register_at level (Integer (type_of_elements scope x))) x (register_for scope level e) ∷ []
+          else address_code scope level x e ++ instruction.Load (register_at level (Integer (type_of_elements scope x))) (register_at level (kind_named scope x)) ∷ [])) (sym (m x d is).array)
           (loaded_suits level x d e t u is of index (expression_suits level e (Integer u) index) (expression_suits (level + 1) e (Integer u) index))
       expression_suits level _ _ (rule.address {x = x} {d = d} {p = p} {u = u} {e = e} is value index) =
           element_suits level x d p (expr_code scope (level + 1) e) (register_for scope (level + 1) e) u is (value_is d (Pointer p) value) (expression_suits (level + 1) e (Integer u) index)

@@ -26,7 +26,7 @@ use Rattle.regcode.specs.declared.instruction.Instruction.{Instruction}
 use Rattle.regcode.specs.declared.instruction.Instruction.TheVariants as instruction
 use Rattle.regcode.specs.declared.tables.RegisterKind.TheVariants as register_kinds
 use Rattle.lower_expr.specs.Scope.{Scope, register_at, level_of, free_level}
-use Rattle.lower_expr.specs.Expressions.{kind_of, kind_named, element_of, private_load, private_store, register_for, registers_for, expr_code, terms_code, place_code, place_register, call_only_code, count}
+use Rattle.lower_expr.specs.Expressions.{kind_of, kind_named, type_of_elements, private_load, private_store, register_for, registers_for, expr_code, terms_code, place_code, place_register, call_only_code, count}
 use Rattle.lower_code.specs.Code.{Calls, result_type, needed_code, no_value_code, value_code, hold_code, place_type, fetch_code, put_code, combine_code, wait_code, condition_code, turn_code, right_code, right_type, assign_code, compound_code, step_code, call_only_statement}
 use Rattle.lower.specs.Accepted.{declared_kind, is_private, Is, Matches, Suit}
 use Rattle.lower.proofs.Suiting.{is_at, is_as, suit_both, constant_suits, unset_suits, hold_suits, binary_suits, store_suits, load_suits, private_load_suits, private_store_suits, update_suits, update_by_one_suits, branch_suits}
@@ -138,12 +138,12 @@ module _ (c : Context) (scope : Scope) (m : Matches c scope) where
 
     -- an element behind a pointer
     pointer_loaded : (level x : ℕ) (d : Declaration) (p : PointerType) → meaning c x ≡ Bound d → declared_kind d ≡ Pointer p
-        → Suit parameters (instruction.Load (register_at (level + 1) (Integer (element_of scope x))) (register_at level (kind_named scope x)) ∷ [])
+        → Suit parameters (instruction.Load (register_at (level + 1) (Integer (type_of_elements scope x))) (register_at level (kind_named scope x)) ∷ [])
     pointer_loaded level x d p is held =
         let kind = kind_named scope x in
         let same = (m x d is).declared ∙ held in (
-          load_suits parameters (register_at (level + 1) (Integer (element_of scope x))) (register_at level kind) p.element
-              (is_as (level + 1) (Integer (element_of scope x)) (Integer p.element) (ap (λ k. Integer (base_type k)) same)) (is_as level kind (Pointer p) same),
+          load_suits parameters (register_at (level + 1) (Integer (type_of_elements scope x))) (register_at level kind) p.element
+              (is_as (level + 1) (Integer (type_of_elements scope x)) (Integer p.element) (ap (λ k. Integer (base_type k)) same)) (is_as level kind (Pointer p) same),
           tt,
         )
 
@@ -154,14 +154,14 @@ module _ (c : Context) (scope : Scope) (m : Matches c scope) where
 
     -- an element, by the index of a private array or a pointer
     part_loaded : (level x : ℕ) (d : Declaration) (e : Term) (t u : IntType) → meaning c x ≡ Bound d → element_type d ≡ Some t → Types c e (Integer u)
-        → Suit parameters (if is_private d then private_load scope (register_at (level + 1) (Integer (element_of scope x))) x (if is_private d then register_for scope level e else register_at level (kind_named scope x)) ∷ []
-        else instruction.Load (register_at (level + 1) (Integer (element_of scope x))) (if is_private d then register_for scope level e else register_at level (kind_named scope x)) ∷ [])
+        → Suit parameters (if is_private d then private_load scope (register_at (level + 1) (Integer (type_of_elements scope x))) x (if is_private d then register_for scope level e else register_at level (kind_named scope x)) ∷ []
+        else instruction.Load (register_at (level + 1) (Integer (type_of_elements scope x))) (if is_private d then register_for scope level e else register_at level (kind_named scope x)) ∷ [])
     part_loaded level x (Single (Integer j)) e t u is of index = absurd (cc)
     part_loaded level x (Single (Pointer p)) e t u is of index = pointer_loaded level x (Single (Pointer p)) p is refl
     part_loaded level x (LocalArray j) e t u is of index = pointer_loaded level x (LocalArray j) (record { space = Local; is_const = false; element = j }) is refl
     part_loaded level x (PrivateArray j) e t u is of index = (
-      private_load_suits parameters (register_at (level + 1) (Integer (element_of scope x))) (level_of scope x) (register_for scope level e) x (element_of scope x) u
-          (is_at (level + 1) (Integer (element_of scope x))) (is_as level (kind_of scope e) (Integer u) (type_is c scope m e (Integer u) index)),
+      private_load_suits parameters (register_at (level + 1) (Integer (type_of_elements scope x))) (level_of scope x) (register_for scope level e) x (type_of_elements scope x) u
+          (is_at (level + 1) (Integer (type_of_elements scope x))) (is_as level (kind_of scope e) (Integer u) (type_is c scope m e (Integer u) index)),
       tt,
     )
 
@@ -172,13 +172,13 @@ module _ (c : Context) (scope : Scope) (m : Matches c scope) where
     part_stored level from x (Single (Pointer p)) e t u v is of index by = pointer_stored level from x (Single (Pointer p)) p v is refl by
     part_stored level from x (LocalArray j) e t u v is of index by = pointer_stored level from x (LocalArray j) (record { space = Local; is_const = false; element = j }) v is refl by
     part_stored level from x (PrivateArray j) e t u v is of index by =
-        (private_store_suits parameters (level_of scope x) (register_for scope level e) from x (element_of scope x) u v (is_as level (kind_of scope e) (Integer u) (type_is c scope m e (Integer u) index)) by, tt)
+        (private_store_suits parameters (level_of scope x) (register_for scope level e) from x (type_of_elements scope x) u v (is_as level (kind_of scope e) (Integer u) (type_is c scope m e (Integer u) index)) by, tt)
 
     fetch_suits : (level : ℕ) (place : Place) (k : VariableType) → TypesPlace c place k
         → Suit parameters (fetch_code scope place (place_register scope level place) (register_at (level + 1) (place_type scope place)))
     fetch_suits level _ _ (rule.whole {x = x} {k = k} is) = variable_suits c scope m parameters (level + 1) (kind_named scope x) x (Single k) k is refl (m x (Single k) is).declared
     fetch_suits level _ _ (rule.part {x = x} {d = d} {t = t} {u = u} {e = e} is of stored index) =
-        let target = register_at (level + 1) (Integer (element_of scope x)) in
+        let target = register_at (level + 1) (Integer (type_of_elements scope x)) in
         let there = register_for scope level e in
         let pointer = register_at level (kind_named scope x) in
         subst (λ b. Suit parameters (if b then private_load scope target x (if b then there else pointer) ∷ [] else instruction.Load target (if b then there else pointer) ∷ [])) (sym (m x d is).array)

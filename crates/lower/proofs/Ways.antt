@@ -6,7 +6,7 @@ use Rattle.clnum.specs.declared.int_type.IntType.TheVariants.{Int}
 use Rattle.clnum.specs.declared.operators.BinaryOperator.{BinaryOperator}
 use Rattle.clmodel.specs.Barrier.{is_barrier, fences}
 use Rattle.clmodel.specs.BuiltIns.{built_in}
-use Rattle.clmodel.specs.Next.{is_array, helper_call, helper_or, step_operator, sites, part_sites, all_sites}
+use Rattle.clmodel.specs.Next.{is_private_array, helper_call, helper_or, step_operator, sites, part_sites, all_sites}
 use Rattle.clmodel.specs.Tree as tree
 use Rattle.clmodel.specs.Tree.{array_length, Term, Terms, Place, Whole, Part, Behind, Stmt, Empty, Block, Declare, DeclareAs, DeclareArray, Assign, Step, CallOnly, If, IfElse, While, DoWhile, For, Break, Continue, Return, ReturnValue, Stmts, NoStmt, ThenStmt, MaybeStmt, Without, With, MaybeTerm, Always, While_}
 use Rattle.clmodel.specs.Typing.Sizes.{Sizes, size_in, term_size, terms_size, place_size, condition_size, size, part_size, row_size}
@@ -31,12 +31,12 @@ hold_flat (Some to) from kind = (tt, tt)
 
 put_flat : (scope : Scope) (place : Place) (pointer from : ℕ) → Flat (put_code scope place pointer from)
 put_flat scope (Whole at name) pointer from = hold_flat (register_of scope name) from (kind_named scope name)
-put_flat scope (Part at name index) pointer from = either_flat (is_array scope.variables name) _ _ (tt, tt) (tt, tt)
+put_flat scope (Part at name index) pointer from = either_flat (is_private_array scope.variables name) _ _ (tt, tt) (tt, tt)
 put_flat scope (Behind at term) pointer from = (tt, tt)
 
 fetch_flat : (scope : Scope) (place : Place) (pointer to : ℕ) → Flat (fetch_code scope place pointer to)
 fetch_flat scope (Whole at name) pointer to = variable_flat to (register_of scope name) name
-fetch_flat scope (Part at name index) pointer to = either_flat (is_array scope.variables name) _ _ (tt, tt) (tt, tt)
+fetch_flat scope (Part at name index) pointer to = either_flat (is_private_array scope.variables name) _ _ (tt, tt) (tt, tt)
 fetch_flat scope (Behind at term) pointer to = (tt, tt)
 
 combine_flat : (scope : Scope) (place : Place) (level : ℕ) (operator : BinaryOperator) (kind : VariableType) (old right : ℕ) → Flat (combine_code scope place level operator kind old right)

@@ -1,7 +1,7 @@
 -- What the instructions of typed trees owe to their tables, one by one (own).
 use Rattle.std.specs.Prelude.{◌≡◌, ℕ, ◌+◌, ◌<◌, ◌≤◌, Bool, true, false, nat_eq, Option, None, Some, List, [], ◌∷◌, length, map, slice_get}
 use Rattle.std.specs.Map.{lookup}
-use Rattle.clmodel.specs.Next.{is_array}
+use Rattle.clmodel.specs.Next.{is_private_array}
 use Rattle.clmodel.specs.declared.declaration.Declaration.{Declaration}
 use Rattle.clmodel.specs.declared.declaration.Declaration.TheVariants.{Single, LocalArray, PrivateArray}
 use Rattle.clmodel.specs.declared.tree.VariableType.{VariableType}
@@ -69,7 +69,7 @@ pub record InScope (scope : Scope) (name : ℕ) (d : Declaration) : Type 0 where
   pub level : ℕ
   pub register : register_of scope name ≡ Some (register_at level (declared_kind d))
   pub declared : kind_named scope name ≡ declared_kind d
-  pub array : is_array scope.variables name ≡ is_private d
+  pub array : is_private_array scope.variables name ≡ is_private d
 
 -- a scope of code has the variables of a context
 abbrev pub Matches : Context → Scope → Type 0

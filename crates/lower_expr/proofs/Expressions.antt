@@ -5,7 +5,7 @@ use Rattle.clnum.specs.Integer.{converted}
 use Rattle.clnum.specs.Operations.{truth, unary_value}
 use Rattle.clnum.specs.declared.int_type.IntType.TheVariants.{Int}
 use Rattle.clmodel.specs.BuiltIns.{built_in}
-use Rattle.clmodel.specs.Next.{Run, Variables, known, look, moved, load, pointing, number, test, settle, join, call, combined, chosen_value, base_type, infix_type, type_of, eval, eval_all, reach, declared_type, is_array, read_element, load_element}
+use Rattle.clmodel.specs.Next.{Run, Variables, known, look, moved, load, pointing, number, test, settle, join, call, combined, chosen_value, base_type, infix_type, type_of, eval, eval_all, reach, declared_type, is_private_array, read_element, load_element}
 use Rattle.clmodel.specs.Next.Expressions.{Destination, Named, ElementOf, Through}
 use Rattle.clmodel.specs.Tree as tree
 use Rattle.clmodel.specs.Tree.{Term, Terms, NoTerm, ThenTerm, Place}
@@ -23,7 +23,7 @@ use Rattle.regcode.specs.declared.instruction.Instruction.TheVariants as instruc
 use Rattle.regcode.specs.Machine.{State, Given, Registers, reg, array_of, with_put, passed, onward}
 use Rattle.regcode.proofs.Registers.{reg_put}
 use Rattle.lower_expr.specs.Scope.{Scope, register_at, register_of, level_of, Sees, free_level}
-use Rattle.lower_expr.specs.Expressions.{expr_code, terms_code, place_code, place_register, register_for, registers_for, kind_of, kind_named, variable_code, element_of, private_load, element_code, address_code, truth_code, infix_code, branch_code, choice_code, call_code, count}
+use Rattle.lower_expr.specs.Expressions.{expr_code, terms_code, place_code, place_register, register_for, registers_for, kind_of, kind_named, variable_code, type_of_elements, private_load, element_code, address_code, truth_code, infix_code, branch_code, choice_code, call_code, count}
 use Rattle.lower_expr.specs.Agreement.{HasAt, Reached, Hold, HoldsPart, Follows, FollowsAll, FollowsPlace}
 use Rattle.regcode.proofs.Agreement.{Agree, ends, constant_runs, unset_runs, move_runs, jump_runs, convert_runs, common_runs, unary_runs, binary_runs, one_integer_runs, two_integers_run, dimensions_run, query_runs, point_runs, offset_runs, load_runs, private_load_runs, branch_runs}
 use Rattle.lower_expr.proofs.Places.{has_left, has_right, has_moved, reached_here, reached_put, reached_then, register_kept, seen_kept, reached_to, reached_passed, reached_onward, found, look_seen, type_seen, array_seen, elements_seen, hold_then, arguments_kept}
@@ -106,22 +106,22 @@ module _ (given : Given) (code : List Instruction) (bound : ℕ) where
 
   -- an element of a private array, by the index that a register holds
   pub private_load_run : (scope : Scope) (name to index : ℕ) (now : State) (vs : Variables) (i : Operand) (after : Operand → Run)
-      → is_array scope.variables name ≡ true → Sees scope now.registers vs → slice_get code now.place ≡ Some (private_load scope to name index) → reg now.registers index ≡ Some i
+      → is_private_array scope.variables name ≡ true → Sees scope now.registers vs → slice_get code now.place ≡ Some (private_load scope to name index) → reg now.registers index ≡ Some i
       → ((x : Operand) → Agree given code bound (with_put now to (Some x)) (after x)) → Agree given code bound now (load_element vs name i after)
   private_load_run scope name to index now vs i after is same here held go =
       subst (λ xs. Agree given code bound now (read_element name (base_type (declared_type vs name)) xs i after)) (elements_seen scope now.registers name vs is same)
       (subst (λ k. Agree given code bound now (read_element name k (array_of now.registers (level_of scope name)) i after)) (ap base_type (type_seen scope now.registers vs (tree.Variable 0 name) same))
-      (private_load_runs given code bound now after to (level_of scope name) index (element_of scope name) name i here held go))
+      (private_load_runs given code bound now after to (level_of scope name) index (type_of_elements scope name) name i here held go))
 
   -- an element of a private array, or what a pointer that is moved points to
   array_runs : (scope : Scope) (level name : ℕ) (index : Term) (s : State) (vs : Variables) (after : Operand → Run)
-      → free_level scope ≤ level → Sees scope s.registers vs → is_array scope.variables name ≡ true → Runs scope level index vs
-      → HasAt code s.place (expr_code scope level index ++ private_load scope (register_at level (Integer (element_of scope name))) name (register_for scope level index) ∷ [])
-      → Follows given code bound level s (s.place + length (expr_code scope level index ++ private_load scope (register_at level (Integer (element_of scope name))) name (register_for scope level index) ∷ []))
-      (register_at level (Integer (element_of scope name))) after
+      → free_level scope ≤ level → Sees scope s.registers vs → is_private_array scope.variables name ≡ true → Runs scope level index vs
+      → HasAt code s.place (expr_code scope level index ++ private_load scope (register_at level (Integer (type_of_elements scope name))) name (register_for scope level index) ∷ [])
+      → Follows given code bound level s (s.place + length (expr_code scope level index ++ private_load scope (register_at level (Integer (type_of_elements scope name))) name (register_for scope level index) ∷ []))
+      (register_at level (Integer (type_of_elements scope name))) after
       → Agree given code bound s (eval given.here index vs (λ i. load_element vs name i after))
   array_runs scope level name index s vs after free same is index_runs has go =
-      let kind = Integer (element_of scope name) in
+      let kind = Integer (type_of_elements scope name) in
       let inner = expr_code scope level index in
       let end : List Instruction = private_load scope (register_at level kind) name (register_for scope level index) ∷ [] in
       index_runs s (λ i. load_element vs name i after) same (has_left code inner end s.place has)
@@ -132,29 +132,29 @@ module _ (given : Given) (code : List Instruction) (bound : ℕ) where
 
   loaded_runs : (scope : Scope) (level name : ℕ) (index : Term) (s : State) (vs : Variables) (after : Operand → Run)
       → free_level scope ≤ level → Sees scope s.registers vs → Runs scope (level + 1) index vs
-      → HasAt code s.place (address_code scope level name index ++ instruction.Load (register_at level (Integer (element_of scope name))) (register_at level (kind_named scope name)) ∷ [])
-      → Follows given code bound level s (s.place + length (address_code scope level name index ++ instruction.Load (register_at level (Integer (element_of scope name))) (register_at level (kind_named scope name)) ∷ []))
-      (register_at level (Integer (element_of scope name))) after
+      → HasAt code s.place (address_code scope level name index ++ instruction.Load (register_at level (Integer (type_of_elements scope name))) (register_at level (kind_named scope name)) ∷ [])
+      → Follows given code bound level s (s.place + length (address_code scope level name index ++ instruction.Load (register_at level (Integer (type_of_elements scope name))) (register_at level (kind_named scope name)) ∷ []))
+      (register_at level (Integer (type_of_elements scope name))) after
       → Agree given code bound s (known name (look vs name) (λ p. eval given.here index vs (λ i. moved p i (λ q. load q after))))
   loaded_runs scope level name index s vs after free same index_runs has go =
       let kind = kind_named scope name in
       let to = register_at level kind in
       let before = address_code scope level name index in
-      let end : List Instruction = instruction.Load (register_at level (Integer (element_of scope name))) to ∷ [] in
+      let end : List Instruction = instruction.Load (register_at level (Integer (type_of_elements scope name))) to ∷ [] in
       let middle = s.place + length before in
       element_runs scope level name index s middle vs (λ q. load q after) free same index_runs (has_left code before end s.place has) refl
       (λ p now r held.
       let here = has_right code before end s.place now.place (sym r.at) has in
-      load_runs given code bound bound now after (register_at level (Integer (element_of scope name))) to (Pointed p) (omega arith) here.0 held
-      (last level (Integer (element_of scope name)) s middle now _ after r (omega (arith, length-append before end)) go))
+      load_runs given code bound bound now after (register_at level (Integer (type_of_elements scope name))) to (Pointed p) (omega arith) here.0 held
+      (last level (Integer (type_of_elements scope name)) s middle now _ after r (omega (arith, length-append before end)) go))
 
   either_runs : (scope : Scope) (level name : ℕ) (index : Term) (s : State) (vs : Variables) (after : Operand → Run)
-      → free_level scope ≤ level → Sees scope s.registers vs → Runs scope level index vs → Runs scope (level + 1) index vs → (b : Bool) → is_array scope.variables name ≡ b
-      → HasAt code s.place (if b then expr_code scope level index ++ private_load scope (register_at level (Integer (element_of scope name))) name (register_for scope level index) ∷ []
-      else address_code scope level name index ++ instruction.Load (register_at level (Integer (element_of scope name))) (register_at level (kind_named scope name)) ∷ [])
-      → Follows given code bound level s (s.place + length (if b then expr_code scope level index ++ private_load scope (register_at level (Integer (element_of scope name))) name (register_for scope level index) ∷ []
-      else address_code scope level name index ++ instruction.Load (register_at level (Integer (element_of scope name))) (register_at level (kind_named scope name)) ∷ []))
-      (register_at level (Integer (element_of scope name))) after
+      → free_level scope ≤ level → Sees scope s.registers vs → Runs scope level index vs → Runs scope (level + 1) index vs → (b : Bool) → is_private_array scope.variables name ≡ b
+      → HasAt code s.place (if b then expr_code scope level index ++ private_load scope (register_at level (Integer (type_of_elements scope name))) name (register_for scope level index) ∷ []
+      else address_code scope level name index ++ instruction.Load (register_at level (Integer (type_of_elements scope name))) (register_at level (kind_named scope name)) ∷ [])
+      → Follows given code bound level s (s.place + length (if b then expr_code scope level index ++ private_load scope (register_at level (Integer (type_of_elements scope name))) name (register_for scope level index) ∷ []
+      else address_code scope level name index ++ instruction.Load (register_at level (Integer (type_of_elements scope name))) (register_at level (kind_named scope name)) ∷ []))
+      (register_at level (Integer (type_of_elements scope name))) after
       → Agree given code bound s (if b then eval given.here index vs (λ i. load_element vs name i after)
       else known name (look vs name) (λ p. eval given.here index vs (λ i. moved p i (λ q. load q after))))
   either_runs scope level name index s vs after free same index_runs higher_runs true is has go = array_runs scope level name index s vs after free same is index_runs has go
@@ -365,7 +365,7 @@ module _ (given : Given) (code : List Instruction) (bound : ℕ) where
         else known name (look vs name) (λ p. eval given.here index vs (λ i. moved p i (λ q. load q after))))) (array_seen scope s.registers name vs same)
         (either_runs scope level name index s vs after free same
         (λ now next seen_now there follows. expr_runs scope level index now vs next free seen_now there follows)
-        (λ now next seen_now there follows. expr_runs scope (level + 1) index now vs next (omega (arith, free)) seen_now there follows) (is_array scope.variables name) refl has go)
+        (λ now next seen_now there follows. expr_runs scope (level + 1) index now vs next (omega (arith, free)) seen_now there follows) (is_private_array scope.variables name) refl has go)
     expr_runs scope level (tree.Dereference at pointer) s vs after free same has go =
         let kind = kind_of scope (tree.Dereference at pointer) in
         let inner = expr_code scope level pointer in
@@ -457,7 +457,7 @@ module _ (given : Given) (code : List Instruction) (bound : ℕ) where
       else known name (look vs name) (λ p. eval given.here index vs (λ i. moved p i (λ q. after (Through q)))))) (array_seen scope s.registers name vs same)
       (part_runs scope level name index s vs after free same
       (λ now next seen_now there follows. expr_runs scope level index now vs next free seen_now there follows)
-      (λ now next seen_now there follows. expr_runs scope (level + 1) index now vs next (omega (arith, free)) seen_now there follows) (is_array scope.variables name) has go)
+      (λ now next seen_now there follows. expr_runs scope (level + 1) index now vs next (omega (arith, free)) seen_now there follows) (is_private_array scope.variables name) has go)
   place_runs scope level (tree.Behind at pointer) s vs after free same has go =
       let kind = kind_of scope pointer in
       let inner = expr_code scope level pointer in

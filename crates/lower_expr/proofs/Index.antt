@@ -2,7 +2,7 @@
 use Rattle.std.proofs.Common.{◌≡◌, ℕ, zero, suc, ◌+◌, ◌-◌, ◌<◌, ◌==◌, Bool, true, false, Option, None, Some, List, [], ◌∷◌, length, drop, replicate, reverse, get_or, nat_lt, refl, sym, ap, ◌∙◌, subst, arith, unwrap_or, lt-ltb}
 use Rattle.std.proofs.lemmas.List.{get_or-reverse, length-reverse, reverse-reverse, length-map}
 use Rattle.clnum.specs.declared.int_type.IntType.TheVariants.{Int}
-use Rattle.clmodel.specs.Next.{Variables, declared_type, elements_of, has_elements, is_array}
+use Rattle.clmodel.specs.Next.{Variables, declared_type, elements_of, has_elements, is_private_array}
 use Rattle.clmodel.specs.declared.tree.VariableType.{VariableType}
 use Rattle.clmodel.specs.declared.tree.VariableType.TheVariants.{Integer}
 use Rattle.lower_expr.specs.Scope.{register_at, register_in, level_in, last_place}
@@ -119,7 +119,7 @@ level_absent base (variable ∷ vs) name h =
     let c = absent_case (name == variable.name) (last_place vs name) (length vs) h in
     ap (λ b. elim b as (λ _. ℕ) [ true ↦ base + length vs | false ↦ level_in base vs name ]) c.0 ∙ level_absent base vs name c.1
 
-pub array_absent : (vs : Variables) (name : ℕ) → last_place vs name ≡ None → is_array vs name ≡ false
+pub array_absent : (vs : Variables) (name : ℕ) → last_place vs name ≡ None → is_private_array vs name ≡ false
 array_absent [] name h = refl
 array_absent (variable ∷ vs) name h =
     let c = absent_case (name == variable.name) (last_place vs name) (length vs) h in

@@ -6,13 +6,13 @@ use Rattle.clnum.specs.Operations.{unary_kind}
 use Rattle.clnum.specs.declared.int_type.IntType.{IntType}
 use Rattle.clnum.specs.declared.int_type.IntType.TheVariants.{Char, Uchar, Short, Ushort, Int, Uint, Long, Ulong}
 use Rattle.clmodel.specs.BuiltIns.{built_in}
-use Rattle.clmodel.specs.Next.{Binding, Variables, look, declared_type, elements_of, has_elements, is_array, type_of, argument_type, base_type, call_type, infix_type}
+use Rattle.clmodel.specs.Next.{Binding, Variables, look, declared_type, elements_of, has_elements, is_private_array, type_of, argument_type, base_type, call_type, infix_type}
 use Rattle.clmodel.specs.Tree as tree
 use Rattle.clmodel.specs.Tree.{Term, Terms, NoTerm, ThenTerm}
 use Rattle.clmodel.specs.declared.operand.Operand.{Operand}
 use Rattle.clmodel.specs.declared.tree.VariableType.{VariableType}
 use Rattle.clmodel.specs.declared.tree.VariableType.TheVariants.{Integer, Pointer}
-use Rattle.regcode.specs.Machine.{State, Registers, item_at, reg, array_of, with_put, passed, onward}
+use Rattle.regcode.specs.Machine.{State, Registers, entry_at, reg, array_of, with_put, passed, onward}
 use Rattle.regcode.specs.declared.instruction.Instruction.{Instruction}
 use Rattle.regcode.proofs.Registers.{reg_kept}
 use Rattle.lower_expr.specs.Scope.{Scope, integer_number, kind_number, register_at, register_in, level_in, level_of, seen_elements, view, arrays_in, Sees, free_level}
@@ -106,7 +106,7 @@ sees_kept scope before after variables h k e =
 pub seen_kept : (scope : Scope) (level : ℕ) (s : State) (place : ℕ) (now : State) (variables : Variables) → free_level scope ≤ level → Reached level s place now
     → Sees scope s.registers variables → Sees scope now.registers variables
 seen_kept scope level s place now variables h r e =
-    sees_kept scope s.registers now.registers variables (λ i b. r.kept i (omega (arith, h, b))) (λ a b. ap (λ arrays. item_at [] arrays a) r.arrays) e
+    sees_kept scope s.registers now.registers variables (λ i b. r.kept i (omega (arith, h, b))) (λ a b. ap (λ arrays. entry_at [] arrays a) r.arrays) e
 
 -- the elements of the private array of a name, as they are seen
 elements_in : (base : ℕ) (variables : Variables) (registers : Registers) (name : ℕ)
@@ -124,7 +124,7 @@ elements_in base (variable ∷ variables) registers name =
 
 -- a name is that of a private array, whether as it was declared or as it is seen
 array_in : (base : ℕ) (variables : Variables) (registers : Registers) (name : ℕ) → arrays_in (view base variables registers) ≡ arrays_in variables
-    → is_array (view base variables registers) name ≡ is_array variables name
+    → is_private_array (view base variables registers) name ≡ is_private_array variables name
 array_in base [] registers name h = refl
 array_in base (variable ∷ variables) registers name h =
     array_case (seen_elements variable.elements (array_of registers (base + length variables))) variable.elements (elements_of (view base variables registers) name) (elements_of variables name)
@@ -135,15 +135,15 @@ array_in base (variable ∷ variables) registers name h =
     array_case now own other rest true h k = h
     array_case now own other rest false h k = k
 
-pub array_seen : (scope : Scope) (registers : Registers) (name : ℕ) (variables : Variables) → Sees scope registers variables → is_array scope.variables name ≡ is_array variables name
-array_seen scope registers name variables e = sym (array_in scope.base scope.variables registers name e.arrays) ∙ ap (λ vs. is_array vs name) e.same
+pub array_seen : (scope : Scope) (registers : Registers) (name : ℕ) (variables : Variables) → Sees scope registers variables → is_private_array scope.variables name ≡ is_private_array variables name
+array_seen scope registers name variables e = sym (array_in scope.base scope.variables registers name e.arrays) ∙ ap (λ vs. is_private_array vs name) e.same
 
 -- such an array has the elements of its level
 pub array_held : (own held : List (Option ℕ)) → has_elements own ≡ true → held ≡ seen_elements own held
 array_held [] held h = absurd (false≢true h)
 array_held (element ∷ own) held h = refl
 
-pub elements_seen : (scope : Scope) (registers : Registers) (name : ℕ) (variables : Variables) → is_array scope.variables name ≡ true → Sees scope registers variables
+pub elements_seen : (scope : Scope) (registers : Registers) (name : ℕ) (variables : Variables) → is_private_array scope.variables name ≡ true → Sees scope registers variables
     → array_of registers (level_of scope name) ≡ elements_of variables name
 elements_seen scope registers name variables is e =
     array_held (elements_of scope.variables name) (array_of registers (level_of scope name)) is

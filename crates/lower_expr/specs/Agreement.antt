@@ -1,6 +1,6 @@
 -- That code acts as a run does (own).
 use Rattle.std.specs.Prelude.{◌≡◌, ℕ, ◌+◌, ◌*◌, ◌<◌, Bool, true, false, Some, List, [], ◌∷◌, slice_get}
-use Rattle.clmodel.specs.Next.{Run, is_array}
+use Rattle.clmodel.specs.Next.{Run, is_private_array}
 use Rattle.clmodel.specs.Next.Expressions.{Destination, Named, ElementOf, Through}
 use Rattle.clmodel.specs.Tree.{Place, Whole, Part, Behind}
 use Rattle.clmodel.specs.declared.operand.Operand.{Operand}
@@ -43,7 +43,7 @@ HoldsPart false registers register name to = HoldsPointer registers register to
 
 abbrev pub HoldsPlace : Scope → Registers → ℕ → Place → Destination → Type 0
 HoldsPlace scope registers register (Whole at name) to = to ≡ Named name
-HoldsPlace scope registers register (Part at name index) to = HoldsPart (is_array scope.variables name) registers register name to
+HoldsPlace scope registers register (Part at name index) to = HoldsPart (is_private_array scope.variables name) registers register name to
 HoldsPlace scope registers register (Behind at pointer) to = HoldsPointer registers register to
 
 -- The code agrees with what follows a value, where the value is in a register at a place; with what follows values; and with what follows a destination.

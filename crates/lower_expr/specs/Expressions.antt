@@ -4,7 +4,7 @@ use Rattle.std.specs.Prelude.{ℕ, ◌+◌, true, false, if◌then◌else◌, Op
 use Rattle.clnum.specs.Operations.{truth}
 use Rattle.clnum.specs.declared.int_type.IntType.{IntType}
 use Rattle.clmodel.specs.BuiltIns.{built_in}
-use Rattle.clmodel.specs.Next.{type_of, declared_type, base_type, is_array}
+use Rattle.clmodel.specs.Next.{type_of, declared_type, base_type, is_private_array}
 use Rattle.clmodel.specs.Tree.{Term, Number, Variable, Element, ElementAddress, Dereference, Call, Unary, Cast, Binary, Choice, Terms, NoTerm, ThenTerm, Place, Whole, Part, Behind}
 use Rattle.clmodel.specs.declared.setup.BuiltIn.{BuiltIn}
 use Rattle.clmodel.specs.declared.setup.BuiltIn.TheVariants as built_in_function
@@ -38,16 +38,16 @@ abbrev pub element_code : ℕ → Option ℕ → ℕ → List Instruction → �
 element_code to from name index index_register = variable_code to from name ++ (index ++ instruction.Offset to to index_register ∷ [])
 
 -- the type of the elements of the array of a name
-abbrev pub element_of : Scope → ℕ → IntType
-element_of scope name = base_type (kind_named scope name)
+abbrev pub type_of_elements : Scope → ℕ → IntType
+type_of_elements scope name = base_type (kind_named scope name)
 
 -- an element of the private array of a name, by its index
 abbrev pub private_load : Scope → (to name index : ℕ) → Instruction
-private_load scope to name index = instruction.PrivateLoad to (level_of scope name) index (element_of scope name) name
+private_load scope to name index = instruction.PrivateLoad to (level_of scope name) index (type_of_elements scope name) name
 
 -- such an element is set
 abbrev pub private_store : Scope → (name index value : ℕ) → Instruction
-private_store scope name index value = instruction.PrivateStore (level_of scope name) index value (element_of scope name) name
+private_store scope name index value = instruction.PrivateStore (level_of scope name) index value (type_of_elements scope name) name
 
 -- the int 1, or the int 0 where it is jumped to the last of these
 abbrev pub truth_code : ℕ → List Instruction
@@ -97,10 +97,10 @@ abbrev mutual
   expr_code scope level (Number at value) = instruction.Constant (register_at level (Integer value.kind)) value ∷ []
   expr_code scope level (Variable at name) = variable_code (register_at level (kind_named scope name)) (register_of scope name) name
   expr_code scope level (Element at name index) =
-      if is_array scope.variables name
-      then expr_code scope level index ++ private_load scope (register_at level (Integer (element_of scope name))) name (register_for scope level index) ∷ []
+      if is_private_array scope.variables name
+      then expr_code scope level index ++ private_load scope (register_at level (Integer (type_of_elements scope name))) name (register_for scope level index) ∷ []
       else element_code (register_at level (kind_named scope name)) (register_of scope name) name (expr_code scope (level + 1) index) (register_for scope (level + 1) index)
-      ++ instruction.Load (register_at level (Integer (element_of scope name))) (register_at level (kind_named scope name)) ∷ []
+      ++ instruction.Load (register_at level (Integer (type_of_elements scope name))) (register_at level (kind_named scope name)) ∷ []
   expr_code scope level (ElementAddress at name_at name index) =
       element_code (register_at level (kind_named scope name)) (register_of scope name) name (expr_code scope (level + 1) index) (register_for scope (level + 1) index)
   expr_code scope level (Dereference at pointer) =
@@ -133,20 +133,20 @@ address_code scope level name index =
 abbrev pub place_code : Scope → ℕ → Place → List Instruction
 place_code scope level (Whole at name) = []
 place_code scope level (Part at name index) =
-    if is_array scope.variables name then expr_code scope level index else address_code scope level name index
+    if is_private_array scope.variables name then expr_code scope level index else address_code scope level name index
 place_code scope level (Behind at pointer) = expr_code scope level pointer ++ instruction.Point (register_for scope level pointer) (register_for scope level pointer) ∷ []
 
 -- which of them it is, and its type
 abbrev pub place_kind : Scope → Place → TargetKind
 place_kind scope (Whole at name) = target.Variable
-place_kind scope (Part at name index) = if is_array scope.variables name then target.Index (kind_of scope index) else target.Pointer (kind_named scope name)
+place_kind scope (Part at name index) = if is_private_array scope.variables name then target.Index (kind_of scope index) else target.Pointer (kind_named scope name)
 place_kind scope (Behind at pointer) = target.Pointer (kind_of scope pointer)
 
 -- where it is left
 abbrev pub place_register : Scope → ℕ → Place → ℕ
 place_register scope level (Whole at name) = 0
 place_register scope level (Part at name index) =
-    if is_array scope.variables name then register_for scope level index else register_at level (kind_named scope name)
+    if is_private_array scope.variables name then register_for scope level index else register_at level (kind_named scope name)
 place_register scope level (Behind at pointer) = register_for scope level pointer
 
 -- what stands before the right operand, with its jump still to be set

@@ -35,7 +35,7 @@ pub fn emit_expression(
         Expression::Number { value, .. } => number(level, *value, code),
         Expression::Variable { name, .. } => variable(scope, level, *name, code),
         Expression::Element { name, index, .. } => {
-            if scope.is_array(*name) {
+            if scope.is_private_array(*name) {
                 let index = emit_expression(scope, level, index, code)?;
                 return array_element(scope, level, *name, index, code);
             }
@@ -170,7 +170,7 @@ pub fn emit_target(
     match target {
         Target::Variable { .. } => Ok(TargetKind::Variable),
         Target::Element { name, index, .. } => {
-            if scope.is_array(*name) {
+            if scope.is_private_array(*name) {
                 let index = emit_expression(scope, level, index, code)?;
                 return Ok(TargetKind::Index(index));
             }

@@ -230,8 +230,8 @@ impl Scope {
     }
 
     /// Whether the innermost variable of a name is a private array.
-    pub fn is_array(&self, name: u32) -> bool
-        ensures { result ≡ next.is_array self.now.variables name }
+    pub fn is_private_array(&self, name: u32) -> bool
+        ensures { result ≡ next.is_private_array self.now.variables name }
     {
         match self.place(name) {
             Some(place) => self.entries[place].variable.elements > 0,

@@ -140,8 +140,8 @@ pub fn array_element(
     code: &mut Vec<Instruction>,
 ) -> Result<VariableType, AllocError>
     ensures code { IfOk result (λ kind. code.new.items ≡ code.old.items
-        ++ expressions.private_load scope.now (register_at level (kinds.Integer (expressions.element_of scope.now name))) name (register_at level index) ∷ []) }
-    ensures kind { IfOk result (λ kind. kind ≡ kinds.Integer (expressions.element_of scope.now name)) }
+        ++ expressions.private_load scope.now (register_at level (kinds.Integer (expressions.type_of_elements scope.now name))) name (register_at level index) ∷ []) }
+    ensures kind { IfOk result (λ kind. kind ≡ kinds.Integer (expressions.type_of_elements scope.now name)) }
 {
     let kind = VariableType::Integer(base_type(scope.kind(name)));
     let to = register_at(level, kind)?;

@@ -99,7 +99,10 @@ fn an_element_of_an_array(rt: HostRuntime) -> Result<(), Fail> {
     };
     let mut code = Vec::new(alloc);
     let kind = emit_target(&scope, 5, &target, &mut code)?;
-    assert_eq!(rt; kind, TargetKind::Index(VariableType::Integer(IntType::Char)));
+    assert_eq!(rt;
+        kind,
+        TargetKind::Index(VariableType::Integer(IntType::Char))
+    );
     let kind = emit_expression(&scope, 6, &read, &mut code)?;
     assert_eq!(rt; kind, VariableType::Integer(IntType::Short));
     private_store(&scope, ARRAY, 80, 98, &mut code)?;

@@ -1,13 +1,13 @@
 -- What is assigned to, by its name and by what is left for it.
 use Rattle.std.proofs.Common.{◌≡◌, ℕ, Bool, true, false, cond, List, [], ◌∷◌, ap, ap₂, refl, sym, ◌∙◌}
-use Rattle.clmodel.specs.Next.{base_type, is_array}
+use Rattle.clmodel.specs.Next.{base_type, is_private_array}
 use Rattle.clmodel.specs.Tree.{Place, Whole, Part, Behind}
 use Rattle.clmodel.specs.declared.tree.VariableType.{VariableType}
 use Rattle.clmodel.specs.declared.tree.VariableType.TheVariants.{Integer}
 use Rattle.regcode.specs.declared.instruction.Instruction.{Instruction}
 use Rattle.regcode.specs.declared.instruction.Instruction.TheVariants as instruction
 use Rattle.lower_expr.specs.Scope.{Scope, register_at, register_of}
-use Rattle.lower_expr.specs.Expressions.{kind_of, kind_named, element_of, private_load, private_store, variable_code, place_kind, place_register}
+use Rattle.lower_expr.specs.Expressions.{kind_of, kind_named, type_of_elements, private_load, private_store, variable_code, place_kind, place_register}
 use Rattle.lower_expr.specs.declared.emission.TargetKind.{TargetKind}
 use Rattle.lower_expr.specs.declared.emission.TargetKind.TheVariants as target
 use Rattle.lower_place.specs.Places.{place_type, fetch_code, put_code, hold_code}
@@ -17,7 +17,7 @@ use Rattle.lower_place.specs.declared.destinations.Destination.{Destination}
 -- the type of what is assigned to
 abbrev pub target_type : Scope → ℕ → TargetKind → VariableType
 target_type scope name target.Variable = kind_named scope name
-target_type scope name (target.Index index) = Integer (element_of scope name)
+target_type scope name (target.Index index) = Integer (type_of_elements scope name)
 target_type scope name (target.Pointer pointer) = Integer (base_type pointer)
 
 -- the value that is there
@@ -34,9 +34,9 @@ target_put scope name (target.Pointer pointer) level from = instruction.Store (r
 
 type_of_place : (scope : Scope) (to : Place) → target_type scope (place_name to) (place_kind scope to) ≡ place_type scope to
 type_of_place scope (Whole at name) = refl
-type_of_place scope (Part at name index) = part (is_array scope.variables name)
+type_of_place scope (Part at name index) = part (is_private_array scope.variables name)
   where
-    part : (b : Bool) → target_type scope name (cond b (target.Index (kind_of scope index)) (target.Pointer (kind_named scope name))) ≡ Integer (element_of scope name)
+    part : (b : Bool) → target_type scope name (cond b (target.Index (kind_of scope index)) (target.Pointer (kind_named scope name))) ≡ Integer (type_of_elements scope name)
     part true = refl
     part false = refl
 type_of_place scope (Behind at pointer) = refl
@@ -44,7 +44,7 @@ type_of_place scope (Behind at pointer) = refl
 fetch_of_place : (scope : Scope) (to : Place) (level register : ℕ)
     → target_fetch scope (place_name to) (place_kind scope to) level register ≡ fetch_code scope to (place_register scope level to) register
 fetch_of_place scope (Whole at name) level register = refl
-fetch_of_place scope (Part at name index) level register = part (is_array scope.variables name)
+fetch_of_place scope (Part at name index) level register = part (is_private_array scope.variables name)
   where
     part : (b : Bool) → target_fetch scope name (cond b (target.Index (kind_of scope index)) (target.Pointer (kind_named scope name))) level register
         ≡ cond b (private_load scope register name (cond b (register_at level (kind_of scope index)) (register_at level (kind_named scope name))) ∷ [])
@@ -56,7 +56,7 @@ fetch_of_place scope (Behind at pointer) level register = refl
 put_of_place : (scope : Scope) (to : Place) (level register : ℕ)
     → target_put scope (place_name to) (place_kind scope to) level register ≡ put_code scope to (place_register scope level to) register
 put_of_place scope (Whole at name) level register = refl
-put_of_place scope (Part at name index) level register = part (is_array scope.variables name)
+put_of_place scope (Part at name index) level register = part (is_private_array scope.variables name)
   where
     part : (b : Bool) → target_put scope name (cond b (target.Index (kind_of scope index)) (target.Pointer (kind_named scope name))) level register
         ≡ cond b (private_store scope name (cond b (register_at level (kind_of scope index)) (register_at level (kind_named scope name))) register ∷ [])

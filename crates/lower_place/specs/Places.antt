@@ -1,7 +1,7 @@
 -- The register code of what is assigned to (own).
 use Rattle.std.specs.Prelude.{ℕ, ◌+◌, Option, None, Some, List, [], ◌∷◌, if◌then◌else◌}
 use Rattle.clnum.specs.declared.operators.BinaryOperator.{BinaryOperator}
-use Rattle.clmodel.specs.Next.{is_array, base_type, infix_type}
+use Rattle.clmodel.specs.Next.{is_private_array, base_type, infix_type}
 use Rattle.clmodel.specs.Tree.{Place, Whole, Part, Behind}
 use Rattle.clmodel.specs.declared.tree.InfixOperator.TheVariants.{Arithmetic}
 use Rattle.clmodel.specs.declared.tree.VariableType.{VariableType}
@@ -9,7 +9,7 @@ use Rattle.clmodel.specs.declared.tree.VariableType.TheVariants.{Integer}
 use Rattle.regcode.specs.declared.instruction.Instruction.{Instruction}
 use Rattle.regcode.specs.declared.instruction.Instruction.TheVariants as instruction
 use Rattle.lower_expr.specs.Scope.{Scope, register_at, register_of}
-use Rattle.lower_expr.specs.Expressions.{kind_of, kind_named, element_of, private_load, private_store, variable_code, place_register}
+use Rattle.lower_expr.specs.Expressions.{kind_of, kind_named, type_of_elements, private_load, private_store, variable_code, place_register}
 
 -- a variable is given a register's value; where there is none of the name, the value is only asked for
 abbrev pub hold_code : Option ℕ → ℕ → VariableType → List Instruction
@@ -19,21 +19,21 @@ hold_code (Some to) from kind = instruction.Hold to from kind ∷ []
 -- the type of what is assigned to
 abbrev pub place_type : Scope → Place → VariableType
 place_type scope (Whole at name) = kind_named scope name
-place_type scope (Part at name index) = Integer (element_of scope name)
+place_type scope (Part at name index) = Integer (type_of_elements scope name)
 place_type scope (Behind at pointer) = Integer (base_type (kind_of scope pointer))
 
 -- The value that is there, by the register of its index in a private array or of the pointer to it.
 abbrev pub fetch_code : Scope → Place → ℕ → ℕ → List Instruction
 fetch_code scope (Whole at name) reached to = variable_code to (register_of scope name) name
 fetch_code scope (Part at name index) reached to =
-    if is_array scope.variables name then private_load scope to name reached ∷ [] else instruction.Load to reached ∷ []
+    if is_private_array scope.variables name then private_load scope to name reached ∷ [] else instruction.Load to reached ∷ []
 fetch_code scope (Behind at term) reached to = instruction.Load to reached ∷ []
 
 -- a register's value is put there
 abbrev pub put_code : Scope → Place → ℕ → ℕ → List Instruction
 put_code scope (Whole at name) reached from = hold_code (register_of scope name) from (kind_named scope name)
 put_code scope (Part at name index) reached from =
-    if is_array scope.variables name then private_store scope name reached from ∷ [] else instruction.Store reached from ∷ []
+    if is_private_array scope.variables name then private_store scope name reached from ∷ [] else instruction.Store reached from ∷ []
 put_code scope (Behind at term) reached from = instruction.Store reached from ∷ []
 
 -- an operator on what is there and on a right operand, both of which are at hand, and its value is put there

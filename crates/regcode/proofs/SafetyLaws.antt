@@ -28,7 +28,7 @@ use Rattle.clmodel.specs.declared.setup.AtomicFunction.{AtomicFunction}
 use Rattle.clmodel.specs.declared.tree.VariableType.{VariableType}
 use Rattle.clmodel.specs.declared.tree.VariableType.TheVariants as variable_type
 use Rattle.regcode.specs.Listing.{Listing}
-use Rattle.regcode.specs.Machine.{State, Given, Registers, reg, put, item_at, act, filled, with_put, with_array, with_turns, passed, onward, argument_at}
+use Rattle.regcode.specs.Machine.{State, Given, Registers, reg, put, entry_at, act, filled, with_put, with_array, with_turns, passed, onward, argument_at}
 use Rattle.regcode.specs.Rules.{IsVerified, Fits, Goes, Takes, Leads, kind_at, loops_at, kind_of, held_kind, number_kind, common_kind, changed_kind, combined_kind, of_one_kind, of_two_kind, offset_kind, loaded_kind, is_integer, is_pointer, is_atomic, is_turn}
 use Rattle.regcode.specs.Safety.{Suits, operand_kind, MayEnd, GoesOn, ended, failed, on_at, after_at, asked, ticked, IsNext, NeverSticks}
 use Rattle.regcode.specs.declared.instruction.Instruction.{Instruction}
@@ -392,7 +392,7 @@ module _ (code : Listing) (s : State) (suits : Suits code s) where
     does instruction.End fits goes = ended (inl refl)
 
 -- no register has a value at the start
-unset_at_start : (count r : ℕ) → item_at {A = Option Operand} None (replicate count None) r ≡ None
+unset_at_start : (count r : ℕ) → entry_at {A = Option Operand} None (replicate count None) r ≡ None
 unset_at_start zero r = refl
 unset_at_start (suc count) zero = refl
 unset_at_start (suc count) (suc r) = unset_at_start count r

@@ -115,8 +115,8 @@ has_elements [] = false
 has_elements (element ∷ elements) = true
 
 -- whether the innermost variable of a name is a private array, and has elements; a local array is a pointer here (6.5.2), and so it isn't one
-abbrev pub is_array : Variables → ℕ → Bool
-is_array variables name = has_elements (elements_of variables name)
+abbrev pub is_private_array : Variables → ℕ → Bool
+is_private_array variables name = has_elements (elements_of variables name)
 
 -- the private array of a name has other elements
 abbrev pub with_elements : Variables → ℕ → List (Option ℕ) → Variables
@@ -368,7 +368,7 @@ abbrev mutual
   eval here (Number at value) variables after = after (Integral value)
   eval here (Variable at name) variables after = known name (look variables name) after
   eval here (Element at name index) variables after =
-      if is_array variables name
+      if is_private_array variables name
       then eval here index variables (λ i. load_element variables name i after)
       else known name (look variables name) (λ p. eval here index variables (λ i. moved p i (λ q. load q after)))
   eval here (ElementAddress at name_at name index) variables after =
@@ -394,7 +394,7 @@ abbrev mutual
 abbrev pub reach : Here → Place → Variables → (Destination → Run) → Run
 reach here (Whole at name) variables after = after (Named name)
 reach here (Part at name index) variables after =
-    if is_array variables name
+    if is_private_array variables name
     then eval here index variables (λ i. after (ElementOf name i))
     else known name (look variables name) (λ p. eval here index variables (λ i. moved p i (λ q. after (Through q))))
 reach here (Behind at pointer) variables after = eval here pointer variables (λ p. pointing p (λ q. after (Through q)))

@@ -7,7 +7,7 @@ pub returns-in-Some : goal.returns-in-Some
 returns-in-Some c =
     subst (λ n. IfOk c.level_at.result (λ level. level ≡ n))
     (ap (λ (s : Scope). s.base + c.in-Some.place) c.self.view_is
-        ∙ sym (level_found c.args.self.now.base c.args.self.now.variables c.args.name c.in-Some.place (sym c.place.ensures ∙ c.in-Some.is)))
+    ∙ sym (level_found c.args.self.now.base c.args.self.now.variables c.args.name c.in-Some.place (sym c.place.ensures ∙ c.in-Some.is)))
     c.level_at.ensures
 
 pub returns-in-None : goal.returns-in-None
