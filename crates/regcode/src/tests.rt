@@ -177,6 +177,55 @@ fn values(rt: HostRuntime) -> Result<(), Fail> {
     Ok(())
 }
 
+/// A local object and a private array.
+fn holding(alloc: Global) -> Result<Vec<Instruction>, AllocError> {
+    Ok(vec![in alloc;
+        Instruction::Local {
+            to: 2,
+            number: 1,
+            element: IntType::Int
+        },
+        Instruction::UnsetArray {
+            array: 0,
+            length: 4
+        },
+        Instruction::PrivateStore {
+            array: 0,
+            index: 3,
+            value: 1,
+            element: IntType::Short,
+            name: 5
+        },
+        Instruction::PrivateLoad {
+            to: 0,
+            array: 0,
+            index: 1,
+            element: IntType::Int,
+            name: 5
+        },
+        Instruction::End,
+    ]?)
+}
+
+#[test]
+fn arrays(rt: HostRuntime) -> Result<(), Fail> {
+    let alloc = rt.alloc();
+    let code = verify(holding(alloc)?, tables(alloc, vec![in alloc; 0; 5]?)?)?;
+    let (answer, written) = dumped(alloc, &code, 1000);
+    assert_eq!(rt; answer, Ok(()));
+    assert_eq!(rt;
+        written.as_slice(),
+        b"0 local r2, 1, int
+1 unset_array 0, 4
+2 private_store a0[r3], r1, short
+3 private_load r0, a0[r1], int
+4 end
+"
+            .as_slice()
+    );
+    Ok(())
+}
+
 /// Accesses, and a loop with a barrier.
 fn going(alloc: Global) -> Result<Vec<Instruction>, AllocError> {
     Ok(vec![in alloc;
