@@ -1,5 +1,5 @@
 -- The places of the accesses of a key, once one is added, and what a walk along them tells.
-use Rattle.std.proofs.Common.{◌≡◌, ℕ, zero, suc, ◌+◌, ◌*◌, ◌-◌, ◌/◌, ◌%◌, ◌<◌, ◌≤◌, ◌⊎◌, Bool, true, false, nat_eq, nat_lt, ◌&&◌, if◌then◌else◌, Option, None, Some, List, [], ◌∷◌, ◌++◌, length, take, drop, refl, sym, ap, ◌∙◌, subst, inl, inr, arith, ltb-true, ltb-false, eqb-true}
+use Rattle.std.proofs.Common.{◌≡◌, ℕ, zero, suc, ◌+◌, ◌*◌, ◌-◌, ◌/◌, ◌%◌, ◌<◌, ◌≤◌, ◌⊎◌, true, false, nat_eq, nat_lt, None, Some, List, [], ◌∷◌, ◌++◌, length, take, drop, refl, sym, ap, ◌∙◌, subst, inl, inr, arith, ltb-true, ltb-false, eqb-true}
 use Rattle.std.specs.Prelude.{slice_get}
 use Rattle.std.specs.Option.{unwrap_or}
 use Rattle.std.specs.HashMap.{HashMap, get, IsUnchanged}
@@ -110,9 +110,9 @@ indexed_push log x newest new before after i below at own others =
         decided (nat_eq (key_of x) h)
         (λ t. let k : key_of x ≡ h = eqb-true (key_of x) h t in chain_ends log x h (new h) (sym (ap new k) ∙ own) k)
         (λ t.
-          subst (λ p. IsChained (log ++ x ∷ []) h p (length (log ++ x ∷ [])) (λ j y. ⊥)) (sym (others h t))
-          (chain_grows log x h (newest h) (length log) (length (log ++ x ∷ [])) (λ j y. ⊥) (λ j y. ⊥) (omega arith) (omega (arith, length-append log (x ∷ [])))
-          (i.newest_is h) (λ j y a. a) (eqb-false (key_of x) h t)))
+        subst (λ p. IsChained (log ++ x ∷ []) h p (length (log ++ x ∷ [])) (λ j y. ⊥)) (sym (others h t))
+        (chain_grows log x h (newest h) (length log) (length (log ++ x ∷ [])) (λ j y. ⊥) (λ j y. ⊥) (omega arith) (omega (arith, length-append log (x ∷ [])))
+        (i.newest_is h) (λ j y a. a) (eqb-false (key_of x) h t)))
 
     before_is : (k p : ℕ) (y : Entry) → slice_get after k ≡ Some p → (slice_get log k ≡ Some y) ⊎ ((k ≡ length log) × (x ≡ y))
         → IsChained (log ++ x ∷ []) (key_of y) p k (λ j z. k ≤ j)
@@ -215,9 +215,9 @@ clear_near x log from low high a b h = clear true x (drop from log) (λ byte. re
     passed byte j y e o =
         decided (same_region y.access.region x.access.region)
         (λ s.
-          decided (nat_lt cell low) (λ t. apart true y.access x.access byte (inr (omega (arith, a, ltb-true cell low t, short y.access.width))))
-          (λ t. decided (nat_lt high cell) (λ u. apart true y.access x.access byte (inl (omega (arith, b, ltb-true high cell u))))
-            (λ u. h cell (ltb-false cell low t) (omega (arith, ltb-false high cell u)) j y e o (ap (λ m. cell * 8 + m) (one_mark y.access.region x.access.region s)) byte)))
+        decided (nat_lt cell low) (λ t. apart true y.access x.access byte (inr (omega (arith, a, ltb-true cell low t, short y.access.width))))
+        (λ t. decided (nat_lt high cell) (λ u. apart true y.access x.access byte (inl (omega (arith, b, ltb-true high cell u))))
+        (λ u. h cell (ltb-false cell low t) (omega (arith, ltb-false high cell u)) j y e o (ap (λ m. cell * 8 + m) (one_mark y.access.region x.access.region s)) byte)))
         (other_region true y.access x.access byte)
       where
         cell : ℕ

@@ -1,8 +1,5 @@
-use Rattle.std.proofs.Common.{◌≡◌, ◌+◌, ◌-◌, ◌<◌, ◌≤◌, ◌/◌, ◌⊎◌, ℕ, Some, nat_lt, sym, ap, ◌∙◌, inl, inr, arith, ltb-true, ltb-false}
-use Rattle.std.specs.Prelude.{slice_get}
-use Rattle.clmodel.specs.Cells.{byte_count}
-use Rattle.shadow_list.specs.Index.{key, key_of, Passes}
-use Rattle.shadow_list.specs.declared.log.Entry.{Entry}
+use Rattle.std.proofs.Common.{◌≡◌, ◌+◌, ◌-◌, ◌/◌, nat_lt, sym, ap, ◌∙◌, arith, ltb-true, ltb-false}
+use Rattle.shadow_list.specs.Index.{key}
 use Rattle.shadow_list.proofs.Chains.{clear_near}
 use Rattle.shadow_list.proofs.Hits.{decided}
 use Rattle.shadow_list.proofs.index.is_clear.Goals as goal
@@ -11,8 +8,8 @@ pub loop-cell-preserved : goal.loop-cell-preserved
 loop-cell-preserved c cell a b j y e o k =
     decided (nat_lt cell c.loop-cell.cell) (λ t. c.loop-cell.invariant cell a (ltb-true cell c.loop-cell.cell t) j y e o k)
     (λ t.
-      let same : cell ≡ c.loop-cell.cell = omega (arith, b, ltb-false cell c.loop-cell.cell t) in
-      c.meets_in.ensures.clear c.if-meets_in.false j y e o (k ∙ ap (key c.args.x.now.access.region) same ∙ sym c.key.ensures))
+    let same : cell ≡ c.loop-cell.cell = omega (arith, b, ltb-false cell c.loop-cell.cell t) in
+    c.meets_in.ensures.clear c.if-meets_in.false j y e o (k ∙ ap (key c.args.x.now.access.region) same ∙ sym c.key.ensures))
 
 pub returns : goal.returns
 returns c h =

@@ -1,4 +1,4 @@
-use Rattle.std.proofs.Common.{◌≡◌, ◌/◌, ap, sym, ◌∙◌}
+use Rattle.std.proofs.Common.{◌/◌, ap, sym, ◌∙◌}
 use Rattle.clmodel.specs.declared.access.Access.{Access}
 use Rattle.shadow_list.specs.Index.{key}
 use Rattle.shadow_list.proofs.Chains.{rest_new}

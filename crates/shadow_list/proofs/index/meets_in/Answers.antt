@@ -1,5 +1,4 @@
-use Rattle.std.proofs.Common.{◌≡◌, ◌+◌, ◌-◌, ◌<◌, ◌≤◌, ℕ, Some, get_or, length, refl, sym, ap, ◌∙◌, arith}
-use Rattle.std.specs.Prelude.{slice_get}
+use Rattle.std.proofs.Common.{◌-◌, ◌<◌, ◌≤◌, get_or, length, refl, arith}
 use Rattle.std.proofs.lemmas.Option.{slice_get-get_or, slice_get_read}
 use Rattle.shadow_list.specs.Index.{key_of, newest_of, IsChained, Passes}
 use Rattle.shadow_list.specs.declared.log.Entry.{Entry}
@@ -34,6 +33,6 @@ loop-place-smaller c =
     let y : Entry = get_or log (place - 1) c.args.x.now in
     let back : IsChained log (key_of y) p (place - 1) (λ j z. place - 1 ≤ j)
     = c.requires.indexed.before_is (place - 1) p y
-      (slice_get_read before (length before) (place - 1) p refl (omega (arith, inside, c.requires.indexed.long)) c.index-place.ensures)
-      (slice_get-get_or log (place - 1) c.args.x.now inside) in
+    (slice_get_read before (length before) (place - 1) p refl (omega (arith, inside, c.requires.indexed.long)) c.index-place.ensures)
+    (slice_get-get_or log (place - 1) c.args.x.now inside) in
     omega (arith, back.within, c.loop-place-test.true)

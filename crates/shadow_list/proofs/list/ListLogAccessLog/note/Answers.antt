@@ -1,6 +1,5 @@
 use Rattle.std.proofs.Common.{◌+◌, true, false, List, [], ◌∷◌, ◌++◌, refl, sym, ap, ◌∙◌, subst, inl, inr, ℕ}
 use Rattle.std.specs.Prelude.{is_ok, drop}
-use Rattle.clmodel.specs.Run.{by_region}
 use Rattle.shadow_list.specs.Log.{stamped, logged}
 use Rattle.shadow_list.specs.Past.{IsBefore}
 use Rattle.shadow_list.specs.declared.list.ListLog.{ListLog}
