@@ -16,7 +16,9 @@ use std::alloc::{AllocError, Global};
 /// before, in objects whose numbers are equal up to multiples of 8, and only with those made since the last barrier that fenced
 /// its address space. So an access costs a few look-ups in a hash table and as many steps as there are such entries: many only
 /// where many work-items access the same few bytes without a barrier. Where one of them may conflict, all entries since the
-/// barrier are walked for the exact answer, which ends a launch where there is a conflict.
+/// barrier are walked for the exact answer, which ends a launch where there is a conflict. 100,000 accesses without a barrier
+/// take some hundredths of a second where each has its own place, and half a second where 250 work-items load the same 400
+/// elements of four bytes. The index takes 8 bytes for each entry, and some tens for each cell.
 #[derive(Debug, Drop)]
 pub struct ListLog {
     entries: Vec<Entry>,
