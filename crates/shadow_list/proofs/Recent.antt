@@ -58,11 +58,6 @@ still_there x (suc n) [] h t = elim t [ ]
 still_there x (suc n) (y ∷ log) h (inl e) = absurd (not_same x y (All-head (IsPast x) y (take n log) h) e)
 still_there x (suc n) (y ∷ log) h (inr t) = still_there x n log (All-tail (IsPast x) y (take n log) h) t
 
-there_in_all : (x : Access) (n : ℕ) (log : List Entry) → IsThere (drop n log) x → IsThere log x
-there_in_all x zero log t = t
-there_in_all x (suc n) [] t = elim t [ ]
-there_in_all x (suc n) (y ∷ log) t = inr (there_in_all x n log t)
-
 -- A walk through the rest of a log for an access that is the kept one.
 pub record Walk (e x : Entry) (n : ℕ) (log rest : List Entry) : Type 0 where
   pub kept : e ≡ x
@@ -72,9 +67,8 @@ pub record Walk (e x : Entry) (n : ℕ) (log rest : List Entry) : Type 0 where
 pub walk_finds : (e x : Entry) (n : ℕ) (log rest : List Entry) → Walk e x n log rest → hit true e rest ≡ hit true x log
 walk_finds e x n log rest w = ap (λ y. hit true y rest) w.kept ∙ ap (hit true x) w.rest_is ∙ sym (same_hit x n log w.past)
 
-pub walk_sees : (e x : Entry) (n : ℕ) (log rest : List Entry) → Walk e x n log rest → IsThere rest e.access → IsThere log x.access
-walk_sees e x n log rest w t =
-    there_in_all x.access n log (subst (λ l. IsThere l x.access) w.rest_is (subst (λ (y : Entry). IsThere rest y.access) w.kept t))
+pub walk_sees : (e x : Entry) (n : ℕ) (log rest : List Entry) → Walk e x n log rest → (all : List Entry) → all ≡ log → IsThere all e.access → IsThere log x.access
+walk_sees e x n log rest w all a t = subst (λ (y : Entry). IsThere log y.access) w.kept (subst (λ l. IsThere l e.access) a t)
 
 pub walk_misses : (e x : Entry) (n : ℕ) (log rest : List Entry) → Walk e x n log rest → IsThere log x.access → IsThere rest e.access
 walk_misses e x n log rest w t =

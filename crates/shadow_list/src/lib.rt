@@ -2,6 +2,7 @@
 #![tactic(auto)]
 
 mod compare;
+mod index;
 pub mod list;
 pub mod log;
 mod search;

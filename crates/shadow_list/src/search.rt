@@ -2,7 +2,7 @@
 
 ghost use Rattle.std.specs.Prelude.{◌≡◌, ◌+◌, ◌<◌, ◌^◌, ℕ, false, None, All, IsTrue};
 ghost use Rattle.clmodel.specs.Cells.{byte_count};
-ghost use Rattle.shadow_list.specs.Log.{IsPlaced, IsThere, hit_on, hit_from, hit};
+ghost use Rattle.shadow_list.specs.Log.{IsPlaced, hit_on, hit_from, hit};
 
 use crate::compare::{byte_count, hit_between, may_conflict};
 use crate::log::{Entry, Hit};
@@ -53,22 +53,9 @@ pub fn hit(one_group: bool, x: &Entry, log: &[Entry]) -> Option<Hit>
 }
 
 /// Whether two accesses are equal.
-fn is_same(x: &Access, y: &Access) -> bool
+pub(crate) fn is_same(x: &Access, y: &Access) -> bool
     ensures same { IsTrue result → x.now ≡ y.now }
     ensures other { result ≡ false → x.now ≡ y.now → ⊥ }
 {
     x == y
-}
-
-/// Whether an access is in a log.
-pub fn is_there(log: &[Entry], access: &Access) -> bool
-    ensures there { IsTrue result → IsThere log.now access.now }
-    ensures new { result ≡ false → IsThere log.now access.now → ⊥ }
-{
-    for y in log {
-        if is_same(&y.access, access) {
-            return true;
-        }
-    }
-    false
 }

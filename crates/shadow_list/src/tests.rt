@@ -80,6 +80,33 @@ fn a_fence_orders_accesses_of_its_address_space(rt: HostRuntime) {
 }
 
 #[test]
+fn accesses_conflict_across_cells(rt: HostRuntime) {
+    let mut log = ListLog::new(rt.alloc());
+    let store = AccessKind::Store;
+    assert_eq!(rt; noted(&rt, &mut log, entry(0, 6, store, 0)), None);
+    assert_eq!(rt; noted(&rt, &mut log, entry(0, 20, store, 1)), None);
+    assert_eq!(rt; noted(&rt, &mut log, entry(1, 10, store, 2)), None);
+    assert_eq!(rt;
+        noted(&rt, &mut log, entry(1, 9, store, 3)),
+        Some((9, Clash::Race))
+    );
+    assert_eq!(rt;
+        noted(&rt, &mut log, entry(1, 17, store, 4)),
+        Some((20, Clash::Race))
+    );
+    assert_eq!(rt;
+        noted(&rt, &mut log, entry(1, 6, store, 5)),
+        Some((6, Clash::Race))
+    );
+    assert_eq!(rt; log.len(), 6);
+    assert_eq!(rt;
+        noted(&rt, &mut log, entry(1, 6, store, 6)),
+        Some((6, Clash::Race))
+    );
+    assert_eq!(rt; log.len(), 6);
+}
+
+#[test]
 fn groups_conflict_on_buffers(rt: HostRuntime) {
     let mut one = ListLog::new(rt.alloc());
     let mut two = ListLog::new(rt.alloc());

@@ -1,6 +1,5 @@
 use Rattle.std.proofs.Common.{◌+◌, true, false, List, [], ◌∷◌, ◌++◌, refl, sym, ap, ◌∙◌, subst, inl, inr, ℕ}
-use Rattle.std.specs.Prelude.{is_ok}
-use Rattle.clmodel.specs.Run.{by_region}
+use Rattle.std.specs.Prelude.{is_ok, drop}
 use Rattle.shadow_list.specs.Log.{stamped, logged}
 use Rattle.shadow_list.specs.Past.{IsBefore}
 use Rattle.shadow_list.specs.declared.list.ListLog.{ListLog}
@@ -12,48 +11,44 @@ use Rattle.shadow_list.proofs.list.ListLogAccessLog.note.Goals as goal
 abbrev kept : ListLog → Entry → Entry
 kept l x = stamped (logged l.entries.items l.local_interval l.global_interval) x
 
--- from where on the log is walked
-abbrev start : ListLog → Entry → ℕ
-start l x = by_region x.access.region l.global_first l.local_first
-
 pub invariant_of-self-clause-local_made : goal.invariant_of-self-clause-local_made
 invariant_of-self-clause-local_made c =
     let l : ListLog = c.args.self.now in
     let P : Entry → Type 0 = IsBefore false (l.local_interval + 1) in
-    all_pushed P l.entries.items c.push.new.self.items c.stamped-entry.result (is_ok c.push.result) c.push.ensures.items l.local_made
+    all_pushed P l.entries.items c.keep.new.log.items c.stamped-entry.result (is_ok c.keep.result) c.keep.ensures.items l.local_made
     (subst P (sym c.stamped-entry.ensures) (local_before c.args.entry.access.region l.global_interval l.local_interval))
 
 pub invariant_of-self-clause-global_made : goal.invariant_of-self-clause-global_made
 invariant_of-self-clause-global_made c =
     let l : ListLog = c.args.self.now in
     let P : Entry → Type 0 = IsBefore true (l.global_interval + 1) in
-    all_pushed P l.entries.items c.push.new.self.items c.stamped-entry.result (is_ok c.push.result) c.push.ensures.items l.global_made
+    all_pushed P l.entries.items c.keep.new.log.items c.stamped-entry.result (is_ok c.keep.result) c.keep.ensures.items l.global_made
     (subst P (sym c.stamped-entry.ensures) (global_before c.args.entry.access.region l.global_interval l.local_interval))
 
 pub invariant_of-self-clause-local_past : goal.invariant_of-self-clause-local_past
 invariant_of-self-clause-local_past c =
     let l : ListLog = c.args.self.now in
-    front_pushed (IsBefore false l.local_interval) l.local_first l.entries.items c.push.new.self.items c.stamped-entry.result (is_ok c.push.result)
-    c.push.ensures.items l.local_start l.local_past
+    front_pushed (IsBefore false l.local_interval) l.local_first l.entries.items c.keep.new.log.items c.stamped-entry.result (is_ok c.keep.result)
+    c.keep.ensures.items l.local_start l.local_past
 
 pub invariant_of-self-clause-global_past : goal.invariant_of-self-clause-global_past
 invariant_of-self-clause-global_past c =
     let l : ListLog = c.args.self.now in
-    front_pushed (IsBefore true l.global_interval) l.global_first l.entries.items c.push.new.self.items c.stamped-entry.result (is_ok c.push.result)
-    c.push.ensures.items l.global_start l.global_past
+    front_pushed (IsBefore true l.global_interval) l.global_first l.entries.items c.keep.new.log.items c.stamped-entry.result (is_ok c.keep.result)
+    c.keep.ensures.items l.global_start l.global_past
 
-pub returns-in_ok-push : goal.returns-in_ok-push
-returns-in_ok-push c =
+pub returns-in_ok-keep : goal.returns-in_ok-keep
+returns-in_ok-keep c =
     let l : ListLog = c.args.self.now in
     let x : Entry = kept l c.args.entry in
-    let n : ℕ = start l c.args.entry in
+    let n : ℕ = c.first-from.result in
     let e : Entry = c.stamped-entry.result in
-    let rest : List Entry = c.recent-recent.result.now in
-    let w : Walk e x n l.entries.items rest = record { kept = c.stamped-entry.ensures; rest_is = c.recent-recent.ensures.rest; past = c.recent-recent.ensures.past } in (
-      c.hit-found.ensures ∙ walk_finds e x n l.entries.items rest w,
+    let rest : List Entry = drop n c.as_slice-log.result.now in
+    let w : Walk e x n l.entries.items rest = record { kept = c.stamped-entry.ensures; rest_is = ap (drop n) c.as_slice-log.ensures.value; past = c.first-from.ensures.past } in (
+      c.hit_from-found.ensures ∙ walk_finds e x n l.entries.items rest w,
       inr (
         λ t. c.is_there.ensures.new c.if-not-is_there.true (walk_misses e x n l.entries.items rest w t),
-        c.in_ok-push.ensures.items ∙ ap (λ (y : Entry). l.entries.items ++ y ∷ []) c.stamped-entry.ensures,
+        c.in_ok-keep.ensures.items ∙ ap (λ (y : Entry). l.entries.items ++ y ∷ []) c.stamped-entry.ensures,
       ),
       refl,
       refl,
@@ -63,12 +58,12 @@ pub returns-else-not-is_there : goal.returns-else-not-is_there
 returns-else-not-is_there c =
     let l : ListLog = c.args.self.now in
     let x : Entry = kept l c.args.entry in
-    let n : ℕ = start l c.args.entry in
+    let n : ℕ = c.first-from.result in
     let e : Entry = c.stamped-entry.result in
-    let rest : List Entry = c.recent-recent.result.now in
-    let w : Walk e x n l.entries.items rest = record { kept = c.stamped-entry.ensures; rest_is = c.recent-recent.ensures.rest; past = c.recent-recent.ensures.past } in (
-      c.hit-found.ensures ∙ walk_finds e x n l.entries.items rest w,
-      inl (walk_sees e x n l.entries.items rest w (c.is_there.ensures.there c.if-not-is_there.false), refl),
+    let rest : List Entry = drop n c.as_slice-log.result.now in
+    let w : Walk e x n l.entries.items rest = record { kept = c.stamped-entry.ensures; rest_is = ap (drop n) c.as_slice-log.ensures.value; past = c.first-from.ensures.past } in (
+      c.hit_from-found.ensures ∙ walk_finds e x n l.entries.items rest w,
+      inl (walk_sees e x n l.entries.items rest w c.as_slice-log.result.now c.as_slice-log.ensures.value (c.is_there.ensures.there c.if-not-is_there.false), refl),
       refl,
       refl,
     )
