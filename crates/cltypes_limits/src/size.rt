@@ -33,11 +33,7 @@ pub fn array_length(length: Value) -> u64
     ensures { result ≡ array_length length }
 {
     let number = length.number();
-    if number < 0 {
-        0
-    } else {
-        number as u64
-    }
+    if number < 0 { 0 } else { number as u64 }
 }
 
 /// How many bytes an array has (OpenCL 1.2, section 6.1.1), up to one more than a kernel's private arrays may have.

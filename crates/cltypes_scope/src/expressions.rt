@@ -13,8 +13,7 @@ ghost use Rattle.cltypes_scope.specs.Views.{spot_of, operand_of, arguments_of};
 
 use crate::faults::{
     Arguments, Operand, Spot, argument_fault, call_fault, choice_fault, element_address_fault,
-    element_fault,
-    integer_fault, lesser, name_fault, operand_fault, pointer_fault, wanted,
+    element_fault, integer_fault, lesser, name_fault, operand_fault, pointer_fault, wanted,
 };
 use crate::flags::flags_fault;
 use crate::kinds::{
@@ -99,11 +98,7 @@ fn check_element(
         Err(fault) => Err(fault),
         Ok(index) => {
             let meaning = meaning_among(names, name);
-            checked(
-                element_fault(meaning, at, index),
-                front_kind(meaning),
-                at,
-            )
+            checked(element_fault(meaning, at, index), front_kind(meaning), at)
         }
     }
 }
