@@ -9,7 +9,7 @@ use std::alloc::{AllocError, Global};
 use std::test::Fail;
 
 /// `int FREE[length];`, or with `__local` before it: the name at 64, the length at 69
-fn array(is_local: bool, length: i128) -> Statement {
+fn array(is_local: bool, length: u16) -> Statement {
     Statement::DeclareArray {
         at: 50,
         is_local,
@@ -17,7 +17,7 @@ fn array(is_local: bool, length: i128) -> Statement {
         name_at: 64,
         name: FREE,
         length_at: 69,
-        length: Value::new(IntType::Int, length),
+        length: Value::new(IntType::Int, i128::from(length)),
     }
 }
 
