@@ -6,7 +6,7 @@ use Rattle.clmodel.specs.Tree.{Program}
 use Rattle.clmodel.specs.declared.setup.Argument.{Argument}
 use Rattle.clmodel.specs.declared.tree.Parameter.{Parameter}
 use Rattle.device_store.specs.Kernels.{KernelState, parameters_of, suits, with_argument}
-use Rattle.device_store.specs.Tables.{is}
+use Rattle.spaces_base.specs.Tables.{is}
 use Rattle.device_store.specs.declared.command.Command.TheVariants as command
 use Rattle.device_store.specs.declared.command.Refusal.{Refusal}
 use Rattle.device_store.specs.declared.command.Refusal.TheVariants.{NoSuchName, BadArgument}

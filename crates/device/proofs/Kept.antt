@@ -8,7 +8,7 @@ use Rattle.clmodel.specs.Tree.{program}
 use Rattle.clmodel.specs.declared.setup.Argument.{Argument}
 use Rattle.cltypes.specs.declared.checked.Checked.{Checked}
 use Rattle.device_store.specs.Kernels.{KernelState, names_kernel, with_argument, no_kernel}
-use Rattle.device_store.specs.Tables.{Table, is, find}
+use Rattle.spaces_base.specs.Tables.{Table, is, find}
 use Rattle.device.specs.Kept.{is_in, all_in}
 
 -- what is found passes where all do

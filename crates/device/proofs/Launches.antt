@@ -11,7 +11,7 @@ use Rattle.clmodel.specs.declared.outcome.Outcome.{Outcome}
 use Rattle.clmodel.specs.declared.outcome.Outcome.TheVariants.{Clean, Faulted}
 use Rattle.clmodel.specs.declared.schedule.Run.{Run}
 use Rattle.clmodel.specs.declared.setup.Range.{Range}
-use Rattle.device_store.specs.Tables.{with_values}
+use Rattle.spaces_base.specs.Tables.{with_values}
 use Rattle.device_store.specs.declared.command.Command.TheVariants as command
 use Rattle.device_store.specs.declared.command.Refusal.{Refusal}
 use Rattle.device_store.specs.declared.command.Reply.TheVariants as reply

@@ -4,7 +4,7 @@ use Rattle.std.specs.Option.{option_map}
 use Rattle.std.specs.Map.{lookup}
 use Rattle.clmodel.specs.Tree.{program}
 use Rattle.cltypes.specs.declared.checked.Checked.{Checked}
-use Rattle.device_store.specs.Tables.{is, find}
+use Rattle.spaces_base.specs.Tables.{is, find}
 
 -- what is found among values that are seen otherwise is what is found, seen so
 pub find_mapped : {K A B : Type 0} (f : A → B) (test : K → Bool) (es : List (K × A)) → lookup test (map (λ e. (e.0, f e.1)) es) ≡ option_map f (lookup test es)

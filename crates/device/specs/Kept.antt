@@ -5,7 +5,7 @@ use Rattle.std.specs.Option.{option_map_or}
 use Rattle.clmodel.specs.Tree.{program}
 use Rattle.cltypes.specs.declared.checked.Checked.{Checked}
 use Rattle.device_store.specs.Kernels.{KernelState, names_kernel}
-use Rattle.device_store.specs.Tables.{Table, find}
+use Rattle.spaces_base.specs.Tables.{Table, find}
 
 -- a kernel's program is there and has its function, as a kernel
 abbrev pub is_in : Table Checked → KernelState → Bool

@@ -14,11 +14,11 @@ use Rattle.clmodel.specs.Tree.{Program, NoFunc, program}
 use Rattle.clmodel.specs.declared.setup.Argument.{Argument}
 use Rattle.clmodel.specs.declared.setup.Argument.TheVariants as argument
 use Rattle.clmodel.specs.declared.setup.Range.{Range}
-use Rattle.device_store.specs.Buffers.{bytes_in, with_bytes}
+use Rattle.spaces_base.specs.Buffers.{bytes_in, with_bytes}
 use Rattle.device_store.specs.Builds.{Builds}
 use Rattle.device_store.specs.Kernels.{KernelState, kernel_number, parameters_of, with_argument, new_kernel, no_kernel, suits}
 use Rattle.device_store.specs.Ranges.{is_bad_dimension, is_bad_group, is_too_many}
-use Rattle.device_store.specs.Tables.{Table, is, find, with_values}
+use Rattle.spaces_base.specs.Tables.{Table, is, find, with_values}
 use Rattle.device_store.specs.declared.command.BuildFault.{BuildFault}
 use Rattle.device_store.specs.declared.command.Command.{Command}
 use Rattle.device_store.specs.declared.command.Command.TheVariants as command

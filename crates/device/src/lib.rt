@@ -5,7 +5,7 @@ ghost use Rattle.std.specs.Prelude.{◌≡◌, ◌&&◌, IfOk, IfErr, IfSome, On
 ghost use Rattle.std.specs.Option.{option_map};
 ghost use Rattle.clmodel.specs.Tree.{program};
 ghost use Rattle.device_store.specs.Kernels.{names_kernel};
-ghost use Rattle.device_store.specs.Tables.{find};
+ghost use Rattle.spaces_base.specs.Tables.{find};
 ghost use Rattle.device.specs.Kept.{all_in};
 ghost use Rattle.device_store.specs.Ranges.{IsLaunchable};
 
@@ -22,11 +22,12 @@ use clmodel::text::{Bytes, Name};
 use cltypes::Checked;
 use device_store::build::build;
 pub use device_store::command::{BuildFault, Command, Refusal, Reply};
-use device_store::kernel::{Kernel, kernel_number, parameters_of, suits};
+use device_store::kernel::{Kernel, kernel_number, parameters_of, set_argument, suits};
 use device_store::ranges::{is_bad_dimension, is_bad_group, is_too_many};
-pub use device_store::table::Table;
 use item_step::is_local_too_large;
 pub use prepared::Prepared;
+pub use spaces_base::Buffers;
+use spaces_base::Table;
 use std::alloc::{AllocError, Global};
 
 /// The most buffers that a device has.
@@ -40,7 +41,7 @@ const MAX_SIZE: u64 = 1048576;
 pub struct Device {
     alloc: Global,
     budget: u32,
-    buffers: Table<Bytes>,
+    buffers: Buffers,
     programs: Table<Checked>,
     kernels: Table<Kernel>,
     ghost kept: { all_in programs kernels ≡ true },
@@ -59,14 +60,14 @@ impl Device {
         Device {
             alloc,
             budget,
-            buffers: Table::new(alloc),
+            buffers: Buffers::new(alloc),
             programs: Table::new(alloc),
             kernels: Table::new(alloc),
         }
     }
 
     /// The buffers with their bytes.
-    pub fn buffers(&self) -> &Table<Bytes>
+    pub fn buffers(&self) -> &Buffers
         ensures { result.now ≡ (machine_of self.now).buffers }
     {
         &self.buffers
@@ -214,7 +215,7 @@ impl Device {
         if !self.is_there(&argument) {
             return Reply::Refused(Refusal::NoSuchName);
         }
-        self.kernels.set_argument(name, index as usize, argument);
+        set_argument(&mut self.kernels, name, index as usize, argument);
         Reply::Done
     }
 

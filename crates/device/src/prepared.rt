@@ -6,7 +6,7 @@ ghost use Rattle.item_step.specs.Setups.{plain};
 ghost use Rattle.clmodel.specs.Tree.{program};
 ghost use Rattle.device_store.specs.Ranges.{IsLaunchable};
 ghost use Rattle.device_store.specs.Kernels.{names_kernel};
-ghost use Rattle.device_store.specs.Buffers.{bytes_in};
+ghost use Rattle.spaces_base.specs.Buffers.{bytes_in};
 ghost use Rattle.lower.specs.Lowers.{IsLowered};
 
 use clmodel::outcome::Outcome;
@@ -15,7 +15,7 @@ use clmodel::text::{Bytes, Name};
 use cltypes::Checked;
 use device_store::kernel::Kernel;
 use device_store::ranges::group_items;
-use device_store::table::Table;
+use spaces_base::Buffers;
 use item_step::{Launch, Setup};
 use lower::{LowerFault, lower_kernel};
 use regcode::Code;
@@ -51,7 +51,7 @@ fn copies(alloc: Global, names: &[Name]) -> Result<Vec<Name>, AllocError>
 }
 
 /// A copy of what a buffer holds, of nothing where there is no such buffer.
-fn copy_of_bytes(alloc: Global, buffers: &Table<Bytes>, name: &Name) -> Result<Bytes, AllocError>
+fn copy_of_bytes(alloc: Global, buffers: &Buffers, name: &Name) -> Result<Bytes, AllocError>
     ensures { IfOk result (λ bytes. bytes ≡ bytes_in buffers.now name.now) }
 {
     match buffers.get(name) {
@@ -61,7 +61,7 @@ fn copy_of_bytes(alloc: Global, buffers: &Table<Bytes>, name: &Name) -> Result<B
 }
 
 /// Copies of what the buffers of these names hold.
-fn contents(alloc: Global, buffers: &Table<Bytes>, names: &[Name]) -> Result<Vec<Bytes>, AllocError>
+fn contents(alloc: Global, buffers: &Buffers, names: &[Name]) -> Result<Vec<Bytes>, AllocError>
     ensures { IfOk result (λ contents. contents.items ≡ map (bytes_in buffers.now) names.now) }
 {
     let mut contents = Vec::new(alloc);
@@ -102,7 +102,7 @@ impl Prepared<'_> {
     pub(crate) fn run(
         &self,
         alloc: Global,
-        buffers: &Table<Bytes>,
+        buffers: &Buffers,
         range: &Range,
     ) -> Result<Launched, AllocError>
         requires { IsLaunchable range.now }

@@ -1,4 +1,4 @@
-pub mod Tables
 pub mod Sizes
 pub mod Functions
 pub mod Numbers
+pub mod Kernels

@@ -7,14 +7,14 @@ ghost use Rattle.std.specs.Map.{set_value};
 ghost use Rattle.std.specs.Option.{option_map, unwrap_or};
 ghost use Rattle.clmodel.specs.Tree.{program, func, then_funcs, NoFunc};
 ghost use Rattle.clmodel.specs.Setup.{kernel_in};
-ghost use Rattle.device_store.specs.Tables.{is, find};
+ghost use Rattle.spaces_base.specs.Tables.{is, find};
 ghost use Rattle.device_store.specs.Kernels.{kernel_number, names_kernel, parameters_of, with_argument, new_kernel, no_kernel, is_in_range, suits};
 
-use crate::table::Table;
 use clmodel::setup::Argument;
 use clmodel::text::Name;
 use clmodel::tree::{AddressSpace, Function, Parameter, Tree, VariableType};
 use clnum::{IntType, Value};
+use spaces_base::Table;
 use std::alloc::{AllocError, Global};
 use std::marker::Model;
 
@@ -103,15 +103,14 @@ impl Kernel {
     }
 }
 
-impl Table<Kernel> {
-    #[tactic(auto, using(crate::proofs::Tables::unreplaced))]
-    /// Sets the argument of an index of the kernel of a name, if there are such a kernel and such a parameter.
-    pub fn set_argument(&mut self, name: &Name, index: usize, argument: Argument)
-        ensures { self.new ≡ set_value (is name.now) self.old (with_argument (unwrap_or (find self.old name.now) no_kernel) index argument) }
-    {
-        if let Some(kernel) = self.map.get_mut(name) {
-            kernel.set_argument(index, argument);
-        }
+/// Sets the argument of an index of the kernel of a name, over an earlier one, if there are such a kernel and such a parameter
+/// (OpenCL 1.2, section 5.7.2).
+#[tactic(auto, using(crate::proofs::Kernels::unreplaced))]
+pub fn set_argument(kernels: &mut Table<Kernel>, name: &Name, index: usize, argument: Argument)
+    ensures { kernels.new ≡ set_value (is name.now) kernels.old (with_argument (unwrap_or (find kernels.old name.now) no_kernel) index argument) }
+{
+    if let Some(kernel) = kernels.get_mut(name) {
+        kernel.set_argument(index, argument);
     }
 }
 

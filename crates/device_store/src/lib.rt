@@ -1,9 +1,7 @@
 //! What a device keeps: names with buffers, programs and kernels, and the commands, replies and refusals of a host.
 #![tactic(auto)]
 
-pub mod buffers;
 pub mod build;
 pub mod command;
 pub mod kernel;
 pub mod ranges;
-pub mod table;

@@ -6,7 +6,7 @@ use clmodel::type_fault::TypeFault;
 use clsyntax::{lex, parse};
 use device_store::build::build;
 use device_store::command::BuildFault;
-use device_store::table::Table;
+use spaces_base::Table;
 use item_state::context::group_counts;
 use std::test::Fail;
 

@@ -1,5 +1,5 @@
 use Rattle.std.proofs.Common.{ap, sym, ◌∙◌}
-use Rattle.device_store.specs.Tables.{find}
+use Rattle.spaces_base.specs.Tables.{find}
 use Rattle.device.proofs.Kept.{kernel_is_named}
 use Rattle.device.proofs.Device.kernel.Goals as goal
 

@@ -1,5 +1,5 @@
 use Rattle.std.proofs.Common.{◌≡◌, take, map}
-use Rattle.device_store.specs.Buffers.{bytes_in}
+use Rattle.spaces_base.specs.Buffers.{bytes_in}
 use Rattle.device.proofs.prepared.contents.Given as goal
 
 abbrev pub invariant-loop-name : goal.invariant-loop-name

@@ -2,7 +2,7 @@ use Rattle.std.proofs.Common.{◌≡◌, ap, ◌∙◌, map}
 use Rattle.clmodel.specs.Setup.{Setup, buffer_names}
 use Rattle.item_step.specs.Launches.{setup_of}
 use Rattle.device.specs.Prepared.{prepared_setup}
-use Rattle.device_store.specs.Buffers.{bytes_in}
+use Rattle.spaces_base.specs.Buffers.{bytes_in}
 use Rattle.device.proofs.Runs.{one_group, concluded}
 use Rattle.device.proofs.prepared.Prepared.run.Goals as goal
 

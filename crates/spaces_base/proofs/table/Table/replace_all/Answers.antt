@@ -1,8 +1,8 @@
 use Rattle.std.proofs.Common.{[], ◌∷◌, ◌++◌, ◌∙◌, ap, sym, append_assoc, append-nil}
 use Rattle.std.specs.Vec.Iter.{into_iter_items}
-use Rattle.device_store.specs.Tables.{with_values}
-use Rattle.device_store.proofs.Tables.{replaced, place_after, place_kept, kept, none_left}
-use Rattle.device_store.proofs.table.Table.replace_all.Goals as goal
+use Rattle.spaces_base.specs.Tables.{with_values}
+use Rattle.spaces_base.proofs.Tables.{replaced, place_after, place_kept, kept, none_left}
+use Rattle.spaces_base.proofs.table.Table.replace_all.Goals as goal
 
 pub loop-value-preserved-then-place-names : goal.loop-value-preserved-then-place-names
 loop-value-preserved-then-place-names g c = (

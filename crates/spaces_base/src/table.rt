@@ -3,8 +3,10 @@
 
 ghost use Rattle.std.specs.Prelude.{◌≡◌, ◌∷◌, [], ◌++◌, None, length, OnOk, OnErr};
 ghost use Rattle.std.specs.Map.{set_value};
-ghost use Rattle.std.specs.Option.{option_map};
-ghost use Rattle.device_store.specs.Tables.{is, find, with_values};
+ghost use Rattle.std.specs.Option.{option_map, option_copied_mut};
+ghost use Rattle.std.specs.Borrow.{sem, LendsIf};
+ghost use Rattle.spaces_base.specs.Tables.{is, find, with_values};
+ghost use Rattle.spaces_base.specs.contracts.table.Table.{the_row};
 
 use clmodel::text::Name;
 use indexmap::IndexMap;
@@ -47,6 +49,14 @@ impl<T: Drop> Table<T> {
         ensures { option_map (λ a. a.now) result ≡ find self.now name.now }
     {
         self.map.get(name)
+    }
+
+    /// What has the name, to change.
+    pub fn get_mut(&mut self, name: &Name) -> Option<&mut T>
+        ensures* writes_back { sem 𝓛 (LendsIf (the_row T.row) T.row self.entry result (λ w. set_value (is name.now) self.old w) self.old) }
+        ensures value { option_copied_mut result ≡ find self.old name.now }
+    {
+        self.map.get_mut(name)
     }
 
     #[tactic(auto, using(crate::proofs::Tables::added))]

@@ -3,7 +3,7 @@ use Rattle.std.proofs.Common.{◌≡◌, ℕ, Bool, true, false, cond, nat_eq, L
 use Rattle.std.specs.Map.{set_value}
 use Rattle.indexmap.specs.IndexMap.{insert_entry}
 use Rattle.std.specs.Cmp.Lexicographic.{pointwise}
-use Rattle.device_store.specs.Tables.{is, find, with_values}
+use Rattle.spaces_base.specs.Tables.{is, find, with_values}
 
 -- a name that isn't there goes last
 pub added : {A : Type 0} (es : List (List ℕ × A)) (name : List ℕ) (a : A) → find es name ≡ None → insert_entry (pointwise nat_eq) es name a ≡ es ++ (name, a) ∷ []

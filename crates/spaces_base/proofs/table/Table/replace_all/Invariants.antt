@@ -1,7 +1,7 @@
 use Rattle.std.proofs.Common.{◌≡◌, ◌++◌, length, min}
 use Rattle.std.specs.Vec.Iter.{into_iter_items}
-use Rattle.device_store.specs.Tables.{with_values}
-use Rattle.device_store.proofs.table.Table.replace_all.Given as goal
+use Rattle.spaces_base.specs.Tables.{with_values}
+use Rattle.spaces_base.proofs.table.Table.replace_all.Given as goal
 
 abbrev pub invariant-loop-value : goal.invariant-loop-value
 invariant-loop-value g l =

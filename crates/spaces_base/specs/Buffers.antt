@@ -1,7 +1,7 @@
 -- Buffers by their names (OpenCL 1.2, 5.2).
 use Rattle.std.specs.Prelude.{ℕ, ◌+◌, List, [], ◌++◌, length, take, drop}
 use Rattle.std.specs.Option.{unwrap_or}
-use Rattle.device_store.specs.Tables.{Table, find}
+use Rattle.spaces_base.specs.Tables.{Table, find}
 
 -- the bytes of a buffer, none where there is no such buffer
 abbrev pub bytes_in : Table (List ℕ) → List ℕ → List ℕ
