@@ -15,11 +15,11 @@ use clmodel::text::{Bytes, Name};
 use cltypes::Checked;
 use device_store::kernel::Kernel;
 use device_store::ranges::group_items;
-use spaces_base::Buffers;
 use item_step::{Launch, Setup};
 use lower::{LowerFault, lower_kernel};
 use regcode::Code;
 use snapshot_merge::run_launch;
+use spaces_base::Buffers;
 use std::alloc::{AllocError, Global};
 
 /// A kernel that may be launched, with its program.

@@ -75,7 +75,7 @@ impl<T: Drop> Table<T> {
     pub fn replace(&mut self, name: &Name, value: T)
         ensures { self.new ≡ set_value (is name.now) self.old value }
     {
-        if let Some(place) = self.map.get_mut(name) {
+        if let Some(place) = self.get_mut(name) {
             *place = value;
         }
     }
