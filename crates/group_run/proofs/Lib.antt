@@ -7,4 +7,3 @@ pub mod Memory
 pub mod Stepping
 pub mod Items
 pub mod Starting
-pub mod Examples

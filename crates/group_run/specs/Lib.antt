@@ -4,4 +4,3 @@ pub mod Runs
 pub mod Fits
 pub mod Logs
 pub mod Results
-pub mod Examples

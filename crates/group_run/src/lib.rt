@@ -11,8 +11,6 @@ mod result;
 mod runnable;
 mod running;
 mod runs;
-#[cfg(test)]
-mod tests;
 mod words;
 
 pub use describing::Described;

@@ -4,8 +4,6 @@
 mod launch;
 mod local_objects;
 mod setup;
-#[cfg(test)]
-mod tests;
 
 pub use launch::Launch;
 pub use local_objects::is_local_too_large;

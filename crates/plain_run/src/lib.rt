@@ -4,17 +4,16 @@
 
 mod canonical;
 mod compare;
-#[cfg(test)]
-mod interleavings;
 mod launch;
 mod memory;
 mod search;
 mod state;
-mod step;
-mod turn;
+pub mod step;
+pub mod turn;
 
-pub use canonical::run;
+pub use canonical::{buffers_after, run};
 use clmodel::text::{Bytes, Name};
+pub use state::PlainState;
 
 /// A launch (OpenCL 1.2, section 3.2) of so many items, so many to a group, with the bytes of its buffers, the bytes that each
 /// local object of the kernel has, and the names that a fault gives to buffers, to local objects and to what the source names.

@@ -4,7 +4,5 @@
 mod buffers;
 mod loaded;
 mod run;
-#[cfg(test)]
-mod tests;
 
 pub use run::run_launch;

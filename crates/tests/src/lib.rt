@@ -1,4 +1,4 @@
-//! Tests that need several crates: scripts with the text that a run of them has to write.
+//! Tests that need several crates: scripts with the text that a run of them has to write, and all interleavings of small launches.
 #![tactic(auto)]
 
 #[cfg(test)]
@@ -17,6 +17,8 @@ mod control_flow;
 mod dumps;
 #[cfg(test)]
 mod failing_ends;
+#[cfg(test)]
+mod interleavings;
 #[cfg(test)]
 mod limits;
 #[cfg(test)]

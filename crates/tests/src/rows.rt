@@ -94,7 +94,7 @@ fn refusals_of_sources(rt: HostRuntime) {
     );
 }
 
-// Each item stores a byte of its own; sizes that do not divide.
+// Each item stores a byte of its own; sizes that do not divide; items that end at once.
 #[test]
 fn bytes_side_by_side(rt: HostRuntime) {
     check(
@@ -108,6 +108,12 @@ fn bytes_side_by_side(rt: HostRuntime) {
         "buffer a 4\nprogram p 1\n__kernel void f(__global uchar *a) { ulong i = get_global_id(0); a[i] = i + 1; }\nkernel k p f\narg k 0 buffer a\nlaunch k 3 2\nread a 0 4\n",
         "ok\nok\nok\nok\nrefused 7 BadGroupSize\ndata 00000000\n",
         2,
+    );
+    check(
+        &rt,
+        "buffer a 4\nwrite a 0 01020304\nprogram p 1\n__kernel void f(__global uchar *a) { }\nkernel k p f\narg k 0 buffer a\nlaunch k 4 4\nread a 0 4\n",
+        "ok\nok\nok\nok\nok\nclean\ndata 01020304\n",
+        0,
     );
 }
 
