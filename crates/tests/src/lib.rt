@@ -6,17 +6,27 @@ mod array_corners;
 #[cfg(test)]
 mod array_faults;
 #[cfg(test)]
+mod bad_lines;
+#[cfg(test)]
 mod barriers;
 #[cfg(test)]
 mod calls;
 #[cfg(test)]
 mod checks;
 #[cfg(test)]
+mod command_lines;
+#[cfg(test)]
+mod commands;
+#[cfg(test)]
 mod control_flow;
+#[cfg(test)]
+mod device_calls;
 #[cfg(test)]
 mod dumps;
 #[cfg(test)]
 mod failing_ends;
+#[cfg(test)]
+mod failing_sources;
 #[cfg(test)]
 mod limits;
 #[cfg(test)]
@@ -25,6 +35,8 @@ mod local_arrays;
 mod local_memory;
 #[cfg(test)]
 mod private_arrays;
+#[cfg(test)]
+mod replies;
 #[cfg(test)]
 mod rows;
 #[cfg(test)]
