@@ -50,6 +50,3 @@ pub fn check_file<R: Read, W: Write>(
         Err(WriteFailed) => Err(RunFault::Write),
     }
 }
-
-#[cfg(test)]
-mod tests;

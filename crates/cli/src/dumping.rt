@@ -82,6 +82,3 @@ pub fn dump_file<R: Read, W: Write>(
         Err(fault) => Err(fault),
     }
 }
-
-#[cfg(test)]
-mod tests;

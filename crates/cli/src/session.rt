@@ -156,6 +156,3 @@ pub fn status(outcome: &Result<RunEnd, RunFault>) -> u8
         _ => 2,
     }
 }
-
-#[cfg(test)]
-mod tests;

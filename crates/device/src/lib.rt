@@ -10,8 +10,6 @@ ghost use Rattle.device.specs.Kept.{all_in};
 ghost use Rattle.device_store.specs.Ranges.{IsLaunchable};
 
 mod prepared;
-#[cfg(test)]
-mod tests;
 
 use crate::prepared::Launched;
 use clmodel::determinacy::{clean_is_complete, determinacy};

@@ -594,6 +594,3 @@ pub fn write_reply<W: Write>(reply: &Reply, writer: &mut W) -> Result<(), WriteF
         ),
     }
 }
-
-#[cfg(test)]
-mod tests;

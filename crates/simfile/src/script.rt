@@ -405,6 +405,3 @@ pub fn read_script(alloc: Global, bytes: &[u8]) -> Result<Vec<Command>, ScriptFa
     }
     Err(ScriptFault::BadLine(line_number(bytes, rest)))
 }
-
-#[cfg(test)]
-mod tests;

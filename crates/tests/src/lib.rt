@@ -1,4 +1,5 @@
-//! Tests that need several crates: scripts with the text that a run of them has to write, and all interleavings of small launches.
+//! Tests across crates: scripts with the text that a run of them has to write, calls of single crates with their answers, ends that fail,
+//! and all interleavings of small launches.
 #![tactic(auto)]
 
 #[cfg(test)]
@@ -6,17 +7,27 @@ mod array_corners;
 #[cfg(test)]
 mod array_faults;
 #[cfg(test)]
+mod bad_lines;
+#[cfg(test)]
 mod barriers;
 #[cfg(test)]
 mod calls;
 #[cfg(test)]
 mod checks;
 #[cfg(test)]
+mod command_lines;
+#[cfg(test)]
+mod commands;
+#[cfg(test)]
 mod control_flow;
+#[cfg(test)]
+mod device_calls;
 #[cfg(test)]
 mod dumps;
 #[cfg(test)]
 mod failing_ends;
+#[cfg(test)]
+mod failing_sources;
 #[cfg(test)]
 mod interleavings;
 #[cfg(test)]
@@ -27,6 +38,8 @@ mod local_arrays;
 mod local_memory;
 #[cfg(test)]
 mod private_arrays;
+#[cfg(test)]
+mod replies;
 #[cfg(test)]
 mod rows;
 #[cfg(test)]
