@@ -142,6 +142,15 @@ struct Seen {
 }
 
 impl Seen {
+    /// Of so many interleavings so many leave the expected bytes, and so many states have a report.
+    fn new(interleavings: u32, leaving: u32, reports: u32) -> Self {
+        Seen {
+            interleavings,
+            leaving,
+            reports,
+        }
+    }
+
     /// Looks at a state, which is the last of an interleaving or isn't.
     fn look<N: NextAction>(
         &mut self,
@@ -186,11 +195,7 @@ fn explore<N: NextAction>(
 ) -> Result<Option<Seen>, AllocError>
     requires { IsReady (launch_of launch.now (N.next items.now)) }
 {
-    let mut seen = Seen {
-        interleavings: 0,
-        leaving: 0,
-        reports: 0,
-    };
+    let mut seen = Seen::new(0, 0, 0);
     let mut pending = vec![in alloc; Vec::new(alloc)]?;
     for _state in 0..10000 {
         let Some(events) = pending.pop() else {
@@ -280,7 +285,7 @@ fn check(
     script: Script,
     seen: Seen,
     expected: &[u8],
-) -> Result<(), AllocError> {
+) -> Result<(), Fail> {
     let alloc = rt.alloc();
     let launch = PlainLaunch {
         items,
@@ -326,36 +331,19 @@ fn two(first: Moves, second: Moves) -> Script {
     }
 }
 
-/// What so many interleavings show that all leave the expected bytes.
-fn all_leave(interleavings: u32) -> Seen {
-    Seen {
-        interleavings,
-        leaving: interleavings,
-        reports: 0,
-    }
-}
-
-/// What so many interleavings show in which so many states have a report, the last one of each among them.
-fn with_reports(interleavings: u32, reports: u32) -> Seen {
-    Seen {
-        interleavings,
-        leaving: 0,
-        reports,
-    }
-}
-
 #[test]
 fn leaves_the_same_in_all_interleavings(rt: HostRuntime) -> Result<(), Fail> {
     // Four events of two items: 4! / (2! 2!) interleavings.
     let own = two([store(0, 1), load(0), END], [store(1, 2), load(1), END]);
-    check(&rt, 2, 2, own, all_leave(6), &[1, 2, 0, 0, 0, 0, 0, 0])?;
+    let bytes = [1, 2, 0, 0, 0, 0, 0, 0];
+    check(&rt, 2, 2, own, Seen::new(6, 6, 0), &bytes)?;
 
     // Two before a release, times two after it.
     let fenced = two(
         [store(0, 1), GLOBAL_BARRIER, load(1)],
         [store(1, 2), GLOBAL_BARRIER, load(0)],
     );
-    check(&rt, 2, 2, fenced, all_leave(4), &[1, 2, 0, 0, 0, 0, 0, 0])?;
+    check(&rt, 2, 2, fenced, Seen::new(4, 4, 0), &bytes)?;
 
     // Nine events of three items in three groups: 9! / (3! 3! 3!) interleavings.
     let add = Move::Access(0, Operation::Update(Class::Add, 5));
@@ -364,33 +352,25 @@ fn leaves_the_same_in_all_interleavings(rt: HostRuntime) -> Result<(), Fail> {
         second: [add, add, store(5, 2)],
         third: [store(6, 3), add, store(6, 4)],
     };
-    check(
-        &rt,
-        3,
-        1,
-        apart,
-        all_leave(1680),
-        &[20, 0, 0, 0, 1, 2, 4, 0],
-    )?;
-    Ok(())
+    let bytes = [20, 0, 0, 0, 1, 2, 4, 0];
+    check(&rt, 3, 1, apart, Seen::new(1680, 1680, 0), &bytes)
 }
 
 #[test]
 fn reaches_what_it_reports(rt: HostRuntime) -> Result<(), Fail> {
     // The second item loads what the first one stores, after a store of its own: the later of the two has the report.
     let late = two([store(2, 7), END, END], [store(1, 7), load(2), END]);
-    check(&rt, 2, 2, late, with_reports(3, 3), &[])?;
+    check(&rt, 2, 2, late, Seen::new(3, 0, 3), &[])?;
 
     // A barrier that fences local memory orders no accesses of a buffer: after each order of the stores, each order of the loads
-    // has two reports, and the first load of each is a state of its own.
+    // makes two states, both with a report.
     let unfenced = two(
         [store(0, 5), LOCAL_BARRIER, load(1)],
         [store(1, 6), LOCAL_BARRIER, load(0)],
     );
-    check(&rt, 2, 2, unfenced, with_reports(4, 8), &[])?;
+    check(&rt, 2, 2, unfenced, Seen::new(4, 0, 8), &[])?;
 
     // One item waits at a barrier that the other never meets.
     let apart = two([LOCAL_BARRIER, END, END], [store(0, 1), END, END]);
-    check(&rt, 2, 2, apart, with_reports(1, 1), &[])?;
-    Ok(())
+    check(&rt, 2, 2, apart, Seen::new(1, 0, 1), &[])
 }
