@@ -16,6 +16,8 @@ mod control_flow;
 #[cfg(test)]
 mod dumps;
 #[cfg(test)]
+mod failing_dumps;
+#[cfg(test)]
 mod failing_ends;
 #[cfg(test)]
 mod limits;
@@ -24,8 +26,12 @@ mod local_arrays;
 #[cfg(test)]
 mod local_memory;
 #[cfg(test)]
+mod lowering;
+#[cfg(test)]
 mod private_arrays;
 #[cfg(test)]
 mod rows;
 #[cfg(test)]
 mod runs;
+#[cfg(test)]
+mod verifying;
