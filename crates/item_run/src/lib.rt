@@ -8,8 +8,6 @@ mod item;
 mod rest;
 mod run;
 mod stepping;
-#[cfg(test)]
-mod tests;
 
 pub use item::Item;
 pub use item_value::surroundings::Surroundings;

@@ -6,7 +6,5 @@ mod lookup;
 mod lowering;
 pub mod table_laws;
 mod tables;
-#[cfg(test)]
-mod tests;
 
 pub use lowering::{LowerFault, lower, lower_kernel};

@@ -8,7 +8,5 @@ mod loops;
 mod positions;
 mod sites;
 mod statements;
-#[cfg(test)]
-mod tests;
 
 pub use kernels::emit_kernel;

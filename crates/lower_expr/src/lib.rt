@@ -6,6 +6,4 @@ pub mod expression_laws;
 pub mod jumps;
 pub mod scope;
 pub mod tails;
-#[cfg(test)]
-mod tests;
 pub mod types;

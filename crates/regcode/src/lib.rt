@@ -10,8 +10,6 @@ pub mod machine_laws;
 mod rules;
 pub mod safety;
 pub mod tables;
-#[cfg(test)]
-mod tests;
 mod words;
 
 pub use code::Code;

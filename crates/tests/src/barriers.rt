@@ -131,3 +131,22 @@ fn a_tile_without_its_barrier(rt: HostRuntime) {
         1,
     );
 }
+
+// A turn with its load, store and barrier is four ticks: three turns are done with twelve, and with eleven all but the last barrier.
+#[test]
+fn ticks_of_turns(rt: HostRuntime) {
+    check_within(
+        &rt,
+        12,
+        "buffer a 12\nwrite a 8 03000000\nprogram p 1\n__kernel void f(__global int *a) { int x; do { x = a[2] - 1; a[2] = x; barrier(CLK_LOCAL_MEM_FENCE); } while (x); }\nkernel k p f\narg k 0 buffer a\nlaunch k 1 1\nread a 8 4\n",
+        "ok\nok\nok\nok\nok\nclean\ndata 00000000\n",
+        0,
+    );
+    check_within(
+        &rt,
+        11,
+        "buffer a 12\nwrite a 8 03000000\nprogram p 1\n__kernel void f(__global int *a) { int x; do { x = a[2] - 1; a[2] = x; barrier(CLK_LOCAL_MEM_FENCE); } while (x); }\nkernel k p f\narg k 0 buffer a\nlaunch k 1 1\nread a 8 4\n",
+        "ok\nok\nok\nok\nok\nfault 8 budget item 0 schedule 0*2 r0 0*2 r0 0*2\ndata 03000000\n",
+        1,
+    );
+}

@@ -25,6 +25,8 @@ mod device_calls;
 #[cfg(test)]
 mod dumps;
 #[cfg(test)]
+mod failing_dumps;
+#[cfg(test)]
 mod failing_ends;
 #[cfg(test)]
 mod failing_sources;
@@ -37,6 +39,8 @@ mod local_arrays;
 #[cfg(test)]
 mod local_memory;
 #[cfg(test)]
+mod lowering;
+#[cfg(test)]
 mod private_arrays;
 #[cfg(test)]
 mod replies;
@@ -44,3 +48,5 @@ mod replies;
 mod rows;
 #[cfg(test)]
 mod runs;
+#[cfg(test)]
+mod verifying;

@@ -1,0 +1,72 @@
+//! Kernels lowered by direct calls.
+
+use clmodel::tree::{AddressSpace, PointerType, VariableType};
+use clnum::IntType;
+use cltypes::Checked;
+use device_store::build::build;
+use lower::{LowerFault, lower, lower_kernel};
+use regcode::RegisterKind;
+use std::alloc::Global;
+use std::test::Fail;
+
+/// A source that builds.
+pub fn built(alloc: Global, source: &str) -> Result<Checked, Fail> {
+    Ok(build(alloc, source.as_bytes())??)
+}
+
+// A helper is no kernel; its name has the first number behind the 26 built-in ones.
+#[test]
+fn no_such_kernel(rt: HostRuntime) -> Result<(), Fail> {
+    let alloc = rt.alloc();
+    let program = built(alloc, "void f() { } __kernel void g() { }")?;
+    for name in ["f", "h", ""] {
+        let outcome = lower(alloc, &program, name);
+        assert_eq!(rt; outcome.err(), Some(LowerFault::NoSuchKernel), "{name}");
+    }
+    let outcome = lower_kernel(alloc, &program, 26);
+    assert_eq!(rt; outcome.err(), Some(LowerFault::NoSuchKernel));
+    let code = lower_kernel(alloc, &program, 27)?;
+    assert_eq!(rt; code.count(), 1);
+    Ok(())
+}
+
+// The parameters are at the levels 0 and 1, and the arrays at 2 and 3, of which a block leaves 2 to the next one. The loop is
+// entered at place 9 and goes back at place 19; the greatest register is that of the index, at level 5.
+#[test]
+fn tables(rt: HostRuntime) -> Result<(), Fail> {
+    let alloc = rt.alloc();
+    let source =
+        "__kernel void f(__global uchar *p, int n) { { int a[5]; } { int b[3]; int c[2]; } __local int s[7]; while (n) n = p[n]; }";
+    let code = lower(alloc, &built(alloc, source)?, "f")?;
+    let pointer = VariableType::Pointer(PointerType {
+        space: AddressSpace::Global,
+        is_const: false,
+        element: IntType::Uchar,
+    });
+    assert_eq!(rt;
+        code.parameters(),
+        [pointer, VariableType::Integer(IntType::Int)].as_slice()
+    );
+    assert_eq!(rt; code.arrays(), [0u32, 0, 5, 2].as_slice());
+    assert_eq!(rt; code.objects(), 3);
+    assert_eq!(rt; code.names(), 29);
+    assert_eq!(rt;
+        code.loops(),
+        [
+            0u32, 0, 0, 0, 0, 0, 0, 0, 0, 0, 1, 1, 1, 1, 1, 1, 1, 1, 1, 1, 0
+        ]
+        .as_slice()
+    );
+    assert_eq!(rt; code.registers(), 85);
+    let kinds = [
+        (9, Some(RegisterKind::Pointer(IntType::Uchar))),
+        (44, Some(RegisterKind::Pointer(IntType::Int))),
+        (65, Some(RegisterKind::Integer(IntType::Uchar))),
+        (84, Some(RegisterKind::Integer(IntType::Int))),
+        (85, None),
+    ];
+    for (register, kind) in kinds {
+        assert_eq!(rt; code.register(register), kind, "{register}");
+    }
+    Ok(())
+}
