@@ -24,8 +24,20 @@ mod local_arrays;
 #[cfg(test)]
 mod local_memory;
 #[cfg(test)]
+mod printing;
+#[cfg(test)]
 mod private_arrays;
 #[cfg(test)]
 mod rows;
 #[cfg(test)]
 mod runs;
+#[cfg(test)]
+mod sizes;
+#[cfg(test)]
+mod source_faults;
+#[cfg(test)]
+mod tokens;
+#[cfg(test)]
+mod trees;
+#[cfg(test)]
+mod type_faults;
