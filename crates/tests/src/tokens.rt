@@ -9,7 +9,7 @@ fn number(kind: IntType, value: i128) -> TokenKind {
     TokenKind::Number(Value::wrapped(kind, value))
 }
 
-// A name of its own is the 26th, behind the built-in ones; numbers have the first type that holds them.
+// The names of a source begin at 26, behind the built-in ones; numbers have the first type that holds them.
 #[test]
 fn tokens(rt: HostRuntime) -> Result<(), Fail> {
     let source =
