@@ -13,8 +13,6 @@ mod heads;
 mod machine;
 mod parser;
 mod statements;
-#[cfg(test)]
-mod tests;
 
 use crate::parser::{copies, functions_of};
 use clmodel::tree::Tree;

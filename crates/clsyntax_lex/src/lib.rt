@@ -6,8 +6,6 @@ mod lexer;
 mod names;
 mod numbers;
 mod pieces;
-#[cfg(test)]
-mod tests;
 pub mod token;
 mod tokens;
 mod words;

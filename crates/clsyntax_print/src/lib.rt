@@ -11,8 +11,6 @@ mod functions;
 pub mod laws;
 mod operators;
 mod statements;
-#[cfg(test)]
-mod tests;
 mod tokens;
 
 use crate::functions::write_functions;

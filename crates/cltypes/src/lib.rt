@@ -14,8 +14,6 @@ pub mod checked;
 mod functions;
 pub mod laws;
 mod statements;
-#[cfg(test)]
-mod tests;
 
 pub use checked::Checked;
 use clmodel::tree::{Function, Tree};

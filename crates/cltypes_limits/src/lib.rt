@@ -8,8 +8,6 @@ mod returns;
 mod size;
 mod statements;
 mod summaries;
-#[cfg(test)]
-mod tests;
 
 pub use ends::end_fault;
 pub use returns::always_returns;

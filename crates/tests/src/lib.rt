@@ -41,6 +41,8 @@ mod local_memory;
 #[cfg(test)]
 mod lowering;
 #[cfg(test)]
+mod printing;
+#[cfg(test)]
 mod private_arrays;
 #[cfg(test)]
 mod replies;
@@ -48,5 +50,15 @@ mod replies;
 mod rows;
 #[cfg(test)]
 mod runs;
+#[cfg(test)]
+mod sizes;
+#[cfg(test)]
+mod source_faults;
+#[cfg(test)]
+mod tokens;
+#[cfg(test)]
+mod trees;
+#[cfg(test)]
+mod type_faults;
 #[cfg(test)]
 mod verifying;

@@ -5,7 +5,7 @@ use std::alloc::Global;
 use std::test::Fail;
 
 /// A text with so many copies of a piece between a front and an end.
-fn repeated(
+pub fn repeated(
     alloc: Global,
     front: &str,
     piece: &str,
