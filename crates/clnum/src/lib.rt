@@ -3,6 +3,7 @@
 
 mod builtins;
 mod int_type;
+mod kinds;
 mod operations;
 mod operators;
 #[cfg(test)]
@@ -11,6 +12,7 @@ mod values;
 
 pub use builtins::builtin;
 pub use int_type::IntType;
+pub use kinds::{binary_kind, unary_kind};
 pub use operations::{binary, convert, unary};
 pub use operators::{ArithFault, BinaryOperator, Builtin, UnaryOperator};
 pub use values::Value;

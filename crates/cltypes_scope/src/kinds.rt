@@ -2,7 +2,6 @@
 #![tactic(auto)]
 
 ghost use Rattle.std.specs.Prelude.{◌≡◌};
-ghost use Rattle.clnum.specs.Operations.{unary_kind, binary_kind};
 ghost use Rattle.clmodel.specs.Typing.Faults.{name_kind, front_kind, element_kind, unary_type, number_kind, binary_type, choice_type, integer_call_kind, result_kind, call_kind};
 ghost use Rattle.clmodel.specs.Typing.Context.{value_type, element_type};
 ghost use Rattle.cltypes_scope.specs.Names.{meaning_of};
@@ -11,43 +10,7 @@ use crate::meaning::Meaning;
 use clmodel::declaration::Declaration;
 use clmodel::setup::BuiltIn;
 use clmodel::tree::{AddressSpace, InfixOperator, PointerType, VariableType};
-use clnum::{BinaryOperator, Builtin, IntType, UnaryOperator};
-
-/// The type of a value of an operator on one integer: its type is promoted, but `!` gives int.
-#[tactic(auto, unfolding(clnum::specs::Operations::unary_kind))]
-pub fn unary_kind(operator: UnaryOperator, operand: IntType) -> IntType
-    ensures { result ≡ unary_kind operator operand }
-{
-    match operator {
-        UnaryOperator::Plus | UnaryOperator::Negate | UnaryOperator::Complement =>
-            operand.promoted(),
-        UnaryOperator::Not => IntType::Int,
-    }
-}
-
-/// The type of a value of an operator on two integers: their common type, the promoted left one of a shift, and int of a comparison.
-#[tactic(auto, unfolding(clnum::specs::Operations::binary_kind))]
-pub fn binary_kind(operator: BinaryOperator, left: IntType, right: IntType) -> IntType
-    ensures { result ≡ binary_kind operator left right }
-{
-    match operator {
-        BinaryOperator::Add
-        | BinaryOperator::Subtract
-        | BinaryOperator::Multiply
-        | BinaryOperator::Divide
-        | BinaryOperator::Remainder
-        | BinaryOperator::BitAnd
-        | BinaryOperator::BitXor
-        | BinaryOperator::BitOr => left.common(right),
-        BinaryOperator::ShiftLeft | BinaryOperator::ShiftRight => left.promoted(),
-        BinaryOperator::Less
-        | BinaryOperator::Greater
-        | BinaryOperator::LessOrEqual
-        | BinaryOperator::GreaterOrEqual
-        | BinaryOperator::Equal
-        | BinaryOperator::NotEqual => IntType::Int,
-    }
-}
+use clnum::{Builtin, IntType, UnaryOperator, binary_kind, unary_kind};
 
 /// The type of the value of what is declared: of a local array a pointer, and of a private one none.
 pub fn value_type(declared: Declaration) -> Option<VariableType>

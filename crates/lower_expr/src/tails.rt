@@ -12,10 +12,10 @@ ghost use Rattle.lower_expr.specs.Scope.{register_at, register_of};
 ghost use Rattle.lower_expr.specs.Expressions as expressions;
 
 use crate::scope::{Scope, level_above, register_at, word};
-use crate::types::{base_type, call_type, infix_type, unary_kind};
+use crate::types::{base_type, call_type, infix_type};
 use clmodel::setup::{AtomicFunction, BuiltIn, WorkItemFunction};
 use clmodel::tree::{InfixOperator, VariableType};
-use clnum::{Builtin, IntType, UnaryOperator, Value};
+use clnum::{Builtin, IntType, UnaryOperator, Value, unary_kind};
 use regcode::Instruction;
 use smallvec::SmallVec;
 use std::alloc::AllocError;

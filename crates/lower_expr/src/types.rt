@@ -2,12 +2,11 @@
 #![tactic(auto)]
 
 ghost use Rattle.std.specs.Prelude.{◌≡◌};
-ghost use Rattle.clnum.specs.Operations as operations;
 ghost use Rattle.clmodel.specs.Next as next;
 
 use clmodel::setup::BuiltIn;
 use clmodel::tree::{InfixOperator, VariableType};
-use clnum::{BinaryOperator, Builtin, IntType, UnaryOperator};
+use clnum::{Builtin, IntType, binary_kind};
 
 /// The integer type of a type, or of what it points to.
 pub fn base_type(kind: VariableType) -> IntType
@@ -16,41 +15,6 @@ pub fn base_type(kind: VariableType) -> IntType
     match kind {
         VariableType::Integer(kind) => kind,
         VariableType::Pointer(pointer) => pointer.element,
-    }
-}
-
-/// The type that an operator gives on one integer.
-#[tactic(auto, unfolding(clnum::specs::Operations::unary_kind))]
-pub fn unary_kind(operator: UnaryOperator, kind: IntType) -> IntType
-    ensures { result ≡ operations.unary_kind operator kind }
-{
-    match operator {
-        UnaryOperator::Plus | UnaryOperator::Negate | UnaryOperator::Complement => kind.promoted(),
-        UnaryOperator::Not => IntType::Int,
-    }
-}
-
-/// The type that an operator gives on two integers.
-#[tactic(auto, unfolding(clnum::specs::Operations::binary_kind))]
-fn binary_kind(operator: BinaryOperator, first: IntType, second: IntType) -> IntType
-    ensures { result ≡ operations.binary_kind operator first second }
-{
-    match operator {
-        BinaryOperator::Add
-        | BinaryOperator::Subtract
-        | BinaryOperator::Multiply
-        | BinaryOperator::Divide
-        | BinaryOperator::Remainder
-        | BinaryOperator::BitAnd
-        | BinaryOperator::BitXor
-        | BinaryOperator::BitOr => first.common(second),
-        BinaryOperator::ShiftLeft | BinaryOperator::ShiftRight => first.promoted(),
-        BinaryOperator::Less
-        | BinaryOperator::Greater
-        | BinaryOperator::LessOrEqual
-        | BinaryOperator::GreaterOrEqual
-        | BinaryOperator::Equal
-        | BinaryOperator::NotEqual => IntType::Int,
     }
 }
 
