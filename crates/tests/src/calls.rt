@@ -6,8 +6,8 @@ use clmodel::type_fault::TypeFault;
 use clsyntax::{lex, parse};
 use device_store::build::build;
 use device_store::command::BuildFault;
-use spaces_base::Table;
 use item_state::context::group_counts;
+use spaces_base::Table;
 use std::test::Fail;
 
 #[test]
