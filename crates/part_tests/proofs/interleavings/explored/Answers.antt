@@ -3,9 +3,9 @@ use Rattle.clmodel.specs.Law.{is_over}
 use Rattle.clmodel.specs.declared.access.Object.TheVariants as object
 use Rattle.clmodel.specs.declared.action.Action.{Action}
 use Rattle.clmodel.specs.declared.action.Action.TheVariants as action
-use Rattle.tests.specs.declared.interleavings.Move.{Move}
-use Rattle.tests.specs.declared.interleavings.Move.TheVariants as move
-use Rattle.tests.proofs.interleavings.explored.Goals as goal
+use Rattle.part_tests.specs.declared.interleavings.Move.{Move}
+use Rattle.part_tests.specs.declared.interleavings.Move.TheVariants as move
+use Rattle.part_tests.proofs.interleavings.explored.Goals as goal
 
 abbrev action_of : Move → Action
 action_of m = elim m [

@@ -41,7 +41,7 @@ impl NextAction for Script {
     ghost use Rattle.std.specs.Prelude.{[], ◌==◌, nat_lt, length, slice_index_or, if◌then◌else◌};
     ghost use Rattle.clmodel.specs.declared.access.Object.TheVariants as object;
     ghost use Rattle.clmodel.specs.declared.action.Action.TheVariants as action;
-    ghost use Rattle.tests.specs.declared.interleavings.Move.TheVariants as move;
+    ghost use Rattle.part_tests.specs.declared.interleavings.Move.TheVariants as move;
 
     ghost next = { λ s item answers. elim (if nat_lt (length answers) 3 then slice_index_or (if item == 0 then s.first else if item == 1 then s.second else s.third) (length answers) move.End else move.End) [
       | move.Access element operation ↦ action.Access (object.Buffer 0) element operation

@@ -1,0 +1,23 @@
+//! Tests of single crates from above: calls with their answers, and all interleavings of small launches.
+#![tactic(auto)]
+
+#[cfg(test)]
+mod calls;
+#[cfg(test)]
+mod device_calls;
+#[cfg(test)]
+mod failing_dumps;
+#[cfg(test)]
+mod interleavings;
+#[cfg(test)]
+mod lowering;
+#[cfg(test)]
+mod printing;
+#[cfg(test)]
+mod sizes;
+#[cfg(test)]
+mod tokens;
+#[cfg(test)]
+mod trees;
+#[cfg(test)]
+mod verifying;
