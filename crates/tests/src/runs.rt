@@ -31,13 +31,37 @@ pub fn check_within<R: Abort + AllocGlobal>(
         return assert!(rt; false);
     };
     let outcome = run(rt.alloc(), &mut reader, &mut writer, Options { budget });
-    assert_eq!(rt; status(&outcome), wanted);
-    assert_eq!(rt; writer.into_inner().as_slice(), replies.as_bytes());
+    assert_eq!(rt; status(&outcome), wanted, "{script}");
+    assert_eq!(rt; writer.into_inner().as_slice(), replies.as_bytes(), "{script}");
 }
 
 /// Runs a script with the budget that is taken where none is given, and compares the text that was written and the status.
 pub fn check<R: Abort + AllocGlobal>(rt: &R, script: &str, replies: &str, wanted: u8) {
     check_within(rt, Options::DEFAULT_BUDGET, script, replies, wanted);
+}
+
+/// Runs the script of a row, and compares the text that was written and the status; none where the row cannot be read.
+fn check_row<R: Abort + AllocGlobal>(rt: &R, row: &str) -> Option<()> {
+    let (_, row) = row.split_once('\n')?;
+    let (script, row) = row.split_once("--- ")?;
+    let (wanted, replies) = row.split_once('\n')?;
+    let (status, budget) = match wanted.split_once(' ') {
+        Some((status, budget)) => (status, budget.parse::<u32>().ok()?),
+        None => (wanted, Options::DEFAULT_BUDGET),
+    };
+    if budget > 1_000_000 {
+        return None;
+    }
+    check_within(rt, budget, script, replies, status.parse::<u8>().ok()?);
+    Some(())
+}
+
+/// Runs the scripts of a table. A row is `=== ` with what it shows, the script, `--- ` with the status and the budget where it is
+/// not the one that is taken where none is given, and the text that has to be written.
+pub fn check_rows<R: Abort + AllocGlobal>(rt: &R, rows: &str) {
+    for row in rows.split("=== ").skip(1) {
+        assert!(rt; check_row(rt, row).is_some(), "{row}");
+    }
 }
 
 /// Runs a script that is none, and compares the line that is told.
