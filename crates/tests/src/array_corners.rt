@@ -27,7 +27,7 @@ ok
 ok
 ok
 fault 5 unset item 0 private u element 0 schedule -
-=== narrow elements: A step that wraps, and a number that is cut.
+=== narrow elements: a step that wraps, and a number that is cut.
 buffer a 8
 program p 1
 __kernel void f(__global int *a) { char t[2]; t[0] = 127; t[0]++; t[1] = 300; a[0] = t[0]; a[1] = t[1]; }
@@ -236,7 +236,7 @@ ok
 ok
 clean
 data 09000000
-=== names of local objects: A local array that is out of range or unset is named, also behind a pointer into it and beside another.
+=== names of local objects: a local array that is out of range or unset is named, also behind a pointer into it and beside another.
 buffer a 4
 program p 1
 void g(__local int *p) { p[3] = 1; } __kernel void f(__global int *a) { __local int s[2]; __local int t[4]; g(t + 1); }

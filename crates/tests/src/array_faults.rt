@@ -1,7 +1,7 @@
 use crate::runs::check_rows;
 
 const ROWS: &str = "\
-=== private bytes: A kernel has at most 4,096 bytes of private arrays, with those of the helpers that it calls.
+=== private bytes: a kernel has at most 4,096 bytes of private arrays, with those of the helpers that it calls.
 program p 1
 __kernel void f() { uchar t[4096]; }
 --- 0
@@ -41,7 +41,7 @@ program p 1
 void g() { uchar t[2049]; } __kernel void f() { g(); g(); }
 --- 2
 refused 10 BuildFailed type 11 TooLarge at 42
-=== lengths: A length is 1 to 32,768, whatever the type; the fault is at the number, in a helper too.
+=== lengths: a length is 1 to 32,768, whatever the type; the fault is at the number, in a helper too.
 program p 1
 __kernel void f() { int t[0]; }
 --- 2
@@ -66,7 +66,7 @@ program p 1
 void g() { int t[0]; } __kernel void f() { }
 --- 2
 refused 10 BuildFailed type 11 TooLarge at 17
-=== names: A name of the scope, of a function, and of one that is built in.
+=== names: a name of the scope, of a function, and of one that is built in.
 program p 1
 __kernel void f() { int t[1]; int t[1]; }
 --- 2
@@ -101,7 +101,7 @@ program p 1
 __kernel void f() { int t[1]; { int t[1]; } }
 --- 0
 ok
-=== places of local arrays: A local array stands in the outermost block of a kernel alone; of one declaration the name comes first, then the place, then the length.
+=== places of local arrays: a local array stands in the outermost block of a kernel alone; of one declaration the name comes first, then the place, then the length.
 program p 1
 __kernel void f() { { __local int t[1]; } }
 --- 2

@@ -1,7 +1,7 @@
 use crate::runs::check_rows;
 
 const ROWS: &str = "\
-=== a barrier in a helper: A helper called in both branches has a barrier in each.
+=== a barrier in a helper: a helper called in both branches has a barrier in each.
 program p 1
 void h() { barrier(CLK_LOCAL_MEM_FENCE); } __kernel void f() { if (get_local_id(0) == 0) h(); else h(); }
 kernel k p f
@@ -46,7 +46,7 @@ launch k 2 2
 ok
 ok
 fault 3 divergence item 0 barrier 0 turns 1 item 1 barrier 1 turns 1 schedule -
-=== barriers are ticks: A barrier is a tick; the release of a group of one item is an event.
+=== barriers are ticks: a barrier is a tick; the release of a group of one item is an event.
 program p 1
 __kernel void f() { barrier(CLK_LOCAL_MEM_FENCE); barrier(CLK_LOCAL_MEM_FENCE); }
 kernel k p f
@@ -64,7 +64,7 @@ launch k 1 1
 ok
 ok
 clean
-=== the budget comes before the range: A tick that passes the budget is the fault, also where the access would be out of range.
+=== the budget comes before the range: a tick that passes the budget is the fault, also where the access would be out of range.
 buffer a 4
 program p 1
 __kernel void f(__global int *a) { a[0] = 1; a[1] = 2; }
@@ -90,7 +90,7 @@ ok
 ok
 ok
 fault 4 bounds item 0 store buffer a element 1 schedule 0*1
-=== both fences: A barrier with both fences orders the accesses of both memories.
+=== both fences: a barrier with both fences orders the accesses of both memories.
 buffer a 8
 program p 1
 __kernel void f(__global int *a, __local int *t) { int i = get_local_id(0); a[i] = i + 1; t[i] = i + 2; barrier(CLK_LOCAL_MEM_FENCE | CLK_GLOBAL_MEM_FENCE); int x = a[1 - i] + t[1 - i]; barrier(CLK_GLOBAL_MEM_FENCE); a[i] = x; }
@@ -124,7 +124,7 @@ ok
 ok
 fault 4 bounds item 3 store local 0 t element 3 schedule 0*1 1*1 2*1
 data 00000000000000000000000000000000
-=== local memory in a helper: A helper stores through a pointer to local memory.
+=== local memory in a helper: a helper stores through a pointer to local memory.
 buffer a 16
 program p 1
 void put(__local int *t, int i) { t[i] = i * 10; } __kernel void f(__global int *a, __local int *t) { int i = get_local_id(0); put(t, i); barrier(CLK_LOCAL_MEM_FENCE); a[i] = t[3 - i]; }
@@ -165,7 +165,7 @@ ok
 ok
 fault 5 unset item 0 load local 0 tile byte 12 schedule 0*2
 data 01000000020000000300000004000000
-=== ticks of turns: A turn with its load, store and barrier is four ticks: three turns are done with twelve, and with eleven all but the last barrier.
+=== ticks of turns: a turn with its load, store and barrier is four ticks: three turns are done with twelve, and with eleven all but the last barrier.
 buffer a 12
 write a 8 03000000
 program p 1

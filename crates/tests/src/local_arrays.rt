@@ -16,7 +16,7 @@ ok
 ok
 clean
 data 1e000000140000000a00000000000000
-=== a local array is unset: A local array is unset when its group starts.
+=== a local array is unset: a local array is unset when its group starts.
 buffer a 4
 program p 1
 __kernel void f(__global int *a) { __local int t[1]; int i = get_local_id(0); if (i == 0) a[0] = t[0]; else t[0] = 1; }

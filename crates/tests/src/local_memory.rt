@@ -56,7 +56,7 @@ ok
 ok
 fault 4 bounds item 3 store local 0 t element 3 schedule 0*2 1*2 2*2 3*1
 data 01000000020000000300000004000000
-=== fences of one memory: A barrier orders the accesses of the memory that it fences, and no others.
+=== fences of one memory: a barrier orders the accesses of the memory that it fences, and no others.
 buffer a 8
 buffer b 8
 program p 1

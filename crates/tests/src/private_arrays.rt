@@ -290,7 +290,7 @@ ok
 ok
 clean
 data fe000000
-=== an array in a helper: A helper sorts numbers in an array of its own.
+=== an array in a helper: a helper sorts numbers in an array of its own.
 buffer a 12
 write a 0 030000000100000002000000
 program p 1
