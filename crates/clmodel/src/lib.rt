@@ -7,7 +7,6 @@ pub mod barrier;
 pub mod declaration;
 pub mod determinacy;
 pub mod fault;
-pub mod next_action;
 pub mod next_laws;
 pub mod operand;
 pub mod outcome;

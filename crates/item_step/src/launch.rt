@@ -13,8 +13,6 @@ ghost use Rattle.item_run.specs.Running.{action_of};
 
 use crate::local_objects::{LocalObjects, local_objects};
 use crate::setup::Setup;
-use clmodel::action::{Action, Answer};
-use clmodel::next_action::NextAction;
 use clmodel::setup::Argument;
 use clmodel::text::Name;
 use item_run::{Item, Surroundings};
@@ -157,25 +155,5 @@ impl<'a> Launch<'a> {
             arguments: self.setup.arguments,
         };
         Item::start(&self.code, surroundings, self.setup.budget)
-    }
-}
-
-impl NextAction for Launch<'_> {
-    ghost use Rattle.clmodel.specs.Next.{next};
-    ghost use Rattle.item_step.specs.Launches.{setup_of};
-
-    ghost next = { λ launch. next (setup_of launch) };
-
-    fn next_action(
-        &self,
-        alloc: Global,
-        item: u32,
-        answers: &[Answer],
-    ) -> Result<Action, AllocError> {
-        let mut running = self.start(alloc, item)?;
-        for i in 0..answers.len() {
-            running.answer(answers[i]);
-        }
-        Ok(running.next())
     }
 }

@@ -1,4 +1,4 @@
-//! Tests of single crates from above: calls with their answers, and all interleavings of small launches.
+//! Tests of single crates from above: calls with their answers.
 #![tactic(auto)]
 
 #[cfg(test)]
@@ -7,8 +7,6 @@ mod calls;
 mod device_calls;
 #[cfg(test)]
 mod failing_dumps;
-#[cfg(test)]
-mod interleavings;
 #[cfg(test)]
 mod lowering;
 #[cfg(test)]
