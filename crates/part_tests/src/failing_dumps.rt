@@ -10,12 +10,12 @@ use std::io::BufWriter;
 use std::test::Fail;
 
 // The pieces of the text, each of them a call of the writer.
-const PIECES: [&str; 61] = [
-    "0", " ", "argument", " ", "r", "12", ", ", "0", ", ", "__local ", "int", " *", "\n", "1", " ",
-    "move", " ", "r", "28", ", ", "r", "12", ", ", "27", "\n", "2", " ", "point", " ", "r", "28",
-    ", ", "r", "28", "\n", "3", " ", "constant", " ", "r", "36", ", ", "int", " ", "1", "\n", "4",
-    " ", "store", " ", "[r", "28", "]", ", ", "r", "36", "\n", "5", " ", "end", "\n",
-];
+const PIECES: &str = "0| |argument| |r|12|, |0|, |__local |int| *|\n|\
+1| |move| |r|28|, |r|12|, |27|\n|\
+2| |point| |r|28|, |r|28|\n|\
+3| |constant| |r|36|, |int| |1|\n|\
+4| |store| |[r|28|]|, |r|36|\n|\
+5| |end|\n";
 
 /// What dumping answers, and what was written, without a buffer and with so many calls.
 pub fn dump_over(
@@ -36,7 +36,7 @@ fn a_writer_fails(rt: HostRuntime) -> Result<(), Fail> {
     let program = built(alloc, "__kernel void f(__local int *t) { *t = 1; }")?;
     let code = lower(alloc, &program, "f")?;
     let mut text = Vec::new(alloc);
-    for (calls, piece) in PIECES.iter().enumerate() {
+    for (calls, piece) in PIECES.split('|').enumerate() {
         let (outcome, written) = dump_over(alloc, &code, calls as u64)?;
         assert_eq!(rt; outcome, Err(DumpFault::Write));
         assert_eq!(rt; written.as_slice(), text.as_slice());

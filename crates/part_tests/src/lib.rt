@@ -16,6 +16,4 @@ mod sizes;
 #[cfg(test)]
 mod tokens;
 #[cfg(test)]
-mod trees;
-#[cfg(test)]
 mod verifying;
