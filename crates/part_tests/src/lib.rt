@@ -12,6 +12,8 @@ mod interleavings;
 #[cfg(test)]
 mod lowering;
 #[cfg(test)]
+mod numbers;
+#[cfg(test)]
 mod printing;
 #[cfg(test)]
 mod sizes;
