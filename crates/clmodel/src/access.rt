@@ -2,7 +2,7 @@
 #![tactic(auto)]
 
 /// How many bytes an element has.
-#[derive(Clone, Copy, Debug, PartialEq, Eq)]
+#[derive(Clone, Copy, PartialEq, Eq)]
 pub enum Width {
     One,
     Two,
@@ -12,7 +12,7 @@ pub enum Width {
 
 /// A class of atomic updates (OpenCL 1.2, section 6.12.11). Add stands for add, sub, inc and dec; the least and the greatest
 /// are taken by the sign of the pointer's element type.
-#[derive(Clone, Copy, Debug, PartialEq, Eq)]
+#[derive(Clone, Copy, PartialEq, Eq)]
 pub enum Class {
     Add,
     And,
@@ -25,7 +25,7 @@ pub enum Class {
 }
 
 /// The kind of an access, by which accesses conflict.
-#[derive(Clone, Copy, Debug, PartialEq, Eq)]
+#[derive(Clone, Copy, PartialEq, Eq)]
 pub enum AccessKind {
     Load,
     Store,
@@ -34,21 +34,21 @@ pub enum AccessKind {
 
 /// An object that a pointer of a work-item points into (OpenCL 1.2, section 3.3): a buffer, by its place among the launch's
 /// buffers, or a local object, by its place among the kernel's.
-#[derive(Clone, Copy, Debug, PartialEq, Eq)]
+#[derive(Clone, Copy, PartialEq, Eq)]
 pub enum Object {
     Buffer(u32),
     Local(u32),
 }
 
 /// A region of memory: a buffer, which all items of a launch share, or a local object of one group.
-#[derive(Clone, Copy, Debug, PartialEq, Eq)]
+#[derive(Clone, Copy, PartialEq, Eq)]
 pub enum Region {
     Buffer(u32),
     Local { group: u32, number: u32 },
 }
 
 /// What an access does at its bytes. A store writes the low bytes of its value, an update acts on 4 bytes.
-#[derive(Clone, Copy, Debug, PartialEq, Eq)]
+#[derive(Clone, Copy, PartialEq, Eq)]
 pub enum Operation {
     Load(Width),
     Store(Width, u64),
@@ -56,7 +56,7 @@ pub enum Operation {
 }
 
 /// What is kept of an access: the item, the bytes that it touched, its kind, and the interval of its group in which it was made.
-#[derive(Clone, Copy, Debug, PartialEq, Eq)]
+#[derive(Clone, Copy, PartialEq, Eq)]
 pub struct Access {
     pub item: u32,
     pub region: Region,
@@ -67,14 +67,14 @@ pub struct Access {
 }
 
 /// How two accesses conflict.
-#[derive(Clone, Copy, Debug, PartialEq, Eq)]
+#[derive(Clone, Copy, PartialEq, Eq)]
 pub enum Clash {
     Race,
     Order,
 }
 
 /// Two accesses that conflict on a byte.
-#[derive(Clone, Copy, Debug, PartialEq, Eq)]
+#[derive(Clone, Copy)]
 pub struct Conflict {
     pub earlier: Access,
     pub later: Access,

@@ -5,7 +5,7 @@ use crate::tree::VariableType;
 use clnum::IntType;
 
 /// What a name is declared as (OpenCL 1.2, sections 6.5.2 and 6.5.4).
-#[derive(Clone, Copy, Debug, PartialEq, Eq)]
+#[derive(Clone, Copy)]
 pub enum Declaration {
     /// A variable or a parameter of a type
     Single(VariableType),

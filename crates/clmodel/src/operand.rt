@@ -5,7 +5,7 @@ use crate::access::Object;
 use clnum::{IntType, Value};
 
 /// A pointer to elements of a type, so many elements behind an object's start.
-#[derive(Clone, Copy, Debug, PartialEq, Eq)]
+#[derive(Clone, Copy, PartialEq, Eq)]
 pub struct Pointer {
     pub object: Object,
     pub element: IntType,
@@ -13,15 +13,8 @@ pub struct Pointer {
 }
 
 /// The value of an expression: a whole number or a pointer.
-#[derive(Clone, Copy, Debug, PartialEq, Eq)]
+#[derive(Clone, Copy)]
 pub enum Operand {
     Integral(Value),
     Pointed(Pointer),
-}
-
-impl Default for Operand {
-    /// The int 0.
-    fn default() -> Self {
-        Operand::Integral(Value::new(IntType::Int, 0))
-    }
 }

@@ -9,7 +9,7 @@ use clnum::Builtin;
 
 /// An index space (OpenCL 1.2, section 3.2): in each dimension the number of work-items, the number in a work-group, and the
 /// offset that is added to the global ids.
-#[derive(Debug, Drop)]
+#[derive(Drop)]
 pub struct Range {
     pub global: Numbers,
     pub local: Numbers,
@@ -18,7 +18,7 @@ pub struct Range {
 
 /// An argument of a kernel: a buffer for a pointer to global or constant memory, a number for an integer, a size in bytes for a
 /// pointer to local memory.
-#[derive(Debug, Drop)]
+#[derive(Drop)]
 pub enum Argument {
     Buffer(Name),
     Value(i128),
@@ -26,7 +26,7 @@ pub enum Argument {
 }
 
 /// What a work-item asks of its index space in one dimension (OpenCL 1.2, section 6.12.1).
-#[derive(Clone, Copy, Debug, PartialEq, Eq)]
+#[derive(Clone, Copy, PartialEq, Eq)]
 pub enum WorkItemFunction {
     /// `get_global_id(d)`
     GlobalId,
@@ -45,7 +45,7 @@ pub enum WorkItemFunction {
 }
 
 /// An atomic function on 32 bits (OpenCL 1.2, section 6.12.11).
-#[derive(Clone, Copy, Debug, PartialEq, Eq)]
+#[derive(Clone, Copy, PartialEq, Eq)]
 pub enum AtomicFunction {
     /// `atomic_add(p, v)`
     Add,
@@ -68,7 +68,7 @@ pub enum AtomicFunction {
 }
 
 /// A built-in function (OpenCL 1.2, sections 6.12.1, 6.12.3 and 6.12.11).
-#[derive(Clone, Copy, Debug, PartialEq, Eq)]
+#[derive(Clone, Copy)]
 pub enum BuiltIn {
     /// `get_work_dim()`
     WorkDim,

@@ -5,7 +5,7 @@ use crate::text::Name;
 use clnum::{BinaryOperator, IntType, UnaryOperator, Value};
 
 /// The address space that a pointer points to (OpenCL 1.2, section 6.5).
-#[derive(Clone, Copy, Debug, PartialEq, Eq)]
+#[derive(Clone, Copy, PartialEq, Eq)]
 pub enum AddressSpace {
     Global,
     Local,
@@ -13,7 +13,7 @@ pub enum AddressSpace {
 }
 
 /// The type of a pointer to integers.
-#[derive(Clone, Copy, Debug, PartialEq, Eq)]
+#[derive(Clone, Copy, PartialEq, Eq)]
 pub struct PointerType {
     pub space: AddressSpace,
     pub is_const: bool,
@@ -21,14 +21,14 @@ pub struct PointerType {
 }
 
 /// The type of a variable or a parameter.
-#[derive(Clone, Copy, Debug, PartialEq, Eq)]
+#[derive(Clone, Copy, PartialEq, Eq)]
 pub enum VariableType {
     Integer(IntType),
     Pointer(PointerType),
 }
 
 /// An operator between two expressions (OpenCL 1.2, section 6.3).
-#[derive(Clone, Copy, Debug, PartialEq, Eq)]
+#[derive(Clone, Copy)]
 pub enum InfixOperator {
     Arithmetic(BinaryOperator),
     LogicalAnd,
@@ -36,7 +36,7 @@ pub enum InfixOperator {
 }
 
 /// An expression. `at` is where its first token begins, parentheses round the whole left out.
-#[derive(Debug, Drop)]
+#[derive(Drop)]
 pub enum Expression {
     Number {
         at: u32,
@@ -95,7 +95,7 @@ pub enum Expression {
 }
 
 /// What is assigned to.
-#[derive(Debug, Drop)]
+#[derive(Drop)]
 pub enum Target {
     Variable {
         at: u32,
@@ -115,7 +115,7 @@ pub enum Target {
 }
 
 /// A statement or a declaration.
-#[derive(Debug, Drop)]
+#[derive(Drop)]
 pub enum Statement {
     Empty {
         at: u32,
@@ -200,7 +200,7 @@ pub enum Statement {
 }
 
 /// A parameter of a function.
-#[derive(Clone, Copy, Debug, PartialEq, Eq)]
+#[derive(Clone, Copy)]
 pub struct Parameter {
     pub name_at: u32,
     pub name: u32,
@@ -208,7 +208,7 @@ pub struct Parameter {
 }
 
 /// A function: a kernel, or a helper with its result's type, if it has one.
-#[derive(Debug, Drop)]
+#[derive(Drop)]
 pub struct Function {
     pub is_kernel: bool,
     pub result: Option<IntType>,
@@ -220,7 +220,7 @@ pub struct Function {
 }
 
 /// A program: its functions in text order, and the names that it uses.
-#[derive(Debug, Drop)]
+#[derive(Drop)]
 pub struct Tree {
     pub functions: Vec<Function>,
     pub names: Vec<Name>,

@@ -6,7 +6,7 @@ ghost use Rattle.clnum.specs.Integer as integer;
 ghost use Rattle.clnum.specs.Conversions as conversions;
 
 /// An integer type of OpenCL C (OpenCL 1.2, section 6.1.1). `size_t` is `Ulong` here.
-#[derive(Clone, Copy, Debug, PartialEq, Eq)]
+#[derive(Clone, Copy, PartialEq, Eq)]
 pub enum IntType {
     /// 8 bits, signed
     Char,
@@ -63,7 +63,7 @@ impl IntType {
 
     /// The type that an operand of this type is promoted to (C99 6.3.1.1, paragraph 2).
     #[tactic(auto, unfolding(crate::specs::Conversions::promoted))]
-    pub fn promoted(self) -> IntType
+    pub(crate) fn promoted(self) -> IntType
         ensures { result ≡ conversions.promoted self }
     {
         match self {

@@ -6,8 +6,6 @@ mod int_type;
 mod kinds;
 mod operations;
 mod operators;
-#[cfg(test)]
-mod tests;
 mod values;
 
 pub use builtins::builtin;

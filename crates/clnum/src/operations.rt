@@ -178,7 +178,7 @@ fn shift_right(value: Value, count: Value) -> Value
 }
 
 /// A count modulo a type's width.
-pub fn shift_count(kind: IntType, count: Value) -> u32
+pub(crate) fn shift_count(kind: IntType, count: Value) -> u32
     ensures value { result ≡ residue (bits kind) count.number }
     ensures below { result < bits kind }
 {

@@ -2,7 +2,7 @@
 #![tactic(auto)]
 
 /// An operator on one integer (OpenCL 1.2, section 6.3).
-#[derive(Clone, Copy, Debug, PartialEq, Eq)]
+#[derive(Clone, Copy, PartialEq, Eq)]
 pub enum UnaryOperator {
     /// `+a`
     Plus,
@@ -15,7 +15,7 @@ pub enum UnaryOperator {
 }
 
 /// An operator on two integers that evaluates both (OpenCL 1.2, section 6.3).
-#[derive(Clone, Copy, Debug, PartialEq, Eq)]
+#[derive(Clone, Copy, PartialEq, Eq)]
 pub enum BinaryOperator {
     /// `a + b`
     Add,
@@ -52,7 +52,7 @@ pub enum BinaryOperator {
 }
 
 /// A built-in function on integers (OpenCL 1.2, section 6.12.3).
-#[derive(Clone, Copy, Debug, PartialEq, Eq)]
+#[derive(Clone, Copy, PartialEq, Eq)]
 pub enum Builtin {
     /// `min(a, b)`: the lesser of two numbers of one type
     Min,

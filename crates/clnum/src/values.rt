@@ -11,7 +11,7 @@ use crate::int_type::IntType;
 use std::marker::Model;
 
 /// A value of an integer type: the type and a number in its range.
-#[derive(Clone, Copy, Debug, PartialEq, Eq)]
+#[derive(Clone, Copy, PartialEq, Eq)]
 pub struct Value {
     kind: IntType,
     number: i128,
@@ -73,7 +73,7 @@ impl Value {
     }
 
     /// Its bits, as many as its type is wide.
-    pub fn to_bits(self) -> u64
+    pub(crate) fn to_bits(self) -> u64
         ensures value { result ≡ integer.bits_of self.kind self.number }
         ensures below { result < 2 ^ integer.bits self.kind }
     {
@@ -105,7 +105,7 @@ fn lowest_bits(number: i128) -> u64
 }
 
 /// The bits of a number in a type, as many as the type is wide.
-pub fn bits_of(kind: IntType, number: i128) -> u64
+pub(crate) fn bits_of(kind: IntType, number: i128) -> u64
     ensures value { result ≡ integer.bits_of kind number }
     ensures below { result < 2 ^ integer.bits kind }
 {

@@ -10,6 +10,8 @@ mod failing_dumps;
 #[cfg(test)]
 mod lowering;
 #[cfg(test)]
+mod numbers;
+#[cfg(test)]
 mod printing;
 #[cfg(test)]
 mod sizes;
