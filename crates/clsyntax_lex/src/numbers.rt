@@ -11,7 +11,7 @@ ghost use Rattle.clsyntax_lex.specs.Numbers as numbers;
 use clnum::{IntType, Value};
 
 /// How the digits of a number are to be read.
-#[derive(Clone, Copy, Debug, PartialEq, Eq)]
+#[derive(Clone, Copy, PartialEq)]
 pub(crate) enum Base {
     Decimal,
     Octal,
@@ -19,7 +19,7 @@ pub(crate) enum Base {
 }
 
 /// The letters behind the digits, of which there are so many.
-#[derive(Clone, Copy, Debug, PartialEq, Eq)]
+#[derive(Clone, Copy)]
 pub(crate) struct Suffix {
     pub(crate) is_unsigned: bool,
     pub(crate) is_long: bool,

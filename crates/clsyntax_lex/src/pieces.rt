@@ -11,7 +11,7 @@ use crate::words::{reserved_word, symbol};
 use clnum::Value;
 
 /// What one step takes from the front.
-#[derive(Clone, Copy, Debug, PartialEq, Eq)]
+#[derive(Clone, Copy)]
 pub(crate) enum Piece {
     /// White space or a comment, of so many bytes
     Gap(usize),

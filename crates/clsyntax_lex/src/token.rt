@@ -6,7 +6,7 @@ use clnum::{IntType, Value};
 use std::alloc::{AllocError, AllocFailed};
 
 /// What a token is (OpenCL 1.2, section 6; C99 6.4).
-#[derive(Clone, Copy, Debug, PartialEq, Eq)]
+#[derive(Clone, Copy, PartialEq, Eq)]
 pub enum TokenKind {
     /// A name, by its place in the table of names
     Name(u32),
@@ -117,7 +117,7 @@ pub enum TokenKind {
 }
 
 /// A token and the byte number at which it begins.
-#[derive(Clone, Copy, Debug, PartialEq, Eq)]
+#[derive(Clone, Copy, PartialEq, Eq)]
 pub struct Token {
     pub kind: TokenKind,
     pub at: u32,

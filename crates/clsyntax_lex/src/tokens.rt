@@ -8,7 +8,7 @@ use clmodel::text::Name;
 use std::marker::Model;
 
 /// A source as its tokens in text order, and the table of its names: a name token has the place of its text there.
-#[derive(Debug, Drop)]
+#[derive(Drop)]
 pub struct Tokens {
     tokens: Vec<Token>,
     length: u32,

@@ -96,7 +96,10 @@ fn end_simple(nesting: u32, statement: Box<Statement>, stack: Stack) -> Moved
             };
             match frame {
                 Frame::InInitial { at } => begin_condition(nesting, at, Some(statement), stack),
-                _ => Ok(Step::Refused),
+                _ => {
+                    drop(frame);
+                    Ok(Step::Refused)
+                }
             }
         }
     }
@@ -111,7 +114,10 @@ fn end_final(nesting: u32, statement: Box<Statement>, stack: Stack) -> Moved
     };
     match frame {
         Frame::InFinal(turns) => begin_turns(nesting, turns, Some(statement), stack),
-        _ => Ok(Step::Refused),
+        _ => {
+            drop(frame);
+            Ok(Step::Refused)
+        }
     }
 }
 
@@ -159,7 +165,10 @@ pub fn end_step(is_bracket: bool, target: Box<Target>, stack: Stack) -> Moved
             let statement = Box::new(stack.alloc, step)?;
             ends_simple(is_bracket, nesting, statement, stack)
         }
-        _ => Ok(Step::Refused),
+        _ => {
+            drop(frame);
+            Ok(Step::Refused)
+        }
     }
 }
 
@@ -213,10 +222,11 @@ pub fn add_declaration(nesting: u32, statement: Box<Statement>, stack: Stack) ->
     let Some((frame, stack)) = stack.pop() else {
         return Ok(Step::Refused);
     };
-    match frame {
-        Frame::InItems(outer, body) => add_item(nesting, outer, body, statement, stack),
-        _ => Ok(Step::Refused),
-    }
+    let Frame::InItems(outer, body) = frame else {
+        drop(frame);
+        return Ok(Step::Refused);
+    };
+    add_item(nesting, outer, body, statement, stack)
 }
 
 /// Where a declaration with a value ends.
@@ -229,7 +239,10 @@ fn end_declaration(nesting: u32, statement: Box<Statement>, stack: Stack) -> Mov
     match frame {
         Frame::InItems(outer, body) => add_item(nesting, outer, body, statement, stack),
         Frame::InInitial { at } => begin_condition(nesting, at, Some(statement), stack),
-        _ => Ok(Step::Refused),
+        _ => {
+            drop(frame);
+            Ok(Step::Refused)
+        }
     }
 }
 
@@ -268,7 +281,10 @@ pub(crate) fn on_semicolon(value: Box<Expression>, stack: Stack) -> Moved
         }
         Frame::InReturn { at, nesting } => end_return(at, nesting, Some(value), stack),
         Frame::InCondition(turns) => begin_final(turns, Some(value), stack),
-        _ => Ok(Step::Refused),
+        _ => {
+            drop(frame);
+            Ok(Step::Refused)
+        }
     }
 }
 
@@ -282,7 +298,10 @@ pub(crate) fn on_nothing(stack: Stack) -> Moved
     match frame {
         Frame::InReturn { at, nesting } => end_return(at, nesting, None, stack),
         Frame::InCondition(turns) => begin_final(turns, None, stack),
-        _ => Ok(Step::Refused),
+        _ => {
+            drop(frame);
+            Ok(Step::Refused)
+        }
     }
 }
 
@@ -292,7 +311,10 @@ fn begin_body(nesting: u32, frame: Frame, stack: Stack) -> Moved
 {
     match deeper(nesting) {
         Some(inner) => stack.begin(inner, frame),
-        None => Ok(Step::Deep),
+        None => {
+            drop(frame);
+            Ok(Step::Deep)
+        }
     }
 }
 
@@ -339,6 +361,9 @@ pub(crate) fn end_bracket(frame: Frame, value: Box<Expression>, stack: Stack) ->
             let target = Box::new(stack.alloc, Target::Dereference { at, pointer: value })?;
             end_step(true, target, stack)
         }
-        _ => Ok(Step::Refused),
+        _ => {
+            drop(frame);
+            Ok(Step::Refused)
+        }
     }
 }

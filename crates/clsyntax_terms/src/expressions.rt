@@ -140,7 +140,10 @@ fn on_comma(value: Box<Expression>, stack: Stack) -> Moved
             call.arguments.push(Box::into_inner(value))?;
             stack.want(inner, Frame::InCall(call))
         }
-        _ => Ok(Step::Refused),
+        _ => {
+            drop(frame);
+            Ok(Step::Refused)
+        }
     }
 }
 
@@ -173,7 +176,10 @@ fn on_close_square(index: Box<Expression>, stack: Stack) -> Moved
                 None => Ok(Step::Deep),
             }
         }
-        _ => Ok(Step::Refused),
+        _ => {
+            drop(frame);
+            Ok(Step::Refused)
+        }
     }
 }
 
@@ -189,7 +195,10 @@ fn on_colon(nesting: u32, chosen: Box<Expression>, stack: Stack) -> Moved
             nesting,
             Frame::Chosen(from, condition, chosen),
         ),
-        _ => Ok(Step::Refused),
+        _ => {
+            drop(frame);
+            Ok(Step::Refused)
+        }
     }
 }
 
@@ -208,7 +217,10 @@ fn on_assignment(kind: TokenKind, pointer: Box<Expression>, stack: Stack) -> Mov
             let target = Box::new(stack.alloc, Target::Dereference { at, pointer })?;
             stack.want(nesting, Frame::InAssign(at, nesting, target, operator))
         }
-        _ => Ok(Step::Refused),
+        _ => {
+            drop(frame);
+            Ok(Step::Refused)
+        }
     }
 }
 
@@ -278,7 +290,10 @@ fn close_call(stack: Stack) -> Moved
     };
     match frame {
         Frame::InCall(call) => end_call(call, stack),
-        _ => Ok(Step::Refused),
+        _ => {
+            drop(frame);
+            Ok(Step::Refused)
+        }
     }
 }
 
