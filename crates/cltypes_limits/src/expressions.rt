@@ -12,7 +12,7 @@ use clmodel::tree::{Expression, Target};
 
 /// The size of an expression.
 #[cycle(expressions)]
-pub fn expression_size(table: &Summaries, expression: &Expression) -> Size
+pub(crate) fn expression_size(table: &Summaries, expression: &Expression) -> Size
     ensures { result ≡ capped (term_size table.now (term expression.now)) }
 {
     match expression {
@@ -46,7 +46,7 @@ pub fn expression_size(table: &Summaries, expression: &Expression) -> Size
 
 /// The size of arguments.
 #[cycle(expressions)]
-pub fn arguments_size(table: &Summaries, arguments: &[Expression]) -> Size
+pub(crate) fn arguments_size(table: &Summaries, arguments: &[Expression]) -> Size
     ensures { result ≡ capped (terms_size table.now (terms arguments.now)) }
 {
     let mut size = Size::nothing();
@@ -57,7 +57,7 @@ pub fn arguments_size(table: &Summaries, arguments: &[Expression]) -> Size
 }
 
 /// The size of what is assigned to.
-pub fn target_size(table: &Summaries, target: &Target) -> Size
+pub(crate) fn target_size(table: &Summaries, target: &Target) -> Size
     ensures { result ≡ capped (place_size table.now (place target.now)) }
 {
     match target {
@@ -68,7 +68,7 @@ pub fn target_size(table: &Summaries, target: &Target) -> Size
 }
 
 /// The size of an expression that may be left out.
-pub fn condition_size(table: &Summaries, condition: &Option<Box<Expression>>) -> Size
+pub(crate) fn condition_size(table: &Summaries, condition: &Option<Box<Expression>>) -> Size
     ensures { result ≡ capped (condition_size table.now (maybe_term condition.now)) }
 {
     match condition {

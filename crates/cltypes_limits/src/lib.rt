@@ -10,6 +10,5 @@ mod statements;
 mod summaries;
 
 pub use ends::end_fault;
-pub use returns::always_returns;
 pub use size::{Size, array_length};
 pub use summaries::Summaries;

@@ -21,7 +21,7 @@ pub(crate) const NODE_LIMIT: u32 = 20_000;
 
 /// How deep the loops of a body are nested, how many bytes its private arrays have, and how many nodes it has; a count above its
 /// limit is one more than the limit.
-#[derive(Clone, Copy, Debug, PartialEq, Eq)]
+#[derive(Clone, Copy)]
 pub struct Size {
     pub loops: u32,
     pub bytes: u32,

@@ -106,7 +106,7 @@ fn part_size(table: &Summaries, part: &Option<Box<Statement>>) -> Size
 
 /// The size of statements one after the other.
 #[cycle(statements)]
-pub fn row_size(table: &Summaries, body: &[Statement]) -> Size
+pub(crate) fn row_size(table: &Summaries, body: &[Statement]) -> Size
     ensures { result ≡ capped (row_size table.now (statements body.now)) }
 {
     let mut size = Size::nothing();

@@ -15,7 +15,7 @@ use std::alloc::{AllocError, Global};
 use std::marker::Model;
 
 /// The sizes of the bodies of functions, by the functions' names.
-#[derive(Debug, Drop)]
+#[derive(Drop)]
 pub struct Summaries {
     sizes: IndexMap<u32, Size>,
 }

@@ -23,7 +23,7 @@ use std::mem::replace;
 const RESERVED_NAMES: u32 = 26;
 
 /// Whether nothing else can have this name, since it is a built-in function's or a fence's.
-pub fn is_reserved(name: u32) -> bool
+fn is_reserved(name: u32) -> bool
     ensures { result ≡ is_reserved name }
 {
     name < RESERVED_NAMES
@@ -41,7 +41,7 @@ fn last_holder(scopes: &[Scope], name: u32) -> Option<&Scope>
 
 /// What is known at a place of a program: the names of all its functions, the functions before this one, this function, whether the
 /// place is in a loop, and the variables of each scope around it. Names are their places in a tree's table of names.
-#[derive(Debug, Drop)]
+#[derive(Drop)]
 pub struct Context {
     alloc: Global,
     all: IndexSet<u32>,

@@ -37,7 +37,7 @@ pub fn checked(fault: Option<TypeFault>, kind: VariableType, at: u32) -> Result<
 
 /// An expression's type and where it begins, or its first fault, where these names are known.
 #[cycle(expressions)]
-pub fn check_in(names: Names<'_>, expression: &Expression) -> Result<Operand, TypeFault>
+pub(crate) fn check_in(names: Names<'_>, expression: &Expression) -> Result<Operand, TypeFault>
     ensures { Checks result (first (term_faults (names_of names.entry) (term expression.now))) (operand_of (names_of names.entry) (term expression.now)) }
 {
     match expression {
@@ -140,7 +140,7 @@ fn check_dereference(names: Names<'_>, at: u32, pointer: &Expression) -> Result<
 
 /// A call at a spot.
 #[cycle(expressions)]
-pub fn check_call_in(
+pub(crate) fn check_call_in(
     names: Names<'_>,
     spot: Spot,
     at: u32,

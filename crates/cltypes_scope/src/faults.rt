@@ -21,7 +21,7 @@ use clmodel::type_fault::TypeFault;
 use clnum::{BinaryOperator, Builtin, IntType};
 
 /// What an argument has to be.
-#[derive(Clone, Copy, Debug, PartialEq, Eq)]
+#[derive(Clone, Copy)]
 pub enum Want {
     Integer,
     /// An integer of the type of the argument before it
@@ -32,7 +32,7 @@ pub enum Want {
 }
 
 /// Where a call stands.
-#[derive(Clone, Copy, Debug, PartialEq, Eq)]
+#[derive(Clone, Copy, PartialEq, Eq)]
 pub enum Spot {
     WholeStatement,
     /// All that is assigned, or that initialises a variable
@@ -42,7 +42,7 @@ pub enum Spot {
 }
 
 /// A part of an expression or a statement that has no fault: its type, and where it begins.
-#[derive(Clone, Copy, Debug, PartialEq, Eq)]
+#[derive(Clone, Copy)]
 pub struct Operand {
     pub kind: VariableType,
     pub at: u32,
@@ -50,7 +50,7 @@ pub struct Operand {
 
 /// Arguments that have no fault inside: the least of those that they have as the arguments of what is called, and the type of the
 /// last one.
-#[derive(Clone, Copy, Debug, PartialEq, Eq)]
+#[derive(Clone, Copy)]
 pub struct Arguments {
     pub fault: Option<TypeFault>,
     pub last: VariableType,
@@ -229,7 +229,7 @@ fn address_fault(meaning: Meaning<'_>, at: u32, name_at: u32) -> Option<TypeFaul
 
 /// The address of an element, which begins at `at`: the name in front, and the index.
 #[tactic(auto, using(crate::proofs::Least::least_append))]
-pub fn element_address_fault(
+pub(crate) fn element_address_fault(
     meaning: Meaning<'_>,
     at: u32,
     name_at: u32,
@@ -242,7 +242,7 @@ pub fn element_address_fault(
 
 /// An element: the name in front, and the index.
 #[tactic(auto, using(crate::proofs::Least::least_append))]
-pub fn element_fault(meaning: Meaning<'_>, at: u32, index: Operand) -> Option<TypeFault>
+pub(crate) fn element_fault(meaning: Meaning<'_>, at: u32, index: Operand) -> Option<TypeFault>
     ensures { result ≡ least (front_faults (meaning_of meaning.entry) at ++ integer_faults index.kind index.at) }
 {
     lesser(front_fault(meaning, at), integer_fault(index))
@@ -279,7 +279,7 @@ fn is_sum(operator: InfixOperator) -> bool
 }
 
 /// The two operands of an operator.
-pub fn operand_fault(operator: InfixOperator, left: Operand, right: Operand) -> Option<TypeFault>
+pub(crate) fn operand_fault(operator: InfixOperator, left: Operand, right: Operand) -> Option<TypeFault>
     ensures { result ≡ least (operand_faults operator left.kind right.kind left.at right.at) }
 {
     match left.kind {
@@ -295,7 +295,7 @@ pub fn operand_fault(operator: InfixOperator, left: Operand, right: Operand) -> 
 
 /// The three parts of `condition ? chosen : otherwise`.
 #[tactic(auto, using(crate::proofs::Least::least_append))]
-pub fn choice_fault(condition: Operand, chosen: Operand, otherwise: Operand) -> Option<TypeFault>
+pub(crate) fn choice_fault(condition: Operand, chosen: Operand, otherwise: Operand) -> Option<TypeFault>
     ensures { result
         ≡ least
         (integer_faults condition.kind condition.at
@@ -400,7 +400,7 @@ fn callee_fault(spot: Spot, meaning: Meaning<'_>, at: u32, arguments: usize) -> 
 }
 
 /// A call: what is called at `at`, so many arguments, and what they have against them as flags.
-pub fn call_fault(
+pub(crate) fn call_fault(
     spot: Spot,
     meaning: Meaning<'_>,
     at: u32,
@@ -428,7 +428,7 @@ fn parameter_wanted(signature: &Signature, index: usize) -> Option<Want>
 }
 
 /// What the argument of an index has to be, where what is called wants one there.
-pub fn wanted(meaning: Meaning<'_>, index: usize) -> Option<Want>
+pub(crate) fn wanted(meaning: Meaning<'_>, index: usize) -> Option<Want>
     ensures { option_map want_of result ≡ slice_get (wanted (meaning_of meaning.entry)) index }
 {
     match meaning {
@@ -500,7 +500,7 @@ fn atomic_fault(argument: Operand) -> Option<TypeFault>
 }
 
 /// An argument: what is wanted in its place, and the type of the one before it.
-pub fn argument_fault(
+pub(crate) fn argument_fault(
     want: Option<Want>,
     before: VariableType,
     argument: Operand,

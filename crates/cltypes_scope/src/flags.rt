@@ -17,7 +17,7 @@ use clmodel::tree::Expression;
 use clmodel::type_fault::TypeFault;
 
 /// Whether this is the name of a fence, by its place in a tree's table of names.
-pub fn is_fence(name: u32) -> bool
+pub(crate) fn is_fence(name: u32) -> bool
     ensures { result ≡ is_some (fence_named name) }
 {
     name == 24 || name == 25
@@ -66,7 +66,7 @@ fn all_flags_fault(arguments: &[Expression]) -> Option<TypeFault>
 }
 
 /// Arguments that have to name fences, and don't.
-pub fn flags_fault(called: Meaning<'_>, arguments: &[Expression]) -> Option<TypeFault>
+pub(crate) fn flags_fault(called: Meaning<'_>, arguments: &[Expression]) -> Option<TypeFault>
     ensures { result ≡ least (barrier_faults (meaning_of called.entry) (terms arguments.now)) }
 {
     match called {

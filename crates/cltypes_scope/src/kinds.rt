@@ -13,7 +13,7 @@ use clmodel::tree::{AddressSpace, InfixOperator, PointerType, VariableType};
 use clnum::{Builtin, IntType, UnaryOperator, binary_kind, unary_kind};
 
 /// The type of the value of what is declared: of a local array a pointer, and of a private one none.
-pub fn value_type(declared: Declaration) -> Option<VariableType>
+fn value_type(declared: Declaration) -> Option<VariableType>
     ensures { result ≡ value_type declared }
 {
     match declared {
@@ -28,7 +28,7 @@ pub fn value_type(declared: Declaration) -> Option<VariableType>
 }
 
 /// The type of the elements of what is declared, where it can stand in front of an index.
-pub fn element_type(declared: Declaration) -> Option<IntType>
+pub(crate) fn element_type(declared: Declaration) -> Option<IntType>
     ensures { result ≡ element_type declared }
 {
     match declared {
@@ -75,7 +75,7 @@ pub fn element_kind(kind: VariableType) -> VariableType
 }
 
 /// The type of an operator before an operand of this type.
-pub fn unary_type(operator: UnaryOperator, operand: VariableType) -> VariableType
+pub(crate) fn unary_type(operator: UnaryOperator, operand: VariableType) -> VariableType
     ensures { result ≡ unary_type operator operand }
 {
     match operand {
@@ -95,7 +95,7 @@ fn number_kind(operator: InfixOperator, left: IntType, right: IntType) -> IntTyp
 }
 
 /// The type of an operator between two operands: that of a pointer among them, which it moves.
-pub fn binary_type(operator: InfixOperator, left: VariableType, right: VariableType) -> VariableType
+pub(crate) fn binary_type(operator: InfixOperator, left: VariableType, right: VariableType) -> VariableType
     ensures { result ≡ binary_type operator left right }
 {
     match (left, right) {
@@ -108,7 +108,7 @@ pub fn binary_type(operator: InfixOperator, left: VariableType, right: VariableT
 }
 
 /// The type of `condition ? chosen : otherwise`.
-pub fn choice_type(chosen: VariableType, otherwise: VariableType) -> VariableType
+pub(crate) fn choice_type(chosen: VariableType, otherwise: VariableType) -> VariableType
     ensures { result ≡ choice_type chosen otherwise }
 {
     match (chosen, otherwise) {
@@ -137,7 +137,7 @@ fn result_kind(given: Option<IntType>) -> VariableType
 }
 
 /// The type of a call, by that of its last argument.
-pub fn call_kind(meaning: Meaning<'_>, last: VariableType) -> VariableType
+pub(crate) fn call_kind(meaning: Meaning<'_>, last: VariableType) -> VariableType
     ensures { result ≡ call_kind (meaning_of meaning.entry) last }
 {
     match meaning {

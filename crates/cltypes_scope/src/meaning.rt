@@ -7,7 +7,7 @@ use clmodel::tree::VariableType;
 use clnum::IntType;
 
 /// What a call of a function of the text has to know of it.
-#[derive(Debug, Drop)]
+#[derive(Drop)]
 pub struct Signature {
     pub is_kernel: bool,
     /// The type of the value that it gives, if it gives one
@@ -17,7 +17,7 @@ pub struct Signature {
 }
 
 /// What a name stands for.
-#[derive(Clone, Copy, Debug)]
+#[derive(Clone, Copy)]
 pub enum Meaning<'a> {
     /// A variable, a parameter or an array
     Bound(Declaration),

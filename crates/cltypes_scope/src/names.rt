@@ -16,14 +16,14 @@ use clnum::IntType;
 
 /// What is known at a place of a program, and whether the place is in the arguments of a barrier, where the names of fences stand for
 /// numbers (OpenCL 1.2, section 6.12.8).
-#[derive(Clone, Copy, Debug)]
+#[derive(Clone, Copy)]
 pub struct Names<'a> {
     pub context: &'a Context,
     pub in_barrier: bool,
 }
 
 /// What a name stands for among these.
-pub fn meaning_among(names: Names<'_>, name: u32) -> Meaning<'_>
+pub(crate) fn meaning_among(names: Names<'_>, name: u32) -> Meaning<'_>
     ensures { meaning_of result ≡ meaning (names_of names.entry) name }
 {
     if names.in_barrier && is_fence(name) {
@@ -34,7 +34,7 @@ pub fn meaning_among(names: Names<'_>, name: u32) -> Meaning<'_>
 }
 
 /// What is known in the arguments of a call, by what is called.
-pub fn names_inside<'a>(names: Names<'a>, called: Meaning<'_>) -> Names<'a>
+pub(crate) fn names_inside<'a>(names: Names<'a>, called: Meaning<'_>) -> Names<'a>
     ensures { AreAlike (names_of result) (inside_call (meaning_of called.entry) (names_of names.entry)) }
 {
     Names {
