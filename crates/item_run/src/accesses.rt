@@ -38,21 +38,21 @@ fn number_of(answer: Answer) -> u64
 }
 
 /// A load of an element.
-pub fn load_of(element: IntType) -> Operation
+pub(crate) fn load_of(element: IntType) -> Operation
     ensures { result ≡ operation.Load (element_width element) }
 {
     Operation::Load(width(element))
 }
 
 /// The value of an element that a load was answered.
-pub fn loaded(element: IntType, answer: Answer) -> Operand
+pub(crate) fn loaded(element: IntType, answer: Answer) -> Operand
     ensures { result ≡ operand.Integral (wrapped element (pos (answered answer))) }
 {
     Operand::Integral(Value::from_bits(element, number_of(answer)))
 }
 
 /// A store of an element.
-pub fn store_of(element: IntType, value: Value) -> Operation
+pub(crate) fn store_of(element: IntType, value: Value) -> Operation
     ensures { result ≡ operation.Store (element_width element) (bits_of element value.number) }
 {
     Operation::Store(width(element), value.bits_in(element))
@@ -86,7 +86,7 @@ fn amount(function: AtomicFunction, number: Value) -> Value
 }
 
 /// An atomic update of 32 bits.
-pub fn update_of(function: AtomicFunction, element: IntType, number: Value) -> Operation
+pub(crate) fn update_of(function: AtomicFunction, element: IntType, number: Value) -> Operation
     ensures { result ≡ operation.Update (next.class_of function element) (bits_of int_type.Uint (next.amount function number).number) }
 {
     let bits = amount(function, number).bits_in(IntType::Uint);

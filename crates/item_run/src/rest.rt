@@ -8,15 +8,15 @@ use item_value::halt::Halt;
 use regcode::Instruction;
 
 /// Why an item rests: it doesn't go on, or it stands at an instruction that asks.
-#[derive(Clone, Copy, Debug, PartialEq, Eq)]
-pub enum Rest {
+#[derive(Clone, Copy)]
+pub(crate) enum Rest {
     Halts(Halt),
     Asks(Instruction),
 }
 
 /// What an instruction asks.
-#[derive(Clone, Copy, Debug, PartialEq, Eq)]
-pub enum Wanted {
+#[derive(Clone, Copy)]
+pub(crate) enum Wanted {
     Access {
         pointer: Pointer,
         operation: Operation,

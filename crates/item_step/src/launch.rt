@@ -131,13 +131,6 @@ impl<'a> Launch<'a> {
         self.group_size
     }
 
-    /// The ticks that an item may make.
-    pub fn budget(&self) -> u32
-        ensures { result ≡ (setup_of self.now).budget }
-    {
-        self.setup.budget
-    }
-
     /// An item before its first action.
     pub fn start(&self, alloc: Global, item: u32) -> Result<Item<'_>, AllocError>
         ensures { IfOk result (λ started. (answers : List Answer) → action_of started answers ≡ next (setup_of self.now) item answers) }

@@ -17,7 +17,7 @@ use std::alloc::{AllocError, Global};
 const MAX_LOCAL: u64 = 32768;
 
 /// The local objects of a kernel in the order of their numbers: the numbers of their names, and their sizes in bytes.
-#[derive(Debug, Drop)]
+#[derive(Drop)]
 pub(crate) struct LocalObjects {
     pub(crate) names: Vec<u32>,
     pub(crate) sizes: Vec<u64>,

@@ -4,7 +4,7 @@
 use clmodel::action::Cause;
 
 /// An instruction has no next one: the item fails, or it has ended.
-#[derive(Clone, Copy, Debug, PartialEq, Eq)]
+#[derive(Clone, Copy)]
 pub enum Halt {
     Fail(Cause),
     Finish,

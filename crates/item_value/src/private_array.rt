@@ -27,7 +27,7 @@ impl Model for PrivateArray {
 
 impl PrivateArray {
     /// An array without elements that has room for so many.
-    pub fn new(alloc: Global, most: u32) -> Result<Self, AllocError>
+    pub(crate) fn new(alloc: Global, most: u32) -> Result<Self, AllocError>
         ensures { IfOk result (λ array. array ≡ keeping [] most) }
     {
         let mut elements = Vec::with_capacity(alloc, most as usize)?;
@@ -36,7 +36,7 @@ impl PrivateArray {
     }
 
     /// Its elements.
-    pub fn as_slice(&self) -> &[Option<u64>]
+    pub(crate) fn as_slice(&self) -> &[Option<u64>]
         ensures { result.now ≡ self.now.present }
     {
         &self.elements[..self.count]

@@ -26,7 +26,7 @@ fn no_such_kernel(rt: HostRuntime) -> Result<(), Fail> {
     let outcome = lower_kernel(alloc, &program, 26);
     assert_eq!(rt; outcome.err(), Some(LowerFault::NoSuchKernel));
     let code = lower_kernel(alloc, &program, 27)?;
-    assert_eq!(rt; code.count(), 1);
+    assert_eq!(rt; code.instructions().len(), 1);
     Ok(())
 }
 
@@ -43,19 +43,22 @@ fn tables(rt: HostRuntime) -> Result<(), Fail> {
         is_const: false,
         element: IntType::Uchar,
     });
-    let parameters = [pointer, VariableType::Integer(IntType::Int)];
-    assert!(rt; code.parameters() == parameters.as_slice());
-    assert_eq!(rt; code.arrays(), [0u32, 0, 5, 2].as_slice());
-    assert_eq!(rt; code.objects(), 3);
-    assert_eq!(rt; code.names(), 29);
+    let tables = code.tables();
+    assert!(rt;
+        tables.parameters.as_slice()
+            == [pointer, VariableType::Integer(IntType::Int)].as_slice()
+    );
+    assert_eq!(rt; tables.arrays.as_slice(), [0u32, 0, 5, 2].as_slice());
+    assert_eq!(rt; tables.objects, 3);
+    assert_eq!(rt; tables.names, 29);
     assert_eq!(rt;
-        code.loops(),
+        tables.loops.as_slice(),
         [
             0u32, 0, 0, 0, 0, 0, 0, 0, 0, 0, 1, 1, 1, 1, 1, 1, 1, 1, 1, 1, 0
         ]
         .as_slice()
     );
-    assert_eq!(rt; code.registers(), 85);
+    assert_eq!(rt; tables.registers.len(), 85);
     let kinds = [
         (9, Some(RegisterKind::Pointer(IntType::Uchar))),
         (44, Some(RegisterKind::Pointer(IntType::Int))),
@@ -64,7 +67,7 @@ fn tables(rt: HostRuntime) -> Result<(), Fail> {
         (85, None),
     ];
     for (register, kind) in kinds {
-        assert!(rt; code.register(register) == kind, "{register}");
+        assert!(rt; tables.registers.get(register).copied() == kind, "{register}");
     }
     Ok(())
 }

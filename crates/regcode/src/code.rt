@@ -1,17 +1,16 @@
 //! Verified code.
 #![tactic(auto)]
 
-ghost use Rattle.std.specs.Prelude.{◌≡◌, ◌<◌, length, slice_get};
+ghost use Rattle.std.specs.Prelude.{◌≡◌};
 ghost use Rattle.regcode.specs.Listed.{listing};
 ghost use Rattle.regcode.specs.Rules.{IsVerified};
 
 use crate::instruction::Instruction;
-use crate::tables::{RegisterKind, Tables};
-use clmodel::tree::VariableType;
+use crate::tables::Tables;
 use std::marker::Model;
 
 /// Code with its tables, which was verified.
-#[derive(Debug, Drop)]
+#[derive(Drop)]
 pub struct Code {
     instructions: Vec<Instruction>,
     tables: Tables,
@@ -40,75 +39,18 @@ impl Code {
         }
     }
 
-    /// How many instructions there are: one at least.
-    pub fn count(&self) -> usize
-        ensures count { result ≡ length self.now.instructions }
-        ensures verified { IsVerified self.now }
-    {
-        self.instructions.len()
-    }
-
-    /// How many registers there are.
-    pub fn registers(&self) -> usize
-        ensures { result ≡ length self.now.registers }
-    {
-        self.tables.registers.len()
-    }
-
-    /// The instruction at a place.
-    pub fn instruction(&self, place: usize) -> Option<Instruction>
-        ensures value { result ≡ slice_get self.now.instructions place }
-        ensures verified { IsVerified self.now }
-    {
-        self.instructions.get(place).copied()
-    }
-
-    /// All instructions.
+    /// All instructions: one at least.
     pub fn instructions(&self) -> &[Instruction]
-        ensures { result.now ≡ self.now.instructions }
+        ensures value { result.now ≡ self.now.instructions }
+        ensures verified { IsVerified self.now }
     {
         &self.instructions
     }
 
-    /// What a register may hold.
-    pub fn register(&self, number: usize) -> Option<RegisterKind>
-        ensures { result ≡ slice_get self.now.registers number }
+    /// The tables that it was verified with.
+    pub fn tables(&self) -> &Tables
+        ensures { listing self.now.instructions result.now ≡ self.now }
     {
-        self.tables.registers.get(number).copied()
-    }
-
-    /// How many elements each private array has at most.
-    pub fn arrays(&self) -> &[u32]
-        ensures { result.now ≡ self.now.arrays }
-    {
-        &self.tables.arrays
-    }
-
-    /// How many local objects there are.
-    pub fn objects(&self) -> u32
-        ensures { result ≡ self.now.objects }
-    {
-        self.tables.objects
-    }
-
-    /// How many names there are.
-    pub fn names(&self) -> u32
-        ensures { result ≡ self.now.names }
-    {
-        self.tables.names
-    }
-
-    /// The types of the kernel's parameters.
-    pub fn parameters(&self) -> &[VariableType]
-        ensures { result.now ≡ self.now.parameters }
-    {
-        &self.tables.parameters
-    }
-
-    /// How many loops are entered where each instruction stands.
-    pub fn loops(&self) -> &[u32]
-        ensures { result.now ≡ self.now.loops }
-    {
-        &self.tables.loops
+        &self.tables
     }
 }

@@ -25,7 +25,7 @@ pub enum DumpFault {
 }
 
 /// What an instruction names.
-#[derive(Clone, Copy, Debug)]
+#[derive(Clone, Copy)]
 enum Part {
     Register(u32),
     /// The element that the pointer in a register points to
@@ -43,7 +43,7 @@ enum Part {
 type Parts = (Option<Part>, Option<Part>, Option<Part>);
 
 /// A piece of a line.
-#[derive(Clone, Copy, Debug)]
+#[derive(Clone, Copy)]
 enum Piece {
     Word(&'static str),
     /// In decimal

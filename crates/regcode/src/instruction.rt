@@ -8,7 +8,7 @@ use clnum::{BinaryOperator, Builtin, IntType, UnaryOperator, Value};
 
 /// An instruction. Registers and private arrays are named by their numbers, variables by their names' places in the tree's table of names, loops by
 /// their depth: 0 is the outermost. `to` is the register that is written.
-#[derive(Clone, Copy, Debug, PartialEq, Eq)]
+#[derive(Clone, Copy)]
 pub enum Instruction {
     /// A number
     Constant {

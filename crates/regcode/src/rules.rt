@@ -16,9 +16,9 @@ use clnum::IntType;
 
 /// Code that is judged.
 #[derive(Clone, Copy)]
-pub struct Judged<'a> {
-    pub instructions: &'a [Instruction],
-    pub tables: &'a Tables,
+pub(crate) struct Judged<'a> {
+    pub(crate) instructions: &'a [Instruction],
+    pub(crate) tables: &'a Tables,
 }
 
 impl Judged<'_> {
@@ -242,7 +242,7 @@ impl Judged<'_> {
     }
 
     /// Whether the instruction at a place keeps the rules.
-    pub fn is_fine(&self, place: usize, instruction: &Instruction) -> bool
+    pub(crate) fn is_fine(&self, place: usize, instruction: &Instruction) -> bool
         requires { place < length self.now.instructions.now }
         ensures { IsTrue result ↔ spec.IsFine (listing self.now.instructions.now self.now.tables.now) place instruction.now }
     {

@@ -5,14 +5,14 @@ use clmodel::tree::VariableType;
 use clnum::IntType;
 
 /// What a register may hold: a number of a type, or a pointer to elements of a type.
-#[derive(Clone, Copy, Debug, PartialEq, Eq)]
+#[derive(Clone, Copy, PartialEq, Eq)]
 pub enum RegisterKind {
     Integer(IntType),
     Pointer(IntType),
 }
 
 /// The tables of code: registers, private arrays, local objects, names and parameters are named by their places here.
-#[derive(Debug, Drop)]
+#[derive(Drop)]
 pub struct Tables {
     /// What each register may hold
     pub registers: Vec<RegisterKind>,

@@ -11,7 +11,7 @@ use clmodel::tree::AddressSpace;
 use clnum::{BinaryOperator, Builtin, IntType, UnaryOperator};
 
 /// The name of a type (OpenCL 1.2, section 6.1.1).
-pub fn type_word(kind: IntType) -> &'static str
+pub(crate) fn type_word(kind: IntType) -> &'static str
     ensures { result.now ≡ text.type_word kind }
 {
     match kind {
@@ -27,7 +27,7 @@ pub fn type_word(kind: IntType) -> &'static str
 }
 
 /// The qualifier of an address space (OpenCL 1.2, section 6.5), with a space behind it.
-pub fn space_word(space: AddressSpace) -> &'static str
+pub(crate) fn space_word(space: AddressSpace) -> &'static str
     ensures { result.now ≡ text.space_word space }
 {
     match space {
@@ -38,7 +38,7 @@ pub fn space_word(space: AddressSpace) -> &'static str
 }
 
 /// The flags of a barrier (OpenCL 1.2, section 6.12.8).
-pub fn fences_word(fences: Fences) -> &'static str
+pub(crate) fn fences_word(fences: Fences) -> &'static str
     ensures { result.now ≡ text.fences_word fences }
 {
     match (fences.local, fences.global) {
@@ -127,7 +127,7 @@ fn update_word(function: AtomicFunction) -> &'static str
 }
 
 /// The name of an instruction: that of its operator or its function, if it has one.
-pub fn instruction_word(instruction: &Instruction) -> &'static str
+pub(crate) fn instruction_word(instruction: &Instruction) -> &'static str
     ensures { result.now ≡ text.word_of instruction.now }
 {
     match instruction {
