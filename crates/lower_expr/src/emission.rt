@@ -146,7 +146,7 @@ pub fn emit_arguments(
 }
 
 /// What is left at a level for what is assigned to.
-#[derive(Clone, Copy, Debug, PartialEq, Eq)]
+#[derive(Clone, Copy)]
 pub enum TargetKind {
     /// Nothing: it is a variable as a whole
     Variable,

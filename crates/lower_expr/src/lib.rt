@@ -3,7 +3,7 @@
 
 pub mod emission;
 pub mod expression_laws;
-pub mod jumps;
+mod jumps;
 pub mod scope;
 pub mod tails;
 pub mod types;

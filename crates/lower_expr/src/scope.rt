@@ -75,7 +75,7 @@ pub fn level_at(base: u32, count: usize) -> Result<u32, AllocError>
 }
 
 /// A variable: its name, its declared type, and how many elements it has, if it is a private array; its type is that of the elements then.
-#[derive(Clone, Copy, Debug, PartialEq, Eq)]
+#[derive(Clone, Copy)]
 pub struct Variable {
     name: u32,
     kind: VariableType,
@@ -83,7 +83,7 @@ pub struct Variable {
 }
 
 /// A variable in scope, and the place of the one of its name that it hides.
-#[derive(Clone, Copy, Debug, PartialEq, Eq)]
+#[derive(Clone, Copy)]
 pub struct Entry {
     variable: Variable,
     hidden: Option<usize>,
@@ -230,7 +230,7 @@ impl Scope {
     }
 
     /// Whether the innermost variable of a name is a private array.
-    pub fn is_private_array(&self, name: u32) -> bool
+    pub(crate) fn is_private_array(&self, name: u32) -> bool
         ensures { result ≡ next.is_private_array self.now.variables name }
     {
         match self.place(name) {
@@ -241,7 +241,7 @@ impl Scope {
 
     /// The level of the innermost variable of a name, which is the number of its private array; the lowest where there is none. Err
     /// where there are no so many levels.
-    pub fn level(&self, name: u32) -> Result<u32, AllocError>
+    pub(crate) fn level(&self, name: u32) -> Result<u32, AllocError>
         ensures { IfOk result (λ level. level ≡ spec.level_of self.now name) }
     {
         match self.place(name) {

@@ -24,14 +24,12 @@ use std::alloc::AllocError;
 pub fn add(code: &mut Vec<Instruction>, instruction: Instruction) -> Result<(), AllocError>
     ensures { OnOk result (code.new.items ≡ code.old.items ++ instruction ∷ []) }
 {
-    match code.push(instruction) {
-        Ok(()) => Ok(()),
-        Err(_) => Err(AllocError),
-    }
+    code.push(instruction)?;
+    Ok(())
 }
 
 /// Adds the code of a number, and gives its type.
-pub fn number(
+pub(crate) fn number(
     level: u32,
     value: Value,
     code: &mut Vec<Instruction>,
@@ -46,7 +44,7 @@ pub fn number(
 }
 
 /// Adds the code of a variable's value, and gives its type.
-pub fn variable(
+pub(crate) fn variable(
     scope: &Scope,
     level: u32,
     name: u32,
@@ -69,7 +67,7 @@ pub fn variable(
 }
 
 /// Adds the move of a pointer of this type at a level by an index of that type at the level above.
-pub fn offset(
+pub(crate) fn offset(
     level: u32,
     pointer: VariableType,
     index: VariableType,
@@ -91,7 +89,7 @@ pub fn offset(
 }
 
 /// Adds the load of what a pointer of this type points to, and gives its type.
-pub fn load(
+pub(crate) fn load(
     level: u32,
     pointer: VariableType,
     code: &mut Vec<Instruction>,
@@ -132,7 +130,7 @@ pub fn private_load(
 }
 
 /// Adds the load of an element of the private array of a name at a level, by its index of this type there, and gives its type.
-pub fn array_element(
+pub(crate) fn array_element(
     scope: &Scope,
     level: u32,
     name: u32,
@@ -176,7 +174,7 @@ pub fn private_store(
 }
 
 /// Adds the test that a value of this type at a level is a pointer.
-pub fn point(
+pub(crate) fn point(
     level: u32,
     pointer: VariableType,
     code: &mut Vec<Instruction>,
@@ -188,7 +186,7 @@ pub fn point(
 }
 
 /// Adds an operator on an operand of this type, and gives its type.
-pub fn unary(
+pub(crate) fn unary(
     level: u32,
     operator: UnaryOperator,
     operand: VariableType,
@@ -213,7 +211,7 @@ pub fn unary(
 }
 
 /// Adds a cast of an operand of this type, and gives its type.
-pub fn cast(
+pub(crate) fn cast(
     level: u32,
     target: IntType,
     operand: VariableType,
@@ -246,7 +244,7 @@ pub struct Arguments {
 
 /// Adds the call of a built-in function that gives a value, and gives its type. Where there is no such function of so many
 /// arguments, the item ends.
-pub fn call(
+pub(crate) fn call(
     level: u32,
     function: Option<BuiltIn>,
     arguments: &Arguments,

@@ -18,7 +18,7 @@ use regcode::Instruction;
 use std::alloc::AllocError;
 
 /// What is assigned to: a variable of a name, an element of its array by an index of a type, or what a pointer of a type points to.
-#[derive(Clone, Copy, Debug, PartialEq, Eq)]
+#[derive(Clone, Copy)]
 pub struct Destination {
     name: u32,
     kind: TargetKind,
