@@ -127,7 +127,7 @@ fn conflict_from(
 }
 
 /// The conflict of the newest access.
-pub fn newest_conflict(launch: &PlainLaunch, log: &[Entry]) -> Option<Conflict>
+pub(crate) fn newest_conflict(launch: &PlainLaunch, log: &[Entry]) -> Option<Conflict>
     requires grouped { 0 < launch.now.group_size }
     requires numbered { All IsNumbered log.now }
     ensures { (next : ℕ → List Answer → Action) → result ≡ newest_conflict (launch_of launch.now next) (accesses_of log.now) }
@@ -144,7 +144,7 @@ pub fn newest_conflict(launch: &PlainLaunch, log: &[Entry]) -> Option<Conflict>
 }
 
 /// Where an item with this action waits for the others of its group.
-pub fn stop_of(action: Action) -> Option<Stop>
+pub(crate) fn stop_of(action: Action) -> Option<Stop>
     ensures { result ≡ stop_of action }
 {
     match action {
@@ -182,7 +182,7 @@ fn same_stop(a: &Stop, b: &Stop) -> bool
 }
 
 /// Whether two items are at one stop.
-pub fn both_stop(a: &Option<Stop>, b: &Option<Stop>) -> bool
+pub(crate) fn both_stop(a: &Option<Stop>, b: &Option<Stop>) -> bool
     ensures { result ≡ both_stop a.now b.now }
 {
     match a {

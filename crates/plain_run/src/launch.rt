@@ -14,7 +14,7 @@ use clmodel::text::Name;
 use std::alloc::{AllocError, Global};
 
 /// How many bytes an element has.
-pub fn byte_count(width: Width) -> u64
+pub(crate) fn byte_count(width: Width) -> u64
     ensures { result ≡ byte_count width }
 {
     match width {
@@ -26,7 +26,7 @@ pub fn byte_count(width: Width) -> u64
 }
 
 /// The width of what an operation acts on.
-pub fn width_of(operation: Operation) -> Width
+pub(crate) fn width_of(operation: Operation) -> Width
     ensures { result ≡ width_of operation }
 {
     match operation {
@@ -37,7 +37,7 @@ pub fn width_of(operation: Operation) -> Width
 }
 
 /// Whether an operation reads its bytes.
-pub fn reads(operation: Operation) -> bool
+pub(crate) fn reads(operation: Operation) -> bool
     ensures { result ≡ reads operation }
 {
     match operation {
@@ -48,7 +48,7 @@ pub fn reads(operation: Operation) -> bool
 }
 
 /// The kind of an operation.
-pub fn kind_of(operation: Operation) -> AccessKind
+pub(crate) fn kind_of(operation: Operation) -> AccessKind
     ensures { result ≡ kind_of operation }
 {
     match operation {
@@ -59,7 +59,7 @@ pub fn kind_of(operation: Operation) -> AccessKind
 }
 
 /// The region that an object is for the items of a group.
-pub fn region_of(group: u32, object: Object) -> Region
+pub(crate) fn region_of(group: u32, object: Object) -> Region
     ensures { result ≡ region_of group object }
 {
     match object {
@@ -69,7 +69,7 @@ pub fn region_of(group: u32, object: Object) -> Region
 }
 
 /// The first byte of an element of so many bytes, or `None` where the element is out of range.
-pub fn first_byte(bytes: u64, element: i64, count: u64) -> Option<u64>
+pub(crate) fn first_byte(bytes: u64, element: i64, count: u64) -> Option<u64>
     requires { 0 < count }
     ensures value { result ≡ first_byte bytes element count }
     ensures inside { IfSome result (λ first. first + count ≤ bytes) }
@@ -97,7 +97,7 @@ fn name_at(alloc: Global, names: &[Name], number: u32) -> Result<Name, AllocErro
 
 impl PlainLaunch {
     /// The group of an item.
-    pub fn group_of(&self, item: u32) -> u32
+    pub(crate) fn group_of(&self, item: u32) -> u32
         requires { 0 < self.now.group_size }
         ensures { result ≡ item / self.now.group_size }
     {
@@ -105,7 +105,7 @@ impl PlainLaunch {
     }
 
     /// How many bytes a region has.
-    pub fn bytes_of(&self, region: Region) -> u64
+    pub(crate) fn bytes_of(&self, region: Region) -> u64
         ensures { (next : ℕ → List Answer → Action) → result ≡ bytes_of (launch_of self.now next) region }
     {
         match region {
@@ -122,7 +122,7 @@ impl PlainLaunch {
     }
 
     /// Where a region lies, as a reply names it.
-    pub fn location_of(&self, alloc: Global, region: Region) -> Result<Location, AllocError>
+    pub(crate) fn location_of(&self, alloc: Global, region: Region) -> Result<Location, AllocError>
         ensures { IfOk result (λ location. (next : ℕ → List Answer → Action) → location ≡ location_of (launch_of self.now next) region) }
     {
         match region {
@@ -138,7 +138,7 @@ impl PlainLaunch {
     }
 
     /// A copy of what the source names by this number.
-    pub fn source_name(&self, alloc: Global, number: u32) -> Result<Name, AllocError>
+    pub(crate) fn source_name(&self, alloc: Global, number: u32) -> Result<Name, AllocError>
         ensures { IfOk result (λ name. name ≡ slice_index_or self.now.source_names.items number []) }
     {
         name_at(alloc, self.source_names.as_slice(), number)

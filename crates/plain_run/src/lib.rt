@@ -17,7 +17,7 @@ pub use state::PlainState;
 
 /// A launch (OpenCL 1.2, section 3.2) of so many items, so many to a group, with the bytes of its buffers, the bytes that each
 /// local object of the kernel has, and the names that a fault gives to buffers, to local objects and to what the source names.
-#[derive(Debug, Drop)]
+#[derive(Drop)]
 pub struct PlainLaunch {
     pub items: u32,
     pub group_size: u32,

@@ -14,14 +14,14 @@ use clmodel::access::{Access, Class, Operation, Region};
 use clmodel::action::Answer;
 
 /// An access that was made, and the value whose low bytes it wrote, if it wrote.
-#[derive(Clone, Copy, Debug)]
+#[derive(Clone, Copy)]
 pub struct Entry {
     pub access: Access,
     pub written: Option<u64>,
 }
 
 /// Byte k of a number, the lowest first.
-pub fn byte_of(k: u64, value: u64) -> u8
+pub(crate) fn byte_of(k: u64, value: u64) -> u8
     requires { k < 8 }
     ensures { result ≡ byte_of k value }
 {
@@ -29,14 +29,14 @@ pub fn byte_of(k: u64, value: u64) -> u8
 }
 
 /// Whether a byte is one of so many from the first on.
-pub fn covers(first: u64, count: u64, byte: u64) -> bool
+pub(crate) fn covers(first: u64, count: u64, byte: u64) -> bool
     ensures { result ≡ covers first count byte }
 {
     first <= byte && byte - first < count
 }
 
 /// Whether two regions are one.
-pub fn same_region(a: Region, b: Region) -> bool
+pub(crate) fn same_region(a: Region, b: Region) -> bool
     ensures { result ≡ same_region a b }
 {
     match a {
@@ -88,7 +88,7 @@ fn initial_byte(launch: &PlainLaunch, region: Region, byte: u64) -> Option<u8>
 }
 
 /// What a region has at a byte after these accesses.
-pub fn byte_now(launch: &PlainLaunch, log: &[Entry], region: Region, byte: u64) -> Option<u8>
+pub(crate) fn byte_now(launch: &PlainLaunch, log: &[Entry], region: Region, byte: u64) -> Option<u8>
     ensures { (next : ℕ → List Answer → Action) → result ≡ memory_of (launch_of launch.now next) (reverse log.now) region byte }
 {
     let mut found = initial_byte(launch, region, byte);
@@ -99,7 +99,7 @@ pub fn byte_now(launch: &PlainLaunch, log: &[Entry], region: Region, byte: u64) 
 }
 
 /// The number of so many bytes of a region after these accesses, or `None` where one of them is unset.
-pub fn number(
+pub(crate) fn number(
     launch: &PlainLaunch,
     log: &[Entry],
     region: Region,
@@ -120,7 +120,7 @@ pub fn number(
 }
 
 /// The lowest unset byte among so many bytes of a region after these accesses.
-pub fn lowest_unset(
+pub(crate) fn lowest_unset(
     launch: &PlainLaunch,
     log: &[Entry],
     region: Region,
@@ -146,7 +146,7 @@ fn signed_place(x: u32) -> u32
 }
 
 /// What an update leaves of a number.
-pub fn combined(class: Class, x: u32, operand: u32) -> u32
+pub(crate) fn combined(class: Class, x: u32, operand: u32) -> u32
     ensures { result ≡ combined class x operand }
 {
     match class {
@@ -162,7 +162,7 @@ pub fn combined(class: Class, x: u32, operand: u32) -> u32
 }
 
 /// The number that an operation finds from a byte of a region on, where it reads one, or `None` where one of its bytes is unset.
-pub fn found(
+pub(crate) fn found(
     launch: &PlainLaunch,
     log: &[Entry],
     region: Region,
@@ -181,7 +181,7 @@ pub fn found(
 }
 
 /// The value that an operation writes, if it writes, where it found a number.
-pub fn written_by(operation: Operation, found: u64) -> Option<u64>
+pub(crate) fn written_by(operation: Operation, found: u64) -> Option<u64>
     requires { found < 256 ^ size_of operation }
     ensures { result ≡ written_by operation found }
 {
@@ -193,7 +193,7 @@ pub fn written_by(operation: Operation, found: u64) -> Option<u64>
 }
 
 /// The answer to an operation that found a number.
-pub fn answer_to(operation: Operation, found: u64) -> Answer
+pub(crate) fn answer_to(operation: Operation, found: u64) -> Answer
     ensures { result ≡ answer_to operation found }
 {
     match operation {

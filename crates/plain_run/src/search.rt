@@ -15,7 +15,7 @@ use clmodel::next_action::NextAction;
 use std::alloc::{AllocError, Global};
 
 /// The lowest item of a group.
-pub fn first_item(launch: &PlainLaunch, group: u32) -> Option<u32>
+pub(crate) fn first_item(launch: &PlainLaunch, group: u32) -> Option<u32>
     requires { 0 < launch.now.group_size }
     ensures lowest { (next : ℕ → List Answer → Action) → result ≡ first_item (launch_of launch.now next) group }
     ensures below { IfSome result (λ item. item < launch.now.items) }
@@ -99,7 +99,7 @@ fn item_stop<N: NextAction>(
 }
 
 /// The lowest item of a group that isn't at the same stop as this one of its items.
-pub fn straggler<N: NextAction>(
+pub(crate) fn straggler<N: NextAction>(
     alloc: Global,
     launch: &PlainLaunch,
     items: &N,
@@ -137,7 +137,7 @@ fn has_ended(action: Action) -> bool
 }
 
 /// The lowest item that hasn't ended.
-pub fn lowest_unended<N: NextAction>(
+pub(crate) fn lowest_unended<N: NextAction>(
     alloc: Global,
     launch: &PlainLaunch,
     items: &N,
@@ -156,7 +156,7 @@ pub fn lowest_unended<N: NextAction>(
 }
 
 /// Notes which of the first items have ended.
-pub fn note_ended<N: NextAction>(
+pub(crate) fn note_ended<N: NextAction>(
     alloc: Global,
     launch: &PlainLaunch,
     items: &N,

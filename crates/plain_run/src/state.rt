@@ -15,7 +15,7 @@ use std::alloc::{AllocError, Global};
 use std::marker::Model;
 
 /// The answers of an item, the oldest first.
-#[derive(Debug, Drop)]
+#[derive(Drop)]
 pub struct AnswerList {
     items: Vec<Answer>,
 }
@@ -66,7 +66,7 @@ impl AnswerList {
 }
 
 /// A group's release from a barrier, with the address spaces that the barrier fenced.
-#[derive(Clone, Copy, Debug)]
+#[derive(Clone, Copy)]
 pub struct GroupRelease {
     pub group: u32,
     pub fences: Fences,
@@ -74,7 +74,7 @@ pub struct GroupRelease {
 
 /// A state of a launch: the accesses and the releases that were made, the oldest first, each item's answers, and a number of items,
 /// the first ones, that are known to have ended.
-#[derive(Debug, Drop)]
+#[derive(Drop)]
 pub struct PlainState {
     pub log: Vec<Entry>,
     pub releases: Vec<GroupRelease>,
@@ -103,7 +103,7 @@ fn global_fences(releases: &[GroupRelease], group: u32) -> usize
 }
 
 /// A group's interval of a region: how many of its releases fenced the region's address space.
-pub fn interval_of(releases: &[GroupRelease], group: u32, region: Region) -> u32
+pub(crate) fn interval_of(releases: &[GroupRelease], group: u32, region: Region) -> u32
     requires { count_by (λ r. r.group == group) releases.now < 2 ^ 32 }
     ensures { result ≡ by_region region (global_fences releases.now group) (local_fences releases.now group) }
 {
@@ -132,7 +132,7 @@ impl PlainState {
     }
 
     /// What an item does next.
-    pub fn next_action<N: NextAction>(
+    pub(crate) fn next_action<N: NextAction>(
         &self,
         alloc: Global,
         items: &N,
@@ -145,7 +145,12 @@ impl PlainState {
     }
 
     /// Adds an access with its answer.
-    pub fn record(&mut self, item: u32, entry: Entry, answer: Answer) -> Result<(), AllocError>
+    pub(crate) fn record(
+        &mut self,
+        item: u32,
+        entry: Entry,
+        answer: Answer,
+    ) -> Result<(), AllocError>
         requires { item < length self.old.answers.items }
         ensures log { OnOk result (self.new.log.items ≡ self.old.log.items ++ entry ∷ []) }
         ensures answers { OnOk result (self.new.answers.items
@@ -186,7 +191,7 @@ impl PlainState {
     }
 
     /// Adds a release, with an answer of each item of the group.
-    pub fn release(
+    pub(crate) fn release(
         &mut self,
         alloc: Global,
         launch: &PlainLaunch,

@@ -20,7 +20,7 @@ use clmodel::schedule::Event;
 use std::alloc::{AllocError, Global};
 
 /// An access that an item makes next.
-#[derive(Clone, Copy, Debug)]
+#[derive(Clone, Copy)]
 pub struct NextAccess {
     pub object: Object,
     pub element: i64,

@@ -24,7 +24,7 @@ use clmodel::schedule::Event;
 use std::alloc::{AllocError, Global};
 
 /// What the canonical run does in a state: it makes an event, or ends with a report or with none.
-#[derive(Debug, Drop)]
+#[derive(Drop)]
 pub enum PlainTurn {
     Makes(Event),
     Reports(Fault),
