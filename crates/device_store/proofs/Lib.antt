@@ -1,4 +1,3 @@
 pub mod Sizes
 pub mod Functions
 pub mod Numbers
-pub mod Kernels

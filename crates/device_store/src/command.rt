@@ -9,7 +9,7 @@ use clmodel::type_fault::TypeFault;
 use clsyntax_lex::token::SyntaxFault;
 
 /// A command of the host (OpenCL 1.2, chapter 5, in an order of their own).
-#[derive(Debug, Drop)]
+#[derive(Drop)]
 pub enum Command {
     /// Makes a buffer of so many zero bytes (section 5.2.1).
     Buffer {
@@ -60,7 +60,7 @@ pub enum BuildFault {
 }
 
 /// Why a command was refused. A refused command changes nothing.
-#[derive(Clone, Copy, Debug, PartialEq, Eq)]
+#[derive(Clone, Copy)]
 pub enum Refusal {
     /// 1: the name is that of a buffer, a program or a kernel
     NameInUse,
@@ -97,7 +97,7 @@ pub enum Refusal {
 }
 
 /// The answer to a command.
-#[derive(Debug, Drop)]
+#[derive(Drop)]
 pub enum Reply {
     Done,
     /// The bytes that were read

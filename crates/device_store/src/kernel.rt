@@ -94,7 +94,7 @@ impl Kernel {
     }
 
     /// Sets the argument of an index, over an earlier one, if there is such a parameter.
-    pub fn set_argument(&mut self, index: usize, argument: Argument)
+    fn set_argument(&mut self, index: usize, argument: Argument)
         ensures { self.new ≡ with_argument self.old index argument }
     {
         if index < self.arguments.len() {
@@ -105,7 +105,7 @@ impl Kernel {
 
 /// Sets the argument of an index of the kernel of a name, over an earlier one, if there are such a kernel and such a parameter
 /// (OpenCL 1.2, section 5.7.2).
-#[tactic(auto, using(crate::proofs::Kernels::unreplaced))]
+#[tactic(auto, using(spaces_base::proofs::Tables::unreplaced))]
 pub fn set_argument(kernels: &mut Table<Kernel>, name: &Name, index: usize, argument: Argument)
     ensures { kernels.new ≡ set_value (is name.now) kernels.old (with_argument (unwrap_or (find kernels.old name.now) no_kernel) index argument) }
 {
@@ -116,7 +116,7 @@ pub fn set_argument(kernels: &mut Table<Kernel>, name: &Name, index: usize, argu
 
 /// The kernel of a name, by its number, among functions.
 #[tactic(auto, using(crate::proofs::Functions::one_more))]
-pub fn kernel_in(functions: &[Function], number: usize) -> Option<&Function>
+fn kernel_in(functions: &[Function], number: usize) -> Option<&Function>
     ensures { option_map (λ f. func f.now) result ≡ kernel_in (then_funcs NoFunc (map func functions.now)) number }
 {
     let mut found = None;

@@ -71,15 +71,6 @@ pub fn is_too_many(range: &Range) -> bool
     global.iter().zip(local).any(|(g, l)| *g != *l)
 }
 
-/// How many items a launch has.
-#[tactic(auto, using(crate::proofs::Sizes::sizes))]
-pub fn item_count(range: &Range) -> u32
-    requires { IsLaunchable range.now }
-    ensures { result ≡ item_count range.now }
-{
-    product(range.global.as_slice()) as u32
-}
-
 /// How many items a group has.
 #[tactic(auto, using(crate::proofs::Sizes::sizes))]
 pub fn group_items(range: &Range) -> u32

@@ -18,7 +18,7 @@ use device_store::command::{BuildFault, Refusal, Reply};
 use ends::{Write, WriteFailed};
 
 /// A part of a reply's line.
-#[derive(Clone, Copy, Debug)]
+#[derive(Clone, Copy)]
 enum Part<'a> {
     Text(&'a str),
     Name(&'a [u8]),
