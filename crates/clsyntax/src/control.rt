@@ -9,7 +9,7 @@ ghost use Rattle.clsyntax_terms.specs.Views.{frames_of, opened, maybe_statement,
 ghost use Rattle.clsyntax.specs.Views.{settled_of, ends_front};
 
 use crate::heads::on_typing;
-use crate::statements::{on_item, on_simple};
+use crate::statements::{begin_controlled, on_item, on_simple};
 use clmodel::tree::Statement;
 use clsyntax_lex::token::{Token, TokenKind};
 use clsyntax_terms::closing::{begin_condition, begin_turns};
@@ -35,6 +35,7 @@ fn no_initial(nesting: u32, stack: Stack) -> Moved
         return Ok(Step::Refused);
     };
     let Frame::InInitial { at } = frame else {
+        drop(frame);
         return Ok(Step::Refused);
     };
     begin_condition(nesting, at, None, stack)
@@ -63,7 +64,10 @@ fn no_final(nesting: u32, stack: Stack) -> Moved
     };
     match frame {
         Frame::InFinal(turns) => begin_turns(nesting, turns, None, stack),
-        _ => Ok(Step::Refused),
+        _ => {
+            drop(frame);
+            Ok(Step::Refused)
+        }
     }
 }
 
@@ -162,14 +166,21 @@ fn on_settled(statement: Box<Statement>, stack: Stack, token: Token) -> Moved
             on_item(nesting, stack.push(Frame::InItems(nesting, body))?, token)
         }
         Frame::Then(at, nesting, condition) => match token.kind {
-            TokenKind::Else => stack.control(nesting, Frame::Otherwise(at, condition, statement)),
+            TokenKind::Else => begin_controlled(
+                nesting,
+                Frame::Otherwise(at, condition, statement),
+                stack,
+            ),
             _ => Ok(Step::Refused),
         },
         Frame::DoTurns { at, nesting } => match token.kind {
             TokenKind::While => stack.go(nesting, Mode::AfterDo(nesting, at, statement)),
             _ => Ok(Step::Refused),
         },
-        _ => Ok(Step::Refused),
+        _ => {
+            drop(frame);
+            Ok(Step::Refused)
+        }
     }
 }
 

@@ -14,6 +14,16 @@ use clsyntax_terms::state::{
     Declared, Frame, Head, HeadMode, Mode, Moved, Purpose, Stack, Step, TypeMode,
 };
 
+/// The nesting of a type's tokens.
+fn nesting_of(wanted: Purpose) -> u32
+    ensures { result ≡ machine.nesting_of (purpose wanted) }
+{
+    match wanted {
+        Purpose::Parameter { .. } => 1,
+        Purpose::Declaration { nesting, .. } => nesting,
+    }
+}
+
 /// The integer type that a word names, where a type is read for a purpose.
 fn type_of(wanted: Purpose, kind: TokenKind) -> Option<IntType>
     ensures { result ≡ grammar.type_of (machine.takes_size (purpose wanted)) kind }
@@ -35,7 +45,7 @@ pub(crate) fn on_typing(wanted: Purpose, stack: Stack, kind: TokenKind) -> Moved
         (_, Some(integer)) => TypeMode::Whole(VariableType::Integer(integer)),
         _ => return Ok(Step::Refused),
     };
-    stack.go(wanted.nesting(), Mode::Typing(wanted, mode))
+    stack.go(nesting_of(wanted), Mode::Typing(wanted, mode))
 }
 
 /// One more parameter of the head.
@@ -52,7 +62,10 @@ fn on_parameter_name(takes_size: bool, parameter: Parameter, stack: Stack) -> Mo
                 .push(Frame::InHead(head))?
                 .go(1, Mode::Head(HeadMode::AfterParameter { takes_size }))
         }
-        _ => Ok(Step::Refused),
+        _ => {
+            drop(frame);
+            Ok(Step::Refused)
+        }
     }
 }
 
@@ -120,7 +133,7 @@ pub(crate) fn on_type(wanted: Purpose, mode: TypeMode, stack: Stack, token: Toke
         ),
         _ => return Ok(Step::Refused),
     };
-    stack.go(wanted.nesting(), Mode::Typing(wanted, next))
+    stack.go(nesting_of(wanted), Mode::Typing(wanted, next))
 }
 
 /// Where a function's body begins.
@@ -138,7 +151,10 @@ fn on_open_brace(at: u32, stack: Stack) -> Moved
                 .push(Frame::InItems(1, body))?
                 .go(0, Mode::Item { nesting: 1 })
         }
-        _ => Ok(Step::Refused),
+        _ => {
+            drop(frame);
+            Ok(Step::Refused)
+        }
     }
 }
 

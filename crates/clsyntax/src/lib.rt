@@ -30,9 +30,7 @@ pub fn parse(alloc: Global, tokens: &Tokens) -> Result<Tree, SyntaxFault>
     ensures one { IsOne }
 {
     let functions = functions_of(alloc, tokens.length(), tokens.as_slice())?;
-    let Ok(names) = copies(alloc, tokens.names()) else {
-        return Err(SyntaxFault::OutOfMemory);
-    };
+    let names = copies(alloc, tokens.names())?;
     Ok(Tree { functions, names })
 }
 

@@ -1,20 +1,49 @@
 //! One step of the parser.
 #![tactic(auto)]
 
+ghost use Rattle.std.specs.Prelude.{◌∷◌, suc};
+ghost use Rattle.clsyntax_terms.specs.Grammar as grammar;
 ghost use Rattle.clsyntax_terms.specs.Machine as machine;
-ghost use Rattle.clsyntax_terms.specs.Views.{state_of, Steps};
+ghost use Rattle.clsyntax_terms.specs.Views.{opened, state_of, Steps};
 
 use crate::arrays::on_array_mode;
 use crate::control::{on_did, on_final, on_initial, open_for};
 use crate::heads::{on_head, on_type};
-use crate::statements::{on_aim, on_aimed, on_begin, on_begin_name, on_declared, on_item};
+use crate::statements::{
+    on_aim, on_aimed, on_begin, on_begin_name, on_declared, on_item, open_call,
+};
+use clmodel::tree::Expression;
+use clnum::IntType;
 use clsyntax_lex::token::{Token, TokenKind};
 use clsyntax_terms::closing::on_ended;
-use clsyntax_terms::expressions::{
-    on_call_open, on_have, on_named, on_opened, on_operand, on_optional,
-};
-use clsyntax_terms::state::{Frame, Mode, Moved, Stack, State, Step};
+use clsyntax_terms::expressions::{on_call_open, on_have, on_opened, on_operand, on_optional};
+use clsyntax_terms::state::{Frame, Mode, Moved, Prefix, Stack, State, Step, deeper};
 use std::alloc::Global;
+
+/// After a name in an expression.
+fn on_named(nesting: u32, at: u32, name: u32, stack: Stack, token: Token) -> Moved
+    ensures { Steps result (machine.on_named nesting at name (opened stack) token) }
+{
+    match token.kind {
+        TokenKind::OpenSquare => stack.open(nesting, Frame::InElement { at, name, nesting }),
+        TokenKind::OpenRound => open_call(false, at, name, nesting, stack),
+        _ => {
+            let value = Box::new(stack.alloc, Expression::Variable { at, name })?;
+            on_have(nesting, at, value, stack, token)
+        }
+    }
+}
+
+/// The bracket behind the type of a cast.
+fn on_cast_type(nesting: u32, at: u32, target: IntType, stack: Stack) -> Moved
+    ensures { Steps result (machine.go (suc nesting) (machine.Operand (suc nesting)) (machine.Before at (grammar.Convert target) ∷ opened stack)) }
+{
+    let prefix = Prefix::Convert(target);
+    match deeper(nesting) {
+        Some(inner) => stack.want(inner, Frame::Before { at, prefix }),
+        None => Ok(Step::Deep),
+    }
+}
 
 /// What a token does.
 pub(crate) fn step(alloc: Global, state: Box<State>, token: Token) -> Moved
@@ -28,7 +57,7 @@ pub(crate) fn step(alloc: Global, state: Box<State>, token: Token) -> Moved
         (Mode::Named { nesting, at, name }, _) => on_named(nesting, at, name, stack, token),
         (Mode::Opened { nesting, at }, _) => on_opened(nesting, at, stack, token),
         (Mode::CastType(nesting, at, target), TokenKind::CloseRound) => {
-            stack.cast(nesting, at, target)
+            on_cast_type(nesting, at, target, stack)
         }
         (Mode::AfterAnd { nesting, at }, TokenKind::Name(name)) => {
             stack.go(nesting, Mode::AndName(nesting, at, token.at, name))

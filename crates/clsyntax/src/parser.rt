@@ -37,10 +37,7 @@ fn advance(alloc: Global, state: Box<State>, token: Token) -> Result<Box<State>,
     ensures { IsAdvance result (machine.step (state_of state.value) token) token.at }
 {
     let at = token.at;
-    let Ok(done) = step(alloc, state, token) else {
-        return Err(SyntaxFault::OutOfMemory);
-    };
-    match done {
+    match step(alloc, state, token)? {
         Step::Refused => Err(SyntaxFault::Unexpected { at }),
         Step::Deep => Err(SyntaxFault::TooDeep { at }),
         Step::To { nesting, state } => {
@@ -65,7 +62,10 @@ fn whole(functions: Vec<Function>, below: Frames, length: u32) -> Result<Vec<Fun
                 Ok(functions)
             }
         }
-        _ => Err(SyntaxFault::Unexpected { at: length }),
+        _ => {
+            drop(below);
+            Err(SyntaxFault::Unexpected { at: length })
+        }
     }
 }
 
@@ -75,7 +75,10 @@ fn program_of(frames: Frames, length: u32) -> Result<Vec<Function>, SyntaxFault>
     match frames {
         Frames::Inside(frame, below) => match frame {
             Frame::InProgram(functions) => whole(functions, Box::into_inner(below), length),
-            _ => Err(SyntaxFault::Unexpected { at: length }),
+            _ => {
+                drop(frame);
+                Err(SyntaxFault::Unexpected { at: length })
+            }
         },
         Frames::Empty => Err(SyntaxFault::Unexpected { at: length }),
     }
@@ -88,7 +91,10 @@ fn finish(state: Box<State>, length: u32) -> Result<Vec<Function>, SyntaxFault>
     let State { mode, frames } = Box::into_inner(state);
     match mode {
         Mode::Head(HeadMode::Top) => program_of(Box::into_inner(frames), length),
-        _ => Err(SyntaxFault::Unexpected { at: length }),
+        _ => {
+            drop(mode);
+            Err(SyntaxFault::Unexpected { at: length })
+        }
     }
 }
 

@@ -3,17 +3,20 @@
 
 ghost use Rattle.std.specs.Prelude.{◌≡◌, ◌∷◌, suc, false};
 ghost use Rattle.clmodel.specs.Tree as tree;
-ghost use Rattle.clmodel.specs.Tree.{place, stmt, NoStmt, func};
+ghost use Rattle.clmodel.specs.Tree.{place, stmt, NoTerm, NoStmt, func};
+ghost use Rattle.clsyntax_terms.specs.Grammar as grammar;
 ghost use Rattle.clsyntax_terms.specs.Machine as machine;
-ghost use Rattle.clsyntax_terms.specs.Views.{opened, stmts_of, Steps};
+ghost use Rattle.clsyntax_terms.specs.Views.{opened, frame_of, stmts_of, Steps};
 
 use crate::arrays::on_array;
 use crate::heads::on_typing;
 use clmodel::tree::{Expression, Function, Statement, Target};
 use clsyntax_lex::token::{Token, TokenKind};
 use clsyntax_terms::closing::{add_declaration, declaration, end_step};
-use clsyntax_terms::operators::{assign_of, step_of};
-use clsyntax_terms::state::{Declared, Frame, HeadMode, Mode, Moved, Purpose, Stack, Step, deeper};
+use clsyntax_terms::operators::assign_of;
+use clsyntax_terms::state::{
+    Call, Declared, Frame, HeadMode, Mode, Moved, Purpose, Stack, Step, deeper,
+};
 
 /// After a declared name.
 pub(crate) fn on_declared(name: Declared, stack: Stack, token: Token) -> Moved
@@ -45,7 +48,10 @@ fn end_function(nesting: u32, function: Function, stack: Stack) -> Moved
                 .push(Frame::InProgram(functions))?
                 .go(nesting, Mode::Head(HeadMode::Top))
         }
-        _ => Ok(Step::Refused),
+        _ => {
+            drop(frame);
+            Ok(Step::Refused)
+        }
     }
 }
 
@@ -79,7 +85,10 @@ fn end_items(nesting: u32, body: Vec<Statement>, stack: Stack) -> Moved
             let statement = Box::new(stack.alloc, block_of(at, body))?;
             stack.go(nesting, Mode::Did(statement))
         }
-        _ => Ok(Step::Refused),
+        _ => {
+            drop(frame);
+            Ok(Step::Refused)
+        }
     }
 }
 
@@ -91,7 +100,10 @@ fn on_close_brace(stack: Stack) -> Moved
     };
     match frame {
         Frame::InItems(nesting, body) => end_items(nesting, body, stack),
-        _ => Ok(Step::Refused),
+        _ => {
+            drop(frame);
+            Ok(Step::Refused)
+        }
     }
 }
 
@@ -142,6 +154,17 @@ fn close_word(nesting: u32, word: Statement, stack: Stack) -> Moved
     stack.go(nesting, Mode::Closing(nesting, statement))
 }
 
+/// The step of a token before a statement that a frame controls.
+pub(crate) fn begin_controlled(nesting: u32, frame: Frame, stack: Stack) -> Moved
+    ensures { Steps result (machine.go nesting (machine.Begin (suc nesting)) (frame_of frame ∷ opened stack)) }
+{
+    let stack = stack.push(frame)?;
+    match deeper(nesting) {
+        Some(inner) => stack.go(nesting, Mode::Begin { nesting: inner }),
+        None => Ok(Step::Deep),
+    }
+}
+
 /// Where a statement may begin.
 pub(crate) fn on_begin(nesting: u32, stack: Stack, token: Token) -> Moved
     ensures { Steps result (machine.on_begin nesting (opened stack) token) }
@@ -155,7 +178,7 @@ pub(crate) fn on_begin(nesting: u32, stack: Stack, token: Token) -> Moved
         }
         TokenKind::If => stack.go(nesting, Mode::AfterIf { nesting, at }),
         TokenKind::While => stack.go(nesting, Mode::AfterWhile { nesting, at }),
-        TokenKind::Do => stack.control(nesting, Frame::DoTurns { at, nesting }),
+        TokenKind::Do => begin_controlled(nesting, Frame::DoTurns { at, nesting }, stack),
         TokenKind::For => stack.go(nesting, Mode::AfterFor { nesting, at }),
         TokenKind::Break => close_word(nesting, Statement::Break { at }, stack),
         TokenKind::Continue => close_word(nesting, Statement::Continue { at }, stack),
@@ -190,6 +213,17 @@ pub(crate) fn on_aim(nesting: u32, stack: Stack, token: Token) -> Moved
         TokenKind::Name(name) => stack.go(nesting, Mode::BeginName(true, nesting, at, name)),
         TokenKind::Star => stack.open(nesting, Frame::InBehind(true, at, nesting)),
         _ => Ok(Step::Refused),
+    }
+}
+
+/// Whether `++` or `--` goes up (C99 6.5.2.4 and 6.5.3.1).
+fn step_of(kind: TokenKind) -> Option<bool>
+    ensures { result ≡ grammar.step_of kind }
+{
+    match kind {
+        TokenKind::PlusPlus => Some(true),
+        TokenKind::MinusMinus => Some(false),
+        _ => None,
     }
 }
 
@@ -233,6 +267,24 @@ pub(crate) fn on_aimed(
     }
 }
 
+/// The step of a call's bracket.
+pub(crate) fn open_call(is_statement: bool, at: u32, name: u32, nesting: u32, stack: Stack) -> Moved
+    ensures { Steps result (machine.go nesting (machine.CallOpen (suc nesting)) (machine.InCall is_statement at name nesting NoTerm ∷ opened stack)) }
+{
+    let Some(inner) = deeper(nesting) else {
+        return Ok(Step::Deep);
+    };
+    let arguments = Vec::new(stack.alloc);
+    let stack = stack.push(Frame::InCall(Call {
+        is_statement,
+        at,
+        name,
+        nesting,
+        arguments,
+    }))?;
+    stack.go(nesting, Mode::CallOpen { nesting: inner })
+}
+
 /// After the name with which a statement, or a target behind `++` or `--`, begins.
 pub(crate) fn on_begin_name(
     is_step: bool,
@@ -247,7 +299,7 @@ pub(crate) fn on_begin_name(
     match token.kind {
         TokenKind::OpenSquare => stack.open(nesting, Frame::InPart(is_step, at, name, nesting)),
         TokenKind::OpenRound if is_step => Ok(Step::Refused),
-        TokenKind::OpenRound => stack.call(true, at, name, nesting),
+        TokenKind::OpenRound => open_call(true, at, name, nesting, stack),
         _ => {
             let target = Box::new(stack.alloc, Target::Variable { at, name })?;
             on_aimed(is_step, nesting, at, target, stack, token)

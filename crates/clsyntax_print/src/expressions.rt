@@ -17,7 +17,7 @@ use ends::{Write, WriteFailed};
 /// Writes an expression where one of a level is wanted: round brackets stand around it where its outermost operator binds less
 /// tightly.
 #[cycle(expressions)]
-pub fn write_expression<W: Write>(
+pub(crate) fn write_expression<W: Write>(
     wanted: u32,
     expression: &Expression,
     names: &[Name],
@@ -111,7 +111,7 @@ pub fn write_expression<W: Write>(
 
 /// Writes tokens, an expression where one of a level is wanted, and tokens.
 #[cycle(expressions)]
-pub fn write_between<W: Write>(
+pub(crate) fn write_between<W: Write>(
     front: &[TokenKind],
     wanted: u32,
     expression: &Expression,
@@ -128,7 +128,7 @@ pub fn write_between<W: Write>(
 
 /// Writes expressions with commas between them.
 #[cycle(expressions)]
-pub fn write_arguments<W: Write>(
+pub(crate) fn write_arguments<W: Write>(
     arguments: &[Expression],
     names: &[Name],
     writer: &mut W,

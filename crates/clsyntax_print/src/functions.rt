@@ -88,7 +88,7 @@ fn write_function<W: Write>(
 }
 
 /// Writes functions one after another.
-pub fn write_functions<W: Write>(
+pub(crate) fn write_functions<W: Write>(
     functions: &[Function],
     names: &[Name],
     writer: &mut W,

@@ -10,10 +10,10 @@ use clnum::{BinaryOperator, UnaryOperator};
 use clsyntax_lex::token::TokenKind;
 
 /// The level of an operand, above that of every operator between two.
-pub const TIGHT: u32 = 12;
+pub(crate) const TIGHT: u32 = 12;
 
 /// How tightly an operator binds, from the loosest (C99 6.5.5 to 6.5.14).
-pub fn level(operator: InfixOperator) -> u32
+pub(crate) fn level(operator: InfixOperator) -> u32
     ensures { result ≡ grammar.level operator }
 {
     match operator {
@@ -59,7 +59,7 @@ fn arithmetic_kind(operator: BinaryOperator) -> TokenKind
 }
 
 /// The token of an operator between two expressions.
-pub fn infix_kind(operator: InfixOperator) -> TokenKind
+pub(crate) fn infix_kind(operator: InfixOperator) -> TokenKind
     ensures { result ≡ printing.infix_kind operator }
 {
     match operator {
@@ -70,7 +70,7 @@ pub fn infix_kind(operator: InfixOperator) -> TokenKind
 }
 
 /// The token of an operator in front of an operand.
-pub fn unary_kind(operator: UnaryOperator) -> TokenKind
+pub(crate) fn unary_kind(operator: UnaryOperator) -> TokenKind
     ensures { result ≡ printing.unary_kind operator }
 {
     match operator {
@@ -82,7 +82,7 @@ pub fn unary_kind(operator: UnaryOperator) -> TokenKind
 }
 
 /// The token of an assignment, with its operator if it has one. Comparisons have none.
-pub fn assign_kind(operator: Option<BinaryOperator>) -> TokenKind
+pub(crate) fn assign_kind(operator: Option<BinaryOperator>) -> TokenKind
     ensures { result ≡ printing.assign_kind operator }
 {
     match operator {
@@ -102,7 +102,7 @@ pub fn assign_kind(operator: Option<BinaryOperator>) -> TokenKind
 }
 
 /// The token of a step up or down.
-pub fn step_kind(is_increment: bool) -> TokenKind
+pub(crate) fn step_kind(is_increment: bool) -> TokenKind
     ensures { result ≡ printing.step_kind is_increment }
 {
     if is_increment {

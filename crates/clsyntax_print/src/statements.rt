@@ -39,7 +39,7 @@ fn write_target<W: Write>(
 }
 
 /// Writes a type.
-pub fn write_type<W: Write>(
+pub(crate) fn write_type<W: Write>(
     kind: VariableType,
     names: &[Name],
     writer: &mut W,
@@ -252,7 +252,7 @@ fn write_statement<W: Write>(
 
 /// Writes statements one after another.
 #[cycle(statements)]
-pub fn write_statements<W: Write>(
+pub(crate) fn write_statements<W: Write>(
     statements: &[Statement],
     names: &[Name],
     writer: &mut W,

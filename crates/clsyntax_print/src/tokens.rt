@@ -161,7 +161,7 @@ fn write_token<W: Write>(kind: TokenKind, names: &[Name], writer: &mut W) -> Res
 }
 
 /// Writes tokens, a space behind each.
-pub fn write_tokens<W: Write>(
+pub(crate) fn write_tokens<W: Write>(
     kinds: &[TokenKind],
     names: &[Name],
     writer: &mut W,
@@ -175,7 +175,7 @@ pub fn write_tokens<W: Write>(
 }
 
 /// Writes a token, if it is wanted.
-pub fn write_if<W: Write>(
+pub(crate) fn write_if<W: Write>(
     wanted: bool,
     kind: TokenKind,
     names: &[Name],

@@ -268,20 +268,6 @@ pub fn on_have(nesting: u32, from: u32, value: Box<Expression>, stack: Stack, to
     }
 }
 
-/// After a name in an expression.
-pub fn on_named(nesting: u32, at: u32, name: u32, stack: Stack, token: Token) -> Moved
-    ensures { Steps result (machine.on_named nesting at name (opened stack) token) }
-{
-    match token.kind {
-        TokenKind::OpenSquare => stack.open(nesting, Frame::InElement { at, name, nesting }),
-        TokenKind::OpenRound => stack.call(false, at, name, nesting),
-        _ => {
-            let value = Box::new(stack.alloc, Expression::Variable { at, name })?;
-            on_have(nesting, at, value, stack, token)
-        }
-    }
-}
-
 fn close_call(stack: Stack) -> Moved
     ensures { Steps result (machine.close_call (opened stack)) }
 {

@@ -99,17 +99,6 @@ pub fn assign_of(kind: TokenKind) -> Option<Option<BinaryOperator>>
     Some(Some(operator))
 }
 
-/// Whether `++` or `--` goes up (C99 6.5.2.4 and 6.5.3.1).
-pub fn step_of(kind: TokenKind) -> Option<bool>
-    ensures { result ≡ grammar.step_of kind }
-{
-    match kind {
-        TokenKind::PlusPlus => Some(true),
-        TokenKind::MinusMinus => Some(false),
-        _ => None,
-    }
-}
-
 /// An operand behind a prefix that begins at the offset.
 fn prefixed(
     alloc: Global,

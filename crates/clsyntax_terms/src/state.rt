@@ -2,10 +2,9 @@
 #![tactic(auto)]
 
 ghost use Rattle.std.specs.Prelude.{◌≡◌, [], ◌∷◌, suc, ◌<◌, IfOk, MatchOption};
-ghost use Rattle.clmodel.specs.Tree.{term, NoTerm};
-ghost use Rattle.clsyntax_terms.specs.Grammar as grammar;
+ghost use Rattle.clmodel.specs.Tree.{term};
 ghost use Rattle.clsyntax_terms.specs.Machine as machine;
-ghost use Rattle.clsyntax_terms.specs.Views.{opened, frame_of, mode_of, purpose, part_of, Steps};
+ghost use Rattle.clsyntax_terms.specs.Views.{opened, frame_of, mode_of, part_of, Steps};
 
 use clmodel::tree::{
     AddressSpace, Expression, Function, InfixOperator, Parameter, Statement, Target, VariableType,
@@ -32,18 +31,6 @@ pub enum Purpose {
     /// A parameter, which may be of type size_t or not
     Parameter { takes_size: bool },
     Declaration { at: u32, nesting: u32 },
-}
-
-impl Purpose {
-    /// The nesting of a type's tokens.
-    pub fn nesting(self) -> u32
-        ensures { result ≡ machine.nesting_of (purpose self) }
-    {
-        match self {
-            Purpose::Parameter { .. } => 1,
-            Purpose::Declaration { nesting, .. } => nesting,
-        }
-    }
 }
 
 /// A type and a name of that type; `at` is where the type begins.
@@ -394,52 +381,12 @@ impl Stack {
         self.push(frame)?.go(nesting, Mode::Begin { nesting })
     }
 
-    /// The step of a token before a statement that a frame controls.
-    pub fn control(self, nesting: u32, frame: Frame) -> Moved
-        ensures { Steps result (machine.go nesting (machine.Begin (suc nesting)) (frame_of frame ∷ opened self)) }
-    {
-        let stack = self.push(frame)?;
-        match deeper(nesting) {
-            Some(inner) => stack.go(nesting, Mode::Begin { nesting: inner }),
-            None => Ok(Step::Deep),
-        }
-    }
-
     /// The step of a bracket's end, at which an expression was read that begins at an offset.
     pub(crate) fn close(self, nesting: u32, from: u32, value: Box<Expression>) -> Moved
         ensures { Steps result (machine.go (suc nesting) (machine.Have nesting from (term value.value)) (opened self)) }
     {
         match deeper(nesting) {
             Some(inner) => self.go(inner, Mode::Have(nesting, from, value)),
-            None => Ok(Step::Deep),
-        }
-    }
-
-    /// The step of a call's bracket.
-    pub fn call(self, is_statement: bool, at: u32, name: u32, nesting: u32) -> Moved
-        ensures { Steps result (machine.go nesting (machine.CallOpen (suc nesting)) (machine.InCall is_statement at name nesting NoTerm ∷ opened self)) }
-    {
-        let Some(inner) = deeper(nesting) else {
-            return Ok(Step::Deep);
-        };
-        let arguments = Vec::new(self.alloc);
-        let stack = self.push(Frame::InCall(Call {
-            is_statement,
-            at,
-            name,
-            nesting,
-            arguments,
-        }))?;
-        stack.go(nesting, Mode::CallOpen { nesting: inner })
-    }
-
-    /// The step of the bracket behind the type of a cast.
-    pub fn cast(self, nesting: u32, at: u32, target: IntType) -> Moved
-        ensures { Steps result (machine.go (suc nesting) (machine.Operand (suc nesting)) (machine.Before at (grammar.Convert target) ∷ opened self)) }
-    {
-        let prefix = Prefix::Convert(target);
-        match deeper(nesting) {
-            Some(inner) => self.want(inner, Frame::Before { at, prefix }),
             None => Ok(Step::Deep),
         }
     }

@@ -2,7 +2,7 @@
 
 use clmodel::tree::AddressSpace;
 use clnum::{IntType, Value};
-use clsyntax::{Token, TokenKind, lex};
+use clsyntax::{TokenKind, lex};
 use std::test::Fail;
 
 fn number(kind: IntType, value: i128) -> TokenKind {
@@ -41,7 +41,8 @@ fn tokens(rt: HostRuntime) -> Result<(), Fail> {
     assert_eq!(rt; tokens.length(), 134);
     assert_eq!(rt; tokens.as_slice().len(), expected.len());
     for (token, (kind, at)) in tokens.as_slice().iter().zip(expected) {
-        assert!(rt; *token == Token { kind, at });
+        assert!(rt; token.kind == kind);
+        assert_eq!(rt; token.at, at);
     }
     assert_eq!(rt; tokens.names().len(), 28);
     assert_eq!(rt; tokens.names()[0].as_slice(), b"get_work_dim".as_slice());

@@ -12,9 +12,9 @@ use Rattle.clsyntax.proofs.parse.Goals as goal
 pub returns : goal.returns
 returns c =
     let text = c.args.tokens.now in
-    let p : Program = program (record { functions = c.in_ok-functions.functions; names = c.in-Ok.names }) in
+    let p : Program = program (record { functions = c.in_ok-functions.functions; names = c.in_ok-names.names }) in
     let e : read_text text ≡ Ok p.functions = of_values text c.length.result c.as_slice.result.now c.length.ensures.value c.as_slice.ensures.value ∙ c.in_ok-functions.ensures in
-    let names : p.names ≡ text.names = c.in-Ok.ensures ∙ c.names.ensures.value in
+    let names : p.names ≡ text.names = c.in_ok-names.ensures ∙ c.names.ensures.value in
     let exact : IsReading text (Ok p) = exact_program text p e names in
     record { exact = exact; only = λ r h. one_reading text (Ok p) r exact h; one = laws.one_program }
 
@@ -33,5 +33,5 @@ returns-in_err-functions-clause-only c r h =
 pub returns-in_err-functions-clause-one : goal.returns-in_err-functions-clause-one
 returns-in_err-functions-clause-one c = laws.one_program
 
-pub returns-in_default-clause-one : goal.returns-in_default-clause-one
-returns-in_default-clause-one c = laws.one_program
+pub returns-in_err-names-clause-one : goal.returns-in_err-names-clause-one
+returns-in_err-names-clause-one c = laws.one_program
