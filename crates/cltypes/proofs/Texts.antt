@@ -1,5 +1,6 @@
 -- The functions of a text, one after the other.
-use Rattle.std.proofs.Common.{◌≡◌, ℕ, ◌+◌, ◌<◌, ◌⊎◌, inl, inr, List, [], ◌∷◌, ◌++◌, length, map, take, drop, get_or, Option, None, Some, refl, sym, ap, ◌∙◌, subst}
+use Rattle.std.proofs.Common.{◌≡◌, ℕ, ◌+◌, ◌<◌, ◌⊎◌, inl, inr, List, [], ◌∷◌, ◌++◌, length, map, take, drop, get_or, Option, None, Some, Result, Err, refl, sym, ap, ◌∙◌, subst}
+use Rattle.std.specs.Prelude.{IfErr}
 use Prim.Native.Nat.{zero, suc}
 use Rattle.std.proofs.lemmas.List.{take_more}
 use Rattle.clmodel.specs.declared.tree.Function.{Function}
@@ -14,7 +15,7 @@ use Rattle.cltypes_limits.specs.Limits.{IsSummary}
 use Rattle.clmodel.specs.Typing.Least.{first}
 use Rattle.clmodel.specs.Typing.Functions.{names, signature, signatures, function_faults, functions_faults, program_faults}
 use Rattle.cltypes_scope.specs.Names.{with_function}
-use Rattle.cltypes.specs.Answers.{IsFaultOf}
+use Rattle.cltypes.specs.Answers.{IsFaultOf, Ends}
 use Rattle.cltypes.specs.Views.{functions_of, known}
 use Rattle.cltypes_scope.proofs.Follows.{inside_first, inside_second, neither_of}
 use Rattle.cltypes.proofs.Programs.{program_sound, program_fault, typed_has_none}
@@ -113,3 +114,12 @@ answered_typed t fs f e h typed = typed_answer (program t) f typed (along t fs f
 
 pub answered_well : (t : Tree) (fs : List Function) → fs ≡ t.functions.items → first_of fs ≡ None → IsTypedProgram (program t)
 answered_well t fs e h = program_sound (program t) (ap first_of (sym e) ∙ h)
+
+-- what `?` hands on is the fault that it met
+
+pub if_err_by : {A : Type 0} (r : Result A TypeFault) (f : TypeFault) (P : TypeFault → Type 0) → (y : TypeFault) × (r ≡ Err y) × (y ≡ f) → P f → IfErr r P
+if_err_by r f P h x = subst (λ z. IfErr z P) (sym h.1) (subst P (sym h.2) x)
+
+pub ends_by : {A : Type 0} (r : Result A TypeFault) (f : TypeFault) (o : Option TypeFault)
+    → (y : TypeFault) × (r ≡ Err y) × (y ≡ f) → (f ≡ fault.OutOfMemory) ⊎ (o ≡ Some f) → Ends r o
+ends_by r f o h x = subst (λ z. Ends z o) (sym h.1) (subst (λ y. (y ≡ fault.OutOfMemory) ⊎ (o ≡ Some y)) (sym h.2) x)

@@ -87,7 +87,7 @@ fn behind_fault(pointer: Operand, at: u32) -> Option<TypeFault>
 }
 
 /// The type of what is assigned to and where it begins, or its first fault.
-pub fn check_target(context: &Context, target: &Target) -> Result<Operand, TypeFault>
+pub(crate) fn check_target(context: &Context, target: &Target) -> Result<Operand, TypeFault>
     ensures { Checks result (first (place_faults context.now (place target.now))) (target_of context.now (place target.now)) }
 {
     match target {
@@ -110,7 +110,7 @@ pub fn check_target(context: &Context, target: &Target) -> Result<Operand, TypeF
 }
 
 /// The first fault of an assignment.
-pub fn assignment_fault(
+pub(crate) fn assignment_fault(
     context: &Context,
     target: &Target,
     operator: Option<BinaryOperator>,
@@ -137,7 +137,11 @@ pub fn assignment_fault(
 }
 
 /// The first fault of the initialiser of a variable of this type.
-pub fn initial_fault(context: &Context, kind: VariableType, value: &Expression) -> Option<TypeFault>
+pub(crate) fn initial_fault(
+    context: &Context,
+    kind: VariableType,
+    value: &Expression,
+) -> Option<TypeFault>
     ensures { result ≡ first (initial_faults context.now kind (term value.now)) }
 {
     match check_value(context, value) {

@@ -8,7 +8,7 @@ ghost use Rattle.clmodel.specs.Typing.{IsTypedProgram};
 use clmodel::tree::Tree;
 
 /// A tree whose types were checked.
-#[derive(Debug, Drop)]
+#[derive(Drop)]
 pub struct Checked {
     pub tree: Tree,
     pub ghost typed: { ∥ IsTypedProgram (program tree) ∥₁ },

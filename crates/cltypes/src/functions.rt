@@ -74,7 +74,7 @@ fn end_function(
 
 /// Checks a function which those of the context and of the summaries stand before: the first of its faults is the answer, and
 /// Err(OutOfMemory) may come at any time. What comes behind it sees it.
-pub fn check_function(
+pub(crate) fn check_function(
     alloc: Global,
     context: &mut Context,
     summaries: &mut Summaries,

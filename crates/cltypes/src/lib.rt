@@ -43,9 +43,7 @@ fn check_functions(alloc: Global, functions: &[Function]) -> Result<(), TypeFaul
     };
     let mut summaries = Summaries::new(alloc);
     for function in functions {
-        if let Err(fault) = check_function(alloc, &mut context, &mut summaries, function) {
-            return Err(fault);
-        }
+        check_function(alloc, &mut context, &mut summaries, function)?;
     }
     Ok(())
 }
@@ -57,8 +55,6 @@ pub fn check(alloc: Global, tree: Tree) -> Result<Checked, TypeFault>
     ensures fault { IfErr result (IsFaultOf (program tree)) }
     ensures typed_only { IsTypedProgram (program tree) → IfErr result (λ f. f ≡ TypeFault.OutOfMemory) }
 {
-    match check_functions(alloc, &tree.functions) {
-        Err(fault) => Err(fault),
-        Ok(()) => Ok(Checked { tree }),
-    }
+    check_functions(alloc, &tree.functions)?;
+    Ok(Checked { tree })
 }

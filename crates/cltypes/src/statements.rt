@@ -82,7 +82,7 @@ fn return_fault(context: &Context, at: u32, value: &Option<Box<Expression>>) -> 
 }
 
 /// The end of what has this fault.
-pub fn ended(fault: Option<TypeFault>) -> Result<(), TypeFault>
+pub(crate) fn ended(fault: Option<TypeFault>) -> Result<(), TypeFault>
     ensures none { IfOk result (λ _. fault ≡ None) }
     ensures fault { IfErr result (λ f. fault ≡ Some f) }
 {
@@ -462,7 +462,7 @@ fn check_block(context: &mut Context, body: &[Statement]) -> Result<(), TypeFaul
 
 /// Checks statements one after the other, or answers the first fault. Err(OutOfMemory) may come at any time.
 #[cycle(statements)]
-pub fn check_statements(context: &mut Context, body: &[Statement]) -> Result<(), TypeFault>
+pub(crate) fn check_statements(context: &mut Context, body: &[Statement]) -> Result<(), TypeFault>
     ensures first { Ends result (first (row_faults context.old (statements body.now))) }
     ensures after { IfOk result (λ _. context.new ≡ after_all context.old (statements body.now)) }
 {
