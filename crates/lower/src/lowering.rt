@@ -42,7 +42,7 @@ fn types_of(alloc: Global, parameters: &[Parameter]) -> Result<Vec<VariableType>
 }
 
 /// Code with its tables.
-#[derive(Debug, Drop)]
+#[derive(Drop)]
 struct Listed {
     instructions: Vec<Instruction>,
     tables: Tables,

@@ -45,8 +45,7 @@ fn tables(rt: HostRuntime) -> Result<(), Fail> {
     });
     let tables = code.tables();
     assert!(rt;
-        tables.parameters.as_slice()
-            == [pointer, VariableType::Integer(IntType::Int)].as_slice()
+        tables.parameters.as_slice() == [pointer, VariableType::Integer(IntType::Int)].as_slice()
     );
     assert_eq!(rt; tables.arrays.as_slice(), [0u32, 0, 5, 2].as_slice());
     assert_eq!(rt; tables.objects, 3);
@@ -67,7 +66,10 @@ fn tables(rt: HostRuntime) -> Result<(), Fail> {
         (85, None),
     ];
     for (register, kind) in kinds {
-        assert!(rt; tables.registers.get(register).copied() == kind, "{register}");
+        assert!(rt;
+            tables.registers.get(register).copied() == kind,
+            "{register}"
+        );
     }
     Ok(())
 }
