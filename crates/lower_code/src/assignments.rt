@@ -83,10 +83,8 @@ fn helper_call(value: &Expression) -> Option<HelperCall<'_>>
 fn result_of(functions: &[Function], name: u32) -> Option<IntType>
     ensures { result ≡ result_in (functions_of functions.now) name }
 {
-    match find(functions, name) {
-        Some(found) => found.function.result,
-        None => None,
-    }
+    let found = find(functions, name)?;
+    found.function.result
 }
 
 /// The type of a call's value.

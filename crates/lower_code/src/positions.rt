@@ -10,7 +10,7 @@ use clnum::IntType;
 use std::alloc::AllocError;
 
 /// How far behind the end of a statement's code its other ends are.
-#[derive(Clone, Copy, Debug, PartialEq, Eq)]
+#[derive(Clone, Copy)]
 pub struct Exits {
     pub broken: u32,
     pub continued: u32,
@@ -49,7 +49,7 @@ pub struct Setting<'a> {
 }
 
 /// Where a statement stands: how many loops are round it, the number of its first barrier, and its exits.
-#[derive(Clone, Copy, Debug, PartialEq, Eq)]
+#[derive(Clone, Copy)]
 pub struct Position {
     pub depth: u32,
     pub site: u32,

@@ -15,7 +15,7 @@ use clmodel::tree::{Expression, Function, Statement};
 use std::alloc::AllocError;
 
 /// What is called: nothing that can meet a barrier, the barrier itself, or the helper function of a name.
-#[derive(Clone, Copy, Debug, PartialEq, Eq)]
+#[derive(Clone, Copy)]
 pub enum Callee {
     Nothing,
     Barrier,
