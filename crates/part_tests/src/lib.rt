@@ -16,6 +16,8 @@ mod printing;
 #[cfg(test)]
 mod sizes;
 #[cfg(test)]
+mod spaces;
+#[cfg(test)]
 mod tokens;
 #[cfg(test)]
 mod trees;
