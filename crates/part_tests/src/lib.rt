@@ -10,6 +10,8 @@ mod failing_dumps;
 #[cfg(test)]
 mod interleavings;
 #[cfg(test)]
+mod logs;
+#[cfg(test)]
 mod lowering;
 #[cfg(test)]
 mod printing;
