@@ -20,6 +20,8 @@ mod sizes;
 #[cfg(test)]
 mod spaces;
 #[cfg(test)]
+mod stops;
+#[cfg(test)]
 mod tokens;
 #[cfg(test)]
 mod trees;
