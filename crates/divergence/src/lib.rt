@@ -6,9 +6,6 @@ ghost use Rattle.clmodel.specs.Run.{same_numbers, same_stop};
 
 use clmodel::action::{Instance, Stop};
 
-#[cfg(test)]
-mod tests;
-
 /// Whether two lists of numbers are one.
 fn same_numbers(a: &[u32], b: &[u32]) -> bool
     ensures { result ≡ same_numbers a.now b.now }

@@ -14,11 +14,6 @@ mod runs;
 mod words;
 
 pub use describing::Described;
-pub use group::Group;
-pub use item::RunningItem;
-pub use loops::run_items;
-pub use machine::{Machine, Made};
 pub use result::GroupResult;
 pub use runnable::Runnable;
 pub use running::run_group;
-pub use runs::Runs;

@@ -14,7 +14,7 @@ use divergence::same_stop;
 use std::alloc::AllocError;
 
 /// Where an item comes to rest.
-#[derive(Debug, Drop)]
+#[derive(Drop)]
 pub enum Halt {
     /// At the stop of the group's first item.
     Stops,

@@ -15,7 +15,7 @@ use clmodel::fault::Fault;
 use std::alloc::AllocError;
 
 /// What became of an access.
-#[derive(Debug, Drop)]
+#[derive(Drop)]
 pub enum Made {
     /// It is done.
     Done,

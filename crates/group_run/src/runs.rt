@@ -12,7 +12,7 @@ use std::alloc::{AllocError, Global};
 use std::marker::Model;
 
 /// The events of a run so far, in runs that are each as long as can be, seen as the list of the events.
-#[derive(Debug, Drop)]
+#[derive(Drop)]
 pub struct Runs {
     runs: Vec<Run>,
 }

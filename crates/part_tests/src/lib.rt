@@ -8,6 +8,8 @@ mod device_calls;
 #[cfg(test)]
 mod failing_dumps;
 #[cfg(test)]
+mod logs;
+#[cfg(test)]
 mod lowering;
 #[cfg(test)]
 mod numbers;
@@ -15,6 +17,10 @@ mod numbers;
 mod printing;
 #[cfg(test)]
 mod sizes;
+#[cfg(test)]
+mod spaces;
+#[cfg(test)]
+mod stops;
 #[cfg(test)]
 mod tokens;
 #[cfg(test)]

@@ -15,7 +15,7 @@ use std::collections::HashMap;
 
 /// The place of the newest access of each cell in a log, and for each access that of the one before it in its cell. A place
 /// counts the accesses up to one and with it, and 0 stands for none.
-#[derive(Debug, Drop)]
+#[derive(Drop)]
 pub(crate) struct Index {
     pub(crate) newest: HashMap<u64, usize>,
     pub(crate) before: Vec<usize>,

@@ -6,8 +6,6 @@ mod index;
 pub mod list;
 pub mod log;
 mod search;
-#[cfg(test)]
-mod tests;
 
 pub use list::ListLog;
 pub use log::{AccessLog, Accesses, Entry, Fenced, Hit};

@@ -19,7 +19,7 @@ use std::alloc::{AllocError, Global};
 /// barrier are walked for the exact answer, which ends a launch where there is a conflict. 100,000 accesses without a barrier
 /// take some hundredths of a second where each has its own place, and half a second where 250 work-items load the same 400
 /// elements of four bytes. The index takes 8 bytes for each entry, and some tens for each cell.
-#[derive(Debug, Drop)]
+#[derive(Drop)]
 pub struct ListLog {
     entries: Vec<Entry>,
     local_interval: u32,

@@ -7,14 +7,14 @@ use clmodel::access::{Access, Clash};
 use std::alloc::AllocError;
 
 /// An access with the number of its event in the run of its group.
-#[derive(Clone, Copy, Debug, PartialEq, Eq)]
+#[derive(Clone, Copy)]
 pub struct Entry {
     pub access: Access,
     pub event: u32,
 }
 
 /// A conflict of two accesses on a byte.
-#[derive(Clone, Copy, Debug, PartialEq, Eq)]
+#[derive(Clone, Copy)]
 pub struct Hit {
     pub clash: Clash,
     pub earlier: Entry,
@@ -23,7 +23,7 @@ pub struct Hit {
 }
 
 /// An address space that a barrier may fence (OpenCL 1.2, section 6.12.8).
-#[derive(Clone, Copy, Debug, PartialEq, Eq)]
+#[derive(Clone, Copy)]
 pub enum Fenced {
     Local,
     Global,

@@ -2,11 +2,8 @@
 
 ghost use Rattle.std.specs.Prelude.{◌≡◌, ◌≤◌, ◌<◌, ◌+◌, ◌^◌, ℕ, Option, Some, length, map, nat_le, false, IfOk, IfErr};
 ghost use Rattle.clmodel.specs.Cells.{cells_of, number, lowest_unset, written, combined, signed_place};
-ghost use Rattle.spaces_base.specs.Space.{IsLoaded, IsStored, IsUpdated};
 
-use crate::space::SpaceFault;
-use crate::width::byte_count;
-use clmodel::access::{Class, Width};
+use clmodel::access::Class;
 
 /// A byte that may be unset, as it lies in a row.
 pub trait Cell: Copy {
@@ -102,56 +99,8 @@ pub fn combined(class: Class, x: u32, operand: u32) -> u32
 }
 
 /// Whether so many bytes from a byte on lie within a length.
-fn is_inside(length: usize, at: u64, count: u64) -> bool
+pub fn is_inside(length: usize, at: u64, count: u64) -> bool
     ensures { result ≡ nat_le (at + count) length }
 {
     count <= length as u64 && at <= length as u64 - count
-}
-
-/// A load from a row.
-pub fn load<C: Cell>(cells: &[C], at: u64, width: Width) -> Result<u64, SpaceFault>
-    ensures { IsLoaded (map C.content cells.now) at width result }
-{
-    let count = byte_count(width);
-    if !is_inside(cells.len(), at, count) {
-        return Err(SpaceFault::Bounds);
-    }
-    match read(cells, at as usize, count as usize) {
-        Ok(value) => Ok(value),
-        Err(byte) => Err(SpaceFault::Unset(byte)),
-    }
-}
-
-/// A store into a row.
-pub fn store<C: Cell>(cells: &mut [C], at: u64, width: Width, value: u64) -> Result<(), SpaceFault>
-    ensures row { IsStored false false (map C.content cells.old) at width value (map C.content cells.new) result }
-{
-    let count = byte_count(width);
-    if !is_inside(cells.len(), at, count) {
-        return Err(SpaceFault::Bounds);
-    }
-    put(cells, at as usize, count as usize, value);
-    Ok(())
-}
-
-/// An atomic update of a row.
-pub fn update<C: Cell>(
-    cells: &mut [C],
-    at: u64,
-    class: Class,
-    operand: u32,
-) -> Result<(), SpaceFault>
-    ensures row { IsUpdated false false (map C.content cells.old) at class operand (map C.content cells.new) result }
-{
-    if !is_inside(cells.len(), at, 4) {
-        return Err(SpaceFault::Bounds);
-    }
-    match read(cells, at as usize, 4) {
-        Ok(found) => {
-            let value = combined(class, found as u32, operand);
-            put(cells, at as usize, 4, value as u64);
-            Ok(())
-        }
-        Err(byte) => Err(SpaceFault::Unset(byte)),
-    }
 }

@@ -6,7 +6,7 @@ use crate::space::{Space, SpaceFault};
 use clmodel::access::{Class, Width};
 
 /// A lent space, read as constant memory: it answers every store and update by `ReadOnly` (OpenCL 1.2, section 6.5.3).
-#[derive(Clone, Copy, Debug)]
+#[derive(Drop)]
 pub struct ConstView<'a, S: Space> {
     inner: &'a S,
 }

@@ -1,22 +1,16 @@
 //! Memory spaces: what a load, a store and an atomic update of a work-item do to the bytes of one object; and the buffers of a device by their names.
 #![tactic(auto)]
 
-pub mod buffers;
+mod buffers;
 mod cells;
-pub mod constant;
-pub mod local;
-pub mod plain;
-pub mod private;
+mod constant;
+mod row;
 pub mod space;
-pub mod table;
-#[cfg(test)]
-mod tests;
+mod table;
 pub mod width;
 
 pub use buffers::Buffers;
 pub use constant::ConstView;
-pub use local::LocalMem;
-pub use plain::Plain;
-pub use private::PrivateArray;
+pub use row::{LocalMem, Plain, PrivateArray};
 pub use space::{Space, SpaceFault};
 pub use table::Table;

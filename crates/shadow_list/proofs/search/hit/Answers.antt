@@ -1,4 +1,4 @@
-use Rattle.std.proofs.Common.{◌≡◌, ◌+◌, ◌-◌, ℕ, zero, None, sym, ap, ◌∙◌, arith}
+use Rattle.std.proofs.Common.{◌+◌, ◌-◌, sym, ap, ◌∙◌, arith}
 use Rattle.clmodel.specs.Cells.{byte_count}
 use Rattle.shadow_list.specs.Log.{hit, hit_from}
 use Rattle.shadow_list.proofs.Hits.{clear, from_here, from_later}

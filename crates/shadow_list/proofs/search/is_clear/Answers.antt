@@ -1,4 +1,4 @@
-use Rattle.std.proofs.Common.{◌∙◌, sym}
+use Rattle.std.proofs.Common.{◌∙◌}
 use Rattle.shadow_list.proofs.Hits.{past_entry}
 use Rattle.shadow_list.proofs.search.is_clear.Goals as goal
 

@@ -1,0 +1,119 @@
+//! Bytes in a row.
+
+ghost use Rattle.std.specs.Prelude.{◌≡◌, Some, None, map, length, replicate, false, IfOk};
+
+use crate::cells::{Cell, combined, is_inside, put, read};
+use crate::space::{Space, SpaceFault};
+use crate::width::byte_count;
+use clmodel::access::{Class, Width};
+use std::alloc::{AllocError, Global};
+use std::marker::Model;
+
+/// A space with cells of its own, each for a byte.
+#[derive(Drop)]
+pub struct Row<C: Cell> {
+    cells: Vec<C>,
+}
+
+impl<C: Cell> Model for Row<C> {
+    ghost use Rattle.std.specs.Prelude.{ℕ, List, Option, map};
+
+    ghost Value = { List (Option ℕ) };
+
+    ghost view = { λ row. map C.content row.cells.items };
+}
+
+/// Bytes that are all set: what a buffer holds (OpenCL 1.2, section 5.2.1).
+pub type Plain = Row<u8>;
+
+/// A local object of a work-group: its bytes are unset at the start of the group (OpenCL 1.2, section 6.5.2).
+pub type LocalMem = Row<Option<u8>>;
+
+/// A private array of a work-item: its bytes are unset when it is made and after each execution of its declaration
+/// (OpenCL 1.2, section 6.5.4; C99 6.2.4).
+pub type PrivateArray = Row<Option<u8>>;
+
+impl Row<u8> {
+    /// A space of these bytes.
+    pub fn new(bytes: Vec<u8>) -> Self
+        ensures { result ≡ map Some bytes.items }
+    {
+        Row { cells: bytes }
+    }
+
+    /// Its bytes.
+    pub fn into_bytes(self) -> Vec<u8>
+        ensures { map Some result.items ≡ self }
+    {
+        self.cells
+    }
+}
+
+impl Row<Option<u8>> {
+    /// So many unset bytes. An error is want of memory.
+    pub fn new(alloc: Global, size: usize) -> Result<Self, AllocError>
+        ensures { IfOk result (λ row. row ≡ replicate size None) }
+    {
+        let mut cells = Vec::with_capacity(alloc, size)?;
+        cells.resize(size, None)?;
+        Ok(Row { cells })
+    }
+
+    /// Makes all its bytes unset.
+    pub fn unset(&mut self)
+        ensures { self.new ≡ replicate (length self.old) None }
+    {
+        self.cells.as_mut_slice().fill(None);
+    }
+}
+
+impl<C: Cell> Space for Row<C> {
+    ghost bytes = { λ row. row };
+
+    ghost read_only = { false };
+
+    ghost may_want = { false };
+
+    fn size(&self) -> u64 {
+        self.cells.len() as u64
+    }
+
+    fn load(&self, at: u64, width: Width) -> Result<u64, SpaceFault> {
+        let count = byte_count(width);
+        if !is_inside(self.cells.len(), at, count) {
+            return Err(SpaceFault::Bounds);
+        }
+        match read(self.cells.as_slice(), at as usize, count as usize) {
+            Ok(value) => Ok(value),
+            Err(byte) => Err(SpaceFault::Unset(byte)),
+        }
+    }
+
+    fn store(&mut self, at: u64, width: Width, value: u64) -> Result<(), SpaceFault> {
+        let count = byte_count(width);
+        if !is_inside(self.cells.len(), at, count) {
+            return Err(SpaceFault::Bounds);
+        }
+        put(
+            self.cells.as_mut_slice(),
+            at as usize,
+            count as usize,
+            value,
+        );
+        Ok(())
+    }
+
+    fn update(&mut self, at: u64, class: Class, operand: u32) -> Result<(), SpaceFault> {
+        if !is_inside(self.cells.len(), at, 4) {
+            return Err(SpaceFault::Bounds);
+        }
+        match read(self.cells.as_slice(), at as usize, 4) {
+            Ok(found) => {
+                let value = combined(class, found as u32, operand);
+                put(self.cells.as_mut_slice(), at as usize, 4, value as u64);
+                Ok(())
+            }
+            Err(byte) => Err(SpaceFault::Unset(byte)),
+        }
+    }
+}
