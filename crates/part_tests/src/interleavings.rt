@@ -5,8 +5,8 @@ ghost use Rattle.clmodel.specs.Outcome.{IsReady};
 ghost use Rattle.plain_run.specs.Plain.{launch_of, IsKept};
 
 use clmodel::access::{Class, Object, Operation, Width};
-use clmodel::action::{Action, Answer, Fences, Instance, Turns};
-use clmodel::fault::Fault;
+use clmodel::action::{Action, Answer, Fences, Instance, Stop, Turns};
+use clmodel::fault::{Fault, Location};
 use clmodel::next_action::NextAction;
 use clmodel::outcome::Outcome;
 use clmodel::schedule::{Event, Run};
@@ -19,7 +19,7 @@ use std::process::Abort;
 use std::test::Fail;
 
 /// What an item of a test does next.
-#[derive(Clone, Copy, Debug)]
+#[derive(Clone, Copy)]
 enum Move {
     Access(i64, Operation),
     Barrier(Fences),
@@ -30,7 +30,7 @@ enum Move {
 type Moves = [Move; 3];
 
 /// What three items do, after which they end.
-#[derive(Clone, Copy, Debug)]
+#[derive(Clone, Copy)]
 struct Script {
     first: Moves,
     second: Moves,
@@ -223,6 +223,92 @@ fn events_of(alloc: Global, runs: &[Run]) -> Result<Vec<Event>, AllocError> {
     Ok(events)
 }
 
+/// Whether two locations are the same buffer.
+fn is_same_buffer(a: &Location, b: &Location) -> bool {
+    match (a, b) {
+        (Location::Buffer(a), Location::Buffer(b)) => a == b,
+        _ => false,
+    }
+}
+
+fn is_same_stop(a: &Stop, b: &Stop) -> bool {
+    match (a, b) {
+        (Stop::At(a), Stop::At(b)) => {
+            a.site == b.site && a.turns.as_slice() == b.turns.as_slice()
+        }
+        (Stop::Ended, Stop::Ended) => true,
+        _ => false,
+    }
+}
+
+/// Whether two faults are the same conflict.
+fn is_same_conflict(a: &Fault, b: &Fault) -> bool {
+    let Fault::Conflict {
+        clash,
+        item,
+        kind,
+        other_item,
+        other_kind,
+        location,
+        byte,
+    } = a
+    else {
+        return false;
+    };
+    match b {
+        Fault::Conflict {
+            clash: clash_b,
+            item: item_b,
+            kind: kind_b,
+            other_item: other_item_b,
+            other_kind: other_kind_b,
+            location: location_b,
+            byte: byte_b,
+        } => {
+            clash == clash_b
+                && item == item_b
+                && kind == kind_b
+                && other_item == other_item_b
+                && other_kind == other_kind_b
+                && is_same_buffer(location, location_b)
+                && byte == byte_b
+        }
+        _ => false,
+    }
+}
+
+/// Whether two faults are the same divergence.
+fn is_same_divergence(a: &Fault, b: &Fault) -> bool {
+    let Fault::Divergence {
+        item,
+        stop,
+        other_item,
+        other_stop,
+    } = a
+    else {
+        return false;
+    };
+    match b {
+        Fault::Divergence {
+            item: item_b,
+            stop: stop_b,
+            other_item: other_item_b,
+            other_stop: other_stop_b,
+        } => {
+            item == item_b
+                && is_same_stop(stop, stop_b)
+                && other_item == other_item_b
+                && is_same_stop(other_stop, other_stop_b)
+        }
+        _ => false,
+    }
+}
+
+/// Whether two faults are the same conflict or the same divergence, which are the faults of these launches.
+fn is_same(a: &Fault, b: &Fault) -> bool {
+    is_same_conflict(a, b) || is_same_divergence(a, b)
+}
+
 /// Whether a schedule leads to this report, step by step.
 fn reaches<N: NextAction>(
     alloc: Global,
@@ -238,10 +324,7 @@ fn reaches<N: NextAction>(
         return Ok(false);
     };
     match turn(alloc, launch, items, &state)? {
-        PlainTurn::Reports(reached) => {
-            let text = format!(in alloc; "{reached:?}")?;
-            Ok(text.as_str() == format!(in alloc; "{fault:?}")?.as_str())
-        }
+        PlainTurn::Reports(reached) => Ok(is_same(&reached, fault)),
         _ => Ok(false),
     }
 }

@@ -43,10 +43,8 @@ fn tables(rt: HostRuntime) -> Result<(), Fail> {
         is_const: false,
         element: IntType::Uchar,
     });
-    assert_eq!(rt;
-        code.parameters(),
-        [pointer, VariableType::Integer(IntType::Int)].as_slice()
-    );
+    let parameters = [pointer, VariableType::Integer(IntType::Int)];
+    assert!(rt; code.parameters() == parameters.as_slice());
     assert_eq!(rt; code.arrays(), [0u32, 0, 5, 2].as_slice());
     assert_eq!(rt; code.objects(), 3);
     assert_eq!(rt; code.names(), 29);
@@ -66,7 +64,7 @@ fn tables(rt: HostRuntime) -> Result<(), Fail> {
         (85, None),
     ];
     for (register, kind) in kinds {
-        assert_eq!(rt; code.register(register), kind, "{register}");
+        assert!(rt; code.register(register) == kind, "{register}");
     }
     Ok(())
 }

@@ -41,7 +41,7 @@ fn tokens(rt: HostRuntime) -> Result<(), Fail> {
     assert_eq!(rt; tokens.length(), 134);
     assert_eq!(rt; tokens.as_slice().len(), expected.len());
     for (token, (kind, at)) in tokens.as_slice().iter().zip(expected) {
-        assert_eq!(rt; *token, Token { kind, at });
+        assert!(rt; *token == Token { kind, at }, "at {at}");
     }
     assert_eq!(rt; tokens.names().len(), 28);
     assert_eq!(rt; tokens.names()[0].as_slice(), b"get_work_dim".as_slice());

@@ -1,5 +1,8 @@
 //! Trees of sources.
 
+mod texts;
+
+use self::texts::add_function;
 use clsyntax::read;
 use std::process::Abort;
 use std::test::Fail;
@@ -9,7 +12,9 @@ fn check_tree<R: Abort + AllocGlobal>(rt: &R, source: &str, texts: &[&str]) -> R
     let tree = read(rt.alloc(), source.as_bytes())?;
     assert_eq!(rt; tree.functions.len(), texts.len());
     for (function, text) in tree.functions.iter().zip(texts) {
-        assert_eq!(rt; format!(in rt.alloc(); "{function:?}")?.as_str(), *text);
+        let mut written = String::new(rt.alloc());
+        add_function(&mut written, function)?;
+        assert_eq!(rt; written.as_str().trim_start(), *text);
     }
     Ok(())
 }
@@ -22,63 +27,63 @@ fn every_form(rt: HostRuntime) -> Result<(), Fail> {
         &rt,
         "kernel void f(global const char *p, ulong n) { size_t i = n; global int *q; ; { n = 1; } ++n; q[2]--; *q <<= 3; q[0] = n ? -n : ~i; n = (char)n * 2 + !*q; g(&p[n], (5)); q[(q[0])] = f(1, 2) + 3 + 4; g(); }",
         &[
-            "Function { is_kernel: true, result: None, name_at: 12, name: 26, parameters: [\
-            Parameter { name_at: 33, name: 27, kind: Pointer(PointerType { space: Global, is_const: true, element: Char }) }, \
-            Parameter { name_at: 42, name: 28, kind: Integer(Ulong) }], body_at: 45, body: [\
-            Declare { at: 47, kind: Integer(Ulong), name_at: 54, name: 29, value: Some(Variable { at: 58, name: 28 }) }, \
-            Declare { at: 61, kind: Pointer(PointerType { space: Global, is_const: false, element: Int }), name_at: 73, name: 30, value: None }, \
-            Empty { at: 76 }, \
-            Block { at: 78, body: [Assign { at: 80, target: Variable { at: 80, name: 28 }, operator: None, value: Number { at: 84, value: Value { kind: Int, number: 1 } } }] }, \
-            Step { at: 89, target: Variable { at: 91, name: 28 }, is_increment: true }, \
-            Step { at: 94, target: Element { at: 94, name: 30, index: Number { at: 96, value: Value { kind: Int, number: 2 } } }, is_increment: false }, \
-            Assign { at: 102, target: Dereference { at: 102, pointer: Variable { at: 103, name: 30 } }, operator: Some(ShiftLeft), value: Number { at: 109, value: Value { kind: Int, number: 3 } } }, \
-            Assign { at: 112, target: Element { at: 112, name: 30, index: Number { at: 114, value: Value { kind: Int, number: 0 } } }, operator: None, value: Choice { at: 119, condition: Variable { at: 119, name: 28 }, chosen: Unary { at: 123, operator: Negate, operand: Variable { at: 124, name: 28 } }, otherwise: Unary { at: 128, operator: Complement, operand: Variable { at: 129, name: 29 } } } }, \
-            Assign { at: 132, target: Variable { at: 132, name: 28 }, operator: None, value: Binary { at: 136, operator: Arithmetic(Add), left: Binary { at: 136, operator: Arithmetic(Multiply), left: Cast { at: 136, target: Char, operand: Variable { at: 142, name: 28 } }, right: Number { at: 146, value: Value { kind: Int, number: 2 } } }, right: Unary { at: 150, operator: Not, operand: Dereference { at: 151, pointer: Variable { at: 152, name: 30 } } } } }, \
-            Call { at: 155, name: 31, arguments: [ElementAddress { at: 157, name_at: 158, name: 27, index: Variable { at: 160, name: 28 } }, Number { at: 165, value: Value { kind: Int, number: 5 } }] }, \
-            Assign { at: 170, target: Element { at: 170, name: 30, index: Element { at: 173, name: 30, index: Number { at: 175, value: Value { kind: Int, number: 0 } } } }, operator: None, value: Binary { at: 182, operator: Arithmetic(Add), left: Binary { at: 182, operator: Arithmetic(Add), left: Call { at: 182, name: 26, arguments: [Number { at: 184, value: Value { kind: Int, number: 1 } }, Number { at: 187, value: Value { kind: Int, number: 2 } }] }, right: Number { at: 192, value: Value { kind: Int, number: 3 } } }, right: Number { at: 196, value: Value { kind: Int, number: 4 } } } }, \
-            Call { at: 199, name: 31, arguments: [] }] }",
+            "(Function 12 26 45 true None \
+            (Parameter 33 27 Pointer Global true Char) \
+            (Parameter 42 28 Integer Ulong) \
+            (Declare 47 54 29 Integer Ulong (Variable 58 28)) \
+            (Declare 61 73 30 Pointer Global false Int None) \
+            (Empty 76) \
+            (Block 78 (Assign 80 (Variable 80 28) None (Number 84 Int 1))) \
+            (Step 89 (Variable 91 28) true) \
+            (Step 94 (Element 94 30 (Number 96 Int 2)) false) \
+            (Assign 102 (Dereference 102 (Variable 103 30)) ShiftLeft (Number 109 Int 3)) \
+            (Assign 112 (Element 112 30 (Number 114 Int 0)) None (Choice 119 (Variable 119 28) (Unary 123 Negate (Variable 124 28)) (Unary 128 Complement (Variable 129 29)))) \
+            (Assign 132 (Variable 132 28) None (Binary 136 Add (Binary 136 Multiply (Cast 136 Char (Variable 142 28)) (Number 146 Int 2)) (Unary 150 Not (Dereference 151 (Variable 152 30))))) \
+            (Call 155 31 (ElementAddress 157 158 27 (Variable 160 28)) (Number 165 Int 5)) \
+            (Assign 170 (Element 170 30 (Element 173 30 (Number 175 Int 0))) None (Binary 182 Add (Binary 182 Add (Call 182 26 (Number 184 Int 1) (Number 187 Int 2)) (Number 192 Int 3)) (Number 196 Int 4))) \
+            (Call 199 31))",
         ],
     )?;
     check_tree(
         &rt,
         "kernel void f(__local int *p, constant const uchar *q) { local const long *r; __constant short *s = q; } void g(local size_t *t) { }",
         &[
-            "Function { is_kernel: true, result: None, name_at: 12, name: 26, parameters: [\
-            Parameter { name_at: 27, name: 27, kind: Pointer(PointerType { space: Local, is_const: false, element: Int }) }, \
-            Parameter { name_at: 52, name: 28, kind: Pointer(PointerType { space: Constant, is_const: true, element: Uchar }) }], body_at: 55, body: [\
-            Declare { at: 57, kind: Pointer(PointerType { space: Local, is_const: true, element: Long }), name_at: 75, name: 29, value: None }, \
-            Declare { at: 78, kind: Pointer(PointerType { space: Constant, is_const: false, element: Short }), name_at: 96, name: 30, value: Some(Variable { at: 100, name: 28 }) }] }",
-            "Function { is_kernel: false, result: None, name_at: 110, name: 31, parameters: [\
-            Parameter { name_at: 126, name: 32, kind: Pointer(PointerType { space: Local, is_const: false, element: Ulong }) }], body_at: 129, body: [] }",
+            "(Function 12 26 55 true None \
+            (Parameter 27 27 Pointer Local false Int) \
+            (Parameter 52 28 Pointer Constant true Uchar) \
+            (Declare 57 75 29 Pointer Local true Long None) \
+            (Declare 78 96 30 Pointer Constant false Short (Variable 100 28)))",
+            "(Function 110 31 129 false None \
+            (Parameter 126 32 Pointer Local false Ulong))",
         ],
     )?;
     check_tree(
         &rt,
         "void g() { ushort t[0x2ul]; } kernel void f() { __local int a[32769]; size_t b[0]; { local uchar c[007]; } }",
         &[
-            "Function { is_kernel: false, result: None, name_at: 5, name: 26, parameters: [], body_at: 9, body: [\
-            DeclareArray { at: 11, is_local: false, element: Ushort, name_at: 18, name: 27, length_at: 20, length: Value { kind: Ulong, number: 2 } }] }",
-            "Function { is_kernel: true, result: None, name_at: 42, name: 28, parameters: [], body_at: 46, body: [\
-            DeclareArray { at: 48, is_local: true, element: Int, name_at: 60, name: 29, length_at: 62, length: Value { kind: Int, number: 32769 } }, \
-            DeclareArray { at: 70, is_local: false, element: Ulong, name_at: 77, name: 30, length_at: 79, length: Value { kind: Int, number: 0 } }, \
-            Block { at: 83, body: [DeclareArray { at: 85, is_local: true, element: Uchar, name_at: 97, name: 31, length_at: 99, length: Value { kind: Int, number: 7 } }] }] }",
+            "(Function 5 26 9 false None \
+            (DeclareArray 11 18 27 20 false Ushort Ulong 2))",
+            "(Function 42 28 46 true None \
+            (DeclareArray 48 60 29 62 true Int Int 32769) \
+            (DeclareArray 70 77 30 79 false Ulong Int 0) \
+            (Block 83 (DeclareArray 85 97 31 99 true Uchar Int 7)))",
         ],
     )?;
     check_tree(
         &rt,
         "int g(size_t n) { return n; } void h(uint n) { if (n) if (n) ; else ; else return; do continue; while (0); } kernel void f() { for (size_t i = 0; i; ++i) { } for (g(1); ; g(2)) while (1) break; for (;;) ; }",
         &[
-            "Function { is_kernel: false, result: Some(Int), name_at: 4, name: 26, parameters: [\
-            Parameter { name_at: 13, name: 27, kind: Integer(Ulong) }], body_at: 16, body: [\
-            Return { at: 18, value: Some(Variable { at: 25, name: 27 }) }] }",
-            "Function { is_kernel: false, result: None, name_at: 35, name: 28, parameters: [\
-            Parameter { name_at: 42, name: 27, kind: Integer(Uint) }], body_at: 45, body: [\
-            IfElse { at: 47, condition: Variable { at: 51, name: 27 }, chosen: IfElse { at: 54, condition: Variable { at: 58, name: 27 }, chosen: Empty { at: 61 }, otherwise: Empty { at: 68 } }, otherwise: Return { at: 75, value: None } }, \
-            DoWhile { at: 83, body: Continue { at: 86 }, condition: Number { at: 103, value: Value { kind: Int, number: 0 } } }] }",
-            "Function { is_kernel: true, result: None, name_at: 121, name: 29, parameters: [], body_at: 125, body: [\
-            For { at: 127, first: Some(Declare { at: 132, kind: Integer(Ulong), name_at: 139, name: 30, value: Some(Number { at: 143, value: Value { kind: Int, number: 0 } }) }), condition: Some(Variable { at: 146, name: 30 }), third: Some(Step { at: 149, target: Variable { at: 151, name: 30 }, is_increment: true }), body: Block { at: 154, body: [] } }, \
-            For { at: 158, first: Some(Call { at: 163, name: 26, arguments: [Number { at: 165, value: Value { kind: Int, number: 1 } }] }), condition: None, third: Some(Call { at: 171, name: 26, arguments: [Number { at: 173, value: Value { kind: Int, number: 2 } }] }), body: While { at: 177, condition: Number { at: 184, value: Value { kind: Int, number: 1 } }, body: Break { at: 187 } } }, \
-            For { at: 194, first: None, condition: None, third: None, body: Empty { at: 203 } }] }",
+            "(Function 4 26 16 false Int \
+            (Parameter 13 27 Integer Ulong) \
+            (Return 18 (Variable 25 27)))",
+            "(Function 35 28 45 false None \
+            (Parameter 42 27 Integer Uint) \
+            (IfElse 47 (Variable 51 27) (IfElse 54 (Variable 58 27) (Empty 61) (Empty 68)) (Return 75 None)) \
+            (DoWhile 83 (Continue 86) (Number 103 Int 0)))",
+            "(Function 121 29 125 true None \
+            (For 127 (Declare 132 139 30 Integer Ulong (Number 143 Int 0)) (Variable 146 30) (Step 149 (Variable 151 30) true) (Block 154)) \
+            (For 158 (Call 163 26 (Number 165 Int 1)) None (Call 171 26 (Number 173 Int 2)) (While 177 (Number 184 Int 1) (Break 187))) \
+            (For 194 None None None (Empty 203)))",
         ],
     )
 }
