@@ -279,7 +279,11 @@ fn is_sum(operator: InfixOperator) -> bool
 }
 
 /// The two operands of an operator.
-pub(crate) fn operand_fault(operator: InfixOperator, left: Operand, right: Operand) -> Option<TypeFault>
+pub(crate) fn operand_fault(
+    operator: InfixOperator,
+    left: Operand,
+    right: Operand,
+) -> Option<TypeFault>
     ensures { result ≡ least (operand_faults operator left.kind right.kind left.at right.at) }
 {
     match left.kind {
@@ -295,7 +299,11 @@ pub(crate) fn operand_fault(operator: InfixOperator, left: Operand, right: Opera
 
 /// The three parts of `condition ? chosen : otherwise`.
 #[tactic(auto, using(crate::proofs::Least::least_append))]
-pub(crate) fn choice_fault(condition: Operand, chosen: Operand, otherwise: Operand) -> Option<TypeFault>
+pub(crate) fn choice_fault(
+    condition: Operand,
+    chosen: Operand,
+    otherwise: Operand,
+) -> Option<TypeFault>
     ensures { result
         ≡ least
         (integer_faults condition.kind condition.at

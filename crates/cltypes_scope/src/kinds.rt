@@ -95,7 +95,11 @@ fn number_kind(operator: InfixOperator, left: IntType, right: IntType) -> IntTyp
 }
 
 /// The type of an operator between two operands: that of a pointer among them, which it moves.
-pub(crate) fn binary_type(operator: InfixOperator, left: VariableType, right: VariableType) -> VariableType
+pub(crate) fn binary_type(
+    operator: InfixOperator,
+    left: VariableType,
+    right: VariableType,
+) -> VariableType
     ensures { result ≡ binary_type operator left right }
 {
     match (left, right) {

@@ -32,7 +32,11 @@ pub fn check_within<R: Abort + AllocGlobal>(
     };
     let outcome = run(rt.alloc(), &mut reader, &mut writer, Options { budget });
     assert_eq!(rt; status(&outcome), wanted, "{script}");
-    assert_eq!(rt; writer.into_inner().as_slice(), replies.as_bytes(), "{script}");
+    assert_eq!(rt;
+        writer.into_inner().as_slice(),
+        replies.as_bytes(),
+        "{script}"
+    );
 }
 
 /// Runs a script with the budget that is taken where none is given, and compares the text that was written and the status.
