@@ -25,7 +25,7 @@ Apart first count other other_count = (byte : ℕ) → covers first count byte �
 
 -- ---- what an operation depends on and what it changes
 
-number_frame : (c d : Cells) (first count : ℕ) → ((byte : ℕ) → covers first count byte ≡ true → c byte ≡ d byte) → number c first count ≡ number d first count
+pub number_frame : (c d : Cells) (first count : ℕ) → ((byte : ℕ) → covers first count byte ≡ true → c byte ≡ d byte) → number c first count ≡ number d first count
 number_frame c d first zero h = refl
 number_frame c d first (suc count) h =
     ap₂ joined (h first (covers_from first (suc count) first (omega arith) (omega arith)))
@@ -57,7 +57,7 @@ effect_at (Store width value) x c d first byte h = ap (λ z. if covers first (by
 effect_at (Update class operand) x c d first byte h =
     ap (λ z. if covers first 4 byte then Some (byte_of (byte - first) (combined class x operand)) else z) h
 
-written_in : (c : Cells) (first count value byte : ℕ) → covers first count byte ≡ true → written c first count value byte ≡ Some (byte_of (byte - first) value)
+pub written_in : (c : Cells) (first count value byte : ℕ) → covers first count byte ≡ true → written c first count value byte ≡ Some (byte_of (byte - first) value)
 unfolding written
 written_in c first count value byte h = if_true (covers first count byte) (Some (byte_of (byte - first) value)) (c byte) h
 
@@ -120,7 +120,7 @@ apart_swap op op2 c first first2 v v2 apart finds finds2 =
 
 -- ---- two updates on the same bytes
 
-number_of_written : (c : Cells) (first v : ℕ) → v < 2 ^ 32 → number (written c first 4 v) first 4 ≡ Some v
+pub number_of_written : (c : Cells) (first v : ℕ) → v < 2 ^ 32 → number (written c first 4 v) first 4 ≡ Some v
 number_of_written c first v below =
     ap₂ joined (at_place 0 first (omega arith) (omega arith))
     (ap₂ joined (at_place 1 (suc first) (omega arith) (omega arith))

@@ -105,14 +105,14 @@ no_conflict l x y byte h = if_none (unordered (one_group l x y) x y && share x y
 
 -- ---- both ways round
 
-same_class : (c d : Class) → (if class_number c == class_number d then None else Some Order) ≡ None → class_number c ≡ class_number d
+pub same_class : (c d : Class) → (if class_number c == class_number d then None else Some Order) ≡ None → class_number c ≡ class_number d
 same_class c d h = go (class_number c == class_number d) refl h
   where
     go : (b : Bool) → (class_number c == class_number d) ≡ b → ◌≡◌ {A = Option Clash} (if b then None else Some Order) None → class_number c ≡ class_number d
     go true e h = eqb-true (class_number c) (class_number d) e
     go false e h = absurd (none_some Order (sym h))
 
-class_of : ℕ → Class
+abbrev pub class_of : ℕ → Class
 class_of zero = class.Add
 class_of (suc zero) = class.And
 class_of (suc (suc zero)) = class.Or
@@ -122,7 +122,7 @@ class_of (suc (suc (suc (suc (suc zero))))) = class.UnsignedMin
 class_of (suc (suc (suc (suc (suc (suc zero)))))) = class.SignedMax
 class_of (suc (suc (suc (suc (suc (suc (suc n))))))) = class.UnsignedMax
 
-class_of-number : (c : Class) → class_of (class_number c) ≡ c
+pub class_of-number : (c : Class) → class_of (class_number c) ≡ c
 unfolding class_of
 class_of-number class.Add = refl
 class_of-number class.And = refl
@@ -203,7 +203,7 @@ free_from l s i t j u p q ne calm =
 abbrev pub Harmless : Launch → List Access → Type 0
 Harmless l log = (x y : Access) (byte : ℕ) → Logged log x → Logged log y → conflict l x y byte ≡ None
 
-map_none : {A B : Type 0} (f : A → B) (o : Option A) → option_map f o ≡ None → o ≡ None
+pub map_none : {A B : Type 0} (f : A → B) (o : Option A) → option_map f o ≡ None → o ≡ None
 map_none f None h = refl
 map_none f (Some a) h = absurd (none_some (f a) (sym h))
 
@@ -236,6 +236,14 @@ from_byte l x log first (suc count) h y w byte a b = go (cases_eq first byte) (o
         → conflict l y x byte ≡ None
     go (inl e) r ih = subst (λ k. conflict l y x k ≡ None) e (on_byte l x first log r.0 y w)
     go (inr ne) r ih = ih r.1 y w byte (omega (arith, a, ne)) (omega (arith, b))
+
+-- an access without a conflict with those of a log conflicts with none of them
+pub no_newest : (l : Launch) (x : Access) (log : List Access) → conflict_from (conflict l) x log x.first (byte_count x.width) ≡ None → (y : Access) → Logged log y → (byte : ℕ) → conflict l y x byte ≡ None
+no_newest l x log h y w byte =
+    no_conflict l y x byte
+    (λ m.
+    let r : (x.first ≤ byte) × (byte < x.first + byte_count x.width) = covers_parts x.first (byte_count x.width) byte m.second_covers in
+    no_clash l y x byte (from_byte l x log x.first (byte_count x.width) h y w byte r.0 r.1) m)
 
 -- an access without a conflict with an earlier one leaves a log without conflicts
 pub harmless_more :
