@@ -18,64 +18,20 @@ use Rattle.clmodel.proofs.Steps.{none_some, some_inj}
 use Rattle.item_run.specs.Running.{Running, action_of}
 use Rattle.shadow_list.specs.Log.{Log, logged}
 use Rattle.group_run.specs.Fits.{Holds, HoldsMemory, Fits, Counts, AreStarted, group_left}
-use Rattle.group_run.specs.Group.{Plan, IsGroup, Reached, Reported, IsRun}
+use Rattle.joining.specs.Parts.{IsGrouped}
+use Rattle.joining.specs.Group.{Plan, IsGroup, Reached, Reported, IsRun, plan_of}
 use Rattle.group_run.specs.Logs.{IsLogged}
 use Rattle.group_run.specs.Loops.{IsBrief}
-use Rattle.group_run.specs.Results.{IsRunnable, plan_of, filled, Leaves}
-use Rattle.group_run.proofs.Turns.{found_first, moved}
+use Rattle.group_run.specs.Results.{IsRunnable, filled, Leaves}
+use Rattle.joining.proofs.Grouped.{group_is, whole_inside}
+use Rattle.group_run.proofs.Turns.{moved}
 
--- ---- the group's items
-
--- sums of numbers that are products elsewhere
-no_rest : (a r n : ℕ) → a + r ≡ n → r ≡ 0 → a ≡ n
-no_rest a r n h e = omega (arith, h, e)
-
-within : (k c f n : ℕ) → k < c → f + c ≤ n → f + k < n
-within k c f n h e = omega (arith, h, e)
-
-no_earlier : (j f r : ℕ) → j < f → f + r ≡ j → ⊥
-no_earlier j f r h e = absurd (omega (arith, h, e))
-
-at_most : (a b c d : ℕ) → a ≡ b → b ≤ c → c ≡ d → a ≤ d
-at_most a b c d h e q = omega (arith, h, e, q)
+-- its groups are whole
+groups_whole : (l : Launch) → IsRunnable l → IsGrouped l
+groups_whole l ready = record { some = ready.grouped; whole = ready.whole }
 
 under : (a b c : ℕ) → a ≤ b → b < c → a < c
 under a b c h e = omega (arith, h, e)
-
-nothing : (n : ℕ) → n ≡ n + 0
-nothing n = omega arith
-
--- a group that begins within the launch is whole
-whole_inside : (items size group : ℕ) → items % size ≡ 0 → group * size < items → group * size + size ≤ items
-whole_inside items size group whole there =
-    let e : items / size * size ≡ items = no_rest (items / size * size) (items % size) items (div-add-mod' items size) whole in
-    let b : group * size < items / size * size = subst (λ z. group * size < z) (sym e) there in
-    let l : suc group ≤ items / size = lt_of_mul-lt-mul_right size b in
-    at_most (group * size + size) (suc group * size) (items / size * size) items (sym (suc-mul group size)) (mul-le-mul_right size l) e
-
-mine_first : (l : Launch) (group : ℕ) → 0 < l.group_size → group * l.group_size / l.group_size ≡ group
-mine_first l group b = ap (λ n. n / l.group_size) (nothing (group * l.group_size)) ∙ div-mul-add group l.group_size 0 b
-
-not_mine : (l : Launch) (group j : ℕ) → j < group * l.group_size → j / l.group_size ≡ group → ⊥
-not_mine l group j b e =
-    no_earlier j (group * l.group_size) (j % l.group_size) b (ap (λ g. g * l.group_size + j % l.group_size) (sym e) ∙ div-add-mod' j l.group_size)
-
-pub group_is : (l : Launch) (group : ℕ) → IsRunnable l → group * l.group_size < l.items → IsGroup (plan_of l group)
-group_is l group ready there =
-    record {
-      some = ready.grouped;
-      leads =
-          found_first (λ item. group_of l item == group) l.items (group * l.group_size) there
-          (eq-eqb (group * l.group_size / l.group_size) group (mine_first l group ready.grouped))
-          (λ j b. ne_eqb (j / l.group_size) group (not_mine l group j b));
-      inside = λ k b. within k l.group_size (group * l.group_size) l.items b (whole_inside l.items l.group_size group ready.whole there);
-      mine = λ k b. div-mul-add group l.group_size k b;
-      listed = λ item b e. (
-        item % l.group_size,
-        mod-lt item ready.grouped,
-        ap (λ g. g * l.group_size + item % l.group_size) (sym e) ∙ div-add-mod' item l.group_size,
-      );
-    }
 
 -- ---- the bytes
 
@@ -185,7 +141,7 @@ start_fits bytes ro l group items globals locals log ready there writable full u
     subst (λ z. Fits action_of bytes ro (plan_of l group) items 0 globals locals z [] (start l)) (sym fresh)
     (subst (λ z. Fits action_of bytes ro (plan_of l group) items 0 globals z (logged [] 0 0) [] (start l)) (sym unset)
     (record {
-      whole = group_is l group ready there;
+      whole = group_is l group (groups_whole l ready) there;
       writable = writable;
       acting = started.each;
       holds = (buffers_hold bytes l globals full, locals_hold l group);
@@ -228,7 +184,7 @@ begins bytes ro l group first count items globals locals log ready there writabl
     let now = subst (λ z. AreStarted l z l.group_size items) e (subst (λ z. AreStarted l first z items) h started) in
     subst (λ z. Begins z (Fits action_of bytes ro z items 0 globals locals log) (start l)) (sym (plan_same l group first (length items) e (started.many ∙ h)))
     (record {
-      whole = group_is l group ready there;
+      whole = group_is l group (groups_whole l ready) there;
       brief = brief_is l group ready;
       reached = record {
         state = start l;

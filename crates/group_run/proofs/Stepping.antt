@@ -31,7 +31,7 @@ use Rattle.shadow_list.specs.Log.{Log, stamped, hit, IsKept, IsNoted}
 use Rattle.shadow_list.specs.declared.log.Entry.{Entry}
 use Rattle.shadow_list.specs.declared.log.Hit.{Hit}
 use Rattle.group_run.specs.Fits.{Holds, HoldsMemory, IsMoved, Fits, Counts, AreAnswered, group_left, space_of}
-use Rattle.group_run.specs.Group.{Plan, IsGroup}
+use Rattle.joining.specs.Group.{Plan, IsGroup}
 use Rattle.group_run.specs.Logs.{accesses_of, conflict_of, AreMine, numbered, Notes, IsLogged, IsJudged, entry_of, after_fences}
 use Rattle.group_run.specs.Loops.{Steps, IsMade}
 use Rattle.group_run.specs.declared.machine.Made.TheVariants as made_as

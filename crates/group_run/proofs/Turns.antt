@@ -17,7 +17,8 @@ use Rattle.clmodel.specs.declared.schedule.Event.{Event}
 use Rattle.clmodel.specs.declared.schedule.Event.TheVariants.{Item, Release}
 use Rattle.clmodel.proofs.Steps.{none_some, some_inj, lowest_some, lowest_is_none, lowest_least, lowest_finds, item_inverse, ReleaseStep, release_inverse, answers_other, same_action}
 use Rattle.clmodel.proofs.Ending.{step_less}
-use Rattle.group_run.specs.Group.{Plan, IsGroup, going, turn_of, RunsIn, Reached, Reported}
+use Rattle.joining.specs.Group.{Plan, IsGroup, going, turn_of, RunsIn, Reached, Reported}
+use Rattle.joining.proofs.Grouped.{found_first}
 use Rattle.group_run.specs.Loops.{Accesses, Steps, IsMade, AtOneStop, Gathers, IsBrief, IsAdvanced, IsHalted, IsGathered}
 use Rattle.group_run.specs.declared.loops.Halt.{Halt}
 use Rattle.group_run.specs.declared.loops.Halt.TheVariants as halt
@@ -56,17 +57,6 @@ stop_at p s k = stop_of (next_action p.launch s (p.first + k))
 
 straggles : Plan → State → ℕ → Bool
 straggles p s item = (group_of p.launch item == p.group) && not (both_stop (first_stop p s) (stop_of (next_action p.launch s item)))
-
-pub found_first : (q : ℕ → Bool) (n k : ℕ) → k < n → q k ≡ true → ((j : ℕ) → j < k → q j ≡ false) → lowest q n ≡ Some k
-found_first q n k b t below = at (lowest_finds q n k b t)
-  where
-    at : (f : (j : ℕ) × (lowest q n ≡ Some j)) → lowest q n ≡ Some k
-    at f = go (cases_lt f.0 k) (cases_lt k f.0)
-      where
-        go : (f.0 < k) ⊎ (k ≤ f.0) → (k < f.0) ⊎ (f.0 ≤ k) → lowest q n ≡ Some k
-        go (inl l) o = absurd (false≢true (sym (below f.0 l) ∙ (lowest_some q n f.0 f.1).1))
-        go (inr l) (inl m) = absurd (false≢true (sym (lowest_least q n f.0 f.1 k m) ∙ t))
-        go (inr l) (inr m) = let e : f.0 ≡ k = omega (arith, l, m) in f.1 ∙ ap Some e
 
 passed : (x y : Bool) → y ≡ true → (x && not y) ≡ false
 passed true y h = ap not h

@@ -15,7 +15,7 @@ use Rattle.item_run.specs.Running.{Running, action_of}
 use Rattle.shadow_list.specs.Log.{Log}
 use Rattle.spaces_base.specs.declared.space.SpaceFault.{SpaceFault}
 use Rattle.spaces_base.specs.declared.space.SpaceFault.TheVariants as space_fault
-use Rattle.group_run.specs.Group.{Plan, IsGroup}
+use Rattle.joining.specs.Group.{Plan, IsGroup}
 use Rattle.group_run.specs.Logs.{IsLogged}
 
 -- a program's spaces, one for each of so many regions of a kind, hold what a memory has there

@@ -1,4 +1,3 @@
-pub mod Group
 pub mod Loops
 pub mod Runs
 pub mod Fits

@@ -15,7 +15,7 @@ use Rattle.clmodel.specs.declared.schedule.Event.TheVariants as event
 use Rattle.shadow_list.specs.Log.{Log, IsKept, IsNoted}
 use Rattle.shadow_list.specs.declared.log.Entry.{Entry}
 use Rattle.shadow_list.specs.declared.log.Hit.{Hit}
-use Rattle.group_run.specs.Group.{Plan}
+use Rattle.joining.specs.Group.{Plan}
 
 -- the accesses of a program's log, the newest first
 abbrev pub accesses_of : List Entry → List Access

@@ -8,7 +8,7 @@ use Rattle.clmodel.specs.declared.access.Operation.{Operation}
 use Rattle.clmodel.specs.declared.action.Action.TheVariants as action
 use Rattle.clmodel.specs.declared.fault.Fault.{Fault}
 use Rattle.clmodel.specs.declared.schedule.Event.TheVariants.{Item}
-use Rattle.group_run.specs.Group.{Plan, Reached, Reported}
+use Rattle.joining.specs.Group.{Plan, Reached, Reported}
 use Rattle.group_run.specs.declared.machine.Made.{Made}
 use Rattle.group_run.specs.declared.machine.Made.TheVariants as made
 use Rattle.group_run.specs.declared.loops.Halt.{Halt}

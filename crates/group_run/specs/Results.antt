@@ -5,7 +5,7 @@ use Rattle.clmodel.specs.Law.{IsBounded}
 use Rattle.clmodel.specs.Outcome.{events_of, IsMerged}
 use Rattle.clmodel.specs.Run.{State, Events, start, left}
 use Rattle.shadow_list.specs.Log.{Log}
-use Rattle.group_run.specs.Group.{Plan, IsRun}
+use Rattle.joining.specs.Group.{Plan, IsRun, plan_of}
 use Rattle.group_run.specs.Logs.{IsLogged}
 use Rattle.group_run.specs.declared.result.GroupResult.{GroupResult}
 use Rattle.group_run.specs.declared.result.GroupResult.TheVariants.{Done, Stopped}
@@ -16,10 +16,6 @@ pub record IsRunnable (launch : Launch) : Type 0 where
   pub whole : launch.items % launch.group_size ≡ 0
   pub numbered : launch.items < 2 ^ 32
   pub bounded : (bound : ℕ) × (launch.group_size * bound < 2 ^ 32) × IsBounded launch bound
-
--- a group of a launch, whose items are numbered group by group (3.2, own in the order)
-abbrev pub plan_of : Launch → ℕ → Plan
-plan_of launch group = record { launch = launch; group = group; first = group * launch.group_size; count = launch.group_size }
 
 -- what the buffers hold at the start, all of it set (5.2.1)
 abbrev pub filled : Launch → List (List (Option ℕ))

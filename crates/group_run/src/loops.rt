@@ -2,7 +2,7 @@
 
 ghost use Rattle.std.specs.Prelude.{◌≡◌, ◌<◌, ◌≤◌, ◌+◌, ℕ, None, Some, IfOk};
 ghost use Rattle.clmodel.specs.Run.{State, Events, next_action, stop_of};
-ghost use Rattle.group_run.specs.Group.{IsGroup, Reached, IsRun};
+ghost use Rattle.joining.specs.Group.{IsGroup, Reached, IsRun};
 ghost use Rattle.group_run.specs.Loops.{Accesses, AtOneStop, Gathers, IsBrief, IsAdvanced, IsHalted, IsGathered};
 
 use crate::machine::{Machine, Made};

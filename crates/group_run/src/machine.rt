@@ -7,7 +7,7 @@ ghost use Rattle.clmodel.specs.declared.action.Action.TheVariants.{Barrier};
 ghost use Rattle.clmodel.specs.declared.action.Fences.{Fences};
 ghost use Rattle.clmodel.specs.declared.action.Instance.{Instance};
 ghost use Rattle.clmodel.specs.declared.schedule.Event.TheVariants.{Release};
-ghost use Rattle.group_run.specs.Group.{Plan};
+ghost use Rattle.joining.specs.Group.{Plan};
 ghost use Rattle.group_run.specs.Loops.{Accesses, IsMade};
 
 use clmodel::action::{Action, Cause};

@@ -1,6 +1,6 @@
 use Rattle.std.proofs.Common.{◌+◌, [], ◌∷◌, ◌++◌, sym, ap, subst, ◌∙◌}
 use Rattle.clmodel.specs.declared.schedule.Event.TheVariants.{Item}
-use Rattle.group_run.specs.Group.{Reported}
+use Rattle.joining.specs.Group.{Reported}
 use Rattle.group_run.specs.Loops.{Gathers}
 use Rattle.group_run.proofs.Turns.{made_done, made_conflict, made_refused, room_done, room_conflict}
 use Rattle.group_run.proofs.loops.advance.Goals as goal

@@ -1,7 +1,7 @@
 use Rattle.std.proofs.Common.{◌≡◌, [], ◌∷◌, ◌++◌, sym, ap, subst, ◌∙◌}
 use Rattle.clmodel.specs.declared.action.Stop.TheVariants.{At, Ended}
 use Rattle.clmodel.specs.declared.schedule.Event.TheVariants.{Release}
-use Rattle.group_run.specs.Group.{Reached}
+use Rattle.joining.specs.Group.{Reached}
 use Rattle.group_run.proofs.Turns.{moved, leading, gathered_on, leader_asks, finishes, release_asks, after_release}
 use Rattle.group_run.proofs.loops.run_items.Goals as goal
 

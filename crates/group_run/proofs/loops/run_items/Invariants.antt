@@ -1,5 +1,5 @@
 use Rattle.std.proofs.Common.{◌≡◌}
-use Rattle.group_run.specs.Group.{Reached}
+use Rattle.joining.specs.Group.{Reached}
 use Rattle.group_run.proofs.loops.run_items.Given as goal
 
 abbrev pub ghost-run_interval : goal.ghost-run_interval

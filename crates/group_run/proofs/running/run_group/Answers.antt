@@ -3,8 +3,7 @@ use Rattle.item_run.specs.Running.{action_of}
 use Rattle.clmodel.specs.Outcome.{events_of}
 use Rattle.clmodel.specs.Run.{State, Events, start}
 use Rattle.group_run.specs.Fits.{Fits}
-use Rattle.group_run.specs.Group.{Plan, Reached}
-use Rattle.group_run.specs.Results.{plan_of}
+use Rattle.joining.specs.Group.{Plan, Reached, plan_of}
 use Rattle.group_run.proofs.Starting.{begins, items_fit, plan_same, done_result, stopped_result}
 use Rattle.group_run.proofs.running.run_group.Goals as goal
 

@@ -8,7 +8,7 @@ use Rattle.clmodel.specs.Launch.{region_of, first_byte, location_of, kind_of}
 use Rattle.clmodel.specs.Run.{State, Events}
 use Rattle.clmodel.specs.declared.fault.Fault.TheVariants as fault
 use Rattle.group_run.specs.Fits.{Fits, HoldsMemory, IsMoved, space_of}
-use Rattle.group_run.specs.Group.{Plan}
+use Rattle.joining.specs.Group.{Plan}
 use Rattle.group_run.specs.Logs.{IsJudged, entry_of}
 use Rattle.spaces_base.specs.declared.space.SpaceFault.TheVariants as space_fault
 use Rattle.group_run.proofs.Stepping.{Doing, done_made, conflict_made, unset_made, access_room}

@@ -2,7 +2,7 @@ use Rattle.std.proofs.Math.Facts.{Fits-of_lt}
 use Rattle.std.proofs.Common.{◌≡◌, ◌∙◌, length, refl, sym, ap, subst}
 use Rattle.clmodel.specs.Run.{next_action}
 use Rattle.clmodel.specs.declared.action.Action.TheVariants as action
-use Rattle.group_run.specs.Group.{Plan}
+use Rattle.joining.specs.Group.{Plan}
 use Rattle.group_run.proofs.Stepping.{release_room, release_made, at_first}
 use Rattle.group_run.proofs.group.GroupMachine.release.Goals as goal
 

@@ -1,0 +1,313 @@
+-- Groups run apart and joined in order come to the canonical run of the launch.
+use Rattle.std.proofs.Common.{◌≡◌, ℕ, suc, ◌+◌, ◌-◌, ◌*◌, ◌/◌, ◌%◌, ◌<◌, ◌≤◌, Bool, true, false, Option, Some, None, refl, sym, ap, ap₂, ◌∙◌, subst, arith, ◌⊎◌, ⊎_elim, inl, inr, ◌&&◌, ◌||◌, List, [], ◌∷◌, ◌++◌, length}
+use Rattle.std.proofs.lemmas.Bool.{and_parts, and_from, true≢false, cases_eq, cond-true, cond-false}
+use Rattle.std.proofs.Math.Path.{fun_ext}
+use Rattle.clmodel.specs.Cells.{Cells, number, byte_count, byte_of}
+use Rattle.clmodel.specs.Launch.{Launch, same_region, group_of, clash}
+use Rattle.clmodel.specs.Run.{State, Events, initial, start, or_else}
+use Rattle.clmodel.specs.Law.{Logged, newest_conflict, conflict_fault, Reports, Finishes, has_ended, RunsTo, RunsIntoFault}
+use Rattle.clmodel.specs.declared.access.Access.{Access}
+use Rattle.clmodel.specs.declared.access.AccessKind.{AccessKind}
+use Rattle.clmodel.specs.declared.access.AccessKind.TheVariants as kind
+use Rattle.clmodel.specs.declared.access.Class.{Class}
+use Rattle.clmodel.specs.declared.access.Region.{Region}
+use Rattle.clmodel.specs.declared.fault.Fault.{Fault}
+use Rattle.clmodel.proofs.CellLaws.{covers_parts, covers_from}
+use Rattle.clmodel.proofs.Steps.{none_some}
+use Rattle.std.specs.Option.{option_map}
+use Rattle.joining.specs.Group.{IsGroup, turn_of, plan_of}
+use Rattle.joining.specs.Parts.{Part, ending, IsPart, AreParts, IsGrouped}
+use Rattle.joining.specs.Memory.{joined_number, writes, class_of, at_byte, wrote, class_at, joined_numbers, joined_update, joined_memory}
+use Rattle.joining.specs.Crossings.{crossing, up_to}
+use Rattle.joining.specs.Join.{Joined, nothing_yet, join_at, join, unless, join_all, Answers, JoinIsCanonical}
+use Rattle.joining.proofs.Base.{some_none, no_order, finishes_not_reports}
+use Rattle.joining.proofs.Grouped.{group_is}
+use Rattle.joining.proofs.GroupTurns.{finish_parts, all_finish, newest_reports}
+use Rattle.joining.proofs.Words.{Updated, folded, joined_folds, updated_number, updated_byte, updated_old, updated_further}
+use Rattle.joining.proofs.Crossings.{no_cross, meet}
+use Rattle.joining.proofs.Over.{wrote_some, wrote_from, wrote_append, logged_append, logged_own, logged_lower, or_false, OnlyUpdates, some_operand, Ready, Over, ready_start, over_start}
+use Rattle.joining.proofs.Ride.{Through, Crossed, ride, newest_here, turn_here}
+
+-- canonical runs one after the other
+runs_append : (l : Launch) (es fs : Events) (s t u : State) → RunsTo l s es t → RunsTo l t fs u → RunsTo l s (es ++ fs) u
+runs_append l [] fs s t u r q = subst (λ z. RunsTo l z fs u) (sym r) q
+runs_append l (e ∷ es) fs s t u r q = (r.0, r.1, r.2, runs_append l es fs r.0 t u r.3 q)
+
+-- the state after a group that finished is ready for the next
+below_next : (g h : ℕ) → h < suc g → (h ≡ g → ⊥) → h < g
+below_next g h k ne = omega (arith, k, ne)
+
+next_not : (g h : ℕ) → suc g ≤ h → h ≡ g → ⊥
+next_not g h k e = omega arith
+
+next_least : (g h : ℕ) → suc g ≤ h → g ≤ h
+next_least g h k = omega arith
+
+next_above : (g h : ℕ) → suc g ≤ h → g < h
+next_above g h k = omega arith
+
+here_below : (g h : ℕ) → h ≡ g → h < suc g
+here_below g h e = omega arith
+
+further_below : (g h : ℕ) → h < g → h < suc g
+further_below g h k = omega arith
+
+operands_append : (vs us : List ℕ) → some_operand (vs ++ us) ≡ (some_operand vs || some_operand us)
+operands_append [] us = refl
+operands_append (v ∷ vs) us = refl
+
+ready_next : (l : Launch) (g : ℕ) (a b u : State) → IsGroup (plan_of l g) → Ready l g a → Over l g a b u → crossing l a.log b.log ≡ None → turn_of (plan_of l g) b ≡ Finishes → Ready l (suc g) u
+ready_next l g a b u whole ready over none fin =
+    let done = finish_parts (plan_of l g) whole b fin in
+    record {
+      below = λ i inside h. ⊎_elim
+          (λ e. ap (λ xs. has_ended (l.next i xs)) (over.mine i e) ∙ done.1 i inside e)
+          (λ ne. ap (λ xs. has_ended (l.next i xs)) (over.others i ne) ∙ ready.below i inside (below_next g (group_of l i) h ne))
+          (cases_eq (group_of l i) g);
+      answers = λ i h. over.others i (next_not g (group_of l i) h) ∙ ready.answers i (next_least g (group_of l i) h);
+      local = λ h k. over.local_others h (next_not g h k) ∙ ready.local h (next_least g h k);
+      global = λ h k. over.global_others h (next_not g h k) ∙ ready.global h (next_least g h k);
+      set = λ h k o byte. over.set_later h (next_above g h k) o byte ∙ ready.set h (next_least g h k) o byte;
+      base = λ p byte h.
+          let r = or_false (wrote b.log p byte) (wrote a.log p byte) (sym (wrote_append b.log a.log p byte) ∙ ap (λ z. wrote z p byte) (sym over.log) ∙ h) in
+          over.unchanged p byte r.0 ∙ ready.base p byte r.1;
+      lower = λ x h. ⊎_elim
+          (λ k. (here_below g (group_of l x.item) (over.own x k).0, (over.own x k).1))
+          (λ k. (further_below g (group_of l x.item) (ready.lower x k).0, (ready.lower x k).1))
+          (logged_append b.log a.log x (subst (λ z. Logged z x) over.log h));
+      newest = newest_here l g a b u ready over none ∙ done.0;
+      folds = λ c p n only.
+          let only2 : OnlyUpdates c (b.log ++ a.log) p (n * 4) = subst (λ z. OnlyUpdates c z p (n * 4)) over.log only in
+          let f = over.folds c p n (λ x h. only2 x (logged_own b.log a.log x h)) in
+          let r = ready.folds c p n (λ x h. only2 x (logged_lower b.log a.log x h)) in (
+            f.0 ++ r.0,
+            updated_further c r.0 f.0 (initial l p) (a.memory p) (u.memory p) (n * 4) r.1 f.2,
+            ap (λ z. wrote z p (n * 4)) over.log ∙ wrote_append b.log a.log p (n * 4) ∙ ap₂ (λ x y. x || y) f.3 r.2 ∙ sym (operands_append f.0 r.0),
+          );
+    }
+
+-- the memory of the two
+clash_writers : (k k2 : AccessKind) → writes k ≡ true → writes k2 ≡ true → clash k k2 ≡ None → (c : Class) × (k ≡ kind.Update c) × (k2 ≡ kind.Update c)
+clash_writers kind.Load k2 h h2 c = absurd (true≢false (sym h))
+clash_writers kind.Store kind.Load h h2 c = absurd (true≢false (sym h2))
+clash_writers kind.Store kind.Store h h2 c = absurd (some_none _ c)
+clash_writers kind.Store (kind.Update e) h h2 c = absurd (some_none _ c)
+clash_writers (kind.Update d) kind.Load h h2 c = absurd (true≢false (sym h2))
+clash_writers (kind.Update d) kind.Store h h2 c = absurd (some_none _ c)
+clash_writers (kind.Update d) (kind.Update e) h h2 c = (e, ap kind.Update (no_order d e c), refl)
+
+pub clash_left : (c : Class) (k : AccessKind) → clash (kind.Update c) k ≡ None → k ≡ kind.Update c
+clash_left c kind.Load h = absurd (some_none _ h)
+clash_left c kind.Store h = absurd (some_none _ h)
+clash_left c (kind.Update d) h = ap kind.Update (sym (no_order c d h))
+
+clash_right : (c : Class) (k : AccessKind) → clash k (kind.Update c) ≡ None → k ≡ kind.Update c
+clash_right c kind.Load h = absurd (some_none _ h)
+clash_right c kind.Store h = absurd (some_none _ h)
+clash_right c (kind.Update d) h = ap kind.Update (no_order d c h)
+
+with_rest : (b w : Bool) → ((b && false) || w) ≡ true → w ≡ true
+with_rest true w h = h
+with_rest false w h = h
+
+class_more : (x : Access) (log : List Access) (c : Class) (p : Region) (byte : ℕ) → (at_byte p byte x ≡ true → x.kind ≡ kind.Update c) → (wrote log p byte ≡ true → class_at log p byte ≡ Some c)
+    → wrote (x ∷ log) p byte ≡ true → (b : Bool) → at_byte p byte x ≡ b → class_at (x ∷ log) p byte ≡ Some c
+class_more x log c p byte only ih h true e =
+    ap (λ o. or_else o (class_at log p byte)) (cond-true (at_byte p byte x) (class_of x.kind) None e ∙ ap class_of (only e))
+class_more x log c p byte only ih h false e =
+    ap (λ o. or_else o (class_at log p byte)) (cond-false (at_byte p byte x) (class_of x.kind) None e)
+    ∙ ih (with_rest (writes x.kind) (wrote log p byte) (sym (ap (λ z. (writes x.kind && z) || wrote log p byte) e) ∙ h))
+
+pub class_there : (log : List Access) (c : Class) (p : Region) (byte : ℕ) → ((x : Access) → Logged log x → at_byte p byte x ≡ true → x.kind ≡ kind.Update c) → wrote log p byte ≡ true
+    → class_at log p byte ≡ Some c
+class_there [] c p byte only h = absurd (true≢false (sym h))
+class_there (x ∷ log) c p byte only h =
+    class_more x log c p byte (only x (inl refl)) (class_there log c p byte (λ z k. only z (inr k))) h (at_byte p byte x) refl
+
+-- a byte that the groups below and the group wrote
+record Both (l : Launch) (g : ℕ) (a b : State) (p : Region) (byte : ℕ) : Type 0 where
+  c : Class
+  n : ℕ
+  own : OnlyUpdates c b.log p (n * 4)
+  lower : OnlyUpdates c a.log p (n * 4)
+  from : n * 4 ≤ byte
+  below : byte < n * 4 + 4
+  own_wrote : wrote b.log p (n * 4) ≡ true
+  lower_wrote : wrote a.log p (n * 4) ≡ true
+
+-- an update covers its word
+word_covered : (x : Access) (p : Region) (n j : ℕ) → same_region p x.region ≡ true → byte_count x.width ≡ 4 → x.first ≡ n * 4 → j < 4 → at_byte p (n * 4 + j) x ≡ true
+word_covered x p n j s w f h = and_from _ _ s (covers_from x.first (byte_count x.width) (n * 4 + j) (low x.first f) (high x.first (byte_count x.width) f w))
+  where
+    low : (a : ℕ) → a ≡ n * 4 → a ≤ n * 4 + j
+    low a e = omega arith
+
+    high : (a b : ℕ) → a ≡ n * 4 → b ≡ 4 → n * 4 + j < a + b
+    high a b e d = omega (arith, e, d, h)
+
+word_wrote : (x : Access) (log : List Access) (p : Region) (n : ℕ) → Logged log x → writes x.kind ≡ true → same_region p x.region ≡ true → byte_count x.width ≡ 4 → x.first ≡ n * 4 → wrote log p (n * 4) ≡ true
+word_wrote x log p n k v s w f =
+    let e : n * 4 + 0 ≡ n * 4 = omega arith in
+    wrote_from log p (n * 4) x k v (subst (λ z. at_byte p z x ≡ true) e (word_covered x p n 0 s w f (omega arith)))
+
+one_word : (a b w v n m byte : ℕ) → a ≡ n * 4 → b ≡ m * 4 → w ≡ 4 → v ≡ 4 → a ≤ byte → byte < a + w → b ≤ byte → byte < b + v → b ≡ n * 4
+one_word a b w v n m byte p q r s h i j k = omega (arith, p, q, r, s, h, i, j, k)
+
+in_word : (a w n byte : ℕ) → a ≡ n * 4 → w ≡ 4 → a ≤ byte → byte < a + w → (n * 4 ≤ byte) × (byte < n * 4 + 4)
+in_word a w n byte p r h i = (omega (arith, p, r, h, i), omega (arith, p, r, h, i))
+
+other_group : (g a b : ℕ) → a < g → b ≡ g → a ≡ b → ⊥
+other_group g a b h e k = omega arith
+
+both_wrote : (l : Launch) (g : ℕ) (a b u : State) → Ready l g a → Over l g a b u → crossing l a.log b.log ≡ None → (p : Region) (byte : ℕ) → wrote b.log p byte ≡ true → wrote a.log p byte ≡ true
+    → Both l g a b p byte
+both_wrote l g a b u ready over none p byte h k =
+    let z = wrote_some b.log p byte h in
+    let y = wrote_some a.log p byte k in
+    let apart : (e f : Access) → Logged a.log e → Logged b.log f → group_of l e.item ≡ group_of l f.item → ⊥ =
+    λ e f i j. other_group g (group_of l e.item) (group_of l f.item) (ready.lower e i).0 (over.own f j).0 in
+    let c = clash_writers y.0.kind z.0.kind y.2 z.2 (meet l z.0 y.0 p byte (apart y.0 z.0 y.1 z.1) y.3 z.3 (no_cross l a.log b.log none z.0 y.0 z.1 y.1 byte)) in
+    let fz = (over.own z.0 z.1).1 c.0 c.2 in
+    let fy = (ready.lower y.0 y.1).1 c.0 c.1 in
+    let sz = and_parts (same_region p z.0.region) _ z.3 in
+    let sy = and_parts (same_region p y.0.region) _ y.3 in
+    let cz = covers_parts z.0.first (byte_count z.0.width) byte sz.1 in
+    let cy = covers_parts y.0.first (byte_count y.0.width) byte sy.1 in
+    let first_y : y.0.first ≡ fz.1 * 4 = one_word z.0.first y.0.first (byte_count z.0.width) (byte_count y.0.width) fz.1 fy.1 byte fz.2 fy.2 fz.0 fy.0 cz.0 cz.1 cy.0 cy.1 in
+    let w = in_word z.0.first (byte_count z.0.width) fz.1 byte fz.2 fz.0 cz.0 cz.1 in
+    record {
+      c = c.0;
+      n = fz.1;
+      own = λ e i j below at. clash_left c.0 e.kind (subst (λ q. clash q e.kind ≡ None) c.1
+          (meet l e y.0 p (fz.1 * 4 + j) (apart y.0 e y.1 i) (word_covered y.0 p fz.1 j sy.0 fy.0 first_y below) at (no_cross l a.log b.log none e y.0 i y.1 (fz.1 * 4 + j))));
+      lower = λ e i j below at. clash_right c.0 e.kind (subst (λ q. clash e.kind q ≡ None) c.2
+          (meet l z.0 e p (fz.1 * 4 + j) (apart e z.0 i z.1) at (word_covered z.0 p fz.1 j sz.0 fz.0 fz.2 below) (no_cross l a.log b.log none z.0 e z.1 i (fz.1 * 4 + j))));
+      from = w.0;
+      below = w.1;
+      own_wrote = word_wrote z.0 b.log p fz.1 z.1 z.2 sz.0 fz.0 fz.2;
+      lower_wrote = word_wrote y.0 a.log p fz.1 y.1 y.2 sy.0 fy.0 first_y;
+    }
+
+three_numbers : (c : Class) (k : ℕ) (o p q : Option ℕ) (s a b : ℕ) → o ≡ Some s → p ≡ Some a → q ≡ Some b → joined_numbers c k o p q ≡ Some (byte_of k (joined_number c s a b))
+three_numbers c k o p q s a b h i j = ap₂ (λ x y. joined_numbers c k x y q) h i ∙ ap (joined_numbers c k (Some s) (Some a)) j
+
+-- a word that both updated, by operands of each
+operands_joined : (c : Class) (n k byte : ℕ) (us vs : List ℕ) (first lower own both : Cells) → byte ≡ n * 4 + k → k < 4 → Updated c us first lower (n * 4) → true ≡ some_operand us
+    → Updated c vs first own (n * 4) → Updated c vs lower both (n * 4) → true ≡ some_operand vs → both byte ≡ joined_update (Some c) first lower own byte
+operands_joined c n k byte [] vs first lower own both at h r some_us u w some_vs = absurd (true≢false some_us)
+operands_joined c n k byte (x ∷ us) [] first lower own both at h r some_us u w some_vs = absurd (true≢false some_vs)
+operands_joined c n k byte (x ∷ us) (v ∷ vs) first lower own both at h r some_us u w some_vs =
+    let s = updated_old c x us first lower (n * 4) r in
+    let a = updated_number c (x ∷ us) first lower (n * 4) s.0 r s.1 in
+    let b = updated_number c (v ∷ vs) first own (n * 4) s.0 u s.1 in
+    let word : byte / 4 * 4 ≡ n * 4 = omega (arith, at, h) in
+    let byte_at : byte % 4 ≡ k = omega (arith, at, h) in
+    ap both at
+    ∙ updated_byte c v vs lower both (n * 4) (folded c (x ∷ us) s.0) k w a h
+    ∙ ap (λ z. Some (byte_of k z)) (sym (joined_folds c us (v ∷ vs) x s.0))
+    ∙ sym (three_numbers c k (number first (n * 4) 4) (number lower (n * 4) 4) (number own (n * 4) 4) s.0 (folded c (x ∷ us) s.0) (folded c (v ∷ vs) s.0) s.1 a b)
+    ∙ sym (ap₂ (λ i f. joined_numbers c i (number first f 4) (number lower f 4) (number own f 4)) byte_at word)
+
+byte_in : (n byte : ℕ) → n * 4 ≤ byte → byte < n * 4 + 4 → (k : ℕ) × (byte ≡ n * 4 + k) × (k < 4)
+byte_in n byte h i = (byte - n * 4, omega arith, omega arith)
+
+both_joined : (l : Launch) (g : ℕ) (a b u : State) → Ready l g a → Over l g a b u → (p : Region) (byte : ℕ) → wrote b.log p byte ≡ true → Both l g a b p byte
+    → u.memory p byte ≡ joined_update (class_at b.log p byte) (initial l p) (a.memory p) (b.memory p) byte
+both_joined l g a b u ready over p byte h w =
+    let f = over.folds w.c p w.n w.own in
+    let r = ready.folds w.c p w.n w.lower in
+    let k = byte_in w.n byte w.from w.below in
+    operands_joined w.c w.n k.0 byte r.0 f.0 (initial l p) (a.memory p) (b.memory p) (u.memory p) k.1 k.2 r.1 (sym w.lower_wrote ∙ r.2) f.1 f.2 (sym w.own_wrote ∙ f.3)
+    ∙ ap (λ o. joined_update o (initial l p) (a.memory p) (b.memory p) byte)
+    (sym (class_there b.log w.c p byte (λ x i at. w.own x i k.0 k.2 (subst (λ z. at_byte p z x ≡ true) k.1 at)) h))
+
+memory_joined : (l : Launch) (g : ℕ) (a b u : State) → Ready l g a → Over l g a b u → crossing l a.log b.log ≡ None
+    → u.memory ≡ joined_memory (initial l) a.memory a.log b.memory b.log
+unfolding joined_memory
+memory_joined l g a b u ready over none = fun_ext (λ p. fun_ext (λ byte. go p byte (wrote b.log p byte) refl (wrote a.log p byte) refl))
+  where
+    go : (p : Region) (byte : ℕ) (x : Bool) → wrote b.log p byte ≡ x → (y : Bool) → wrote a.log p byte ≡ y → u.memory p byte ≡ joined_memory (initial l) a.memory a.log b.memory b.log p byte
+    go p byte false h y k = over.unchanged p byte h ∙ sym (cond-false _ _ _ h)
+    go p byte true h false k = over.kept p byte k ∙ sym (cond-true _ _ _ h ∙ cond-false _ _ _ k)
+    go p byte true h true k = both_joined l g a b u ready over p byte h (both_wrote l g a b u ready over none p byte h k) ∙ sym (cond-true _ _ _ h ∙ cond-true _ _ _ k)
+
+-- what is known of the groups joined so far
+record So_far (l : Launch) (g : ℕ) (lower : Joined) : Type 0 where
+  a : State
+  ready : Ready l g a
+  runs : RunsTo l (start l) lower.events a
+  log : lower.log ≡ a.log
+  memory : lower.memory ≡ a.memory
+  report : lower.report ≡ None
+
+-- one group more: a report, or the next
+abbrev OneMore : Launch → ℕ → Part → Joined → Option Fault → Type 0
+OneMore l g part joined None = So_far l (suc g) joined × (part.stopped ≡ None)
+OneMore l g part joined (Some f) = (end : State) × RunsIntoFault l joined.events end f
+
+reports_not : (f : Fault) → Reports f ≡ Finishes → ⊥
+reports_not f h = finishes_not_reports f (sym h)
+
+-- nothing crosses
+one_through : (l : Launch) (g : ℕ) → IsGroup (plan_of l g) → (lower : Joined) (part : Part) (far : So_far l g lower) → IsPart l g part → Through l g far.a far.a part.events part.end
+    → (o : Option Fault) → part.stopped ≡ o → OneMore l g part (join_at l lower part None) o
+one_through l g whole lower part far is t None e = (
+  record {
+    a = t.0;
+    ready = ready_next l g far.a part.end t.0 whole far.ready t.2 t.3 (is.1 ∙ ap ending e);
+    runs = runs_append l lower.events part.events (start l) far.a t.0 far.runs t.1;
+    log = ap (λ z. part.end.log ++ z) far.log ∙ sym t.2.log;
+    memory = ap₂ (λ m z. joined_memory (initial l) m z part.end.memory part.end.log) far.memory far.log ∙ sym (memory_joined l g far.a part.end t.0 far.ready t.2 t.3);
+    report = e;
+  },
+  e,
+)
+one_through l g whole lower part far is t (Some f) e = (
+  t.0,
+  (
+    runs_append l lower.events part.events (start l) far.a t.0 far.runs t.1,
+    turn_here l g far.a part.end t.0 whole far.ready t.2 t.3 (Reports f) (is.1 ∙ ap ending e) (reports_not f),
+  ),
+)
+
+-- an access crosses
+one_crossed : (l : Launch) (g : ℕ) (lower : Joined) (part : Part) (far : So_far l g lower) → (c : Crossed l far.a 0 far.a part.events part.end)
+    → OneMore l g part (join_at l lower part (Some c.2)) (join_at l lower part (Some c.2)).report
+one_crossed l g lower part far c =
+    let count : length c.2 ≡ suc c.1 = omega (arith, c.5) in
+    subst (OneMore l g part (join_at l lower part (Some c.2))) (sym (ap (λ z. option_map (conflict_fault l) (newest_conflict l (c.2 ++ z))) far.log ∙ ap (option_map (conflict_fault l)) c.8)) (
+      c.0,
+      (
+        runs_append l lower.events (up_to (length c.2) part.events) (start l) far.a c.0 far.runs (subst (λ z. RunsTo l far.a (up_to z part.events) c.0) (sym count) c.4),
+        newest_reports l c.0 c.3 (ap (newest_conflict l) c.7 ∙ c.8),
+      ),
+    )
+
+one_more : (l : Launch) (g : ℕ) → IsGroup (plan_of l g) → (lower : Joined) (part : Part) → So_far l g lower → IsPart l g part → OneMore l g part (join l lower part) (join l lower part).report
+one_more l g whole lower part far is =
+    ⊎_elim
+    (λ t. subst (λ o. OneMore l g part (join_at l lower part o) (join_at l lower part o).report) (sym (ap (λ z. crossing l z part.end.log) far.log ∙ t.3))
+    (one_through l g whole lower part far is t part.stopped refl))
+    (λ c. subst (λ o. OneMore l g part (join_at l lower part o) (join_at l lower part o).report) (sym (ap (λ z. crossing l z part.end.log) far.log ∙ c.6))
+    (one_crossed l g lower part far c))
+    (ride l g far.a whole far.ready part.events (start l) far.a part.end (over_start l g far.a far.ready) refl is.0)
+
+by_report : (l : Launch) (g : ℕ) (part : Part) (parts : List Part) (here further : Joined) → (((f : Fault) × (part.stopped ≡ Some f)) ⊎ AreParts l (suc g) parts)
+    → (So_far l (suc g) here → AreParts l (suc g) parts → Answers l further further.report)
+    → (o : Option Fault) → here.report ≡ o → OneMore l g part here o → Answers l (unless o further here) (unless o further here).report
+by_report l g part parts here further (inl s) on None e m = absurd (none_some s.0 (sym m.1 ∙ s.1))
+by_report l g part parts here further (inr all) on None e m = on m.0 all
+by_report l g part parts here further all on (Some f) e m = subst (Answers l here) (sym e) m
+
+all_joined : (l : Launch) → IsGrouped l → (g : ℕ) (parts : List Part) (lower : Joined) → So_far l g lower → AreParts l g parts → Answers l (join_all l lower parts) (join_all l lower parts).report
+all_joined l grouped g [] lower far all =
+    subst (Answers l lower) (sym far.report)
+    (far.a, (far.runs, all_finish l far.a far.ready.newest (λ i inside. far.ready.below i inside (all i inside))), sym far.memory)
+all_joined l grouped g (part ∷ parts) lower far all =
+    by_report l g part parts (join l lower part) (join_all l (join l lower part) parts) all.2
+    (λ next rest. all_joined l grouped (suc g) parts (join l lower part) next rest)
+    (join l lower part).report refl (one_more l g (group_is l g grouped all.1) lower part far all.0)
+
+pub join_is_canonical : JoinIsCanonical
+join_is_canonical l parts grouped all =
+    all_joined l grouped 0 parts (nothing_yet l) (record { a = start l; ready = ready_start l; runs = refl; log = refl; memory = refl; report = refl }) all

@@ -1,0 +1,11 @@
+pub mod Base
+pub mod Grouped
+pub mod Words
+pub mod Crossings
+pub mod GroupTurns
+pub mod Over
+pub mod Lifts
+pub mod Ride
+pub mod Joins
+pub mod Parts
+pub mod Lowest

@@ -1,0 +1,396 @@
+-- One group's run over the memory that the groups below left, beside its run on the first memory.
+use Rattle.std.proofs.Common.{◌≡◌, ℕ, zero, suc, ◌+◌, ◌-◌, ◌*◌, ◌<◌, ◌≤◌, Bool, true, false, cond, Option, Some, None, refl, sym, ap, ◌∙◌, subst, arith, ◌⊎◌, ⊎_elim, inl, inr, ◌&&◌, ◌||◌, List, [], ◌∷◌, ◌++◌}
+use Rattle.std.proofs.lemmas.Bool.{and_parts, and_from, both_ways, true≢false, cases_Bool, cond-true}
+use Rattle.std.proofs.lemmas.Option.{same_Some}
+use Rattle.clmodel.specs.Cells.{Cells, lowest_unset, unset_or, byte_count, covers, written, byte_of, combined, size_of, width_of, found, answer_to, effect}
+use Rattle.clmodel.specs.Launch.{Launch, same_region, region_of, kind_of, group_of, clash, conflict}
+use Rattle.clmodel.specs.Run.{Memory, State, initial, start, with_cells}
+use Rattle.clmodel.specs.Law.{Logged, newest_conflict}
+use Rattle.clmodel.specs.declared.access.Access.{Access}
+use Rattle.clmodel.specs.declared.access.AccessKind.{AccessKind}
+use Rattle.clmodel.specs.declared.access.AccessKind.TheVariants as kind
+use Rattle.clmodel.specs.declared.access.Class.{Class}
+use Rattle.clmodel.specs.declared.access.Object.{Object}
+use Rattle.clmodel.specs.declared.access.Operation.{Operation}
+use Rattle.clmodel.specs.declared.access.Operation.TheVariants.{Load, Store, Update}
+use Rattle.clmodel.specs.declared.access.Region.{Region}
+use Rattle.clmodel.specs.declared.access.Width.{Width}
+use Rattle.clmodel.proofs.CellLaws.{covers_parts, covers_from, written_in, effect_out, Aligned}
+use Rattle.clmodel.proofs.Steps.{none_some}
+use Rattle.clmodel.proofs.Swaps.{same_region_self, same_region-true}
+use Rattle.joining.specs.Memory.{writes, at_byte, wrote}
+use Rattle.joining.proofs.GroupTurns.{EndedBelow}
+use Rattle.joining.proofs.Words.{Updated}
+use Rattle.joining.proofs.Crossings.{meet}
+use Rattle.joining.proofs.Base.{written_out, with_here, with_there, some_none, no_order, found_frame}
+
+-- a byte is there
+abbrev pub is_set : Option ℕ → Bool
+is_set None = false
+is_set (Some _) = true
+
+unset_or_same : (o p : Option ℕ) (first : ℕ) (rest : Option ℕ) → is_set o ≡ is_set p → unset_or o first rest ≡ unset_or p first rest
+unset_or_same None None first rest h = refl
+unset_or_same None (Some b) first rest h = absurd (true≢false (sym h))
+unset_or_same (Some a) None first rest h = absurd (true≢false h)
+unset_or_same (Some a) (Some b) first rest h = refl
+
+pub unset_same : (c d : Cells) → ((byte : ℕ) → is_set (c byte) ≡ is_set (d byte)) → (first width : ℕ) → lowest_unset c first width ≡ lowest_unset d first width
+unset_same c d same first zero = refl
+unset_same c d same first (suc width) =
+    unset_or_same (c first) (d first) first (lowest_unset c (suc first) width) (same first)
+    ∙ ap (unset_or (d first) first) (unset_same c d same (suc first) width)
+
+written_set : (c d : Cells) (first width v w byte : ℕ) → is_set (c byte) ≡ is_set (d byte) → is_set (written c first width v byte) ≡ is_set (written d first width w byte)
+written_set c d first width v w byte same = go (covers first width byte) refl
+  where
+    go : (b : Bool) → covers first width byte ≡ b → is_set (written c first width v byte) ≡ is_set (written d first width w byte)
+    go true h = ap is_set (written_in c first width v byte h) ∙ sym (ap is_set (written_in d first width w byte h))
+    go false h = ap is_set (written_out c first width v byte h) ∙ same ∙ sym (ap is_set (written_out d first width w byte h))
+
+effect_set : (op : Operation) (x y : ℕ) (c d : Cells) (first byte : ℕ) → is_set (c byte) ≡ is_set (d byte) → is_set (effect op x c first byte) ≡ is_set (effect op y d first byte)
+effect_set (Load width) x y c d first byte same = same
+effect_set (Store width value) x y c d first byte same = written_set c d first (byte_count width) value value byte same
+effect_set (Update class operand) x y c d first byte same = written_set c d first 4 _ _ byte same
+
+written_keeps : (c : Cells) (first width v byte : ℕ) → (covers first width byte ≡ true → is_set (c byte) ≡ true) → is_set (written c first width v byte) ≡ is_set (c byte)
+written_keeps c first width v byte set = go (covers first width byte) refl
+  where
+    go : (b : Bool) → covers first width byte ≡ b → is_set (written c first width v byte) ≡ is_set (c byte)
+    go true h = ap is_set (written_in c first width v byte h) ∙ sym (set h)
+    go false h = ap is_set (written_out c first width v byte h)
+
+effect_keeps : (op : Operation) (x : ℕ) (c : Cells) (first byte : ℕ) → (covers first (size_of op) byte ≡ true → is_set (c byte) ≡ true) → is_set (effect op x c first byte) ≡ is_set (c byte)
+effect_keeps (Load width) x c first byte set = refl
+effect_keeps (Store width value) x c first byte set = written_keeps c first (byte_count width) value byte set
+effect_keeps (Update class operand) x c first byte set = written_keeps c first 4 _ byte set
+
+-- an access's effect on a memory
+abbrev pub performed : Memory → Region → Operation → ℕ → ℕ → Memory
+performed m p op x first = with_cells m p (effect op x (m p) first)
+
+pub performed_out : (m : Memory) (p : Region) (op : Operation) (x first : ℕ) (q : Region) (byte : ℕ) → (same_region q p && covers first (size_of op) byte) ≡ false
+    → performed m p op x first q byte ≡ m q byte
+performed_out m p op x first q byte h = go (same_region q p) refl
+  where
+    go : (b : Bool) → same_region q p ≡ b → performed m p op x first q byte ≡ m q byte
+    go true e =
+        ap (λ (f : Cells). f byte) (cond-true _ _ _ e)
+        ∙ effect_out op x (m p) first byte (sym (ap (λ z. z && covers first (size_of op) byte) e) ∙ h)
+        ∙ ap (λ z. m z byte) (sym (same_region-true q p e))
+    go false e = ap (λ (f : Cells). f byte) (with_there m p _ q e)
+
+pub performed_in : (m : Memory) (p : Region) (op : Operation) (x first byte : ℕ) → performed m p op x first p byte ≡ effect op x (m p) first byte
+performed_in m p op x first byte = ap (λ (f : Cells). f byte) (with_here m p _)
+
+performed_load : (m : Memory) (p : Region) (op : Operation) (x first : ℕ) (q : Region) (byte : ℕ) → writes (kind_of op) ≡ false → performed m p op x first q byte ≡ m q byte
+performed_load m p (Load width) x first q byte h = go (same_region q p) refl
+  where
+    go : (b : Bool) → same_region q p ≡ b → performed m p (Load width) x first q byte ≡ m q byte
+    go true e = ap (λ (f : Cells). f byte) (cond-true _ _ _ e) ∙ ap (λ z. m z byte) (sym (same_region-true q p e))
+    go false e = ap (λ (f : Cells). f byte) (with_there m p _ q e)
+performed_load m p (Store width value) x first q byte h = absurd (true≢false h)
+performed_load m p (Update class operand) x first q byte h = absurd (true≢false h)
+
+-- what a log wrote
+or_cases : (a b : Bool) → (a || b) ≡ true → (a ≡ true) ⊎ (b ≡ true)
+or_cases true b h = inl refl
+or_cases false b h = inr h
+
+pub or_here : (a b : Bool) → a ≡ true → (a || b) ≡ true
+or_here true b h = refl
+or_here false b h = absurd (true≢false (sym h))
+
+or_there : (a b : Bool) → b ≡ true → (a || b) ≡ true
+or_there true b h = refl
+or_there false b h = h
+
+pub or_false : (a b : Bool) → (a || b) ≡ false → (a ≡ false) × (b ≡ false)
+or_false true b h = absurd (true≢false h)
+or_false false b h = (refl, h)
+
+and_false : (a b : Bool) → (a && b) ≡ false → (a ≡ false) ⊎ (b ≡ false)
+and_false true b h = inr h
+and_false false b h = inl refl
+
+pub wrote_some : (log : List Access) (p : Region) (byte : ℕ) → wrote log p byte ≡ true → (x : Access) × Logged log x × (writes x.kind ≡ true) × (at_byte p byte x ≡ true)
+wrote_some [] p byte h = absurd (true≢false (sym h))
+wrote_some (z ∷ log) p byte h = ⊎_elim
+    (λ e. let r = and_parts (writes z.kind) (at_byte p byte z) e in (z, inl refl, r.0, r.1))
+    (λ e. let r = wrote_some log p byte e in (r.0, inr r.1, r.2, r.3))
+    (or_cases (writes z.kind && at_byte p byte z) (wrote log p byte) h)
+
+pub wrote_from : (log : List Access) (p : Region) (byte : ℕ) (x : Access) → Logged log x → writes x.kind ≡ true → at_byte p byte x ≡ true → wrote log p byte ≡ true
+wrote_from [] p byte x k h b = absurd k
+wrote_from (z ∷ log) p byte x (inl e) h b =
+    or_here _ (wrote log p byte) (subst (λ w. (writes w.kind && at_byte p byte w) ≡ true) (sym e) (and_from _ _ h b))
+wrote_from (z ∷ log) p byte x (inr k) h b = or_there (writes z.kind && at_byte p byte z) _ (wrote_from log p byte x k h b)
+
+pub wrote_append : (own lower : List Access) (p : Region) (byte : ℕ) → wrote (own ++ lower) p byte ≡ (wrote own p byte || wrote lower p byte)
+wrote_append [] lower p byte = refl
+wrote_append (z ∷ own) lower p byte =
+    ap (λ b. (writes z.kind && at_byte p byte z) || b) (wrote_append own lower p byte)
+    ∙ or_assoc (writes z.kind && at_byte p byte z) (wrote own p byte) (wrote lower p byte)
+  where
+    or_assoc : (a b c : Bool) → (a || (b || c)) ≡ ((a || b) || c)
+    or_assoc true b c = refl
+    or_assoc false b c = refl
+
+pub logged_append : (own lower : List Access) (x : Access) → Logged (own ++ lower) x → Logged own x ⊎ Logged lower x
+logged_append [] lower x h = inr h
+logged_append (z ∷ own) lower x (inl e) = inl (inl e)
+logged_append (z ∷ own) lower x (inr h) = ⊎_elim (λ k. inl (inr k)) (λ k. inr k) (logged_append own lower x h)
+
+pub logged_own : (own lower : List Access) (x : Access) → Logged own x → Logged (own ++ lower) x
+logged_own [] lower x h = absurd h
+logged_own (z ∷ own) lower x (inl e) = inl e
+logged_own (z ∷ own) lower x (inr h) = inr (logged_own own lower x h)
+
+pub logged_lower : (own lower : List Access) (x : Access) → Logged lower x → Logged (own ++ lower) x
+logged_lower [] lower x h = h
+logged_lower (z ∷ own) lower x h = inr (logged_lower own lower x h)
+
+-- an update has four bytes from a multiple of four on
+abbrev pub Fit : Access → Type 0
+Fit x = (c : Class) → x.kind ≡ kind.Update c → (byte_count x.width ≡ 4) × (n : ℕ) × (x.first ≡ n * 4)
+
+-- all accesses at a word are updates of one class
+abbrev pub OnlyUpdates : Class → List Access → Region → ℕ → Type 0
+OnlyUpdates c log p word = (x : Access) → Logged log x → (k : ℕ) → k < 4 → at_byte p (word + k) x ≡ true → x.kind ≡ kind.Update c
+
+abbrev pub some_operand : List ℕ → Bool
+some_operand [] = false
+some_operand (v ∷ vs) = true
+
+-- a word, two memories before some updates and two after
+abbrev pub Folds : Class → List Access → Region → ℕ → Cells → Cells → Cells → Cells → Type 0
+Folds c log p word old new old2 new2 = (vs : List ℕ) × Updated c vs old new word × Updated c vs old2 new2 word × (wrote log p word ≡ some_operand vs)
+
+-- a state in which the groups below have ended and the others have not begun
+pub record Ready (l : Launch) (g : ℕ) (a : State) : Type 0 where
+  pub below : EndedBelow l g a
+  pub answers : (i : ℕ) → g ≤ group_of l i → a.answers i ≡ []
+  pub local : (h : ℕ) → g ≤ h → a.local_interval h ≡ 0
+  pub global : (h : ℕ) → g ≤ h → a.global_interval h ≡ 0
+  pub set : (h : ℕ) → g ≤ h → (o : Object) (byte : ℕ) → is_set (a.memory (region_of h o) byte) ≡ is_set (initial l (region_of h o) byte)
+  pub base : (p : Region) (byte : ℕ) → wrote a.log p byte ≡ false → a.memory p byte ≡ initial l p byte
+  pub lower : (x : Access) → Logged a.log x → (group_of l x.item < g) × Fit x
+  pub newest : newest_conflict l a.log ≡ None
+  pub folds : (c : Class) (p : Region) (n : ℕ) → OnlyUpdates c a.log p (n * 4)
+      → (us : List ℕ) × Updated c us (initial l p) (a.memory p) (n * 4) × (wrote a.log p (n * 4) ≡ some_operand us)
+
+-- a group's state b on the first memory, and its state s over what the groups below left in a
+pub record Over (l : Launch) (g : ℕ) (a b s : State) : Type 0 where
+  pub mine : (i : ℕ) → group_of l i ≡ g → s.answers i ≡ b.answers i
+  pub others : (i : ℕ) → (group_of l i ≡ g → ⊥) → s.answers i ≡ a.answers i
+  pub local : (h : ℕ) → h ≡ g → s.local_interval h ≡ b.local_interval h
+  pub global : (h : ℕ) → h ≡ g → s.global_interval h ≡ b.global_interval h
+  pub local_others : (h : ℕ) → (h ≡ g → ⊥) → s.local_interval h ≡ a.local_interval h
+  pub global_others : (h : ℕ) → (h ≡ g → ⊥) → s.global_interval h ≡ a.global_interval h
+  pub log : s.log ≡ b.log ++ a.log
+  pub own : (x : Access) → Logged b.log x → (group_of l x.item ≡ g) × Fit x
+  pub kept : (p : Region) (byte : ℕ) → wrote a.log p byte ≡ false → s.memory p byte ≡ b.memory p byte
+  pub unchanged : (p : Region) (byte : ℕ) → wrote b.log p byte ≡ false → s.memory p byte ≡ a.memory p byte
+  pub set : (h : ℕ) → h ≡ g → (o : Object) (byte : ℕ) → is_set (s.memory (region_of h o) byte) ≡ is_set (b.memory (region_of h o) byte)
+  pub set_later : (h : ℕ) → g < h → (o : Object) (byte : ℕ) → is_set (s.memory (region_of h o) byte) ≡ is_set (a.memory (region_of h o) byte)
+  pub folds : (c : Class) (p : Region) (n : ℕ) → OnlyUpdates c b.log p (n * 4) → Folds c b.log p (n * 4) (initial l p) (b.memory p) (a.memory p) (s.memory p)
+
+pub ready_start : (l : Launch) → Ready l 0 (start l)
+ready_start l =
+    record {
+      below = λ i inside h. absurd (omega arith);
+      answers = λ i h. refl;
+      local = λ h k. refl;
+      global = λ h k. refl;
+      set = λ h k o byte. refl;
+      base = λ p byte h. refl;
+      lower = λ x h. absurd h;
+      newest = refl;
+      folds = λ c p n only. ([], (λ k b. refl), refl);
+    }
+
+not_less : (g h : ℕ) → h ≡ g → g ≤ h
+not_less g h e = omega arith
+
+pub over_start : (l : Launch) (g : ℕ) (a : State) → Ready l g a → Over l g a (start l) a
+over_start l g a r =
+    record {
+      mine = λ i h. r.answers i (not_less g (group_of l i) h);
+      others = λ i h. refl;
+      local = λ h k. r.local h (not_less g h k);
+      global = λ h k. r.global h (not_less g h k);
+      local_others = λ h k. refl;
+      global_others = λ h k. refl;
+      log = refl;
+      own = λ x h. absurd h;
+      kept = r.base;
+      unchanged = λ p byte h. refl;
+      set = λ h k o byte. r.set h (not_less g h k) o byte;
+      set_later = λ h k o byte. refl;
+      folds = λ c p n only. ([], (λ k b. refl), (λ k b. refl), refl);
+    }
+
+-- an access as the log has it
+abbrev pub entry_at : ℕ → Region → ℕ → Operation → ℕ → Access
+entry_at i p first op n = record { item = i; region = p; first = first; width = width_of op; kind = kind_of op; interval = n }
+
+-- an access of a group in both memories, that does not conflict with the lower groups' log
+pub record Lift (l : Launch) (lower : List Access) (bm sm : Memory) (i : ℕ) (p : Region) (op : Operation) (first x x2 n : ℕ) : Type 0 where
+  pub finds : found op (bm p) first ≡ Some x
+  pub finds2 : found op (sm p) first ≡ Some x2
+  pub aligned : Aligned op first
+  pub apart : (y : Access) → Logged lower y → (group_of l y.item ≡ group_of l i → ⊥) × Fit y
+  pub cross : (y : Access) → Logged lower y → (byte : ℕ) → conflict l y (entry_at i p first op n) byte ≡ None
+  pub kept : (q : Region) (byte : ℕ) → wrote lower q byte ≡ false → sm q byte ≡ bm q byte
+
+load_clash : (k : AccessKind) → writes k ≡ true → clash k kind.Load ≡ None → ⊥
+load_clash kind.Load h c = true≢false (sym h)
+load_clash kind.Store h c = some_none _ c
+load_clash (kind.Update d) h c = some_none _ c
+
+update_clash : (k : AccessKind) (d : Class) → writes k ≡ true → clash k (kind.Update d) ≡ None → k ≡ kind.Update d
+update_clash kind.Load d h c = absurd (true≢false (sym h))
+update_clash kind.Store d h c = absurd (some_none _ c)
+update_clash (kind.Update e) d h c = ap kind.Update (no_order e d c)
+
+not_wrote : (lower : List Access) (p : Region) (byte : ℕ) → (wrote lower p byte ≡ true → ⊥) → wrote lower p byte ≡ false
+not_wrote lower p byte h = ⊎_elim (λ e. absurd (h e)) (λ e. e) (cases_Bool (wrote lower p byte))
+
+same_word : (n m b : ℕ) → n * 4 ≤ b → b < n * 4 + 4 → m * 4 ≤ b → b < m * 4 + 4 → n * 4 ≡ m * 4
+same_word n m b h k i j = omega arith
+
+-- what a load reads was not written by the lower groups
+load_clear : (l : Launch) (lower : List Access) (bm sm : Memory) (i : ℕ) (p : Region) (width : Width) (first x x2 n : ℕ) → Lift l lower bm sm i p (Load width) first x x2 n
+    → (byte : ℕ) → first ≤ byte → byte < first + byte_count width → wrote lower p byte ≡ false
+load_clear l lower bm sm i p width first x x2 n t byte h k =
+    not_wrote lower p byte (λ w.
+    let z = wrote_some lower p byte w in
+    load_clash z.0.kind z.2 (meet l (entry_at i p first (Load width) n) z.0 p byte (t.apart z.0 z.1).0 z.3
+    (and_from _ _ (same_region_self p) (covers_from first (byte_count width) byte h k)) (t.cross z.0 z.1 byte)))
+
+-- a writer at a byte of a word that is updated
+pub record Writer (lower : List Access) (p : Region) (c : Class) (first : ℕ) : Type 0 where
+  pub z : Access
+  pub there : Logged lower z
+  pub kind : z.kind ≡ kind.Update c
+  pub at : z.first ≡ first
+  pub wide : byte_count z.width ≡ 4
+  pub region : same_region p z.region ≡ true
+
+update_writer : (l : Launch) (lower : List Access) (bm sm : Memory) (i : ℕ) (p : Region) (c : Class) (v first x x2 n : ℕ) → Lift l lower bm sm i p (Update c v) first x x2 n
+    → (byte : ℕ) → first ≤ byte → byte < first + 4 → wrote lower p byte ≡ true → Writer lower p c first
+update_writer l lower bm sm i p c v first x x2 n t byte h k w =
+    let z = wrote_some lower p byte w in
+    let is : z.0.kind ≡ kind.Update c =
+    update_clash z.0.kind c z.2 (meet l (entry_at i p first (Update c v) n) z.0 p byte (t.apart z.0 z.1).0 z.3
+    (and_from _ _ (same_region_self p) (covers_from first 4 byte h k)) (t.cross z.0 z.1 byte)) in
+    let fit = (t.apart z.0 z.1).1 c is in
+    let q = and_parts (same_region p z.0.region) _ z.3 in
+    let s = covers_parts z.0.first (byte_count z.0.width) byte q.1 in
+    record {
+      z = z.0;
+      there = z.1;
+      kind = is;
+      at = the_word z.0 fit.0 fit.1 fit.2 s.0 s.1 t.aligned.0 t.aligned.1;
+      wide = fit.0;
+      region = q.0;
+    }
+  where
+    the_word : (z : Access) → byte_count z.width ≡ 4 → (m : ℕ) → z.first ≡ m * 4 → z.first ≤ byte → byte < z.first + byte_count z.width → (e : ℕ) → first ≡ e * 4 → z.first ≡ first
+    the_word z wide m zm zl zu e fe = omega (arith, wide, zm, zl, zu, fe, h, k)
+
+update_clear : (l : Launch) (lower : List Access) (bm sm : Memory) (i : ℕ) (p : Region) (c : Class) (v first x x2 n : ℕ) → Lift l lower bm sm i p (Update c v) first x x2 n
+    → (byte : ℕ) → first ≤ byte → byte < first + 4 → wrote lower p byte ≡ false
+    → (other : ℕ) → first ≤ other → other < first + 4 → wrote lower p other ≡ false
+update_clear l lower bm sm i p c v first x x2 n t byte h k clear other h2 k2 =
+    not_wrote lower p other (λ w.
+    let r = update_writer l lower bm sm i p c v first x x2 n t other h2 k2 w in
+    both_ways _ clear (wrote_from lower p byte r.z r.there (ap writes r.kind)
+    (and_from _ _ r.region (covers_from r.z.first (byte_count r.z.width) byte (from r.z.first r.at) (below r.z.first (byte_count r.z.width) r.at r.wide)))))
+  where
+    from : (f : ℕ) → f ≡ first → f ≤ byte
+    from f e = omega (arith, e, h)
+
+    below : (f w : ℕ) → f ≡ first → w ≡ 4 → byte < f + w
+    below f w e d = omega (arith, e, d, k)
+
+-- what the access finds, where its bytes are clear of the lower groups' writes
+same_found : (l : Launch) (lower : List Access) (bm sm : Memory) (i : ℕ) (p : Region) (op : Operation) (first x x2 n : ℕ) → Lift l lower bm sm i p op first x x2 n
+    → ((byte : ℕ) → first ≤ byte → byte < first + size_of op → wrote lower p byte ≡ false) → x2 ≡ x
+same_found l lower bm sm i p op first x x2 n t clear =
+    same_Some x2 x (sym t.finds2 ∙ found_frame op (sm p) (bm p) first (λ byte h k. t.kept p byte (clear byte h k)) ∙ t.finds)
+
+-- the answer is the same
+pub same_answer : (l : Launch) (lower : List Access) (bm sm : Memory) (i : ℕ) (p : Region) (op : Operation) (first x x2 n : ℕ) → Lift l lower bm sm i p op first x x2 n
+    → answer_to op x2 ≡ answer_to op x
+same_answer l lower bm sm i p (Load width) first x x2 n t =
+    ap (answer_to (Load width)) (same_found l lower bm sm i p (Load width) first x x2 n t (load_clear l lower bm sm i p width first x x2 n t))
+same_answer l lower bm sm i p (Store width value) first x x2 n t = refl
+same_answer l lower bm sm i p (Update c v) first x x2 n t = refl
+
+effect_inside : (l : Launch) (lower : List Access) (bm sm : Memory) (i : ℕ) (p : Region) (op : Operation) (first x x2 n : ℕ) → Lift l lower bm sm i p op first x x2 n
+    → (byte : ℕ) → covers first (size_of op) byte ≡ true → wrote lower p byte ≡ false → effect op x2 (sm p) first byte ≡ effect op x (bm p) first byte
+effect_inside l lower bm sm i p (Load width) first x x2 n t byte h clear = t.kept p byte clear
+effect_inside l lower bm sm i p (Store width value) first x x2 n t byte h clear =
+    written_in (sm p) first (byte_count width) value byte h ∙ sym (written_in (bm p) first (byte_count width) value byte h)
+effect_inside l lower bm sm i p (Update c v) first x x2 n t byte h clear =
+    let r = covers_parts first 4 byte h in
+    written_in (sm p) first 4 (combined c x2 v) byte h
+    ∙ ap (λ z. Some (byte_of (byte - first) (combined c z v)))
+    (same_found l lower bm sm i p (Update c v) first x x2 n t (update_clear l lower bm sm i p c v first x x2 n t byte r.0 r.1 clear))
+    ∙ sym (written_in (bm p) first 4 (combined c x v) byte h)
+
+-- bytes that the lower groups did not write stay the same
+pub kept_step : (l : Launch) (lower : List Access) (bm sm : Memory) (i : ℕ) (p : Region) (op : Operation) (first x x2 n : ℕ) → Lift l lower bm sm i p op first x x2 n
+    → (q : Region) (byte : ℕ) → wrote lower q byte ≡ false → performed sm p op x2 first q byte ≡ performed bm p op x first q byte
+kept_step l lower bm sm i p op first x x2 n t q byte clear = go (same_region q p && covers first (size_of op) byte) refl
+  where
+    go : (b : Bool) → (same_region q p && covers first (size_of op) byte) ≡ b → performed sm p op x2 first q byte ≡ performed bm p op x first q byte
+    go false h = performed_out sm p op x2 first q byte h ∙ t.kept q byte clear ∙ sym (performed_out bm p op x first q byte h)
+    go true h =
+        let r = and_parts (same_region q p) _ h in
+        let e : q ≡ p = same_region-true q p r.0 in
+        subst (λ z. performed sm p op x2 first z byte ≡ performed bm p op x first z byte) (sym e)
+        (performed_in sm p op x2 first byte
+        ∙ effect_inside l lower bm sm i p op first x x2 n t byte r.1 (subst (λ z. wrote lower z byte ≡ false) e clear)
+        ∙ sym (performed_in bm p op x first byte))
+
+-- bytes that the group does not write stay as the lower groups left them
+pub unchanged_step : (m : Memory) (log : List Access) (i : ℕ) (p : Region) (op : Operation) (first x n : ℕ) (q : Region) (byte : ℕ)
+    → wrote (entry_at i p first op n ∷ log) q byte ≡ false → performed m p op x first q byte ≡ m q byte
+unchanged_step m log i p op first x n q byte h = ⊎_elim
+    (λ e. performed_load m p op x first q byte e)
+    (λ e. performed_out m p op x first q byte e)
+    (and_false (writes (kind_of op)) _ (or_false (writes (kind_of op) && (same_region q p && covers first (size_of op) byte)) (wrote log q byte) h).0)
+
+pub older_clear : (log : List Access) (e : Access) (q : Region) (byte : ℕ) → wrote (e ∷ log) q byte ≡ false → wrote log q byte ≡ false
+older_clear log e q byte h = (or_false (writes e.kind && at_byte q byte e) (wrote log q byte) h).1
+
+-- a byte that is set in one memory is in the other
+pub set_step : (m m2 : Memory) (p : Region) (op : Operation) (first x x2 : ℕ) (q : Region) (byte : ℕ) → is_set (m2 p byte) ≡ is_set (m p byte) → is_set (m2 q byte) ≡ is_set (m q byte)
+    → is_set (performed m2 p op x2 first q byte) ≡ is_set (performed m p op x first q byte)
+set_step m m2 p op first x x2 q byte here there = go (same_region q p) refl
+  where
+    go : (b : Bool) → same_region q p ≡ b → is_set (performed m2 p op x2 first q byte) ≡ is_set (performed m p op x first q byte)
+    go true h =
+        let e : q ≡ p = same_region-true q p h in
+        subst (λ z. is_set (performed m2 p op x2 first z byte) ≡ is_set (performed m p op x first z byte)) (sym e)
+        (ap is_set (performed_in m2 p op x2 first byte) ∙ effect_set op x2 x (m2 p) (m p) first byte here ∙ sym (ap is_set (performed_in m p op x first byte)))
+    go false h =
+        ap (λ (f : Cells). is_set (f byte)) (with_there m2 p _ q h) ∙ there ∙ sym (ap (λ (f : Cells). is_set (f byte)) (with_there m p _ q h))
+
+pub set_keeps : (m : Memory) (p : Region) (op : Operation) (first x : ℕ) (q : Region) (byte : ℕ) → (q ≡ p → covers first (size_of op) byte ≡ true → is_set (m p byte) ≡ true)
+    → is_set (performed m p op x first q byte) ≡ is_set (m q byte)
+set_keeps m p op first x q byte set = go (same_region q p) refl
+  where
+    go : (b : Bool) → same_region q p ≡ b → is_set (performed m p op x first q byte) ≡ is_set (m q byte)
+    go true h =
+        let e : q ≡ p = same_region-true q p h in
+        subst (λ z. is_set (performed m p op x first z byte) ≡ is_set (m z byte)) (sym e)
+        (ap is_set (performed_in m p op x first byte) ∙ effect_keeps op x (m p) first byte (set e))
+    go false h = ap (λ (f : Cells). is_set (f byte)) (with_there m p _ q h)
+
+-- a byte of a buffer in range is set from the start
+pub cond_some : (b : Bool) (n k : ℕ) → cond b (Some n) None ≡ Some k → (b ≡ true) × (n ≡ k)
+cond_some true n k h = (refl, same_Some n k h)
+cond_some false n k h = absurd (none_some k h)

@@ -1,0 +1,5 @@
+pub mod Group
+pub mod Parts
+pub mod Memory
+pub mod Crossings
+pub mod Join
