@@ -1,5 +1,5 @@
 -- The length of the code of statements and functions depends on no level, no depth of loops, no number of a barrier and no exit.
-use Rattle.std.proofs.Common.{◌≡◌, ℕ, suc, ◌+◌, ◌==◌, Bool, true, false, Option, None, Some, List, [], ◌∷◌, ◌++◌, length, refl, sym, ap, ◌∙◌, arith}
+use Rattle.std.proofs.Common.{◌≡◌, ℕ, suc, ◌+◌, ◌==◌, Bool, true, false, Option, None, Some, List, [], ◌∷◌, ◌++◌, take, get_or, length, ◌<◌, refl, sym, ap, ◌∙◌, arith}
 use Rattle.std.proofs.lemmas.List.{length-append}
 use Rattle.clnum.specs.declared.int_type.IntType.{IntType}
 use Rattle.clnum.specs.declared.operators.BinaryOperator.{BinaryOperator}
@@ -12,6 +12,12 @@ use Rattle.clmodel.specs.declared.setup.BuiltIn.{BuiltIn}
 use Rattle.clmodel.specs.declared.tree.Parameter.{Parameter}
 use Rattle.clmodel.specs.declared.tree.VariableType.{VariableType}
 use Rattle.regcode.specs.declared.instruction.Instruction.{Instruction}
+use Rattle.clmodel.specs.declared.tree.Function.{Function}
+use Rattle.clmodel.specs.Tree.{func}
+use Rattle.lower_code.specs.declared.functions.Found.{Found}
+use Rattle.lower_code.specs.Emission.{functions_of, found_code}
+use Rattle.lower_code.specs.Emission as emission
+use Rattle.lower_code.proofs.Helpers.{code_hit}
 use Rattle.lower_code.specs.Code.{Calls, Exits, hold_code, fetch_code, put_code, combine_code, array_code, pass_code, arguments_code, variables_after_part, variables_after_all, parameter_variables, needed_code, no_value_code, value_code, wait_code, condition_code, if_code, if_else_code, turn_code, while_code, do_code, right_code, call_only_statement, stmt_code, part_code, stmts_code, body_code, call_code, result_in, variable}
 use Rattle.lower_expr.proofs.Lengths.{SameLength, single, longer, joined, chosen, registered, variable_same, call_only_same, from_level, expr_same, terms_same, place_same}
 
@@ -199,3 +205,20 @@ call_length (ThenFunc earlier f) name arguments arguments2 level level2 depth de
 pub function_length : (earlier : Funcs) (f : Func) (level depth site level2 depth2 site2 : ℕ)
     → length (body_code (call_code earlier) (result_in earlier) (sites_in earlier) f level depth site) ≡ length (body_code (call_code earlier) (result_in earlier) (sites_in earlier) f level2 depth2 site2)
 function_length earlier f = body_length (call_code earlier) (call_length earlier) (result_in earlier) (sites_in earlier) f
+
+-- the helper of a name among functions, of which it is the last that is looked at, in place of its call
+pub hit_length : (gs : List Function) (i name : ℕ) (g : Function) (arguments : List ℕ) (level depth site : ℕ) → i < length gs → g ≡ get_or gs i g → name ≡ g.name
+    → length (call_code (functions_of (take (i + 1) gs)) name arguments level depth site)
+    ≡ length g.parameters.items + length (body_code (call_code (functions_of (take i gs))) (result_in (functions_of (take i gs))) (emission.inside (take i gs)) (func g) 0 0 0)
+hit_length gs i name g arguments level depth site h p t =
+    ap length (code_hit gs i name g arguments level depth site h p t)
+    ∙ placed_length (call_code (functions_of (take i gs))) (call_length (functions_of (take i gs))) (result_in (functions_of (take i gs))) (emission.inside (take i gs)) (func g) arguments level depth site
+
+-- and as it is found
+pub found_length : (gs : List Function) (f : Found) (arguments : List ℕ) (level depth site : ℕ)
+    → length (found_code gs (Some f) arguments level depth site)
+    ≡ length f.function.now.parameters.items
+    + length (body_code (call_code (functions_of (take f.place gs))) (result_in (functions_of (take f.place gs))) (emission.inside (take f.place gs)) (func f.function.now) 0 0 0)
+found_length gs f arguments level depth site =
+    let earlier = functions_of (take f.place gs) in
+    placed_length (call_code earlier) (call_length earlier) (result_in earlier) (emission.inside (take f.place gs)) (func f.function.now) arguments level depth site
