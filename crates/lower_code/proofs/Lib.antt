@@ -5,3 +5,4 @@ pub mod Rows
 pub mod Lists
 pub mod Splits
 pub mod Turns
+pub mod Lengths
