@@ -20,27 +20,14 @@ use Rattle.clmodel.specs.declared.tree.VariableType.{VariableType}
 use Rattle.clmodel.specs.declared.tree.VariableType.TheVariants.{Integer}
 use Rattle.regcode.specs.declared.instruction.Instruction.{Instruction}
 use Rattle.regcode.specs.declared.instruction.Instruction.TheVariants as instruction
-use Rattle.regcode.specs.Machine.{State, Given, Registers, reg, array_of, with_put, passed, onward}
+use Rattle.regcode.specs.Machine.{State, Given, reg, array_of, with_put, passed, onward}
 use Rattle.regcode.proofs.Registers.{reg_put}
 use Rattle.lower_expr.specs.Scope.{Scope, register_at, register_of, level_of, Sees, free_level}
 use Rattle.lower_expr.specs.Expressions.{expr_code, terms_code, place_code, place_register, register_for, registers_for, kind_of, kind_named, variable_code, type_of_elements, private_load, element_code, address_code, truth_code, infix_code, branch_code, choice_code, call_code, count}
 use Rattle.lower_expr.specs.Agreement.{HasAt, Reached, Hold, HoldsPart, Follows, FollowsAll, FollowsPlace}
 use Rattle.regcode.proofs.Agreement.{Agree, ends, constant_runs, unset_runs, move_runs, jump_runs, convert_runs, common_runs, unary_runs, binary_runs, one_integer_runs, two_integers_run, dimensions_run, query_runs, point_runs, offset_runs, load_runs, private_load_runs, branch_runs}
+use Rattle.lower_expr.proofs.Lengths.{call_length}
 use Rattle.lower_expr.proofs.Places.{has_left, has_right, has_moved, reached_here, reached_put, reached_then, register_kept, seen_kept, reached_to, reached_passed, reached_onward, found, look_seen, type_seen, array_seen, elements_seen, hold_then, arguments_kept}
-
--- a call is one instruction
-call_length : (function : Option BuiltIn) (to : ℕ) (numbers : List ℕ) → length (call_code function to numbers) ≡ 1
-call_length None to numbers = refl
-call_length (Some built_in_function.WorkDim) to [] = refl
-call_length (Some built_in_function.WorkDim) to (a ∷ numbers) = refl
-call_length (Some (built_in_function.WorkItem function)) to [] = refl
-call_length (Some (built_in_function.WorkItem function)) to (a ∷ []) = refl
-call_length (Some (built_in_function.WorkItem function)) to (a ∷ b ∷ numbers) = refl
-call_length (Some (built_in_function.Integer function)) to [] = refl
-call_length (Some (built_in_function.Integer function)) to (a ∷ []) = refl
-call_length (Some (built_in_function.Integer function)) to (a ∷ b ∷ []) = refl
-call_length (Some (built_in_function.Integer function)) to (a ∷ b ∷ c ∷ numbers) = refl
-call_length (Some (built_in_function.Atomic function)) to numbers = refl
 
 module _ (given : Given) (code : List Instruction) (bound : ℕ) where
   -- from states where the variables hold these values the code of an expression acts as its evaluation
