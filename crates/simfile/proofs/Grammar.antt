@@ -6,8 +6,9 @@ use Rattle.clmodel.specs.declared.setup.Argument.TheVariants as argument
 use Rattle.clmodel.specs.declared.setup.Range.{Range}
 use Rattle.device_store.specs.declared.command.Command.{Command}
 use Rattle.device_store.specs.declared.command.Command.TheVariants as command
-use Rattle.simfile.specs.Fields.{joined, is_name, is_listed, IsList, list_text, numbers_of, AreBytes, hex, bytes_of}
-use Rattle.simfile.specs.Reading.{after, name_at, number_at, list_at, hex_at, value_at, source_at, buffer_at, write_at, read_at, buffer_argument_at, value_argument_at, local_argument_at, argument_at, listed_offset_at, offset_at, offsets_of, range_of, program_at, kernel_at, arg_at, launch_at, command_at, or_else, ◌>>=◌}
+use Rattle.replay.specs.Pieces.{joined}
+use Rattle.simfile.specs.Fields.{is_name, is_listed, IsList, list_text, numbers_of, AreBytes, hex, bytes_of}
+use Rattle.simfile.specs.Reading.{after, name_at, number_at, list_at, hex_at, before, value_at, source_at, buffer_at, write_at, fill_at, copy_at, read_at, release_at, buffer_argument_at, value_argument_at, local_argument_at, argument_at, listed_offset_at, offset_at, offsets_of, range_of, program_at, kernel_at, arg_at, launch_at, command_at, or_else, ◌>>=◌}
 use Rattle.simfile.specs.Script.{IsText, IsSetting, IsOffset, AreLines, space, line_feed}
 use Rattle.simfile.specs.Laws.{Takes, Again}
 use Rattle.simfile.proofs.FieldLaws.{after_takes, after_again, name_takes, name_again, number_takes, number_again, list_takes, list_again, list_back, hex_takes, hex_again, hex_back, value_takes, value_again, source_takes, source_again, space_ends, feed_ends, space_ends_list, feed_ends_list, feed_ends_hex}
@@ -15,6 +16,21 @@ use Rattle.simfile.proofs.FieldLaws.{after_takes, after_again, name_takes, name_
 bind_some : {A B : Type 0} (o : Option A) (f : A → Option B) (y : B) → (o >>= f) ≡ Some y → (x : A) × (o ≡ Some x) × (f x ≡ Some y)
 bind_some None f y e = absurd (cc)
 bind_some (Some x) f y e = (x, refl, e)
+
+-- a field in front of a byte is a field, and the byte follows it
+before_is : {A : Type 0} (end : ℕ) (o : Option (A × List ℕ)) (x : A × List ℕ) → before end o ≡ Some x → o ≡ Some (x.0, end ∷ x.1)
+unfolding before
+before_is end None x e = absurd (cc)
+before_is {A} end (Some y) x e =
+    let s = bind_some (after (end ∷ []) y.1) _ x e in
+    let t : y.1 ≡ end ∷ s.0 = after_takes (end ∷ []) y.1 s.0 s.1 in
+    let same : (y.0, s.0) ≡ x = let f = s.2 in cc in
+    let P : A × List ℕ → Type 0 = λ z. Some y ≡ Some (z.0, end ∷ z.1) in
+    subst P same (ap (λ l. Some (y.0, l)) t)
+
+before_again : {A : Type 0} (field : A) (end : ℕ) (rest : List ℕ) → before end (Some (field, end ∷ rest)) ≡ Some (field, rest)
+unfolding before
+before_again field end rest = rw (after_again (end ∷ []) rest) refl
 
 -- texts one after another, and then the rest
 abbrev joined_onto : List (List ℕ) → List ℕ → List ℕ
@@ -38,100 +54,122 @@ behind word bytes parts x y e split text =
 buffer_takes : (bytes : List ℕ) (c : Command) (rest : List ℕ) → buffer_at bytes ≡ Some (c, rest) → Behind (codes "buffer ") bytes c rest
 unfolding buffer_at
 buffer_takes bytes c rest e =
-    let s1 = bind_some (name_at bytes) _ (c, rest) e in
-    let t1 = name_takes bytes s1.0 s1.1 in
-    let p1 : bytes ≡ s1.0.0 ++ s1.0.1 = t1.0 in
-    let s2 = bind_some (after (32 ∷ []) s1.0.1) _ (c, rest) s1.2 in
-    let t2 : s1.0.1 ≡ (32 ∷ []) ++ s2.0 = after_takes (32 ∷ []) s1.0.1 s2.0 s2.1 in
-    let s3 = bind_some (number_at s2.0) _ (c, rest) s2.2 in
-    let t3 = number_takes s2.0 s3.0 s3.1 in
-    let p3 : s2.0 ≡ decimal s3.0.0 ++ s3.0.1 = t3.0 in
-    let s4 = bind_some (after (10 ∷ []) s3.0.1) _ (c, rest) s3.2 in
-    let t4 : s3.0.1 ≡ (10 ∷ []) ++ s4.0 = after_takes (10 ∷ []) s3.0.1 s4.0 s4.1 in
-    let parts = codes "buffer " ∷ s1.0.0 ∷ space ∷ decimal s3.0.0 ∷ line_feed ∷ [] in
-    behind (codes "buffer ") bytes parts (command.Buffer s1.0.0 s3.0.0, s4.0) (c, rest) s4.2 (ap (λ l. codes "buffer " ++ l) (p1 ∙ ap (λ l. s1.0.0 ++ l) (t2 ∙ ap (λ l. (32 ∷ []) ++ l) (p3 ∙ ap (λ l. decimal s3.0.0 ++ l) t4)))) (t1.1, t3.1, refl)
-
-read_takes : (bytes : List ℕ) (c : Command) (rest : List ℕ) → read_at bytes ≡ Some (c, rest) → Behind (codes "read ") bytes c rest
-unfolding read_at
-read_takes bytes c rest e =
-    let s1 = bind_some (name_at bytes) _ (c, rest) e in
-    let t1 = name_takes bytes s1.0 s1.1 in
-    let p1 : bytes ≡ s1.0.0 ++ s1.0.1 = t1.0 in
-    let s2 = bind_some (after (32 ∷ []) s1.0.1) _ (c, rest) s1.2 in
-    let t2 : s1.0.1 ≡ (32 ∷ []) ++ s2.0 = after_takes (32 ∷ []) s1.0.1 s2.0 s2.1 in
-    let s3 = bind_some (number_at s2.0) _ (c, rest) s2.2 in
-    let t3 = number_takes s2.0 s3.0 s3.1 in
-    let p3 : s2.0 ≡ decimal s3.0.0 ++ s3.0.1 = t3.0 in
-    let s4 = bind_some (after (32 ∷ []) s3.0.1) _ (c, rest) s3.2 in
-    let t4 : s3.0.1 ≡ (32 ∷ []) ++ s4.0 = after_takes (32 ∷ []) s3.0.1 s4.0 s4.1 in
-    let s5 = bind_some (number_at s4.0) _ (c, rest) s4.2 in
-    let t5 = number_takes s4.0 s5.0 s5.1 in
-    let p5 : s4.0 ≡ decimal s5.0.0 ++ s5.0.1 = t5.0 in
-    let s6 = bind_some (after (10 ∷ []) s5.0.1) _ (c, rest) s5.2 in
-    let t6 : s5.0.1 ≡ (10 ∷ []) ++ s6.0 = after_takes (10 ∷ []) s5.0.1 s6.0 s6.1 in
-    let parts = codes "read " ∷ s1.0.0 ∷ space ∷ decimal s3.0.0 ∷ space ∷ decimal s5.0.0 ∷ line_feed ∷ [] in
-    behind (codes "read ") bytes parts (command.Read s1.0.0 s3.0.0 s5.0.0, s6.0) (c, rest) s6.2 (ap (λ l. codes "read " ++ l) (p1 ∙ ap (λ l. s1.0.0 ++ l) (t2 ∙ ap (λ l. (32 ∷ []) ++ l) (p3 ∙ ap (λ l. decimal s3.0.0 ++ l) (t4 ∙ ap (λ l. (32 ∷ []) ++ l) (p5 ∙ ap (λ l. decimal s5.0.0 ++ l) t6)))))) (t1.1, t3.1, t5.1, refl)
-
-program_takes : (bytes : List ℕ) (c : Command) (rest : List ℕ) → program_at bytes ≡ Some (c, rest) → Behind (codes "program ") bytes c rest
-unfolding program_at
-program_takes bytes c rest e =
-    let s1 = bind_some (name_at bytes) _ (c, rest) e in
-    let t1 = name_takes bytes s1.0 s1.1 in
-    let p1 : bytes ≡ s1.0.0 ++ s1.0.1 = t1.0 in
-    let s2 = bind_some (after (32 ∷ []) s1.0.1) _ (c, rest) s1.2 in
-    let t2 : s1.0.1 ≡ (32 ∷ []) ++ s2.0 = after_takes (32 ∷ []) s1.0.1 s2.0 s2.1 in
-    let s3 = bind_some (number_at s2.0) _ (c, rest) s2.2 in
-    let t3 = number_takes s2.0 s3.0 s3.1 in
-    let p3 : s2.0 ≡ decimal s3.0.0 ++ s3.0.1 = t3.0 in
-    let s4 = bind_some (after (10 ∷ []) s3.0.1) _ (c, rest) s3.2 in
-    let t4 : s3.0.1 ≡ (10 ∷ []) ++ s4.0 = after_takes (10 ∷ []) s3.0.1 s4.0 s4.1 in
-    let s5 = bind_some (source_at s3.0.0 s4.0) _ (c, rest) s4.2 in
-    let t5 = source_takes s3.0.0 s4.0 s5.0 s5.1 in
-    let p5 : s4.0 ≡ s5.0.0 ++ s5.0.1 = t5.0 in
-    let parts = codes "program " ∷ s1.0.0 ∷ space ∷ decimal s3.0.0 ∷ line_feed ∷ s5.0.0 ∷ [] in
-    behind (codes "program ") bytes parts (command.Program s1.0.0 s5.0.0, s5.0.1) (c, rest) s5.2 (ap (λ l. codes "program " ++ l) (p1 ∙ ap (λ l. s1.0.0 ++ l) (t2 ∙ ap (λ l. (32 ∷ []) ++ l) (p3 ∙ ap (λ l. decimal s3.0.0 ++ l) (t4 ∙ ap (λ l. (10 ∷ []) ++ l) p5))))) (t1.1, (s3.0.0, t5.1, t5.2, refl))
-
-kernel_takes : (bytes : List ℕ) (c : Command) (rest : List ℕ) → kernel_at bytes ≡ Some (c, rest) → Behind (codes "kernel ") bytes c rest
-unfolding kernel_at
-kernel_takes bytes c rest e =
-    let s1 = bind_some (name_at bytes) _ (c, rest) e in
-    let t1 = name_takes bytes s1.0 s1.1 in
-    let p1 : bytes ≡ s1.0.0 ++ s1.0.1 = t1.0 in
-    let s2 = bind_some (after (32 ∷ []) s1.0.1) _ (c, rest) s1.2 in
-    let t2 : s1.0.1 ≡ (32 ∷ []) ++ s2.0 = after_takes (32 ∷ []) s1.0.1 s2.0 s2.1 in
-    let s3 = bind_some (name_at s2.0) _ (c, rest) s2.2 in
-    let t3 = name_takes s2.0 s3.0 s3.1 in
-    let p3 : s2.0 ≡ s3.0.0 ++ s3.0.1 = t3.0 in
-    let s4 = bind_some (after (32 ∷ []) s3.0.1) _ (c, rest) s3.2 in
-    let t4 : s3.0.1 ≡ (32 ∷ []) ++ s4.0 = after_takes (32 ∷ []) s3.0.1 s4.0 s4.1 in
-    let s5 = bind_some (name_at s4.0) _ (c, rest) s4.2 in
-    let t5 = name_takes s4.0 s5.0 s5.1 in
-    let p5 : s4.0 ≡ s5.0.0 ++ s5.0.1 = t5.0 in
-    let s6 = bind_some (after (10 ∷ []) s5.0.1) _ (c, rest) s5.2 in
-    let t6 : s5.0.1 ≡ (10 ∷ []) ++ s6.0 = after_takes (10 ∷ []) s5.0.1 s6.0 s6.1 in
-    let parts = codes "kernel " ∷ s1.0.0 ∷ space ∷ s3.0.0 ∷ space ∷ s5.0.0 ∷ line_feed ∷ [] in
-    behind (codes "kernel ") bytes parts (command.Kernel s1.0.0 s3.0.0 s5.0.0, s6.0) (c, rest) s6.2 (ap (λ l. codes "kernel " ++ l) (p1 ∙ ap (λ l. s1.0.0 ++ l) (t2 ∙ ap (λ l. (32 ∷ []) ++ l) (p3 ∙ ap (λ l. s3.0.0 ++ l) (t4 ∙ ap (λ l. (32 ∷ []) ++ l) (p5 ∙ ap (λ l. s5.0.0 ++ l) t6)))))) (t1.1, t3.1, t5.1, refl)
+    let s1 = bind_some (before 32 (name_at bytes)) _ (c, rest) e in
+    let t1 = name_takes bytes (s1.0.0, 32 ∷ s1.0.1) (before_is 32 (name_at bytes) s1.0 s1.1) in
+    let p1 : bytes ≡ s1.0.0 ++ 32 ∷ s1.0.1 = t1.0 in
+    let s2 = bind_some (before 10 (number_at s1.0.1)) _ (c, rest) s1.2 in
+    let t2 = number_takes s1.0.1 (s2.0.0, 10 ∷ s2.0.1) (before_is 10 (number_at s1.0.1) s2.0 s2.1) in
+    let p2 : s1.0.1 ≡ decimal s2.0.0 ++ 10 ∷ s2.0.1 = t2.0 in
+    let parts = codes "buffer " ∷ s1.0.0 ∷ space ∷ decimal s2.0.0 ∷ line_feed ∷ [] in
+    behind (codes "buffer ") bytes parts (command.Buffer s1.0.0 s2.0.0, s2.0.1) (c, rest) s2.2 (ap (λ l. codes "buffer " ++ l) (p1 ∙ ap (λ l. s1.0.0 ++ 32 ∷ l) p2)) (t1.1, t2.1, refl)
 
 write_takes : (bytes : List ℕ) (c : Command) (rest : List ℕ) → write_at bytes ≡ Some (c, rest) → Behind (codes "write ") bytes c rest
 unfolding write_at
 write_takes bytes c rest e =
-    let s1 = bind_some (name_at bytes) _ (c, rest) e in
-    let t1 = name_takes bytes s1.0 s1.1 in
-    let p1 : bytes ≡ s1.0.0 ++ s1.0.1 = t1.0 in
-    let s2 = bind_some (after (32 ∷ []) s1.0.1) _ (c, rest) s1.2 in
-    let t2 : s1.0.1 ≡ (32 ∷ []) ++ s2.0 = after_takes (32 ∷ []) s1.0.1 s2.0 s2.1 in
-    let s3 = bind_some (number_at s2.0) _ (c, rest) s2.2 in
-    let t3 = number_takes s2.0 s3.0 s3.1 in
-    let p3 : s2.0 ≡ decimal s3.0.0 ++ s3.0.1 = t3.0 in
-    let s4 = bind_some (after (32 ∷ []) s3.0.1) _ (c, rest) s3.2 in
-    let t4 : s3.0.1 ≡ (32 ∷ []) ++ s4.0 = after_takes (32 ∷ []) s3.0.1 s4.0 s4.1 in
-    let s5 = bind_some (hex_at s4.0) _ (c, rest) s4.2 in
-    let t5 = hex_takes s4.0 s5.0 s5.1 in
-    let p5 : s4.0 ≡ hex (bytes_of s5.0.0) ++ s5.0.1 = t5.0 in
-    let s6 = bind_some (after (10 ∷ []) s5.0.1) _ (c, rest) s5.2 in
-    let t6 : s5.0.1 ≡ (10 ∷ []) ++ s6.0 = after_takes (10 ∷ []) s5.0.1 s6.0 s6.1 in
-    let parts = codes "write " ∷ s1.0.0 ∷ space ∷ decimal s3.0.0 ∷ space ∷ hex (bytes_of s5.0.0) ∷ line_feed ∷ [] in
-    behind (codes "write ") bytes parts (command.Write s1.0.0 s3.0.0 (bytes_of s5.0.0), s6.0) (c, rest) s6.2 (ap (λ l. codes "write " ++ l) (p1 ∙ ap (λ l. s1.0.0 ++ l) (t2 ∙ ap (λ l. (32 ∷ []) ++ l) (p3 ∙ ap (λ l. decimal s3.0.0 ++ l) (t4 ∙ ap (λ l. (32 ∷ []) ++ l) (p5 ∙ ap (λ l. hex (bytes_of s5.0.0) ++ l) t6)))))) (t1.1, t3.1, t5.1, refl)
+    let s1 = bind_some (before 32 (name_at bytes)) _ (c, rest) e in
+    let t1 = name_takes bytes (s1.0.0, 32 ∷ s1.0.1) (before_is 32 (name_at bytes) s1.0 s1.1) in
+    let p1 : bytes ≡ s1.0.0 ++ 32 ∷ s1.0.1 = t1.0 in
+    let s2 = bind_some (before 32 (number_at s1.0.1)) _ (c, rest) s1.2 in
+    let t2 = number_takes s1.0.1 (s2.0.0, 32 ∷ s2.0.1) (before_is 32 (number_at s1.0.1) s2.0 s2.1) in
+    let p2 : s1.0.1 ≡ decimal s2.0.0 ++ 32 ∷ s2.0.1 = t2.0 in
+    let s3 = bind_some (before 10 (hex_at s2.0.1)) _ (c, rest) s2.2 in
+    let t3 = hex_takes s2.0.1 (s3.0.0, 10 ∷ s3.0.1) (before_is 10 (hex_at s2.0.1) s3.0 s3.1) in
+    let p3 : s2.0.1 ≡ hex (bytes_of s3.0.0) ++ 10 ∷ s3.0.1 = t3.0 in
+    let parts = codes "write " ∷ s1.0.0 ∷ space ∷ decimal s2.0.0 ∷ space ∷ hex (bytes_of s3.0.0) ∷ line_feed ∷ [] in
+    behind (codes "write ") bytes parts (command.Write s1.0.0 s2.0.0 (bytes_of s3.0.0), s3.0.1) (c, rest) s3.2 (ap (λ l. codes "write " ++ l) (p1 ∙ ap (λ l. s1.0.0 ++ 32 ∷ l) (p2 ∙ ap (λ l. decimal s2.0.0 ++ 32 ∷ l) p3))) (t1.1, t2.1, t3.1, refl)
+
+fill_takes : (bytes : List ℕ) (c : Command) (rest : List ℕ) → fill_at bytes ≡ Some (c, rest) → Behind (codes "fill ") bytes c rest
+unfolding fill_at
+fill_takes bytes c rest e =
+    let s1 = bind_some (before 32 (name_at bytes)) _ (c, rest) e in
+    let t1 = name_takes bytes (s1.0.0, 32 ∷ s1.0.1) (before_is 32 (name_at bytes) s1.0 s1.1) in
+    let p1 : bytes ≡ s1.0.0 ++ 32 ∷ s1.0.1 = t1.0 in
+    let s2 = bind_some (before 32 (number_at s1.0.1)) _ (c, rest) s1.2 in
+    let t2 = number_takes s1.0.1 (s2.0.0, 32 ∷ s2.0.1) (before_is 32 (number_at s1.0.1) s2.0 s2.1) in
+    let p2 : s1.0.1 ≡ decimal s2.0.0 ++ 32 ∷ s2.0.1 = t2.0 in
+    let s3 = bind_some (before 32 (number_at s2.0.1)) _ (c, rest) s2.2 in
+    let t3 = number_takes s2.0.1 (s3.0.0, 32 ∷ s3.0.1) (before_is 32 (number_at s2.0.1) s3.0 s3.1) in
+    let p3 : s2.0.1 ≡ decimal s3.0.0 ++ 32 ∷ s3.0.1 = t3.0 in
+    let s4 = bind_some (before 10 (hex_at s3.0.1)) _ (c, rest) s3.2 in
+    let t4 = hex_takes s3.0.1 (s4.0.0, 10 ∷ s4.0.1) (before_is 10 (hex_at s3.0.1) s4.0 s4.1) in
+    let p4 : s3.0.1 ≡ hex (bytes_of s4.0.0) ++ 10 ∷ s4.0.1 = t4.0 in
+    let parts = codes "fill " ∷ s1.0.0 ∷ space ∷ decimal s2.0.0 ∷ space ∷ decimal s3.0.0 ∷ space ∷ hex (bytes_of s4.0.0) ∷ line_feed ∷ [] in
+    behind (codes "fill ") bytes parts (command.Fill s1.0.0 s2.0.0 s3.0.0 (bytes_of s4.0.0), s4.0.1) (c, rest) s4.2 (ap (λ l. codes "fill " ++ l) (p1 ∙ ap (λ l. s1.0.0 ++ 32 ∷ l) (p2 ∙ ap (λ l. decimal s2.0.0 ++ 32 ∷ l) (p3 ∙ ap (λ l. decimal s3.0.0 ++ 32 ∷ l) p4)))) (t1.1, t2.1, t3.1, t4.1, refl)
+
+copy_takes : (bytes : List ℕ) (c : Command) (rest : List ℕ) → copy_at bytes ≡ Some (c, rest) → Behind (codes "copy ") bytes c rest
+unfolding copy_at
+copy_takes bytes c rest e =
+    let s1 = bind_some (before 32 (name_at bytes)) _ (c, rest) e in
+    let t1 = name_takes bytes (s1.0.0, 32 ∷ s1.0.1) (before_is 32 (name_at bytes) s1.0 s1.1) in
+    let p1 : bytes ≡ s1.0.0 ++ 32 ∷ s1.0.1 = t1.0 in
+    let s2 = bind_some (before 32 (number_at s1.0.1)) _ (c, rest) s1.2 in
+    let t2 = number_takes s1.0.1 (s2.0.0, 32 ∷ s2.0.1) (before_is 32 (number_at s1.0.1) s2.0 s2.1) in
+    let p2 : s1.0.1 ≡ decimal s2.0.0 ++ 32 ∷ s2.0.1 = t2.0 in
+    let s3 = bind_some (before 32 (name_at s2.0.1)) _ (c, rest) s2.2 in
+    let t3 = name_takes s2.0.1 (s3.0.0, 32 ∷ s3.0.1) (before_is 32 (name_at s2.0.1) s3.0 s3.1) in
+    let p3 : s2.0.1 ≡ s3.0.0 ++ 32 ∷ s3.0.1 = t3.0 in
+    let s4 = bind_some (before 32 (number_at s3.0.1)) _ (c, rest) s3.2 in
+    let t4 = number_takes s3.0.1 (s4.0.0, 32 ∷ s4.0.1) (before_is 32 (number_at s3.0.1) s4.0 s4.1) in
+    let p4 : s3.0.1 ≡ decimal s4.0.0 ++ 32 ∷ s4.0.1 = t4.0 in
+    let s5 = bind_some (before 10 (number_at s4.0.1)) _ (c, rest) s4.2 in
+    let t5 = number_takes s4.0.1 (s5.0.0, 10 ∷ s5.0.1) (before_is 10 (number_at s4.0.1) s5.0 s5.1) in
+    let p5 : s4.0.1 ≡ decimal s5.0.0 ++ 10 ∷ s5.0.1 = t5.0 in
+    let parts = codes "copy " ∷ s1.0.0 ∷ space ∷ decimal s2.0.0 ∷ space ∷ s3.0.0 ∷ space ∷ decimal s4.0.0 ∷ space ∷ decimal s5.0.0 ∷ line_feed ∷ [] in
+    behind (codes "copy ") bytes parts (command.Copy s1.0.0 s2.0.0 s3.0.0 s4.0.0 s5.0.0, s5.0.1) (c, rest) s5.2 (ap (λ l. codes "copy " ++ l) (p1 ∙ ap (λ l. s1.0.0 ++ 32 ∷ l) (p2 ∙ ap (λ l. decimal s2.0.0 ++ 32 ∷ l) (p3 ∙ ap (λ l. s3.0.0 ++ 32 ∷ l) (p4 ∙ ap (λ l. decimal s4.0.0 ++ 32 ∷ l) p5))))) (t1.1, t2.1, t3.1, t4.1, t5.1, refl)
+
+read_takes : (bytes : List ℕ) (c : Command) (rest : List ℕ) → read_at bytes ≡ Some (c, rest) → Behind (codes "read ") bytes c rest
+unfolding read_at
+read_takes bytes c rest e =
+    let s1 = bind_some (before 32 (name_at bytes)) _ (c, rest) e in
+    let t1 = name_takes bytes (s1.0.0, 32 ∷ s1.0.1) (before_is 32 (name_at bytes) s1.0 s1.1) in
+    let p1 : bytes ≡ s1.0.0 ++ 32 ∷ s1.0.1 = t1.0 in
+    let s2 = bind_some (before 32 (number_at s1.0.1)) _ (c, rest) s1.2 in
+    let t2 = number_takes s1.0.1 (s2.0.0, 32 ∷ s2.0.1) (before_is 32 (number_at s1.0.1) s2.0 s2.1) in
+    let p2 : s1.0.1 ≡ decimal s2.0.0 ++ 32 ∷ s2.0.1 = t2.0 in
+    let s3 = bind_some (before 10 (number_at s2.0.1)) _ (c, rest) s2.2 in
+    let t3 = number_takes s2.0.1 (s3.0.0, 10 ∷ s3.0.1) (before_is 10 (number_at s2.0.1) s3.0 s3.1) in
+    let p3 : s2.0.1 ≡ decimal s3.0.0 ++ 10 ∷ s3.0.1 = t3.0 in
+    let parts = codes "read " ∷ s1.0.0 ∷ space ∷ decimal s2.0.0 ∷ space ∷ decimal s3.0.0 ∷ line_feed ∷ [] in
+    behind (codes "read ") bytes parts (command.Read s1.0.0 s2.0.0 s3.0.0, s3.0.1) (c, rest) s3.2 (ap (λ l. codes "read " ++ l) (p1 ∙ ap (λ l. s1.0.0 ++ 32 ∷ l) (p2 ∙ ap (λ l. decimal s2.0.0 ++ 32 ∷ l) p3))) (t1.1, t2.1, t3.1, refl)
+
+release_takes : (bytes : List ℕ) (c : Command) (rest : List ℕ) → release_at bytes ≡ Some (c, rest) → Behind (codes "release ") bytes c rest
+unfolding release_at
+release_takes bytes c rest e =
+    let s1 = bind_some (before 10 (name_at bytes)) _ (c, rest) e in
+    let t1 = name_takes bytes (s1.0.0, 10 ∷ s1.0.1) (before_is 10 (name_at bytes) s1.0 s1.1) in
+    let p1 : bytes ≡ s1.0.0 ++ 10 ∷ s1.0.1 = t1.0 in
+    let parts = codes "release " ∷ s1.0.0 ∷ line_feed ∷ [] in
+    behind (codes "release ") bytes parts (command.Release s1.0.0, s1.0.1) (c, rest) s1.2 (ap (λ l. codes "release " ++ l) (p1)) (t1.1, refl)
+
+kernel_takes : (bytes : List ℕ) (c : Command) (rest : List ℕ) → kernel_at bytes ≡ Some (c, rest) → Behind (codes "kernel ") bytes c rest
+unfolding kernel_at
+kernel_takes bytes c rest e =
+    let s1 = bind_some (before 32 (name_at bytes)) _ (c, rest) e in
+    let t1 = name_takes bytes (s1.0.0, 32 ∷ s1.0.1) (before_is 32 (name_at bytes) s1.0 s1.1) in
+    let p1 : bytes ≡ s1.0.0 ++ 32 ∷ s1.0.1 = t1.0 in
+    let s2 = bind_some (before 32 (name_at s1.0.1)) _ (c, rest) s1.2 in
+    let t2 = name_takes s1.0.1 (s2.0.0, 32 ∷ s2.0.1) (before_is 32 (name_at s1.0.1) s2.0 s2.1) in
+    let p2 : s1.0.1 ≡ s2.0.0 ++ 32 ∷ s2.0.1 = t2.0 in
+    let s3 = bind_some (before 10 (name_at s2.0.1)) _ (c, rest) s2.2 in
+    let t3 = name_takes s2.0.1 (s3.0.0, 10 ∷ s3.0.1) (before_is 10 (name_at s2.0.1) s3.0 s3.1) in
+    let p3 : s2.0.1 ≡ s3.0.0 ++ 10 ∷ s3.0.1 = t3.0 in
+    let parts = codes "kernel " ∷ s1.0.0 ∷ space ∷ s2.0.0 ∷ space ∷ s3.0.0 ∷ line_feed ∷ [] in
+    behind (codes "kernel ") bytes parts (command.Kernel s1.0.0 s2.0.0 s3.0.0, s3.0.1) (c, rest) s3.2 (ap (λ l. codes "kernel " ++ l) (p1 ∙ ap (λ l. s1.0.0 ++ 32 ∷ l) (p2 ∙ ap (λ l. s2.0.0 ++ 32 ∷ l) p3))) (t1.1, t2.1, t3.1, refl)
+
+program_takes : (bytes : List ℕ) (c : Command) (rest : List ℕ) → program_at bytes ≡ Some (c, rest) → Behind (codes "program ") bytes c rest
+unfolding program_at
+program_takes bytes c rest e =
+    let s1 = bind_some (before 32 (name_at bytes)) _ (c, rest) e in
+    let t1 = name_takes bytes (s1.0.0, 32 ∷ s1.0.1) (before_is 32 (name_at bytes) s1.0 s1.1) in
+    let p1 : bytes ≡ s1.0.0 ++ 32 ∷ s1.0.1 = t1.0 in
+    let s2 = bind_some (before 10 (number_at s1.0.1)) _ (c, rest) s1.2 in
+    let t2 = number_takes s1.0.1 (s2.0.0, 10 ∷ s2.0.1) (before_is 10 (number_at s1.0.1) s2.0 s2.1) in
+    let p2 : s1.0.1 ≡ decimal s2.0.0 ++ 10 ∷ s2.0.1 = t2.0 in
+    let s3 = bind_some (source_at s2.0.0 s2.0.1) _ (c, rest) s2.2 in
+    let t3 = source_takes s2.0.0 s2.0.1 s3.0 s3.1 in
+    let p3 : s2.0.1 ≡ s3.0.0 ++ s3.0.1 = t3.0 in
+    let parts = codes "program " ∷ s1.0.0 ∷ space ∷ decimal s2.0.0 ∷ line_feed ∷ s3.0.0 ∷ [] in
+    behind (codes "program ") bytes parts (command.Program s1.0.0 s3.0.0, s3.0.1) (c, rest) s3.2 (ap (λ l. codes "program " ++ l) (p1 ∙ ap (λ l. s1.0.0 ++ 32 ∷ l) (p2 ∙ ap (λ l. decimal s2.0.0 ++ 10 ∷ l) p3))) (t1.1, (s2.0.0, t3.1, t3.2, refl))
 
 -- the words of an argument lie in front
 abbrev SettingBehind : List ℕ → Argument → List ℕ → Type 0
@@ -181,21 +219,19 @@ argument_takes bytes x e = argument_by bytes x (after (codes " buffer ") bytes) 
 arg_takes : (bytes : List ℕ) (c : Command) (rest : List ℕ) → arg_at bytes ≡ Some (c, rest) → Behind (codes "arg ") bytes c rest
 unfolding arg_at
 arg_takes bytes c rest e =
-    let s1 = bind_some (name_at bytes) _ (c, rest) e in
-    let t1 = name_takes bytes s1.0 s1.1 in
-    let p1 : bytes ≡ s1.0.0 ++ s1.0.1 = t1.0 in
-    let s2 = bind_some (after (32 ∷ []) s1.0.1) _ (c, rest) s1.2 in
-    let t2 : s1.0.1 ≡ (32 ∷ []) ++ s2.0 = after_takes (32 ∷ []) s1.0.1 s2.0 s2.1 in
-    let s3 = bind_some (number_at s2.0) _ (c, rest) s2.2 in
-    let t3 = number_takes s2.0 s3.0 s3.1 in
-    let p3 : s2.0 ≡ decimal s3.0.0 ++ s3.0.1 = t3.0 in
-    let s4 = bind_some (argument_at s3.0.1) _ (c, rest) s3.2 in
-    let t4 = argument_takes s3.0.1 s4.0 s4.1 in
-    let p4 : s3.0.1 ≡ t4.0 ++ s4.0.1 = t4.1 in
-    let s5 = bind_some (after (10 ∷ []) s4.0.1) _ (c, rest) s4.2 in
-    let t5 : s4.0.1 ≡ (10 ∷ []) ++ s5.0 = after_takes (10 ∷ []) s4.0.1 s5.0 s5.1 in
-    let parts = codes "arg " ∷ s1.0.0 ∷ space ∷ decimal s3.0.0 ∷ t4.0 ∷ line_feed ∷ [] in
-    behind (codes "arg ") bytes parts (command.Arg s1.0.0 s3.0.0 s4.0.0, s5.0) (c, rest) s5.2 (ap (λ l. codes "arg " ++ l) (p1 ∙ ap (λ l. s1.0.0 ++ l) (t2 ∙ ap (λ l. (32 ∷ []) ++ l) (p3 ∙ ap (λ l. decimal s3.0.0 ++ l) (p4 ∙ ap (λ l. t4.0 ++ l) t5))))) (t1.1, t3.1, (t4.0, t4.2, refl))
+    let s1 = bind_some (before 32 (name_at bytes)) _ (c, rest) e in
+    let t1 = name_takes bytes (s1.0.0, 32 ∷ s1.0.1) (before_is 32 (name_at bytes) s1.0 s1.1) in
+    let p1 : bytes ≡ s1.0.0 ++ 32 ∷ s1.0.1 = t1.0 in
+    let s2 = bind_some (number_at s1.0.1) _ (c, rest) s1.2 in
+    let t2 = number_takes s1.0.1 s2.0 s2.1 in
+    let p2 : s1.0.1 ≡ decimal s2.0.0 ++ s2.0.1 = t2.0 in
+    let s3 = bind_some (argument_at s2.0.1) _ (c, rest) s2.2 in
+    let t3 = argument_takes s2.0.1 s3.0 s3.1 in
+    let p3 : s2.0.1 ≡ t3.0 ++ s3.0.1 = t3.1 in
+    let s4 = bind_some (after (10 ∷ []) s3.0.1) _ (c, rest) s3.2 in
+    let t4 : s3.0.1 ≡ (10 ∷ []) ++ s4.0 = after_takes (10 ∷ []) s3.0.1 s4.0 s4.1 in
+    let parts = codes "arg " ∷ s1.0.0 ∷ space ∷ decimal s2.0.0 ∷ t3.0 ∷ line_feed ∷ [] in
+    behind (codes "arg ") bytes parts (command.Arg s1.0.0 s2.0.0 s3.0.0, s4.0) (c, rest) s4.2 (ap (λ l. codes "arg " ++ l) (p1 ∙ ap (λ l. s1.0.0 ++ 32 ∷ l) (p2 ∙ ap (λ l. decimal s2.0.0 ++ l) (p3 ∙ ap (λ l. t3.0 ++ l) t4)))) (t1.1, t2.1, (t3.0, t3.2, refl))
 
 -- the offsets lie in front, or none do, and then the line feed
 abbrev OffsetBehind : List ℕ → Option (List ℕ) → List ℕ → Type 0
@@ -206,13 +242,12 @@ unfolding listed_offset_at
 listed_offset_takes bytes x e =
     let s1 = bind_some (after (32 ∷ []) bytes) _ x e in
     let t1 : bytes ≡ (32 ∷ []) ++ s1.0 = after_takes (32 ∷ []) bytes s1.0 s1.1 in
-    let s2 = bind_some (list_at s1.0) _ x s1.2 in
-    let t2 = list_takes s1.0 s2.0 s2.1 in
-    let s3 = bind_some (after (10 ∷ []) s2.0.1) _ x s2.2 in
-    let t3 : s2.0.1 ≡ (10 ∷ []) ++ s3.0 = after_takes (10 ∷ []) s2.0.1 s3.0 s3.1 in
-    let same : (Some s2.0.0, s3.0) ≡ x = let f = s3.2 in cc in
+    let s2 = bind_some (before 10 (list_at s1.0)) _ x s1.2 in
+    let t2 = list_takes s1.0 (s2.0.0, 10 ∷ s2.0.1) (before_is 10 (list_at s1.0) s2.0 s2.1) in
+    let p2 : s1.0 ≡ list_text (numbers_of s2.0.0) ++ 10 ∷ s2.0.1 = t2.0 in
+    let same : (Some s2.0.0, s2.0.1) ≡ x = let f = s2.2 in cc in
     let text = space ++ list_text (numbers_of s2.0.0) in
-    let split : bytes ≡ text ++ (10 ∷ s3.0) = t1 ∙ (ap (λ l. (32 ∷ []) ++ l) (t2.0 ∙ ap (λ l. list_text (numbers_of s2.0.0) ++ l) t3)) in
+    let split : bytes ≡ text ++ (10 ∷ s2.0.1) = t1 ∙ ap (λ l. (32 ∷ []) ++ l) p2 in
     let P : Option (List ℕ) × List ℕ → Type 0 = λ y. OffsetBehind bytes y.0 y.1 in
     subst P same (text, split, λ sizes. inr (t2.1, refl))
 
@@ -230,26 +265,22 @@ offset_takes bytes x e = offset_by bytes x (after (10 ∷ []) bytes) refl e
 launch_takes : (bytes : List ℕ) (c : Command) (rest : List ℕ) → launch_at bytes ≡ Some (c, rest) → Behind (codes "launch ") bytes c rest
 unfolding launch_at
 launch_takes bytes c rest e =
-    let s1 = bind_some (name_at bytes) _ (c, rest) e in
-    let t1 = name_takes bytes s1.0 s1.1 in
-    let p1 : bytes ≡ s1.0.0 ++ s1.0.1 = t1.0 in
-    let s2 = bind_some (after (32 ∷ []) s1.0.1) _ (c, rest) s1.2 in
-    let t2 : s1.0.1 ≡ (32 ∷ []) ++ s2.0 = after_takes (32 ∷ []) s1.0.1 s2.0 s2.1 in
-    let s3 = bind_some (list_at s2.0) _ (c, rest) s2.2 in
-    let t3 = list_takes s2.0 s3.0 s3.1 in
-    let global = list_text (numbers_of s3.0.0) in
-    let p3 : s2.0 ≡ global ++ s3.0.1 = t3.0 in
-    let s4 = bind_some (after (32 ∷ []) s3.0.1) _ (c, rest) s3.2 in
-    let t4 : s3.0.1 ≡ (32 ∷ []) ++ s4.0 = after_takes (32 ∷ []) s3.0.1 s4.0 s4.1 in
-    let s5 = bind_some (list_at s4.0) _ (c, rest) s4.2 in
-    let t5 = list_takes s4.0 s5.0 s5.1 in
-    let local = list_text (numbers_of s5.0.0) in
-    let p5 : s4.0 ≡ local ++ s5.0.1 = t5.0 in
-    let s6 = bind_some (offset_at s5.0.1) _ (c, rest) s5.2 in
-    let t6 = offset_takes s5.0.1 s6.0 s6.1 in
-    let p6 : s5.0.1 ≡ t6.0 ++ (10 ∷ s6.0.1) = t6.1 in
-    let parts = codes "launch " ∷ s1.0.0 ∷ space ∷ global ∷ space ∷ local ∷ t6.0 ∷ line_feed ∷ [] in
-    behind (codes "launch ") bytes parts (command.Launch s1.0.0 (range_of s3.0.0 s5.0.0 s6.0.0), s6.0.1) (c, rest) s6.2 (ap (λ l. codes "launch " ++ l) (p1 ∙ ap (λ l. s1.0.0 ++ l) (t2 ∙ ap (λ l. (32 ∷ []) ++ l) (p3 ∙ ap (λ l. global ++ l) (t4 ∙ ap (λ l. (32 ∷ []) ++ l) (p5 ∙ ap (λ l. local ++ l) p6)))))) (t1.1, t3.1, t5.1, (t6.0, t6.2 (numbers_of s3.0.0), refl))
+    let s1 = bind_some (before 32 (name_at bytes)) _ (c, rest) e in
+    let t1 = name_takes bytes (s1.0.0, 32 ∷ s1.0.1) (before_is 32 (name_at bytes) s1.0 s1.1) in
+    let p1 : bytes ≡ s1.0.0 ++ 32 ∷ s1.0.1 = t1.0 in
+    let s2 = bind_some (before 32 (list_at s1.0.1)) _ (c, rest) s1.2 in
+    let t2 = list_takes s1.0.1 (s2.0.0, 32 ∷ s2.0.1) (before_is 32 (list_at s1.0.1) s2.0 s2.1) in
+    let global = list_text (numbers_of s2.0.0) in
+    let p2 : s1.0.1 ≡ global ++ 32 ∷ s2.0.1 = t2.0 in
+    let s3 = bind_some (list_at s2.0.1) _ (c, rest) s2.2 in
+    let t3 = list_takes s2.0.1 s3.0 s3.1 in
+    let local = list_text (numbers_of s3.0.0) in
+    let p3 : s2.0.1 ≡ local ++ s3.0.1 = t3.0 in
+    let s4 = bind_some (offset_at s3.0.1) _ (c, rest) s3.2 in
+    let t4 = offset_takes s3.0.1 s4.0 s4.1 in
+    let p4 : s3.0.1 ≡ t4.0 ++ (10 ∷ s4.0.1) = t4.1 in
+    let parts = codes "launch " ∷ s1.0.0 ∷ space ∷ global ∷ space ∷ local ∷ t4.0 ∷ line_feed ∷ [] in
+    behind (codes "launch ") bytes parts (command.Launch s1.0.0 (range_of s2.0.0 s3.0.0 s4.0.0), s4.0.1) (c, rest) s4.2 (ap (λ l. codes "launch " ++ l) (p1 ∙ ap (λ l. s1.0.0 ++ 32 ∷ l) (p2 ∙ ap (λ l. global ++ 32 ∷ l) (p3 ∙ ap (λ l. local ++ l) p4)))) (t1.1, t2.1, t3.1, (t4.0, t4.2 (numbers_of s2.0.0), refl))
 
 -- the command in front, by its first word
 by_word : (word bytes : List ℕ) (f : List ℕ → Option (Command × List ℕ)) (other : Option (Command × List ℕ)) (c : Command) (rest : List ℕ) → ((b : List ℕ) (d : Command) (r : List ℕ) → f b ≡ Some (d, r) → Behind word b d r)
@@ -268,7 +299,13 @@ command_takes bytes c rest e =
     (by_word (codes "kernel ") bytes kernel_at _ c rest kernel_takes
     (by_word (codes "arg ") bytes arg_at _ c rest arg_takes
     (by_word (codes "launch ") bytes launch_at _ c rest launch_takes
-    (by_word (codes "read ") bytes read_at None c rest read_takes (λ h. absurd (cc)) (after (codes "read ") bytes) refl)
+    (by_word (codes "read ") bytes read_at _ c rest read_takes
+    (by_word (codes "fill ") bytes fill_at _ c rest fill_takes
+    (by_word (codes "copy ") bytes copy_at _ c rest copy_takes
+    (by_word (codes "release ") bytes release_at None c rest release_takes (λ h. absurd (cc)) (after (codes "release ") bytes) refl)
+    (after (codes "copy ") bytes) refl)
+    (after (codes "fill ") bytes) refl)
+    (after (codes "read ") bytes) refl)
     (after (codes "launch ") bytes) refl)
     (after (codes "arg ") bytes) refl)
     (after (codes "kernel ") bytes) refl)
@@ -278,24 +315,88 @@ command_takes bytes c rest e =
 
 buffer_again : (name : List ℕ) (size : ℕ) (rest : List ℕ) → IsTrue (is_name name) → size < 2 ^ 64 → buffer_at (joined_onto (name ∷ space ∷ decimal size ∷ line_feed ∷ []) rest) ≡ Some (command.Buffer name size, rest)
 unfolding buffer_at
-buffer_again name size rest h k =
+buffer_again name size rest h1 h2 =
     rw (
-      name_again name h 32 (joined_onto (decimal size ∷ line_feed ∷ []) rest) space_ends,
-      after_again space (joined_onto (decimal size ∷ line_feed ∷ []) rest),
-      number_again size k 10 rest refl,
-      after_again line_feed rest,
+      name_again name h1 32 (joined_onto (decimal size ∷ line_feed ∷ []) rest) space_ends,
+      before_again name 32 (joined_onto (decimal size ∷ line_feed ∷ []) rest),
+      number_again size h2 10 rest refl,
+      before_again size 10 rest,
     ) refl
 
-read_again : (buffer : List ℕ) (offset count : ℕ) (rest : List ℕ) → IsTrue (is_name buffer) → offset < 2 ^ 64 → count < 2 ^ 64 → read_at (joined_onto (buffer ∷ space ∷ decimal offset ∷ space ∷ decimal count ∷ line_feed ∷ []) rest) ≡ Some (command.Read buffer offset count, rest)
-unfolding read_at
-read_again buffer offset count rest h k m =
+write_again : (buffer : List ℕ) (offset : ℕ) (bytes : List ℕ) (rest : List ℕ) → IsTrue (is_name buffer) → offset < 2 ^ 64 → AreBytes bytes → write_at (joined_onto (buffer ∷ space ∷ decimal offset ∷ space ∷ hex bytes ∷ line_feed ∷ []) rest) ≡ Some (command.Write buffer offset bytes, rest)
+unfolding write_at
+write_again buffer offset bytes rest h1 h2 h3 =
     rw (
-      name_again buffer h 32 (joined_onto (decimal offset ∷ space ∷ decimal count ∷ line_feed ∷ []) rest) space_ends,
-      after_again space (joined_onto (decimal offset ∷ space ∷ decimal count ∷ line_feed ∷ []) rest),
-      number_again offset k 32 (joined_onto (decimal count ∷ line_feed ∷ []) rest) refl,
-      after_again space (joined_onto (decimal count ∷ line_feed ∷ []) rest),
-      number_again count m 10 rest refl,
-      after_again line_feed rest,
+      name_again buffer h1 32 (joined_onto (decimal offset ∷ space ∷ hex bytes ∷ line_feed ∷ []) rest) space_ends,
+      before_again buffer 32 (joined_onto (decimal offset ∷ space ∷ hex bytes ∷ line_feed ∷ []) rest),
+      number_again offset h2 32 (joined_onto (hex bytes ∷ line_feed ∷ []) rest) refl,
+      before_again offset 32 (joined_onto (hex bytes ∷ line_feed ∷ []) rest),
+      hex_again bytes h3 10 rest feed_ends_hex,
+      before_again (hex bytes) 10 rest,
+      hex_back bytes h3,
+    ) refl
+
+fill_again : (buffer : List ℕ) (offset : ℕ) (count : ℕ) (pattern : List ℕ) (rest : List ℕ) → IsTrue (is_name buffer) → offset < 2 ^ 64 → count < 2 ^ 64 → AreBytes pattern → fill_at (joined_onto (buffer ∷ space ∷ decimal offset ∷ space ∷ decimal count ∷ space ∷ hex pattern ∷ line_feed ∷ []) rest) ≡ Some (command.Fill buffer offset count pattern, rest)
+unfolding fill_at
+fill_again buffer offset count pattern rest h1 h2 h3 h4 =
+    rw (
+      name_again buffer h1 32 (joined_onto (decimal offset ∷ space ∷ decimal count ∷ space ∷ hex pattern ∷ line_feed ∷ []) rest) space_ends,
+      before_again buffer 32 (joined_onto (decimal offset ∷ space ∷ decimal count ∷ space ∷ hex pattern ∷ line_feed ∷ []) rest),
+      number_again offset h2 32 (joined_onto (decimal count ∷ space ∷ hex pattern ∷ line_feed ∷ []) rest) refl,
+      before_again offset 32 (joined_onto (decimal count ∷ space ∷ hex pattern ∷ line_feed ∷ []) rest),
+      number_again count h3 32 (joined_onto (hex pattern ∷ line_feed ∷ []) rest) refl,
+      before_again count 32 (joined_onto (hex pattern ∷ line_feed ∷ []) rest),
+      hex_again pattern h4 10 rest feed_ends_hex,
+      before_again (hex pattern) 10 rest,
+      hex_back pattern h4,
+    ) refl
+
+copy_again : (source : List ℕ) (offset : ℕ) (target : List ℕ) (target_offset : ℕ) (count : ℕ) (rest : List ℕ) → IsTrue (is_name source) → offset < 2 ^ 64 → IsTrue (is_name target) → target_offset < 2 ^ 64 → count < 2 ^ 64 → copy_at (joined_onto (source ∷ space ∷ decimal offset ∷ space ∷ target ∷ space ∷ decimal target_offset ∷ space ∷ decimal count ∷ line_feed ∷ []) rest) ≡ Some (command.Copy source offset target target_offset count, rest)
+unfolding copy_at
+copy_again source offset target target_offset count rest h1 h2 h3 h4 h5 =
+    rw (
+      name_again source h1 32 (joined_onto (decimal offset ∷ space ∷ target ∷ space ∷ decimal target_offset ∷ space ∷ decimal count ∷ line_feed ∷ []) rest) space_ends,
+      before_again source 32 (joined_onto (decimal offset ∷ space ∷ target ∷ space ∷ decimal target_offset ∷ space ∷ decimal count ∷ line_feed ∷ []) rest),
+      number_again offset h2 32 (joined_onto (target ∷ space ∷ decimal target_offset ∷ space ∷ decimal count ∷ line_feed ∷ []) rest) refl,
+      before_again offset 32 (joined_onto (target ∷ space ∷ decimal target_offset ∷ space ∷ decimal count ∷ line_feed ∷ []) rest),
+      name_again target h3 32 (joined_onto (decimal target_offset ∷ space ∷ decimal count ∷ line_feed ∷ []) rest) space_ends,
+      before_again target 32 (joined_onto (decimal target_offset ∷ space ∷ decimal count ∷ line_feed ∷ []) rest),
+      number_again target_offset h4 32 (joined_onto (decimal count ∷ line_feed ∷ []) rest) refl,
+      before_again target_offset 32 (joined_onto (decimal count ∷ line_feed ∷ []) rest),
+      number_again count h5 10 rest refl,
+      before_again count 10 rest,
+    ) refl
+
+read_again : (buffer : List ℕ) (offset : ℕ) (count : ℕ) (rest : List ℕ) → IsTrue (is_name buffer) → offset < 2 ^ 64 → count < 2 ^ 64 → read_at (joined_onto (buffer ∷ space ∷ decimal offset ∷ space ∷ decimal count ∷ line_feed ∷ []) rest) ≡ Some (command.Read buffer offset count, rest)
+unfolding read_at
+read_again buffer offset count rest h1 h2 h3 =
+    rw (
+      name_again buffer h1 32 (joined_onto (decimal offset ∷ space ∷ decimal count ∷ line_feed ∷ []) rest) space_ends,
+      before_again buffer 32 (joined_onto (decimal offset ∷ space ∷ decimal count ∷ line_feed ∷ []) rest),
+      number_again offset h2 32 (joined_onto (decimal count ∷ line_feed ∷ []) rest) refl,
+      before_again offset 32 (joined_onto (decimal count ∷ line_feed ∷ []) rest),
+      number_again count h3 10 rest refl,
+      before_again count 10 rest,
+    ) refl
+
+release_again : (name : List ℕ) (rest : List ℕ) → IsTrue (is_name name) → release_at (joined_onto (name ∷ line_feed ∷ []) rest) ≡ Some (command.Release name, rest)
+unfolding release_at
+release_again name rest h1 =
+    rw (
+      name_again name h1 10 rest feed_ends,
+      before_again name 10 rest,
+    ) refl
+
+kernel_again : (name : List ℕ) (program : List ℕ) (function : List ℕ) (rest : List ℕ) → IsTrue (is_name name) → IsTrue (is_name program) → IsTrue (is_name function) → kernel_at (joined_onto (name ∷ space ∷ program ∷ space ∷ function ∷ line_feed ∷ []) rest) ≡ Some (command.Kernel name program function, rest)
+unfolding kernel_at
+kernel_again name program function rest h1 h2 h3 =
+    rw (
+      name_again name h1 32 (joined_onto (program ∷ space ∷ function ∷ line_feed ∷ []) rest) space_ends,
+      before_again name 32 (joined_onto (program ∷ space ∷ function ∷ line_feed ∷ []) rest),
+      name_again program h2 32 (joined_onto (function ∷ line_feed ∷ []) rest) space_ends,
+      before_again program 32 (joined_onto (function ∷ line_feed ∷ []) rest),
+      name_again function h3 10 rest feed_ends,
+      before_again function 10 rest,
     ) refl
 
 program_again : (name source : List ℕ) (n : ℕ) (rest : List ℕ) → IsTrue (is_name name) → n < 2 ^ 64 → n ≤ 65536 → AreLines source n → program_at (joined_onto (name ∷ space ∷ decimal n ∷ line_feed ∷ source ∷ []) rest) ≡ Some (command.Program name source, rest)
@@ -303,35 +404,10 @@ unfolding program_at
 program_again name source n rest h k m lines =
     rw (
       name_again name h 32 (joined_onto (decimal n ∷ line_feed ∷ source ∷ []) rest) space_ends,
-      after_again space (joined_onto (decimal n ∷ line_feed ∷ source ∷ []) rest),
+      before_again name 32 (joined_onto (decimal n ∷ line_feed ∷ source ∷ []) rest),
       number_again n k 10 (joined_onto (source ∷ []) rest) refl,
-      after_again line_feed (joined_onto (source ∷ []) rest),
+      before_again n 10 (joined_onto (source ∷ []) rest),
       source_again source rest n m lines,
-    ) refl
-
-kernel_again : (name program function : List ℕ) (rest : List ℕ) → IsTrue (is_name name) → IsTrue (is_name program) → IsTrue (is_name function) → kernel_at (joined_onto (name ∷ space ∷ program ∷ space ∷ function ∷ line_feed ∷ []) rest) ≡ Some (command.Kernel name program function, rest)
-unfolding kernel_at
-kernel_again name program function rest h k m =
-    rw (
-      name_again name h 32 (joined_onto (program ∷ space ∷ function ∷ line_feed ∷ []) rest) space_ends,
-      after_again space (joined_onto (program ∷ space ∷ function ∷ line_feed ∷ []) rest),
-      name_again program k 32 (joined_onto (function ∷ line_feed ∷ []) rest) space_ends,
-      after_again space (joined_onto (function ∷ line_feed ∷ []) rest),
-      name_again function m 10 rest feed_ends,
-      after_again line_feed rest,
-    ) refl
-
-write_again : (buffer : List ℕ) (offset : ℕ) (bytes rest : List ℕ) → IsTrue (is_name buffer) → offset < 2 ^ 64 → AreBytes bytes → write_at (joined_onto (buffer ∷ space ∷ decimal offset ∷ space ∷ hex bytes ∷ line_feed ∷ []) rest) ≡ Some (command.Write buffer offset bytes, rest)
-unfolding write_at
-write_again buffer offset bytes rest h k m =
-    rw (
-      name_again buffer h 32 (joined_onto (decimal offset ∷ space ∷ hex bytes ∷ line_feed ∷ []) rest) space_ends,
-      after_again space (joined_onto (decimal offset ∷ space ∷ hex bytes ∷ line_feed ∷ []) rest),
-      number_again offset k 32 (joined_onto (hex bytes ∷ line_feed ∷ []) rest) refl,
-      after_again space (joined_onto (hex bytes ∷ line_feed ∷ []) rest),
-      hex_again bytes m 10 rest feed_ends_hex,
-      after_again line_feed rest,
-      hex_back bytes m,
     ) refl
 
 argument_again : (setting : List ℕ) (a : Argument) (rest : List ℕ) → IsSetting setting a → argument_at (setting ++ 10 ∷ rest) ≡ Some (a, 10 ∷ rest)
@@ -361,7 +437,7 @@ arg_again kernel index setting a rest h k m =
     let read : number_at (decimal index ++ (setting ++ 10 ∷ rest)) ≡ Some (index, setting ++ 10 ∷ rest) = rw s.1 (number_again index k 32 (s.0 ++ 10 ∷ rest) refl) in
     rw (
       name_again kernel h 32 (joined_onto (decimal index ∷ setting ∷ line_feed ∷ []) rest) space_ends,
-      after_again space (joined_onto (decimal index ∷ setting ∷ line_feed ∷ []) rest),
+      before_again kernel 32 (joined_onto (decimal index ∷ setting ∷ line_feed ∷ []) rest),
       read,
       argument_again setting a rest m,
       after_again line_feed rest,
@@ -383,7 +459,7 @@ offset_again text sizes offsets rest (inl h) = record {
 }
 offset_again text sizes offsets rest (inr h) = record {
   offset = Some (list_text offsets);
-  read = rw h.1 (unfold offset_at in unfold after in unfold listed_offset_at in rw (list_again offsets h.0 10 rest feed_ends_list) refl);
+  read = rw h.1 (unfold offset_at in unfold after in unfold listed_offset_at in rw (list_again offsets h.0 10 rest feed_ends_list, before_again (list_text offsets) 10 rest) refl);
   same = list_back offsets h.0;
   ends = (32, list_text offsets ++ 10 ∷ rest, rw h.1 refl, space_ends_list);
 }
@@ -395,9 +471,9 @@ launch_again kernel range offset rest h k m o =
     let local : list_at (list_text range.local ++ (offset ++ 10 ∷ rest)) ≡ Some (list_text range.local, offset ++ 10 ∷ rest) = rw t.ends.2 (list_again range.local m t.ends.0 t.ends.1 t.ends.3) in
     rw (
       name_again kernel h 32 (joined_onto (list_text range.global ∷ space ∷ list_text range.local ∷ offset ∷ line_feed ∷ []) rest) space_ends,
-      after_again space (joined_onto (list_text range.global ∷ space ∷ list_text range.local ∷ offset ∷ line_feed ∷ []) rest),
+      before_again kernel 32 (joined_onto (list_text range.global ∷ space ∷ list_text range.local ∷ offset ∷ line_feed ∷ []) rest),
       list_again range.global k 32 (joined_onto (list_text range.local ∷ offset ∷ line_feed ∷ []) rest) space_ends_list,
-      after_again space (joined_onto (list_text range.local ∷ offset ∷ line_feed ∷ []) rest),
+      before_again (list_text range.global) 32 (joined_onto (list_text range.local ∷ offset ∷ line_feed ∷ []) rest),
       local,
       t.read,
       list_back range.global k,
@@ -428,27 +504,48 @@ launch_word bytes onto c rest e h = rw e (unfold command_at in unfold after in h
 read_word : (bytes onto : List ℕ) (c : Command) (rest : List ℕ) → bytes ≡ codes "read " ++ onto → read_at onto ≡ Some (c, rest) → command_at bytes ≡ Some (c, rest)
 read_word bytes onto c rest e h = rw e (unfold command_at in unfold after in h)
 
+fill_word : (bytes onto : List ℕ) (c : Command) (rest : List ℕ) → bytes ≡ codes "fill " ++ onto → fill_at onto ≡ Some (c, rest) → command_at bytes ≡ Some (c, rest)
+fill_word bytes onto c rest e h = rw e (unfold command_at in unfold after in h)
+
+copy_word : (bytes onto : List ℕ) (c : Command) (rest : List ℕ) → bytes ≡ codes "copy " ++ onto → copy_at onto ≡ Some (c, rest) → command_at bytes ≡ Some (c, rest)
+copy_word bytes onto c rest e h = rw e (unfold command_at in unfold after in h)
+
+release_word : (bytes onto : List ℕ) (c : Command) (rest : List ℕ) → bytes ≡ codes "release " ++ onto → release_at onto ≡ Some (c, rest) → command_at bytes ≡ Some (c, rest)
+release_word bytes onto c rest e h = rw e (unfold command_at in unfold after in h)
+
 pub command_again : Again
 command_again text (command.Buffer name size) rest h =
     let parts = codes "buffer " ∷ name ∷ space ∷ decimal size ∷ line_feed ∷ [] in
     let split : text ++ rest ≡ joined_onto parts rest = ap (λ l. l ++ rest) h.2 ∙ joined-append parts rest in
     (buffer_word (text ++ rest) (joined_onto (name ∷ space ∷ decimal size ∷ line_feed ∷ []) rest) _ rest split (buffer_again name size rest h.0 h.1))
-command_again text (command.Read buffer offset count) rest h =
-    let parts = codes "read " ∷ buffer ∷ space ∷ decimal offset ∷ space ∷ decimal count ∷ line_feed ∷ [] in
-    let split : text ++ rest ≡ joined_onto parts rest = ap (λ l. l ++ rest) h.3 ∙ joined-append parts rest in
-    (read_word (text ++ rest) (joined_onto (buffer ∷ space ∷ decimal offset ∷ space ∷ decimal count ∷ line_feed ∷ []) rest) _ rest split (read_again buffer offset count rest h.0 h.1 h.2))
-command_again text (command.Program name source) rest h =
-    let parts = codes "program " ∷ name ∷ space ∷ decimal h.1.0 ∷ line_feed ∷ source ∷ [] in
-    let split : text ++ rest ≡ joined_onto parts rest = ap (λ l. l ++ rest) h.1.3 ∙ joined-append parts rest in
-    (program_word (text ++ rest) (joined_onto (name ∷ space ∷ decimal h.1.0 ∷ line_feed ∷ source ∷ []) rest) _ rest split (program_again name source h.1.0 rest h.0 (omega (arith, h.1.1)) h.1.1 h.1.2))
-command_again text (command.Kernel name program function) rest h =
-    let parts = codes "kernel " ∷ name ∷ space ∷ program ∷ space ∷ function ∷ line_feed ∷ [] in
-    let split : text ++ rest ≡ joined_onto parts rest = ap (λ l. l ++ rest) h.3 ∙ joined-append parts rest in
-    (kernel_word (text ++ rest) (joined_onto (name ∷ space ∷ program ∷ space ∷ function ∷ line_feed ∷ []) rest) _ rest split (kernel_again name program function rest h.0 h.1 h.2))
 command_again text (command.Write buffer offset bytes) rest h =
     let parts = codes "write " ∷ buffer ∷ space ∷ decimal offset ∷ space ∷ hex bytes ∷ line_feed ∷ [] in
     let split : text ++ rest ≡ joined_onto parts rest = ap (λ l. l ++ rest) h.3 ∙ joined-append parts rest in
     (write_word (text ++ rest) (joined_onto (buffer ∷ space ∷ decimal offset ∷ space ∷ hex bytes ∷ line_feed ∷ []) rest) _ rest split (write_again buffer offset bytes rest h.0 h.1 h.2))
+command_again text (command.Fill buffer offset count pattern) rest h =
+    let parts = codes "fill " ∷ buffer ∷ space ∷ decimal offset ∷ space ∷ decimal count ∷ space ∷ hex pattern ∷ line_feed ∷ [] in
+    let split : text ++ rest ≡ joined_onto parts rest = ap (λ l. l ++ rest) h.4 ∙ joined-append parts rest in
+    (fill_word (text ++ rest) (joined_onto (buffer ∷ space ∷ decimal offset ∷ space ∷ decimal count ∷ space ∷ hex pattern ∷ line_feed ∷ []) rest) _ rest split (fill_again buffer offset count pattern rest h.0 h.1 h.2 h.3))
+command_again text (command.Copy source offset target target_offset count) rest h =
+    let parts = codes "copy " ∷ source ∷ space ∷ decimal offset ∷ space ∷ target ∷ space ∷ decimal target_offset ∷ space ∷ decimal count ∷ line_feed ∷ [] in
+    let split : text ++ rest ≡ joined_onto parts rest = ap (λ l. l ++ rest) h.5 ∙ joined-append parts rest in
+    (copy_word (text ++ rest) (joined_onto (source ∷ space ∷ decimal offset ∷ space ∷ target ∷ space ∷ decimal target_offset ∷ space ∷ decimal count ∷ line_feed ∷ []) rest) _ rest split (copy_again source offset target target_offset count rest h.0 h.1 h.2 h.3 h.4))
+command_again text (command.Read buffer offset count) rest h =
+    let parts = codes "read " ∷ buffer ∷ space ∷ decimal offset ∷ space ∷ decimal count ∷ line_feed ∷ [] in
+    let split : text ++ rest ≡ joined_onto parts rest = ap (λ l. l ++ rest) h.3 ∙ joined-append parts rest in
+    (read_word (text ++ rest) (joined_onto (buffer ∷ space ∷ decimal offset ∷ space ∷ decimal count ∷ line_feed ∷ []) rest) _ rest split (read_again buffer offset count rest h.0 h.1 h.2))
+command_again text (command.Release name) rest h =
+    let parts = codes "release " ∷ name ∷ line_feed ∷ [] in
+    let split : text ++ rest ≡ joined_onto parts rest = ap (λ l. l ++ rest) h.1 ∙ joined-append parts rest in
+    (release_word (text ++ rest) (joined_onto (name ∷ line_feed ∷ []) rest) _ rest split (release_again name rest h.0))
+command_again text (command.Kernel name program function) rest h =
+    let parts = codes "kernel " ∷ name ∷ space ∷ program ∷ space ∷ function ∷ line_feed ∷ [] in
+    let split : text ++ rest ≡ joined_onto parts rest = ap (λ l. l ++ rest) h.3 ∙ joined-append parts rest in
+    (kernel_word (text ++ rest) (joined_onto (name ∷ space ∷ program ∷ space ∷ function ∷ line_feed ∷ []) rest) _ rest split (kernel_again name program function rest h.0 h.1 h.2))
+command_again text (command.Program name source) rest h =
+    let parts = codes "program " ∷ name ∷ space ∷ decimal h.1.0 ∷ line_feed ∷ source ∷ [] in
+    let split : text ++ rest ≡ joined_onto parts rest = ap (λ l. l ++ rest) h.1.3 ∙ joined-append parts rest in
+    (program_word (text ++ rest) (joined_onto (name ∷ space ∷ decimal h.1.0 ∷ line_feed ∷ source ∷ []) rest) _ rest split (program_again name source h.1.0 rest h.0 (omega (arith, h.1.1)) h.1.1 h.1.2))
 command_again text (command.Arg kernel index argument) rest h =
     let parts = codes "arg " ∷ kernel ∷ space ∷ decimal index ∷ h.2.0 ∷ line_feed ∷ [] in
     let split : text ++ rest ≡ joined_onto parts rest = ap (λ l. l ++ rest) h.2.2 ∙ joined-append parts rest in

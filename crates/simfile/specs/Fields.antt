@@ -1,12 +1,7 @@
--- The fields of a script's line: names, numbers, lists of numbers, bytes and signed numbers, and how texts are put together.
-use Rattle.std.specs.Prelude.{ℕ, ◌+◌, ◌-◌, ◌*◌, ◌/◌, ◌%◌, ◌==◌, ◌<◌, ◌≤◌, ◌^◌, suc, ℤ, pos, negsuc, Bool, false, not, ◌&&◌, ◌||◌, nat_lt, nat_le, IsTrue, if◌then◌else◌, List, [], ◌∷◌, ◌++◌, map, length, slice_index, decimal}
+-- The fields of a script's line: names, numbers, lists of numbers, bytes and signed numbers.
+use Rattle.std.specs.Prelude.{ℕ, ◌+◌, ◌-◌, ◌*◌, ◌/◌, ◌%◌, ◌==◌, ◌<◌, ◌≤◌, ◌^◌, suc, ℤ, pos, negsuc, Bool, false, not, ◌&&◌, ◌||◌, nat_lt, nat_le, IsTrue, if◌then◌else◌, List, [], ◌∷◌, map, length, slice_index, decimal}
 use Rattle.std.specs.List.{list_all, flat_map, join_with_byte, slice_split}
 use Rattle.std.specs.Char.{is_ascii_digit}
-
--- texts one after another
-abbrev pub joined : List (List ℕ) → List ℕ
-joined [] = []
-joined (part ∷ parts) = part ++ joined parts
 
 -- a letter or _
 abbrev pub is_first : ℕ → Bool

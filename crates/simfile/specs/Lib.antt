@@ -1,9 +1,9 @@
 pub mod Fields
 pub mod Lines
-pub mod Pieces
-pub mod Parts
 pub mod Script
 pub mod Reading
 pub mod Views
 pub mod Laws
 pub mod Faults
+pub use Rattle.replay.specs.Pieces
+pub use Rattle.replay.specs.Text

@@ -63,6 +63,13 @@ abbrev pub lines_end : ℕ → ℕ → List ℕ → Option ℕ
 lines_end n at [] = None
 lines_end n at (b ∷ bs) = if b == 10 then (if n == 1 then Some (at + 1) else lines_end (n - 1) (at + 1) bs) else lines_end n (at + 1) bs
 
+-- a field in front of a byte, and what is behind that byte
+unfoldable pub before : {A : Type 0} → ℕ → Option (A × List ℕ) → Option (A × List ℕ)
+before end read = do
+  field ← read
+  rest ← after (end ∷ []) field.1
+  Some (field.0, rest)
+
 -- so many lines, and the rest
 unfoldable pub lines_at : ℕ → List ℕ → Option (List ℕ × List ℕ)
 lines_at n bytes = do
@@ -71,31 +78,45 @@ lines_at n bytes = do
 
 unfoldable pub buffer_at : List ℕ → Option (Command × List ℕ)
 buffer_at bytes = do
-  name ← name_at bytes
-  rest ← after (32 ∷ []) name.1
-  size ← number_at rest
-  rest ← after (10 ∷ []) size.1
-  Some (command.Buffer name.0 size.0, rest)
+  name ← before 32 (name_at bytes)
+  size ← before 10 (number_at name.1)
+  Some (command.Buffer name.0 size.0, size.1)
 
 unfoldable pub write_at : List ℕ → Option (Command × List ℕ)
 write_at bytes = do
-  name ← name_at bytes
-  rest ← after (32 ∷ []) name.1
-  offset ← number_at rest
-  rest ← after (32 ∷ []) offset.1
-  digits ← hex_at rest
-  rest ← after (10 ∷ []) digits.1
-  Some (command.Write name.0 offset.0 (bytes_of digits.0), rest)
+  name ← before 32 (name_at bytes)
+  offset ← before 32 (number_at name.1)
+  digits ← before 10 (hex_at offset.1)
+  Some (command.Write name.0 offset.0 (bytes_of digits.0), digits.1)
+
+unfoldable pub fill_at : List ℕ → Option (Command × List ℕ)
+fill_at bytes = do
+  name ← before 32 (name_at bytes)
+  offset ← before 32 (number_at name.1)
+  count ← before 32 (number_at offset.1)
+  digits ← before 10 (hex_at count.1)
+  Some (command.Fill name.0 offset.0 count.0 (bytes_of digits.0), digits.1)
+
+unfoldable pub copy_at : List ℕ → Option (Command × List ℕ)
+copy_at bytes = do
+  source ← before 32 (name_at bytes)
+  offset ← before 32 (number_at source.1)
+  target ← before 32 (name_at offset.1)
+  target_offset ← before 32 (number_at target.1)
+  count ← before 10 (number_at target_offset.1)
+  Some (command.Copy source.0 offset.0 target.0 target_offset.0 count.0, count.1)
 
 unfoldable pub read_at : List ℕ → Option (Command × List ℕ)
 read_at bytes = do
-  name ← name_at bytes
-  rest ← after (32 ∷ []) name.1
-  offset ← number_at rest
-  rest ← after (32 ∷ []) offset.1
-  count ← number_at rest
-  rest ← after (10 ∷ []) count.1
-  Some (command.Read name.0 offset.0 count.0, rest)
+  name ← before 32 (name_at bytes)
+  offset ← before 32 (number_at name.1)
+  count ← before 10 (number_at offset.1)
+  Some (command.Read name.0 offset.0 count.0, count.1)
+
+unfoldable pub release_at : List ℕ → Option (Command × List ℕ)
+release_at bytes = do
+  name ← before 10 (name_at bytes)
+  Some (command.Release name.0, name.1)
 
 -- a source of 1 to 65,536 lines
 unfoldable pub source_at : ℕ → List ℕ → Option (List ℕ × List ℕ)
@@ -103,22 +124,17 @@ source_at n bytes = if nat_lt 0 n && nat_le n 65536 then lines_at n bytes else N
 
 unfoldable pub program_at : List ℕ → Option (Command × List ℕ)
 program_at bytes = do
-  name ← name_at bytes
-  rest ← after (32 ∷ []) name.1
-  count ← number_at rest
-  rest ← after (10 ∷ []) count.1
-  source ← source_at count.0 rest
+  name ← before 32 (name_at bytes)
+  count ← before 10 (number_at name.1)
+  source ← source_at count.0 count.1
   Some (command.Program name.0 source.0, source.1)
 
 unfoldable pub kernel_at : List ℕ → Option (Command × List ℕ)
 kernel_at bytes = do
-  name ← name_at bytes
-  rest ← after (32 ∷ []) name.1
-  program ← name_at rest
-  rest ← after (32 ∷ []) program.1
-  function ← name_at rest
-  rest ← after (10 ∷ []) function.1
-  Some (command.Kernel name.0 program.0 function.0, rest)
+  name ← before 32 (name_at bytes)
+  program ← before 32 (name_at name.1)
+  function ← before 10 (name_at program.1)
+  Some (command.Kernel name.0 program.0 function.0, function.1)
 
 unfoldable pub buffer_argument_at : List ℕ → Option (Argument × List ℕ)
 buffer_argument_at bytes = do
@@ -144,9 +160,8 @@ argument_at bytes =
 
 unfoldable pub arg_at : List ℕ → Option (Command × List ℕ)
 arg_at bytes = do
-  kernel ← name_at bytes
-  rest ← after (32 ∷ []) kernel.1
-  index ← number_at rest
+  kernel ← before 32 (name_at bytes)
+  index ← number_at kernel.1
   argument ← argument_at index.1
   rest ← after (10 ∷ []) argument.1
   Some (command.Arg kernel.0 index.0 argument.0, rest)
@@ -154,9 +169,8 @@ arg_at bytes = do
 unfoldable pub listed_offset_at : List ℕ → Option (Option (List ℕ) × List ℕ)
 listed_offset_at bytes = do
   rest ← after (32 ∷ []) bytes
-  offset ← list_at rest
-  rest ← after (10 ∷ []) offset.1
-  Some (Some offset.0, rest)
+  offset ← before 10 (list_at rest)
+  Some (Some offset.0, offset.1)
 
 -- the list of the offsets, where there is one, and the rest behind the line feed
 unfoldable pub offset_at : List ℕ → Option (Option (List ℕ) × List ℕ)
@@ -173,11 +187,9 @@ range_of global local offset = record { global = numbers_of global; local = numb
 
 unfoldable pub launch_at : List ℕ → Option (Command × List ℕ)
 launch_at bytes = do
-  kernel ← name_at bytes
-  rest ← after (32 ∷ []) kernel.1
-  global ← list_at rest
-  rest ← after (32 ∷ []) global.1
-  local ← list_at rest
+  kernel ← before 32 (name_at bytes)
+  global ← before 32 (list_at kernel.1)
+  local ← list_at global.1
   offset ← offset_at local.1
   Some (command.Launch kernel.0 (range_of global.0 local.0 offset.0), offset.1)
 
@@ -190,4 +202,7 @@ command_at bytes =
     (or_else (after (codes "kernel ") bytes) kernel_at
     (or_else (after (codes "arg ") bytes) arg_at
     (or_else (after (codes "launch ") bytes) launch_at
-    (or_else (after (codes "read ") bytes) read_at None))))))
+    (or_else (after (codes "read ") bytes) read_at
+    (or_else (after (codes "fill ") bytes) fill_at
+    (or_else (after (codes "copy ") bytes) copy_at
+    (or_else (after (codes "release ") bytes) release_at None)))))))))

@@ -5,7 +5,8 @@ use Rattle.clmodel.specs.declared.setup.Argument.{Argument}
 use Rattle.clmodel.specs.declared.setup.Argument.TheVariants as argument
 use Rattle.device_store.specs.declared.command.Command.{Command}
 use Rattle.device_store.specs.declared.command.Command.TheVariants as command
-use Rattle.simfile.specs.Fields.{joined, is_name, IsList, list_text, AreBytes, hex, IsValue}
+use Rattle.replay.specs.Pieces.{joined}
+use Rattle.simfile.specs.Fields.{is_name, IsList, list_text, AreBytes, hex, IsValue}
 
 abbrev pub line_feeds : List ℕ → ℕ
 line_feeds [] = 0
@@ -44,6 +45,14 @@ IsText text (command.Write buffer offset bytes) =
 IsText text (command.Read buffer offset count) =
     IsTrue (is_name buffer) × (offset < 2 ^ 64) × (count < 2 ^ 64)
     × (text ≡ joined (codes "read " ∷ buffer ∷ space ∷ decimal offset ∷ space ∷ decimal count ∷ line_feed ∷ []))
+IsText text (command.Fill buffer offset count pattern) =
+    IsTrue (is_name buffer) × (offset < 2 ^ 64) × (count < 2 ^ 64) × AreBytes pattern
+    × (text ≡ joined (codes "fill " ∷ buffer ∷ space ∷ decimal offset ∷ space ∷ decimal count ∷ space ∷ hex pattern ∷ line_feed ∷ []))
+IsText text (command.Copy source offset target target_offset count) =
+    IsTrue (is_name source) × (offset < 2 ^ 64) × IsTrue (is_name target) × (target_offset < 2 ^ 64) × (count < 2 ^ 64)
+    × (text ≡ joined (codes "copy " ∷ source ∷ space ∷ decimal offset ∷ space ∷ target ∷ space ∷ decimal target_offset ∷ space ∷ decimal count ∷ line_feed ∷ []))
+IsText text (command.Release name) =
+    IsTrue (is_name name) × (text ≡ joined (codes "release " ∷ name ∷ line_feed ∷ []))
 IsText text (command.Program name source) =
     IsTrue (is_name name)
     × ((n : ℕ) × (n ≤ 65536) × AreLines source n

@@ -6,7 +6,7 @@ ghost use Rattle.std.specs.Char.{is_ascii_digit};
 ghost use Rattle.std.specs.Option.{option_map, SomeIff};
 ghost use Rattle.std.specs.List.{list_all};
 ghost use Rattle.simfile.specs.Fields.{is_first, is_later, is_name, is_number, value_of, is_listed, is_list, numbers_of, is_hex_digit, hex_value, bytes_of};
-ghost use Rattle.simfile.specs.Reading.{after, front_length, name_at, number_at, negative_at, value_at, list_at, hex_at, lines_end, lines_at};
+ghost use Rattle.simfile.specs.Reading.{after, front_length, name_at, number_at, negative_at, value_at, list_at, hex_at, before, lines_end, lines_at};
 
 use clmodel::text::{Bytes, Numbers};
 use std::alloc::{AllocError, Global};
@@ -74,6 +74,16 @@ pub fn name_at(bytes: &[u8]) -> Option<(&[u8], &[u8])>
     Some((name, rest))
 }
 
+/// A name in front of a byte, and the rest behind that byte.
+#[tactic(auto, unfolding(crate::specs::Reading::before))]
+pub fn name_before(end: u8, bytes: &[u8]) -> Option<(&[u8], &[u8])>
+    ensures { option_map (λ read. (read.0.now, read.1.now)) result ≡ before end (name_at bytes.now) }
+{
+    let (field, rest) = name_at(bytes)?;
+    let rest = after(&[end], rest)?;
+    Some((field, rest))
+}
+
 fn number_end(bytes: &[u8]) -> Option<usize>
     ensures value { result ≡ position (λ b. not (is_ascii_digit b)) bytes.now }
     ensures within { IfSome result (λ end. end < length bytes.now) }
@@ -128,6 +138,16 @@ pub fn number_at(bytes: &[u8]) -> Option<(u64, &[u8])>
 {
     let (digits, rest) = bytes.split_at(number_length(bytes));
     Some((number_of(digits)?, rest))
+}
+
+/// A number in front of a byte, and the rest behind that byte.
+#[tactic(auto, unfolding(crate::specs::Reading::before))]
+pub fn number_before(end: u8, bytes: &[u8]) -> Option<(u64, &[u8])>
+    ensures { option_map (λ read. (read.0, read.1.now)) result ≡ before end (number_at bytes.now) }
+{
+    let (field, rest) = number_at(bytes)?;
+    let rest = after(&[end], rest)?;
+    Some((field, rest))
 }
 
 /// A number from 1 to 2^63 in front, as the one below 0, and the rest.
@@ -195,6 +215,16 @@ pub fn list_at(bytes: &[u8]) -> Option<(&[u8], &[u8])>
     Some((list, rest))
 }
 
+/// A list of numbers in front of a byte, and the rest behind that byte.
+#[tactic(auto, unfolding(crate::specs::Reading::before))]
+pub fn list_before(end: u8, bytes: &[u8]) -> Option<(&[u8], &[u8])>
+    ensures { option_map (λ read. (read.0.now, read.1.now)) result ≡ before end (list_at bytes.now) }
+{
+    let (field, rest) = list_at(bytes)?;
+    let rest = after(&[end], rest)?;
+    Some((field, rest))
+}
+
 /// The numbers of a list.
 pub fn numbers_of(alloc: Global, text: &[u8]) -> Result<Numbers, AllocError>
     ensures { IfOk result (λ numbers. numbers ≡ numbers_of text.now) }
@@ -230,7 +260,7 @@ const MAX_DIGITS: usize = 2_097_152;
 
 /// Pairs of hexadecimal digits in front, of 1 to 1,048,576 bytes, and the rest.
 #[tactic(auto, unfolding(crate::specs::Reading::hex_at))]
-pub fn hex_at(bytes: &[u8]) -> Option<(&[u8], &[u8])>
+fn hex_at(bytes: &[u8]) -> Option<(&[u8], &[u8])>
     ensures { option_map (λ read. (read.0.now, read.1.now)) result ≡ hex_at bytes.now }
 {
     let length = hex_length(bytes);
@@ -238,6 +268,16 @@ pub fn hex_at(bytes: &[u8]) -> Option<(&[u8], &[u8])>
         return None;
     }
     Some(bytes.split_at(length))
+}
+
+/// Pairs of hexadecimal digits, of 1 to 1,048,576 bytes, in front of a byte, and the rest behind that byte.
+#[tactic(auto, unfolding(crate::specs::Reading::before))]
+pub fn hex_before(end: u8, bytes: &[u8]) -> Option<(&[u8], &[u8])>
+    ensures { option_map (λ read. (read.0.now, read.1.now)) result ≡ before end (hex_at bytes.now) }
+{
+    let (field, rest) = hex_at(bytes)?;
+    let rest = after(&[end], rest)?;
+    Some((field, rest))
 }
 
 /// What a hexadecimal digit stands for, and 0 for another byte.
