@@ -22,11 +22,32 @@ pub enum Command {
         offset: u64,
         bytes: Bytes,
     },
+    /// Repeats a pattern over so many bytes of a buffer from an offset on, in place of those that were there (section 5.2.2,
+    /// clEnqueueFillBuffer). The pattern has 1, 2, 4, 8, 16, 32, 64 or 128 bytes, and offset and count are multiples of its length.
+    Fill {
+        buffer: Name,
+        offset: u64,
+        count: u64,
+        pattern: Bytes,
+    },
+    /// Copies so many bytes of a buffer from an offset on into a buffer, which may be the same, from an offset of its own on (section
+    /// 5.2.2, clEnqueueCopyBuffer).
+    Copy {
+        source: Name,
+        offset: u64,
+        target: Name,
+        target_offset: u64,
+        count: u64,
+    },
     /// Reads bytes of a buffer (section 5.2.2).
     Read {
         buffer: Name,
         offset: u64,
         count: u64,
+    },
+    /// Releases a buffer, a program or a kernel: its name is free again (sections 5.2.6, 5.6.1 and 5.7.1).
+    Release {
+        name: Name,
     },
     /// Builds a program of a source (sections 5.6.1 and 5.6.2).
     Program {
