@@ -45,6 +45,13 @@ new_kernel program function count = record { program = program; function = funct
 abbrev pub no_kernel : KernelState
 no_kernel = new_kernel [] 0 0
 
+-- an argument names a buffer
+abbrev pub names_buffer : List ℕ → Option Argument → Bool
+names_buffer name None = false
+names_buffer name (Some (argument.Buffer other)) = is name other
+names_buffer name (Some (argument.Value n)) = false
+names_buffer name (Some (argument.Local size)) = false
+
 abbrev pub is_local : AddressSpace → Bool
 is_local space.Global = false
 is_local space.Local = true

@@ -1,3 +1,4 @@
 pub mod Ranges
+pub mod Fills
 pub mod Kernels
 pub mod Builds

@@ -8,7 +8,7 @@ ghost use Rattle.std.specs.Option.{option_map, unwrap_or};
 ghost use Rattle.clmodel.specs.Tree.{program, func, then_funcs, NoFunc};
 ghost use Rattle.clmodel.specs.Setup.{kernel_in};
 ghost use Rattle.spaces_base.specs.Tables.{is, find};
-ghost use Rattle.device_store.specs.Kernels.{kernel_number, names_kernel, parameters_of, with_argument, new_kernel, no_kernel, is_in_range, suits};
+ghost use Rattle.device_store.specs.Kernels.{kernel_number, names_kernel, parameters_of, with_argument, new_kernel, names_buffer, no_kernel, is_in_range, suits};
 
 use clmodel::setup::Argument;
 use clmodel::text::Name;
@@ -46,6 +46,16 @@ fn none_given(alloc: Global, count: usize) -> Result<Vec<Option<Argument>>, Allo
         arguments.push(None)?;
     }
     Ok(arguments)
+}
+
+/// Whether an argument names a buffer.
+fn names_buffer(name: &Name, argument: &Option<Argument>) -> bool
+    ensures { result ≡ names_buffer name.now argument.now }
+{
+    match argument {
+        Some(Argument::Buffer(other)) => name == other,
+        _ => false,
+    }
 }
 
 impl Kernel {
@@ -91,6 +101,15 @@ impl Kernel {
         ensures { result ≡ list_any (λ argument. not (is_some argument)) self.now.arguments }
     {
         self.arguments.iter().any(|argument| !argument.is_some())
+    }
+
+    /// Whether one of its arguments names a buffer.
+    pub fn uses(&self, buffer: &Name) -> bool
+        ensures { result ≡ list_any (names_buffer buffer.now) self.now.arguments }
+    {
+        self.arguments
+            .iter()
+            .any(|argument| names_buffer(buffer, argument))
     }
 
     /// Sets the argument of an index, over an earlier one, if there is such a parameter.

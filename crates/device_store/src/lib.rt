@@ -3,5 +3,6 @@
 
 pub mod build;
 pub mod command;
+pub mod fills;
 pub mod kernel;
 pub mod ranges;

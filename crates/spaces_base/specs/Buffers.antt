@@ -1,5 +1,6 @@
 -- Buffers by their names (OpenCL 1.2, 5.2).
-use Rattle.std.specs.Prelude.{ℕ, ◌+◌, List, [], ◌++◌, length, take, drop}
+use Rattle.std.specs.Prelude.{ℕ, ◌+◌, ◌%◌, List, [], ◌++◌, length, take, drop, map, get_or}
+use Rattle.std.specs.List.{range_with_len}
 use Rattle.std.specs.Option.{unwrap_or}
 use Rattle.spaces_base.specs.Tables.{Table, find}
 
@@ -10,3 +11,7 @@ bytes_in buffers name = unwrap_or (find buffers name) []
 -- the bytes of a buffer with others from an offset on, in place of those that were there (5.2.2)
 abbrev pub with_bytes : List ℕ → ℕ → List ℕ → List ℕ
 with_bytes buffer offset bytes = take offset buffer ++ bytes ++ drop (offset + length bytes) buffer
+
+-- so many bytes of a pattern again and again, from its start (5.2.2)
+abbrev pub repeated : List ℕ → ℕ → List ℕ
+repeated pattern count = map (λ byte. get_or pattern (byte % length pattern) 0) (range_with_len 0 count)

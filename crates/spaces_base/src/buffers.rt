@@ -1,16 +1,48 @@
 //! Buffers by their names.
 #![tactic(auto)]
 
-ghost use Rattle.std.specs.Prelude.{◌≡◌, ◌≤◌, ◌+◌, length};
+ghost use Rattle.std.specs.Prelude.{◌≡◌, ◌<◌, ◌≤◌, ◌+◌, ◌%◌, length, take, drop, OnOk, OnErr};
 ghost use Rattle.std.specs.Map.{set_value};
 ghost use Rattle.spaces_base.specs.Tables.{is};
-ghost use Rattle.spaces_base.specs.Buffers.{bytes_in, with_bytes};
+ghost use Rattle.spaces_base.specs.Buffers.{bytes_in, with_bytes, repeated};
 
 use crate::table::Table;
 use clmodel::text::{Bytes, Name};
+use std::alloc::{AllocError, Global};
 
 /// The buffers of a device: names with their bytes (OpenCL 1.2, section 5.2.1).
 pub type Buffers = Table<Bytes>;
+
+/// How many bytes of a repeated pattern are written at once.
+const BLOCK: usize = 256;
+
+/// A block of a pattern again and again.
+fn block_of(pattern: &[u8]) -> [u8; BLOCK]
+    requires { 0 < length pattern.now }
+    ensures { result ≡ repeated pattern.now 256 }
+{
+    let mut block = [0; BLOCK];
+    for byte in 0..BLOCK {
+        block[byte] = pattern[byte % pattern.len()];
+    }
+    block
+}
+
+/// Repeats a pattern over so many bytes from an offset on, a block at a time.
+fn fill(buffer: &mut Bytes, offset: usize, count: usize, pattern: &[u8])
+    requires range { offset + count ≤ length buffer.old }
+    requires some { 0 < length pattern.now }
+    requires even { 256 % length pattern.now ≡ 0 }
+    ensures { buffer.new ≡ with_bytes buffer.old offset (repeated pattern.now count) }
+{
+    let _size = buffer.len();
+    let block = block_of(pattern);
+    let whole = count / BLOCK;
+    for i in 0..whole {
+        buffer.put(offset + i * BLOCK, &block);
+    }
+    buffer.put(offset + whole * BLOCK, &block[..count % BLOCK]);
+}
 
 impl Table<Bytes> {
     /// Writes bytes into the buffer of a name from an offset on, in place of those that were there (OpenCL 1.2, section 5.2.2).
@@ -22,5 +54,44 @@ impl Table<Bytes> {
         if let Some(buffer) = self.get_mut(name) {
             buffer.put(offset, bytes);
         }
+    }
+
+    /// Repeats a pattern, whose length divides 256, over so many bytes of the buffer of a name from an offset on, in place of those
+    /// that were there (OpenCL 1.2, section 5.2.2). It takes no memory, and writes 256 bytes at a time.
+    #[tactic(auto, using(crate::proofs::Tables::unreplaced))]
+    pub fn fill(&mut self, name: &Name, offset: usize, count: usize, pattern: &[u8])
+        requires range { offset + count ≤ length (bytes_in self.old name.now) }
+        requires some { 0 < length pattern.now }
+        requires even { 256 % length pattern.now ≡ 0 }
+        ensures { self.new ≡ set_value (is name.now) self.old (with_bytes (bytes_in self.old name.now) offset (repeated pattern.now count)) }
+    {
+        if let Some(buffer) = self.get_mut(name) {
+            fill(buffer, offset, count, pattern);
+        }
+    }
+
+    /// Copies so many bytes of a buffer from an offset on into a buffer, which may be the same, from an offset of its own on, in place
+    /// of those that were there (OpenCL 1.2, section 5.2.2). All are read before the first is written. An error is want of memory,
+    /// and nothing is copied.
+    pub fn copy(
+        &mut self,
+        alloc: Global,
+        source: &Name,
+        offset: usize,
+        target: &Name,
+        target_offset: usize,
+        count: usize,
+    ) -> Result<(), AllocError>
+        requires some { 0 < count }
+        requires source { offset + count ≤ length (bytes_in self.old source.now) }
+        requires target { target_offset + count ≤ length (bytes_in self.old target.now) }
+        ensures ok { OnOk result (self.new ≡ set_value (is target.now) self.old (with_bytes (bytes_in self.old target.now) target_offset (take count (drop offset (bytes_in self.old source.now))))) }
+        ensures err { OnErr result (self.new ≡ self.old) }
+    {
+        if let Some(bytes) = self.get(source) {
+            let copied = Bytes::copy_of(alloc, &bytes.as_slice()[offset..offset + count])?;
+            self.write(target, target_offset, copied.as_slice());
+        }
+        Ok(())
     }
 }

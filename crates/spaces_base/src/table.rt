@@ -2,7 +2,8 @@
 #![tactic(auto)]
 
 ghost use Rattle.std.specs.Prelude.{◌≡◌, ◌∷◌, [], ◌++◌, None, length, OnOk, OnErr};
-ghost use Rattle.std.specs.Map.{set_value};
+ghost use Rattle.std.specs.Map.{remove_entry, set_value, values_of};
+ghost use Rattle.std.specs.Map.Iter.{ShowsInOrder, deref};
 ghost use Rattle.std.specs.Option.{option_map, option_copied_mut};
 ghost use Rattle.std.specs.Borrow.{sem, LendsIf};
 ghost use Rattle.spaces_base.specs.Tables.{is, find, with_values};
@@ -10,6 +11,7 @@ ghost use Rattle.spaces_base.specs.contracts.table.Table.{the_row};
 
 use clmodel::text::Name;
 use indexmap::IndexMap;
+use indexmap::map::Values;
 use std::alloc::{AllocError, Global};
 use std::marker::Model;
 
@@ -78,6 +80,21 @@ impl<T: Drop> Table<T> {
         if let Some(place) = self.get_mut(name) {
             *place = value;
         }
+    }
+
+    /// Removes what has the name, if something has it; the others keep their order. It takes time in proportion to their number.
+    pub fn remove(&mut self, name: &Name)
+        ensures { self.new ≡ remove_entry (is name.now) self.old }
+    {
+        self.map.shift_remove(name);
+    }
+
+    /// What the names name, in the order in which they were declared.
+    pub fn values(&self) -> Values<'_, Name, T>
+        ensures rest { result ≡ values_of self.now }
+        ensures runs { ShowsInOrder (deref {X = T}) }
+    {
+        self.map.values()
     }
 
     /// Puts values in the places of what has these names, one after another, as far as there are both.
