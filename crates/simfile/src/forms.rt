@@ -3,7 +3,7 @@
 
 ghost use Rattle.std.specs.Prelude.{◌≡◌};
 ghost use Rattle.std.specs.Option.{option_map};
-ghost use Rattle.simfile.specs.Reading.{buffer_at, write_at, fill_at, copy_at, read_at, release_at, program_at, source_at, kernel_at, argument_at, arg_at, offset_at, launch_at, command_at};
+ghost use Rattle.simfile.specs.Reading.{buffer_at, write_at, fill_at, copy_at, read_at, release_at, program_at, source_at, kernel_at, buffer_argument_at, value_argument_at, local_argument_at, argument_at, arg_at, offset_at, launch_at, command_at};
 ghost use Rattle.simfile.specs.Views.{argument_of, command_of};
 
 use crate::fields::{
@@ -194,22 +194,42 @@ fn kernel_at(bytes: &[u8]) -> Option<(Line<'_>, &[u8])>
     Some((line, rest))
 }
 
+#[tactic(auto, unfolding(crate::specs::Reading::buffer_argument_at))]
+fn buffer_argument_at(bytes: &[u8]) -> Option<(Setting<'_>, &[u8])>
+    ensures { option_map (λ read. (argument_of read.0, read.1.now)) result ≡ buffer_argument_at bytes.now }
+{
+    let (buffer, rest) = name_at(bytes)?;
+    Some((Setting::Buffer(buffer), rest))
+}
+
+#[tactic(auto, unfolding(crate::specs::Reading::value_argument_at))]
+fn value_argument_at(bytes: &[u8]) -> Option<(Setting<'_>, &[u8])>
+    ensures { option_map (λ read. (argument_of read.0, read.1.now)) result ≡ value_argument_at bytes.now }
+{
+    let (value, rest) = value_at(bytes)?;
+    Some((Setting::Value(value), rest))
+}
+
+#[tactic(auto, unfolding(crate::specs::Reading::local_argument_at))]
+fn local_argument_at(bytes: &[u8]) -> Option<(Setting<'_>, &[u8])>
+    ensures { option_map (λ read. (argument_of read.0, read.1.now)) result ≡ local_argument_at bytes.now }
+{
+    let (size, rest) = number_at(bytes)?;
+    Some((Setting::Local(size), rest))
+}
+
 /// What an argument is set to, by its word, and the rest.
-#[tactic(auto, unfolding(crate::specs::Reading::argument_at, crate::specs::Reading::buffer_argument_at, crate::specs::Reading::value_argument_at, crate::specs::Reading::local_argument_at))]
+#[tactic(auto, unfolding(crate::specs::Reading::argument_at))]
 fn argument_at(bytes: &[u8]) -> Option<(Setting<'_>, &[u8])>
     ensures { option_map (λ read. (argument_of read.0, read.1.now)) result ≡ argument_at bytes.now }
 {
     if let Some(rest) = after(b" buffer ", bytes) {
-        let (buffer, rest) = name_at(rest)?;
-        return Some((Setting::Buffer(buffer), rest));
+        return buffer_argument_at(rest);
     }
     if let Some(rest) = after(b" value ", bytes) {
-        let (value, rest) = value_at(rest)?;
-        return Some((Setting::Value(value), rest));
+        return value_argument_at(rest);
     }
-    let rest = after(b" local ", bytes)?;
-    let (size, rest) = number_at(rest)?;
-    Some((Setting::Local(size), rest))
+    local_argument_at(after(b" local ", bytes)?)
 }
 
 #[tactic(auto, unfolding(crate::specs::Reading::arg_at))]
