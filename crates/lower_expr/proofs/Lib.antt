@@ -3,3 +3,4 @@ pub mod Patches
 pub mod Index
 pub mod Arguments
 pub mod Expressions
+pub mod Lengths
