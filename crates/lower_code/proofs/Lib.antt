@@ -1,3 +1,6 @@
+pub mod Lengths
+pub mod Drafts
+pub mod Tables
 pub mod Chosen
 pub mod Helpers
 pub mod Calling

@@ -2,7 +2,6 @@
 use Rattle.std.proofs.Common.{◌≡◌, ℕ, zero, suc, ◌+◌, ◌<◌, ◌≤◌, cond, List, [], ◌∷◌, map, length, take, get_or, refl, sym, ap, ◌∙◌, Vec, arith, Option, None, Some, Box, Bor, eq-eqb, ne_eqb}
 use Rattle.std.specs.declared.alloc.Global.{Global}
 use mathlib.Core.Former.{Count}
-use denote.Param.Weighed.{most}
 use Rattle.clmodel.specs.declared.tree.Function.{Function}
 use Rattle.clmodel.specs.declared.tree.Statement as rust_statement
 use Rattle.clmodel.specs.declared.tree.Statement.{Statement, size-Statement}
@@ -41,21 +40,6 @@ pub functions_more : (gs : List Function) (i : ℕ) (g : Function) → i < lengt
 functions_more gs i g h p =
     let e : i + 1 ≡ suc i = omega arith in
     ap (λ n. functions_of (take n gs)) e ∙ funcs_more NoFunc gs i g h ∙ ap (λ x. ThenFunc (functions_of (take i gs)) (func x)) (sym p)
-
--- how deep the statements of functions are, which bounds the calls in them
-abbrev pub weight : List Function → ℕ
-weight [] = 0
-weight (g ∷ gs) = 2 + most size-Statement g.body.items + weight gs
-
-pub weight_at : (gs : List Function) (i : ℕ) (d : Function) → i < length gs
-    → 2 + most size-Statement (get_or gs i d).body.items + weight (take i gs) ≤ weight gs
-weight_at [] i d h = absurd (omega arith)
-weight_at (g ∷ gs) zero d h = omega arith
-weight_at (g ∷ gs) (suc i) d h = omega (arith, weight_at gs i d (omega arith))
-
-pub weight_of : (gs : List Function) (i : ℕ) (g : Function) → i < length gs → g ≡ get_or gs i g
-    → 2 + most size-Statement g.body.items + weight (take i gs) ≤ weight gs
-weight_of gs i g h p = omega (arith, weight_at gs i g h, ap (λ x. most size-Statement x.body.items) p)
 
 -- the barriers in the helper of a name, with one function more
 pub inside_hit : (gs : List Function) (i name : ℕ) (g : Function) → i < length gs → g ≡ get_or gs i g → name ≡ g.name

@@ -1,6 +1,6 @@
 -- Rows of statements, choices and loops from their parts.
-use Rattle.std.proofs.Common.{◌≡◌, ℕ, ◌+◌, ◌-◌, List, ◌∷◌, ◌++◌, length, Option, refl, ap, ap₂, sym, ◌∙◌, arith}
-use Rattle.std.proofs.lemmas.List.{append_assoc, length-append}
+use Rattle.std.proofs.Common.{◌≡◌, ℕ, ◌+◌, ◌-◌, List, [], ◌∷◌, ◌++◌, length, Option, ap, ap₂, sym, ◌∙◌, arith}
+use Rattle.std.proofs.lemmas.List.{append_assoc, append-nil, length-append}
 use Rattle.clnum.specs.declared.int_type.IntType.{IntType}
 use Rattle.std.proofs.Common.{Result, OnOk}
 use Rattle.std.proofs.lemmas.Result.{on_ok_weaker}
@@ -12,11 +12,11 @@ use Rattle.regcode.specs.declared.instruction.Instruction.TheVariants as instruc
 use Rattle.lower_expr.specs.Scope.{Scope, free_level}
 use Rattle.lower_expr.specs.Expressions.{expr_code, register_for}
 use Rattle.lower_place.specs.Variables.{scope_after_all}
-use Rattle.lower_code.specs.Code.{Calls, Exits, past, body_exits, stmt_code, stmts_code, part_code, call_code, result_in, if_else_code, condition_code, while_code}
-use Rattle.lower_code.specs.Emission.{functions_of, inside, exits_of, statement_code, maybe_code, turns_code}
+use Rattle.lower_code.specs.Code.{Calls, Exits, past, body_exits, stmt_code, stmts_code, part_code, call_code, result_in, if_else_code, condition_code}
+use Rattle.lower_code.specs.Emission.{functions_of, inside, exits_of, statement_code, maybe_code, once_code, inner_code}
 use Rattle.lower_code.specs.declared.positions.Exits as declared
 use Rattle.lower_code.specs.declared.positions.Position.{Position}
-use Rattle.lower_code.specs.declared.positions.Setting.{Setting}
+use Rattle.lower_code.specs.declared.holes.Setting.{Setting}
 
 past_past : (a b : ℕ) (e : Exits) → past a (past b e) ≡ past (a + b) e
 past_past a b e =
@@ -64,7 +64,7 @@ pub placed : (r : Result (Unit {0}) AllocError) (new old one two : List Instruct
 placed r new old one two e h = on_ok_weaker {P = new ≡ one ++ old} {Q = new ≡ two ++ old} r (λ k. k ∙ ap (λ xs. xs ++ old) e) h
 
 pub choice_placed : (s : Setting) (scope middle later : Scope) (p : Position) (test : Term) (chosen otherwise : Stmt) (site : ℕ) (exits : declared.Exits) (old one two three four : List Instruction) (by added over : ℕ)
-    → site ≡ p.site + sites (inside s.functions.now) chosen
+    → site ≡ p.site + sites (inside s.helpers.functions.now) chosen
     → one ≡ statement_code s scope otherwise (record { depth = p.depth; site = site; exits = p.exits }) ++ old
     → middle ≡ scope → later ≡ middle
     → by ≡ length one - length old → two ≡ instruction.Jump by ∷ one
@@ -75,8 +75,8 @@ pub choice_placed : (s : Setting) (scope middle later : Scope) (p : Position) (t
     → four ≡ statement_code s scope (IfElse 0 test chosen otherwise) p ++ old
 choice_placed s scope middle later p test chosen otherwise site exits old one two three four by added over site_is one_is middle_is later_is by_is two_is added_is exits_is three_is over_is four_is =
     let code : Scope → Stmt → ℕ → Exits → List Instruction =
-    λ c d n e. stmt_code (call_code (functions_of s.functions.now)) (result_in (functions_of s.functions.now)) (inside s.functions.now) s.result c d p.depth n e in
-    let second = code scope otherwise (p.site + sites (inside s.functions.now) chosen) (exits_of p.exits) in
+    λ c d n e. stmt_code (call_code (functions_of s.helpers.functions.now)) (result_in (functions_of s.helpers.functions.now)) (inside s.helpers.functions.now) s.result c d p.depth n e in
+    let second = code scope otherwise (p.site + sites (inside s.helpers.functions.now) chosen) (exits_of p.exits) in
     let first = code scope chosen p.site (past (length second + 1) (exits_of p.exits)) in
     let one_at : one ≡ second ++ old = one_is ∙ ap (λ n. code scope otherwise n (exits_of p.exits) ++ old) site_is in
     let size = longer second old one one_at in
@@ -88,29 +88,43 @@ choice_placed s scope middle later p test chosen otherwise site exits old one tw
     four_is ∙ ap (λ (c : Scope). expr_code c (free_level c) test ++ (instruction.JumpIfZero (register_for c (free_level c) test) over ∷ three)) (later_is ∙ middle_is) in
     choice_laid (expr_code scope (free_level scope) test) first second old one two three four (register_for scope (free_level scope) test) by over one_at by_is two_is three_at over_is four_at
 
-pub turns_placed : (s : Setting) (scope middle : Scope) (p : Position) (first : MaybeStmt) (test : MaybeTerm) (third : MaybeStmt) (body : Stmt) (depth behind site : ℕ) (last_exits turn_exits : declared.Exits)
-    (old one two three four : List Instruction) (added more : ℕ)
-    → depth ≡ p.depth + 1 → behind ≡ p.site + part_sites (inside s.functions.now) first → site ≡ behind + part_sites (inside s.functions.now) third
-    → one ≡ condition_code scope test ++ (instruction.Back 0 ∷ old)
-    → added ≡ length one - length old → exits_of last_exits ≡ body_exits added (exits_of p.exits)
+-- code that is put before none
+pub begun : (xs old new : List Instruction) → old ≡ [] → new ≡ xs ++ old → new ≡ xs
+begun xs old new e n = n ∙ ap (λ ys. xs ++ ys) e ∙ append-nil xs
+
+pub once_placed : (s : Setting) (scope : Scope) (p : Position) (body : Stmt) (test : MaybeTerm) (depth : ℕ) (exits : declared.Exits) (one two : List Instruction) (added : ℕ)
+    → depth ≡ p.depth + 1 → one ≡ condition_code scope test → added ≡ length one - 0 + 1 → exits_of exits ≡ body_exits added (exits_of p.exits)
+    → two ≡ statement_code s scope body (record { depth = depth; site = p.site; exits = exits }) ++ one
+    → two ≡ once_code s scope body test p ++ condition_code scope test
+once_placed s scope p body test depth exits one two added depth_is one_is added_is exits_is two_is =
+    let code : ℕ → Exits → List Instruction =
+    λ d e. stmt_code (call_code (functions_of s.helpers.functions.now)) (result_in (functions_of s.helpers.functions.now)) (inside s.helpers.functions.now) s.result scope body d p.site e in
+    let size = ap length one_is in
+    let added_at : added ≡ length (condition_code scope test) + 1 = omega (arith, added_is, size) in
+    two_is ∙ ap₂ (λ d xs. code d (exits_of exits) ++ xs) depth_is one_is
+    ∙ ap (λ e. code (p.depth + 1) e ++ condition_code scope test) (exits_is ∙ ap (λ n. body_exits n (exits_of p.exits)) added_at)
+
+pub inner_placed : (s : Setting) (scope middle : Scope) (p : Position) (first : MaybeStmt) (test : MaybeTerm) (third : MaybeStmt) (body : Stmt) (depth behind site : ℕ) (last_exits turn_exits : declared.Exits)
+    (one two three : List Instruction) (added more : ℕ)
+    → depth ≡ p.depth + 1 → behind ≡ p.site + part_sites (inside s.helpers.functions.now) first → site ≡ behind + part_sites (inside s.helpers.functions.now) third
+    → one ≡ condition_code scope test
+    → added ≡ length one - 0 + 1 → exits_of last_exits ≡ body_exits added (exits_of p.exits)
     → two ≡ maybe_code s scope third (record { depth = depth; site = behind; exits = last_exits }) ++ one
     → middle ≡ scope
-    → more ≡ length two - length old → exits_of turn_exits ≡ body_exits more (exits_of p.exits)
+    → more ≡ length two - 0 + 1 → exits_of turn_exits ≡ body_exits more (exits_of p.exits)
     → three ≡ statement_code s middle body (record { depth = depth; site = site; exits = turn_exits }) ++ two
-    → ((inner condition rest : List Instruction) → three ≡ inner ++ (condition ++ instruction.Back 0 ∷ rest) → length old ≡ length rest
-    → length one ≡ length (condition ++ instruction.Back 0 ∷ rest) → four ≡ while_code p.depth inner condition ++ rest)
-    → four ≡ turns_code s scope first test third body p ++ old
-turns_placed s scope middle p first test third body depth behind site last_exits turn_exits old one two three four added more depth_is behind_is site_is one_is added_is last_is two_is middle_is more_is turn_is three_is laid =
-    let calls = call_code (functions_of s.functions.now) in
-    let results = result_in (functions_of s.functions.now) in
-    let barriers = inside s.functions.now in
+    → three ≡ inner_code s scope first test third body p ++ condition_code scope test
+inner_placed s scope middle p first test third body depth behind site last_exits turn_exits one two three added more depth_is behind_is site_is one_is added_is last_is two_is middle_is more_is turn_is three_is =
+    let calls = call_code (functions_of s.helpers.functions.now) in
+    let results = result_in (functions_of s.helpers.functions.now) in
+    let barriers = inside s.helpers.functions.now in
     let condition = condition_code scope test in
     let part : ℕ → ℕ → Exits → List Instruction = λ d n e. part_code calls results barriers s.result scope third d n e in
     let code : Scope → ℕ → ℕ → Exits → List Instruction = λ c d n e. stmt_code calls results barriers s.result c body d n e in
     let behind_first = p.site + part_sites barriers first in
     let last = part (p.depth + 1) behind_first (body_exits (length condition + 1) (exits_of p.exits)) in
     let turn = code scope (p.depth + 1) (behind_first + part_sites barriers third) (body_exits (length last + length condition + 1) (exits_of p.exits)) in
-    let size = longer condition (instruction.Back 0 ∷ old) one one_is in
+    let size = ap length one_is in
     let added_at : added ≡ length condition + 1 = omega (arith, added_is, size) in
     let two_at : two ≡ last ++ one =
     two_is ∙ ap₂ (λ d n. part d n (exits_of last_exits) ++ one) depth_is behind_is
@@ -120,6 +134,4 @@ turns_placed s scope middle p first test third body depth behind site last_exits
     let three_at : three ≡ turn ++ two =
     three_is ∙ ap₂ (λ c d. code c d site (exits_of turn_exits) ++ two) middle_is depth_is
     ∙ ap₂ (λ n e. code scope (p.depth + 1) n e ++ two) (site_is ∙ ap (λ n. n + part_sites barriers third) behind_is) (turn_is ∙ ap (λ n. body_exits n (exits_of p.exits)) more_at) in
-    laid (turn ++ last) condition old
-    (three_at ∙ ap (λ xs. turn ++ xs) (two_at ∙ ap (λ xs. last ++ xs) one_is) ∙ sym (append_assoc turn last (condition ++ instruction.Back 0 ∷ old)))
-    refl (ap length one_is)
+    three_at ∙ ap (λ xs. turn ++ xs) (two_at ∙ ap (λ xs. last ++ xs) one_is) ∙ sym (append_assoc turn last condition)

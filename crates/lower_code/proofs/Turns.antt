@@ -1,6 +1,6 @@
 -- The loops in code that is kept backwards.
-use Rattle.std.proofs.Common.{◌≡◌, ℕ, ◌+◌, List, [], ◌∷◌, ◌++◌, length, ap, sym, ◌∙◌, arith}
-use Rattle.std.proofs.lemmas.List.{length-append, append_assoc}
+use Rattle.std.proofs.Common.{◌≡◌, ℕ, ◌+◌, List, [], ◌∷◌, ◌++◌, length, ap, sym, ◌∙◌}
+use Rattle.std.proofs.lemmas.List.{append_assoc}
 use Rattle.regcode.specs.declared.instruction.Instruction.{Instruction}
 use Rattle.regcode.specs.declared.instruction.Instruction.TheVariants as instruction
 use Rattle.lower_code.specs.Code.{turn_code}
@@ -14,9 +14,3 @@ turn_laid depth by body condition rest e =
     (append_assoc body condition (instruction.Back (length body + length condition + 1) ∷ rest)
     ∙ ap (λ xs. body ++ xs) (sym (append_assoc condition (instruction.Back (length body + length condition + 1) ∷ []) rest))
     ∙ sym (append_assoc body (condition ++ instruction.Back (length body + length condition + 1) ∷ []) rest))
-
-pub turn_length : (depth : ℕ) (body condition rest : List Instruction)
-    → length (turn_code depth body condition ++ rest) ≡ 1 + length body + length (condition ++ instruction.Back 0 ∷ rest)
-turn_length depth body condition rest =
-    let back = instruction.Back (length body + length condition + 1) in
-    omega (arith, length-append (turn_code depth body condition) rest, length-append body (condition ++ back ∷ []), length-append condition (back ∷ []), length-append condition (instruction.Back 0 ∷ rest))

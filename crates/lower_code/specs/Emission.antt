@@ -1,10 +1,10 @@
 -- How the code of statements is emitted (own).
-use Rattle.std.specs.Prelude.{ℕ, ◌+◌, ◌++◌, Bool, true, false, length, Option, None, Some, Box, List, [], ◌∷◌, map, take}
+use Rattle.std.specs.Prelude.{ℕ, ◌+◌, ◌++◌, Bool, true, false, length, Option, None, Some, Box, List, [], ◌∷◌, take}
 use Rattle.std.specs.declared.alloc.Global.{Global}
 use Rattle.std.specs.Borrow.{Bor}
 use Rattle.clnum.specs.declared.int_type.IntType.{IntType}
-use Rattle.clmodel.specs.Next.{sites_in, part_sites}
-use Rattle.clmodel.specs.Tree.{Stmt, Stmts, stmt, MaybeStmt, Without, With, MaybeTerm, Always, While_, term, Funcs, NoFunc, then_funcs, func}
+use Rattle.clmodel.specs.Next.{part_sites, all_sites}
+use Rattle.clmodel.specs.Tree.{Stmt, Stmts, stmt, MaybeStmt, Without, With, MaybeTerm, Always, While_, term}
 use Rattle.clmodel.specs.declared.tree.Expression.{Expression}
 use Rattle.clmodel.specs.declared.tree.Function.{Function}
 use Rattle.clmodel.specs.declared.tree.Statement as statement
@@ -12,14 +12,16 @@ use Rattle.clmodel.specs.declared.tree.Statement.{Statement}
 use Rattle.regcode.specs.declared.instruction.Instruction.{Instruction}
 use Rattle.regcode.specs.declared.instruction.Instruction.TheVariants as instruction
 use Rattle.lower_expr.specs.Scope.{Scope}
+use Rattle.lower_place.specs.Emission.{all_of}
 use Rattle.lower_code.specs.Code as spec
-use Rattle.lower_code.specs.Code.{Calls, stmt_code, stmts_code, part_code, call_code, pass_code, body_code, result_in, condition_code, body_exits, while_code}
+use Rattle.lower_code.specs.Code.{Calls, stmt_code, stmts_code, part_code, call_code, pass_code, result_in, condition_code, body_exits, while_code}
+pub use Rattle.lower_code.specs.Helpers.{functions_of, inside, body_of}
 use Rattle.lower_code.specs.declared.assignments.Call.{Call}
 use Rattle.lower_code.specs.declared.assignments.Split.{Split}
 use Rattle.lower_code.specs.declared.functions.Found.{Found}
 use Rattle.lower_code.specs.declared.positions.Exits.{Exits}
 use Rattle.lower_code.specs.declared.positions.Position.{Position}
-use Rattle.lower_code.specs.declared.positions.Setting.{Setting}
+use Rattle.lower_code.specs.declared.holes.Setting.{Setting}
 use Rattle.lower_code.specs.declared.sites.Callee.{Callee}
 use Rattle.lower_code.specs.declared.sites.Callee.TheVariants as callee
 
@@ -47,9 +49,6 @@ is_jump (statement.Continue at) = true
 is_jump (statement.Return at value) = true
 is_jump _ = false
 
-abbrev pub functions_of : List Function → Funcs
-functions_of functions = then_funcs NoFunc (map func functions)
-
 abbrev pub boxed_part : Option (Box Statement Global) → MaybeStmt
 boxed_part None = Without
 boxed_part (Some s) = With (stmt s.value)
@@ -57,10 +56,6 @@ boxed_part (Some s) = With (stmt s.value)
 abbrev pub test_of : Option (Bor Expression) → MaybeTerm
 test_of None = Always
 test_of (Some e) = While_ (term e.now)
-
--- the barriers in each function
-abbrev pub inside : List Function → ℕ → ℕ
-inside functions = sites_in (functions_of functions)
 
 -- the barriers in what a name calls
 abbrev pub callee_sites : (ℕ → ℕ) → Callee → ℕ
@@ -73,12 +68,17 @@ abbrev pub found_code : List Function → Option Found → List ℕ → ℕ → 
 found_code functions None arguments level depth site = instruction.End ∷ []
 found_code functions (Some f) arguments level depth site =
     pass_code f.function.now.parameters.items arguments level
-    ++ body_code (call_code (functions_of (take f.place functions))) (result_in (functions_of (take f.place functions))) (inside (take f.place functions)) (func f.function.now) level depth site
+    ++ body_of (take f.place functions) f.function.now level depth site
 
 -- the type of its value
 abbrev pub found_result : Option Found → Option IntType
 found_result None = None
 found_result (Some f) = f.function.now.result
+
+-- the barriers in it
+abbrev pub found_sites : List Function → Option Found → ℕ
+found_sites functions None = 0
+found_sites functions (Some f) = all_sites (inside (take f.place functions)) (all_of f.function.now.body.items)
 
 -- the body of a helper that is called
 abbrev pub called_code : Calls → Option Call → ℕ → ℕ → List Instruction
@@ -95,23 +95,33 @@ exits_of exits = record { broken = exits.broken; continued = exits.continued; re
 -- the code of a statement, of a part of a `for` and of statements in a setting at a position
 abbrev pub statement_code : Setting → Scope → Stmt → Position → List Instruction
 statement_code s scope statement p =
-    stmt_code (call_code (functions_of s.functions.now)) (result_in (functions_of s.functions.now)) (inside s.functions.now) s.result scope statement p.depth p.site (exits_of p.exits)
+    stmt_code (call_code (functions_of s.helpers.functions.now)) (result_in (functions_of s.helpers.functions.now)) (inside s.helpers.functions.now) s.result scope statement p.depth p.site (exits_of p.exits)
 
 abbrev pub maybe_code : Setting → Scope → MaybeStmt → Position → List Instruction
 maybe_code s scope part p =
-    part_code (call_code (functions_of s.functions.now)) (result_in (functions_of s.functions.now)) (inside s.functions.now) s.result scope part p.depth p.site (exits_of p.exits)
+    part_code (call_code (functions_of s.helpers.functions.now)) (result_in (functions_of s.helpers.functions.now)) (inside s.helpers.functions.now) s.result scope part p.depth p.site (exits_of p.exits)
 
 abbrev pub row_code : Setting → Scope → Stmts → Position → List Instruction
 row_code s scope statements p =
-    stmts_code (call_code (functions_of s.functions.now)) (result_in (functions_of s.functions.now)) (inside s.functions.now) s.result scope statements p.depth p.site (exits_of p.exits)
+    stmts_code (call_code (functions_of s.helpers.functions.now)) (result_in (functions_of s.helpers.functions.now)) (inside s.helpers.functions.now) s.result scope statements p.depth p.site (exits_of p.exits)
 
--- a `for` behind its first part, whose variable is in scope
-abbrev pub turns_code : Setting → Scope → MaybeStmt → MaybeTerm → MaybeStmt → Stmt → Position → List Instruction
-turns_code s scope first test third body p =
-    let calls = call_code (functions_of s.functions.now) in
-    let results = result_in (functions_of s.functions.now) in
-    let barriers = inside s.functions.now in
+-- the body of a loop that begins with it
+abbrev pub once_code : Setting → Scope → Stmt → MaybeTerm → Position → List Instruction
+once_code s scope body test p =
+    stmt_code (call_code (functions_of s.helpers.functions.now)) (result_in (functions_of s.helpers.functions.now)) (inside s.helpers.functions.now) s.result scope body (p.depth + 1) p.site
+    (body_exits (length (condition_code scope test) + 1) (exits_of p.exits))
+
+-- the body and the third part of a `for`, behind which its condition stands
+abbrev pub inner_code : Setting → Scope → MaybeStmt → MaybeTerm → MaybeStmt → Stmt → Position → List Instruction
+inner_code s scope first test third body p =
+    let calls = call_code (functions_of s.helpers.functions.now) in
+    let results = result_in (functions_of s.helpers.functions.now) in
+    let barriers = inside s.helpers.functions.now in
     let condition = condition_code scope test in
     let last = part_code calls results barriers s.result scope third (p.depth + 1) (p.site + part_sites barriers first) (body_exits (length condition + 1) (exits_of p.exits)) in
     let turn = stmt_code calls results barriers s.result scope body (p.depth + 1) (p.site + part_sites barriers first + part_sites barriers third) (body_exits (length last + length condition + 1) (exits_of p.exits)) in
-    while_code p.depth (turn ++ last) condition
+    turn ++ last
+
+-- a `for` behind its first part, whose variable is in scope
+abbrev pub turns_code : Setting → Scope → MaybeStmt → MaybeTerm → MaybeStmt → Stmt → Position → List Instruction
+turns_code s scope first test third body p = while_code p.depth (inner_code s scope first test third body p) (condition_code scope test)

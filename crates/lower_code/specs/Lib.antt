@@ -1,2 +1,4 @@
 pub mod Code
+pub mod Helpers
+pub mod Parts
 pub mod Emission

@@ -13,6 +13,7 @@ ghost use Rattle.lower_code.specs.Code as spec;
 ghost use Rattle.lower_code.specs.Code.{Calls, result_in};
 ghost use Rattle.lower_code.specs.Emission.{functions_of, split_code};
 
+use crate::draft::Draft;
 use crate::functions::find;
 use clmodel::action::Fences;
 use clmodel::barrier::{fences, is_barrier};
@@ -23,7 +24,6 @@ use lower_expr::emission::{emit_arguments, emit_expression};
 use lower_expr::scope::{Scope, level_above, level_at, register_at};
 use lower_expr::tails::{add, call_only};
 use lower_expr::types::call_type;
-use lower_place::backward::Backward;
 use lower_place::destinations::{combine, destination_type, fetch, put, reach};
 use regcode::Instruction;
 use smallvec::SmallVec;
@@ -227,7 +227,7 @@ pub fn put_step(
     scope: &Scope,
     target: &Target,
     is_increment: bool,
-    code: &mut Backward,
+    code: &mut Draft<'_>,
 ) -> Result<(), AllocError>
     ensures { OnOk result ((calls : Calls) (results : ℕ → Option IntType) (inside : ℕ → ℕ) (kind : Option IntType)
         → code.new ≡ spec.step_code calls results inside kind scope.now (free_level scope.now) (place target.now) (next.step_operator is_increment) ++ code.old) }

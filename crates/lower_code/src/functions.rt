@@ -6,7 +6,7 @@ ghost use Rattle.std.specs.Option.{option_map};
 ghost use Rattle.clmodel.specs.Setup.{kernel_in, functions_before};
 ghost use Rattle.clmodel.specs.Tree.{func};
 ghost use Rattle.lower_code.specs.Code.{call_code, result_in};
-ghost use Rattle.lower_code.specs.Emission.{functions_of, found_code, found_result};
+ghost use Rattle.lower_code.specs.Emission.{functions_of, inside, found_code, found_result, found_sites};
 
 use clmodel::tree::Function;
 
@@ -21,6 +21,7 @@ pub struct Found<'a> {
 pub fn find(functions: &[Function], name: u32) -> Option<Found<'_>>
     ensures code { (arguments : List ℕ) (level depth site : ℕ) → call_code (functions_of functions.now) name arguments level depth site ≡ found_code functions.now result arguments level depth site }
     ensures value { result_in (functions_of functions.now) name ≡ found_result result }
+    ensures sites { inside functions.now name ≡ found_sites functions.now result }
     ensures within { IfSome result (λ found. found.place < length functions.now) }
     ensures there { IfSome result (λ found. found.function.now ≡ get_or functions.now found.place found.function.now) }
 {

@@ -7,8 +7,12 @@ ghost use Rattle.clmodel.specs.Tree.{Func, NoFunc, func, then_funcs};
 ghost use Rattle.lower_code.specs.Code.{kernel_code};
 ghost use Rattle.lower_code.specs.Emission.{functions_of};
 
+use crate::draft::Draft;
+use crate::expansion::expand;
 use crate::functions::kernel_named;
+use crate::holes::Helpers;
 use crate::statements::emit_body;
+use crate::table::known_of_all;
 use clmodel::tree::Function;
 use lower_place::backward::Backward;
 use lower_place::variables::put_arguments;
@@ -18,16 +22,18 @@ use std::alloc::{AllocError, Global};
 /// The code of a kernel that stands behind these functions.
 fn emit_function(
     alloc: Global,
-    functions: &[Function],
+    helpers: Helpers<'_>,
     kernel: &Function,
 ) -> Result<Vec<Instruction>, AllocError>
-    ensures { IfOk result (λ code. code.items ≡ kernel_code (functions_of functions.now) (func kernel.now)) }
+    ensures { IfOk result (λ code. code.items ≡ kernel_code (functions_of helpers.entry.functions.now) (func kernel.now)) }
 {
-    let mut code = Backward::new(alloc);
+    let mut arguments = Backward::new(alloc);
+    put_arguments(kernel.parameters.as_slice(), &mut arguments)?;
+    let mut code = Draft::new(alloc);
     code.put(Instruction::End)?;
-    emit_body(functions, kernel, 0, 0, 0, &mut code)?;
-    put_arguments(kernel.parameters.as_slice(), &mut code)?;
-    Ok(code.into_forward())
+    emit_body(helpers, kernel, 0, 0, 0, &mut code)?;
+    code.put_code(arguments)?;
+    expand(alloc, code.into_parts())
 }
 
 /// The code of the kernel of a name's number, None where there is none. Err where memory is wanting, or there are too few registers.
@@ -43,6 +49,12 @@ pub fn emit_kernel(
     let Some(found) = kernel_named(functions, number) else {
         return Ok(None);
     };
-    let code = emit_function(alloc, &functions[..found.place], found.function)?;
+    let before = &functions[..found.place];
+    let known = known_of_all(alloc, before)?;
+    let helpers = Helpers {
+        functions: before,
+        known: known.as_slice(),
+    };
+    let code = emit_function(alloc, helpers, found.function)?;
     Ok(Some(code))
 }

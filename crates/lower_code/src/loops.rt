@@ -10,12 +10,12 @@ ghost use Rattle.lower_expr.specs.Expressions.{expr_code, register_for};
 ghost use Rattle.lower_code.specs.Code as spec;
 ghost use Rattle.lower_code.specs.Emission.{test_of};
 
+use crate::draft::Draft;
 use clmodel::tree::{Expression, VariableType};
 use clnum::IntType;
 use lower_expr::emission::emit_expression;
 use lower_expr::scope::{Scope, register_at, word};
 use lower_expr::tails::add;
-use lower_place::backward::Backward;
 use regcode::Instruction;
 use std::alloc::AllocError;
 
@@ -24,7 +24,7 @@ pub fn put_test(
     scope: &Scope,
     test: &Expression,
     by: u32,
-    code: &mut Backward,
+    code: &mut Draft<'_>,
 ) -> Result<(), AllocError>
     ensures { OnOk result (code.new
         ≡ expr_code scope.now (free_level scope.now) (term test.now) ++ (instruction.JumpIfZero (register_for scope.now (free_level scope.now) (term test.now)) by ∷ code.old)) }
@@ -37,52 +37,50 @@ pub fn put_test(
     code.put_all(front)
 }
 
-/// Puts before the code the way back of a loop, whose length is still to be set, and before that the loop's condition.
-pub fn begin_loop(
+/// Puts the condition of a loop before the code, with a jump past its way back where it doesn't hold.
+pub fn put_condition(
     scope: &Scope,
     condition: Option<&Expression>,
-    code: &mut Backward,
+    code: &mut Draft<'_>,
 ) -> Result<(), AllocError>
-    ensures { OnOk result (code.new ≡ spec.condition_code scope.now (test_of condition.entry) ++ (instruction.Back 0 ∷ code.old)) }
+    ensures { OnOk result (code.new ≡ spec.condition_code scope.now (test_of condition.entry) ++ code.old) }
 {
-    code.put(Instruction::Back { by: 0 })?;
     match condition {
         None => Ok(()),
         Some(condition) => put_test(scope, condition, 1, code),
     }
 }
 
-/// Puts the beginning of a turn before a loop's body and condition, and sets the way back, behind which so many instructions stand.
-fn end_turn(depth: u32, end: usize, code: &mut Backward) -> Result<(), AllocError>
-    ensures { OnOk result ((body condition rest : List Instruction) → code.old ≡ body ++ (condition ++ instruction.Back 0 ∷ rest) → end ≡ length rest
-        → code.new ≡ spec.turn_code depth body condition ++ rest) }
+/// Puts a loop's turn before the code: its body and condition, and the way back.
+fn end_turn<'a>(depth: u32, turn: Draft<'a>, code: &mut Draft<'a>) -> Result<(), AllocError>
+    ensures { OnOk result ((body condition : List Instruction) → turn.entry ≡ body ++ condition → code.new ≡ spec.turn_code depth body condition ++ code.old) }
 {
-    let by = code.added(end)?;
-    code.patch(end, Instruction::Back { by });
+    let by = turn.past(0)?;
+    code.put(Instruction::Back { by })?;
+    code.put_draft(turn)?;
     code.put(Instruction::Turn { depth })
 }
 
-/// The same for a whole loop that begins with its body.
-pub fn end_do(depth: u32, end: usize, code: &mut Backward) -> Result<(), AllocError>
-    ensures { OnOk result ((body condition rest : List Instruction) → code.old ≡ body ++ (condition ++ instruction.Back 0 ∷ rest) → end ≡ length rest
-        → code.new ≡ spec.do_code depth body condition ++ rest) }
+/// Puts a loop that begins with its body before the code.
+pub fn end_do<'a>(depth: u32, turn: Draft<'a>, code: &mut Draft<'a>) -> Result<(), AllocError>
+    ensures { OnOk result ((body condition : List Instruction) → turn.entry ≡ body ++ condition → code.new ≡ spec.do_code depth body condition ++ code.old) }
 {
-    end_turn(depth, end, code)?;
+    end_turn(depth, turn, code)?;
     code.put(Instruction::Enter { depth })
 }
 
-/// The same for a whole loop that begins with its condition, at which and behind which so many instructions stand.
-pub fn end_while(
+/// Puts a loop that begins with its condition, of so many instructions, before the code.
+pub fn end_while<'a>(
     depth: u32,
-    end: usize,
     start: usize,
-    code: &mut Backward,
+    turn: Draft<'a>,
+    code: &mut Draft<'a>,
 ) -> Result<(), AllocError>
-    ensures { OnOk result ((body condition rest : List Instruction) → code.old ≡ body ++ (condition ++ instruction.Back 0 ∷ rest) → end ≡ length rest
-        → start ≡ length (condition ++ instruction.Back 0 ∷ rest) → code.new ≡ spec.while_code depth body condition ++ rest) }
+    ensures { OnOk result ((body condition : List Instruction) → turn.entry ≡ body ++ condition → start ≡ length condition
+        → code.new ≡ spec.while_code depth body condition ++ code.old) }
 {
-    end_turn(depth, end, code)?;
-    let by = code.added(start)?;
+    let by = turn.past(start)?;
+    end_turn(depth, turn, code)?;
     code.put(Instruction::Jump { by })?;
     code.put(Instruction::Enter { depth })
 }
@@ -100,7 +98,7 @@ fn base_level(scope: &Scope) -> Result<u32, AllocError>
 pub fn put_no_value(
     kind: Option<IntType>,
     level: u32,
-    code: &mut Backward,
+    code: &mut Draft<'_>,
 ) -> Result<(), AllocError>
     ensures { OnOk result (code.new ≡ spec.no_value_code kind level ++ code.old) }
 {
@@ -118,7 +116,7 @@ pub fn put_return(
     kind: Option<IntType>,
     scope: &Scope,
     by: u32,
-    code: &mut Backward,
+    code: &mut Draft<'_>,
 ) -> Result<(), AllocError>
     ensures { OnOk result (code.new ≡ spec.no_value_code kind scope.now.base ++ (instruction.Jump by ∷ code.old)) }
 {
@@ -151,7 +149,7 @@ pub fn put_return_value(
     scope: &Scope,
     value: &Expression,
     by: u32,
-    code: &mut Backward,
+    code: &mut Draft<'_>,
 ) -> Result<(), AllocError>
     ensures { OnOk result (code.new
         ≡ expr_code scope.now (free_level scope.now) (term value.now)

@@ -5,8 +5,6 @@ ghost use Rattle.std.specs.Prelude.{◌≡◌, IfOk};
 ghost use Rattle.lower_code.specs.Code as spec;
 ghost use Rattle.lower_code.specs.Emission.{exits_of};
 
-use clmodel::tree::Function;
-use clnum::IntType;
 use std::alloc::AllocError;
 
 /// How far behind the end of a statement's code its other ends are.
@@ -39,13 +37,6 @@ impl Exits {
             returned: rest.checked_add(self.returned).ok_or(AllocError)?,
         })
     }
-}
-
-/// What stands round all statements of a function: the functions before it, and the type of its value.
-#[derive(Clone, Copy)]
-pub struct Setting<'a> {
-    pub functions: &'a [Function],
-    pub result: Option<IntType>,
 }
 
 /// Where a statement stands: how many loops are round it, the number of its first barrier, and its exits.

@@ -1,7 +1,8 @@
 use Rattle.std.proofs.Common.{◌≡◌, ◌+◌, ◌-◌, ◌<◌, arith, ap, ◌∙◌, length, take}
 use Rattle.lower_code.specs.Code.{call_code, result_in}
-use Rattle.lower_code.specs.Emission.{functions_of}
+use Rattle.lower_code.specs.Emission.{functions_of, inside}
 use Rattle.lower_code.proofs.Helpers.{code_hit, code_miss, result_hit, result_miss}
+use Rattle.lower_code.proofs.Lists.{inside_hit, inside_miss}
 use Rattle.lower_code.proofs.functions.find.Goals as goal
 
 pub returns-then-name-function-clause-code : goal.returns-then-name-function-clause-code
@@ -24,6 +25,16 @@ returns-then-name-function-clause-value c =
     ∙ ap (λ n. result_in (functions_of (take n gs)) c.args.name) left
     ∙ result_hit gs place c.args.name c.index-functions-place.result below c.index-functions-place.is c.if-name-function.true
 
+pub returns-then-name-function-clause-sites : goal.returns-then-name-function-clause-sites
+returns-then-name-function-clause-sites c =
+    let gs = c.args.functions.now in
+    let place = length gs - 1 - c.loop-i.i in
+    let below : place < length gs = omega (arith, c.loop-i-test.true) in
+    let left : length gs - c.loop-i.i ≡ place + 1 = omega (arith, c.loop-i-test.true) in
+    c.loop-i.invariant.sites
+    ∙ ap (λ n. inside (take n gs) c.args.name) left
+    ∙ inside_hit gs place c.args.name c.index-functions-place.result below c.index-functions-place.is c.if-name-function.true
+
 pub loop-i-preserved : goal.loop-i-preserved
 loop-i-preserved c =
     let gs = c.args.functions.now in
@@ -41,4 +52,8 @@ loop-i-preserved c =
           ∙ ap (λ n. result_in (functions_of (take n gs)) c.args.name) left
           ∙ result_miss gs place c.args.name c.index-functions-place.result below c.index-functions-place.is c.if-name-function.false
           ∙ ap (λ n. result_in (functions_of (take n gs)) c.args.name) next;
+      sites = c.loop-i.invariant.sites
+          ∙ ap (λ n. inside (take n gs) c.args.name) left
+          ∙ inside_miss gs place c.args.name c.index-functions-place.result below c.index-functions-place.is c.if-name-function.false
+          ∙ ap (λ n. inside (take n gs) c.args.name) next;
     }

@@ -1,7 +1,7 @@
-use Rattle.std.proofs.Common.{◌≡◌, ℕ, ◌+◌, ◌-◌, ◌<◌, ◌++◌, ◌∷◌, List, None, Some, length, take, ap, ap₂, sym, subst, ◌∙◌, arith, OnOk}
+use Rattle.std.proofs.Common.{◌≡◌, ℕ, ◌+◌, ◌-◌, ◌<◌, ◌++◌, ◌∷◌, List, length, take, ap, ap₂, subst, ◌∙◌, arith, rules, OnOk}
 use Rattle.std.proofs.lemmas.Result.{on_ok_weaker}
-use Rattle.clmodel.specs.Next.{sites, all_sites, step_operator}
-use Rattle.clmodel.specs.Tree.{Stmt, ThenStmt, IfElse, stmt, term, place}
+use Rattle.clmodel.specs.Next.{sites, all_sites}
+use Rattle.clmodel.specs.Tree.{Stmt, ThenStmt, IfElse, DoWhile, While_, stmt, term}
 use Rattle.regcode.specs.declared.instruction.Instruction.{Instruction}
 use Rattle.regcode.specs.declared.instruction.Instruction.TheVariants as instruction
 use Rattle.lower_expr.specs.Scope.{Scope, free_level}
@@ -9,78 +9,17 @@ use Rattle.lower_expr.specs.Expressions.{expr_code, register_for}
 use Rattle.lower_place.specs.Variables.{scope_after_all}
 use Rattle.lower_place.specs.Emission.{all_of, part_of}
 use Rattle.lower_place.proofs.Lists.{row_more}
-use Rattle.lower_code.specs.Code.{Exits, past, stmt_code, stmts_code, step_code, while_code, call_code, result_in}
-use Rattle.lower_code.specs.Emission.{functions_of, inside, statement_code, row_code, test_of, exits_of, split_code, turns_code}
-use Rattle.lower_code.proofs.Calling.{assign_is, step_is, declare_is, call_is}
-use Rattle.lower_code.proofs.Rows.{row_laid, longer, placed, choice_placed, turns_placed}
-use Rattle.lower_code.proofs.Lists.{block_is, weight_of}
+use Rattle.lower_code.specs.Code.{Exits, past, stmt_code, stmts_code, while_code, do_code, condition_code, call_code, result_in}
+use Rattle.lower_code.specs.Emission.{functions_of, inside, statement_code, row_code, test_of, exits_of, once_code, inner_code, turns_code}
+use Rattle.lower_code.proofs.Rows.{row_laid, longer, choice_placed, begun, once_placed, inner_placed}
+use Rattle.lower_code.proofs.Lists.{block_is}
 use Rattle.lower_code.proofs.statements.+emission.Goals as goal
-
-pub emit_call-emit_body-requires : goal.emit_call-emit_body-requires
-emit_call-emit_body-requires t c =
-    (omega (arith, weight_of c.args.functions.now c.in-Some.found.place c.in-Some.found.function.now c.in-Some.ensures.within c.in-Some.ensures.there), tt {0})
 
 pub emit_statement-returns-in-Block-clause-code : goal.emit_statement-returns-in-Block-clause-code
 emit_statement-returns-in-Block-clause-code t c =
     subst (λ (s : Stmt). OnOk c.emit_all.result (c.emit_all.new.code ≡ statement_code c.args.setting.now c.args.scope.now s c.args.position ++ c.args.code.now))
     (block_is c.args.statement.now c.in-Block.at c.in-Block.body c.deref.result.now c.in-Block.is c.deref.ensures.value)
     c.emit_all.ensures.code
-
-pub emit_declaration-returns-in_ok-split-in-Some-clause-code : goal.emit_declaration-returns-in_ok-split-in-Some-clause-code
-emit_declaration-returns-in_ok-split-in-Some-clause-code t c =
-    let s = c.args.setting.now in
-    let p = c.args.position in
-    let fs = functions_of s.functions.now in
-    let split = c.in_ok-split-in-Some.split in
-    let same : split_code (call_code fs) split p.depth p.site ≡ statement_code s c.args.scope.now (stmt c.args.statement.now) p =
-    c.in_ok-split-in-Some.ensures.code (call_code fs) (inside s.functions.now) s.result p.depth p.site (exits_of p.exits)
-    ∙ ap (λ x. statement_code s c.args.scope.now x p) (declare_is c.args.statement.now c.in-Declare.at c.in-Declare.kind c.in-Declare.name_at c.in-Declare.name c.in-Declare.value c.in-Some.value c.deref.result.now c.in-Declare.is c.in-Some.is c.deref.ensures) in
-    placed c.emit_split.result c.emit_split.new.code c.args.code.now (split_code (call_code fs) split p.depth p.site) (statement_code s c.args.scope.now (stmt c.args.statement.now) p) same c.emit_split.ensures
-
-pub emit_assignment-returns-in_ok-split-in-None : goal.emit_assignment-returns-in_ok-split-in-None
-emit_assignment-returns-in_ok-split-in-None t c =
-    let s = c.args.setting.now in
-    let p = c.args.position in
-    let fs = functions_of s.functions.now in
-    let split = c.in_ok-split-in-None.split in
-    let same : split_code (call_code fs) split p.depth p.site ≡ statement_code s c.args.scope.now (stmt c.args.statement.now) p =
-    c.in_ok-split-in-None.ensures (call_code fs) (inside s.functions.now) s.result p.depth p.site
-    ∙ ap (λ x. statement_code s c.args.scope.now x p) (assign_is c.args.statement.now c.in-Assign.at c.in-Assign.target c.in-Assign.operator c.in-Assign.value None c.deref.result.now c.deref-in-None.result.now c.in-Assign.is c.in-None.is c.deref.ensures c.deref-in-None.ensures) in
-    placed c.emit_split.result c.emit_split.new.code c.args.code.now (split_code (call_code fs) split p.depth p.site) (statement_code s c.args.scope.now (stmt c.args.statement.now) p) same c.emit_split.ensures
-
-pub emit_assignment-returns-in_ok-split-in-Some : goal.emit_assignment-returns-in_ok-split-in-Some
-emit_assignment-returns-in_ok-split-in-Some t c =
-    let s = c.args.setting.now in
-    let p = c.args.position in
-    let fs = functions_of s.functions.now in
-    let split = c.in_ok-split-in-Some.split in
-    let same : split_code (call_code fs) split p.depth p.site ≡ statement_code s c.args.scope.now (stmt c.args.statement.now) p =
-    c.in_ok-split-in-Some.ensures (call_code fs) (inside s.functions.now) s.result p.depth p.site
-    ∙ ap (λ x. statement_code s c.args.scope.now x p) (assign_is c.args.statement.now c.in-Assign.at c.in-Assign.target c.in-Assign.operator c.in-Assign.value (Some c.in-Some.operator) c.deref-in-Some.result.now c.deref-in-Some-2.result.now c.in-Assign.is c.in-Some.is c.deref-in-Some.ensures c.deref-in-Some-2.ensures) in
-    placed c.emit_split-in-Some.result c.emit_split-in-Some.new.code c.args.code.now (split_code (call_code fs) split p.depth p.site) (statement_code s c.args.scope.now (stmt c.args.statement.now) p) same c.emit_split-in-Some.ensures
-
-pub emit_assignment-returns-in_ok-split-in-Call : goal.emit_assignment-returns-in_ok-split-in-Call
-emit_assignment-returns-in_ok-split-in-Call t c =
-    let s = c.args.setting.now in
-    let p = c.args.position in
-    let fs = functions_of s.functions.now in
-    let split = c.in_ok-split-in-Call.split in
-    let same : split_code (call_code fs) split p.depth p.site ≡ statement_code s c.args.scope.now (stmt c.args.statement.now) p =
-    c.in_ok-split-in-Call.ensures (call_code fs) (result_in fs) (inside s.functions.now) s.result
-    ∙ ap (λ x. statement_code s c.args.scope.now x p) (sym (call_is c.args.statement.now c.in-Call.at c.in-Call.name c.in-Call.arguments c.deref-in-Call.result.now c.in-Call.is c.deref-in-Call.ensures.value)) in
-    placed c.emit_split-in-Call.result c.emit_split-in-Call.new.code c.args.code.now (split_code (call_code fs) split p.depth p.site) (statement_code s c.args.scope.now (stmt c.args.statement.now) p) same c.emit_split-in-Call.ensures
-
-pub emit_assignment-returns-in-Step : goal.emit_assignment-returns-in-Step
-emit_assignment-returns-in-Step t c =
-    let s = c.args.setting.now in
-    let p = c.args.position in
-    let fs = functions_of s.functions.now in
-    let to = place c.deref-in-Step.result.now in
-    let stepped : List Instruction = step_code (call_code fs) (result_in fs) (inside s.functions.now) s.result c.args.scope.now (free_level c.args.scope.now) to (step_operator c.in-Step.is_increment) in
-    let same : stepped ≡ statement_code s c.args.scope.now (stmt c.args.statement.now) p =
-    ap (λ x. statement_code s c.args.scope.now x p) (step_is c.args.statement.now c.in-Step.at c.in-Step.target c.in-Step.is_increment c.deref-in-Step.result.now c.in-Step.is c.deref-in-Step.ensures) in
-    placed c.put_step.result c.put_step.new.code c.args.code.now stepped (statement_code s c.args.scope.now (stmt c.args.statement.now) p) same
-    (on_ok_weaker {Q = c.put_step.new.code ≡ stepped ++ c.args.code.now} c.put_step.result (λ h. h (call_code fs) (result_in fs) (inside s.functions.now) s.result) c.put_step.ensures)
 
 pub emit_choice-returns-clause-code : goal.emit_choice-returns-clause-code
 emit_choice-returns-clause-code t c =
@@ -103,25 +42,64 @@ emit_choice-returns-clause-code t c =
     (c.in_ok-added-2.ensures ∙ ap (λ n. length three - n) c.len-middle.ensures))
     c.put_test.ensures
 
+pub emit_turn-returns-clause-code : goal.emit_turn-returns-clause-code
+emit_turn-returns-clause-code t c =
+    let s = c.args.setting.now in
+    let p = c.args.position in
+    let scope = c.args.scope.now in
+    let body = stmt c.args.body.now in
+    let test = While_ (term c.args.condition.now) in
+    on_ok_weaker {P = c.emit_statement.new.code ≡ statement_code s scope body (record { depth = c.in_ok-level_above.field-0; site = p.site; exits = c.in_ok-in_loop.field-0 }) ++ c.put_condition.new.code}
+    {Q = c.emit_statement.new.code ≡ once_code s scope body test p ++ condition_code scope test} c.emit_statement.result
+    (once_placed s scope p body test c.in_ok-level_above.field-0 c.in_ok-in_loop.field-0 c.put_condition.new.code c.emit_statement.new.code c.in_ok-past.field-0
+    c.in_ok-level_above.ensures (begun (condition_code scope test) c.args.turn.now c.put_condition.new.code (search rules) c.in_ok-put_condition.ensures) c.in_ok-past.ensures c.in_ok-in_loop.ensures)
+    c.emit_statement.ensures.code
+
+pub emit_do-returns-clause-code : goal.emit_do-returns-clause-code
+emit_do-returns-clause-code t c =
+    let s = c.args.setting.now in
+    let p = c.args.position in
+    let scope = c.args.scope.now in
+    let body = stmt c.args.body.now in
+    let test = While_ (term c.args.condition.now) in
+    let four = c.end_do.new.code in
+    on_ok_weaker {P = (body condition : List Instruction) → c.emit_turn.new.turn ≡ body ++ condition → four ≡ do_code p.depth body condition ++ c.args.code.now}
+    {Q = four ≡ statement_code s scope (DoWhile 0 body (term c.args.condition.now)) p ++ c.args.code.now} c.end_do.result
+    (λ h. h (once_code s scope body test p) (condition_code scope test) c.in_ok-emit_turn.ensures.code)
+    c.end_do.ensures
+
+pub emit_inner-returns-clause-code : goal.emit_inner-returns-clause-code
+emit_inner-returns-clause-code t c =
+    let s = c.args.setting.now in
+    let p = c.args.position in
+    let scope = c.args.scope.now in
+    let test = test_of c.args.condition in
+    let one = c.put_condition.new.code in
+    inner_placed s scope c.emit_part.new.scope p (part_of c.args.first) test (part_of c.args.third) (stmt c.args.body.now) c.in_ok-depth.depth c.in_ok-behind.behind c.in_ok-site_behind_part.field-0
+    c.in_ok-in_loop.field-0 c.in_ok-in_loop-2.field-0 one c.emit_part.new.code c.emit_statement.new.code c.in_ok-past.field-0 c.in_ok-past-2.field-0
+    c.in_ok-depth.ensures c.in_ok-behind.ensures c.in_ok-site_behind_part.ensures (begun (condition_code scope test) c.args.turn.now one (search rules) c.in_ok-put_condition.ensures)
+    c.in_ok-past.ensures c.in_ok-in_loop.ensures c.in_ok-emit_part.ensures.code c.in_ok-emit_part.ensures.scope
+    c.in_ok-past-2.ensures c.in_ok-in_loop-2.ensures c.in_ok-emit_statement.ensures.code
+
+pub emit_inner-returns-clause-start : goal.emit_inner-returns-clause-start
+emit_inner-returns-clause-start t c =
+    let condition = condition_code c.args.scope.now (test_of c.args.condition) in
+    c.len-start.ensures ∙ ap length (begun condition c.args.turn.now c.put_condition.new.code (search rules) c.in_ok-put_condition.ensures)
+
 pub emit_turns-returns-clause-code : goal.emit_turns-returns-clause-code
 emit_turns-returns-clause-code t c =
     let s = c.args.setting.now in
     let p = c.args.position in
     let scope = c.args.scope.now in
     let old = c.args.code.now in
-    let one = c.begin_loop.new.code in
-    let two = c.emit_part.new.code in
-    let three = c.emit_statement.new.code in
+    let first = part_of c.args.first in
+    let test = test_of c.args.condition in
+    let third = part_of c.args.third in
+    let body = stmt c.args.body.now in
     let four = c.end_while.new.code in
-    on_ok_weaker {P = (body condition rest : List Instruction) → three ≡ body ++ (condition ++ instruction.Back 0 ∷ rest) → c.len-end.result ≡ length rest
-    → c.len-start.result ≡ length (condition ++ instruction.Back 0 ∷ rest) → four ≡ while_code p.depth body condition ++ rest}
-    {Q = four ≡ turns_code s scope (part_of c.args.first) (test_of c.args.condition) (part_of c.args.third) (stmt c.args.body.now) p ++ old} c.end_while.result
-    (λ h. turns_placed s scope c.emit_part.new.scope p (part_of c.args.first) (test_of c.args.condition) (part_of c.args.third) (stmt c.args.body.now) c.in_ok-depth.depth c.in_ok-behind.behind c.in_ok-site_behind_part.field-0
-    c.in_ok-in_loop.field-0 c.in_ok-in_loop-2.field-0 old one two three four c.in_ok-added.field-0 c.in_ok-added-2.field-0
-    c.in_ok-depth.ensures c.in_ok-behind.ensures c.in_ok-site_behind_part.ensures c.in_ok-begin_loop.ensures
-    (c.in_ok-added.ensures ∙ ap (λ n. length one - n) c.len-end.ensures) c.in_ok-in_loop.ensures c.in_ok-emit_part.ensures.code c.in_ok-emit_part.ensures.scope
-    (c.in_ok-added-2.ensures ∙ ap (λ n. length two - n) c.len-end.ensures) c.in_ok-in_loop-2.ensures c.in_ok-emit_statement.ensures.code
-    (λ body condition rest e q w. h body condition rest e (c.len-end.ensures ∙ q) (c.len-start.ensures ∙ w)))
+    on_ok_weaker {P = (body condition : List Instruction) → c.emit_inner.new.turn ≡ body ++ condition → c.in_ok-start.start ≡ length condition → four ≡ while_code p.depth body condition ++ old}
+    {Q = four ≡ turns_code s scope first test third body p ++ old} c.end_while.result
+    (λ h. h (inner_code s scope first test third body p) (condition_code scope test) c.in_ok-start.ensures.code c.in_ok-start.ensures.start)
     c.end_while.ensures
 
 pub emit_all-loop-i-preserved : goal.emit_all-loop-i-preserved
@@ -130,8 +108,8 @@ emit_all-loop-i-preserved t c =
     let p = c.args.position in
     let start = c.args.scope.now in
     let ss = c.args.statements.now in
-    let fs = functions_of s.functions.now in
-    let f = inside s.functions.now in
+    let fs = functions_of s.helpers.functions.now in
+    let f = inside s.helpers.functions.now in
     let n = length ss - c.loop-i.i in
     let place = length ss - 1 - c.loop-i.i in
     let k = length c.loop-i.code - length c.args.code.now in

@@ -1,0 +1,75 @@
+-- What is known of functions, for fewer functions and for one more.
+use Rattle.std.proofs.Common.{◌≡◌, ℕ, zero, suc, ◌<◌, ◌≤◌, Option, None, Some, IfSome, List, [], ◌∷◌, ◌++◌, length, take, get_or, refl, sym, ap, subst, ◌∙◌, arith}
+use Rattle.std.proofs.lemmas.List.{get_or-take, take-take, length-take}
+use Rattle.clmodel.specs.Next.{all_sites}
+use Rattle.clmodel.specs.declared.tree.Function.{Function}
+use Rattle.clmodel.specs.Tree.{func}
+use Rattle.lower_place.specs.Emission.{all_of}
+use Rattle.lower_code.specs.Helpers.{functions_of, inside, body_of, BarriersKnown, LengthsKnown}
+use Rattle.lower_code.specs.declared.known.Known.{Known}
+use Rattle.lower_code.proofs.Lengths.{function_length}
+
+-- what stands at a place doesn't depend on the default
+pub known_at : (ks : List Known) (i : ℕ) (d e : Known) → i < length ks → get_or ks i d ≡ get_or ks i e
+known_at [] i d e h = absurd (omega arith)
+known_at (k ∷ ks) zero d e h = refl
+known_at (k ∷ ks) (suc i) d e h = known_at ks i d e (omega arith)
+
+function_at : (fs : List Function) (i : ℕ) (d e : Function) → i < length fs → get_or fs i d ≡ get_or fs i e
+function_at [] i d e h = absurd (omega arith)
+function_at (f ∷ fs) zero d e h = refl
+function_at (f ∷ fs) (suc i) d e h = function_at fs i d e (omega arith)
+
+within : (fs : List Function) (n i : ℕ) → n ≤ length fs → i < length (take n fs) → i < n
+within fs n i small h = omega (arith, length-take n fs, h, small)
+
+pub barriers_before : (fs : List Function) (ks : List Known) (n : ℕ) → n ≤ length fs → BarriersKnown fs ks → BarriersKnown (take n fs) ks
+barriers_before fs ks n small h i f k m below there f_is k_is m_is =
+    let inner : i < n = within fs n i small below in
+    h i f k m (omega (arith, inner, small)) there (f_is ∙ get_or-take n fs i f inner) k_is m_is
+    ∙ ap (λ gs. all_sites (inside gs) (all_of f.body.items)) (sym (take-take i n fs (omega (arith, inner))))
+
+pub lengths_before : (fs : List Function) (ks : List Known) (n : ℕ) → n ≤ length fs → LengthsKnown fs ks → LengthsKnown (take n fs) ks
+lengths_before fs ks n small h i f k m level depth site below there f_is k_is m_is =
+    let inner : i < n = within fs n i small below in
+    h i f k m level depth site (omega (arith, inner, small)) there (f_is ∙ get_or-take n fs i f inner) k_is m_is
+    ∙ ap (λ gs. length (body_of gs f level depth site)) (sym (take-take i n fs (omega (arith, inner))))
+
+-- a fact of each of these and of one more
+each_more : (P : ℕ → Known → Type 0) (ks : List Known) (k : Known) → ((j : ℕ) (m : Known) → j < length ks → m ≡ get_or ks j m → P j m) → P (length ks) k
+    → (j : ℕ) (m : Known) → j < length (ks ++ k ∷ []) → m ≡ get_or (ks ++ k ∷ []) j m → P j m
+each_more P [] k h last zero m b e = subst (λ x. P zero x) (sym e) last
+each_more P [] k h last (suc j) m b e = absurd (omega arith)
+each_more P (x ∷ ks) k h last zero m b e = h zero m (omega arith) e
+each_more P (x ∷ ks) k h last (suc j) m b e = each_more (λ i y. P (suc i) y) ks k (λ i y c d. h (suc i) y (omega arith) d) last j m (omega arith) e
+
+pub barriers_more : (fs : List Function) (ks : List Known) (f : Function) (k : Known) → length ks < length fs → f ≡ get_or fs (length ks) f → BarriersKnown fs ks
+    → ((n : ℕ) → k.barriers ≡ Some n → n ≡ all_sites (inside (take (length ks) fs)) (all_of f.body.items)) → BarriersKnown fs (ks ++ k ∷ [])
+barriers_more fs ks f k below f_is h this i g m n small there g_is m_is n_is =
+    each_more (λ j y. (g : Function) (n : ℕ) → j < length fs → g ≡ get_or fs j g → y.barriers ≡ Some n → n ≡ all_sites (inside (take j fs)) (all_of g.body.items)) ks k
+    (λ j y c d g n small g_is n_is. h j g y n small c g_is d n_is)
+    (λ g n small g_is n_is. this n n_is ∙ ap (λ x. all_sites (inside (take (length ks) fs)) (all_of x.body.items)) (f_is ∙ function_at fs (length ks) f g below ∙ sym g_is))
+    i m there m_is g n small g_is n_is
+
+pub lengths_more : (fs : List Function) (ks : List Known) (f : Function) (k : Known) → length ks < length fs → f ≡ get_or fs (length ks) f → LengthsKnown fs ks
+    → ((n level depth site : ℕ) → k.length ≡ Some n → n ≡ length (body_of (take (length ks) fs) f level depth site)) → LengthsKnown fs (ks ++ k ∷ [])
+lengths_more fs ks f k below f_is h this i g m n level depth site small there g_is m_is n_is =
+    each_more (λ j y. (g : Function) (n level depth site : ℕ) → j < length fs → g ≡ get_or fs j g → y.length ≡ Some n → n ≡ length (body_of (take j fs) g level depth site)) ks k
+    (λ j y c d g n level depth site small g_is n_is. h j g y n level depth site small c g_is d n_is)
+    (λ g n level depth site small g_is n_is. this n level depth site n_is ∙ ap (λ x. length (body_of (take (length ks) fs) x level depth site)) (f_is ∙ function_at fs (length ks) f g below ∙ sym g_is))
+    i m there m_is g n level depth site small g_is n_is
+
+if_some : (o : Option ℕ) (P : ℕ → Type 0) → ((n : ℕ) → o ≡ Some n → P n) → IfSome o P
+if_some None P h = tt {0}
+if_some (Some n) P h = h n refl
+
+pub barriers_found : (fs : List Function) (ks : List Known) (i : ℕ) (f : Function) (k d : Known) → BarriersKnown fs ks → i < length fs → i < length ks → f ≡ get_or fs i f → k ≡ get_or ks i d
+    → IfSome k.barriers (λ n. n ≡ all_sites (inside (take i fs)) (all_of f.body.items))
+barriers_found fs ks i f k d h below there f_is k_is = if_some k.barriers _ (λ n e. h i f k n below there f_is (k_is ∙ known_at ks i d k there) e)
+
+pub lengths_found : (fs : List Function) (ks : List Known) (i : ℕ) (f : Function) (k d : Known) → LengthsKnown fs ks → i < length fs → i < length ks → f ≡ get_or fs i f → k ≡ get_or ks i d
+    → IfSome k.length (λ n. (level depth site : ℕ) → n ≡ length (body_of (take i fs) f level depth site))
+lengths_found fs ks i f k d h below there f_is k_is = if_some k.length _ (λ n e level depth site. h i f k n level depth site below there f_is (k_is ∙ known_at ks i d k there) e)
+
+pub body_length_of : (fs : List Function) (f : Function) (level depth site : ℕ) → length (body_of fs f 0 0 0) ≡ length (body_of fs f level depth site)
+body_length_of fs f level depth site = function_length (functions_of fs) (func f) 0 0 0 level depth site

@@ -1,0 +1,8 @@
+use Rattle.lower_code.proofs.Tables.{barriers_before, lengths_before}
+use Rattle.lower_code.proofs.holes.Helpers.before.Goals as goal
+
+pub invariant_of-result : goal.invariant_of-result
+invariant_of-result c = record {
+  barriers = barriers_before c.args.self.functions.now c.args.self.known.now c.args.place c.requires c.args.self.barriers;
+  lengths = lengths_before c.args.self.functions.now c.args.self.known.now c.args.place c.requires c.args.self.lengths;
+}

@@ -1,0 +1,32 @@
+-- The functions that can be called, and what is known of each (own).
+use Rattle.std.specs.Prelude.{◌≡◌, ℕ, ◌<◌, List, Some, length, take, get_or, map}
+use Rattle.clmodel.specs.Next.{sites_in, all_sites}
+use Rattle.clmodel.specs.Tree.{Funcs, NoFunc, then_funcs, func}
+use Rattle.clmodel.specs.declared.tree.Function.{Function}
+use Rattle.regcode.specs.declared.instruction.Instruction.{Instruction}
+use Rattle.lower_place.specs.Emission.{all_of}
+use Rattle.lower_code.specs.Code.{call_code, result_in, body_code}
+use Rattle.lower_code.specs.declared.known.Known.{Known}
+
+abbrev pub functions_of : List Function → Funcs
+functions_of functions = then_funcs NoFunc (map func functions)
+
+-- the barriers in each function
+abbrev pub inside : List Function → ℕ → ℕ
+inside functions = sites_in (functions_of functions)
+
+-- the body of a function behind these, whose parameters are at a level and above
+abbrev pub body_of : List Function → Function → ℕ → ℕ → ℕ → List Instruction
+body_of functions f level depth site = body_code (call_code (functions_of functions)) (result_in (functions_of functions)) (inside functions) (func f) level depth site
+
+-- how many barriers are in each of the first functions, where it is known
+abbrev pub BarriersKnown : List Function → List Known → Type 0
+BarriersKnown functions known =
+    (i : ℕ) (f : Function) (k : Known) (n : ℕ) → i < length functions → i < length known → f ≡ get_or functions i f → k ≡ get_or known i k
+    → k.barriers ≡ Some n → n ≡ all_sites (inside (take i functions)) (all_of f.body.items)
+
+-- how long the code of each one's body is, wherever it is called, where it is known
+abbrev pub LengthsKnown : List Function → List Known → Type 0
+LengthsKnown functions known =
+    (i : ℕ) (f : Function) (k : Known) (n level depth site : ℕ) → i < length functions → i < length known → f ≡ get_or functions i f → k ≡ get_or known i k
+    → k.length ≡ Some n → n ≡ length (body_of (take i functions) f level depth site)

@@ -1,0 +1,32 @@
+-- Code with the bodies of helpers left out (own).
+use Rattle.std.specs.Prelude.{List, [], ◌∷◌, ◌++◌, All}
+use Rattle.regcode.specs.declared.instruction.Instruction.{Instruction}
+use Rattle.lower_code.specs.Helpers.{body_of, BarriersKnown, LengthsKnown}
+use Rattle.lower_code.specs.declared.holes.Hole.{Hole}
+use Rattle.lower_code.specs.declared.holes.Part.{Part}
+use Rattle.lower_code.specs.declared.holes.Part.TheVariants as part
+
+-- the body that is left out
+abbrev pub hole_code : Hole → List Instruction
+hole_code h = body_of h.functions.now h.function.now h.level h.depth h.site
+
+abbrev pub part_code : Part → List Instruction
+part_code (part.Own i) = i ∷ []
+part_code (part.Left h) = hole_code h
+
+-- the whole code
+abbrev pub whole : List Part → List Instruction
+whole [] = []
+whole (p ∷ ps) = part_code p ++ whole ps
+
+-- what is known of the functions before a helper is true of them
+pub record HoleKnown (h : Hole) : Type 0 where
+  pub barriers : BarriersKnown h.functions.now h.known.now
+  pub lengths : LengthsKnown h.functions.now h.known.now
+
+abbrev pub IsKnown : Part → Type 0
+IsKnown (part.Own i) = Unit {0}
+IsKnown (part.Left h) = HoleKnown h
+
+abbrev pub AllKnown : List Part → Type 0
+AllKnown parts = All IsKnown parts

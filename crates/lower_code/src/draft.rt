@@ -1,0 +1,132 @@
+//! Code that is written from its end, with the bodies of helpers left out.
+#![tactic(auto, using(crate::proofs::Drafts::draft_whole, crate::proofs::Drafts::part_whole, crate::proofs::Drafts::part_length, crate::proofs::Drafts::draft_length))]
+
+ghost use Rattle.std.specs.Prelude.{◌≡◌, ◌-◌, ◌+◌, [], ◌∷◌, ◌++◌, length, reverse, IfOk, OnOk};
+ghost use Rattle.lower_code.specs.Parts.{hole_code, whole, HoleKnown, AllKnown};
+
+use crate::holes::{Hole, Part};
+use lower_expr::scope::word;
+use lower_place::backward::Backward;
+use regcode::Instruction;
+use std::alloc::{AllocError, Global};
+use std::marker::Model;
+
+/// Code, kept with its last part first: what is put goes before what is there. A body that is left out counts as if it were there.
+#[derive(Drop)]
+pub struct Draft<'a> {
+    alloc: Global,
+    parts: Vec<Part<'a>>,
+    len: usize,
+}
+
+impl<'a> Model for Draft<'a> {
+    ghost use Rattle.std.specs.Prelude.{◌≡◌, List, length, reverse};
+    ghost use Rattle.regcode.specs.declared.instruction.Instruction.{Instruction};
+    ghost use Rattle.lower_code.specs.Parts.{whole, AllKnown};
+
+    ghost Value = { List Instruction };
+
+    ghost view = { λ d. whole (reverse d.parts.items) };
+
+    ghost invariant = { λ d. (d.len ≡ length (whole (reverse d.parts.items))) × AllKnown d.parts.items };
+}
+
+impl<'a> Draft<'a> {
+    /// No code.
+    pub fn new(alloc: Global) -> Self
+        ensures { result ≡ [] }
+    {
+        Draft {
+            alloc,
+            parts: Vec::new(alloc),
+            len: 0,
+        }
+    }
+
+    /// Where its memory comes from.
+    pub fn allocator(&self) -> Global {
+        self.alloc
+    }
+
+    /// How many instructions there are.
+    pub fn len(&self) -> usize
+        ensures { result ≡ length self.now }
+    {
+        self.len
+    }
+
+    /// How many instructions there are more than so many. Err where there are too many to jump past them.
+    pub fn added(&self, before: usize) -> Result<u32, AllocError>
+        ensures { IfOk result (λ count. count ≡ length self.now - before) }
+    {
+        word(self.len().saturating_sub(before))
+    }
+
+    /// One more than that. Err where there are too many to jump past them.
+    pub fn past(&self, before: usize) -> Result<u32, AllocError>
+        ensures { IfOk result (λ count. count ≡ length self.now - before + 1) }
+    {
+        let count = self.added(before)?;
+        count.checked_add(1).ok_or(AllocError)
+    }
+
+    /// Puts parts before the code, the last first, with so many instructions.
+    fn put_parts(&mut self, parts: &[Part<'a>], count: usize) -> Result<(), AllocError>
+        requires count { count ≡ length (whole (reverse parts.now)) }
+        requires known { AllKnown parts.now }
+        ensures { OnOk result (self.new ≡ whole (reverse parts.now) ++ self.old) }
+    {
+        let len = self.len.checked_add(count).ok_or(AllocError)?;
+        self.parts.extend_from_slice(parts)?;
+        self.len = len;
+        Ok(())
+    }
+
+    /// Puts an instruction before the code.
+    pub fn put(&mut self, instruction: Instruction) -> Result<(), AllocError>
+        ensures { OnOk result (self.new ≡ instruction ∷ self.old) }
+    {
+        self.put_parts(&[Part::Own(instruction)], 1)
+    }
+
+    /// Puts the body of a helper before the code, and leaves it out. It has so many instructions.
+    pub fn leave(&mut self, hole: Hole<'a>, count: usize) -> Result<(), AllocError>
+        requires count { count ≡ length (hole_code hole) }
+        requires known { HoleKnown hole }
+        ensures { OnOk result (self.new ≡ hole_code hole.entry ++ self.old) }
+    {
+        self.put_parts(&[Part::Left(hole)], count)
+    }
+
+    /// Puts other code before the code.
+    pub fn put_all(&mut self, code: Vec<Instruction>) -> Result<(), AllocError>
+        ensures { OnOk result (self.new ≡ code.items ++ self.old) }
+    {
+        for i in 0..code.len() {
+            self.put(code[code.len() - 1 - i])?;
+        }
+        Ok(())
+    }
+
+    /// Puts code without holes before the code.
+    pub fn put_code(&mut self, code: Backward) -> Result<(), AllocError>
+        ensures { OnOk result (self.new ≡ code ++ self.old) }
+    {
+        self.put_all(code.into_forward())
+    }
+
+    /// Puts another draft before the code.
+    pub fn put_draft(&mut self, draft: Draft<'a>) -> Result<(), AllocError>
+        ensures { OnOk result (self.new ≡ draft.entry ++ self.old) }
+    {
+        self.put_parts(&draft.parts, draft.len)
+    }
+
+    /// Its parts, the last first.
+    pub fn into_parts(self) -> Vec<Part<'a>>
+        ensures code { whole (reverse result.items) ≡ self.entry }
+        ensures known { AllKnown result.items }
+    {
+        self.parts
+    }
+}

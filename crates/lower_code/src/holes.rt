@@ -1,0 +1,58 @@
+//! The functions that can be called, and where their bodies stand.
+#![tactic(auto)]
+
+ghost use Rattle.std.specs.Prelude.{◌≡◌, ◌≤◌, length, take};
+ghost use Rattle.lower_code.specs.Helpers.{BarriersKnown, LengthsKnown};
+
+use crate::known::Known;
+use clmodel::tree::Function;
+use clnum::IntType;
+use regcode::Instruction;
+
+/// The functions that can be called, in the order of the text, and what is known of the first of them.
+#[derive(Clone, Copy)]
+pub struct Helpers<'a> {
+    pub functions: &'a [Function],
+    pub known: &'a [Known],
+    pub ghost barriers: { BarriersKnown functions.now known.now },
+    pub ghost lengths: { LengthsKnown functions.now known.now },
+}
+
+impl<'a> Helpers<'a> {
+    /// Those before a place.
+    pub fn before(self, place: usize) -> Helpers<'a>
+        requires { place ≤ length self.functions.now }
+        ensures { result.functions.now ≡ take place self.entry.functions.now }
+    {
+        Helpers {
+            functions: &self.functions[..place],
+            known: self.known,
+        }
+    }
+}
+
+/// What stands round all statements of a function: the functions before it, and the type of its value.
+#[derive(Clone, Copy)]
+pub struct Setting<'a> {
+    pub helpers: Helpers<'a>,
+    pub result: Option<IntType>,
+}
+
+/// The body of a helper that is left out of code: the functions before the helper and what is known of them, the level of its first
+/// parameter, how many loops are round the call, and the number of its first barrier.
+#[derive(Clone, Copy)]
+pub struct Hole<'a> {
+    pub functions: &'a [Function],
+    pub known: &'a [Known],
+    pub function: &'a Function,
+    pub level: u32,
+    pub depth: u32,
+    pub site: u32,
+}
+
+/// A part of code: an instruction, or the body of a helper that is left out.
+#[derive(Clone, Copy)]
+pub enum Part<'a> {
+    Own(Instruction),
+    Left(Hole<'a>),
+}

@@ -1,0 +1,9 @@
+//! What is known of a function before code that calls it is made.
+#![tactic(auto)]
+
+/// How many barriers are in a function, and how many instructions the code of its body has; None where there are too many.
+#[derive(Clone, Copy)]
+pub struct Known {
+    pub barriers: Option<u32>,
+    pub length: Option<usize>,
+}

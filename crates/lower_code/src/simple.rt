@@ -1,0 +1,152 @@
+//! Statements with no other statement in them: declarations, assignments, calls and jumps (C99 6.5.16, 6.7 and 6.8.6).
+#![tactic(auto)]
+
+ghost use Rattle.std.specs.Prelude.{◌≡◌, ◌∷◌, ◌++◌, true, length, OnOk};
+ghost use Rattle.clmodel.specs.Tree as tree;
+ghost use Rattle.clmodel.specs.Tree.{stmt};
+ghost use Rattle.regcode.specs.declared.instruction.Instruction.TheVariants as instruction;
+ghost use Rattle.lower_expr.specs.Scope.{free_level, register_at};
+ghost use Rattle.lower_place.specs.Variables as variables;
+ghost use Rattle.lower_code.specs.Emission.{is_declaration, is_assignment, is_jump, statement_code};
+
+use crate::assignments::{assign, call_statement, compound, declare_as, put_step};
+use crate::calls::emit_split;
+use crate::draft::Draft;
+use crate::holes::Setting;
+use crate::loops::{put_return, put_return_value};
+use crate::positions::Position;
+use clmodel::tree::{Statement, VariableType};
+use clnum::{IntType, Value};
+use lower_expr::scope::Scope;
+use lower_place::backward::Backward;
+use lower_place::variables::{put_array, put_unset};
+use regcode::Instruction;
+use std::alloc::AllocError;
+
+/// Puts a declaration without an initialiser before the code.
+fn put_plain(scope: &Scope, kind: VariableType, code: &mut Draft<'_>) -> Result<(), AllocError>
+    ensures { OnOk result (code.new ≡ instruction.Unset (register_at (free_level scope.now) kind) ∷ code.old) }
+{
+    let mut front = Backward::new(code.allocator());
+    put_unset(scope, kind, &mut front)?;
+    code.put_code(front)
+}
+
+/// Puts the declaration of an array before the code.
+fn put_elements(
+    scope: &Scope,
+    is_local: bool,
+    element: IntType,
+    size: Value,
+    code: &mut Draft<'_>,
+) -> Result<(), AllocError>
+    ensures { OnOk result (code.new ≡ variables.array_code is_local element (tree.array_length size) (length scope.now.variables) (free_level scope.now) ++ code.old) }
+{
+    let mut front = Backward::new(code.allocator());
+    put_array(scope, is_local, element, size, &mut front)?;
+    code.put_code(front)
+}
+
+/// Puts a declaration before the code.
+pub fn emit_declaration<'a>(
+    setting: &Setting<'a>,
+    scope: &mut Scope,
+    statement: &Statement,
+    position: Position,
+    code: &mut Draft<'a>,
+) -> Result<(), AllocError>
+    requires { is_declaration statement.now ≡ true }
+    ensures code { OnOk result (code.new ≡ statement_code setting.now scope.old (stmt statement.now) position ++ code.old) }
+    ensures scope { OnOk result (scope.new ≡ scope.old) }
+{
+    match statement {
+        Statement::Declare {
+            kind,
+            name,
+            value,
+            ..
+        } => match value {
+            None => put_plain(scope, *kind, code),
+            Some(value) => {
+                let split = declare_as(setting.helpers.functions, scope, *kind, *name, value)?;
+                emit_split(setting.helpers, split, position, code)
+            }
+        },
+        Statement::DeclareArray {
+            is_local,
+            element,
+            length,
+            ..
+        } => put_elements(scope, *is_local, *element, *length, code),
+        _ => unreachable!(),
+    }
+}
+
+/// Puts an assignment, or a call that is a whole statement, before the code.
+pub fn emit_assignment<'a>(
+    setting: &Setting<'a>,
+    scope: &Scope,
+    statement: &Statement,
+    position: Position,
+    code: &mut Draft<'a>,
+) -> Result<(), AllocError>
+    requires { is_assignment statement.now ≡ true }
+    ensures { OnOk result (code.new ≡ statement_code setting.now scope.now (stmt statement.now) position ++ code.old) }
+{
+    match statement {
+        Statement::Assign {
+            target,
+            operator,
+            value,
+            ..
+        } => match operator {
+            None => {
+                let split = assign(setting.helpers.functions, scope, target, value)?;
+                emit_split(setting.helpers, split, position, code)
+            }
+            Some(operator) => {
+                let split = compound(setting.helpers.functions, scope, target, *operator, value)?;
+                emit_split(setting.helpers, split, position, code)
+            }
+        },
+        Statement::Step {
+            target,
+            is_increment,
+            ..
+        } => put_step(scope, target, *is_increment, code),
+        Statement::Call {
+            name,
+            arguments,
+            ..
+        } => {
+            let split = call_statement(scope, *name, arguments, position.depth, position.site)?;
+            emit_split(setting.helpers, split, position, code)
+        }
+        _ => unreachable!(),
+    }
+}
+
+/// Puts a jump out of a loop or of the function before the code.
+pub fn put_jump<'a>(
+    setting: &Setting<'a>,
+    scope: &Scope,
+    statement: &Statement,
+    position: Position,
+    code: &mut Draft<'a>,
+) -> Result<(), AllocError>
+    requires { is_jump statement.now ≡ true }
+    ensures { OnOk result (code.new ≡ statement_code setting.now scope.now (stmt statement.now) position ++ code.old) }
+{
+    let exits = position.exits;
+    match statement {
+        Statement::Break { .. } => code.put(Instruction::Jump { by: exits.broken }),
+        Statement::Continue { .. } => code.put(Instruction::Jump {
+            by: exits.continued,
+        }),
+        Statement::Return { value, .. } => match value {
+            None => put_return(setting.result, scope, exits.returned, code),
+            Some(value) => put_return_value(setting.result, scope, value, exits.returned, code),
+        },
+        _ => unreachable!(),
+    }
+}
