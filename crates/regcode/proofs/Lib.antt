@@ -2,5 +2,6 @@ pub mod Registers
 pub mod Agreement
 pub mod Dumped
 pub mod Judged
+mod Named
 pub mod SafetyLaws
 pub mod Steps

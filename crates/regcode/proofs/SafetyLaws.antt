@@ -1,8 +1,8 @@
 -- Verified code never sticks: instruction by instruction.
-use Rattle.std.proofs.Common.{◌≡◌, ℕ, zero, suc, ℤ, pos, negsuc, ◌+◌, ◌<◌, ◌≤◌, ◌++◌, ◌⊎◌, inl, inr, Bool, true, false, IsTrue, if◌then◌else◌, Option, None, Some, List, [], ◌∷◌, Result, Ok, Err, length, take, replicate, slice_get, refl, ap, sym, ◌∙◌, subst, arith}
+use Rattle.std.proofs.Common.{◌≡◌, ℕ, zero, suc, ℤ, pos, negsuc, ◌+◌, ◌<◌, ◌≤◌, ◌++◌, ◌⊎◌, inl, inr, Bool, true, false, IsTrue, if◌then◌else◌, Option, None, Some, List, [], ◌∷◌, Result, Ok, Err, length, take, replicate, slice_get, slice_index, refl, ap, sym, ◌∙◌, subst, arith}
 use Rattle.std.proofs.lemmas.Bool.{false≢true, cases_eq}
-use Rattle.std.proofs.lemmas.List.{length-take-le, length-append}
-use Rattle.std.proofs.lemmas.Option.{none-some, slice_get-get_or}
+use Rattle.std.proofs.lemmas.List.{length-take-le, length-append, length-replicate, length-set}
+use Rattle.std.proofs.lemmas.Option.{none-some, slice_get-get_or, slice_get_within}
 use Rattle.std.specs.Option.{option_map}
 use Rattle.clnum.specs.Integer.{Integer, converted}
 use Rattle.clnum.specs.Builtins.{is_same, builtin_value}
@@ -28,14 +28,15 @@ use Rattle.clmodel.specs.declared.setup.AtomicFunction.{AtomicFunction}
 use Rattle.clmodel.specs.declared.tree.VariableType.{VariableType}
 use Rattle.clmodel.specs.declared.tree.VariableType.TheVariants as variable_type
 use Rattle.regcode.specs.Listing.{Listing}
-use Rattle.regcode.specs.Machine.{State, Given, Registers, reg, put, entry_at, act, filled, with_put, with_array, with_turns, passed, onward, argument_at}
-use Rattle.regcode.specs.Rules.{IsVerified, Fits, Goes, Takes, Leads, kind_at, loops_at, kind_of, held_kind, number_kind, common_kind, changed_kind, combined_kind, of_one_kind, of_two_kind, offset_kind, loaded_kind, is_integer, is_pointer, is_atomic, is_turn}
-use Rattle.regcode.specs.Safety.{Suits, operand_kind, MayEnd, GoesOn, ended, failed, on_at, after_at, asked, ticked, IsNext, NeverSticks}
+use Rattle.regcode.specs.Machine.{State, Given, Registers, reg, put, put_array, array_of, entry_at, act, filled, with_put, with_array, with_turns, passed, onward, argument_at}
+use Rattle.regcode.specs.Rules.{IsVerified, Fits, Goes, Takes, HasRoom, Leads, kind_at, loops_at, kind_of, held_kind, number_kind, common_kind, changed_kind, combined_kind, of_one_kind, of_two_kind, offset_kind, loaded_kind, is_integer, is_pointer, is_atomic, is_turn}
+use Rattle.regcode.specs.Safety.{Suits, operand_kind, InTables, MayEnd, GoesOn, ended, failed, on_at, after_at, asked, ticked, IsNext, NeverSticks}
 use Rattle.regcode.specs.declared.instruction.Instruction.{Instruction}
 use Rattle.regcode.specs.declared.instruction.Instruction.TheVariants as instruction
 use Rattle.regcode.specs.declared.tables.RegisterKind.{RegisterKind}
 use Rattle.regcode.specs.declared.tables.RegisterKind.TheVariants.{Integer as IntegerKind, Pointer as PointerKind}
-use Rattle.regcode.proofs.Registers.{reg_put, reg_kept}
+use Rattle.regcode.proofs.Registers.{reg_put, reg_kept, array_put, array_kept, with_entry_length}
+use Rattle.regcode.proofs.Named.{in_tables}
 
 -- The types of operators' values.
 pub unary_is : (operator : UnaryOperator) (v : Integer) → (unary_value operator v).kind ≡ unary_kind operator v.kind
@@ -177,13 +178,13 @@ module _ (Ends : Type 0) (Next : State → Type 0) (on after : State → Run) wh
   if_safe true run cause h = h
   if_safe false run cause h = failed _
 
-  set_safe : (name : ℕ) (i : ℤ) (kind : IntType) (elements : List (Option ℕ)) (v : Integer) (f : List (Option ℕ) → Run) → ((xs : List (Option ℕ)) → Safe (f xs))
+  set_safe : (name : ℕ) (i : ℤ) (kind : IntType) (elements : List (Option ℕ)) (v : Integer) (f : List (Option ℕ) → Run) → ((xs : List (Option ℕ)) → length xs ≡ length elements → Safe (f xs))
       → Safe (element_set name i kind elements v f)
-  set_safe name (pos i) kind elements v f h = if_safe _ _ _ (h _)
+  set_safe name (pos i) kind elements v f h = if_safe _ _ _ (h _ (length-set elements i _))
   set_safe name (negsuc i) kind elements v f h = failed _
 
   write_safe : (name : ℕ) (kind : IntType) (elements : List (Option ℕ)) (i v : Operand) (f : List (Option ℕ) → Run) → IsTrue (is_integer (Some (operand_kind i)))
-      → IsTrue (is_integer (Some (operand_kind v))) → ((xs : List (Option ℕ)) → Safe (f xs)) → Safe (write_element name kind elements i v f)
+      → IsTrue (is_integer (Some (operand_kind v))) → ((xs : List (Option ℕ)) → length xs ≡ length elements → Safe (f xs)) → Safe (write_element name kind elements i v f)
   write_safe name kind elements i v f integer other h =
       number_safe i _ integer (λ n is. number_safe v _ other (λ m is'. set_safe name _ kind elements m f h))
 
@@ -244,6 +245,12 @@ put_cases registers i v j =
       | inr n ↦ inr (reg_kept registers i v j n)
     ]
 
+-- what there is room for
+room_is : (xs : List ℕ) (a count : ℕ) → HasRoom (slice_get xs a) count → count ≤ slice_index xs a
+room_is [] a count h = absurd h
+room_is (most ∷ xs) zero count h = h
+room_is (most ∷ xs) (suc a) count h = room_is xs a count h
+
 module _ (code : Listing) (s : State) (suits : Suits code s) where
   put_typed : (to : ℕ) (v : Option Operand) → ((w : Operand) → v ≡ Some w → kind_at code to ≡ Some (operand_kind w)) → (r : ℕ) (w : Operand) → reg (put s.registers to v) r ≡ Some w
       → kind_at code r ≡ Some (operand_kind w)
@@ -253,26 +260,41 @@ module _ (code : Listing) (s : State) (suits : Suits code s) where
         | inr e ↦ suits.typed r w (sym e ∙ here)
       ]
 
-  set_next : (to : ℕ) (v : Option Operand) → ((w : Operand) → v ≡ Some w → kind_at code to ≡ Some (operand_kind w)) → Leads code (s.place + 1) (loops_at code s.place) → IsNext code s (with_put s to v)
-  set_next to v fits leads =
+  put_size : (to : ℕ) (v : Option Operand) → to < length code.registers → length (put s.registers to v).values ≡ length code.registers
+  put_size to v below =
+      let same = suits.registers in
+      with_entry_length None s.registers.values to v (omega (arith, below, same)) ∙ same
+
+  array_room : (array : ℕ) (elements : List (Option ℕ)) → length elements ≤ slice_index code.arrays array → (a : ℕ) → length (array_of (put_array s.registers array elements) a) ≤ slice_index code.arrays a
+  array_room array elements few a =
+      elim (cases_eq array a) [
+        | inl e ↦ subst (λ b. length (array_of (put_array s.registers array elements) b) ≤ slice_index code.arrays b) e
+            (subst (λ xs. length xs ≤ slice_index code.arrays array) (sym (array_put s.registers array elements)) few)
+        | inr n ↦ subst (λ xs. length xs ≤ slice_index code.arrays a) (sym (array_kept s.registers array elements a n)) (suits.room a)
+      ]
+
+  set_next : (to : ℕ) (v : Option Operand) → to < length code.registers → ((w : Operand) → v ≡ Some w → kind_at code to ≡ Some (operand_kind w)) → Leads code (s.place + 1) (loops_at code s.place) → IsNext code s (with_put s to v)
+  set_next to v below fits leads =
       let counted = suits.counted in
       let few = leads.1 in
-      record { suits = record { inside = leads.0; typed = put_typed to v fits; counted = omega (arith, counted, few) }; forward = inl (omega arith) }
+      record { suits = record { inside = leads.0; registers = put_size to v below; arrays = suits.arrays; typed = put_typed to v fits; room = suits.room; counted = omega (arith, counted, few) }; forward = inl (omega arith) }
 
   put_next : (to : ℕ) (v : Operand) → kind_at code to ≡ Some (operand_kind v) → Leads code (s.place + 1) (loops_at code s.place) → IsNext code s (with_put s to (Some v))
-  put_next to v is leads = set_next to (Some v) (λ w e. is ∙ ap (option_map operand_kind) e) leads
+  put_next to v is leads = set_next to (Some v) (slice_get_within code.registers to _ is) (λ w e. is ∙ ap (option_map operand_kind) e) leads
 
-  array_next : (array : ℕ) (elements : List (Option ℕ)) → Leads code (s.place + 1) (loops_at code s.place) → IsNext code s (with_array s array elements)
-  array_next array elements leads =
+  array_next : (array : ℕ) (elements : List (Option ℕ)) → array < length code.arrays → length elements ≤ slice_index code.arrays array → Leads code (s.place + 1) (loops_at code s.place) → IsNext code s (with_array s array elements)
+  array_next array elements below small leads =
       let counted = suits.counted in
       let few = leads.1 in
-      record { suits = record { inside = leads.0; typed = suits.typed; counted = omega (arith, counted, few) }; forward = inl (omega arith) }
+      let same = suits.arrays in
+      let size = with_entry_length [] s.registers.arrays array elements (omega (arith, below, same)) ∙ same in
+      record { suits = record { inside = leads.0; registers = suits.registers; arrays = size; typed = suits.typed; room = array_room array elements small; counted = omega (arith, counted, few) }; forward = inl (omega arith) }
 
   onward_next : (next : ℕ) → s.place < next → Leads code next (loops_at code s.place) → IsNext code s (record s { place = next })
   onward_next next further leads =
       let counted = suits.counted in
       let few = leads.1 in
-      record { suits = record { inside = leads.0; typed = suits.typed; counted = omega (arith, counted, few) }; forward = inl further }
+      record { suits = record { inside = leads.0; registers = suits.registers; arrays = suits.arrays; typed = suits.typed; room = suits.room; counted = omega (arith, counted, few) }; forward = inl further }
 
   turns_next : (depth count : ℕ) → depth ≤ loops_at code s.place → Leads code (s.place + 1) (depth + 1) → IsNext code s (with_turns s (take depth s.counters ++ count ∷ []))
   turns_next depth count within leads =
@@ -280,116 +302,122 @@ module _ (code : Listing) (s : State) (suits : Suits code s) where
       let few = leads.1 in
       let taken = length-take-le depth s.counters (omega (arith, counted, within)) in
       let all = length-append (take depth s.counters) (count ∷ []) in
-      record { suits = record { inside = leads.0; typed = suits.typed; counted = omega (arith, few, taken, all) }; forward = inl (omega arith) }
+      record { suits = record { inside = leads.0; registers = suits.registers; arrays = suits.arrays; typed = suits.typed; room = suits.room; counted = omega (arith, few, taken, all) }; forward = inl (omega arith) }
 
   back_next : (next : ℕ) → next < length code.instructions → IsTrue (is_turn (slice_get code.instructions next)) → loops_at code next ≤ loops_at code s.place → IsNext code s (record s { place = next })
   back_next next inside turn few =
       let counted = suits.counted in
-      record { suits = record { inside = inside; typed = suits.typed; counted = omega (arith, counted, few) }; forward = inr turn }
+      record { suits = record { inside = inside; registers = suits.registers; arrays = suits.arrays; typed = suits.typed; room = suits.room; counted = omega (arith, counted, few) }; forward = inr turn }
 
   -- what an instruction does, where its operands are as it wants them
   module _ (given : Given) (on after : State → Run) where
-    does : (i : Instruction) → Fits code i → Goes code s.place i → GoesOn (MayEnd i s.registers) (IsNext code s) on after (act given (Some i) on after s)
+    does : (i : Instruction) → Fits code i → InTables code i → Goes code s.place i → GoesOn (MayEnd code i s.registers) (IsNext code s) on after (act given (Some i) on after s)
     unfolding converted
-    does (instruction.Constant to value) fits goes = on_at _ (put_next to _ (takes_is _ _ fits) goes)
-    does (instruction.Unset to) fits goes = on_at _ (set_next to None (λ w e. absurd (none-some w e)) goes)
-    does (instruction.Move to from name) fits goes =
+    does (instruction.Constant to value) fits named goes = on_at _ (put_next to _ (takes_is _ _ fits) goes)
+    does (instruction.Unset to) fits named goes = on_at _ (set_next to None fits (λ w e. absurd (none-some w e)) goes)
+    does (instruction.Move to from name) fits named goes =
         known_safe _ _ on after name _ _ (λ v e. on_at _ (put_next to v (takes_is _ _ fits.0 ∙ suits.typed from v e) goes))
-    does (instruction.Hold to from kind) fits goes =
-        filled_safe _ _ on after _ _ (λ e. inr (from, (0, omega arith, refl), e)) (λ v e.
+    does (instruction.Hold to from kind) fits named goes =
+        filled_safe _ _ on after _ _ (λ e. inr (from, (0, omega arith, refl), named.reads.0, e)) (λ v e.
         on_at _ (put_next to _ (held_takes kind v _ (subst (λ k. Takes (kind_at code to) (held_kind kind k)) (suits.typed from v e) fits)) goes))
-    does (instruction.Convert to from kind) fits goes =
-        filled_safe _ _ on after _ _ (λ e. inr (from, (0, omega arith, refl), e)) (λ v e.
+    does (instruction.Convert to from kind) fits named goes =
+        filled_safe _ _ on after _ _ (λ e. inr (from, (0, omega arith, refl), named.reads.0, e)) (λ v e.
         let takes = subst (λ k. Takes (kind_at code to) (number_kind kind k)) (suits.typed from v e) fits in
         number_safe _ _ on after v _ (number_integer kind v _ takes) (λ n is. on_at _ (put_next to _ (number_takes kind v _ takes) goes)))
-    does (instruction.Common to from other) fits goes =
-        filled_safe _ _ on after _ _ (λ e. inr (from, (0, omega arith, refl), e)) (λ v e.
+    does (instruction.Common to from other) fits named goes =
+        filled_safe _ _ on after _ _ (λ e. inr (from, (0, omega arith, refl), named.reads.0, e)) (λ v e.
         let takes = subst (λ k. Takes (kind_at code to) (common_kind other k)) (suits.typed from v e) fits in
         number_safe _ _ on after v _ (common_integer other v _ takes) (λ n is.
         on_at _ (put_next to _ (takes_is _ _ (subst (λ x. Takes (kind_at code to) (common_kind other (Some (operand_kind x)))) is takes)) goes)))
-    does (instruction.Unary to operator operand) fits goes =
-        filled_safe _ _ on after _ _ (λ e. inr (operand, (0, omega arith, refl), e)) (λ v e.
+    does (instruction.Unary to operator operand) fits named goes =
+        filled_safe _ _ on after _ _ (λ e. inr (operand, (0, omega arith, refl), named.reads.0, e)) (λ v e.
         let takes = subst (λ k. Takes (kind_at code to) (changed_kind operator k)) (suits.typed operand v e) fits in
         number_safe _ _ on after v _ (changed_integer operator v _ takes) (λ n is.
         on_at _ (put_next to _ (takes_is _ _ (subst (λ x. Takes (kind_at code to) (changed_kind operator (Some (operand_kind x)))) is takes) ∙ ap (λ k. Some (IntegerKind k)) (sym (unary_is operator n))) goes)))
-    does (instruction.Binary to operator left right) fits goes =
-        filled_safe _ _ on after _ _ (λ e. inr (left, (0, omega arith, refl), e)) (λ v e.
-        filled_safe _ _ on after _ _ (λ e'. inr (right, (1, omega arith, refl), e')) (λ w e'.
+    does (instruction.Binary to operator left right) fits named goes =
+        filled_safe _ _ on after _ _ (λ e. inr (left, (0, omega arith, refl), named.reads.0, e)) (λ v e.
+        filled_safe _ _ on after _ _ (λ e'. inr (right, (1, omega arith, refl), named.reads.1.0, e')) (λ w e'.
         combined_safe _ _ on after operator v w _ (kind_at code to)
         (subst (λ k. Takes (kind_at code to) (combined_kind operator (Some (operand_kind v)) k)) (suits.typed right w e')
         (subst (λ k. Takes (kind_at code to) (combined_kind operator k (kind_at code right))) (suits.typed left v e) fits))
         (λ x is. on_at _ (put_next to x is goes))))
-    does (instruction.Builtin to function first None) fits goes =
-        filled_safe _ _ on after _ _ (λ e. inr (first, (0, omega arith, refl), e)) (λ v e.
+    does (instruction.Builtin to function first None) fits named goes =
+        filled_safe _ _ on after _ _ (λ e. inr (first, (0, omega arith, refl), named.reads.0, e)) (λ v e.
         of_one_safe _ _ on after function v _ (kind_at code to) (subst (λ k. Takes (kind_at code to) (of_one_kind function k)) (suits.typed first v e) fits)
         (λ x is. on_at _ (put_next to x is goes)))
-    does (instruction.Builtin to function first (Some second)) fits goes =
-        filled_safe _ _ on after _ _ (λ e. inr (first, (0, omega arith, refl), e)) (λ v e.
-        filled_safe _ _ on after _ _ (λ e'. inr (second, (1, omega arith, refl), e')) (λ w e'.
+    does (instruction.Builtin to function first (Some second)) fits named goes =
+        filled_safe _ _ on after _ _ (λ e. inr (first, (0, omega arith, refl), named.reads.0, e)) (λ v e.
+        filled_safe _ _ on after _ _ (λ e'. inr (second, (1, omega arith, refl), named.reads.1.0, e')) (λ w e'.
         of_two_safe _ _ on after function v w _ (kind_at code to)
         (subst (λ k. Takes (kind_at code to) (of_two_kind function (Some (operand_kind v)) k)) (suits.typed second w e')
         (subst (λ k. Takes (kind_at code to) (of_two_kind function k (kind_at code second))) (suits.typed first v e) fits))
         (λ x is. on_at _ (put_next to x is goes))))
-    does (instruction.Dimensions to) fits goes = on_at _ (put_next to _ (takes_is _ _ fits) goes)
-    does (instruction.Query to function dimension) fits goes =
-        filled_safe _ _ on after _ _ (λ e. inr (dimension, (0, omega arith, refl), e)) (λ d e.
+    does (instruction.Dimensions to) fits named goes = on_at _ (put_next to _ (takes_is _ _ fits) goes)
+    does (instruction.Query to function dimension) fits named goes =
+        filled_safe _ _ on after _ _ (λ e. inr (dimension, (0, omega arith, refl), named.reads.0, e)) (λ d e.
         on_at _ (put_next to _ (number_takes Ulong d _ (subst (λ k. Takes (kind_at code to) (number_kind Ulong k)) (suits.typed dimension d e) fits)) goes))
-    does (instruction.Argument to index kind) fits goes =
-        on_at _ (set_next to _ (λ w e. takes_is _ _ fits.0 ∙ content_is given.buffers index kind (argument_at given.arguments index) w e) goes)
-    does (instruction.Local to object element) fits goes = on_at _ (put_next to _ (takes_is _ _ fits.0) goes)
-    does (instruction.UnsetArray array count) fits goes = on_at _ (array_next array _ goes)
-    does (instruction.PrivateLoad to array index element name) fits goes =
-        filled_safe _ _ on after _ _ (λ e. inr (index, (0, omega arith, refl), e)) (λ i e.
+    does (instruction.Argument to index kind) fits named goes =
+        on_at _ (set_next to _ named.writes.0 (λ w e. takes_is _ _ fits.0 ∙ content_is given.buffers index kind (argument_at given.arguments index) w e) goes)
+    does (instruction.Local to object element) fits named goes = on_at _ (put_next to _ (takes_is _ _ fits.0) goes)
+    does (instruction.UnsetArray array count) fits named goes = on_at _ (array_next array (replicate count None) named.arrays.0 (subst (λ n. n ≤ slice_index code.arrays array) (sym (length-replicate count None)) (room_is code.arrays array count fits)) goes)
+    does (instruction.PrivateLoad to array index element name) fits named goes =
+        filled_safe _ _ on after _ _ (λ e. inr (index, (0, omega arith, refl), named.reads.0, e)) (λ i e.
         read_safe _ _ on after name element _ i _ (subst (λ k. IsTrue (is_integer k)) (suits.typed index i e) fits.1)
         (λ x kind. on_at _ (put_next to x (takes_is _ _ fits.0 ∙ ap Some (sym kind)) goes)))
-    does (instruction.PrivateStore array index value element name) fits goes =
-        filled_safe _ _ on after _ _ (λ e. inr (index, (0, omega arith, refl), e)) (λ i e.
-        filled_safe _ _ on after _ _ (λ e'. inr (value, (1, omega arith, refl), e')) (λ v e'.
+    does (instruction.PrivateStore array index value element name) fits named goes =
+        filled_safe _ _ on after _ _ (λ e. inr (index, (0, omega arith, refl), named.reads.0, e)) (λ i e.
+        filled_safe _ _ on after _ _ (λ e'. inr (value, (1, omega arith, refl), named.reads.1.0, e')) (λ v e'.
         write_safe _ _ on after name element _ i v _ (subst (λ k. IsTrue (is_integer k)) (suits.typed index i e) fits.0)
-        (subst (λ k. IsTrue (is_integer k)) (suits.typed value v e') fits.1) (λ xs. on_at _ (array_next array xs goes))))
-    does (instruction.Point to from) fits goes =
-        filled_safe _ _ on after _ _ (λ e. inr (from, (0, omega arith, refl), e)) (λ v e.
+        (subst (λ k. IsTrue (is_integer k)) (suits.typed value v e') fits.1) (λ xs same. on_at _ (array_next array xs named.arrays.0 (let small = suits.room array in omega (arith, small, same)) goes))))
+    does (instruction.Point to from) fits named goes =
+        filled_safe _ _ on after _ _ (λ e. inr (from, (0, omega arith, refl), named.reads.0, e)) (λ v e.
         pointing_safe _ _ on after v _ (subst (λ k. IsTrue (is_pointer k)) (suits.typed from v e) fits.1) (λ q is.
         on_at _ (put_next to (Pointed q) (takes_is _ _ fits.0 ∙ suits.typed from v e ∙ ap (λ w. Some (operand_kind w)) is) goes)))
-    does (instruction.Offset to pointer index) fits goes =
-        filled_safe _ _ on after _ _ (λ e. inr (pointer, (0, omega arith, refl), e)) (λ p e.
-        filled_safe _ _ on after _ _ (λ e'. inr (index, (1, omega arith, refl), e')) (λ i e'.
+    does (instruction.Offset to pointer index) fits named goes =
+        filled_safe _ _ on after _ _ (λ e. inr (pointer, (0, omega arith, refl), named.reads.0, e)) (λ p e.
+        filled_safe _ _ on after _ _ (λ e'. inr (index, (1, omega arith, refl), named.reads.1.0, e')) (λ i e'.
         moved_safe _ _ on after p i _ (kind_at code to)
         (subst (λ k. Takes (kind_at code to) (offset_kind (Some (operand_kind p)) k)) (suits.typed index i e')
         (subst (λ k. Takes (kind_at code to) (offset_kind k (kind_at code index))) (suits.typed pointer p e) fits))
         (λ q is. on_at _ (put_next to _ is goes))))
-    does (instruction.Load to pointer) fits goes =
-        filled_safe _ _ on after _ _ (λ e. inr (pointer, (0, omega arith, refl), e)) (λ p e.
+    does (instruction.Load to pointer) fits named goes =
+        filled_safe _ _ on after _ _ (λ e. inr (pointer, (0, omega arith, refl), named.reads.0, e)) (λ p e.
         let takes = subst (λ k. Takes (kind_at code to) (loaded_kind k)) (suits.typed pointer p e) fits in
         pointing_safe _ _ on after p _ (loaded_pointer p _ takes) (λ q is.
         load_safe _ _ on after q _ (λ x kind.
         after_at _ (put_next to x (takes_is _ _ (subst (λ y. Takes (kind_at code to) (loaded_kind (Some (operand_kind y)))) is takes) ∙ ap Some (sym kind)) goes))))
-    does (instruction.Store pointer value) fits goes =
-        filled_safe _ _ on after _ _ (λ e. inr (pointer, (0, omega arith, refl), e)) (λ p e.
-        filled_safe _ _ on after _ _ (λ e'. inr (value, (1, omega arith, refl), e')) (λ v e'.
+    does (instruction.Store pointer value) fits named goes =
+        filled_safe _ _ on after _ _ (λ e. inr (pointer, (0, omega arith, refl), named.reads.0, e)) (λ p e.
+        filled_safe _ _ on after _ _ (λ e'. inr (value, (1, omega arith, refl), named.reads.1.0, e')) (λ v e'.
         pointing_safe _ _ on after p _ (subst (λ k. IsTrue (is_pointer k)) (suits.typed pointer p e) fits.0) (λ q is.
         store_safe _ _ on after q v _ (subst (λ k. IsTrue (is_integer k)) (suits.typed value v e') fits.1) (after_at _ (onward_next _ (omega arith) goes)))))
-    does (instruction.Update function pointer None) fits goes =
-        filled_safe _ _ on after _ _ (λ e. inr (pointer, (0, omega arith, refl), e)) (λ p e.
+    does (instruction.Update function pointer None) fits named goes =
+        filled_safe _ _ on after _ _ (λ e. inr (pointer, (0, omega arith, refl), named.reads.0, e)) (λ p e.
         update_by_one_safe _ _ on after function p _ (subst (λ k. IsTrue (is_atomic k)) (suits.typed pointer p e) fits) (after_at _ (onward_next _ (omega arith) goes)))
-    does (instruction.Update function pointer (Some value)) fits goes =
-        filled_safe _ _ on after _ _ (λ e. inr (pointer, (0, omega arith, refl), e)) (λ p e.
-        filled_safe _ _ on after _ _ (λ e'. inr (value, (1, omega arith, refl), e')) (λ v e'.
+    does (instruction.Update function pointer (Some value)) fits named goes =
+        filled_safe _ _ on after _ _ (λ e. inr (pointer, (0, omega arith, refl), named.reads.0, e)) (λ p e.
+        filled_safe _ _ on after _ _ (λ e'. inr (value, (1, omega arith, refl), named.reads.1.0, e')) (λ v e'.
         update_safe _ _ on after function p v _ (subst (λ k. IsTrue (is_atomic k)) (suits.typed pointer p e) fits.0)
         (subst (λ k. IsTrue (is_integer k)) (suits.typed value v e') fits.1) (after_at _ (onward_next _ (omega arith) goes))))
-    does (instruction.Barrier site depth fences) fits goes = asked _ _ (λ answer. after_at _ (onward_next _ (omega arith) goes.1))
-    does (instruction.Enter depth) fits goes = on_at _ (turns_next depth 0 goes.0 goes.2)
-    does (instruction.Turn depth) fits goes = ticked _ (after_at _ (turns_next depth _ (let within = goes.0 in omega (arith, within)) goes.1))
-    does (instruction.Jump by) fits goes = on_at _ (onward_next _ (omega arith) goes)
-    does (instruction.JumpIfZero register by) fits goes =
-        filled_safe _ _ on after _ _ (λ e. inr (register, (0, omega arith, refl), e)) (λ v e.
+    does (instruction.Barrier site depth fences) fits named goes = asked _ _ (λ answer. after_at _ (onward_next _ (omega arith) goes.1))
+    does (instruction.Enter depth) fits named goes = on_at _ (turns_next depth 0 goes.0 goes.2)
+    does (instruction.Turn depth) fits named goes = ticked _ (after_at _ (turns_next depth _ (let within = goes.0 in omega (arith, within)) goes.1))
+    does (instruction.Jump by) fits named goes = on_at _ (onward_next _ (omega arith) goes)
+    does (instruction.JumpIfZero register by) fits named goes =
+        filled_safe _ _ on after _ _ (λ e. inr (register, (0, omega arith, refl), named.reads.0, e)) (λ v e.
         test_safe _ _ on after v _ (subst (λ k. IsTrue (is_integer k)) (suits.typed register v e) fits) sides)
       where
-        sides : (b : Bool) → GoesOn (MayEnd (instruction.JumpIfZero register by) s.registers) (IsNext code s) on after (if b then on (passed s) else on (onward s by))
+        sides : (b : Bool) → GoesOn (MayEnd code (instruction.JumpIfZero register by) s.registers) (IsNext code s) on after (if b then on (passed s) else on (onward s by))
         sides true = on_at _ (onward_next _ (omega arith) goes.0)
         sides false = on_at _ (onward_next _ (omega arith) goes.1)
-    does (instruction.Back by) fits goes = on_at _ (back_next _ (let inside = suits.inside in omega (arith, inside)) goes.1 goes.2)
-    does instruction.End fits goes = ended (inl refl)
+    does (instruction.Back by) fits named goes = on_at _ (back_next _ (let inside = suits.inside in omega (arith, inside)) goes.1 goes.2)
+    does instruction.End fits named goes = ended (inl refl)
+
+-- no array has elements at the start
+empty_at_start : (count a : ℕ) → entry_at {A = List (Option ℕ)} [] (replicate count []) a ≡ []
+empty_at_start zero a = refl
+empty_at_start (suc count) zero = refl
+empty_at_start (suc count) (suc a) = empty_at_start count a
 
 -- no register has a value at the start
 unset_at_start : (count r : ℕ) → entry_at {A = Option Operand} None (replicate count None) r ≡ None
@@ -402,13 +430,16 @@ never_sticks code ok =
     record {
       start = record {
         inside = ok.begins;
+        registers = length-replicate (length code.registers) None;
+        arrays = length-replicate (length code.arrays) [];
         typed = λ r v e. absurd (none-some v (sym (unset_at_start (length code.registers) r) ∙ e));
+        room = λ a. subst (λ xs. length xs ≤ slice_index code.arrays a) (sym (empty_at_start (length code.arrays) a)) (omega arith);
         counted = let outside = ok.outside in omega (arith, outside);
       };
       next = λ given s suits on after. goes given s suits on after (slice_get code.instructions s.place) refl;
     }
   where
     goes : (given : Given) (s : State) → Suits code s → (on after : State → Run) → (o : Option Instruction) → slice_get code.instructions s.place ≡ o
-        → (i : Instruction) × (o ≡ Some i) × GoesOn (MayEnd i s.registers) (IsNext code s) on after (act given o on after s)
-    goes given s suits on after (Some i) here = let fine = ok.each s.place i here in (i, refl, does code s suits given on after i fine.fits fine.goes)
+        → (i : Instruction) × (o ≡ Some i) × InTables code i × GoesOn (MayEnd code i s.registers) (IsNext code s) on after (act given o on after s)
+    goes given s suits on after (Some i) here = let fine = ok.each s.place i here in let named = in_tables code i fine.fits in (i, refl, named, does code s suits given on after i fine.fits named fine.goes)
     goes given s suits on after None here = absurd (none-some _ (sym here ∙ slice_get-get_or code.instructions s.place instruction.End suits.inside))

@@ -1,5 +1,5 @@
 -- What verified code never meets.
-use Rattle.std.specs.Prelude.{◌≡◌, ℕ, ◌<◌, ◌≤◌, ◌⊎◌, IsTrue, None, Some, List, [], ◌∷◌, length, slice_get}
+use Rattle.std.specs.Prelude.{◌≡◌, ℕ, ◌<◌, ◌≤◌, ◌⊎◌, IsTrue, None, Some, List, [], ◌∷◌, length, slice_get, slice_index}
 use Rattle.std.specs.List.{Contains}
 use Rattle.clmodel.specs.Next.{Run, finish, fail, ask, tick}
 use Rattle.clmodel.specs.declared.action.Action.{Action}
@@ -7,8 +7,9 @@ use Rattle.clmodel.specs.declared.action.Answer.{Answer}
 use Rattle.clmodel.specs.declared.action.Cause.{Cause}
 use Rattle.clmodel.specs.declared.operand.Operand.{Operand}
 use Rattle.clmodel.specs.declared.operand.Operand.TheVariants.{Integral, Pointed}
+use Rattle.clmodel.specs.declared.tree.VariableType.{VariableType}
 use Rattle.regcode.specs.Listing.{Listing}
-use Rattle.regcode.specs.Machine.{State, Given, Registers, reg, act, at_start}
+use Rattle.regcode.specs.Machine.{State, Given, Registers, reg, array_of, act, at_start}
 use Rattle.regcode.specs.Rules.{kind_at, loops_at, is_turn}
 use Rattle.regcode.specs.declared.instruction.Instruction.{Instruction}
 use Rattle.regcode.specs.declared.instruction.Instruction.TheVariants as instruction
@@ -20,10 +21,14 @@ abbrev pub operand_kind : Operand → RegisterKind
 operand_kind (Integral v) = Integer v.kind
 operand_kind (Pointed p) = Pointer p.element
 
--- A state that suits code: it stands at an instruction, each register with a value is in the tables and of the value's kind, and the loops that are entered there are counted.
+-- A state that suits code: it stands at an instruction; it has as many registers and private arrays as the tables list, each register's value is of its
+-- kind, and no array has more elements than there is room for; and the loops that are entered there are counted.
 pub record Suits (code : Listing) (s : State) : Type 0 where
   pub inside : s.place < length code.instructions
+  pub registers : length s.registers.values ≡ length code.registers
+  pub arrays : length s.registers.arrays ≡ length code.arrays
   pub typed : (r : ℕ) (v : Operand) → reg s.registers r ≡ Some v → kind_at code r ≡ Some (operand_kind v)
+  pub room : (a : ℕ) → length (array_of s.registers a) ≤ slice_index code.arrays a
   pub counted : loops_at code s.place ≤ length s.counters
 
 -- the registers whose values an instruction works on; `Move` isn't here: it fails where its variable is unset
@@ -47,9 +52,78 @@ operands (instruction.Update function pointer (Some value)) = pointer ∷ value 
 operands (instruction.JumpIfZero register by) = register ∷ []
 operands _ = []
 
--- An instruction may end an item: it is the end, or an operand is unset.
-abbrev pub MayEnd : Instruction → Registers → Type 0
-MayEnd i registers = (i ≡ instruction.End) ⊎ ((r : ℕ) × Contains (operands i) r × (reg registers r ≡ None))
+-- all registers that an instruction reads
+abbrev pub sources : Instruction → List ℕ
+sources (instruction.Move to from name) = from ∷ []
+sources i = operands i
+
+-- the register that it writes
+abbrev pub targets : Instruction → List ℕ
+targets (instruction.Constant to value) = to ∷ []
+targets (instruction.Unset to) = to ∷ []
+targets (instruction.Move to from name) = to ∷ []
+targets (instruction.Hold to from kind) = to ∷ []
+targets (instruction.Convert to from kind) = to ∷ []
+targets (instruction.Common to from other) = to ∷ []
+targets (instruction.Unary to operator operand) = to ∷ []
+targets (instruction.Binary to operator left right) = to ∷ []
+targets (instruction.Builtin to function first second) = to ∷ []
+targets (instruction.Dimensions to) = to ∷ []
+targets (instruction.Query to function dimension) = to ∷ []
+targets (instruction.Argument to index kind) = to ∷ []
+targets (instruction.Local to number element) = to ∷ []
+targets (instruction.PrivateLoad to array index element name) = to ∷ []
+targets (instruction.Point to from) = to ∷ []
+targets (instruction.Offset to pointer index) = to ∷ []
+targets (instruction.Load to pointer) = to ∷ []
+targets _ = []
+
+-- the private arrays that it names
+abbrev pub arrays_named : Instruction → List ℕ
+arrays_named (instruction.UnsetArray array count) = array ∷ []
+arrays_named (instruction.PrivateLoad to array index element name) = array ∷ []
+arrays_named (instruction.PrivateStore array index value element name) = array ∷ []
+arrays_named _ = []
+
+-- the local objects
+abbrev pub objects_named : Instruction → List ℕ
+objects_named (instruction.Local to number element) = number ∷ []
+objects_named _ = []
+
+-- the places in the table of names
+abbrev pub names_named : Instruction → List ℕ
+names_named (instruction.Move to from name) = name ∷ []
+names_named (instruction.PrivateLoad to array index element name) = name ∷ []
+names_named (instruction.PrivateStore array index value element name) = name ∷ []
+names_named _ = []
+
+-- the parameters, each with the type that it is taken for
+abbrev pub parameters_named : Instruction → List (ℕ × VariableType)
+parameters_named (instruction.Argument to index kind) = (index, kind) ∷ []
+parameters_named _ = []
+
+-- all of these are places in a table with so many entries
+abbrev pub Below : ℕ → List ℕ → Type 0
+Below count [] = Unit {0}
+Below count (n ∷ numbers) = (n < count) × Below count numbers
+
+-- all of these are parameters of their types
+abbrev pub Declared : List VariableType → List (ℕ × VariableType) → Type 0
+Declared parameters [] = Unit {0}
+Declared parameters (p ∷ ps) = (slice_get parameters p.0 ≡ Some p.1) × Declared parameters ps
+
+-- All that an instruction names is in the tables.
+pub record InTables (code : Listing) (i : Instruction) : Type 0 where
+  pub reads : Below (length code.registers) (sources i)
+  pub writes : Below (length code.registers) (targets i)
+  pub arrays : Below (length code.arrays) (arrays_named i)
+  pub objects : Below code.objects (objects_named i)
+  pub names : Below code.names (names_named i)
+  pub parameters : Declared code.parameters (parameters_named i)
+
+-- An instruction may end an item: it is the end, or an operand, whose register is in the tables, is unset.
+abbrev pub MayEnd : Listing → Instruction → Registers → Type 0
+MayEnd code i registers = (i ≡ instruction.End) ⊎ ((r : ℕ) × Contains (operands i) r × (r < length code.registers) × (reg registers r ≡ None))
 
 -- What an instruction does, where `on` and `after` are what follows: it fails, or asks or takes a tick and goes on, always in a state of which `Next` holds. It ends only where `Ends` holds.
 pub data GoesOn (Ends : Type 0) (Next : State → Type 0) (on after : State → Run) : Run → Type 0 where
@@ -65,9 +139,10 @@ pub record IsNext (code : Listing) (s : State) (next : State) : Type 0 where
   pub suits : Suits code next
   pub forward : (s.place < next.place) ⊎ IsTrue (is_turn (slice_get code.instructions next.place))
 
--- Verified code suits its start. In a state that suits it an instruction is there, and whatever follows, it goes on in states that suit it; it ends only at its end or for want of an operand.
+-- Verified code suits its start. In a state that suits it an instruction is there, which names nothing but entries of the tables. Whatever follows, it goes
+-- on in states that suit the code; it ends only at its end or for want of an operand.
 pub record NeverSticks (code : Listing) : Type 0 where
   pub start : Suits code (at_start (length code.registers) (length code.arrays))
   pub next : (given : Given) (s : State) → Suits code s → (on after : State → Run)
-      → (i : Instruction) × (slice_get code.instructions s.place ≡ Some i)
-      × GoesOn (MayEnd i s.registers) (IsNext code s) on after (act given (slice_get code.instructions s.place) on after s)
+      → (i : Instruction) × (slice_get code.instructions s.place ≡ Some i) × InTables code i
+      × GoesOn (MayEnd code i s.registers) (IsNext code s) on after (act given (slice_get code.instructions s.place) on after s)

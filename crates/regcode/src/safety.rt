@@ -5,8 +5,9 @@ ghost use Rattle.regcode.specs.Listing.{Listing};
 ghost use Rattle.regcode.specs.Rules.{IsVerified};
 ghost use Rattle.regcode.specs.Safety.{NeverSticks};
 
-/// Verified code never meets a register or an entry that isn't in its tables, a register of a wrong kind, a jump out of the code, or a
-/// jump to itself or backward that doesn't go to a turn of a loop, whatever the launch, the item and the answers.
+/// Verified code never meets a register or an entry that isn't in its tables, a register of a wrong kind, a private array without the
+/// room for its elements, a jump out of the code, or a jump to itself or backward that doesn't go to a turn of a loop, whatever the
+/// launch, the item and the answers.
 pub fn never_sticks()
     ensures { (code : Listing) → IsVerified code → NeverSticks code }
 {}
