@@ -32,13 +32,13 @@ kernel = record (new_rule (codes "KERNEL")) { required = true }
 abbrev pub dump_form : App
 dump_form = with_rule (with_rule (new_app (codes "dump")) file) kernel
 
+-- `clsim run FILE [--budget N]`
+abbrev pub runs : App
+runs = with_subcommand (on_top (λ top. record top { subcommand_required = true }) (new_app (codes "clsim"))) run_form.top
+
 -- `clsim run FILE [--budget N]`, `clsim check FILE` or `clsim dump FILE KERNEL`
 abbrev pub program : App
-program = with_subcommand
-    (with_subcommand
-    (with_subcommand (on_top (λ top. record top { subcommand_required = true }) (new_app (codes "clsim"))) run_form.top)
-    check_form.top)
-    dump_form.top
+program = with_subcommand (with_subcommand runs check_form.top) dump_form.top
 
 -- the number of `--budget`, or 100,000 where it isn't there
 abbrev pub IsBudget : Option Text → ℕ → Type 0

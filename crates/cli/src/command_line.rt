@@ -1,10 +1,11 @@
 //! The command line of the program.
 #![tactic(auto)]
 
-ghost use Rattle.std.specs.Prelude.{◌≡◌, ◌≤◌, false, map, codes, IfOk, IfSome};
-ghost use Rattle.clap.specs.Words.{app_of, found_of, rows_of, subcommand_rows_of};
+ghost use Rattle.std.specs.Prelude.{◌≡◌, ◌≤◌, false, map, Ok, IfOk, IfSome};
+ghost use Rattle.clap.specs.Words.{AddsSubcommand, app_of, new_app, rule_of, found_of, rows_of, subcommand_rows_of};
+ghost use Rattle.clap.specs.declared.builder.command.Command.{Command};
 ghost use Rattle.clap.specs.declared.builder.command.Command.TheViews.{out-Command};
-ghost use Rattle.cli.specs.CommandLine.{run_form, check_form, dump_form, program, GivesBudget, IsRun, IsCheck, IsDump, Holds, AsksFor};
+ghost use Rattle.cli.specs.CommandLine.{file, budget, kernel, run_form, check_form, dump_form, runs, program, GivesBudget, IsRun, IsCheck, IsDump, Holds, AsksFor};
 
 use crate::session::Options;
 use clap::builder::ValueParser;
@@ -26,21 +27,54 @@ pub enum Invocation<'a> {
 /// The greatest budget of a run.
 const MAX_BUDGET: u32 = 1_000_000;
 
+/// The argument `FILE`, and what help says of it.
+fn file<'a>(alloc: Global, help: &'a str) -> Arg<'a>
+    ensures rule { rule_of result ≡ file }
+    ensures local { result.global ≡ false }
+{
+    Arg::new(alloc, "FILE").required(true).help(help)
+}
+
+/// The option `--budget N`.
+fn budget<'a>(alloc: Global) -> Arg<'a>
+    ensures rule { rule_of result ≡ budget }
+    ensures local { result.global ≡ false }
+{
+    Arg::new(alloc, "budget")
+        .long("budget")
+        .value_name("N")
+        .value_parser(ValueParser::unsigned(1, MAX_BUDGET as u64))
+        .help("The most ticks of a work-item: accesses, barriers and turns of loops")
+}
+
+/// The argument `KERNEL`.
+fn kernel<'a>(alloc: Global) -> Arg<'a>
+    ensures rule { rule_of result ≡ kernel }
+    ensures local { result.global ≡ false }
+{
+    Arg::new(alloc, "KERNEL")
+        .required(true)
+        .help("The kernel's name")
+}
+
+/// A form without arguments, and what help says of it.
+fn named<'a>(alloc: Global, name: &'a str, about: &'a str) -> Command<'a>
+    ensures form { app_of result ≡ new_app name.entry.now }
+    ensures local { (out-Command result).has_globals ≡ false }
+{
+    Command::new(alloc, name).about(about)
+}
+
 /// The form `run FILE [--budget N]`.
 fn run_form<'a>(alloc: Global) -> Result<Command<'a>, AllocError>
     ensures form { IfOk result (λ form. app_of form ≡ run_form) }
     ensures local { IfOk result (λ form. (out-Command form).has_globals ≡ false) }
 {
-    let script = Arg::new(alloc, "FILE").required(true).help("The script");
-    let budget = Arg::new(alloc, "budget")
-        .long("budget")
-        .value_name("N")
-        .value_parser(ValueParser::unsigned(1, MAX_BUDGET as u64))
-        .help("The most ticks of a work-item: accesses, barriers and turns of loops");
-    Command::new(alloc, "run")
-        .about("Runs a script and prints its replies")
-        .arg(script)?
-        .arg(budget)
+    let form = named(alloc, "run", "Runs a script and prints its replies").arg(file(
+        alloc,
+        "The script",
+    ))?;
+    form.arg(budget(alloc))
 }
 
 /// The form `check FILE`.
@@ -48,12 +82,12 @@ fn check_form<'a>(alloc: Global) -> Result<Command<'a>, AllocError>
     ensures form { IfOk result (λ form. app_of form ≡ check_form) }
     ensures local { IfOk result (λ form. (out-Command form).has_globals ≡ false) }
 {
-    let source = Arg::new(alloc, "FILE")
-        .required(true)
-        .help("The source, in OpenCL C");
-    Command::new(alloc, "check")
-        .about("Checks a source and prints ok or its first fault")
-        .arg(source)
+    named(
+        alloc,
+        "check",
+        "Checks a source and prints ok or its first fault",
+    )
+    .arg(file(alloc, "The source, in OpenCL C"))
 }
 
 /// The form `dump FILE KERNEL`.
@@ -61,16 +95,11 @@ fn dump_form<'a>(alloc: Global) -> Result<Command<'a>, AllocError>
     ensures form { IfOk result (λ form. app_of form ≡ dump_form) }
     ensures local { IfOk result (λ form. (out-Command form).has_globals ≡ false) }
 {
-    let source = Arg::new(alloc, "FILE")
-        .required(true)
-        .help("The source, in OpenCL C");
-    let kernel = Arg::new(alloc, "KERNEL")
-        .required(true)
-        .help("The kernel's name");
-    Command::new(alloc, "dump")
-        .about("Prints the register code of a kernel")
-        .arg(source)?
-        .arg(kernel)
+    let form = named(alloc, "dump", "Prints the register code of a kernel").arg(file(
+        alloc,
+        "The source, in OpenCL C",
+    ))?;
+    form.arg(kernel(alloc))
 }
 
 /// The budget of a run, the default where the option isn't there, and `None` where it is no budget.
@@ -127,16 +156,56 @@ fn asked<'a>(matches: &ArgMatches<'a>) -> Option<Invocation<'a>>
     dump_of(matches.subcommand_matches("dump")?)
 }
 
+/// The forms of the command line, `run` alone.
+fn runs<'a>(alloc: Global) -> Result<Command<'a>, AllocError>
+    ensures { IfOk result (λ forms. app_of forms ≡ runs) }
+{
+    let run = run_form(alloc)?;
+    named(alloc, "clsim", "A simulated OpenCL 1.2 device")
+        .subcommand_required(true)
+        .subcommand(run)
+}
+
+/// Forms with one more, where that one was made.
+fn with_form<'a>(
+    forms: Command<'a>,
+    form: Result<Command<'a>, AllocError>,
+) -> Result<Command<'a>, AllocError>
+    ensures { IfOk result (λ all. (added : Command) × (form.entry ≡ Ok added) × AddsSubcommand forms.entry added all) }
+{
+    match form {
+        Ok(form) => forms.subcommand(form),
+        Err(AllocError) => Err(AllocError),
+    }
+}
+
 /// The forms of the command line.
 fn forms<'a>(alloc: Global) -> Result<Command<'a>, AllocError>
     ensures { IfOk result (λ forms. app_of forms ≡ program) }
 {
-    Command::new(alloc, "clsim")
-        .about("A simulated OpenCL 1.2 device")
-        .subcommand_required(true)
-        .subcommand(run_form(alloc)?)?
-        .subcommand(check_form(alloc)?)?
-        .subcommand(dump_form(alloc)?)
+    let runs = runs(alloc)?;
+    let runs_and_checks = with_form(runs, check_form(alloc))?;
+    with_form(runs_and_checks, dump_form(alloc))
+}
+
+/// The error of a command line that holds no form.
+fn missing(forms: &mut Command<'_>) -> Error {
+    match forms.error(ErrorKind::MissingSubcommand, "a command is missing") {
+        Ok(error) => error,
+        Err(AllocError) => Error::from(AllocError),
+    }
+}
+
+/// Reads the words of a command line by its forms.
+fn command_by<'a>(forms: &mut Command<'a>, words: &'a [&'a str]) -> Result<Invocation<'a>, Error>
+    requires { app_of forms.old ≡ program }
+    ensures { IfOk result (λ asked. AsksFor (map (λ word. word.now) words.entry.now) asked) }
+{
+    let matches = forms.try_get_matches_from_mut(words)?;
+    match asked(&matches) {
+        Some(asked) => Ok(asked),
+        None => Err(missing(forms)),
+    }
 }
 
 /// Reads the words of a command line, the program's name first. The forms are `clsim run FILE [--budget N]`, `clsim check FILE`
@@ -144,10 +213,6 @@ fn forms<'a>(alloc: Global) -> Result<Command<'a>, AllocError>
 pub fn command<'a>(alloc: Global, words: &'a [&'a str]) -> Result<Invocation<'a>, Error>
     ensures { IfOk result (λ asked. AsksFor (map (λ word. word.now) words.entry.now) asked) }
 {
-    let mut program = forms(alloc)?;
-    let matches = program.try_get_matches_from_mut(words)?;
-    match asked(&matches) {
-        Some(asked) => Ok(asked),
-        None => Err(program.error(ErrorKind::MissingSubcommand, "a command is missing")?),
-    }
+    let mut forms = forms(alloc)?;
+    command_by(&mut forms, words)
 }

@@ -93,8 +93,10 @@ fn answer<W: Write>(
     ensures err { OnErr result (BreaksOne (machine_of device.old) command (W.sink writer.old) (W.sink writer.new)) }
 {
     let reply = device.apply(command);
-    write_reply(&reply, writer)?;
-    Ok(one_end(&reply, end))
+    match write_reply(&reply, writer) {
+        Ok(()) => Ok(one_end(&reply, end)),
+        Err(WriteFailed) => Err(WriteFailed),
+    }
 }
 
 /// Performs the commands in order, and writes a line for each reply.

@@ -1,16 +1,20 @@
-use Rattle.std.proofs.Common.{rules, ◌≡◌, ◌∙◌, ap, ap₂, true, codes}
+use Rattle.std.proofs.Common.{◌≡◌, ◌∙◌, ap, ap₂, subst, false, Ok, Result, ℕ}
+use Rattle.std.specs.Prelude.{IfOk}
 use Rattle.std.proofs.lemmas.Result.{IfOk-weaker}
-use Rattle.clap.specs.Simple.{on_top}
-use Rattle.clap.specs.Words.{app_of, new_app, with_subcommand}
+use Rattle.clap.specs.Words.{App, AddsSubcommand, app_of, with_subcommand}
+use Rattle.clap.specs.declared.builder.command.Command.{Command}
+use Rattle.clap.specs.declared.builder.command.Command.TheViews.{out-Command}
 use Rattle.cli.proofs.command_line.forms.Goals as goal
+
+-- a form that was made is the next of the forms
+next : {E : Type 0} (made : Result Command E) (forms all : Command) (old form : App) → IfOk made (λ f. app_of f ≡ form) → IfOk made (λ f. (out-Command f).has_globals ≡ false) → app_of forms ≡ old
+    → ((added : Command) × (made ≡ Ok added) × AddsSubcommand forms added all) → app_of all ≡ with_subcommand old form.top
+next {E} made forms all old form shape local same h =
+    let is : app_of h.0 ≡ form = subst (λ (r : Result Command E). IfOk r (λ f. app_of f ≡ form)) h.1 shape in
+    let own : (out-Command h.0).has_globals ≡ false = subst (λ (r : Result Command E). IfOk r (λ f. (out-Command f).has_globals ≡ false)) h.1 local in
+    h.2.shape own ∙ ap₂ with_subcommand same (ap (λ a. a.top) is)
 
 pub returns : goal.returns
 returns c =
-    let named : app_of c.subcommand_required.result ≡ on_top (λ top. record top { subcommand_required = true }) (new_app (codes "clsim")) = search rules in
-    let run = c.in_ok-run_form.ensures in
-    let check = c.in_ok-check_form.ensures in
-    let dump = c.in_ok-dump_form.ensures in
-    IfOk-weaker c.subcommand-3.result _ _ (λ forms h. h.shape dump.local
-    ∙ ap₂ with_subcommand (c.in_ok-subcommand-2.ensures.shape check.local
-    ∙ ap₂ with_subcommand (c.in_ok-subcommand.ensures.shape run.local
-    ∙ ap₂ with_subcommand named (ap (λ a. a.top) run.form)) (ap (λ a. a.top) check.form)) (ap (λ a. a.top) dump.form)) c.subcommand-3.ensures
+    let checks = next c.check_form.result c.in_ok-runs.runs c.in_ok-runs_and_checks.runs_and_checks _ _ c.check_form.ensures.form c.check_form.ensures.local c.in_ok-runs.ensures c.in_ok-runs_and_checks.ensures in
+    IfOk-weaker c.with_form-2.result _ _ (λ forms h. next c.dump_form.result c.in_ok-runs_and_checks.runs_and_checks forms _ _ c.dump_form.ensures.form c.dump_form.ensures.local checks h) c.with_form-2.ensures
