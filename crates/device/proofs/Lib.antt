@@ -3,3 +3,4 @@ pub mod Runs
 pub mod Launches
 pub mod Kept
 pub mod Arguments
+pub mod Removed

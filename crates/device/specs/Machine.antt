@@ -1,7 +1,7 @@
 -- The machine: what each command answers and leaves.
 use Rattle.std.specs.Prelude.{◌≡◌, ℕ, ◌+◌, ◌==◌, ◌⊎◌, Bool, true, false, not, ◌&&◌, ◌||◌, nat_le, nat_lt, if◌then◌else◌, IsTrue, List, [], ◌∷◌, ◌++◌, length, map, take, drop, replicate, slice_get, Option, None, Some, is_some, Result, Ok, Err}
 use Rattle.std.specs.List.{list_any, sum_by}
-use Rattle.std.specs.Map.{set_value}
+use Rattle.std.specs.Map.{remove_entry, set_value, values_of}
 use Rattle.std.specs.Option.{option_map_or, unwrap_or, MatchOption}
 use Rattle.clmodel.specs.Law.{CleanWith, Reaches, RunsIntoFault}
 use Rattle.clmodel.specs.Launch.{Launch}
@@ -14,16 +14,17 @@ use Rattle.clmodel.specs.Tree.{Program, NoFunc, program}
 use Rattle.clmodel.specs.declared.setup.Argument.{Argument}
 use Rattle.clmodel.specs.declared.setup.Argument.TheVariants as argument
 use Rattle.clmodel.specs.declared.setup.Range.{Range}
-use Rattle.spaces_base.specs.Buffers.{bytes_in, with_bytes}
+use Rattle.spaces_base.specs.Buffers.{bytes_in, with_bytes, repeated}
 use Rattle.device_store.specs.Builds.{Builds}
-use Rattle.device_store.specs.Kernels.{KernelState, kernel_number, parameters_of, with_argument, new_kernel, no_kernel, suits}
+use Rattle.device_store.specs.Fills.{is_bad_fill}
+use Rattle.device_store.specs.Kernels.{KernelState, kernel_number, names_buffer, parameters_of, with_argument, new_kernel, no_kernel, suits}
 use Rattle.device_store.specs.Ranges.{is_bad_dimension, is_bad_group, is_too_many}
 use Rattle.spaces_base.specs.Tables.{Table, is, find, with_values}
 use Rattle.device_store.specs.declared.command.BuildFault.{BuildFault}
 use Rattle.device_store.specs.declared.command.Command.{Command}
 use Rattle.device_store.specs.declared.command.Command.TheVariants as command
 use Rattle.device_store.specs.declared.command.Refusal.{Refusal}
-use Rattle.device_store.specs.declared.command.Refusal.TheVariants.{NameInUse, NoSuchName, BadSize, OutOfRange, TooManyBuffers, BadDimension, BadGroupSize, TooManyItems, BuildFailed, NoSuchKernel, BadArgument, ArgumentsMissing, LocalTooLarge, OutOfMemory}
+use Rattle.device_store.specs.declared.command.Refusal.TheVariants.{NameInUse, NoSuchName, BadSize, OutOfRange, TooManyBuffers, BadDimension, BadGroupSize, TooManyItems, Overlap, BuildFailed, NoSuchKernel, BadArgument, ArgumentsMissing, LocalTooLarge, InUse, OutOfMemory}
 use Rattle.device_store.specs.declared.command.Reply.{Reply}
 use Rattle.device_store.specs.declared.command.Reply.TheVariants as reply
 use Rattle.device.specs.declared.Device.{Device}
@@ -81,6 +82,22 @@ is_there m (argument.Buffer name) = is_some (find m.buffers name)
 is_there m (argument.Value n) = true
 is_there m (argument.Local size) = true
 
+-- an argument of a kernel names a buffer
+abbrev pub is_argument : Machine → List ℕ → Bool
+is_argument m name = list_any (λ kernel. list_any (names_buffer name) kernel.arguments) (values_of m.kernels)
+
+-- a kernel is of a program
+abbrev pub has_kernels : Machine → List ℕ → Bool
+has_kernels m name = list_any (λ kernel. is name kernel.program) (values_of m.kernels)
+
+-- a buffer that an argument of a kernel names, or a program with a kernel
+abbrev pub is_in_use : Machine → List ℕ → Bool
+is_in_use m name = (is_some (find m.buffers name) && is_argument m name) || (is_some (find m.programs name) && has_kernels m name)
+
+-- two ranges of so many bytes share one
+abbrev pub do_overlap : ℕ → ℕ → ℕ → Bool
+do_overlap first second count = nat_lt first (second + count) && nat_lt second (first + count)
+
 -- what a launch of a kernel runs
 abbrev pub setup_of : Machine → KernelState → Range → Setup
 setup_of m kernel range =
@@ -107,11 +124,23 @@ row m (command.Write name at bytes) =
     ∷ (length bytes == 0, BadSize)
     ∷ (nat_lt (length (bytes_of m name)) (at + length bytes), OutOfRange)
     ∷ []
+row m (command.Fill name at count pattern) =
+    (not (is_some (find m.buffers name)), NoSuchName)
+    ∷ (is_bad_fill at count pattern, BadSize)
+    ∷ (nat_lt (length (bytes_of m name)) (at + count), OutOfRange)
+    ∷ []
+row m (command.Copy source at target to count) =
+    (not (is_some (find m.buffers source)) || not (is_some (find m.buffers target)), NoSuchName)
+    ∷ (count == 0, BadSize)
+    ∷ (nat_lt (length (bytes_of m source)) (at + count) || nat_lt (length (bytes_of m target)) (to + count), OutOfRange)
+    ∷ (is source target && do_overlap at to count, Overlap)
+    ∷ []
 row m (command.Read name at count) =
     (not (is_some (find m.buffers name)), NoSuchName)
     ∷ (count == 0, BadSize)
     ∷ (nat_lt (length (bytes_of m name)) (at + count), OutOfRange)
     ∷ []
+row m (command.Release name) = (not (is_used m name), NoSuchName) ∷ (is_in_use m name, InUse) ∷ []
 row m (command.Program name source) = (is_used m name, NameInUse) ∷ []
 row m (command.Kernel name program function) =
     (is_used m name, NameInUse)
@@ -164,7 +193,15 @@ abbrev pub Does : Machine → Command → Reply → Machine → Type 0
 Does old (command.Buffer name size) r new = (r ≡ reply.Done) × (new ≡ record old { buffers = old.buffers ++ (name, replicate size 0) ∷ [] })
 Does old (command.Write name at bytes) r new =
     (r ≡ reply.Done) × (new ≡ record old { buffers = set_value (is name) old.buffers (with_bytes (bytes_of old name) at bytes) })
+Does old (command.Fill name at count pattern) r new =
+    (r ≡ reply.Done) × (new ≡ record old { buffers = set_value (is name) old.buffers (with_bytes (bytes_of old name) at (repeated pattern count)) })
+Does old (command.Copy source at target to count) r new =
+    (r ≡ reply.Done)
+    × (new ≡ record old { buffers = set_value (is target) old.buffers (with_bytes (bytes_of old target) to (take count (drop at (bytes_of old source)))) })
 Does old (command.Read name at count) r new = (r ≡ reply.Data (take count (drop at (bytes_of old name)))) × (new ≡ old)
+Does old (command.Release name) r new =
+    (r ≡ reply.Done)
+    × (new ≡ record old { buffers = remove_entry (is name) old.buffers; programs = remove_entry (is name) old.programs; kernels = remove_entry (is name) old.kernels })
 Does old (command.Program name source) r new = (built : Result Program BuildFault) × Builds source built × Built old name built r new
 Does old (command.Kernel name program function) r new =
     (r ≡ reply.Done) × (new ≡ record old { kernels = old.kernels ++ (name, named_kernel (program_of old program) program function) ∷ [] })
@@ -176,11 +213,14 @@ Does old (command.Launch kernel range) r new = Launches old (setup_of old (kerne
 abbrev pub Answers : Machine → Command → Reply → Machine → Type 0
 Answers old c r new = MatchOption (first (row old c)) (Does old c r new) (λ refusal. (r ≡ reply.Refused refusal) × (new ≡ old))
 
--- the commands whose rows end with refusal 16: all but a write
+-- the commands whose rows end with refusal 16: all but a write, a fill and a release
 abbrev pub takes_memory : Command → Bool
 takes_memory (command.Buffer name size) = true
 takes_memory (command.Write name at bytes) = false
+takes_memory (command.Fill name at count pattern) = false
+takes_memory (command.Copy source at target to count) = true
 takes_memory (command.Read name at count) = true
+takes_memory (command.Release name) = false
 takes_memory (command.Program name source) = true
 takes_memory (command.Kernel name program function) = true
 takes_memory (command.Arg kernel index argument) = true

@@ -1,7 +1,7 @@
 //! A simulated OpenCL 1.2 device.
 #![tactic(auto)]
 
-ghost use Rattle.std.specs.Prelude.{◌≡◌, ◌&&◌, IfOk, IfErr, IfSome, OnErr, IsTrue, None, Some, is_some, true, ◌≤◌};
+ghost use Rattle.std.specs.Prelude.{◌≡◌, ◌&&◌, IfOk, IfErr, IfSome, OnErr, IsTrue, None, Some, is_some, true, false, ◌≤◌, ◌<◌, ◌+◌, ◌^◌, length, nat_lt};
 ghost use Rattle.std.specs.Option.{option_map};
 ghost use Rattle.clmodel.specs.Tree.{program};
 ghost use Rattle.device_store.specs.Kernels.{names_kernel};
@@ -20,6 +20,7 @@ use clmodel::text::{Bytes, Name};
 use cltypes::Checked;
 use device_store::build::build;
 pub use device_store::command::{BuildFault, Command, Refusal, Reply};
+use device_store::fills::is_bad_fill;
 use device_store::kernel::{Kernel, kernel_number, parameters_of, set_argument, suits};
 use device_store::ranges::{is_bad_dimension, is_bad_group, is_too_many};
 use item_step::is_local_too_large;
@@ -34,6 +35,15 @@ const MAX_BUFFERS: usize = 64;
 /// The most bytes that a buffer has.
 const MAX_SIZE: u64 = 1048576;
 
+/// Whether some of so many bytes from an offset on aren't a buffer's.
+fn is_outside(buffer: &Bytes, offset: u64, count: u64) -> bool
+    ensures value { result ≡ nat_lt (length buffer.now) (offset + count) }
+    ensures fits { result ≡ false → offset + count < 2 ^ 64 }
+{
+    let size = buffer.len() as u64;
+    count > size || offset > size - count
+}
+
 /// A device: its buffers, programs and kernels.
 #[derive(Drop)]
 pub struct Device {
@@ -47,7 +57,7 @@ pub struct Device {
 }
 
 impl Device {
-    ghost use Rattle.device.specs.Machine.{Step, Answers, machine_of, opening, is_used, is_there, has_kernel, kernel_of, program_of, setup_of, first, row, takes_memory};
+    ghost use Rattle.device.specs.Machine.{Step, Answers, machine_of, opening, is_used, is_argument, has_kernels, is_in_use, is_there, has_kernel, kernel_of, program_of, setup_of, first, row, takes_memory};
     ghost use Rattle.device.specs.Prepared.{prepared_setup, Starts};
 
     /// A device without buffers, programs and kernels, on which an item of a launch may make so many ticks.
@@ -139,6 +149,56 @@ impl Device {
         Reply::Done
     }
 
+    fn fill(&mut self, name: &Name, offset: u64, count: u64, pattern: &Bytes) -> Reply
+        ensures { Answers (machine_of self.old) (Command.Fill name.now offset count pattern.now) result (machine_of self.new) }
+    {
+        let Some(buffer) = self.buffers.get(name) else {
+            return Reply::Refused(Refusal::NoSuchName);
+        };
+        if is_bad_fill(offset, count, pattern.as_slice()) {
+            return Reply::Refused(Refusal::BadSize);
+        }
+        if is_outside(buffer, offset, count) {
+            return Reply::Refused(Refusal::OutOfRange);
+        }
+        let pattern = pattern.as_slice();
+        self.buffers
+            .fill(name, offset as usize, count as usize, pattern);
+        Reply::Done
+    }
+
+    fn copy(
+        &mut self,
+        source: &Name,
+        offset: u64,
+        target: &Name,
+        target_offset: u64,
+        count: u64,
+    ) -> Result<Reply, AllocError>
+        ensures ok { IfOk result (λ reply. Answers (machine_of self.old) (Command.Copy source.now offset target.now target_offset count) reply (machine_of self.new)) }
+        ensures err { OnErr result (machine_of self.new ≡ machine_of self.old) }
+    {
+        let Some(from) = self.buffers.get(source) else {
+            return Ok(Reply::Refused(Refusal::NoSuchName));
+        };
+        let Some(to) = self.buffers.get(target) else {
+            return Ok(Reply::Refused(Refusal::NoSuchName));
+        };
+        if count == 0 {
+            return Ok(Reply::Refused(Refusal::BadSize));
+        }
+        if is_outside(from, offset, count) || is_outside(to, target_offset, count) {
+            return Ok(Reply::Refused(Refusal::OutOfRange));
+        }
+        if source == target && offset < target_offset + count && target_offset < offset + count {
+            return Ok(Reply::Refused(Refusal::Overlap));
+        }
+        let (at, target_at) = (offset as usize, target_offset as usize);
+        self.buffers
+            .copy(self.alloc, source, at, target, target_at, count as usize)?;
+        Ok(Reply::Done)
+    }
+
     fn read(&self, name: &Name, offset: u64, count: u64) -> Result<Reply, AllocError>
         ensures { IfOk result (λ reply. Answers (machine_of self.now) (Command.Read name.now offset count) reply (machine_of self.now)) }
     {
@@ -148,12 +208,48 @@ impl Device {
         if count == 0 {
             return Ok(Reply::Refused(Refusal::BadSize));
         }
-        let size = buffer.len() as u64;
-        if count > size || offset > size - count {
+        if is_outside(buffer, offset, count) {
             return Ok(Reply::Refused(Refusal::OutOfRange));
         }
         let found = &buffer.as_slice()[offset as usize..(offset + count) as usize];
         Ok(Reply::Data(Bytes::copy_of(self.alloc, found)?))
+    }
+
+    /// Whether an argument of a kernel names a buffer. It takes time in proportion to the arguments of all kernels.
+    fn is_argument(&self, name: &Name) -> bool
+        ensures { result ≡ is_argument (machine_of self.now) name.now }
+    {
+        self.kernels.values().any(|kernel| kernel.uses(name))
+    }
+
+    /// Whether a kernel is of a program. It takes time in proportion to the number of kernels.
+    fn has_kernels(&self, name: &Name) -> bool
+        ensures { result ≡ has_kernels (machine_of self.now) name.now }
+    {
+        self.kernels.values().any(|kernel| name == kernel.program())
+    }
+
+    /// Whether it is a buffer that an argument of a kernel names, or a program with a kernel.
+    fn is_in_use(&self, name: &Name) -> bool
+        ensures { result ≡ is_in_use (machine_of self.now) name.now }
+    {
+        (self.buffers.get(name).is_some() && self.is_argument(name))
+            || (self.program(name).is_some() && self.has_kernels(name))
+    }
+
+    fn release(&mut self, name: &Name) -> Reply
+        ensures { Answers (machine_of self.old) (Command.Release name.now) result (machine_of self.new) }
+    {
+        if !self.is_used(name) {
+            return Reply::Refused(Refusal::NoSuchName);
+        }
+        if self.is_in_use(name) {
+            return Reply::Refused(Refusal::InUse);
+        }
+        self.buffers.remove(name);
+        self.programs.remove(name);
+        self.kernels.remove(name);
+        Reply::Done
     }
 
     #[tactic(auto, using(crate::proofs::Programs::free))]
@@ -307,6 +403,20 @@ impl Device {
                 offset,
                 count,
             } => self.read(&buffer, offset, count),
+            Command::Fill {
+                buffer,
+                offset,
+                count,
+                pattern,
+            } => Ok(self.fill(&buffer, offset, count, &pattern)),
+            Command::Copy {
+                source,
+                offset,
+                target,
+                target_offset,
+                count,
+            } => self.copy(&source, offset, &target, target_offset, count),
+            Command::Release { name } => Ok(self.release(&name)),
             Command::Program { name, source } => self.make_program(name, &source),
             Command::Kernel {
                 name,

@@ -1,0 +1,132 @@
+-- Names that were removed.
+use Rattle.std.proofs.Common.{◌≡◌, ℕ, Bool, true, false, not, cond, ◌&&◌, ◌||◌, List, [], ◌∷◌, Option, None, Some, is_some, map, refl, ap, sym, ◌∙◌}
+use Rattle.std.proofs.lemmas.Bool.{and_parts, and_from}
+use Rattle.std.specs.List.{list_all, list_any}
+use Rattle.std.specs.Map.{lookup, remove_entry, values_of}
+use Rattle.std.specs.Option.{MatchOption, option_map, option_map_or}
+use Rattle.clmodel.specs.Tree.{Program, program}
+use Rattle.cltypes.specs.declared.checked.Checked.{Checked}
+use Rattle.device_store.specs.Kernels.{KernelState, names_kernel}
+use Rattle.device_store.specs.declared.command.Command.TheVariants as command
+use Rattle.device_store.specs.declared.command.Refusal.{Refusal}
+use Rattle.device_store.specs.declared.command.Refusal.TheVariants.{NoSuchName, InUse}
+use Rattle.device_store.specs.declared.command.Reply.TheVariants as reply
+use Rattle.spaces_base.specs.Tables.{Table, is, find}
+use Rattle.device.specs.Kept.{is_in, all_in}
+use Rattle.device.specs.Machine.{Machine, Answers, Does, first, is_used, has_kernels, is_in_use}
+use Rattle.device.proofs.Programs.{find_program}
+use lib.Pointwise.{bytes_decides}
+
+-- where nothing has the name nothing is removed
+unremoved : {A : Type 0} (es : Table A) (name : List ℕ) → find es name ≡ None → remove_entry (is name) es ≡ es
+unremoved [] name none = refl
+unremoved {A} (e ∷ es) name none = by (is name e.0) (unremoved es name) none
+  where
+    by : (b : Bool) → (find es name ≡ None → remove_entry (is name) es ≡ es) → cond b (Some e.1) (find es name) ≡ None
+        → cond b es (e ∷ remove_entry (is name) es) ≡ e ∷ es
+    by true rest none = cc
+    by false rest none = ap (λ l. e ∷ l) (rest none)
+
+-- a name that another has isn't a third
+another : (name other x : List ℕ) (b : Bool) → is other x ≡ b → is name x ≡ true → is name other ≡ false → b ≡ false
+another name other x false is_x here apart = refl
+another name other x true is_x here apart =
+    sym ((bytes_decides name other).1 ((bytes_decides name x).0 here ∙ sym ((bytes_decides other x).0 is_x))) ∙ apart
+
+-- another name has what it had
+found_after : {A : Type 0} (es : Table A) (name other : List ℕ) → is name other ≡ false → find (remove_entry (is name) es) other ≡ find es other
+found_after [] name other apart = refl
+found_after {A} (e ∷ es) name other apart = by (is name e.0) refl (found_after es name other apart)
+  where
+    by : (b : Bool) → is name e.0 ≡ b → find (remove_entry (is name) es) other ≡ find es other
+        → find (cond b es (e ∷ remove_entry (is name) es)) other ≡ cond (is other e.0) (Some e.1) (find es other)
+    by true here rest = ap (λ t. cond t (Some e.1) (find es other)) (sym (another name other e.0 (is other e.0) refl here apart))
+    by false here rest = ap (cond (is other e.0) (Some e.1)) rest
+
+-- all pass after one was removed
+removed_passes : {A B : Type 0} (test : A → Bool) (p : B → Bool) (es : List (A × B)) → list_all (λ e. p e.1) es ≡ true → list_all (λ e. p e.1) (remove_entry test es) ≡ true
+removed_passes test p [] all = refl
+removed_passes {A} {B} test p (e ∷ es) all = by (test e.0) (removed_passes test p es) (and_parts (p e.1) (list_all (λ e. p e.1) es) all)
+  where
+    by : (t : Bool) → (list_all (λ e. p e.1) es ≡ true → list_all (λ e. p e.1) (remove_entry test es) ≡ true) → (p e.1 ≡ true) × (list_all (λ e. p e.1) es ≡ true)
+        → list_all (λ e. p e.1) (cond t es (e ∷ remove_entry test es)) ≡ true
+    by true rest parts = parts.1
+    by false rest parts = and_from (p e.1) (list_all (λ e. p e.1) (remove_entry test es)) parts.0 (rest parts.1)
+
+neither : (a b : Bool) → (a || b) ≡ false → (a ≡ false) × (b ≡ false)
+neither true b none = cc
+neither false b none = (refl, none)
+
+-- all pass a test that follows from one that all pass and one that none does
+all_apart : {A B : Type 0} (p q r : B → Bool) (es : List (A × B)) → ((b : B) → p b ≡ true → q b ≡ false → r b ≡ true)
+    → list_all (λ e. p e.1) es ≡ true → list_any q (values_of es) ≡ false → list_all (λ e. r e.1) es ≡ true
+all_apart p q r [] follows all none = refl
+all_apart p q r (e ∷ es) follows all none =
+    let parts = and_parts (p e.1) (list_all (λ e. p e.1) es) all in
+    let others = neither (q e.1) (list_any q (values_of es)) none in
+    and_from (r e.1) (list_all (λ e. r e.1) es) (follows e.1 parts.0 others.0) (all_apart p q r es follows parts.1 others.1)
+
+-- what was released is no kernel's program
+pub kept_with_release : (programs : Table Checked) (kernels : Table KernelState) (name : List ℕ) → all_in programs kernels ≡ true
+    → (is_some (find programs name) && list_any (λ k. is name k.program) (values_of kernels)) ≡ false
+    → all_in (remove_entry (is name) programs) (remove_entry (is name) kernels) ≡ true
+kept_with_release programs kernels name kept unheld = by (find programs name) refl unheld
+  where
+    by : (o : Option Checked) → find programs name ≡ o → (is_some o && list_any (λ k. is name k.program) (values_of kernels)) ≡ false
+        → all_in (remove_entry (is name) programs) (remove_entry (is name) kernels) ≡ true
+    by None held unheld =
+        ap (λ ps. all_in ps (remove_entry (is name) kernels)) (unremoved programs name held) ∙ removed_passes (is name) (is_in programs) kernels kept
+    by (Some checked) held unheld =
+        removed_passes (is name) (is_in (remove_entry (is name) programs)) kernels
+        (all_apart (is_in programs) (λ k. is name k.program) (is_in (remove_entry (is name) programs)) kernels
+        (λ k there apart. ap (λ o. option_map_or (λ checked. names_kernel (program checked.tree) k.function) o false) (found_after programs name k.program apart) ∙ there)
+        kept unheld)
+
+-- what is removed among values that are seen otherwise
+remove_mapped : {K A B : Type 0} (f : A → B) (test : K → Bool) (es : List (K × A)) → map (λ e. (e.0, f e.1)) (remove_entry test es) ≡ remove_entry test (map (λ e. (e.0, f e.1)) es)
+remove_mapped f test [] = refl
+remove_mapped {K} {A} {B} f test (e ∷ es) = by (test e.0) (remove_mapped f test es)
+  where
+    by : (b : Bool) → map (λ e. (e.0, f e.1)) (remove_entry test es) ≡ remove_entry test (map (λ e. (e.0, f e.1)) es)
+        → map (λ e. (e.0, f e.1)) (cond b es (e ∷ remove_entry test es)) ≡ cond b (map (λ e. (e.0, f e.1)) es) ((e.0, f e.1) ∷ remove_entry test (map (λ e. (e.0, f e.1)) es))
+    by true same = refl
+    by false same = ap (λ l. (e.0, f e.1) ∷ l) same
+
+-- the same of programs
+pub remove_program : (es : Table Checked) (name : List ℕ)
+    → map (λ e. (e.0, program e.1.tree)) (remove_entry (is name) es) ≡ remove_entry (is name) (map (λ e. (e.0, program e.1.tree)) es)
+remove_program es name = remove_mapped (λ c. program c.tree) (is name) es
+
+-- neither of two refusals
+neither_of_two : (a b : Bool) (x y : Refusal) (D : Type 0) (R : Refusal → Type 0) → a ≡ true → b ≡ false → D → MatchOption (first ((not a, x) ∷ (b, y) ∷ [])) D R
+neither_of_two true false x y D R p q d = d
+neither_of_two false b x y D R p q d = cc
+neither_of_two true true x y D R p q d = cc
+
+pub release_answers : (old new : Machine) (name : List ℕ) → is_used old name ≡ true → is_in_use old name ≡ false
+    → new ≡ record old { buffers = remove_entry (is name) old.buffers; programs = remove_entry (is name) old.programs; kernels = remove_entry (is name) old.kernels }
+    → Answers old (command.Release name) reply.Done new
+release_answers old new name used free is_new =
+    neither_of_two (is_used old name) (is_in_use old name) NoSuchName InUse (Does old (command.Release name) reply.Done new) _ used free (refl, is_new)
+
+some_mapped : (o : Option Checked) → is_some (option_map (λ c. program c.tree) o) ≡ is_some o
+some_mapped None = refl
+some_mapped (Some checked) = refl
+
+-- what isn't in use is no kernel's program
+pub unheld_of : (old : Machine) (programs : Table Checked) (name : List ℕ) → old.programs ≡ map (λ e. (e.0, program e.1.tree)) programs → is_in_use old name ≡ false
+    → (is_some (find programs name) && has_kernels old name) ≡ false
+unheld_of old programs name are free =
+    ap (λ b. b && has_kernels old name)
+    (sym (ap (λ ps. is_some (find ps name)) are ∙ ap is_some (find_program programs name) ∙ some_mapped (find programs name)))
+    ∙ (neither _ _ free).1
+
+-- a machine without a name
+pub released : (old : Machine) (buffers : Table (List ℕ)) (programs : Table Program) (kernels : Table KernelState) (name : List ℕ)
+    → buffers ≡ remove_entry (is name) old.buffers → programs ≡ remove_entry (is name) old.programs → kernels ≡ remove_entry (is name) old.kernels
+    → record old { buffers = buffers; programs = programs; kernels = kernels }
+    ≡ record old { buffers = remove_entry (is name) old.buffers; programs = remove_entry (is name) old.programs; kernels = remove_entry (is name) old.kernels }
+released old buffers programs kernels name b p k =
+    ap (λ (bs : Table (List ℕ)). record old { buffers = bs; programs = programs; kernels = kernels }) b
+    ∙ ap (λ (ps : Table Program). record old { buffers = remove_entry (is name) old.buffers; programs = ps; kernels = kernels }) p
+    ∙ ap (λ (ks : Table KernelState). record old { buffers = remove_entry (is name) old.buffers; programs = remove_entry (is name) old.programs; kernels = ks }) k
