@@ -23,6 +23,10 @@ lists_verified p number code law typed lists = subst IsVerified (sym lists.same)
 pub never_rejected : (p : Program) (number : ℕ) (code : Listing) → TypedKernelsVerified → ∥ IsTypedProgram p ∥₁ → Lists p.functions number code → (IsVerified code → ⊥) → ⊥
 never_rejected p number code law typed lists rejected = ∥∥₁_elim typed (λ x y. absurd x) (λ t. rejected (lists_verified p number code law t lists))
 
+-- it is the code that is defined for the kernel
+pub lists_same : (p : Program) (number : ℕ) (code made : Listing) → code ≡ made → Lists p.functions number made → Lists p.functions number code
+lists_same p number code made same lists = subst (λ l. Lists p.functions number l) (sym same) lists
+
 -- it acts as the kernel's tree
 pub lists_lowered : (p : Program) (number : ℕ) (code made : Listing) → ActsAsTheTree → code ≡ made → Lists p.functions number made → IsLowered p number code
 unfolding ActsAsTheTree

@@ -4,6 +4,7 @@ use Rattle.std.specs.Option.{option_map, option_and_then}
 use Rattle.clmodel.specs.Setup.{kernel_in, same_text}
 use Rattle.clmodel.specs.Tree.{Program}
 use Rattle.regcode.specs.Listing.{Listing}
+use Rattle.lower.specs.Lists.{Lists}
 use Rattle.lower.specs.Lowers.{IsLowered}
 
 -- the number of the name of a program's kernel, or None where it has no such kernel
@@ -16,3 +17,9 @@ pub record LowersNamed (program : Program) (name : List ℕ) (code : Listing) : 
   pub number : ℕ
   pub named : kernel_number program name ≡ Some number
   pub lowered : IsLowered program number code
+
+-- the code that is defined for the kernel of a name
+pub record ListsNamed (program : Program) (name : List ℕ) (code : Listing) : Type 0 where
+  pub number : ℕ
+  pub named : kernel_number program name ≡ Some number
+  pub listed : Lists program.functions number code

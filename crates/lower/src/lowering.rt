@@ -7,7 +7,7 @@ ghost use Rattle.clmodel.specs.Tree.{program, func, then_funcs, NoFunc};
 ghost use Rattle.regcode.specs.Listed.{listing};
 ghost use Rattle.lower.specs.Lists.{Lists};
 ghost use Rattle.lower.specs.Lowers.{IsLowered};
-ghost use Rattle.lower.specs.Names.{kernel_number, LowersNamed};
+ghost use Rattle.lower.specs.Names.{kernel_number, LowersNamed, ListsNamed};
 
 use crate::code_laws::acts_as_the_tree;
 use crate::lookup::{kernel_in, kernel_number};
@@ -76,6 +76,7 @@ fn list_kernel(
 /// The code of the kernel of a name's number.
 pub fn lower_kernel(alloc: Global, checked: &Checked, number: u32) -> Result<Code, LowerFault>
     ensures code { IfOk result (λ code. IsLowered (program checked.now.tree) number code) }
+    ensures listed { IfOk result (λ code. Lists (program checked.now.tree).functions number code) }
     ensures none { IfErr result (λ fault. (fault ≡ LowerFault.NoSuchKernel) ↔ (kernel_in (program checked.now.tree).functions number ≡ None)) }
 {
     acts_as_the_tree();
@@ -94,6 +95,7 @@ pub fn lower_kernel(alloc: Global, checked: &Checked, number: u32) -> Result<Cod
 /// The code of the kernel of a name.
 pub fn lower(alloc: Global, checked: &Checked, kernel: &str) -> Result<Code, LowerFault>
     ensures code { IfOk result (LowersNamed (program checked.now.tree) kernel.now) }
+    ensures listed { IfOk result (ListsNamed (program checked.now.tree) kernel.now) }
     ensures none { IfErr result (λ fault. (fault ≡ LowerFault.NoSuchKernel) ↔ (kernel_number (program checked.now.tree) kernel.now ≡ None)) }
 {
     match kernel_number(&checked.tree, kernel) {

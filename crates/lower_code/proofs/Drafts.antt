@@ -1,5 +1,5 @@
 -- Code with the bodies of helpers left out.
-use Rattle.std.proofs.Common.{◌≡◌, ℕ, ◌+◌, List, [], ◌∷◌, ◌++◌, length, reverse, refl, ap, sym, ◌∙◌}
+use Rattle.std.proofs.Common.{◌≡◌, ◌+◌, List, [], ◌∷◌, ◌++◌, length, reverse, refl, ap, sym, ◌∙◌}
 use Rattle.std.proofs.lemmas.List.{append_assoc, reverse-append, length-append}
 use Rattle.lower_code.specs.declared.holes.Part.{Part}
 use Rattle.lower_code.specs.Parts.{part_code, whole}

@@ -1,5 +1,5 @@
 -- Statements and functions as lists.
-use Rattle.std.proofs.Common.{◌≡◌, ℕ, zero, suc, ◌+◌, ◌<◌, ◌≤◌, cond, List, [], ◌∷◌, map, length, take, get_or, refl, sym, ap, ◌∙◌, Vec, arith, Option, None, Some, Box, Bor, eq-eqb, ne_eqb}
+use Rattle.std.proofs.Common.{◌≡◌, ℕ, zero, suc, ◌+◌, ◌<◌, cond, List, [], ◌∷◌, map, length, take, get_or, refl, sym, ap, ◌∙◌, Vec, arith, Option, None, Some, Box, Bor, eq-eqb, ne_eqb}
 use Rattle.std.specs.declared.alloc.Global.{Global}
 use mathlib.Core.Former.{Count}
 use Rattle.clmodel.specs.declared.tree.Function.{Function}

@@ -3,7 +3,7 @@ use Rattle.std.proofs.lemmas.Bool.{false≢true}
 use Rattle.clmodel.specs.Tree.{program, func, then_funcs, NoFunc}
 use Rattle.regcode.specs.Listed.{listing}
 use Rattle.lower.specs.Lists.{Lists}
-use Rattle.lower.proofs.Lowered.{never_rejected, lists_lowered}
+use Rattle.lower.proofs.Lowered.{never_rejected, lists_lowered, lists_same}
 use Rattle.lower.proofs.lowering.lower_kernel.Goals as goal
 
 pub unreachable-requires : goal.unreachable-requires
@@ -21,4 +21,12 @@ returns-clause-code c =
     let code = listing c.in-Ok-Some.listed.instructions.items c.in-Ok-Some.listed.tables in
     let lists = rw c.in-Ok-Some.field-0-is at (c.in-Ok-Some.ensures {u = tt}).code in
     lists_lowered p c.args.number _ _ c.acts_as_the_tree.ensures (c.in-Ok.ensures {u = tt}).code
+    (subst (λ fs. Lists (then_funcs NoFunc (map func fs)) c.args.number code) c.deref.ensures.value lists)
+
+pub returns-clause-listed : goal.returns-clause-listed
+returns-clause-listed c =
+    let p = program c.args.checked.now.tree in
+    let code = listing c.in-Ok-Some.listed.instructions.items c.in-Ok-Some.listed.tables in
+    let lists = rw c.in-Ok-Some.field-0-is at (c.in-Ok-Some.ensures {u = tt}).code in
+    lists_same p c.args.number _ _ (c.in-Ok.ensures {u = tt}).code
     (subst (λ fs. Lists (then_funcs NoFunc (map func fs)) c.args.number code) c.deref.ensures.value lists)
