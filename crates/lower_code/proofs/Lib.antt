@@ -8,4 +8,3 @@ pub mod Rows
 pub mod Lists
 pub mod Splits
 pub mod Turns
-pub mod Lengths
