@@ -2,7 +2,7 @@
 #![tactic(auto)]
 
 mod buffers;
-mod cells;
+pub mod cells;
 mod constant;
 mod row;
 pub mod space;

@@ -1,0 +1,83 @@
+//! What is kept of the accesses of work-groups.
+
+ghost use Rattle.std.specs.Prelude.{◌≡◌, ◌+◌, ◌<◌, ◌≤◌, ◌∷◌, ◌^◌, [], ℕ, List, length, OnOk, OnErr};
+ghost use Rattle.clmodel.specs.Cells.{byte_count};
+ghost use Rattle.clmodel.specs.declared.access.Access.{Access as TheAccess};
+ghost use Rattle.shadow.specs.Seen.{cell, cells_of, OfOthers, InBuffer, meeting};
+
+use crate::kinds::byte_count;
+use crate::pages::{Pages, mark_all};
+use crate::seen::{Mark, Meeting};
+use clmodel::access::{Access, Region};
+use std::alloc::{AllocError, Global};
+
+/// What is kept of the accesses of work-groups so far to each byte of the launch's buffers: the first access, and the first of another kind.
+/// An access costs some steps for each of its bytes, and memory grows by pages of 256 bytes that were touched.
+#[derive(Drop)]
+pub struct Footprint {
+    buffers: Vec<Pages>,
+}
+
+/// Places for a buffer of a number, and for those below.
+#[tactic(auto, using(crate::proofs::Cells::one_more))]
+fn make_room(alloc: Global, buffers: &mut Vec<Pages>, number: usize) -> Result<(), AllocError>
+    requires { number < 2 ^ 32 }
+    ensures long { OnOk result (number < length buffers.new.items) }
+    ensures same { (n byte : ℕ) → cell (cells_of buffers.new.items) n byte ≡ cell (cells_of buffers.old.items) n byte }
+{
+    while buffers.len() <= number {
+        buffers.push(Pages::new(alloc))?;
+    }
+    Ok(())
+}
+
+impl Footprint {
+    ghost use Rattle.shadow.specs.Seen.{Keeps};
+
+    /// No accesses yet. It takes no memory.
+    pub fn new(alloc: Global) -> Self
+        ensures { Keeps result [] }
+    {
+        Footprint {
+            buffers: Vec::new(alloc),
+        }
+    }
+
+    /// The conflict of an access of another group's item with these, on its lowest byte that has one, with the earliest access there
+    /// (OpenCL 1.2, section 3.3.1).
+    pub fn meeting(&self, x: &Access) -> Option<Meeting>
+        requires { x.now.first + byte_count x.now.width < 2 ^ 64 }
+        ensures { (log : List TheAccess) → Keeps self.now log → OfOthers x.now.item log → InBuffer x.now → result ≡ meeting x.now log }
+    {
+        let Region::Buffer(number) = x.region else {
+            return None;
+        };
+        match self.buffers.get(number as usize) {
+            None => None,
+            Some(pages) => pages.against(x.kind, x.first as usize, byte_count(x.width)),
+        }
+    }
+
+    /// Adds an access. Where memory is refused nothing is added.
+    pub fn add(&mut self, alloc: Global, x: &Access) -> Result<(), AllocError>
+        requires { x.now.first + byte_count x.now.width < 2 ^ 64 }
+        ensures added { OnOk result ((log : List TheAccess) → Keeps self.old log → Keeps self.new (x.now ∷ log)) }
+        ensures same { OnErr result ((log : List TheAccess) → Keeps self.old log → Keeps self.new log) }
+    {
+        let Region::Buffer(number) = x.region else {
+            return Ok(());
+        };
+        let first = x.first as usize;
+        let count = byte_count(x.width);
+        make_room(alloc, &mut self.buffers, number as usize)?;
+        let touched = &mut self.buffers[number as usize];
+        touched.make(alloc, first / 256)?;
+        touched.make(alloc, (first + count - 1) / 256)?;
+        let mark = Mark {
+            item: x.item,
+            kind: x.kind,
+        };
+        mark_all(&mut touched.pages, mark, first, count);
+        Ok(())
+    }
+}

@@ -1,0 +1,11 @@
+//! How the bytes of a launch's buffers were accessed by the work-groups so far, kept so that an access of a further group is judged exactly:
+//! whatever the number of groups and accesses, it takes memory for the bytes that they touched.
+#![tactic(auto)]
+
+mod footprint;
+mod kinds;
+mod pages;
+mod seen;
+
+pub use footprint::Footprint;
+pub use seen::{Mark, Meeting, Seen};

@@ -1,0 +1,111 @@
+//! What is kept of the accesses to the bytes of one buffer.
+
+ghost use Rattle.std.specs.Prelude.{◌≡◌, ◌+◌, ◌<◌, ◌≤◌, ◌/◌, ◌==◌, ◌^◌, ℕ, [], length, slice_index_or, if◌then◌else◌, OnOk};
+ghost use Rattle.clmodel.specs.Cells.{covers};
+ghost use Rattle.shadow.specs.Seen.{seen_with, against_from, row_of, cell_in, IsPage};
+ghost use Rattle.shadow.specs.declared.seen.Seen.TheVariants as seen;
+
+use crate::seen::{Mark, Meeting, Seen, against, seen_with};
+use clmodel::access::AccessKind;
+use std::alloc::{AllocError, Global};
+
+/// Cells for the bytes of a buffer, in pages of 256 bytes, of which those have cells that were touched.
+#[derive(Drop)]
+pub(crate) struct Pages {
+    pub(crate) pages: Vec<Vec<Seen>>,
+}
+
+/// Places for so many pages.
+#[tactic(auto, using(crate::proofs::Cells::pushed))]
+fn grow(alloc: Global, pages: &mut Vec<Vec<Seen>>, count: usize) -> Result<(), AllocError>
+    ensures long { OnOk result (count ≤ length pages.new.items) }
+    ensures same { (page : ℕ) → row_of pages.new.items page ≡ row_of pages.old.items page }
+{
+    while pages.len() < count {
+        pages.push(Vec::new(alloc))?;
+    }
+    Ok(())
+}
+
+/// Cells for so many bytes of a page.
+fn fill(row: &mut Vec<Seen>, count: usize) -> Result<(), AllocError>
+    ensures long { OnOk result (count ≤ length row.new.items) }
+    ensures same { (k : ℕ) → slice_index_or row.new.items k seen.Untouched ≡ slice_index_or row.old.items k seen.Untouched }
+    ensures longer { length row.old.items ≤ length row.new.items }
+{
+    if row.len() < count {
+        row.resize(count, Seen::Untouched)?;
+    }
+    Ok(())
+}
+
+/// Marks a byte.
+fn mark_byte(pages: &mut Vec<Vec<Seen>>, byte: usize, mark: Mark)
+    requires { IsPage pages.old.items (byte / 256) }
+    ensures kept { (page : ℕ) → IsPage pages.old.items page → IsPage pages.new.items page }
+    ensures marked { (other : ℕ) → cell_in pages.new.items other ≡ (if byte == other then seen_with (cell_in pages.old.items other) mark else cell_in pages.old.items other) }
+{
+    let row = &mut pages[byte / 256];
+    row[byte % 256] = seen_with(row[byte % 256], mark);
+}
+
+/// Marks so many bytes from the first on.
+pub(crate) fn mark_all(pages: &mut Vec<Vec<Seen>>, mark: Mark, first: usize, count: usize)
+    requires inside { first + count < 2 ^ 64 }
+    requires there { (byte : ℕ) → first ≤ byte → byte < first + count → IsPage pages.old.items (byte / 256) }
+    ensures { (byte : ℕ) → cell_in pages.new.items byte ≡ (if covers first count byte then seen_with (cell_in pages.old.items byte) mark else cell_in pages.old.items byte) }
+{
+    if count > 0 {
+        mark_byte(pages, first, mark);
+        mark_all(pages, mark, first + 1, count - 1);
+    }
+}
+
+impl Pages {
+    /// No bytes touched. It takes no memory.
+    pub(crate) fn new(alloc: Global) -> Self
+        ensures { result.pages.items ≡ [] }
+    {
+        Pages {
+            pages: Vec::new(alloc),
+        }
+    }
+
+    /// What is kept of a byte.
+    fn cell(&self, byte: usize) -> Seen
+        ensures { result ≡ cell_in self.now.pages.items byte }
+    {
+        match self.pages.get(byte / 256) {
+            None => Seen::Untouched,
+            Some(row) => match row.get(byte % 256) {
+                None => Seen::Untouched,
+                Some(seen) => *seen,
+            },
+        }
+    }
+
+    /// The conflict of an access of a kind on the lowest of so many bytes that has one.
+    pub(crate) fn against(&self, kind: AccessKind, first: usize, count: usize) -> Option<Meeting>
+        requires { first + count < 2 ^ 64 }
+        ensures { result ≡ against_from kind (cell_in self.now.pages.items) first count }
+    {
+        if count == 0 {
+            return None;
+        }
+        match against(kind, first as u64, self.cell(first)) {
+            Some(meeting) => Some(meeting),
+            None => self.against(kind, first + 1, count - 1),
+        }
+    }
+
+    /// Cells for the bytes of a page.
+    pub(crate) fn make(&mut self, alloc: Global, page: usize) -> Result<(), AllocError>
+        requires { page < 2 ^ 63 }
+        ensures there { OnOk result (IsPage self.new.pages.items page) }
+        ensures kept { (other : ℕ) → IsPage self.old.pages.items other → IsPage self.new.pages.items other }
+        ensures same { (byte : ℕ) → cell_in self.new.pages.items byte ≡ cell_in self.old.pages.items byte }
+    {
+        grow(alloc, &mut self.pages, page + 1)?;
+        fill(&mut self.pages[page], 256)
+    }
+}

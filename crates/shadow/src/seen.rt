@@ -1,0 +1,69 @@
+//! What is kept of the accesses to one byte.
+
+ghost use Rattle.std.specs.Prelude.{◌≡◌};
+ghost use Rattle.shadow.specs.Seen.{seen_with, met, against};
+
+use crate::kinds::{clash, kind_number};
+use clmodel::access::{AccessKind, Clash};
+
+/// Who accessed a byte, and how.
+#[derive(Clone, Copy)]
+pub struct Mark {
+    pub item: u32,
+    pub kind: AccessKind,
+}
+
+/// What is kept of the accesses to a byte: the first, and the first of another kind than it.
+#[derive(Clone, Copy)]
+pub enum Seen {
+    Untouched,
+    Touched(Mark),
+    Mixed(Mark, Mark),
+}
+
+/// A conflict on a byte with an earlier access.
+#[derive(Clone, Copy)]
+pub struct Meeting {
+    pub clash: Clash,
+    pub mark: Mark,
+    pub byte: u64,
+}
+
+/// A byte with one access more.
+pub(crate) fn seen_with(seen: Seen, mark: Mark) -> Seen
+    ensures { result ≡ seen_with seen mark }
+{
+    match seen {
+        Seen::Untouched => Seen::Touched(mark),
+        Seen::Touched(first) => {
+            if kind_number(first.kind) == kind_number(mark.kind) {
+                seen
+            } else {
+                Seen::Mixed(first, mark)
+            }
+        }
+        Seen::Mixed(_, _) => seen,
+    }
+}
+
+/// How an access of a kind conflicts with a mark on a byte.
+fn met(kind: AccessKind, byte: u64, mark: Mark) -> Option<Meeting>
+    ensures { result ≡ met kind byte mark }
+{
+    let clash = clash(mark.kind, kind)?;
+    Some(Meeting { clash, mark, byte })
+}
+
+/// The earliest of what is kept of a byte that an access of a kind conflicts with.
+pub(crate) fn against(kind: AccessKind, byte: u64, seen: Seen) -> Option<Meeting>
+    ensures { result ≡ against kind byte seen }
+{
+    match seen {
+        Seen::Untouched => None,
+        Seen::Touched(first) => met(kind, byte, first),
+        Seen::Mixed(first, other) => match met(kind, byte, first) {
+            Some(meeting) => Some(meeting),
+            None => met(kind, byte, other),
+        },
+    }
+}

@@ -1,0 +1,118 @@
+-- A buffer's bytes as a list.
+use Rattle.std.proofs.Common.{◌≡◌, ℕ, zero, suc, ◌+◌, ◌-◌, ◌/◌, ◌<◌, ◌≤◌, ◌⊎◌, true, if◌then◌else◌, List, [], ◌∷◌, Option, None, Some, length, map, get_or, Result, Ok, Err, OnErr, refl, sym, ap, ap₂, ◌∙◌, subst, inl, inr, arith}
+use Rattle.std.specs.Prelude.{◌≢◌, All, slice_index, slice_get}
+use Rattle.std.specs.List.{range_with_len}
+use Rattle.std.proofs.lemmas.Bool.{cases_lt}
+use Rattle.std.proofs.lemmas.List.{get_or_default}
+use Rattle.std.proofs.lemmas.List.Elements.{All-get_or}
+use Rattle.std.proofs.lemmas.Option.{slice_get-get_or, slice_get_past}
+use Rattle.clmodel.specs.Cells.{Cells, cells_of, byte_of, covers, number, written}
+use Rattle.clmodel.proofs.CellLaws.{number_frame, covers_parts}
+use Rattle.spaces_base.proofs.Rows.{written_out}
+use Rattle.spaces.specs.Overlay.{Overlaid, overlaid_byte, overlaid_cells, overlaid, IsCopied, AreNumbered}
+use Rattle.spaces.proofs.Copies.{copied_or, lent}
+
+-- ---- lists made of a function
+
+counted : (f : Cells) (a n k : ℕ) → k < n → cells_of (map f (range_with_len a n)) k ≡ f (a + k)
+counted f a zero k h = absurd (omega (arith, h))
+counted f a (suc n) zero h = ap f (omega arith)
+counted f a (suc n) (suc k) h = counted f (a + 1) n k (omega (arith, h)) ∙ ap f (omega arith)
+
+past : (f : Cells) (a n k : ℕ) → n ≤ k → cells_of (map f (range_with_len a n)) k ≡ None
+past f a zero k h = refl
+past f a (suc n) zero h = absurd (omega (arith, h))
+past f a (suc n) (suc k) h = past f (a + 1) n k (omega (arith, h))
+
+alike : (f g : Cells) (a n : ℕ) → ((k : ℕ) → a ≤ k → k < a + n → f k ≡ g k) → map f (range_with_len a n) ≡ map g (range_with_len a n)
+alike f g a zero h = refl
+alike f g a (suc n) h =
+    ap₂ (λ x xs. x ∷ xs) (h a (omega arith) (omega arith)) (alike f g (a + 1) n (λ k b c. h k (omega (arith, b)) (omega (arith, c))))
+
+many : (f : Cells) (a n : ℕ) → length (map f (range_with_len a n)) ≡ n
+many f a zero = refl
+many f a (suc n) = ap suc (many f (a + 1) n)
+
+shifted : (whole base : List ℕ) (a : ℕ) → ((k : ℕ) → slice_index whole (a + k) ≡ slice_index base k)
+    → map (λ byte. Some (slice_index whole byte)) (range_with_len a (length base)) ≡ map Some base
+shifted whole [] a h = refl
+shifted whole (x ∷ base) a h =
+    ap₂ (λ y ys. Some y ∷ ys) (ap (slice_index whole) {x = a} {y = a + 0} (omega arith) ∙ h 0)
+    (shifted whole base (a + 1) (λ k. ap (slice_index whole) {x = a + 1 + k} {y = a + suc k} (omega arith) ∙ h (suc k)))
+
+-- ---- the bytes of an overlay
+
+pub overlaid_many : (base table cells : List ℕ) → length (overlaid base table cells) ≡ length base
+unfolding overlaid
+overlaid_many base table cells = many (overlaid_cells base table cells) 0 (length base)
+
+pub overlaid_at : (base table cells : List ℕ) (byte : ℕ) → byte < length base → cells_of (overlaid base table cells) byte ≡ overlaid_cells base table cells byte
+unfolding overlaid
+overlaid_at base table cells byte h = counted (overlaid_cells base table cells) 0 (length base) byte h ∙ ap (overlaid_cells base table cells) {x = 0 + byte} {y = byte} (omega arith)
+
+pub overlaid_past : (base table cells : List ℕ) (byte : ℕ) → length base ≤ byte → cells_of (overlaid base table cells) byte ≡ None
+unfolding overlaid
+overlaid_past base table cells byte h = past (overlaid_cells base table cells) 0 (length base) byte h
+
+-- overlays of the same bytes are the same
+pub overlaid_same : (base table cells other more : List ℕ) → ((byte : ℕ) → byte < length base → overlaid_byte base other more byte ≡ overlaid_byte base table cells byte)
+    → overlaid base other more ≡ overlaid base table cells
+unfolding overlaid
+overlaid_same base table cells other more h =
+    alike (overlaid_cells base other more) (overlaid_cells base table cells) 0 (length base) (λ k a b. ap Some (h k (omega (arith, b))))
+
+-- without copies they are the lent bytes
+pub bare : (base cells : List ℕ) → overlaid base [] cells ≡ map Some base
+unfolding overlaid
+bare base cells = shifted base base 0 (λ k. ap (slice_index base) {x = 0 + k} {y = k} (omega arith))
+
+pub nothing_copied : (base table numbers cells : List ℕ) → table ≡ [] → overlaid base table cells ≡ map Some base
+nothing_copied base table numbers cells h = ap (λ z. overlaid base z cells) h ∙ bare base cells
+
+-- outside of the pages that have copies they are the lent bytes
+pub unchanged :
+    (base table numbers cells : List ℕ) → AreNumbered table numbers → (byte : ℕ) → All (λ page. byte / 256 ≢ page) numbers → cells_of (overlaid base table cells) byte ≡ slice_get base byte
+unchanged base table numbers cells numbered byte apart = go (cases_lt byte (length base)) (copied_or table (byte / 256))
+  where
+    go : (byte < length base) ⊎ (length base ≤ byte) → (slice_index table (byte / 256) ≡ 0) ⊎ IsCopied table (byte / 256) → cells_of (overlaid base table cells) byte ≡ slice_get base byte
+    go (inr out) o = overlaid_past base table cells byte out ∙ sym (slice_get_past base byte out)
+    go (inl inside) (inl h) =
+        overlaid_at base table cells byte inside ∙ ap Some (lent base table cells byte h) ∙ sym (slice_get-get_or base byte 0 inside)
+    go (inl inside) (inr h) =
+        let r : (slice_index table (byte / 256) ≤ length numbers) × (slice_index numbers (slice_index table (byte / 256) - 1) ≡ byte / 256) = numbered (byte / 256) h in
+        absurd (All-get_or (λ page. byte / 256 ≢ page) numbers (slice_index table (byte / 256) - 1) 0 (omega (arith, h, r.0)) apart (sym r.1))
+
+-- a number of bytes that are there
+pub number_there : (base table cells : List ℕ) (first count value : ℕ) → first + count ≤ length base → number (overlaid_cells base table cells) first count ≡ Some value
+    → number (cells_of (overlaid base table cells)) first count ≡ Some value
+number_there base table cells first count value inside h =
+    number_frame (cells_of (overlaid base table cells)) (overlaid_cells base table cells) first count
+    (λ byte c. let r = covers_parts first count byte c in overlaid_at base table cells byte (omega (arith, r.1, inside))) ∙ h
+
+written_same : (c d : Cells) (first count value byte : ℕ) → c byte ≡ d byte → written c first count value byte ≡ written d first count value byte
+unfolding written
+written_same c d first count value byte h = ap (λ z. if covers first count byte then Some (byte_of (byte - first) value) else z) h
+
+-- the bytes once a value is put into them
+pub put_whole :
+    (base table cells other more : List ℕ) (first count value : ℕ) → first + count ≤ length base
+    → ((byte : ℕ) → overlaid_cells base other more byte ≡ written (overlaid_cells base table cells) first count value byte)
+    → (byte : ℕ) → cells_of (overlaid base other more) byte ≡ written (cells_of (overlaid base table cells)) first count value byte
+put_whole base table cells other more first count value inside h byte = go (cases_lt byte (length base))
+  where
+    go : (byte < length base) ⊎ (length base ≤ byte) → cells_of (overlaid base other more) byte ≡ written (cells_of (overlaid base table cells)) first count value byte
+    go (inl there) =
+        overlaid_at base other more byte there
+        ∙ h byte
+        ∙ written_same (overlaid_cells base table cells) (cells_of (overlaid base table cells)) first count value byte (sym (overlaid_at base table cells byte there))
+    go (inr out) =
+        overlaid_past base other more byte out
+        ∙ sym (written_out (cells_of (overlaid base table cells)) first count value byte (λ a b. omega (arith, a, b, out, inside)) ∙ overlaid_past base table cells byte out)
+
+-- an overlay's bytes, by its parts
+pub as_many : (o : Overlaid) (base table cells : List ℕ) → o ≡ record { base = base; bytes = overlaid base table cells } → length o.bytes ≡ length base
+as_many o base table cells h = ap (λ z. length z.bytes) h ∙ overlaid_many base table cells
+
+pub on_err : {T E P : Type 0} (r : Result T E) → P → OnErr r P
+on_err (Ok t) p = tt
+on_err (Err e) p = p

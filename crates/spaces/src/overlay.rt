@@ -1,0 +1,127 @@
+//! A lent buffer with changes.
+
+ghost use Rattle.std.specs.Prelude.{◌≡◌, ◌≢◌, ◌<◌, ◌≤◌, ◌+◌, ◌/◌, ◌^◌, ℕ, Some, length, map, true, false, All, OnOk, OnErr, slice_get, nat_le};
+ghost use Rattle.clmodel.specs.Cells.{cells_of, number, written};
+ghost use Rattle.spaces_base.specs.Space.{Becomes, IsStored, IsUpdated};
+
+use crate::pages::Pages;
+use clmodel::access::{Class, Width};
+use spaces_base::cells::{combined, is_inside};
+use spaces_base::width::byte_count;
+use spaces_base::{Space, SpaceFault};
+use std::alloc::{AllocError, Global};
+use std::marker::Model;
+
+/// A lent buffer, seen as its bytes with the changes that were made (OpenCL 1.2, section 5.2.1). Pages of 256 bytes are copied at their
+/// first change; an access costs a look into the table of pages for each of its bytes.
+#[derive(Drop)]
+pub struct Overlay<'a> {
+    base: &'a [u8],
+    pages: Pages,
+}
+
+impl<'a> Model for Overlay<'a> {
+    ghost use Rattle.spaces.specs.Overlay.{Overlaid, overlaid};
+
+    ghost Value = { Overlaid };
+
+    ghost view = { λ o. record { base = o.base.now; bytes = overlaid o.base.now o.pages.table.items o.pages.cells.items } };
+}
+
+impl<'a> Overlay<'a> {
+    /// An overlay without changes. It takes no memory.
+    pub fn new(alloc: Global, base: &'a [u8]) -> Self
+        ensures base { result.base ≡ base.now }
+        ensures bytes { result.bytes ≡ map Some base.now }
+    {
+        Overlay {
+            base,
+            pages: Pages::new(alloc),
+        }
+    }
+
+    /// The numbers of the pages of 256 bytes outside of which it is as the lent buffer.
+    pub fn changed(&self) -> &[u16]
+        ensures { (byte : ℕ) → All (λ page. byte / 256 ≢ page) result.now → cells_of self.now.bytes byte ≡ slice_get self.now.base byte }
+    {
+        self.pages.numbers.as_slice()
+    }
+
+    /// Whether so many bytes from a byte on are there.
+    fn is_inside(&self, at: u64, count: u64) -> bool
+        ensures { result ≡ nat_le (at + count) (length self.now.bytes) }
+    {
+        is_inside(self.base.len(), at, count)
+    }
+
+    /// The number of so many bytes.
+    fn number(&self, at: usize, count: usize) -> u64
+        requires short { count ≤ 8 }
+        requires inside { at + count ≤ length self.now.bytes }
+        ensures value { number (cells_of self.now.bytes) at count ≡ Some result }
+        ensures below { result < 256 ^ count }
+    {
+        self.pages.number(self.base, at, count)
+    }
+
+    /// Puts the low bytes of a value, so many, in place of those that are there.
+    fn change(&mut self, at: usize, count: usize, value: u64) -> Result<(), AllocError>
+        requires some { 0 < count }
+        requires short { count ≤ 8 }
+        requires inside { at + count ≤ length self.old.bytes }
+        ensures changed { OnOk result (Becomes self.old.bytes self.new.bytes (written (cells_of self.old.bytes) at count value)) }
+        ensures same { OnErr result (self.new.bytes ≡ self.old.bytes) }
+        ensures lent { self.new.base ≡ self.old.base }
+    {
+        self.pages.change(self.base, at, count, value)
+    }
+}
+
+impl<'a> Space for Overlay<'a> {
+    ghost bytes = { λ overlay. overlay.bytes };
+
+    ghost read_only = { false };
+
+    ghost may_want = { true };
+
+    fn size(&self) -> u64 {
+        self.base.len() as u64
+    }
+
+    fn load(&self, at: u64, width: Width) -> Result<u64, SpaceFault> {
+        let count = byte_count(width);
+        if !self.is_inside(at, count) {
+            return Err(SpaceFault::Bounds);
+        }
+        Ok(self.number(at as usize, count as usize))
+    }
+
+    fn store(&mut self, at: u64, width: Width, value: u64) -> Result<(), SpaceFault>
+        ensures stored { IsStored false true self.old.bytes at width value self.new.bytes result }
+        ensures lent { self.new.base ≡ self.old.base }
+    {
+        let count = byte_count(width);
+        if !self.is_inside(at, count) {
+            return Err(SpaceFault::Bounds);
+        }
+        match self.change(at as usize, count as usize, value) {
+            Ok(()) => Ok(()),
+            Err(_) => Err(SpaceFault::OutOfMemory),
+        }
+    }
+
+    fn update(&mut self, at: u64, class: Class, operand: u32) -> Result<(), SpaceFault>
+        ensures updated { IsUpdated false true self.old.bytes at class operand self.new.bytes result }
+        ensures lent { self.new.base ≡ self.old.base }
+    {
+        if !self.is_inside(at, 4) {
+            return Err(SpaceFault::Bounds);
+        }
+        let found = self.number(at as usize, 4);
+        let value = combined(class, found as u32, operand);
+        match self.change(at as usize, 4, value as u64) {
+            Ok(()) => Ok(()),
+            Err(_) => Err(SpaceFault::OutOfMemory),
+        }
+    }
+}
