@@ -1,43 +1,35 @@
-//! Tests across crates: scripts and sources with the text that a run, a check or a dump of them has to write, and ends that fail.
+//! Tests across crates: calls of single crates with their answers, where no script can show them, and readers and writers that fail.
 #![tactic(auto)]
 
 #[cfg(test)]
-mod array_corners;
+mod calls;
 #[cfg(test)]
-mod array_faults;
+mod device_calls;
 #[cfg(test)]
-mod bad_lines;
-#[cfg(test)]
-mod barriers;
-#[cfg(test)]
-mod checks;
-#[cfg(test)]
-mod command_lines;
-#[cfg(test)]
-mod commands;
-#[cfg(test)]
-mod control_flow;
-#[cfg(test)]
-mod dumps;
+mod failing_dumps;
 #[cfg(test)]
 mod failing_ends;
 #[cfg(test)]
-mod failing_sources;
+mod footprints;
 #[cfg(test)]
-mod limits;
+mod logs;
 #[cfg(test)]
-mod local_arrays;
+mod lowering;
 #[cfg(test)]
-mod local_memory;
+mod numbers;
 #[cfg(test)]
-mod private_arrays;
+mod overlays;
+#[cfg(test)]
+mod printing;
 #[cfg(test)]
 mod replies;
 #[cfg(test)]
-mod rows;
+mod sizes;
 #[cfg(test)]
-mod runs;
+mod space_calls;
 #[cfg(test)]
-mod source_faults;
+mod stops;
 #[cfg(test)]
-mod type_faults;
+mod tokens;
+#[cfg(test)]
+mod verifying;

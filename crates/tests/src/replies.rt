@@ -1,8 +1,8 @@
-//! Words of replies: by scripts, and by direct calls where no script can show them.
+//! Words of replies and of faults that no script can show, by direct calls.
 
-use crate::runs::check;
 use cli::Write;
 use cli::memory::MemoryWriter;
+use cli::session::RunFault;
 use cli::streams::Output;
 use clmodel::access::{AccessKind, Clash, Class};
 use clmodel::action::{Instance, Stop, Turns};
@@ -16,41 +16,13 @@ use std::io::BufWriter;
 use std::process::Abort;
 use std::test::Fail;
 
-// Two items update one number, each by a class of its own.
+// The program tells the name of the file besides.
 #[test]
-fn classes_of_updates(rt: HostRuntime) -> Result<(), Fail> {
-    for (first, second, words) in [
-        ("atomic_and(a, 1)", "atomic_or(a, 1)", "and item 1 or"),
-        ("atomic_xor(a, 1)", "atomic_min(b, 1)", "xor item 1 umin"),
-        ("atomic_max(a, 1)", "atomic_max(b, 1)", "smax item 1 umax"),
-    ] {
-        let script = format!(in rt.alloc();
-            "buffer c 4\nprogram p 1\n__kernel void f(__global int *a, __global uint *b) {{ if (get_local_id(0) == 0) {first}; else {second}; }}\nkernel k p f\narg k 0 buffer c\narg k 1 buffer c\nlaunch k 2 2\n"
-        )?;
-        let replies = format!(in rt.alloc();
-            "ok\nok\nok\nok\nok\nfault 2 order item 0 {words} buffer c byte 0 schedule 0*1 1*1\n"
-        )?;
-        check(&rt, script.as_str(), replies.as_str(), 1);
-    }
-    Ok(())
-}
-
-#[test]
-fn faults_of_later_items(rt: HostRuntime) -> Result<(), Fail> {
-    for (statement, words) in [
-        ("if (i == 7) t[3]++;", "5 unset item 7 private t element 3"),
-        (
-            "if (i == 2) t[9223372036854775808ul] = 1;",
-            "4 bounds item 2 private t element -9223372036854775808",
-        ),
-        ("if (i == 1) i = 1 / 0;", "6 divide_by_zero item 1"),
-    ] {
-        let script = format!(in rt.alloc();
-            "program p 1\n__kernel void f() {{ int t[4]; int i = get_local_id(0); {statement} }}\nkernel k p f\nlaunch k 8 8\n"
-        )?;
-        let replies = format!(in rt.alloc(); "ok\nok\nfault {words} schedule -\n")?;
-        check(&rt, script.as_str(), replies.as_str(), 1);
-    }
+fn a_read_that_fails(rt: HostRuntime) -> Result<(), Fail> {
+    assert_eq!(rt;
+        format!(in rt.alloc(); "{}", RunFault::Read)?.as_str(),
+        "cannot read"
+    );
     Ok(())
 }
 
