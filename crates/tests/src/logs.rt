@@ -73,6 +73,18 @@ fn fences_order_accesses_of_their_space(rt: HostRuntime) -> Result<(), Fail> {
 }
 
 #[test]
+fn an_access_of_another_interval_is_kept(rt: HostRuntime) -> Result<(), Fail> {
+    let mut log = ListLog::new(rt.alloc());
+    assert!(rt; log.note(entry(0, 0, AccessKind::Load, 0))?.is_none());
+    assert!(rt; log.note(entry(0, 0, AccessKind::Load, 1))?.is_none());
+    assert_eq!(rt; log.len(), 1);
+    log.fence(Fenced::Global);
+    assert!(rt; log.note(entry(0, 0, AccessKind::Load, 2))?.is_none());
+    assert_eq!(rt; log.len(), 2);
+    Ok(())
+}
+
+#[test]
 fn groups_conflict_on_buffers(rt: HostRuntime) -> Result<(), Fail> {
     let add = AccessKind::Update(Class::Add);
     let least = AccessKind::Update(Class::SignedMin);
