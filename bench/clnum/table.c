@@ -1,4 +1,4 @@
-// Writes the table that the tests of clnum in the crate tests compare with: a line for each case, as
+// Writes the table that rows/numbers.py compares with: a line for each case, as
 //     OPERATOR TYPE NUMBER [TYPE NUMBER] : TYPE NUMBER
 // or with `zero` or `overflow` after the `:` for a division that has no result. Types are c, s, i and l for char, short,
 // int and long, in capitals for the unsigned ones. gcc computes each case by its own promotions, conversions and
