@@ -1,12 +1,15 @@
 -- From an argument that was set to the machine's answer.
-use Rattle.std.proofs.Common.{◌≡◌, ℕ, Bool, true, false, not, List, [], ◌∷◌, Some, refl, ap, sym, ◌∙◌, slice_get}
+use Rattle.std.proofs.Common.{◌≡◌, ℕ, Bool, true, false, not, List, [], ◌∷◌, Some, Option, map, refl, ap, sym, ◌∙◌, subst, slice_get}
 use Rattle.std.specs.Map.{set_value}
 use Rattle.std.specs.Option.{MatchOption, option_map_or}
+use Rattle.device.specs.declared.compiled.CompiledKernel.{CompiledKernel}
+use Rattle.device.specs.Kept.{with_argument_set}
+use Rattle.device.proofs.Programs.{set_kernel}
 use Rattle.clmodel.specs.Tree.{Program}
 use Rattle.clmodel.specs.declared.setup.Argument.{Argument}
 use Rattle.clmodel.specs.declared.tree.Parameter.{Parameter}
 use Rattle.device_store.specs.Kernels.{KernelState, parameters_of, suits, with_argument}
-use Rattle.spaces_base.specs.Tables.{is}
+use Rattle.spaces_base.specs.Tables.{Table, is, find}
 use Rattle.device_store.specs.declared.command.Command.TheVariants as command
 use Rattle.device_store.specs.declared.command.Refusal.{Refusal}
 use Rattle.device_store.specs.declared.command.Refusal.TheVariants.{NoSuchName, BadArgument}
@@ -37,3 +40,19 @@ pub set_answers : (old new : Machine) (name : List ℕ) (index : ℕ) (argument 
 set_answers old new name index argument has suiting there is_new =
     none_of_three (has_kernel old name) (fits old (kernel_of old name) index argument) (is_there old argument) NoSuchName BadArgument NoSuchName
     (Does old (command.Arg name index argument) reply.Done new) _ has suiting there (refl, is_new)
+
+-- the argument of a kernel that is there
+pub argument_set : (kernels new : Table CompiledKernel) (name : List ℕ) (compiled : CompiledKernel) (index : ℕ) (argument : Argument) → find kernels name ≡ Some compiled
+    → MatchOption (find kernels name) (new ≡ kernels) (λ k. new ≡ set_value (is name) kernels (with_argument_set k index argument))
+    → new ≡ set_value (is name) kernels (with_argument_set compiled index argument)
+argument_set kernels new name compiled index argument found h =
+    subst (λ (o : Option CompiledKernel). MatchOption o (new ≡ kernels) (λ k. new ≡ set_value (is name) kernels (with_argument_set k index argument))) found h
+
+-- the same of the machine's kernel
+pub argument_seen : (kernels new : Table CompiledKernel) (name : List ℕ) (compiled : CompiledKernel) (kernel : KernelState) (index : ℕ) (argument : Argument) → compiled.kernel ≡ kernel
+    → new ≡ set_value (is name) kernels (with_argument_set compiled index argument)
+    → map (λ e. (e.0, e.1.kernel)) new ≡ set_value (is name) (map (λ e. (e.0, e.1.kernel)) kernels) (with_argument kernel index argument)
+argument_seen kernels new name compiled kernel index argument is_kernel is_new =
+    ap (map (λ (e : List ℕ × CompiledKernel). (e.0, e.1.kernel))) is_new
+    ∙ set_kernel kernels name (with_argument_set compiled index argument)
+    ∙ ap (λ k. set_value (is name) (map (λ e. (e.0, e.1.kernel)) kernels) (with_argument k index argument)) is_kernel

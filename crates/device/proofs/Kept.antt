@@ -1,98 +1,87 @@
--- Each kernel is of a program that is there.
-use Rattle.std.proofs.Common.{◌≡◌, ℕ, Bool, true, false, cond, List, [], ◌∷◌, ◌++◌, Option, None, Some, Result, Ok, Err, OnOk, OnErr, refl, ap, sym, ◌∙◌}
-use Rattle.std.proofs.lemmas.Bool.{and_parts, and_from}
-use Rattle.std.specs.List.{list_all}
-use Rattle.std.specs.Map.{lookup, set_value}
-use Rattle.std.specs.Option.{option_map_or, unwrap_or}
+-- Each kernel has its program and its code.
+use Rattle.std.proofs.Common.{◌≡◌, ℕ, Bool, true, false, cond, List, [], ◌∷◌, ◌++◌, Option, None, Some, is_some, Result, Ok, Err, OnOk, OnErr, IfSome, refl, ap, sym, ◌∙◌, subst, map}
+use Rattle.std.proofs.lemmas.List.{map-append}
+use Rattle.std.proofs.lemmas.List.Elements.{All-push, All-weaker}
+use Rattle.std.proofs.lemmas.Map.Views.{All-values-set_value, IfSome-lookup_from_All}
+use Rattle.std.specs.List.{All}
+use Rattle.std.specs.Map.{lookup, set_value, values_of}
 use Rattle.clmodel.specs.Tree.{program}
 use Rattle.clmodel.specs.declared.setup.Argument.{Argument}
 use Rattle.cltypes.specs.declared.checked.Checked.{Checked}
-use Rattle.device_store.specs.Kernels.{KernelState, names_kernel, with_argument, no_kernel}
+use Rattle.lower.specs.Lowers.{IsLowered}
 use Rattle.spaces_base.specs.Tables.{Table, is, find}
-use Rattle.device.specs.Kept.{is_in, all_in}
-
--- what is found passes where all do
-found_passes : {A B : Type 0} (test : A → Bool) (p : B → Bool) (es : List (A × B)) (b : B) → list_all (λ e. p e.1) es ≡ true → lookup test es ≡ Some b → p b ≡ true
-found_passes test p [] b all found = cc
-found_passes {A} {B} test p (e ∷ es) b all found = by (test e.0) (found_passes test p es b) (and_parts (p e.1) (list_all (λ e. p e.1) es) all) found
-  where
-    by : (t : Bool) → (list_all (λ e. p e.1) es ≡ true → lookup test es ≡ Some b → p b ≡ true) → (p e.1 ≡ true) × (list_all (λ e. p e.1) es ≡ true)
-        → cond t (Some e.1) (lookup test es) ≡ Some b → p b ≡ true
-    by true rest parts found = let same : e.1 ≡ b = cc in ap p (sym same) ∙ parts.0
-    by false rest parts found = rest parts.1 found
-
--- all pass after one was put in the place of what is found, if it passes where that does
-replaced_passes : {A B : Type 0} (test : A → Bool) (p : B → Bool) (es : List (A × B)) (b : B) → list_all (λ e. p e.1) es ≡ true
-    → ((old : B) → lookup test es ≡ Some old → p old ≡ true → p b ≡ true) → list_all (λ e. p e.1) (set_value test es b) ≡ true
-replaced_passes test p [] b all passes = refl
-replaced_passes {A} {B} test p (e ∷ es) b all passes = by (test e.0) (replaced_passes test p es b) (and_parts (p e.1) (list_all (λ e. p e.1) es) all) passes
-  where
-    by : (t : Bool) → (list_all (λ e. p e.1) es ≡ true → ((old : B) → lookup test es ≡ Some old → p old ≡ true → p b ≡ true) → list_all (λ e. p e.1) (set_value test es b) ≡ true)
-        → (p e.1 ≡ true) × (list_all (λ e. p e.1) es ≡ true)
-        → ((old : B) → cond t (Some e.1) (lookup test es) ≡ Some old → p old ≡ true → p b ≡ true)
-        → list_all (λ e. p e.1) (cond t ((e.0, b) ∷ es) (e ∷ set_value test es b)) ≡ true
-    by true rest parts passes = and_from (p b) (list_all (λ e. p e.1) es) (passes e.1 refl parts.0) parts.1
-    by false rest parts passes = and_from (p e.1) (list_all (λ e. p e.1) (set_value test es b)) parts.0 (rest parts.1 passes)
-
--- all pass after one more that passes
-more_pass : {A B : Type 0} (p : B → Bool) (es : List (A × B)) (last : A × B) → list_all (λ e. p e.1) es ≡ true → p last.1 ≡ true → list_all (λ e. p e.1) (es ++ last ∷ []) ≡ true
-more_pass p [] last all passes = and_from (p last.1) true passes refl
-more_pass p (e ∷ es) last all passes =
-    let parts = and_parts (p e.1) (list_all (λ e. p e.1) es) all in and_from (p e.1) (list_all (λ e. p e.1) (es ++ last ∷ [])) parts.0 (more_pass p es last parts.1 passes)
-
--- all pass a weaker test
-all_pass : {A B : Type 0} (p q : B → Bool) (es : List (A × B)) → ((b : B) → p b ≡ true → q b ≡ true) → list_all (λ e. p e.1) es ≡ true → list_all (λ e. q e.1) es ≡ true
-all_pass p q [] weaker all = refl
-all_pass p q (e ∷ es) weaker all =
-    let parts = and_parts (p e.1) (list_all (λ e. p e.1) es) all in and_from (q e.1) (list_all (λ e. q e.1) es) (weaker e.1 parts.0) (all_pass p q es weaker parts.1)
+use Rattle.device.specs.declared.compiled.CompiledKernel.{CompiledKernel}
+use Rattle.device.specs.Kept.{ActsAs, IsCompiled, AllCompiled, with_argument_set}
 
 -- what is found is found among more
-found_among_more : {A B : Type 0} (test : A → Bool) (es : List (A × B)) (last : A × B) (b : B) → lookup test es ≡ Some b → lookup test (es ++ last ∷ []) ≡ Some b
-found_among_more test [] last b found = cc
-found_among_more {A} {B} test (e ∷ es) last b found = by (test e.0) (found_among_more test es last b) found
+found_among_more : {A B : Type 0} (test : A → Bool) (es : List (A × B)) (last : A × B) → is_some (lookup test es) ≡ true → lookup test (es ++ last ∷ []) ≡ lookup test es
+found_among_more test [] last there = cc
+found_among_more {A} {B} test (e ∷ es) last there = by (test e.0) (found_among_more test es last) there
   where
-    by : (t : Bool) → (lookup test es ≡ Some b → lookup test (es ++ last ∷ []) ≡ Some b) → cond t (Some e.1) (lookup test es) ≡ Some b → cond t (Some e.1) (lookup test (es ++ last ∷ [])) ≡ Some b
-    by true rest found = found
-    by false rest found = rest found
+    by : (t : Bool) → (is_some (lookup test es) ≡ true → lookup test (es ++ last ∷ []) ≡ lookup test es) → is_some (cond t (Some e.1) (lookup test es)) ≡ true
+        → cond t (Some e.1) (lookup test (es ++ last ∷ [])) ≡ cond t (Some e.1) (lookup test es)
+    by true rest there = refl
+    by false rest there = rest there
 
--- a kernel stays in its program when a program is added
-still_in : (programs : Table Checked) (last : List ℕ × Checked) (kernel : KernelState) → is_in programs kernel ≡ true → is_in (programs ++ last ∷ []) kernel ≡ true
-still_in programs last kernel there = by (find programs kernel.program) refl there
-  where
-    by : (o : Option Checked) → find programs kernel.program ≡ o → option_map_or (λ checked. names_kernel (program checked.tree) kernel.function) o false ≡ true
-        → is_in (programs ++ last ∷ []) kernel ≡ true
-    by None held there = cc
-    by (Some checked) held there =
-        ap (λ o. option_map_or (λ checked. names_kernel (program checked.tree) kernel.function) o false) (found_among_more (is kernel.program) programs last checked held) ∙ there
+-- a kernel stays compiled where its program stays
+pub still_compiled : (programs new : Table Checked) (compiled : CompiledKernel) → find new compiled.kernel.program ≡ find programs compiled.kernel.program → IsCompiled programs compiled → IsCompiled new compiled
+still_compiled programs new compiled same was =
+    record { there = ap is_some same ∙ was.there; acts_as = λ checked found. was.acts_as checked (sym same ∙ found) }
 
 -- one program more
-kept_with_program : (programs : Table Checked) (kernels : Table KernelState) (name : List ℕ) (checked : Checked) → all_in programs kernels ≡ true
-    → all_in (programs ++ (name, checked) ∷ []) kernels ≡ true
-kept_with_program programs kernels name checked kept = all_pass (is_in programs) (is_in (programs ++ (name, checked) ∷ [])) kernels (still_in programs (name, checked)) kept
-
--- one kernel more
-pub kept_with_kernel : (programs : Table Checked) (kernels : Table KernelState) (name : List ℕ) (kernel : KernelState) (checked : Checked) → all_in programs kernels ≡ true
-    → find programs kernel.program ≡ Some checked → names_kernel (program checked.tree) kernel.function ≡ true → all_in programs (kernels ++ (name, kernel) ∷ []) ≡ true
-kept_with_kernel programs kernels name kernel checked kept found named =
-    more_pass (is_in programs) kernels (name, kernel) kept
-    (ap (λ o. option_map_or (λ checked. names_kernel (program checked.tree) kernel.function) o false) found ∙ named)
-
--- another argument
-pub kept_with_argument : (programs : Table Checked) (kernels : Table KernelState) (name : List ℕ) (index : ℕ) (argument : Argument) → all_in programs kernels ≡ true
-    → all_in programs (set_value (is name) kernels (with_argument (unwrap_or (find kernels name) no_kernel) index argument)) ≡ true
-kept_with_argument programs kernels name index argument kept =
-    replaced_passes (is name) (is_in programs) kernels (with_argument (unwrap_or (find kernels name) no_kernel) index argument) kept
-    (λ old found there. ap (λ o. is_in programs (with_argument (unwrap_or o no_kernel) index argument)) found ∙ there)
-
--- a kernel that is found, with its program
-pub kernel_is_named : (programs : Table Checked) (kernels : Table KernelState) (name : List ℕ) (kernel : KernelState) (checked : Checked) → all_in programs kernels ≡ true
-    → find kernels name ≡ Some kernel → find programs kernel.program ≡ Some checked → names_kernel (program checked.tree) kernel.function ≡ true
-kernel_is_named programs kernels name kernel checked kept found holds =
-    ap (λ o. option_map_or (λ checked. names_kernel (program checked.tree) kernel.function) o false) (sym holds)
-    ∙ found_passes (is name) (is_in programs) kernels kernel kept found
+kept_with_program : (programs : Table Checked) (kernels : Table CompiledKernel) (name : List ℕ) (checked : Checked) → AllCompiled programs kernels
+    → AllCompiled (programs ++ (name, checked) ∷ []) kernels
+kept_with_program programs kernels name checked kept =
+    All-weaker (IsCompiled programs) (IsCompiled (programs ++ (name, checked) ∷ []))
+    (λ c was. still_compiled programs (programs ++ (name, checked) ∷ []) c (found_among_more (is c.kernel.program) programs (name, checked) was.there) was)
+    (values_of kernels) kept
 
 -- a program that was added, or not
-pub kept_after_insert : {E : Type 0} (programs new : Table Checked) (kernels : Table KernelState) (name : List ℕ) (checked : Checked) (added : Result (Unit {0}) E) → all_in programs kernels ≡ true
-    → OnOk added (new ≡ programs ++ (name, checked) ∷ []) → OnErr added (new ≡ programs) → all_in new kernels ≡ true
-kept_after_insert programs new kernels name checked (Ok u) kept ok err = ap (λ ps. all_in ps kernels) ok ∙ kept_with_program programs kernels name checked kept
-kept_after_insert programs new kernels name checked (Err e) kept ok err = ap (λ ps. all_in ps kernels) err ∙ kept
+pub kept_after_program : {E : Type 0} (programs new : Table Checked) (kernels : Table CompiledKernel) (name : List ℕ) (checked : Checked) (added : Result (Unit {0}) E)
+    → AllCompiled programs kernels → OnOk added (new ≡ programs ++ (name, checked) ∷ []) → OnErr added (new ≡ programs) → AllCompiled new kernels
+kept_after_program programs new kernels name checked (Ok u) kept ok err = subst (λ (ps : Table Checked). AllCompiled ps kernels) (sym ok) (kept_with_program programs kernels name checked kept)
+kept_after_program programs new kernels name checked (Err e) kept ok err = subst (λ (ps : Table Checked). AllCompiled ps kernels) (sym err) kept
+
+-- one kernel more
+kept_with_kernel : (programs : Table Checked) (kernels : Table CompiledKernel) (name : List ℕ) (compiled : CompiledKernel) → AllCompiled programs kernels → IsCompiled programs compiled
+    → AllCompiled programs (kernels ++ (name, compiled) ∷ [])
+kept_with_kernel programs kernels name compiled kept is_compiled =
+    subst (λ (cs : List CompiledKernel). All (IsCompiled programs) cs) (sym (map-append (λ (e : List ℕ × CompiledKernel). e.1) kernels ((name, compiled) ∷ [])))
+    (All-push (IsCompiled programs) (values_of kernels) compiled kept is_compiled)
+
+-- a kernel that was added, or not
+pub kept_after_kernel : {E : Type 0} (programs : Table Checked) (kernels new : Table CompiledKernel) (name : List ℕ) (compiled : CompiledKernel) (added : Result (Unit {0}) E)
+    → AllCompiled programs kernels → IsCompiled programs compiled → OnOk added (new ≡ kernels ++ (name, compiled) ∷ []) → OnErr added (new ≡ kernels) → AllCompiled programs new
+kept_after_kernel programs kernels new name compiled (Ok u) kept is_compiled ok err = subst (λ (ks : Table CompiledKernel). AllCompiled programs ks) (sym ok) (kept_with_kernel programs kernels name compiled kept is_compiled)
+kept_after_kernel programs kernels new name compiled (Err e) kept is_compiled ok err = subst (λ (ks : Table CompiledKernel). AllCompiled programs ks) (sym err) kept
+
+-- a kernel that is found
+pub found_is_compiled : (programs : Table Checked) (kernels : Table CompiledKernel) (name : List ℕ) (compiled : CompiledKernel) → AllCompiled programs kernels → find kernels name ≡ Some compiled
+    → IsCompiled programs compiled
+found_is_compiled programs kernels name compiled kept found =
+    subst (λ (o : Option CompiledKernel). IfSome o (IsCompiled programs)) found (IfSome-lookup_from_All (IsCompiled programs) (is name) kernels kept)
+
+-- another argument
+pub kept_with_argument : (programs : Table Checked) (kernels : Table CompiledKernel) (name : List ℕ) (compiled : CompiledKernel) (index : ℕ) (argument : Argument) → AllCompiled programs kernels
+    → find kernels name ≡ Some compiled → AllCompiled programs (set_value (is name) kernels (with_argument_set compiled index argument))
+kept_with_argument programs kernels name compiled index argument kept found =
+    let was : IsCompiled programs compiled = found_is_compiled programs kernels name compiled kept found in
+    All-values-set_value (is name) (IsCompiled programs) kernels (with_argument_set compiled index argument) kept
+    (record { there = was.there; acts_as = was.acts_as })
+
+-- a kernel that was made of a program that is there
+pub made_is_compiled : (programs : Table Checked) (compiled : CompiledKernel) (checked : Checked) → find programs compiled.kernel.program ≡ Some checked
+    → IsLowered (program checked.tree) compiled.kernel.function compiled.code → IsCompiled programs compiled
+made_is_compiled programs compiled checked found lowered =
+    record {
+      there = ap is_some found;
+      acts_as = λ other found_too. subst (λ (c : Checked). ActsAs (program c.tree) compiled.kernel.function compiled.code) (some_is (sym found ∙ found_too)) lowered.acts_as;
+    }
+  where
+    some_is : {A : Type 0} {a b : A} → Some a ≡ Some b → a ≡ b
+    some_is e = cc
+
+-- the code of a kernel that is found with its program
+pub code_acts : (programs : Table Checked) (kernels : Table CompiledKernel) (name : List ℕ) (compiled : CompiledKernel) (checked : Checked) → AllCompiled programs kernels
+    → find kernels name ≡ Some compiled → find programs compiled.kernel.program ≡ Some checked → ActsAs (program checked.tree) compiled.kernel.function compiled.code
+code_acts programs kernels name compiled checked kept found there = (found_is_compiled programs kernels name compiled kept found).acts_as checked there

@@ -1,19 +1,22 @@
 -- Names that were removed.
-use Rattle.std.proofs.Common.{◌≡◌, ℕ, Bool, true, false, not, cond, ◌&&◌, ◌||◌, List, [], ◌∷◌, Option, None, Some, is_some, map, refl, ap, sym, ◌∙◌}
-use Rattle.std.proofs.lemmas.Bool.{and_parts, and_from}
-use Rattle.std.specs.List.{list_all, list_any}
-use Rattle.std.specs.Map.{lookup, remove_entry, values_of}
-use Rattle.std.specs.Option.{MatchOption, option_map, option_map_or}
+use Rattle.std.proofs.Common.{◌≡◌, ℕ, Bool, true, false, not, cond, ◌&&◌, ◌||◌, List, [], ◌∷◌, Option, None, Some, is_some, map, refl, ap, sym, ◌∙◌, subst}
+use Rattle.std.proofs.lemmas.List.Elements.{All-nil, All-cons, All-head, All-tail}
+use Rattle.std.proofs.lemmas.Map.Views.{All-map-remove_entry}
+use Rattle.std.specs.List.{list_any}
+use Rattle.std.specs.Map.{remove_entry, values_of}
+use Rattle.std.specs.Option.{MatchOption, option_map}
 use Rattle.clmodel.specs.Tree.{Program, program}
 use Rattle.cltypes.specs.declared.checked.Checked.{Checked}
-use Rattle.device_store.specs.Kernels.{KernelState, names_kernel}
+use Rattle.device_store.specs.Kernels.{KernelState}
+use Rattle.device.specs.declared.compiled.CompiledKernel.{CompiledKernel}
 use Rattle.device_store.specs.declared.command.Command.TheVariants as command
 use Rattle.device_store.specs.declared.command.Refusal.{Refusal}
 use Rattle.device_store.specs.declared.command.Refusal.TheVariants.{NoSuchName, InUse}
 use Rattle.device_store.specs.declared.command.Reply.TheVariants as reply
 use Rattle.spaces_base.specs.Tables.{Table, is, find}
-use Rattle.device.specs.Kept.{is_in, all_in}
+use Rattle.device.specs.Kept.{IsCompiled, AllCompiled}
 use Rattle.device.specs.Machine.{Machine, Answers, Does, first, is_used, has_kernels, is_in_use}
+use Rattle.device.proofs.Kept.{still_compiled}
 use Rattle.device.proofs.Programs.{find_program}
 use lib.Pointwise.{bytes_decides}
 
@@ -43,44 +46,31 @@ found_after {A} (e ∷ es) name other apart = by (is name e.0) refl (found_after
     by true here rest = ap (λ t. cond t (Some e.1) (find es other)) (sym (another name other e.0 (is other e.0) refl here apart))
     by false here rest = ap (cond (is other e.0) (Some e.1)) rest
 
--- all pass after one was removed
-removed_passes : {A B : Type 0} (test : A → Bool) (p : B → Bool) (es : List (A × B)) → list_all (λ e. p e.1) es ≡ true → list_all (λ e. p e.1) (remove_entry test es) ≡ true
-removed_passes test p [] all = refl
-removed_passes {A} {B} test p (e ∷ es) all = by (test e.0) (removed_passes test p es) (and_parts (p e.1) (list_all (λ e. p e.1) es) all)
-  where
-    by : (t : Bool) → (list_all (λ e. p e.1) es ≡ true → list_all (λ e. p e.1) (remove_entry test es) ≡ true) → (p e.1 ≡ true) × (list_all (λ e. p e.1) es ≡ true)
-        → list_all (λ e. p e.1) (cond t es (e ∷ remove_entry test es)) ≡ true
-    by true rest parts = parts.1
-    by false rest parts = and_from (p e.1) (list_all (λ e. p e.1) (remove_entry test es)) parts.0 (rest parts.1)
-
 neither : (a b : Bool) → (a || b) ≡ false → (a ≡ false) × (b ≡ false)
 neither true b none = cc
 neither false b none = (refl, none)
 
--- all pass a test that follows from one that all pass and one that none does
-all_apart : {A B : Type 0} (p q r : B → Bool) (es : List (A × B)) → ((b : B) → p b ≡ true → q b ≡ false → r b ≡ true)
-    → list_all (λ e. p e.1) es ≡ true → list_any q (values_of es) ≡ false → list_all (λ e. r e.1) es ≡ true
-all_apart p q r [] follows all none = refl
-all_apart p q r (e ∷ es) follows all none =
-    let parts = and_parts (p e.1) (list_all (λ e. p e.1) es) all in
-    let others = neither (q e.1) (list_any q (values_of es)) none in
-    and_from (r e.1) (list_all (λ e. r e.1) es) (follows e.1 parts.0 others.0) (all_apart p q r es follows parts.1 others.1)
+-- kernels stay compiled where none is of what was removed
+all_apart : (programs : Table Checked) (kernels : Table CompiledKernel) (name : List ℕ) → AllCompiled programs kernels
+    → list_any (λ k. is name k.program) (values_of (map (λ e. (e.0, e.1.kernel)) kernels)) ≡ false → AllCompiled (remove_entry (is name) programs) kernels
+all_apart programs [] name kept none = All-nil (IsCompiled (remove_entry (is name) programs))
+all_apart programs (e ∷ kernels) name kept none =
+    let others = neither (is name e.1.kernel.program) (list_any (λ k. is name k.program) (values_of (map (λ e. (e.0, e.1.kernel)) kernels))) none in
+    All-cons (IsCompiled (remove_entry (is name) programs)) e.1 (values_of kernels)
+    (still_compiled programs (remove_entry (is name) programs) e.1 (found_after programs name e.1.kernel.program others.0) (All-head (IsCompiled programs) e.1 (values_of kernels) kept))
+    (all_apart programs kernels name (All-tail (IsCompiled programs) e.1 (values_of kernels) kept) others.1)
 
 -- what was released is no kernel's program
-pub kept_with_release : (programs : Table Checked) (kernels : Table KernelState) (name : List ℕ) → all_in programs kernels ≡ true
-    → (is_some (find programs name) && list_any (λ k. is name k.program) (values_of kernels)) ≡ false
-    → all_in (remove_entry (is name) programs) (remove_entry (is name) kernels) ≡ true
-kept_with_release programs kernels name kept unheld = by (find programs name) refl unheld
+pub kept_with_release : (programs : Table Checked) (kernels : Table CompiledKernel) (name : List ℕ) → AllCompiled programs kernels
+    → (is_some (find programs name) && list_any (λ k. is name k.program) (values_of (map (λ e. (e.0, e.1.kernel)) kernels))) ≡ false
+    → AllCompiled (remove_entry (is name) programs) (remove_entry (is name) kernels)
+kept_with_release programs kernels name kept unheld =
+    All-map-remove_entry (is name) (λ e. e.1) (IsCompiled (remove_entry (is name) programs)) kernels (by (find programs name) refl unheld)
   where
-    by : (o : Option Checked) → find programs name ≡ o → (is_some o && list_any (λ k. is name k.program) (values_of kernels)) ≡ false
-        → all_in (remove_entry (is name) programs) (remove_entry (is name) kernels) ≡ true
-    by None held unheld =
-        ap (λ ps. all_in ps (remove_entry (is name) kernels)) (unremoved programs name held) ∙ removed_passes (is name) (is_in programs) kernels kept
-    by (Some checked) held unheld =
-        removed_passes (is name) (is_in (remove_entry (is name) programs)) kernels
-        (all_apart (is_in programs) (λ k. is name k.program) (is_in (remove_entry (is name) programs)) kernels
-        (λ k there apart. ap (λ o. option_map_or (λ checked. names_kernel (program checked.tree) k.function) o false) (found_after programs name k.program apart) ∙ there)
-        kept unheld)
+    by : (o : Option Checked) → find programs name ≡ o → (is_some o && list_any (λ k. is name k.program) (values_of (map (λ e. (e.0, e.1.kernel)) kernels))) ≡ false
+        → AllCompiled (remove_entry (is name) programs) kernels
+    by None held unheld = subst (λ (ps : Table Checked). AllCompiled ps kernels) (sym (unremoved programs name held)) kept
+    by (Some checked) held unheld = all_apart programs kernels name kept unheld
 
 -- what is removed among values that are seen otherwise
 remove_mapped : {K A B : Type 0} (f : A → B) (test : K → Bool) (es : List (K × A)) → map (λ e. (e.0, f e.1)) (remove_entry test es) ≡ remove_entry test (map (λ e. (e.0, f e.1)) es)
@@ -96,6 +86,11 @@ remove_mapped {K} {A} {B} f test (e ∷ es) = by (test e.0) (remove_mapped f tes
 pub remove_program : (es : Table Checked) (name : List ℕ)
     → map (λ e. (e.0, program e.1.tree)) (remove_entry (is name) es) ≡ remove_entry (is name) (map (λ e. (e.0, program e.1.tree)) es)
 remove_program es name = remove_mapped (λ c. program c.tree) (is name) es
+
+-- and of kernels
+pub remove_kernel : (es : Table CompiledKernel) (name : List ℕ)
+    → map (λ e. (e.0, e.1.kernel)) (remove_entry (is name) es) ≡ remove_entry (is name) (map (λ e. (e.0, e.1.kernel)) es)
+remove_kernel es name = remove_mapped (λ c. c.kernel) (is name) es
 
 -- neither of two refusals
 neither_of_two : (a b : Bool) (x y : Refusal) (D : Type 0) (R : Refusal → Type 0) → a ≡ true → b ≡ false → D → MatchOption (first ((not a, x) ∷ (b, y) ∷ [])) D R

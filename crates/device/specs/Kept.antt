@@ -1,16 +1,34 @@
 -- What a device keeps to.
-use Rattle.std.specs.Prelude.{Bool, false}
-use Rattle.std.specs.List.{list_all}
-use Rattle.std.specs.Option.{option_map_or}
-use Rattle.clmodel.specs.Tree.{program}
+use Rattle.std.specs.Prelude.{◌≡◌, ℕ, List, Some, is_some, true}
+use Rattle.std.specs.List.{All}
+use Rattle.std.specs.Map.{values_of}
+use Rattle.clmodel.specs.Next.{next}
+use Rattle.clmodel.specs.Setup.{Setup}
+use Rattle.clmodel.specs.Tree.{Program, program}
+use Rattle.clmodel.specs.declared.action.Answer.{Answer}
+use Rattle.clmodel.specs.declared.setup.Argument.{Argument}
 use Rattle.cltypes.specs.declared.checked.Checked.{Checked}
-use Rattle.device_store.specs.Kernels.{KernelState, names_kernel}
+use Rattle.device_store.specs.Kernels.{with_argument}
 use Rattle.spaces_base.specs.Tables.{Table, find}
+use Rattle.regcode.specs.Listing.{Listing}
+use Rattle.regcode.specs.Machine.{acts}
+use Rattle.device.specs.declared.compiled.CompiledKernel.{CompiledKernel}
 
--- a kernel's program is there and has its function, as a kernel
-abbrev pub is_in : Table Checked → KernelState → Bool
-is_in programs kernel = option_map_or (λ checked. names_kernel (program checked.tree) kernel.function) (find programs kernel.program) false
+-- for each launch of a program's kernel, by the number of its name, each item and each list of answers, code makes the action that
+-- comes next in the kernel's text
+abbrev pub ActsAs : Program → ℕ → Listing → Type 0
+ActsAs program number code =
+    (setup : Setup) → setup.program ≡ program → setup.kernel ≡ number → (item : ℕ) (answers : List Answer) → acts code setup item answers ≡ next setup item answers
 
--- each of these kernels is of a program that is there
-abbrev pub all_in : Table Checked → Table KernelState → Bool
-all_in programs kernels = list_all (λ e. is_in programs e.1) kernels
+-- a kernel's program is there, and its code acts as the program's kernel
+pub record IsCompiled (programs : Table Checked) (compiled : CompiledKernel) : Type 0 where
+  pub there : is_some (find programs compiled.kernel.program) ≡ true
+  pub acts_as : (checked : Checked) → find programs compiled.kernel.program ≡ Some checked → ActsAs (program checked.tree) compiled.kernel.function compiled.code
+
+-- each of these kernels has a program that is there, and its code
+abbrev pub AllCompiled : Table Checked → Table CompiledKernel → Type 0
+AllCompiled programs kernels = All (IsCompiled programs) (values_of kernels)
+
+-- a kernel with an argument set; its code stays
+abbrev pub with_argument_set : CompiledKernel → ℕ → Argument → CompiledKernel
+with_argument_set compiled index argument = record compiled { kernel = with_argument compiled.kernel index argument }

@@ -43,7 +43,7 @@ machine_of device =
       budget = device.budget;
       buffers = device.buffers;
       programs = map (λ e. (e.0, program e.1.tree)) device.programs;
-      kernels = device.kernels;
+      kernels = map (λ e. (e.0, e.1.kernel)) device.kernels;
     }
 
 abbrev pub opening : ℕ → Machine

@@ -4,14 +4,15 @@
 ghost use Rattle.std.specs.Prelude.{◌≡◌, ◌&&◌, IfOk, IfErr, IfSome, OnErr, IsTrue, None, Some, is_some, true, false, ◌≤◌, ◌<◌, ◌+◌, ◌^◌, length, nat_lt};
 ghost use Rattle.std.specs.Option.{option_map};
 ghost use Rattle.clmodel.specs.Tree.{program};
-ghost use Rattle.device_store.specs.Kernels.{names_kernel};
 ghost use Rattle.spaces_base.specs.Tables.{find};
-ghost use Rattle.device.specs.Kept.{all_in};
+ghost use Rattle.device.specs.Kept.{ActsAs, AllCompiled};
 ghost use Rattle.device_store.specs.Ranges.{IsLaunchable};
 
+mod compiled;
 mod prepared;
 
-use crate::prepared::Launched;
+use crate::compiled::{CompiledKernel, code_of, has_program, holds_buffer, set_argument};
+use crate::prepared::{Launched, Prepared};
 use clmodel::determinacy::{clean_is_complete, determinacy};
 use clmodel::outcome::Outcome;
 use clmodel::run_laws::report_is_shown;
@@ -21,10 +22,9 @@ use cltypes::Checked;
 use device_store::build::build;
 pub use device_store::command::{BuildFault, Command, Refusal, Reply};
 use device_store::fills::is_bad_fill;
-use device_store::kernel::{Kernel, kernel_number, parameters_of, set_argument, suits};
+use device_store::kernel::{Kernel, kernel_number, parameters_of, suits};
 use device_store::ranges::{is_bad_dimension, is_bad_group, is_too_many};
 use item_step::is_local_too_large;
-pub use prepared::Prepared;
 pub use spaces_base::Buffers;
 use spaces_base::Table;
 use std::alloc::{AllocError, Global};
@@ -44,15 +44,15 @@ fn is_outside(buffer: &Bytes, offset: u64, count: u64) -> bool
     count > size || offset > size - count
 }
 
-/// A device: its buffers, programs and kernels.
+/// A device: its buffers, programs and kernels. The code of a kernel is made once, with the kernel.
 #[derive(Drop)]
 pub struct Device {
     alloc: Global,
     budget: u32,
     buffers: Buffers,
     programs: Table<Checked>,
-    kernels: Table<Kernel>,
-    ghost kept: { all_in programs kernels ≡ true },
+    kernels: Table<CompiledKernel>,
+    ghost kept: { AllCompiled programs kernels },
     ghost limited: { budget ≤ 1000000 },
 }
 
@@ -90,28 +90,38 @@ impl Device {
         self.programs.get(name)
     }
 
+    /// A kernel with its code.
+    #[tactic(auto, using(crate::proofs::Programs::find_kernel))]
+    fn compiled(&self, name: &Name) -> Option<&CompiledKernel>
+        ensures kept { option_map (λ compiled. compiled.now) result ≡ find self.now.kernels name.now }
+        ensures kernel { option_map (λ compiled. compiled.now.kernel) result ≡ find (machine_of self.now).kernels name.now }
+    {
+        self.kernels.get(name)
+    }
+
     /// Whether something has the name.
     fn is_used(&self, name: &Name) -> bool
         ensures { result ≡ is_used (machine_of self.now) name.now }
     {
         self.buffers.get(name).is_some()
             || self.program(name).is_some()
-            || self.kernels.get(name).is_some()
+            || self.compiled(name).is_some()
     }
 
     /// The kernel of a name with its program.
-    fn kernel(&self, name: &Name) -> Option<(&Checked, &Kernel)>
+    fn kernel(&self, name: &Name) -> Option<(&Checked, &CompiledKernel)>
         ensures there { is_some result ≡ has_kernel (machine_of self.now) name.now }
         ensures program { IfSome result (λ found. program found.0.now.tree ≡ program_of (machine_of self.now) (kernel_of (machine_of self.now) name.now).program) }
-        ensures kernel { IfSome result (λ found. found.1.now ≡ kernel_of (machine_of self.now) name.now) }
-        ensures named { IfSome result (λ found. names_kernel (program found.0.now.tree) found.1.now.function ≡ true) }
+        ensures kernel { IfSome result (λ found. found.1.now.kernel ≡ kernel_of (machine_of self.now) name.now) }
+        ensures kept { IfSome result (λ found. find self.now.kernels name.now ≡ Some found.1.now) }
+        ensures faithful { IfSome result (λ found. ActsAs (program found.0.now.tree) found.1.now.kernel.function found.1.now.code) }
     {
-        let Some(kernel) = self.kernels.get(name) else {
+        let Some(compiled) = self.compiled(name) else {
             return None;
         };
-        match self.program(kernel.program()) {
+        match self.program(compiled.kernel.program()) {
             None => None,
-            Some(checked) => Some((checked, kernel)),
+            Some(checked) => Some((checked, compiled)),
         }
     }
 
@@ -216,17 +226,19 @@ impl Device {
     }
 
     /// Whether an argument of a kernel names a buffer. It takes time in proportion to the arguments of all kernels.
+    #[tactic(auto, using(crate::proofs::Programs::any_kernel))]
     fn is_argument(&self, name: &Name) -> bool
         ensures { result ≡ is_argument (machine_of self.now) name.now }
     {
-        self.kernels.values().any(|kernel| kernel.uses(name))
+        holds_buffer(&self.kernels, name)
     }
 
     /// Whether a kernel is of a program. It takes time in proportion to the number of kernels.
+    #[tactic(auto, using(crate::proofs::Programs::any_kernel))]
     fn has_kernels(&self, name: &Name) -> bool
         ensures { result ≡ has_kernels (machine_of self.now) name.now }
     {
-        self.kernels.values().any(|kernel| name == kernel.program())
+        has_program(&self.kernels, name)
     }
 
     /// Whether it is a buffer that an argument of a kernel names, or a program with a kernel.
@@ -269,6 +281,7 @@ impl Device {
         }
     }
 
+    #[tactic(auto, using(crate::proofs::Programs::free_kernel))]
     fn make_kernel(
         &mut self,
         name: Name,
@@ -288,18 +301,20 @@ impl Device {
             return Ok(Reply::Refused(Refusal::NoSuchKernel));
         };
         let count = parameters_of(&checked.tree, number).len();
+        let code = code_of(self.alloc, checked, number)?;
         let kernel = Kernel::new(self.alloc, program, number, count)?;
-        self.kernels.insert(name, kernel)?;
+        let compiled = CompiledKernel { kernel, code };
+        self.kernels.insert(name, compiled)?;
         Ok(Reply::Done)
     }
 
     fn set_argument(&mut self, name: &Name, index: u64, argument: Argument) -> Reply
         ensures { Answers (machine_of self.old) (Command.Arg name.now index argument) result (machine_of self.new) }
     {
-        let Some((checked, kernel)) = self.kernel(name) else {
+        let Some((checked, compiled)) = self.kernel(name) else {
             return Reply::Refused(Refusal::NoSuchName);
         };
-        let parameters = parameters_of(&checked.tree, kernel.function());
+        let parameters = parameters_of(&checked.tree, compiled.kernel.function());
         let Some(parameter) = parameters.get(index as usize) else {
             return Reply::Refused(Refusal::BadArgument);
         };
@@ -330,9 +345,10 @@ impl Device {
         ensures setup { IfOk result (λ p. prepared_setup p range.now ≡ setup_of (machine_of self.now) (kernel_of (machine_of self.now) name.now) range.now) }
         ensures refused { IfErr result (λ refusal. first (row (machine_of self.now) (Command.Launch name.now range.now)) ≡ Some refusal) }
     {
-        let Some((checked, kernel)) = self.kernel(name) else {
+        let Some((checked, compiled)) = self.kernel(name) else {
             return Err(Refusal::NoSuchName);
         };
+        let kernel = &compiled.kernel;
         if is_bad_dimension(range) {
             return Err(Refusal::BadDimension);
         }
@@ -351,6 +367,7 @@ impl Device {
         Ok(Prepared {
             checked,
             kernel,
+            code: &compiled.code,
             budget: self.budget,
         })
     }

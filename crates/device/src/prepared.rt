@@ -1,13 +1,12 @@
 //! Launches that weren't refused.
 #![tactic(auto)]
 
-ghost use Rattle.std.specs.Prelude.{◌≡◌, ◌≤◌, map, true, IfOk};
+ghost use Rattle.std.specs.Prelude.{◌≡◌, ◌≤◌, map, IfOk};
 ghost use Rattle.item_step.specs.Setups.{plain};
 ghost use Rattle.clmodel.specs.Tree.{program};
 ghost use Rattle.device_store.specs.Ranges.{IsLaunchable};
-ghost use Rattle.device_store.specs.Kernels.{names_kernel};
 ghost use Rattle.spaces_base.specs.Buffers.{bytes_in};
-ghost use Rattle.lower.specs.Lowers.{IsLowered};
+ghost use Rattle.device.specs.Kept.{ActsAs};
 
 use clmodel::outcome::Outcome;
 use clmodel::setup::Range;
@@ -16,19 +15,19 @@ use cltypes::Checked;
 use device_store::kernel::Kernel;
 use device_store::ranges::group_items;
 use item_step::{Launch, Setup};
-use lower::{LowerFault, lower_kernel};
 use regcode::Code;
 use snapshot_merge::run_launch;
 use spaces_base::Buffers;
 use std::alloc::{AllocError, Global};
 
-/// A kernel that may be launched, with its program.
+/// A kernel that may be launched, with its program and its code.
 #[derive(Drop)]
-pub struct Prepared<'a> {
+pub(crate) struct Prepared<'a> {
     pub(crate) checked: &'a Checked,
     pub(crate) kernel: &'a Kernel,
+    pub(crate) code: &'a Code,
     pub(crate) budget: u32,
-    pub(crate) ghost named: { names_kernel (program checked.now.tree) kernel.now.function ≡ true },
+    pub(crate) ghost faithful: { ActsAs (program checked.now.tree) kernel.now.function code.now },
     pub(crate) ghost limited: { budget ≤ 1000000 },
 }
 
@@ -74,17 +73,6 @@ fn contents(alloc: Global, buffers: &Buffers, names: &[Name]) -> Result<Vec<Byte
 impl Prepared<'_> {
     ghost use Rattle.device.specs.Prepared.{prepared_setup, Came};
 
-    /// The code of the kernel.
-    fn code(&self, alloc: Global) -> Result<Code, AllocError>
-        ensures { IfOk result (IsLowered (program self.now.checked.now.tree) self.now.kernel.now.function) }
-    {
-        match lower_kernel(alloc, self.checked, self.kernel.function()) {
-            Ok(code) => Ok(code),
-            Err(LowerFault::OutOfMemory) => Err(AllocError),
-            Err(LowerFault::NoSuchKernel) => unreachable!(),
-        }
-    }
-
     /// What it runs over a range.
     fn setup<'s>(&'s self, range: &'s Range) -> Setup<'s>
         ensures { plain result ≡ prepared_setup self.now range.now }
@@ -109,8 +97,7 @@ impl Prepared<'_> {
         ensures { IfOk result (Came (prepared_setup self.now range.now) (bytes_in buffers.now)) }
     {
         let group_size = group_items(range);
-        let code = self.code(alloc)?;
-        let launch = Launch::new(alloc, self.setup(range), group_size, code)?;
+        let launch = Launch::new(alloc, self.setup(range), group_size, self.code)?;
         let listed = launch.buffer_names();
         let contents = contents(alloc, buffers, listed)?;
         let outcome = run_launch(alloc, &launch, contents.as_slice())?;

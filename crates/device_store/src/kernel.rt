@@ -3,18 +3,16 @@
 
 ghost use Rattle.std.specs.Prelude.{◌≡◌, ◌<◌, ℕ, position, None, Some, length, map, replicate, slice_set, IfOk, IfSome, is_some, true, not};
 ghost use Rattle.std.specs.List.{list_any};
-ghost use Rattle.std.specs.Map.{set_value};
-ghost use Rattle.std.specs.Option.{option_map, unwrap_or};
+ghost use Rattle.std.specs.Option.{option_map};
 ghost use Rattle.clmodel.specs.Tree.{program, func, then_funcs, NoFunc};
 ghost use Rattle.clmodel.specs.Setup.{kernel_in};
-ghost use Rattle.spaces_base.specs.Tables.{is, find};
-ghost use Rattle.device_store.specs.Kernels.{kernel_number, names_kernel, parameters_of, with_argument, new_kernel, names_buffer, no_kernel, is_in_range, suits};
+ghost use Rattle.spaces_base.specs.Tables.{is};
+ghost use Rattle.device_store.specs.Kernels.{kernel_number, names_kernel, parameters_of, with_argument, new_kernel, names_buffer, is_in_range, suits};
 
 use clmodel::setup::Argument;
 use clmodel::text::Name;
 use clmodel::tree::{AddressSpace, Function, Parameter, Tree, VariableType};
 use clnum::{IntType, Value};
-use spaces_base::Table;
 use std::alloc::{AllocError, Global};
 use std::marker::Model;
 
@@ -112,24 +110,13 @@ impl Kernel {
             .any(|argument| names_buffer(buffer, argument))
     }
 
-    /// Sets the argument of an index, over an earlier one, if there is such a parameter.
-    fn set_argument(&mut self, index: usize, argument: Argument)
+    /// Sets the argument of an index, over an earlier one, if there is such a parameter (OpenCL 1.2, section 5.7.2).
+    pub fn set_argument(&mut self, index: usize, argument: Argument)
         ensures { self.new ≡ with_argument self.old index argument }
     {
         if index < self.arguments.len() {
             self.arguments[index] = Some(argument);
         }
-    }
-}
-
-/// Sets the argument of an index of the kernel of a name, over an earlier one, if there are such a kernel and such a parameter
-/// (OpenCL 1.2, section 5.7.2).
-#[tactic(auto, using(spaces_base::proofs::Tables::unreplaced))]
-pub fn set_argument(kernels: &mut Table<Kernel>, name: &Name, index: usize, argument: Argument)
-    ensures { kernels.new ≡ set_value (is name.now) kernels.old (with_argument (unwrap_or (find kernels.old name.now) no_kernel) index argument) }
-{
-    if let Some(kernel) = kernels.get_mut(name) {
-        kernel.set_argument(index, argument);
     }
 }
 

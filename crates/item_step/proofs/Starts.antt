@@ -12,11 +12,11 @@ given_with launch number buffers = record { here = here_of (setup_of launch) num
 
 -- it acts as comes next
 pub acts_as_next : (launch : Launch) (number : ℕ) (buffers : List (List ℕ)) (item : Running) → buffers ≡ launch.buffers.items
-    → item ≡ record { code = launch.code; given = given_with launch number buffers; state = at_start (length launch.code.registers) (length launch.code.arrays); ticks = launch.setup.budget }
+    → item ≡ record { code = launch.code.now; given = given_with launch number buffers; state = at_start (length launch.code.now.registers) (length launch.code.now.arrays); ticks = launch.setup.budget }
     → (answers : List Answer) → action_of item answers ≡ next (setup_of launch) number answers
 unfolding acts
 acts_as_next launch number buffers item named is answers =
     ap (λ i. action_of i answers) is
-    ∙ ap (λ names. acts_from (given_with launch number names) launch.code.instructions launch.setup.budget (at_start (length launch.code.registers) (length launch.code.arrays)) answers)
+    ∙ ap (λ names. acts_from (given_with launch number names) launch.code.now.instructions launch.setup.budget (at_start (length launch.code.now.registers) (length launch.code.now.arrays)) answers)
     (named ∙ launch.named)
     ∙ launch.faithful number answers

@@ -20,16 +20,16 @@ use item_state::context::{Context, group_counts};
 use regcode::Code;
 use std::alloc::{AllocError, Global};
 
-/// A kernel that is ready to run: its setup with code that acts as its text. The items may be started in any order.
+/// A kernel that is ready to run: its setup with lent code that acts as its text. The items may be started in any order.
 #[derive(Drop)]
 pub struct Launch<'a> {
     setup: Setup<'a>,
-    code: Code,
+    code: &'a Code,
     group_size: u32,
     buffers: Vec<Name>,
     group_counts: Vec<u64>,
     local_objects: LocalObjects,
-    ghost faithful: { ActsAsNext code (plain setup) },
+    ghost faithful: { ActsAsNext code.now (plain setup) },
     ghost named: { buffers.items ≡ names_among [] setup.arguments.now },
     ghost few: { length buffers.items < 2 ^ 32 },
     ghost counted: { group_counts.items ≡ model.group_counts setup.range.now },
@@ -69,9 +69,9 @@ impl<'a> Launch<'a> {
         alloc: Global,
         setup: Setup<'a>,
         group_size: u32,
-        code: Code,
+        code: &'a Code,
     ) -> Result<Launch<'a>, AllocError>
-        requires faithful { ActsAsNext code (plain setup) }
+        requires faithful { ActsAsNext code.now (plain setup) }
         requires grouped { group_size ≡ group_items setup.range.now }
         requires some { 0 < group_size }
         requires sized { All (λ size. 0 < size) setup.range.now.local }
@@ -147,6 +147,6 @@ impl<'a> Launch<'a> {
             buffers: self.buffers.as_slice(),
             arguments: self.setup.arguments,
         };
-        Item::start(&self.code, surroundings, self.setup.budget)
+        Item::start(self.code, surroundings, self.setup.budget)
     }
 }

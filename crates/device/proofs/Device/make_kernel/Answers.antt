@@ -1,0 +1,23 @@
+use Rattle.std.proofs.Common.{◌≡◌, ℕ, Some, ap, sym, ◌∙◌, subst}
+use Rattle.clmodel.specs.Tree.{program}
+use Rattle.lower.specs.Lowers.{IsLowered}
+use Rattle.spaces_base.specs.Tables.{find}
+use Rattle.device.specs.declared.compiled.CompiledKernel.{CompiledKernel}
+use Rattle.device.proofs.Kept.{kept_after_kernel, made_is_compiled}
+use Rattle.device.proofs.Device.make_kernel.Goals as goal
+
+pub invariant_of-self : goal.invariant_of-self
+invariant_of-self c =
+    let device = c.args.self.now in
+    let checked = c.in-Some.checked.now in
+    let compiled : CompiledKernel = record { kernel = c.in_ok-kernel.kernel; code = c.in_ok-code.code } in
+    let found : find device.programs compiled.kernel.program ≡ Some checked =
+    ap (λ k. find device.programs k.program) c.in_ok-kernel.ensures ∙ sym c.in-Some.ensures.kept in
+    let lowered : IsLowered (program checked.tree) compiled.kernel.function compiled.code =
+    subst (λ (n : ℕ). IsLowered (program checked.tree) n compiled.code) (sym (ap (λ k. k.function) c.in_ok-kernel.ensures)) c.in_ok-code.ensures in
+    record {
+      kept =
+          kept_after_kernel device.programs device.kernels c.insert.new.self c.args.name compiled c.insert.result device.kept (made_is_compiled device.programs compiled checked found lowered)
+          c.insert.ensures.ok c.insert.ensures.err;
+      limited = device.limited;
+    }
