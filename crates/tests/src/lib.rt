@@ -2,7 +2,7 @@
 #![tactic(auto)]
 
 #[cfg(test)]
-mod calls;
+mod counts;
 #[cfg(test)]
 mod device_calls;
 #[cfg(test)]
@@ -14,17 +14,13 @@ mod logs;
 #[cfg(test)]
 mod lowering;
 #[cfg(test)]
-mod numbers;
-#[cfg(test)]
 mod printing;
 #[cfg(test)]
 mod replies;
 #[cfg(test)]
 mod sizes;
 #[cfg(test)]
-mod spaces;
-#[cfg(test)]
-mod stops;
+mod space_calls;
 #[cfg(test)]
 mod tokens;
 #[cfg(test)]
