@@ -22,7 +22,7 @@ pub enum Command {
         offset: u64,
         bytes: Bytes,
     },
-    /// Repeats a pattern over so many bytes of a buffer from an offset on, in place of those that were there (section 5.2.2,
+    /// Repeats a pattern over so many bytes of a buffer from an offset on, in place of those that were there (section 5.2.3,
     /// clEnqueueFillBuffer). The pattern has 1, 2, 4, 8, 16, 32, 64 or 128 bytes, and offset and count are multiples of its length.
     Fill {
         buffer: Name,
@@ -45,7 +45,7 @@ pub enum Command {
         offset: u64,
         count: u64,
     },
-    /// Releases a buffer, a program or a kernel: its name is free again (sections 5.2.6, 5.6.1 and 5.7.1).
+    /// Releases a buffer, a program or a kernel: its name is free again (sections 5.4.1, 5.6.1 and 5.7.1).
     Release {
         name: Name,
     },

@@ -1,4 +1,4 @@
-//! What a buffer may be filled with (OpenCL 1.2, section 5.2.2).
+//! What a buffer may be filled with (OpenCL 1.2, section 5.2.3).
 #![tactic(auto)]
 
 ghost use Rattle.std.specs.Prelude.{◌≡◌, ◌<◌, ◌%◌, length, true, false};

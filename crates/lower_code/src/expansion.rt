@@ -58,7 +58,8 @@ fn write<'a>(
     }
 }
 
-/// The whole code of parts, the last first, in time that is proportional to what comes out. Err where memory is wanting.
+/// The whole code of parts, the last first, in time that is proportional to the statements that are written,
+/// times how deep they are nested, and to the functions at each call, since a helper is looked up by a walk. Err where memory is wanting.
 pub fn expand(alloc: Global, parts: Vec<Part<'_>>) -> Result<Vec<Instruction>, AllocError>
     requires { AllKnown parts.items }
     ensures { IfOk result (λ code. code.items ≡ whole (reverse parts.entry.items)) }

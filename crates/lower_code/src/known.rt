@@ -1,7 +1,8 @@
 //! What is known of a function before code that calls it is made.
 #![tactic(auto)]
 
-/// How many barriers are in a function, and how many instructions the code of its body has; None where there are too many.
+/// How many barriers are in a function, and how many instructions the code of its body has; None where there are too many,
+/// or where memory is wanting.
 #[derive(Clone, Copy)]
 pub struct Known {
     pub barriers: Option<u32>,

@@ -3,7 +3,7 @@
 //! Code is written from its end, so that the length of what a jump passes is known when the jump is written. The body of a helper
 //! that is called is left out, and only its length is counted, so nothing here goes into another function: the time is that of the
 //! function's own statements, times how deep they are nested (64 at most), since barriers are counted before they are numbered, and
-//! the turns of a loop are put together before the loop is.
+//! the turns of a loop are put together before the loop is; and a walk over the functions before it at each call that it has.
 #![tactic(auto)]
 
 ghost use Rattle.std.specs.Prelude.{◌≡◌, [], ◌++◌, true, length, IfOk, OnOk};

@@ -14,7 +14,8 @@ use crate::statements::emit_body;
 use clmodel::tree::Function;
 use std::alloc::{AllocError, Global};
 
-/// How long the code of a function's body is, wherever it is called; None where it is too long.
+/// How long the code of a function's body is, wherever it is called; None where it is too long,
+/// or where memory is wanting.
 fn length_of(alloc: Global, helpers: Helpers<'_>, function: &Function) -> Option<usize>
     ensures { IfSome result (λ n. (level depth site : ℕ) → n ≡ length (body_of helpers.entry.functions.now function.now level depth site)) }
 {

@@ -57,7 +57,7 @@ impl Table<Bytes> {
     }
 
     /// Repeats a pattern, whose length divides 256, over so many bytes of the buffer of a name from an offset on, in place of those
-    /// that were there (OpenCL 1.2, section 5.2.2). It takes no memory, and writes 256 bytes at a time.
+    /// that were there (OpenCL 1.2, section 5.2.3). It takes no memory, and writes 256 bytes at a time.
     #[tactic(auto, using(crate::proofs::Tables::unreplaced))]
     pub fn fill(&mut self, name: &Name, offset: usize, count: usize, pattern: &[u8])
         requires range { offset + count ≤ length (bytes_in self.old name.now) }

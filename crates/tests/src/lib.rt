@@ -2,7 +2,7 @@
 #![tactic(auto)]
 
 #[cfg(test)]
-mod calls;
+mod counts;
 #[cfg(test)]
 mod device_calls;
 #[cfg(test)]
@@ -16,8 +16,6 @@ mod logs;
 #[cfg(test)]
 mod lowering;
 #[cfg(test)]
-mod numbers;
-#[cfg(test)]
 mod overlays;
 #[cfg(test)]
 mod printing;
@@ -27,8 +25,6 @@ mod replies;
 mod sizes;
 #[cfg(test)]
 mod space_calls;
-#[cfg(test)]
-mod stops;
 #[cfg(test)]
 mod tokens;
 #[cfg(test)]

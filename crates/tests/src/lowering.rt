@@ -1,10 +1,10 @@
-//! Kernels lowered by direct calls.
+//! A kernel lowered by a direct call: the tables of its code.
 
 use clmodel::tree::{AddressSpace, PointerType, VariableType};
 use clnum::IntType;
 use cltypes::Checked;
 use device_store::build::build;
-use lower::{LowerFault, lower, lower_kernel};
+use lower::lower;
 use regcode::RegisterKind;
 use std::alloc::Global;
 use std::test::Fail;
@@ -12,22 +12,6 @@ use std::test::Fail;
 /// A source that builds.
 pub fn built(alloc: Global, source: &str) -> Result<Checked, Fail> {
     Ok(build(alloc, source.as_bytes())??)
-}
-
-// A helper is no kernel; its name has the first number behind the 26 built-in ones.
-#[test]
-fn no_such_kernel(rt: HostRuntime) -> Result<(), Fail> {
-    let alloc = rt.alloc();
-    let program = built(alloc, "void f() { } __kernel void g() { }")?;
-    for name in ["f", "h", ""] {
-        let outcome = lower(alloc, &program, name);
-        assert_eq!(rt; outcome.err(), Some(LowerFault::NoSuchKernel), "{name}");
-    }
-    let outcome = lower_kernel(alloc, &program, 26);
-    assert_eq!(rt; outcome.err(), Some(LowerFault::NoSuchKernel));
-    let code = lower_kernel(alloc, &program, 27)?;
-    assert_eq!(rt; code.instructions().len(), 1);
-    Ok(())
 }
 
 // The parameters are at the levels 0 and 1, and the arrays at 2 and 3, of which a block leaves 2 to the next one. The loop is

@@ -50,11 +50,7 @@ fn fault_of(
     Ok(verify(code.to_vec(alloc)?, tables(alloc, loops)?).err())
 }
 
-/// A loop, a turn of it, and a barrier in it.
-const ENTER: Instruction = Enter { depth: 0 };
-
-const TURN: Instruction = Turn { depth: 0 };
-
+/// A barrier in a loop.
 const WAIT: Instruction = Barrier {
     site: 3,
     depth: 1,
@@ -82,8 +78,8 @@ fn verified_code(rt: HostRuntime) -> Result<(), Fail> {
             array: 0,
             length: 4
         },
-        ENTER,
-        TURN,
+        Enter { depth: 0 },
+        Turn { depth: 0 },
         WAIT,
         JumpIfZero { test: 0, by: 1 },
         Back { by: 3 },
@@ -109,58 +105,84 @@ fn verified_code(rt: HostRuntime) -> Result<(), Fail> {
     Ok(())
 }
 
-// Codes with the loops that are entered at each place, and whether they are verified: the first instruction, the ways out of the
-// code and into loops, and the ways back.
-#[test]
-fn ways(rt: HostRuntime) -> Result<(), Fail> {
-    let rows: [(&[Instruction], &[u32], bool); 23] = [
-        (&[], &[], false),
-        (&[End], &[], false),
-        (&[End], &[0], true),
-        (&[End], &[1], false),
-        (&[Unset { to: 0 }], &[0], false),
-        (&[Jump { by: 0 }, End], &[0, 0], true),
-        (&[Jump { by: 0 }, End], &[0, 1], false),
-        (&[Jump { by: 1 }, End], &[0, 0], false),
-        (&[JumpIfZero { test: 0, by: 0 }, End], &[0, 0], true),
-        (&[JumpIfZero { test: 0, by: 1 }, End], &[0, 0], false),
-        (&[Jump { by: 1 }, End, End], &[0, 8, 0], true),
-        (&[Jump { by: 1 }, End, End], &[0, 9, 0], false),
-        (&[ENTER, End], &[0, 1], true),
-        (&[ENTER, End], &[0, 2], false),
-        (&[Enter { depth: 1 }, End], &[0, 0], false),
-        (&[ENTER, WAIT, End], &[0, 1, 1], true),
-        (&[ENTER, WAIT, End], &[0, 0, 0], false),
-        (&[ENTER, TURN, Back { by: 1 }], &[0, 1, 1], true),
-        (&[ENTER, TURN, Back { by: 1 }], &[0, 0, 0], false),
-        (&[ENTER, TURN, Back { by: 1 }], &[0, 1, 0], false),
-        (&[ENTER, TURN, Back { by: 2 }], &[0, 1, 1], false),
-        (&[ENTER, TURN, Back { by: 3 }], &[0, 1, 1], false),
-        (&[TURN, End], &[0, 0], false),
-    ];
-    for (row, (code, loops, is_verified)) in rows.iter().enumerate() {
-        let wanted = if *is_verified {
-            None
-        } else {
-            Some(VerifyFault::Rejected)
-        };
-        assert_eq!(rt; fault_of(rt.alloc(), code, loops)?, wanted, "{row}");
+// Codes and the loops that are entered at each place: the first instruction, the ways out of the code and into loops, the ways
+// back, and loops in one another.
+const WAYS: &str = "\
+rejected |
+rejected end |
+verified end | 0
+rejected end | 1
+rejected unset:0 | 0
+verified jump:0 end | 0 0
+rejected jump:0 end | 0 1
+rejected jump:1 end | 0 0
+verified jump_if_zero:0 end | 0 0
+rejected jump_if_zero:1 end | 0 0
+verified jump:1 end end | 0 8 0
+rejected jump:1 end end | 0 9 0
+verified enter:0 end | 0 1
+rejected enter:0 end | 0 2
+rejected enter:1 end | 0 0
+verified enter:0 wait end | 0 1 1
+rejected enter:0 wait end | 0 0 0
+verified enter:0 turn:0 back:1 | 0 1 1
+rejected enter:0 turn:0 back:1 | 0 0 0
+rejected enter:0 turn:0 back:1 | 0 1 0
+rejected enter:0 turn:0 back:2 | 0 1 1
+rejected enter:0 turn:0 back:3 | 0 1 1
+rejected turn:0 end | 0 0
+verified enter:0 enter:1 enter:2 enter:3 enter:4 enter:5 enter:6 enter:7 enter:7 end | 0 1 2 3 4 5 6 7 8 8
+rejected enter:0 enter:1 enter:2 enter:3 enter:4 enter:5 enter:6 enter:7 enter:8 end | 0 1 2 3 4 5 6 7 8 8
+";
+
+/// The instruction of a word of the table.
+fn instruction_of(word: &str) -> Option<Instruction> {
+    let (name, number) = word.split_once(':').unwrap_or((word, "0"));
+    let number = number.parse::<u32>().ok()?;
+    match name {
+        "end" => Some(End),
+        "unset" => Some(Unset { to: number }),
+        "jump" => Some(Jump { by: number }),
+        "jump_if_zero" => Some(JumpIfZero {
+            test: 0,
+            by: number,
+        }),
+        "enter" => Some(Enter { depth: number }),
+        "turn" => Some(Turn { depth: number }),
+        "wait" => Some(WAIT),
+        "back" => Some(Back { by: number }),
+        _ => None,
     }
-    Ok(())
 }
 
-// Eight loops in one another, and once more the last of them or a ninth.
+/// Whether the code of a row of the table is verified; `None` where the row can't be read.
+fn is_verified(alloc: Global, row: &str) -> Result<Option<bool>, Fail> {
+    let mut code = Vec::new(alloc);
+    let mut loops = Vec::new(alloc);
+    let Some((words, numbers)) = row.split_once('|') else {
+        return Ok(None);
+    };
+    for word in words.split_whitespace() {
+        let Some(instruction) = instruction_of(word) else {
+            return Ok(None);
+        };
+        code.push(instruction)?;
+    }
+    for number in numbers.split_whitespace() {
+        let Ok(number) = number.parse::<u32>() else {
+            return Ok(None);
+        };
+        loops.push(number)?;
+    }
+    Ok(Some(fault_of(alloc, &code, &loops)?.is_none()))
+}
+
 #[test]
-fn nine_loops(rt: HostRuntime) -> Result<(), Fail> {
-    for (depth, wanted) in [(7, None), (8, Some(VerifyFault::Rejected))] {
-        let mut code = Vec::new(rt.alloc());
-        for outer in 0..8 {
-            code.push(Enter { depth: outer })?;
-        }
-        code.push(Enter { depth })?;
-        code.push(End)?;
-        let fault = fault_of(rt.alloc(), &code, &[0, 1, 2, 3, 4, 5, 6, 7, 8, 8])?;
-        assert_eq!(rt; fault, wanted);
+fn ways(rt: HostRuntime) -> Result<(), Fail> {
+    for row in WAYS.lines() {
+        let (wanted, code) = row.split_once(' ').unwrap_or((row, ""));
+        let is_verified = is_verified(rt.alloc(), code)?;
+        assert_eq!(rt; is_verified, Some(wanted == "verified"), "{row}");
     }
     Ok(())
 }
