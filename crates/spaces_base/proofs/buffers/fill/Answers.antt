@@ -1,4 +1,4 @@
-use Rattle.std.proofs.Common.{◌≡◌, ◌+◌, ◌*◌, ◌/◌, ◌%◌, ◌<◌, ◌≤◌, length, arith, ap, ◌∙◌, refl, take}
+use Rattle.std.proofs.Common.{◌≡◌, ◌+◌, ◌*◌, ◌/◌, ◌%◌, arith, ap, ◌∙◌, refl, take}
 use Rattle.std.proofs.Math.Nat.{div-add-mod}
 use Rattle.spaces_base.specs.Buffers.{with_bytes, repeated}
 use Rattle.spaces_base.proofs.Fills.{with_none, block_more, rest_more}
