@@ -1,0 +1,52 @@
+"""Outputs that take a part of the text: of each that fails the bytes that it took are written. `rows` gives the rows to tools/rows."""
+
+FIRST_RUN = """buffer a 8
+program p 1
+__kernel void f(__global int *a) { a[0] = 7; a[1] = 9; }
+kernel k p f
+arg k 0 buffer a
+launch k 1 1
+read a 0 8
+"""
+
+STORE = "__kernel void f(__global int *a) { a[0] = 7; }"
+
+CODE = """0 argument r12, 0, __global int *
+1 move r28, r12, 27
+2 constant r36, int 0
+3 offset r28, r28, r36
+4 constant r36, int 7
+5 store [r28], r36
+6 end
+"""
+
+# what is asked of a text, the text, what is written and the status
+ASKED = [
+    ("run FILE", FIRST_RUN, "ok\nok\nok\nok\nclean\ndata 0700000009000000\n", 0),
+    ("check FILE", STORE, "ok\n", 0),
+    ("check FILE", "#", "syntax 1 BadByte at 0\n", 2),
+    ("check FILE", "int g() { } __kernel void f() { }", "type 12 MissingReturn at 4\n", 2),
+    ("dump FILE f", STORE, CODE, 0),
+    ("dump FILE f", "__kernel void f() { y[0] = 1; }", "type 1 UnknownName at 20\n", 2),
+]
+
+# more than a writer holds back: a run that writes it piece by piece
+LONG = ("buffer a 1000\n" + "read a 0 1000\n" * 20, "ok\n" + f"data {'00' * 1000}\n" * 20)
+
+
+def cut(asked, text, whole, room):
+    """The row of an output that takes so many bytes of the whole, and fails."""
+    title = f"{asked} of {text.splitlines()[0]}: room for {room} bytes of {len(whole)}"
+    return dict(title=title, text=text, output=whole[:room], error="clsim: cannot write\n", status=2,
+                command=f"clsim {asked} > ROOM {room}")
+
+
+def rows():
+    for asked, text, whole, status in ASKED:
+        for room in range(len(whole)):
+            yield cut(asked, text, whole, room)
+        yield dict(title=f"{asked} of {text.splitlines()[0]}: room for all", text=text, output=whole, status=status,
+                   command=f"clsim {asked} > ROOM {len(whole)}")
+    text, whole = LONG
+    for room in [*range(0, len(whole), 997), len(whole) - 1]:
+        yield cut("run FILE", text, whole, room)
