@@ -39,7 +39,7 @@ after_turn l s (Makes e) more = after_step s e (step l s e) more
 after_turn l s (Reports f) more = record { events = []; end = s }
 after_turn l s Finishes more = record { events = []; end = s }
 
--- at most so many events
+-- at most n events
 trace : ℕ → Launch → State → Trace
 trace zero l s = record { events = []; end = s }
 trace (suc n) l s = after_turn l s (turn l s) (λ t. trace n l t)

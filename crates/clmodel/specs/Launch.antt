@@ -54,7 +54,7 @@ abbrev pub location_of : Launch → Region → Location
 location_of launch (region.Buffer number) = location.Buffer (slice_index_or launch.buffer_names number [])
 location_of launch (region.Local group number) = location.Local group (slice_index_or launch.local_names number [])
 
--- the first byte of an element of so many bytes, or None where the element is out of range (C99 6.5.2.1, 6.5.6)
+-- the first byte of an element of n bytes, or None where the element is out of range (C99 6.5.2.1, 6.5.6)
 abbrev pub first_byte : ℕ → ℤ → ℕ → Option ℕ
 first_byte bytes (pos element) count = if nat_le ((element + 1) * count) bytes then Some (element * count) else None
 first_byte bytes (negsuc _) count = None

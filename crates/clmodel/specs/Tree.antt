@@ -57,7 +57,7 @@ abbrev mutual
   row_terms ts rust_expression.end_of-Expression = ts
   row_terms ts (rust_expression.more_of-Expression e rest) = row_terms (ThenTerm ts (term e)) rest
 
--- what is assigned to
+-- the target
 pub data Place : Type 0 where
   Whole : (at name : ℕ) → Place
   Part : (at name : ℕ) → Term → Place

@@ -4,7 +4,7 @@
 use crate::access::Object;
 use clnum::{IntType, Value};
 
-/// A pointer to elements of a type, so many elements behind an object's start.
+/// A pointer to elements of a type, n elements behind an object's start.
 #[derive(Clone, Copy, PartialEq, Eq)]
 pub struct Pointer {
     pub object: Object,

@@ -94,7 +94,7 @@ pub enum Expression {
     },
 }
 
-/// What is assigned to.
+/// The target of an assignment.
 #[derive(Drop)]
 pub enum Target {
     Variable {

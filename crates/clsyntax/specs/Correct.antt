@@ -97,7 +97,7 @@ IsReading text (Err fault) = IsFault text.length text.tokens fault
 abbrev pub IsOne : Type 0
 IsOne = (ps qs : List Placed) (f g : Funcs) → tokens ps ≡ tokens qs → IsProgram ps f → IsProgram qs g → (ps ≡ qs) × (f ≡ g)
 
--- P, of a fault other than want of memory
+-- P, of a fault other than out of memory
 abbrev pub UnlessMemory : SyntaxFault → Type 0 → Type 0
 UnlessMemory OutOfMemory P = Unit {0}
 UnlessMemory (BadByte at) P = P

@@ -30,7 +30,7 @@ in_front first (Err fault) = Err fault
 abbrev pub placed : Lexeme → ℕ → Placed
 placed lexeme at = record { lexeme = lexeme; at = at }
 
--- the lexemes from a piece on. others: those behind it, where so many bytes of the next are still the piece's
+-- the lexemes from a piece on. others: those behind it, where n bytes of the next are still the piece's
 abbrev pub with_piece : ℕ → List ℕ → Piece → (ℕ → Result (List Placed) SyntaxFault) → Result (List Placed) SyntaxFault
 with_piece at bytes (pieces.Gap len) others = others (len - 1)
 with_piece at bytes (pieces.Name len) others = in_front (placed (Named (take len bytes)) at) (others (len - 1))
@@ -69,7 +69,7 @@ kind_of names (Plain kind) = kind
 abbrev pub token_of : List (List ℕ) → Placed → Token
 token_of names p = record { kind = kind_of names p.lexeme; at = p.at }
 
--- what a source of so many bytes is read as, from tokens and names so far and the lexemes to come
+-- what a source of n bytes is read as, from tokens and names so far and the lexemes to come
 abbrev pub completed : ℕ → List Token → List (List ℕ) → Result (List Placed) SyntaxFault → Result Text SyntaxFault
 completed bytes tokens names (Ok ps) =
     let table = with_names names ps in Ok (record { tokens = tokens ++ map (token_of table) ps; length = bytes; names = table })
@@ -85,7 +85,7 @@ lexing source =
 abbrev pub Lexes : List ℕ → Result Text SyntaxFault → Type 0
 Lexes source result = lexing source ≡ result
 
--- what a caller learns of an answer: want of memory says nothing of the source
+-- what a caller learns of an answer: out of memory says nothing of the source
 abbrev pub LexesUnlessMemory : List ℕ → Result Text SyntaxFault → Type 0
 LexesUnlessMemory source (Ok text) = Lexes source (Ok text)
 LexesUnlessMemory source (Err fault) = fault ≢ OutOfMemory → Lexes source (Err fault)

@@ -38,7 +38,7 @@ word_piece bytes =
     let len = prefix_len is_name_part bytes in
     elim (word_in reserved_words (take len bytes)) [ None ↦ Name len | Some kind ↦ Token kind len ]
 
--- a number of so many bytes, behind which no letter, digit or underscore stands
+-- a number of n bytes, behind which no letter, digit or underscore stands
 abbrev pub number_of_len : List ℕ → ℕ → Option Integer → Piece
 number_of_len bytes len None = TooLarge
 number_of_len bytes len (Some value) = if is_name_part (slice_index bytes len) then Bad len else Token (Number value) len

@@ -14,6 +14,6 @@ pub record Advances (at : ℕ) (rest : List ℕ) (tokens : List Token) (names : 
   pub few : length new_names ≤ length names + len
   pub same : (bytes : ℕ) → completed bytes tokens names (lexemes_from at 0 rest) ≡ completed bytes new_tokens new_names (lexemes_from (at + len) 0 (drop len rest))
 
--- want of memory aside, it is this fault that stands first in the rest
+-- out of memory aside, it is this fault that stands first in the rest
 abbrev pub Stops : ℕ → List ℕ → List Token → List (List ℕ) → SyntaxFault → Type 0
 Stops at rest tokens names fault = fault ≢ OutOfMemory → (bytes : ℕ) → completed bytes tokens names (lexemes_from at 0 rest) ≡ Err fault

@@ -61,13 +61,13 @@ Spells (Plain kind) text =
 abbrev pub begins_comment : List ℕ → Bool
 begins_comment bytes = begins_with (codes "//") bytes || begins_with (codes "/*") bytes
 
--- so many bytes are a token, which no comment is, and no longer front of these bytes is a token
+-- n bytes are a token, which no comment is, and no longer front of these bytes is a token
 pub record IsLongestToken (bytes : List ℕ) (len : ℕ) (lexeme : Lexeme) : Type 0 where
   pub no_comment : IsFalse (begins_comment bytes)
   pub spelled : Spells lexeme (take len bytes)
   pub longest : (more : ℕ) (other : Lexeme) → len < more → more ≤ length bytes → Spells other (take more bytes) → ⊥
 
--- so many bytes are white space: one byte, or a comment up to the end of its line or the next `*/`
+-- n bytes are white space: one byte, or a comment up to the end of its line or the next `*/`
 abbrev pub IsGap : List ℕ → ℕ → Type 0
 IsGap bytes len =
     (IsTrue (is_space (slice_index bytes 0)) × (len ≡ 1))

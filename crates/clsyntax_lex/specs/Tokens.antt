@@ -10,7 +10,7 @@ pub record Text : Type 0 where
   pub length : ℕ
   pub names : List (List ℕ)
 
--- a name's number is a place in a table of so many names
+-- a name's number is a place in a table of n names
 abbrev pub IsNumberedBelow : ℕ → TokenKind → Type 0
 IsNumberedBelow count (kinds.Name number) = number < count
 IsNumberedBelow count _ = Unit {0}

@@ -18,7 +18,7 @@ pub(crate) enum Base {
     Hexadecimal,
 }
 
-/// The letters behind the digits, of which there are so many.
+/// The letters behind the n digits.
 #[derive(Clone, Copy)]
 pub(crate) struct Suffix {
     pub(crate) is_unsigned: bool,

@@ -13,13 +13,13 @@ use clnum::Value;
 /// What one step takes from the front.
 #[derive(Clone, Copy)]
 pub(crate) enum Piece {
-    /// White space or a comment, of so many bytes
+    /// White space or a comment, of n bytes
     Gap(usize),
-    /// A name of so many bytes
+    /// A name of n bytes
     Name(usize),
     /// Any other token, and how many bytes it has
     Token(TokenKind, usize),
-    /// A byte that fits nowhere, so many bytes further
+    /// A byte that fits nowhere, n bytes further
     Bad(usize),
     /// A number that no type can hold
     TooLarge,
@@ -83,7 +83,7 @@ fn number_in(base: Base, rest: &[u8], bytes: &[u8]) -> Piece
     number_of_len(bytes, base.digits_at() + count + suffix.len, value)
 }
 
-// A number of so many bytes, behind which no letter, digit or underscore stands.
+// A number of n bytes, behind which no letter, digit or underscore stands.
 fn number_of_len(bytes: &[u8], len: usize, value: Option<Value>) -> Piece
     ensures { result ≡ pieces.number_of_len bytes.now len value }
 {

@@ -123,7 +123,7 @@ pub struct Token {
     pub at: u32,
 }
 
-/// Why a source is no program. Each has the byte number of the fault but want of memory.
+/// Why a source is no program. Each has the byte number of the fault but out of memory.
 #[derive(Clone, Copy, Debug, PartialEq, Eq)]
 pub enum SyntaxFault {
     /// 1: a byte that begins no token, or that can't follow a number

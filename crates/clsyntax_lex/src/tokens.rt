@@ -28,7 +28,7 @@ impl Model for Tokens {
 impl Tokens {
     ghost use Rattle.clsyntax_lex.specs.Tokens.{Text, IsWithinLimits};
 
-    /// These tokens of a source with so many bytes and these names.
+    /// These tokens of a source of n bytes with these names.
     pub(crate) fn new(tokens: Vec<Token>, length: u32, names: Vec<Name>) -> Self
         requires { IsWithinLimits (record { tokens = tokens.items; length = length; names = names.items }) }
         ensures { result ≡ record { tokens = tokens.items; length = length; names = names.items } }

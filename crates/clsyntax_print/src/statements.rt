@@ -18,7 +18,7 @@ use clnum::{IntType, Value};
 use clsyntax_lex::token::TokenKind;
 use ends::{Write, WriteFailed};
 
-/// Writes what is assigned to.
+/// Writes a target.
 fn write_target<W: Write>(
     target: &Target,
     names: &[Name],

@@ -188,7 +188,7 @@ pub enum Mode {
     Aim { nesting: u32 },
     /// A target's or a call's first name was read, whether behind `++` or `--`
     BeginName(bool, u32, u32, u32),
-    /// What is assigned to was read, whether behind `++` or `--`
+    /// The target was read, whether behind `++` or `--`
     Aimed(bool, u32, u32, Box<Target>),
     /// A simple statement was read
     Ended(u32, Box<Statement>),

@@ -18,7 +18,7 @@ use Rattle.clmodel.proofs.Trees.{next_statement, then_rest}
 use Rattle.cltypes.specs.Views.{target_of}
 use Rattle.cltypes_scope.proofs.Follows.{inside_first, inside_second, neither_of}
 
--- what is assigned to, and that is another
+-- the target, and that is another
 
 pub place_along : (c : Context) (p q : Place) (r : Result Operand TypeFault) → q ≡ p → Checks r (first (place_faults c p)) (target_of c p) → Checks r (first (place_faults c q)) (target_of c q)
 place_along c p q r h x = subst (λ z. Checks r (first (place_faults c z)) (target_of c z)) (sym h) x

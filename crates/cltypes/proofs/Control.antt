@@ -21,7 +21,7 @@ abbrev pub held_depth : Option (Box Statement Global) → ℕ
 held_depth None = 0
 held_depth (Some s) = size-Statement s.value
 
--- a fault that is found, or want of memory
+-- a fault that is found, or out of memory
 pub through : (o p : Option TypeFault) (f : TypeFault) → (o ≡ Some f → p ≡ Some f) → (f ≡ fault.OutOfMemory) ⊎ (o ≡ Some f) → (f ≡ fault.OutOfMemory) ⊎ (p ≡ Some f)
 through o p f h (inl e) = inl e
 through o p f h (inr e) = inr (h e)

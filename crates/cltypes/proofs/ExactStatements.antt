@@ -175,7 +175,7 @@ mutual
 
 -- no fault where it is typed
 
--- what can be assigned to, without a fault, of this type
+-- what can be a target, without a fault, of this type
 pub record IsPlaceOf (c : Context) (p : Place) (k : VariableType) : Type 0 where
   pub faultless : first (place_faults c p) ≡ None
   pub same : place_kind c p ≡ k

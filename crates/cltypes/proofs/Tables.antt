@@ -138,7 +138,7 @@ address_complete (Single (Number t)) p a b h = absurd (cc)
 address_complete (LocalArray t) p a b h = refl
 address_complete (PrivateArray t) p a b h = absurd (cc)
 
--- a variable that is assigned to
+-- a variable that is a target
 pub whole_sound : (m : Meaning) (a : ℕ) → least (whole_faults m a) ≡ None → m ≡ Bound (Single (name_kind m))
 whole_sound (Bound (Single k)) a e = refl
 whole_sound (Bound (LocalArray t)) a e = absurd (some_fault (fault.NotAssignable a) [] e)

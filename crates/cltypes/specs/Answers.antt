@@ -5,7 +5,7 @@ use Rattle.clmodel.specs.Typing.{IsTypedProgram, IsTypeFault}
 use Rattle.clmodel.specs.declared.type_fault.TypeFault.{TypeFault}
 use Rattle.clmodel.specs.declared.type_fault.TypeFault.TheVariants as fault
 
--- an answered fault is the program's fault; want of memory says nothing
+-- an answered fault is the program's fault; out of memory says nothing
 abbrev pub IsFaultOf : Program → TypeFault → Type 0
 IsFaultOf program fault.OutOfMemory = Unit {0}
 IsFaultOf program f = IsTypeFault program f
@@ -18,7 +18,7 @@ pub record IsExactlyTyped (program : Program) : Type 0 where
 unfoldable pub IsTypedExactly : Type 0
 IsTypedExactly = (program : Program) → IsExactlyTyped program
 
--- no fault, or the fault, or want of memory
+-- no fault, or the fault, or out of memory
 abbrev pub Ends : {A : Type 0} → Result A TypeFault → Option TypeFault → Type 0
 Ends (Ok a) o = o ≡ None
 Ends (Err f) o = (f ≡ fault.OutOfMemory) ⊎ (o ≡ Some f)

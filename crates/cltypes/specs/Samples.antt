@@ -268,7 +268,7 @@ samples =
     ∷ (behind_private (Assign 10 (Part 10 27 (one 12)) None (x 17)), Some (WrongSpace 17))
     -- int x[2]; a[1] = x[1];
     ∷ (behind_private (Assign 10 (Part 10 27 (one 12)) None (Element 17 33 (one 19))), None)
-    -- int x[2]; x = y;  What is assigned to comes before the value.
+    -- int x[2]; x = y;  The target comes before the value.
     ∷ (behind_private (Assign 10 (Whole 10 33) None (Variable 14 40)), Some (NotAssignable 10))
     -- int x[2]; ++x;
     ∷ (behind_private (Step 10 (Whole 12 33) true), Some (NotAssignable 12))
@@ -360,7 +360,7 @@ kernel at name ps ss = record { is_kernel = true; result = None; name_at = at; n
 abbrev function : (result : Option IntType) → (at name : ℕ) → List Parameter → List Stmt → Func
 function t at name ps ss = record { is_kernel = false; result = t; name_at = at; name = name; parameters = ps; body_at = at; body = then_stmts NoStmt ss }
 
--- `while (1)` round a statement, so many times
+-- `while (1)` round a statement, n times
 abbrev loops : ℕ → Stmt → Stmt
 loops zero s = s
 loops (suc n) s = While 0 (one 0) (loops n s)

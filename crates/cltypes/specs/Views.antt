@@ -10,7 +10,7 @@ use Rattle.clmodel.specs.Typing.Faults.{place_start, place_kind, condition_parts
 use Rattle.cltypes_scope.specs.Names.{nowhere}
 use Rattle.cltypes_scope.specs.declared.faults.Operand.{Operand}
 
--- the type of what is assigned to, and its first byte
+-- the type of the target, and its first byte
 abbrev pub target_of : Context → Place → Operand
 target_of c p = record { kind = place_kind c p; at = place_start p }
 

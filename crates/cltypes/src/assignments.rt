@@ -1,4 +1,4 @@
-//! The faults of what is assigned to, and of assignments and initialisers.
+//! The faults of targets, and of assignments and initialisers.
 #![tactic(auto)]
 
 ghost use Rattle.std.specs.Prelude.{◌≡◌, ◌++◌};
@@ -45,7 +45,7 @@ fn store_fault(kind: VariableType, at: u32) -> Option<TypeFault>
     }
 }
 
-/// A name that is assigned to.
+/// A name that is a target.
 fn whole_fault(meaning: Meaning<'_>, at: u32) -> Option<TypeFault>
     ensures { result ≡ least (whole_faults (meaning_of meaning.entry) at) }
 {
@@ -67,7 +67,7 @@ fn stored_fault(meaning: Meaning<'_>, at: u32) -> Option<TypeFault>
     }
 }
 
-/// An element that is assigned to: the name in front, and the index.
+/// An element that is a target: the name in front, and the index.
 #[tactic(auto, using(cltypes_scope::proofs::Least::least_append))]
 fn target_fault(meaning: Meaning<'_>, at: u32, index: Operand) -> Option<TypeFault>
     ensures { result ≡ least (target_faults (meaning_of meaning.entry) at ++ integer_faults index.kind index.at) }
@@ -78,7 +78,7 @@ fn target_fault(meaning: Meaning<'_>, at: u32, index: Operand) -> Option<TypeFau
     )
 }
 
-/// What a pointer points to, assigned to at `at`.
+/// What a pointer points to, a target at `at`.
 #[tactic(auto, using(cltypes_scope::proofs::Least::least_append))]
 fn behind_fault(pointer: Operand, at: u32) -> Option<TypeFault>
     ensures { result ≡ least (pointer_faults pointer.kind pointer.at ++ store_faults pointer.kind at) }
@@ -86,7 +86,7 @@ fn behind_fault(pointer: Operand, at: u32) -> Option<TypeFault>
     lesser(pointer_fault(pointer), store_fault(pointer.kind, at))
 }
 
-/// The type of what is assigned to and where it begins, or its first fault.
+/// The type of the target and where it begins, or its first fault.
 pub(crate) fn check_target(context: &Context, target: &Target) -> Result<Operand, TypeFault>
     ensures { Checks result (first (place_faults context.now (place target.now))) (target_of context.now (place target.now)) }
 {

@@ -56,7 +56,7 @@ pub(crate) fn arguments_size(table: &Summaries, arguments: &[Expression]) -> Siz
     size
 }
 
-/// The size of what is assigned to.
+/// The size of a target.
 pub(crate) fn target_size(table: &Summaries, target: &Target) -> Size
     ensures { result ≡ capped (place_size table.now (place target.now)) }
 {

@@ -77,7 +77,7 @@ fn number(fault: TypeFault) -> u8
     }
 }
 
-/// Where a fault is, 0 for want of memory.
+/// Where a fault is, 0 for out of memory.
 fn offset(fault: TypeFault) -> u32
     ensures { result ≡ offset fault }
 {
@@ -349,7 +349,7 @@ fn has_value(function: BuiltIn) -> bool
     }
 }
 
-/// A function of the text with this signature, called at `at` with so many arguments: no kernel, at a spot that takes it, and an
+/// A function of the text with this signature, called at `at` with n arguments: no kernel, at a spot that takes it, and an
 /// argument for each parameter.
 fn helper_fault(spot: Spot, signature: &Signature, at: u32, arguments: usize) -> Option<TypeFault>
     ensures { result ≡ least (helper_faults (spot_of spot) (signature_of signature.now) at arguments) }
@@ -363,7 +363,7 @@ fn helper_fault(spot: Spot, signature: &Signature, at: u32, arguments: usize) ->
     }
 }
 
-/// A built-in function, called at `at` with so many arguments.
+/// A built-in function, called at `at` with n arguments.
 fn built_in_fault(spot: Spot, function: BuiltIn, at: u32, arguments: usize) -> Option<TypeFault>
     ensures { result ≡ least (callee_faults (spot_of spot) (typing.BuiltInFunction function) at arguments) }
 {
@@ -376,7 +376,7 @@ fn built_in_fault(spot: Spot, function: BuiltIn, at: u32, arguments: usize) -> O
     }
 }
 
-/// The barrier, called at `at` with so many arguments.
+/// The barrier, called at `at` with n arguments.
 fn barrier_fault(spot: Spot, at: u32, arguments: usize) -> Option<TypeFault>
     ensures { result ≡ least (callee_faults (spot_of spot) typing.Barrier at arguments) }
 {
@@ -389,7 +389,7 @@ fn barrier_fault(spot: Spot, at: u32, arguments: usize) -> Option<TypeFault>
     }
 }
 
-/// What is called at `at`, with so many arguments.
+/// What is called at `at`, with n arguments.
 #[tactic(auto, using(crate::proofs::Least::least_append))]
 fn callee_fault(spot: Spot, meaning: Meaning<'_>, at: u32, arguments: usize) -> Option<TypeFault>
     ensures { result ≡ least (callee_faults (spot_of spot) (meaning_of meaning.entry) at arguments) }
@@ -407,7 +407,7 @@ fn callee_fault(spot: Spot, meaning: Meaning<'_>, at: u32, arguments: usize) -> 
     }
 }
 
-/// A call: what is called at `at`, so many arguments, and what they have against them as flags.
+/// A call: what is called at `at`, n arguments, and what they have against them as flags.
 pub(crate) fn call_fault(
     spot: Spot,
     meaning: Meaning<'_>,

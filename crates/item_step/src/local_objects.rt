@@ -103,7 +103,7 @@ fn declared_size(statement: &Statement) -> u64
     }
 }
 
-/// The local objects that the outermost block of a kernel declares. One of more bytes than can be counted is want of memory.
+/// The local objects that the outermost block of a kernel declares. One of more bytes than can be counted is out of memory.
 fn declared_objects(alloc: Global, body: &[Statement]) -> Result<LocalObjects, AllocError>
     ensures { IfOk result (Lists (model.body_objects (then_stmts NoStmt (map stmt body.now)))) }
 {

@@ -26,7 +26,7 @@ impl Model for PrivateArray {
 }
 
 impl PrivateArray {
-    /// An array without elements that has room for so many.
+    /// An array without elements that has room for n.
     pub(crate) fn new(alloc: Global, most: u32) -> Result<Self, AllocError>
         ensures { IfOk result (λ array. array ≡ keeping [] most) }
     {
@@ -42,7 +42,7 @@ impl PrivateArray {
         &self.elements[..self.count]
     }
 
-    /// It is declared: it has so many elements, and none is set (OpenCL 1.2, section 6.5.4; C99 6.2.4).
+    /// It is declared: it has n elements, and none is set (OpenCL 1.2, section 6.5.4; C99 6.2.4).
     pub fn unset(&mut self, count: u32)
         requires { count ≤ self.old.most }
         ensures { self.new ≡ keeping (replicate count None) self.old.most }
@@ -61,7 +61,7 @@ impl PrivateArray {
     }
 }
 
-/// The first so many elements are made unset.
+/// The first n elements are made unset.
 fn clear(elements: &mut Vec<Option<u64>>, count: usize)
     requires { count ≤ length elements.old.items }
     ensures kept { length elements.new.items ≡ length elements.old.items }

@@ -102,7 +102,7 @@ abbrev pub parameters_named : Instruction → List (ℕ × VariableType)
 parameters_named (instruction.Argument to index kind) = (index, kind) ∷ []
 parameters_named _ = []
 
--- all of these are places in a table with so many entries
+-- all of these are places in a table with n entries
 abbrev pub Below : ℕ → List ℕ → Type 0
 Below count [] = Unit {0}
 Below count (n ∷ numbers) = (n < count) × Below count numbers

@@ -161,7 +161,7 @@ fn number(number: u32) -> Option<Part>
     Some(Part::Number(u64::from(number)))
 }
 
-/// The place past so many further instructions.
+/// The place past n further instructions.
 fn onward(place: usize, by: u32) -> Option<Part>
     requires { place < 2 ^ 63 }
     ensures { result ≡ Some (part.Number (place + 1 + by)) }
@@ -169,7 +169,7 @@ fn onward(place: usize, by: u32) -> Option<Part>
     Some(Part::Number(place as u64 + 1 + u64::from(by)))
 }
 
-/// The place so many instructions back.
+/// The place n instructions back.
 fn back(place: usize, by: u32) -> Option<Part>
     ensures { result ≡ Some (part.Number (place - by)) }
 {

@@ -84,7 +84,7 @@ pub enum Instruction {
         number: u32,
         element: IntType,
     },
-    /// A private array is declared: it has so many elements, and none is set
+    /// A private array is declared: it has n elements, and none is set
     UnsetArray {
         array: u32,
         length: u32,
@@ -144,16 +144,16 @@ pub enum Instruction {
     Turn {
         depth: u32,
     },
-    /// Past so many further instructions
+    /// Past n further instructions
     Jump {
         by: u32,
     },
-    /// Past so many further instructions, if a number is zero
+    /// Past n further instructions, if a number is zero
     JumpIfZero {
         test: u32,
         by: u32,
     },
-    /// Back by so many instructions
+    /// Back by n instructions
     Back {
         by: u32,
     },

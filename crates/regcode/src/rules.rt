@@ -53,7 +53,7 @@ impl Judged<'_> {
         }
     }
 
-    /// Whether a private array has room for so many elements.
+    /// Whether a private array has room for n elements.
     fn has_room(&self, array: u32, count: u32) -> bool
         ensures { IsTrue result ↔ spec.HasRoom (slice_get self.now.tables.now.arrays.items array) count }
     {
@@ -197,7 +197,7 @@ impl Judged<'_> {
         }
     }
 
-    /// Whether code may go on at a place where so many loops are entered.
+    /// Whether code may go on at a place where n loops are entered.
     fn leads(&self, place: usize, entered: u64) -> bool
         ensures { IsTrue result ↔ spec.Leads (listing self.now.instructions.now self.now.tables.now) place entered }
     {

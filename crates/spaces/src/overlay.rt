@@ -47,14 +47,14 @@ impl<'a> Overlay<'a> {
         self.pages.numbers.as_slice()
     }
 
-    /// Whether so many bytes from a byte on are there.
+    /// Whether n bytes from a byte on are there.
     fn is_inside(&self, at: u64, count: u64) -> bool
         ensures { result ≡ nat_le (at + count) (length self.now.bytes) }
     {
         is_inside(self.base.len(), at, count)
     }
 
-    /// The number of so many bytes.
+    /// The number of n bytes.
     fn number(&self, at: usize, count: usize) -> u64
         requires short { count ≤ 8 }
         requires inside { at + count ≤ length self.now.bytes }
@@ -64,7 +64,7 @@ impl<'a> Overlay<'a> {
         self.pages.number(self.base, at, count)
     }
 
-    /// Puts the low bytes of a value, so many, in place of those that are there.
+    /// Puts the low n bytes of a value in place of those that are there.
     fn change(&mut self, at: usize, count: usize, value: u64) -> Result<(), AllocError>
         requires some { 0 < count }
         requires short { count ≤ 8 }

@@ -49,7 +49,7 @@ fn add_row(cells: &mut Vec<u8>, place: usize, row: &[u8]) -> Result<(), AllocErr
     cells.resize(place + 256, 0)
 }
 
-/// Makes room in a table for so many pages, one of which is to be used.
+/// Makes room in a table for n pages, one of which is to be used.
 fn make_room(table: &mut Vec<u16>, pages: usize, page: usize) -> Result<(), AllocError>
     requires { page < pages }
     ensures long { OnOk result (page < length table.new.items) }
@@ -98,7 +98,7 @@ impl Pages {
         }
     }
 
-    /// The number of so many bytes.
+    /// The number of n bytes.
     pub(crate) fn number(&self, base: &[u8], first: usize, count: usize) -> u64
         requires short { count ≤ 8 }
         requires inside { first + count ≤ length base.now }
@@ -113,7 +113,7 @@ impl Pages {
         low as u64 + 256 * high
     }
 
-    /// Puts the low bytes of a value, so many, into pages that have copies.
+    /// Puts the low n bytes of a value into pages that have copies.
     fn put(&mut self, base: &[u8], first: usize, count: usize, value: u64)
         requires short { count ≤ 8 }
         requires inside { first + count ≤ length base.now }
@@ -128,7 +128,7 @@ impl Pages {
         }
     }
 
-    /// Copies a page that has no copy. An error is want of memory, or a buffer with 65,535 pages and more.
+    /// Copies a page that has no copy. An error is out of memory, or a buffer with 65,535 pages and more.
     fn copy(&mut self, base: &[u8], page: usize) -> Result<(), AllocError>
         requires { page * 256 < length base.now }
         ensures bytes { (byte : ℕ) → byte < length base.now → overlaid_byte base.now self.new.table.items self.new.cells.items byte ≡ overlaid_byte base.now self.old.table.items self.old.cells.items byte }
@@ -149,7 +149,7 @@ impl Pages {
         Ok(())
     }
 
-    /// Puts the low bytes of a value, so many, in place of those that are there.
+    /// Puts the low n bytes of a value in place of those that are there.
     pub(crate) fn change(
         &mut self,
         base: &[u8],

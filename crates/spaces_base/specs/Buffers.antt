@@ -12,6 +12,6 @@ bytes_in buffers name = unwrap_or (find buffers name) []
 abbrev pub with_bytes : List ℕ → ℕ → List ℕ → List ℕ
 with_bytes buffer offset bytes = take offset buffer ++ bytes ++ drop (offset + length bytes) buffer
 
--- so many bytes of a pattern again and again, from its start (5.2.3)
+-- n bytes of a pattern again and again, from its start (5.2.3)
 abbrev pub repeated : List ℕ → ℕ → List ℕ
 repeated pattern count = map (λ byte. get_or pattern (byte % length pattern) 0) (range_with_len 0 count)

@@ -6,11 +6,11 @@ use Rattle.clmodel.specs.declared.access.Class.{Class}
 use Rattle.spaces_base.specs.declared.space.SpaceFault.{SpaceFault}
 use Rattle.spaces_base.specs.declared.space.SpaceFault.TheVariants as fault
 
--- all of so many bytes lie in a space
+-- n bytes from one on lie in a space
 abbrev pub InRange : List (Option ℕ) → ℕ → ℕ → Type 0
 InRange bytes at count = at + count ≤ length bytes
 
--- some of so many bytes lies outside of it
+-- one of n bytes from one on lies outside of it
 abbrev pub Outside : List (Option ℕ) → ℕ → ℕ → Type 0
 Outside bytes at count = length bytes < at + count
 
@@ -29,7 +29,7 @@ pub record Becomes (old new : List (Option ℕ)) (cells : Cells) : Type 0 where
   pub length_same : length new ≡ length old
   pub cells_are : (byte : ℕ) → cells_of new byte ≡ cells byte
 
--- what a store leaves and answers. `read_only`: the space can only be read; `may_want`: it may want memory for what is stored.
+-- what a store leaves and answers. `read_only`: the space can only be read; `may_want`: a store may find no memory.
 abbrev pub IsStored : Bool → Bool → List (Option ℕ) → ℕ → Width → ℕ → List (Option ℕ) → Result (Unit {0}) SpaceFault → Type 0
 IsStored read_only may_want old at width value new (Ok done) =
     (read_only ≡ false) × InRange old at (byte_count width) × Becomes old new (written (cells_of old) at (byte_count width) value)

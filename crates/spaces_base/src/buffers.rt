@@ -28,7 +28,7 @@ fn block_of(pattern: &[u8]) -> [u8; BLOCK]
     block
 }
 
-/// Repeats a pattern over so many bytes from an offset on, a block at a time.
+/// Repeats a pattern over n bytes from an offset on, a block at a time.
 fn fill(buffer: &mut Bytes, offset: usize, count: usize, pattern: &[u8])
     requires range { offset + count ≤ length buffer.old }
     requires some { 0 < length pattern.now }
@@ -56,7 +56,7 @@ impl Table<Bytes> {
         }
     }
 
-    /// Repeats a pattern, whose length divides 256, over so many bytes of the buffer of a name from an offset on, in place of those
+    /// Repeats a pattern, whose length divides 256, over n bytes of the buffer of a name from an offset on, in place of those
     /// that were there (OpenCL 1.2, section 5.2.3). It takes no memory, and writes 256 bytes at a time.
     #[tactic(auto, using(crate::proofs::Tables::unreplaced))]
     pub fn fill(&mut self, name: &Name, offset: usize, count: usize, pattern: &[u8])
@@ -70,8 +70,8 @@ impl Table<Bytes> {
         }
     }
 
-    /// Copies so many bytes of a buffer from an offset on into a buffer, which may be the same, from an offset of its own on, in place
-    /// of those that were there (OpenCL 1.2, section 5.2.2). All are read before the first is written. An error is want of memory,
+    /// Copies n bytes of a buffer from an offset on into a buffer, which may be the same, from an offset of its own on, in place
+    /// of those that were there (OpenCL 1.2, section 5.2.2). All are read before the first is written. An error is out of memory,
     /// and nothing is copied.
     pub fn copy(
         &mut self,

@@ -42,7 +42,7 @@ impl Cell for Option<u8> {
     }
 }
 
-/// The number of so many bytes, or the lowest of them that is unset.
+/// The number of n bytes, or the lowest of them that is unset.
 pub fn read<C: Cell>(cells: &[C], first: usize, count: usize) -> Result<u64, u64>
     requires short { count ≤ 8 }
     requires inside { first + count ≤ length cells.now }
@@ -62,7 +62,7 @@ pub fn read<C: Cell>(cells: &[C], first: usize, count: usize) -> Result<u64, u64
     }
 }
 
-/// Puts the low bytes of a value, so many, into a row.
+/// Puts the low n bytes of a value into a row.
 pub fn put<C: Cell>(cells: &mut [C], first: usize, count: usize, value: u64)
     requires short { count ≤ 8 }
     requires inside { first + count ≤ length cells.old }
@@ -98,7 +98,7 @@ pub fn combined(class: Class, x: u32, operand: u32) -> u32
     }
 }
 
-/// Whether so many bytes from a byte on lie within a length.
+/// Whether n bytes from a byte on lie within a length.
 pub fn is_inside(length: usize, at: u64, count: u64) -> bool
     ensures { result ≡ nat_le (at + count) length }
 {

@@ -50,7 +50,7 @@ impl Row<u8> {
 }
 
 impl Row<Option<u8>> {
-    /// So many unset bytes. An error is want of memory.
+    /// n unset bytes. An error is out of memory.
     pub fn new(alloc: Global, size: usize) -> Result<Self, AllocError>
         ensures { IfOk result (λ row. row ≡ replicate size None) }
     {

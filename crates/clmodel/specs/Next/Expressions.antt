@@ -71,7 +71,7 @@ pub record Binding : Type 0 where
 abbrev pub variable : ℕ → VariableType → Option Operand → Binding
 variable name kind content = record { name = name; kind = kind; content = content; elements = [] }
 
--- What is assigned to, once its index or its pointer has been evaluated (C99 6.5.16): the variable of a name, an element of the private array of a name, by
+-- The target, once its index or its pointer has been evaluated (C99 6.5.16): the variable of a name, an element of the private array of a name, by
 -- the value of its index, or the element that a pointer points to.
 pub data Destination : Type 0 where
   Named : ℕ → Destination
@@ -124,7 +124,7 @@ with_elements [] name elements = []
 with_elements (variable ∷ variables) name elements =
     elim (name == variable.name) [ true ↦ record variable { elements = elements } ∷ variables | false ↦ variable ∷ with_elements variables name elements ]
 
--- the outermost variables, so many: those of a block are left at its end
+-- the n outermost variables: those of a block are left at its end
 abbrev pub leave : ℕ → Variables → Variables
 leave count variables = drop (length variables - count) variables
 
@@ -390,7 +390,7 @@ abbrev mutual
   eval_all here (ThenTerm terms term) variables after =
       eval_all here terms variables (λ values. eval here term variables (λ v. after (values ++ v ∷ [])))
 
--- what is assigned to: its pointer is read, if it has one, and then its index evaluated
+-- the target: its pointer is read, if it has one, and then its index evaluated
 abbrev pub reach : Here → Place → Variables → (Destination → Run) → Run
 reach here (Whole at name) variables after = after (Named name)
 reach here (Part at name index) variables after =

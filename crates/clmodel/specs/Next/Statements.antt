@@ -36,7 +36,7 @@ leaving count after variables = after (leave count variables)
 abbrev pub in_loop : Follows → (again after : Variables → Run) → Follows
 in_loop k again after = record { next = again; broken = after; continued = again; returned = k.returned }
 
--- A loop that has made so many turns. It makes fewer than `most` more, since each is a tick.
+-- A loop that has made n turns. It makes fewer than `most` more, since each is a tick.
 abbrev pub turns : (most : ℕ) → (holds : Variables → (Bool → Run) → Run) → (body : ℕ → Variables → (Variables → Run) → Run) → (after : Variables → Run) → ℕ → Variables → Run
 turns zero holds body after count variables = fail cause.Budget
 turns (suc most) holds body after count variables =
@@ -119,13 +119,13 @@ abbrev pub wait : Option Fences → ℕ → List ℕ → Run → Run
 wait (Some named) site ts after = ask (action.Barrier (record { site = site; turns = ts }) named) (λ _. after)
 wait None site ts after = finish
 
--- A pointer to the first element of the local array that is declared behind so many variables: its object has their number (6.5.2).
+-- A pointer to the first element of the local array that is declared behind n variables: its object has their number (6.5.2).
 abbrev pub local_array : IntType → (number : ℕ) → ℕ → Binding
 local_array element number name =
     variable name (variable_type.Pointer (record { space = Local; is_const = false; element = element }))
     (Some (Pointed (record { object = object.Local number; element = element; offset = pos 0 })))
 
--- A private array of so many elements (6.5.4), none of which is set: it is indeterminate each time its declaration is reached (C99 6.2.4, paragraph 5).
+-- A private array of n elements (6.5.4), none of which is set: it is indeterminate each time its declaration is reached (C99 6.2.4, paragraph 5).
 abbrev pub private_array : IntType → ℕ → ℕ → Binding
 private_array element count name = record { name = name; kind = variable_type.Integer element; content = None; elements = replicate count None }
 

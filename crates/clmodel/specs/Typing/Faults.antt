@@ -46,7 +46,7 @@ start (tree.Cast a t e) = a
 start (tree.Binary a op d e) = a
 start (tree.Choice a e d f) = a
 
--- where what is assigned to begins
+-- where the target begins
 abbrev pub place_start : Place → ℕ
 place_start (tree.Whole a x) = a
 place_start (tree.Part a x e) = a
@@ -96,7 +96,7 @@ abbrev pub address_faults : Meaning → (at name : ℕ) → List TypeFault
 address_faults (Bound (PrivateArray t)) a b = fault.WrongSpace a ∷ []
 address_faults m a b = front_faults m b
 
--- a name that is assigned to
+-- a name that is a target
 abbrev pub whole_faults : Meaning → ℕ → List TypeFault
 whole_faults (Bound (LocalArray t)) a = fault.NotAssignable a ∷ []
 whole_faults (Bound (PrivateArray t)) a = fault.NotAssignable a ∷ []
@@ -122,7 +122,7 @@ operand_faults op (Number t) (Number u) a b = []
 operand_faults op (Number t) (Pointer q) a b = unless (is_sum op) (fault.TypeMismatch b)
 operand_faults op (Pointer p) k a b = unless (takes_pointer op) (fault.TypeMismatch a) ++ integer_faults k b
 
--- an operator that assigns: what is assigned to, the value, and where they begin
+-- an operator that assigns: the target, the value, and where they begin
 abbrev pub assigning_faults : BinaryOperator → VariableType → VariableType → (to value : ℕ) → List TypeFault
 assigning_faults op (Number t) k a b = integer_faults k b
 assigning_faults op (Pointer p) k a b = unless (moves op) (fault.TypeMismatch a) ++ integer_faults k b
@@ -343,7 +343,7 @@ abbrev pub store_faults : VariableType → ℕ → List TypeFault
 store_faults (Number t) a = []
 store_faults (Pointer p) a = unless (is_writable p) (fault.NotAssignable a)
 
--- a name in front of the index of what is assigned to
+-- a name in front of the index of a target
 abbrev pub stored_faults : Meaning → ℕ → List TypeFault
 stored_faults (Bound d) a = unless (is_stored d) (fault.NotAssignable a)
 stored_faults _ a = []
@@ -351,7 +351,7 @@ stored_faults _ a = []
 abbrev pub target_faults : Meaning → ℕ → List TypeFault
 target_faults m a = front_faults m a ++ stored_faults m a
 
--- What is assigned to: its parts, then itself.
+-- The target: its parts, then itself.
 abbrev pub place_faults : Context → Place → Places
 place_faults c (tree.Whole a x) = whole_faults (meaning c x) a ∷ []
 place_faults c (tree.Part a x e) = node (term_faults c e) (target_faults (meaning c x) a ++ integer_faults (kind_of c e) (start e))

@@ -115,7 +115,7 @@ mutual
     argument : {es : Terms} {e : Term} {ks : List VariableType} {k : VariableType}
         → TypesAll c es ks → Types c e k → TypesAll c (ThenTerm es e) (ks ++ k ∷ [])
 
--- What can be assigned to, and its type.
+-- What can be a target, and its type.
 pub data TypesPlace (c : Context) : Place → VariableType → Type 0 where
   whole : {a x : ℕ} {k : VariableType} → meaning c x ≡ Bound (Single k) → TypesPlace c (tree.Whole a x) k
   part : {a x : ℕ} {d : Declaration} {t u : IntType} {e : Term}

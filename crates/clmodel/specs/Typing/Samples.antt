@@ -125,7 +125,7 @@ samples =
     ∷ (set 28 (ElementAddress 4 5 32 (one 7)), Some (WrongSpace 4))
     -- p = 1;
     ∷ (set 32 (one 4), Some (NotAssignable 0))
-    -- p = y;  What is assigned to comes before the value.
+    -- p = y;  The target comes before the value.
     ∷ (set 32 (Variable 4 40), Some (NotAssignable 0))
     -- p++;
     ∷ (Step 0 (Whole 0 32) true, Some (NotAssignable 0))

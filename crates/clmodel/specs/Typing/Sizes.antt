@@ -1,5 +1,5 @@
 -- What a body holds, with the bodies of the functions that it calls in place of their calls (own): how deep its loops are nested, how many
--- bytes its private arrays have, and how many nodes it has: statements, declarations, what is assigned to, and expressions. A call that is a statement is one node.
+-- bytes its private arrays have, and how many nodes it has: statements, declarations, targets, and expressions. A call that is a statement is one node.
 use Rattle.std.specs.Prelude.{ℕ, suc, ◌+◌, max, Bool, true, false, ◌||◌, ◌&&◌, nat_eq, List, [], ◌∷◌, ◌++◌, Option, None, Some}
 use Rattle.std.specs.Map.{lookup}
 use Rattle.clmodel.specs.Tree as tree
