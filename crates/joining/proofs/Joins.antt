@@ -232,16 +232,16 @@ memory_joined l g a b u ready over none = fun_ext (λ p. fun_ext (λ byte. go p 
     go p byte true h true k = both_joined l g a b u ready over p byte h (both_wrote l g a b u ready over none p byte h k) ∙ sym (cond-true _ _ _ h ∙ cond-true _ _ _ k)
 
 -- what is known of the groups joined so far
-record So_far (l : Launch) (g : ℕ) (lower : Joined) : Type 0 where
-  a : State
-  ready : Ready l g a
-  runs : RunsTo l (start l) lower.events a
-  log : lower.log ≡ a.log
-  memory : lower.memory ≡ a.memory
-  report : lower.report ≡ None
+pub record So_far (l : Launch) (g : ℕ) (lower : Joined) : Type 0 where
+  pub a : State
+  pub ready : Ready l g a
+  pub runs : RunsTo l (start l) lower.events a
+  pub log : lower.log ≡ a.log
+  pub memory : lower.memory ≡ a.memory
+  pub report : lower.report ≡ None
 
 -- one group more: a report, or the next
-abbrev OneMore : Launch → ℕ → Part → Joined → Option Fault → Type 0
+abbrev pub OneMore : Launch → ℕ → Part → Joined → Option Fault → Type 0
 OneMore l g part joined None = So_far l (suc g) joined × (part.stopped ≡ None)
 OneMore l g part joined (Some f) = (end : State) × RunsIntoFault l joined.events end f
 
@@ -283,7 +283,7 @@ one_crossed l g lower part far c =
       ),
     )
 
-one_more : (l : Launch) (g : ℕ) → IsGroup (plan_of l g) → (lower : Joined) (part : Part) → So_far l g lower → IsPart l g part → OneMore l g part (join l lower part) (join l lower part).report
+pub one_more : (l : Launch) (g : ℕ) → IsGroup (plan_of l g) → (lower : Joined) (part : Part) → So_far l g lower → IsPart l g part → OneMore l g part (join l lower part) (join l lower part).report
 one_more l g whole lower part far is =
     ⊎_elim
     (λ t. subst (λ o. OneMore l g part (join_at l lower part o) (join_at l lower part o).report) (sym (ap (λ z. crossing l z part.end.log) far.log ∙ t.3))
@@ -308,6 +308,9 @@ all_joined l grouped g (part ∷ parts) lower far all =
     (λ next rest. all_joined l grouped (suc g) parts (join l lower part) next rest)
     (join l lower part).report refl (one_more l g (group_is l g grouped all.1) lower part far all.0)
 
+-- before any group
+pub no_group : (l : Launch) → So_far l 0 (nothing_yet l)
+no_group l = record { a = start l; ready = ready_start l; runs = refl; log = refl; memory = refl; report = refl }
+
 pub join_is_canonical : JoinIsCanonical
-join_is_canonical l parts grouped all =
-    all_joined l grouped 0 parts (nothing_yet l) (record { a = start l; ready = ready_start l; runs = refl; log = refl; memory = refl; report = refl }) all
+join_is_canonical l parts grouped all = all_joined l grouped 0 parts (nothing_yet l) (no_group l) all

@@ -9,3 +9,4 @@ pub mod Ride
 pub mod Joins
 pub mod Parts
 pub mod Lowest
+pub mod Steps
