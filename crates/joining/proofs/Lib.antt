@@ -9,4 +9,5 @@ pub mod Ride
 pub mod Joins
 pub mod Parts
 pub mod Lowest
+pub mod Kept
 pub mod Steps

@@ -5,7 +5,7 @@
 ghost use Rattle.joining.specs.Crossings.{LowerFirst};
 ghost use Rattle.joining.specs.Join.{JoinIsCanonical};
 ghost use Rattle.joining.specs.Parts.{OnePart};
-ghost use Rattle.joining.specs.Steps.{JoinReports, JoinEnds, KeptBoth};
+ghost use Rattle.joining.specs.Steps.{JoinReports, JoinEnds, AreOwn, AreLower, KeptConflicts, KeptBoth};
 
 /// The groups of a launch run apart and joined, up to the first report, are its canonical run: its events, what it leaves in memory, and its
 /// report. This holds for all classes of updates, for a group that stops, and for one whose access conflicts with a lower group's.
@@ -31,6 +31,21 @@ pub fn join_reports()
 /// Where all groups are joined without a report, the canonical run of the launch makes their events and leaves their memory.
 pub fn join_ends()
     ensures { JoinEnds }
+{}
+
+/// The accesses of a group's run are of its items, to buffers or to its own local objects.
+pub fn accesses_are_own()
+    ensures { AreOwn }
+{}
+
+/// The accesses of the groups joined so far are of the items of lower groups, to buffers or to those groups' local objects.
+pub fn accesses_are_lower()
+    ensures { AreLower }
+{}
+
+/// An access conflicts with a log of other groups' accesses as it does with what is kept of that log.
+pub fn kept_conflicts()
+    ensures { KeptConflicts }
 {}
 
 /// What is kept of two logs, one after the other, keeps both.

@@ -1,5 +1,5 @@
-use Rattle.joining.proofs.Steps as steps
+use Rattle.joining.proofs.Kept as kept
 use Rattle.joining.proofs.kept_both.Goals as goal
 
 pub returns : goal.returns
-returns c = steps.kept_both
+returns c = kept.kept_both
