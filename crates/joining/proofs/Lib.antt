@@ -11,3 +11,4 @@ pub mod Parts
 pub mod Lowest
 pub mod Kept
 pub mod Steps
+pub mod JoinedBytes

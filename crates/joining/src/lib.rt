@@ -5,7 +5,7 @@
 ghost use Rattle.joining.specs.Crossings.{LowerFirst};
 ghost use Rattle.joining.specs.Join.{JoinIsCanonical};
 ghost use Rattle.joining.specs.Parts.{OnePart};
-ghost use Rattle.joining.specs.Steps.{JoinReports, JoinEnds, AreOwn, AreLower, KeptConflicts, KeptBoth};
+ghost use Rattle.joining.specs.Steps.{JoinReports, JoinEnds, AreOwn, AreLower, BytesAreJoined, KeptConflicts, KeptBoth};
 
 /// The groups of a launch run apart and joined, up to the first report, are its canonical run: its events, what it leaves in memory, and its
 /// report. This holds for all classes of updates, for a group that stops, and for one whose access conflicts with a lower group's.
@@ -41,6 +41,12 @@ pub fn accesses_are_own()
 /// The accesses of the groups joined so far are of the items of lower groups, to buffers or to those groups' local objects.
 pub fn accesses_are_lower()
     ensures { AreLower }
+{}
+
+/// A byte that a further group wrote, where nothing crosses, is the group's own where no lower group wrote it, and else one of the joined
+/// number of its word.
+pub fn bytes_are_joined()
+    ensures { BytesAreJoined }
 {}
 
 /// An access conflicts with a log of other groups' accesses as it does with what is kept of that log.
