@@ -1,5 +1,5 @@
 -- The turns of one group: it does the same in a launch where the groups below have ended.
-use Rattle.std.proofs.Common.{◌≡◌, ℕ, zero, suc, ◌+◌, ◌/◌, ◌<◌, ◌≤◌, ◌⊎◌, Bool, true, false, not, ◌&&◌, ◌==◌, if◌then◌else◌, Option, None, Some, ℤ, refl, sym, ap, ◌∙◌, subst, inl, inr, arith, eq-eqb, div-mul-le_self, le_trans}
+use Rattle.std.proofs.Common.{◌≡◌, ℕ, zero, suc, ◌/◌, ◌<◌, ◌≤◌, ◌⊎◌, Bool, true, false, not, ◌&&◌, ◌==◌, if◌then◌else◌, Option, None, Some, ℤ, refl, sym, ap, ◌∙◌, subst, inl, inr, arith, eq-eqb, div-mul-le_self, le_trans}
 use Rattle.std.proofs.lemmas.Bool.{false≢true, not-false, cases_lt, and_parts, eqb-true}
 use Rattle.std.proofs.lemmas.Nat.{le-div}
 use Rattle.std.proofs.Math.Nat.{div-zero}
@@ -48,9 +48,6 @@ no_straggler false y e h = absurd (false≢true e)
 gathered : (x y : Bool) → y ≡ true → (x && not y) ≡ false
 gathered true y h = ap not h
 gathered false y h = refl
-
-first_below : (p : Plan) → IsGroup p → p.first < p.launch.items
-first_below p whole = let b : p.first + 0 < p.launch.items = whole.inside 0 whole.some in omega arith
 
 -- a group whose items are all at one stop goes on where one of them hasn't ended
 released : (p : Plan) (s : State) (item : ℕ) → item < p.launch.items → group_of p.launch item ≡ p.group
@@ -253,9 +250,6 @@ pub event_own : (p : Plan) (s : State) (e : Event) → turn_of p s ≡ Makes e �
 event_own p s e h = conflict_own p.launch p.group e (newest_conflict p.launch s.log) _ (going_own p s e (straggler p.launch s p.group p.first) refl) h
 
 -- a group that finishes has ended, and its newest access has no conflict
-stops_ended : (a b : Action) → has_ended a ≡ true → both_stop (stop_of a) (stop_of b) ≡ true → has_ended b ≡ true
-stops_ended a b h e = ends_too a b h e
-
 finish_going : (p : Plan) → IsGroup p → (s : State) (o : Option ℕ) → straggler p.launch s p.group p.first ≡ o → going p s o ≡ Finishes
     → (i : ℕ) → i < p.launch.items → group_of p.launch i ≡ p.group → has_ended (next_action p.launch s i) ≡ true
 finish_going p whole s None is h i inside mine =

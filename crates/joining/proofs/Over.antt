@@ -256,9 +256,6 @@ update_clash (kind.Update e) d h c = ap kind.Update (no_order e d c)
 not_wrote : (lower : List Access) (p : Region) (byte : ℕ) → (wrote lower p byte ≡ true → ⊥) → wrote lower p byte ≡ false
 not_wrote lower p byte h = ⊎_elim (λ e. absurd (h e)) (λ e. e) (cases_Bool (wrote lower p byte))
 
-same_word : (n m b : ℕ) → n * 4 ≤ b → b < n * 4 + 4 → m * 4 ≤ b → b < m * 4 + 4 → n * 4 ≡ m * 4
-same_word n m b h k i j = omega arith
-
 -- what a load reads was not written by the lower groups
 load_clear : (l : Launch) (lower : List Access) (bm sm : Memory) (i : ℕ) (p : Region) (width : Width) (first x x2 n : ℕ) → Lift l lower bm sm i p (Load width) first x x2 n
     → (byte : ℕ) → first ≤ byte → byte < first + byte_count width → wrote lower p byte ≡ false

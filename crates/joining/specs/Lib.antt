@@ -3,3 +3,4 @@ pub mod Parts
 pub mod Memory
 pub mod Crossings
 pub mod Join
+pub mod Steps
