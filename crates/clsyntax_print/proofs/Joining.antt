@@ -62,5 +62,5 @@ read_back bytes p is =
       });
     } in
     let text_same : text_of is.text.names (printed fs) ≡ printed_text p =
-      ap (λ (names : List (List ℕ)). text_of names (printed fs)) (sym is.names_read ∙ is.names) ∙ ap (text_of p.names) (printed_alike fs p.functions is.functions) in
+    ap (λ (names : List (List ℕ)). text_of names (printed fs)) (sym is.names_read ∙ is.names) ∙ ap (text_of p.names) (printed_alike fs p.functions is.functions) in
     subst (λ (bytes : List ℕ). IsReadBack bytes p) text_same whole
