@@ -1,5 +1,5 @@
 -- The beginning and the end of a source.
-use Rattle.std.proofs.Common.{◌≡◌, ℕ, ◌<◌, ◌≤◌, ◌+◌, ◌-◌, All, take, length-drop, List, [], ◌∷◌, length, drop, arith, sym, ◌∙◌, cond, ap, subst, Result, Ok, Err, append-nil}
+use Rattle.std.proofs.Common.{◌≡◌, ℕ, ◌<◌, ◌≤◌, ◌+◌, ◌-◌, All, take, length-drop, List, [], ◌∷◌, length, drop, arith, sym, ◌∙◌, cond, ap, subst, Result, Ok, Err, append-nil, Bool, true, false, nat_lt}
 use Rattle.std.proofs.lemmas.List.{take_all, drop_all, drop-drop}
 use borrow.Author.Tests.{le-ltb, lt-ltb}
 use Rattle.clsyntax_lex.specs.declared.token.Token.{Token}
@@ -8,15 +8,24 @@ use Rattle.clsyntax_lex.specs.declared.token.SyntaxFault.TheVariants.{TooLong}
 use Rattle.clsyntax_lex.specs.Tokens.{Text, IsNumberedBelow}
 use Rattle.clsyntax_lex.specs.Words.{built_in_names}
 use Rattle.clsyntax_lex.specs.Progress.{Advances}
-use Rattle.clsyntax_lex.specs.Lexing.{lexing, lexemes_from, completed, with_names}
+use Rattle.clsyntax_lex.specs.Lexing.{lexing, lexing_at_any_length, lexemes_from, completed, with_names, Lexes, LexesAtAnyLength}
 
 pub lexing-long : (source : List ℕ) → 65536 < length source → lexing source ≡ Err (TooLong 65536)
 unfolding lexing
-lexing-long source long = ap (λ b. cond b (Err (TooLong 65536)) (completed (length source) [] built_in_names (lexemes_from 0 0 source))) (lt-ltb 65536 (length source) long)
+lexing-long source long = ap (λ b. cond b (Err (TooLong 65536)) (lexing_at_any_length source)) (lt-ltb 65536 (length source) long)
 
-pub lexing-short : (source : List ℕ) → length source ≤ 65536 → lexing source ≡ completed (length source) [] built_in_names (lexemes_from 0 0 source)
+pub lexing-short : (source : List ℕ) → length source ≤ 65536 → lexing source ≡ lexing_at_any_length source
 unfolding lexing
-lexing-short source short = ap (λ b. cond b (Err (TooLong 65536)) (completed (length source) [] built_in_names (lexemes_from 0 0 source))) (le-ltb 65536 (length source) short)
+lexing-short source short = ap (λ b. cond b (Err (TooLong 65536)) (lexing_at_any_length source)) (le-ltb 65536 (length source) short)
+
+-- what a source is read as it is read as without the limit of length
+pub without_limit : (source : List ℕ) (text : Text) → Lexes source (Ok text) → LexesAtAnyLength source (Ok text)
+unfolding lexing
+without_limit source text e = by (nat_lt 65536 (length source)) e
+  where
+    by : (is_long : Bool) → cond is_long (Err (TooLong 65536)) (lexing_at_any_length source) ≡ Ok text → LexesAtAnyLength source (Ok text)
+    by true e = cc
+    by false e = e
 
 pub completed-end : (bytes at : ℕ) (tokens : List Token) (names : List (List ℕ)) (rest : List ℕ) → rest ≡ [] →
     completed bytes tokens names (lexemes_from at 0 rest) ≡ Ok (record { tokens = tokens; length = bytes; names = names })

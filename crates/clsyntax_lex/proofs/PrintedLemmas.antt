@@ -1,16 +1,15 @@
 -- Printed tokens are read back, with the same table of names.
-use Rattle.std.proofs.Common.{◌≡◌, ℕ, zero, suc, ◌+◌, ◌⊎◌, inl, inr, Bool, true, false, List, [], ◌∷◌, ◌++◌, map, length, take, refl, arith, sym, ◌∙◌, cond, ap, subst, Option, None, Some, Result, Ok, Err, All, fold, nat_lt, slice_get, length-append}
+use Rattle.std.proofs.Common.{◌≡◌, ℕ, zero, suc, ◌+◌, ◌⊎◌, inl, inr, Bool, true, false, List, [], ◌∷◌, ◌++◌, map, length, take, refl, arith, sym, ◌∙◌, ap, subst, Option, None, Some, Result, Ok, Err, All, fold, slice_get, length-append}
 use Rattle.std.specs.List.{cons_option, AllByRecursion}
 use Rattle.std.specs.Option.{unwrap_or}
 use Rattle.std.proofs.Math.Seq.{take-append_seam, drop-append_seam}
 use Rattle.clsyntax_lex.specs.declared.token.TokenKind.{TokenKind}
 use Rattle.clsyntax_lex.specs.declared.token.TokenKind.TheVariants as kinds
 use Rattle.clsyntax_lex.specs.declared.token.SyntaxFault.{SyntaxFault}
-use Rattle.clsyntax_lex.specs.declared.token.SyntaxFault.TheVariants.{TooLong}
 use Rattle.clsyntax_lex.specs.Tokens.{Text}
 use Rattle.clsyntax_lex.specs.Words.{reserved_words, symbols, built_in_names}
 use Rattle.clsyntax_lex.specs.Pieces.{piece_at}
-use Rattle.clsyntax_lex.specs.Lexing.{Lexeme, Named, Plain, Placed, placed, in_front, lexemes_from, place, with_text, with_name, with_names, token_of, completed, lexing, Lexes}
+use Rattle.clsyntax_lex.specs.Lexing.{Lexeme, Named, Plain, Placed, placed, in_front, lexemes_from, place, with_text, with_name, with_names, token_of, completed, lexing_at_any_length, LexesAtAnyLength}
 use Rattle.clsyntax_lex.specs.Spelling.{HasName, IsName, Spells, Reads, ended, gap, token}
 use Rattle.clsyntax_lex.specs.Printed.{spelled, text_of, name_number, names_in, kinds_of, IsWritable, ReadsAs}
 use Rattle.clsyntax_lex.proofs.StepLemmas.{gap_front, name_front, token_front}
@@ -70,17 +69,12 @@ record IsLexed (source : List ℕ) (text : Text) : Type 0 where
   good : AreGood lexemes
   is : text ≡ record { tokens = map (token_of (with_names built_in_names lexemes)) lexemes; length = length source; names = with_names built_in_names lexemes }
 
-lexing-IsLexed : (source : List ℕ) (text : Text) → Lexes source (Ok text) → IsLexed source text
-unfolding lexing
-lexing-IsLexed source text e = by (nat_lt 65536 (length source)) e
+lexing-IsLexed : (source : List ℕ) (text : Text) → LexesAtAnyLength source (Ok text) → IsLexed source text
+lexing-IsLexed source text e = read (lexemes_from 0 0 source) refl e
   where
     read : (found : Result (List Placed) SyntaxFault) → lexemes_from 0 0 source ≡ found → completed (length source) [] built_in_names found ≡ Ok text → IsLexed source text
     read (Err fault) is e = cc
     read (Ok ps) is e = record { lexemes = ps; good = reads-AreGood (sound 0 0 source ps is); is = cc }
-
-    by : (b : Bool) → cond b (Err (TooLong 65536)) (completed (length source) [] built_in_names (lexemes_from 0 0 source)) ≡ Ok text → IsLexed source text
-    by true e = cc
-    by false e = read (lexemes_from 0 0 source) refl e
 
 writable-at : (names : List (List ℕ)) (ps : List Placed) → AreGood ps → All IsWritable (kinds_of (map (token_of names) ps))
 unfolding AreGood
@@ -92,7 +86,7 @@ writable-at names (p ∷ ps) good zero d inside = by p.lexeme good.0
     by (Plain kind) is = is.1
 writable-at names (p ∷ ps) good (suc k) d inside = writable-at names ps good.1 k d (omega arith)
 
-pub tokens_writable : (source : List ℕ) (text : Text) → Lexes source (Ok text) → All IsWritable (kinds_of text.tokens)
+pub tokens_writable : (source : List ℕ) (text : Text) → LexesAtAnyLength source (Ok text) → All IsWritable (kinds_of text.tokens)
 tokens_writable source text e =
     let lexed = lexing-IsLexed source text e in
     subst (λ text. All IsWritable (kinds_of text.tokens)) (sym lexed.is) (writable-at (with_names built_in_names lexed.lexemes) lexed.lexemes lexed.good)
@@ -235,11 +229,11 @@ printed-ReadsAs ps tokens good writable same =
     names_same : with_names built_in_names back.lexemes ≡ with_names built_in_names ps
     names_same = with_names-texts built_in_names back.lexemes ∙ ap (fold with_text built_in_names) back.texts_are ∙ sym (with_names-texts built_in_names ps)
 
-    whole : completed (length (text_of table tokens)) [] built_in_names (lexemes_from 0 0 (text_of table tokens))
+    whole : lexing_at_any_length (text_of table tokens)
         ≡ Ok (record { tokens = map (token_of (with_names built_in_names back.lexemes)) back.lexemes; length = length (text_of table tokens); names = with_names built_in_names back.lexemes })
     whole = ap (completed (length (text_of table tokens)) [] built_in_names) back.read
 
-pub tokens_read_back : (source : List ℕ) (text : Text) (tokens : List TokenKind) → Lexes source (Ok text) → All IsWritable tokens → names_in tokens ≡ names_in (kinds_of text.tokens)
+pub tokens_read_back : (source : List ℕ) (text : Text) (tokens : List TokenKind) → LexesAtAnyLength source (Ok text) → All IsWritable tokens → names_in tokens ≡ names_in (kinds_of text.tokens)
     → ReadsAs (text_of text.names tokens) tokens text.names
 tokens_read_back source text tokens e writable same =
     let lexed = lexing-IsLexed source text e in

@@ -1,13 +1,12 @@
 -- A source without a fault is its lexemes, with white space round them.
-use Rattle.std.proofs.Common.{◌≡◌, ℕ, zero, suc, ◌<◌, ◌+◌, ◌-◌, Bool, true, false, List, [], ◌∷◌, map, length, take, drop, refl, arith, sym, cond, subst, Result, Ok, Err, nat_lt}
+use Rattle.std.proofs.Common.{◌≡◌, ℕ, zero, suc, ◌<◌, ◌+◌, ◌-◌, List, [], ◌∷◌, map, length, take, drop, refl, arith, sym, subst, Result, Ok, Err}
 use Rattle.clsyntax_lex.specs.declared.token.SyntaxFault.{SyntaxFault}
-use Rattle.clsyntax_lex.specs.declared.token.SyntaxFault.TheVariants.{TooLong}
 use Rattle.clsyntax_lex.specs.declared.pieces.Piece.{Piece}
 use Rattle.clsyntax_lex.specs.declared.pieces.Piece.TheVariants as pieces
 use Rattle.clsyntax_lex.specs.Tokens.{Text}
 use Rattle.clsyntax_lex.specs.Words.{built_in_names}
 use Rattle.clsyntax_lex.specs.Pieces.{piece_at, FitsIn}
-use Rattle.clsyntax_lex.specs.Lexing.{Named, Plain, Placed, placed, in_front, with_piece, lexemes_from, with_names, token_of, completed, lexing, Lexes}
+use Rattle.clsyntax_lex.specs.Lexing.{Named, Plain, Placed, placed, in_front, with_piece, lexemes_from, with_names, token_of, completed, LexesAtAnyLength}
 use Rattle.clsyntax_lex.specs.Spelling.{Reads, ended, gap, token, IsReading}
 use Rattle.clsyntax_lex.proofs.FitLemmas.{piece_at-FitsIn}
 use Rattle.clsyntax_lex.proofs.TableLemmas.{with_names-IsNameTable}
@@ -46,16 +45,11 @@ sound at zero (b ∷ bytes) ps e =
     by (pieces.Bad further) fits is e others = cc
     by pieces.TooLarge fits is e others = cc
 
-pub lexing-IsReading : (source : List ℕ) (text : Text) → Lexes source (Ok text) → IsReading source text
-unfolding lexing
-lexing-IsReading source text e = by (nat_lt 65536 (length source)) e
+pub lexing-IsReading : (source : List ℕ) (text : Text) → LexesAtAnyLength source (Ok text) → IsReading source text
+lexing-IsReading source text e = read (lexemes_from 0 0 source) refl e
   where
     read : (found : Result (List Placed) SyntaxFault) → lexemes_from 0 0 source ≡ found → completed (length source) [] built_in_names found ≡ Ok text → IsReading source text
     read (Err fault) is e = cc
     read (Ok ps) is e =
         let same : record { tokens = map (token_of (with_names built_in_names ps)) ps; length = length source; names = with_names built_in_names ps } ≡ text = cc in
         subst (IsReading source) same (record { lexemes = ps; reads = sound 0 0 source ps is; length = refl; tokens = refl; names = with_names-IsNameTable ps })
-
-    by : (b : Bool) → cond b (Err (TooLong 65536)) (completed (length source) [] built_in_names (lexemes_from 0 0 source)) ≡ Ok text → IsReading source text
-    by true e = cc
-    by false e = read (lexemes_from 0 0 source) refl e

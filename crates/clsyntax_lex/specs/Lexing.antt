@@ -75,11 +75,17 @@ completed bytes tokens names (Ok ps) =
     let table = with_names names ps in Ok (record { tokens = tokens ++ map (token_of table) ps; length = bytes; names = table })
 completed bytes tokens names (Err fault) = Err fault
 
--- A source has at most 65,536 bytes. The table of names begins with the built-in ones.
+-- what bytes are read as, however many they are. The table of names begins with the built-in ones.
+abbrev pub lexing_at_any_length : List ℕ → Result Text SyntaxFault
+lexing_at_any_length bytes = completed (length bytes) [] built_in_names (lexemes_from 0 0 bytes)
+
+-- A source has at most 65,536 bytes.
 unfoldable pub lexing : List ℕ → Result Text SyntaxFault
-lexing source =
-    if nat_lt 65536 (length source) then Err (TooLong 65536)
-    else completed (length source) [] built_in_names (lexemes_from 0 0 source)
+lexing source = if nat_lt 65536 (length source) then Err (TooLong 65536) else lexing_at_any_length source
+
+-- the bytes, however many, are read as this text, or have this fault
+abbrev pub LexesAtAnyLength : List ℕ → Result Text SyntaxFault → Type 0
+LexesAtAnyLength bytes result = lexing_at_any_length bytes ≡ result
 
 -- the source is read as this text, or has this fault
 abbrev pub Lexes : List ℕ → Result Text SyntaxFault → Type 0

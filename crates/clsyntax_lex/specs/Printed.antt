@@ -8,8 +8,7 @@ use Rattle.clsyntax_lex.specs.declared.token.Token.{Token}
 use Rattle.clsyntax_lex.specs.declared.token.TokenKind.{TokenKind}
 use Rattle.clsyntax_lex.specs.declared.token.TokenKind.TheVariants as kinds
 use Rattle.clsyntax_lex.specs.Tokens.{Text}
-use Rattle.clsyntax_lex.specs.Words.{built_in_names}
-use Rattle.clsyntax_lex.specs.Lexing.{lexemes_from, completed, Lexes}
+use Rattle.clsyntax_lex.specs.Lexing.{Lexes, LexesAtAnyLength}
 use Rattle.clsyntax_lex.specs.Spelling.{IsNumber}
 
 -- the suffix of a number of a type (C99 6.4.4.1)
@@ -114,10 +113,10 @@ IsWritable (kinds.Number value) = (text : List ℕ) × IsNumber text value
 IsWritable _ = Unit {0}
 
 -- bytes, however many, are read as tokens of these kinds with this table of names
-pub record ReadsAs (source : List ℕ) (tokens : List TokenKind) (names : List (List ℕ)) : Type 0 where
+pub record ReadsAs (bytes : List ℕ) (tokens : List TokenKind) (names : List (List ℕ)) : Type 0 where
   pub text : Text
-  pub read : completed (length source) [] built_in_names (lexemes_from 0 0 source) ≡ Ok text
+  pub read : LexesAtAnyLength bytes (Ok text)
   pub tokens_are : kinds_of text.tokens ≡ tokens
   pub names_are : text.names ≡ names
   -- so they are as a source, unless they are too long for one
-  pub lexes : length source ≤ 65536 → Lexes source (Ok text)
+  pub lexes : length bytes ≤ 65536 → Lexes bytes (Ok text)

@@ -5,3 +5,4 @@ pub mod PrintedTerms
 pub mod PrintedStatements
 pub mod PrintedPrograms
 pub mod PrintedWords
+pub mod PlainPrinted

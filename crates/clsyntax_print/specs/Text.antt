@@ -1,31 +1,22 @@
 -- The text that a program is printed as, and what texts stand for.
-use Rattle.std.specs.Prelude.{◌≡◌, ℕ, List, [], length, Ok}
+use Rattle.std.specs.Prelude.{◌≡◌, ℕ, ◌≤◌, List, length, Ok}
 use Rattle.clmodel.specs.Tree.{Program}
 use Rattle.clsyntax_lex.specs.Tokens.{Text}
-use Rattle.clsyntax_lex.specs.Words.{built_in_names}
-use Rattle.clsyntax_lex.specs.Lexing.{lexemes_from, completed, Lexes}
+use Rattle.clsyntax_lex.specs.Lexing.{LexesAtAnyLength}
 use Rattle.clsyntax_lex.specs.Printed.{text_of}
 use Rattle.clsyntax_terms.specs.Grammar.{Placed}
-use Rattle.clsyntax.specs.Correct.{tokens, IsProgram}
+use Rattle.clsyntax.specs.Correct.{tokens, IsProgram, IsWithin}
+use Rattle.clsyntax.specs.Source.{IsSource}
 use Rattle.clsyntax_print.specs.Printing.{plain_funcs, printed}
 
 -- each token of the program, and a space behind it
 abbrev pub printed_text : Program → List ℕ
 printed_text p = text_of p.names (printed p.functions)
 
--- The source has these tokens and names, and they are the program. How deep tokens are nested is set aside.
-pub record IsOfGrammar (source : List ℕ) (p : Program) : Type 0 where
-  pub text : Text
-  pub lexes : Lexes source (Ok text)
-  pub placed : List Placed
-  pub same : tokens placed ≡ text.tokens
-  pub program : IsProgram placed p.functions
-  pub names : p.names ≡ text.names
-
--- The bytes, however many and however deep their tokens are nested, have tokens and names that are the program, offsets aside.
+-- The bytes, however many and however deep their tokens are nested, have tokens and names that are the program, offsets aside (own).
 pub record StandsFor (bytes : List ℕ) (p : Program) : Type 0 where
   pub text : Text
-  pub lexed : completed (length bytes) [] built_in_names (lexemes_from 0 0 bytes) ≡ Ok text
+  pub lexed : LexesAtAnyLength bytes (Ok text)
   pub placed : List Placed
   pub same : tokens placed ≡ text.tokens
   pub again : Program
@@ -33,3 +24,12 @@ pub record StandsFor (bytes : List ℕ) (p : Program) : Type 0 where
   pub functions : plain_funcs again.functions ≡ plain_funcs p.functions
   pub names_read : again.names ≡ text.names
   pub names : again.names ≡ p.names
+
+-- a tree of the grammar: one that some bytes stand for
+abbrev pub IsOfGrammar : Program → Type 0
+IsOfGrammar p = (bytes : List ℕ) × StandsFor bytes p
+
+-- The bytes stand for the program, and are a source of it where they are within the limits of length and nesting of a source.
+pub record IsReadBack (bytes : List ℕ) (p : Program) : Type 0 where
+  pub stands : StandsFor bytes p
+  pub source : length bytes ≤ 65536 → IsWithin stands.placed → IsSource bytes (Ok stands.again)

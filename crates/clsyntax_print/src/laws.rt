@@ -5,7 +5,9 @@ ghost use Rattle.std.specs.Prelude.{ℕ, List, Ok};
 ghost use Rattle.clmodel.specs.Tree.{Program};
 ghost use Rattle.clsyntax.specs.Source.{IsSource};
 ghost use Rattle.clsyntax_print.specs.Printing.{IsPrinted, HasWords};
-ghost use Rattle.clsyntax_print.specs.Text.{IsOfGrammar};
+ghost use Rattle.clsyntax_print.specs.Text.{StandsFor};
+
+use clsyntax_lex::laws::length_changes_nothing;
 
 /// The tokens that a program's tree is printed as, wherever they begin, are a program with the same tree, offsets aside. They have
 /// the program's names and numbers, in their order. The limit of nesting is set aside.
@@ -14,7 +16,9 @@ pub fn printed_again()
     ensures words { HasWords }
 {}
 
-/// What a source is read as is of the grammar, so that it can be printed.
+/// A source stands for what it is read as, which therefore is a tree of the grammar.
 pub fn sources_are_of_the_grammar()
-    ensures { (source : List ℕ) (p : Program) → IsSource source (Ok p) → IsOfGrammar source p }
-{}
+    ensures { (source : List ℕ) (p : Program) → IsSource source (Ok p) → StandsFor source p }
+{
+    length_changes_nothing();
+}

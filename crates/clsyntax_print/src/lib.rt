@@ -1,10 +1,9 @@
 //! From a syntax tree back to text.
 #![tactic(auto)]
 
-ghost use Rattle.std.specs.Prelude.{ℕ, List};
 ghost use Rattle.clmodel.specs.Tree.{program};
 ghost use Rattle.ends.specs.Sink.{Puts};
-ghost use Rattle.clsyntax_print.specs.Text.{printed_text, IsOfGrammar, StandsFor};
+ghost use Rattle.clsyntax_print.specs.Text.{printed_text, IsOfGrammar, IsReadBack};
 
 mod expressions;
 mod functions;
@@ -25,13 +24,13 @@ pub enum PrintFault {
 }
 
 /// Prints a program as OpenCL C: its tokens with a space behind each, and only the round brackets that it needs (C99 6.4 to 6.9).
-/// A tree that was read from a source is printed as a source of the same tree, but for offsets, however long and however deeply
-/// nested it comes out. Takes no memory.
+/// A tree that some text stands for, of any length and nesting, is printed as a text that stands for the same tree, but for offsets;
+/// and this text is read back as that tree where it has at most 65,536 bytes and is nested at most 64 deep. Takes no memory.
 ///
 /// `Write` comes where the writer fails; then a beginning of the text may have been written.
 pub fn print<W: Write>(tree: &Tree, writer: &mut W) -> Result<(), PrintFault>
     ensures text { Puts (W.sink writer.old) result (W.sink writer.new) (printed_text (program tree.now)) }
-    ensures again { (source : List ℕ) → IsOfGrammar source (program tree.now) → StandsFor (printed_text (program tree.now)) (program tree.now) }
+    ensures again { IsOfGrammar (program tree.now) → IsReadBack (printed_text (program tree.now)) (program tree.now) }
 {
     match write_functions(&tree.functions, &tree.names, writer) {
         Ok(()) => Ok(()),
