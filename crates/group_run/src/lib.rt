@@ -13,7 +13,7 @@ mod running;
 mod runs;
 mod words;
 
-pub use describing::Described;
+pub use describing::{Described, conflict_fault};
 pub use result::GroupResult;
 pub use runnable::Runnable;
 pub use running::run_group;

@@ -44,7 +44,7 @@ fn start_items<'a, D: Runnable>(
     requires { first + count < 2 ^ 32 }
     ensures { IfOk result (λ items. AreStarted (D.Described.launch launch.now) first count items.items) }
 {
-    let mut items = Vec::new(alloc);
+    let mut items = Vec::with_capacity(alloc, count as usize)?;
     for k in 0..count {
         items.push(launch.start(alloc, first + k)?)?;
     }

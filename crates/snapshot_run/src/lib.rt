@@ -1,0 +1,8 @@
+//! The run of one work-group of a launch on overlays of the launch's buffers.
+#![tactic(auto)]
+
+mod groups;
+mod loaded;
+
+pub use groups::one_group;
+pub use loaded::LoadedLaunch;
