@@ -1,3 +1,4 @@
 pub mod Chains
 pub mod Hits
+pub mod Agreeing
 pub mod Recent

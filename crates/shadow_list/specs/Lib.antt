@@ -1,3 +1,4 @@
 pub mod Index
+pub mod Kinds
 pub mod Log
 pub mod Past

@@ -6,7 +6,8 @@ ghost use Rattle.shadow_list.specs.Index.{mark, key, key_of, newest_of, IsIndexe
 ghost use Rattle.shadow_list.specs.Log.{IsPlaced, IsThere, hit};
 ghost use Rattle.shadow_list.specs.declared.log.Entry.{Entry as TheEntry};
 
-use crate::compare::{byte_count, may_conflict};
+use crate::compare::may_conflict;
+use crate::kinds::byte_count;
 use crate::log::{Entry, Hit};
 use crate::search::{hit, is_same};
 use clmodel::access::{Access, Region};

@@ -3,9 +3,11 @@
 
 mod compare;
 mod index;
+mod kinds;
 pub mod list;
 pub mod log;
 mod search;
 
+pub use kinds::{byte_count, clash, kind_number};
 pub use list::ListLog;
 pub use log::{AccessLog, Accesses, Entry, Fenced, Hit};

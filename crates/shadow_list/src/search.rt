@@ -4,7 +4,8 @@ ghost use Rattle.std.specs.Prelude.{◌≡◌, ◌+◌, ◌<◌, ◌^◌, ℕ, f
 ghost use Rattle.clmodel.specs.Cells.{byte_count};
 ghost use Rattle.shadow_list.specs.Log.{IsPlaced, hit_on, hit_from, hit};
 
-use crate::compare::{byte_count, hit_between, may_conflict};
+use crate::compare::{hit_between, may_conflict};
+use crate::kinds::byte_count;
 use crate::log::{Entry, Hit};
 use clmodel::access::Access;
 

@@ -1,0 +1,76 @@
+//! Widths and kinds of accesses.
+
+ghost use Rattle.std.specs.Prelude.{◌≡◌, ◌<◌, ◌≤◌};
+ghost use Rattle.clmodel.specs.Cells.{byte_count};
+ghost use Rattle.clmodel.specs.Launch.{class_number, clash};
+ghost use Rattle.shadow_list.specs.Kinds.{kind_number};
+
+use clmodel::access::{AccessKind, Clash, Class, Width};
+
+/// How many bytes an element of a width has.
+pub fn byte_count(width: Width) -> u64
+    ensures value { result ≡ byte_count width }
+    ensures some { 0 < result }
+    ensures short { result ≤ 8 }
+{
+    match width {
+        Width::One => 1,
+        Width::Two => 2,
+        Width::Four => 4,
+        Width::Eight => 8,
+    }
+}
+
+/// The number of a class.
+fn class_number(class: Class) -> u8
+    ensures value { result ≡ class_number class }
+    ensures small { result < 8 }
+{
+    match class {
+        Class::Add => 0,
+        Class::And => 1,
+        Class::Or => 2,
+        Class::Xor => 3,
+        Class::SignedMin => 4,
+        Class::UnsignedMin => 5,
+        Class::SignedMax => 6,
+        Class::UnsignedMax => 7,
+    }
+}
+
+/// The number of a kind: kinds that don't conflict with one another have the same.
+pub fn kind_number(kind: AccessKind) -> u8
+    ensures value { result ≡ kind_number kind }
+    ensures small { result < 10 }
+{
+    match kind {
+        AccessKind::Load => 8,
+        AccessKind::Store => 9,
+        AccessKind::Update(class) => class_number(class),
+    }
+}
+
+/// How two kinds of accesses conflict, if they do (OpenCL 1.2, section 3.3.1).
+pub fn clash(kind: AccessKind, other: AccessKind) -> Option<Clash>
+    ensures { result ≡ clash kind other }
+{
+    match kind {
+        AccessKind::Load => match other {
+            AccessKind::Load => None,
+            AccessKind::Store => Some(Clash::Race),
+            AccessKind::Update(_) => Some(Clash::Race),
+        },
+        AccessKind::Store => Some(Clash::Race),
+        AccessKind::Update(class) => match other {
+            AccessKind::Load => Some(Clash::Race),
+            AccessKind::Store => Some(Clash::Race),
+            AccessKind::Update(other_class) => {
+                if class_number(class) == class_number(other_class) {
+                    None
+                } else {
+                    Some(Clash::Order)
+                }
+            }
+        },
+    }
+}
