@@ -3,28 +3,22 @@ use Rattle.std.specs.Prelude.{◌≡◌, ℕ, zero, suc, ◌/◌, ◌%◌, ◌<�
 use Rattle.std.specs.declared.alloc.Global.{Global}
 use Rattle.std.specs.Option.{option_map}
 use Rattle.clmodel.specs.Cells.{byte_count}
-use Rattle.clmodel.specs.Launch.{class_number, clash, conflict_between}
+use Rattle.clmodel.specs.Launch.{clash, conflict_between}
 use Rattle.clmodel.specs.Run.{or_else}
 use Rattle.clmodel.specs.Law.{Logged, conflict_from}
 use Rattle.clmodel.specs.declared.access.Access.{Access}
 use Rattle.clmodel.specs.declared.access.AccessKind.{AccessKind}
-use Rattle.clmodel.specs.declared.access.AccessKind.TheVariants as kind
 use Rattle.clmodel.specs.declared.access.Region.{Region}
 use Rattle.clmodel.specs.declared.access.Region.TheVariants as region
 use Rattle.clmodel.specs.declared.access.Conflict as conflict_type
 use Rattle.joining.specs.Memory.{writes, at_byte}
+use Rattle.shadow_list.specs.Kinds.{kind_number}
 use Rattle.shadow.specs.declared.seen.Mark.{Mark}
 use Rattle.shadow.specs.declared.seen.Meeting.{Meeting}
 use Rattle.shadow.specs.declared.pages.Pages.{Pages}
 use Rattle.shadow.specs.declared.footprint.Footprint.{Footprint}
 use Rattle.shadow.specs.declared.seen.Seen.{Seen}
 use Rattle.shadow.specs.declared.seen.Seen.TheVariants.{Untouched, Touched, Mixed}
-
--- a number for each kind
-abbrev pub kind_number : AccessKind → ℕ
-kind_number kind.Load = 8
-kind_number kind.Store = 9
-kind_number (kind.Update class) = class_number class
 
 -- a byte with one access more: the first access is kept, and the first of another kind than it
 abbrev pub seen_with : Seen → Mark → Seen

@@ -4,8 +4,8 @@ ghost use Rattle.std.specs.Prelude.{◌≡◌};
 ghost use Rattle.joining.specs.Memory.{writes};
 ghost use Rattle.shadow.specs.Seen.{seen_with, is_written, met, against};
 
-use crate::kinds::{clash, kind_number};
 use clmodel::access::{AccessKind, Clash};
+use shadow_list::{clash, kind_number};
 
 /// Who accessed a byte, and how.
 #[derive(Clone, Copy)]
