@@ -1,4 +1,4 @@
-pub mod Chains
-pub mod Hits
 pub mod Agreeing
-pub mod Recent
+pub mod Hits
+pub mod Indexed
+pub mod Past

@@ -1,11 +1,14 @@
 //! Access logs of work-groups: which accesses conflict.
 #![tactic(auto)]
 
+mod cells;
 mod compare;
 mod index;
 mod kinds;
 pub mod list;
 pub mod log;
+mod marks;
+mod recent;
 mod search;
 
 pub use kinds::{byte_count, clash, kind_number};
