@@ -1,7 +1,7 @@
 //! Cells of eight bytes.
 
-ghost use Rattle.std.specs.Prelude.{◌≡◌, ◌+◌, ◌≤◌, ℕ, length, Some, nat_eq};
-ghost use Rattle.std.specs.HashMap.{get};
+ghost use Rattle.std.specs.Prelude.{◌≡◌, ◌+◌, ◌≤◌, ℕ, [], length, Some, nat_eq};
+ghost use Rattle.std.specs.HashMap.{get, IsEmpty};
 
 use crate::recent::Recent;
 use std::alloc::Global;
@@ -17,7 +17,10 @@ pub(crate) struct Cells {
 
 impl Cells {
     /// No cells. It takes no memory.
-    pub(crate) fn new(alloc: Global) -> Self {
+    pub(crate) fn new(alloc: Global) -> Self
+        ensures starts { IsEmpty result.starts }
+        ensures bytes { result.bytes.items ≡ [] }
+    {
         Cells {
             starts: HashMap::new(alloc),
             bytes: Vec::new(alloc),
@@ -25,7 +28,10 @@ impl Cells {
     }
 
     /// Forgets all accesses, and keeps the memory.
-    pub(crate) fn clear(&mut self) {
+    pub(crate) fn clear(&mut self)
+        ensures starts { IsEmpty self.new.starts }
+        ensures bytes { self.new.bytes.items ≡ [] }
+    {
         self.starts.clear();
         self.bytes.clear();
     }

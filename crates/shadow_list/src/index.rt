@@ -1,6 +1,7 @@
 //! Where the accesses of a log are, and what of them is kept at each byte.
 
 ghost use Rattle.std.specs.Prelude.{◌≡◌, ◌+◌, ◌*◌, ◌<◌, ◌≤◌, ◌^◌, ℕ, length, [], ◌∷◌, ◌++◌, if◌then◌else◌, All, IsTrue, is_ok, false, true, drop};
+ghost use Rattle.std.specs.HashMap.{IsEmpty};
 ghost use Rattle.clmodel.specs.Cells.{byte_count};
 ghost use Rattle.shadow_list.specs.Index.{access_key, newest_of, IsIndexed};
 ghost use Rattle.shadow_list.specs.Log.{IsPlaced, IsThere, hit};
@@ -35,7 +36,10 @@ fn access_key(x: &Access) -> u64
 impl Index {
     /// The index of a log without accesses. It takes no memory.
     pub(crate) fn new(alloc: Global) -> Self
-        ensures { IsIndexed [] result }
+        ensures indexed { IsIndexed [] result }
+        ensures newest { IsEmpty result.newest }
+        ensures starts { IsEmpty result.cells.starts }
+        ensures bytes { result.cells.bytes.items ≡ [] }
     {
         Index {
             newest: HashMap::new(alloc),
@@ -45,7 +49,10 @@ impl Index {
 
     /// Forgets all accesses, and keeps the memory.
     pub(crate) fn clear(&mut self)
-        ensures { IsIndexed [] self.new }
+        ensures indexed { IsIndexed [] self.new }
+        ensures newest { IsEmpty self.new.newest }
+        ensures starts { IsEmpty self.new.cells.starts }
+        ensures bytes { self.new.cells.bytes.items ≡ [] }
     {
         self.newest.clear();
         self.cells.clear();
