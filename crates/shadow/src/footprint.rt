@@ -3,12 +3,14 @@
 ghost use Rattle.std.specs.Prelude.{◌≡◌, ◌+◌, ◌<◌, ◌≤◌, ◌∷◌, ◌^◌, [], ℕ, List, length, OnOk, OnErr};
 ghost use Rattle.clmodel.specs.Cells.{byte_count};
 ghost use Rattle.clmodel.specs.declared.access.Access.{Access as TheAccess};
+ghost use Rattle.clmodel.specs.declared.access.Region.TheVariants as region;
+ghost use Rattle.joining.specs.Memory.{wrote};
 ghost use Rattle.shadow.specs.Seen.{cell, cells_of, OfOthers, InBuffer, meeting};
 
-use crate::kinds::byte_count;
 use crate::pages::{Pages, mark_all};
-use crate::seen::{Mark, Meeting};
+use crate::seen::{Mark, Meeting, is_written};
 use clmodel::access::{Access, Region};
+use shadow_list::byte_count;
 use std::alloc::{AllocError, Global};
 
 /// What is kept of the accesses of work-groups so far to each byte of the launch's buffers: the first access, and the first of another kind.
@@ -54,7 +56,17 @@ impl Footprint {
         };
         match self.buffers.get(number as usize) {
             None => None,
-            Some(pages) => pages.against(x.kind, x.first as usize, byte_count(x.width)),
+            Some(pages) => pages.against(x.kind, x.first as usize, byte_count(x.width) as usize),
+        }
+    }
+
+    /// Whether an access wrote a byte of a buffer.
+    pub fn is_written(&self, number: u32, byte: u64) -> bool
+        ensures { (log : List TheAccess) → Keeps self.now log → result ≡ wrote log (region.Buffer number) byte }
+    {
+        match self.buffers.get(number as usize) {
+            None => false,
+            Some(pages) => is_written(pages.cell(byte as usize)),
         }
     }
 
@@ -68,7 +80,7 @@ impl Footprint {
             return Ok(());
         };
         let first = x.first as usize;
-        let count = byte_count(x.width);
+        let count = byte_count(x.width) as usize;
         make_room(alloc, &mut self.buffers, number as usize)?;
         let touched = &mut self.buffers[number as usize];
         touched.make(alloc, first / 256)?;

@@ -3,7 +3,6 @@
 #![tactic(auto)]
 
 mod footprint;
-mod kinds;
 mod pages;
 mod seen;
 

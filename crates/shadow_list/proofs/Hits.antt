@@ -20,7 +20,7 @@ and_right : (a b : Bool) → b ≡ false → (a && b) ≡ false
 and_right true b h = h
 and_right false b h = refl
 
-and_left : (a b : Bool) → a ≡ false → (a && b) ≡ false
+pub and_left : (a b : Bool) → a ≡ false → (a && b) ≡ false
 and_left true b h = absurd (false≢true (sym h))
 and_left false b h = refl
 
@@ -33,7 +33,7 @@ unless_both g x y byte h = ap (λ z. if z then clash x.kind y.kind else None) h
 pub ordered : (g : Bool) (x y : Access) (byte : ℕ) → unordered g x y ≡ false → conflict_between g x y byte ≡ None
 ordered g x y byte h = unless_both g x y byte (and_left (unordered g x y) (share x y byte) h)
 
-not_shared : (g : Bool) (x y : Access) (byte : ℕ) → share x y byte ≡ false → conflict_between g x y byte ≡ None
+pub not_shared : (g : Bool) (x y : Access) (byte : ℕ) → share x y byte ≡ false → conflict_between g x y byte ≡ None
 not_shared g x y byte h = unless_both g x y byte (and_right (unordered g x y) (share x y byte) h)
 
 pub other_region : (g : Bool) (x y : Access) (byte : ℕ) → same_region x.region y.region ≡ false → conflict_between g x y byte ≡ None
@@ -42,7 +42,7 @@ other_region g x y byte h =
     (and_left (same_region x.region y.region && covers x.first (byte_count x.width) byte) (covers y.first (byte_count y.width) byte)
     (and_left (same_region x.region y.region) (covers x.first (byte_count x.width) byte) h))
 
-covered : (first count byte : ℕ) → covers first count byte ≡ true → (first ≤ byte) × (byte < first + count)
+pub covered : (first count byte : ℕ) → covers first count byte ≡ true → (first ≤ byte) × (byte < first + count)
 covered first count byte h =
     let r : (nat_le first byte ≡ true) × (nat_lt byte (first + count) ≡ true) = and_parts (nat_le first byte) (nat_lt byte (first + count)) h in
     (leb-true first byte r.0, ltb-true byte (first + count) r.1)

@@ -1,3 +1,4 @@
-pub mod Chains
+pub mod Agreeing
 pub mod Hits
-pub mod Recent
+pub mod Indexed
+pub mod Past

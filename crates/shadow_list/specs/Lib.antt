@@ -1,3 +1,6 @@
+pub mod Cells
 pub mod Index
+pub mod Kinds
 pub mod Log
 pub mod Past
+pub mod Recent

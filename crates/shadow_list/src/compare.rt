@@ -1,66 +1,13 @@
 //! How two accesses conflict.
 
-ghost use Rattle.std.specs.Prelude.{◌≡◌, ◌+◌, ◌<◌, ◌≤◌, ◌^◌, ℕ, false, None};
+ghost use Rattle.std.specs.Prelude.{◌≡◌, ◌+◌, ◌<◌, ◌^◌, ℕ, false, None};
 ghost use Rattle.clmodel.specs.Cells.{byte_count, covers};
-ghost use Rattle.clmodel.specs.Launch.{class_number, clash, unordered, share, same_region, conflict_between};
+ghost use Rattle.clmodel.specs.Launch.{unordered, share, same_region, conflict_between};
 ghost use Rattle.shadow_list.specs.Log.{IsPlaced, hit_between};
 
+use crate::kinds::{byte_count, clash};
 use crate::log::{Entry, Hit};
-use clmodel::access::{Access, AccessKind, Clash, Class, Region, Width};
-
-/// How many bytes an element of a width has.
-pub fn byte_count(width: Width) -> u64
-    ensures value { result ≡ byte_count width }
-    ensures short { result ≤ 8 }
-{
-    match width {
-        Width::One => 1,
-        Width::Two => 2,
-        Width::Four => 4,
-        Width::Eight => 8,
-    }
-}
-
-/// The number of a class.
-fn class_number(class: Class) -> u8
-    ensures { result ≡ class_number class }
-{
-    match class {
-        Class::Add => 0,
-        Class::And => 1,
-        Class::Or => 2,
-        Class::Xor => 3,
-        Class::SignedMin => 4,
-        Class::UnsignedMin => 5,
-        Class::SignedMax => 6,
-        Class::UnsignedMax => 7,
-    }
-}
-
-/// How two kinds conflict.
-fn clash(kind: AccessKind, other: AccessKind) -> Option<Clash>
-    ensures { result ≡ clash kind other }
-{
-    match kind {
-        AccessKind::Load => match other {
-            AccessKind::Load => None,
-            AccessKind::Store => Some(Clash::Race),
-            AccessKind::Update(_) => Some(Clash::Race),
-        },
-        AccessKind::Store => Some(Clash::Race),
-        AccessKind::Update(class) => match other {
-            AccessKind::Load => Some(Clash::Race),
-            AccessKind::Store => Some(Clash::Race),
-            AccessKind::Update(other_class) => {
-                if class_number(class) == class_number(other_class) {
-                    None
-                } else {
-                    Some(Clash::Order)
-                }
-            }
-        },
-    }
-}
+use clmodel::access::{Access, Clash, Region};
 
 /// Whether two regions are one.
 fn same_region(a: Region, b: Region) -> bool

@@ -1,68 +1,61 @@
-//! Where the accesses of a cell are in a log.
+//! Where the accesses of a log are, and what of them is kept at each byte.
 
-ghost use Rattle.std.specs.Prelude.{◌≡◌, ◌+◌, ◌*◌, ◌<◌, ◌≤◌, ◌^◌, ℕ, length, [], ◌∷◌, ◌++◌, if◌then◌else◌, Some, None, All, IsTrue, is_ok, false, true, drop, slice_get};
+ghost use Rattle.std.specs.Prelude.{◌≡◌, ◌+◌, ◌*◌, ◌<◌, ◌≤◌, ◌^◌, ℕ, length, [], ◌∷◌, ◌++◌, if◌then◌else◌, All, IsTrue, is_ok, false, true, drop};
+ghost use Rattle.std.specs.HashMap.{IsEmpty};
 ghost use Rattle.clmodel.specs.Cells.{byte_count};
-ghost use Rattle.shadow_list.specs.Index.{mark, key, key_of, newest_of, IsIndexed, Passes};
+ghost use Rattle.shadow_list.specs.Index.{access_key, newest_of, IsIndexed};
 ghost use Rattle.shadow_list.specs.Log.{IsPlaced, IsThere, hit};
-ghost use Rattle.shadow_list.specs.declared.log.Entry.{Entry as TheEntry};
 
-use crate::compare::{byte_count, may_conflict};
+use crate::cells::Cells;
+use crate::kinds::{byte_count, kind_number};
 use crate::log::{Entry, Hit};
-use crate::search::{hit, is_same};
-use clmodel::access::{Access, Region};
+use crate::marks::object;
+use crate::search::{hit, is_among, is_same};
+use clmodel::access::Access;
 use std::alloc::{AllocError, Global};
 use std::collections::HashMap;
 
-/// The place of the newest access of each cell in a log, and for each access that of the one before it in its cell. A place
-/// counts the accesses up to one and with it, and 0 stands for none.
+/// The place of the newest access of each key in a log, and what is kept of the accesses at each byte. A place counts the accesses up
+/// to one and with it, and 0 stands for none.
 #[derive(Drop)]
 pub(crate) struct Index {
     pub(crate) newest: HashMap<u64, usize>,
-    pub(crate) before: Vec<usize>,
+    pub(crate) cells: Cells,
 }
 
-/// The number of a memory object, up to multiples of 8.
-fn mark(region: Region) -> u64
-    ensures value { result ≡ mark region }
-    ensures short { result < 8 }
+/// The key of an access, which no other has of its group and its interval: as long as buffers have at most 2^28 bytes, groups at most
+/// 2^16 items, and a launch at most 2^11 buffers.
+fn access_key(x: &Access) -> u64
+    ensures { result ≡ access_key x.now }
 {
-    match region {
-        Region::Buffer(number) => (number % 8) as u64,
-        Region::Local { group: _, number } => (number % 8) as u64,
-    }
-}
-
-/// The key of a cell of eight bytes.
-fn key(region: Region, cell: u64) -> u64
-    requires { cell < 2 ^ 61 }
-    ensures { result ≡ key region cell }
-{
-    cell * 8 + mark(region)
-}
-
-/// Whether an access is equal to another, or else whether the two may conflict within a group.
-fn meets(same: bool, y: &Access, x: &Access) -> bool
-    requires placed { x.now.first + byte_count x.now.width < 2 ^ 64 }
-    requires other_placed { y.now.first + byte_count y.now.width < 2 ^ 64 }
-    ensures clear { result ≡ false → Passes same y.now x.now }
-    ensures there { IsTrue result → same ≡ true → y.now ≡ x.now }
-{
-    if same {
-        is_same(y, x)
-    } else {
-        may_conflict(true, y, x)
-    }
+    let start = x.first % 268435456 * 65536 + (x.item % 65536) as u64;
+    let kind = kind_number(x.kind) as u64 * 16 + byte_count(x.width);
+    start * 1048576 + object(x.region) % 4096 * 256 + kind
 }
 
 impl Index {
     /// The index of a log without accesses. It takes no memory.
     pub(crate) fn new(alloc: Global) -> Self
-        ensures { IsIndexed [] (newest_of result.newest) result.before.items }
+        ensures indexed { IsIndexed [] result }
+        ensures newest { IsEmpty result.newest }
+        ensures starts { IsEmpty result.cells.starts }
+        ensures bytes { result.cells.bytes.items ≡ [] }
     {
         Index {
             newest: HashMap::new(alloc),
-            before: Vec::new(alloc),
+            cells: Cells::new(alloc),
         }
+    }
+
+    /// Forgets all accesses, and keeps the memory.
+    pub(crate) fn clear(&mut self)
+        ensures indexed { IsIndexed [] self.new }
+        ensures newest { IsEmpty self.new.newest }
+        ensures starts { IsEmpty self.new.cells.starts }
+        ensures bytes { self.new.cells.bytes.items ≡ [] }
+    {
+        self.newest.clear();
+        self.cells.clear();
     }
 
     /// The place of the newest access of a key.
@@ -73,87 +66,51 @@ impl Index {
     }
 }
 
-/// Whether one of the accesses of a key meets this one. It walks from the newest on, and no further than to those from a place on.
-fn meets_in(same: bool, x: &Entry, log: &[Entry], index: &Index, key: u64, from: usize) -> bool
-    requires placed { IsPlaced x.now }
-    requires all_placed { All IsPlaced log.now }
-    requires indexed { IsIndexed log.now (newest_of index.now.newest) index.now.before.items }
-    ensures clear { result ≡ false → (j : ℕ) (y : TheEntry) → slice_get log.now j ≡ Some y → from ≤ j → key_of y ≡ key → Passes same y.access x.now.access }
-    ensures there { IsTrue result → same ≡ true → IsThere log.now x.now.access }
-{
-    let mut place = index.newest(key);
-    while place > from {
-        let y = &log[place - 1];
-        if meets(same, &y.access, &x.access) {
-            return true;
-        }
-        place = index.before[place - 1];
-    }
-    false
-}
-
-/// Whether no access of a log conflicts with this one, of those from a place on. An access has at most eight bytes, so one that
-/// shares a byte with this one begins in its cells or in the one before.
-fn is_clear(x: &Entry, log: &[Entry], index: &Index, from: usize) -> bool
-    requires placed { IsPlaced x.now }
-    requires all_placed { All IsPlaced log.now }
-    requires indexed { IsIndexed log.now (newest_of index.now.newest) index.now.before.items }
-    ensures { IsTrue result → hit true x.now (drop from log.now) ≡ None }
-{
-    let low = x.access.first.saturating_sub(7) / 8;
-    let high = (x.access.first + (byte_count(x.access.width) - 1)) / 8;
-    for cell in low..high + 1 {
-        if meets_in(false, x, log, index, key(x.access.region, cell), from) {
-            return false;
-        }
-    }
-    true
-}
-
 /// The conflict of an access with those of a log from a place on. Only where there may be one are all of them walked.
 pub(crate) fn hit_from(x: &Entry, log: &[Entry], index: &Index, from: usize) -> Option<Hit>
     requires placed { IsPlaced x.now }
     requires all_placed { All IsPlaced log.now }
-    requires indexed { IsIndexed log.now (newest_of index.now.newest) index.now.before.items }
+    requires indexed { IsIndexed log.now index.now }
     requires within { from ≤ length log.now }
     ensures { result ≡ hit true x.now (drop from log.now) }
 {
-    if is_clear(x, log, index, from) {
+    if index.cells.is_clear(&x.access) {
         None
     } else {
         hit(true, x, &log[from..])
     }
 }
 
-/// Whether an access is in a log, among those from a place on.
+/// Whether an access is in a log, among those from a place on. Only where another access has its key are all of them walked.
 pub(crate) fn is_there(x: &Entry, log: &[Entry], index: &Index, from: usize) -> bool
-    requires placed { IsPlaced x.now }
-    requires all_placed { All IsPlaced log.now }
-    requires indexed { IsIndexed log.now (newest_of index.now.newest) index.now.before.items }
+    requires indexed { IsIndexed log.now index.now }
+    requires within { from ≤ length log.now }
     ensures there { IsTrue result → IsThere log.now x.now.access }
     ensures new { result ≡ false → IsThere (drop from log.now) x.now.access → ⊥ }
 {
-    let own = key(x.access.region, x.access.first / 8);
-    meets_in(true, x, log, index, own, from)
+    let place = index.newest(access_key(&x.access));
+    if place <= from {
+        return false;
+    }
+    if let Some(y) = log.get(place - 1) {
+        if is_same(&y.access, &x.access) {
+            return true;
+        }
+    }
+    is_among(&x.access, &log[from..])
 }
 
 /// Adds an access to a log and to its index. Where memory is refused the log stays.
 pub(crate) fn keep(log: &mut Vec<Entry>, index: &mut Index, entry: Entry) -> Result<(), AllocError>
-    requires { IsIndexed log.old.items (newest_of index.old.newest) index.old.before.items }
+    requires placed { IsPlaced entry }
+    requires indexed { IsIndexed log.old.items index.old }
     ensures items { log.new.items ≡ (if is_ok result then log.old.items ++ entry ∷ [] else log.old.items) }
-    ensures indexed { IsIndexed log.new.items (newest_of index.new.newest) index.new.before.items }
+    ensures indexed { IsIndexed log.new.items index.new }
 {
-    let own = key(entry.access.region, entry.access.first / 8);
-    let place = log.len();
-    let older = index.newest(own);
-    index.before.truncate(place);
-    index.before.push(older)?;
+    index.cells.mark(&entry.access)?;
+    index
+        .newest
+        .insert(access_key(&entry.access), log.len() + 1)?;
     log.push(entry)?;
-    match index.newest.insert(own, place + 1) {
-        Ok(_) => Ok(()),
-        Err(_) => {
-            log.truncate(place);
-            Err(AllocError)
-        }
-    }
+    Ok(())
 }

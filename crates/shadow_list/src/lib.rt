@@ -1,11 +1,16 @@
 //! Access logs of work-groups: which accesses conflict.
 #![tactic(auto)]
 
+mod cells;
 mod compare;
 mod index;
+mod kinds;
 pub mod list;
 pub mod log;
+mod marks;
+mod recent;
 mod search;
 
+pub use kinds::{byte_count, clash, kind_number};
 pub use list::ListLog;
 pub use log::{AccessLog, Accesses, Entry, Fenced, Hit};

@@ -2,7 +2,7 @@
 
 ghost use Rattle.std.specs.Prelude.{◌≡◌, ◌≤◌, ◌+◌, [], All, false, true, length, take};
 ghost use Rattle.clmodel.specs.Run.{by_region};
-ghost use Rattle.shadow_list.specs.Index.{IsIndexed, newest_of};
+ghost use Rattle.shadow_list.specs.Index.{IsIndexed};
 ghost use Rattle.shadow_list.specs.Log.{IsPlaced, stamped, logged, in_buffer};
 ghost use Rattle.shadow_list.specs.Past.{IsBefore};
 
@@ -12,13 +12,11 @@ use crate::search::hit;
 use clmodel::access::{Access, Region};
 use std::alloc::{AllocError, Global};
 
-/// A log with an index by cells of eight bytes. A new access is compared with the entries that begin in its cells or in the one
-/// before, in objects whose numbers are equal up to multiples of 8, and only with those made since the last barrier that fenced
-/// its address space. So an access costs a few look-ups in a hash table and as many steps as there are such entries: many only
-/// where many work-items access the same few bytes without a barrier. Where one of them may conflict, all entries since the
-/// barrier are walked for the exact answer, which ends a launch where there is a conflict. 100,000 accesses without a barrier
-/// take some hundredths of a second where each has its own place, and half a second where 250 work-items load the same 400
-/// elements of four bytes. The index takes 8 bytes for each entry, and some tens for each cell.
+/// A log with an index: for each byte, whose its accesses were in its newest interval and of which kind, and for each access where the
+/// newest equal one stands. So a new access costs two look-ups in hash tables and a step for each of its bytes, however many items
+/// access the same bytes: where nothing has conflicted yet, all accesses of a byte in an interval are of one item or of one kind. Where
+/// one may conflict, all entries since the barrier are walked for the exact answer, which ends a launch where there is a conflict. The
+/// index takes some 150 bytes for each cell of eight bytes that was accessed, and some 30 for each entry.
 #[derive(Drop)]
 pub struct ListLog {
     entries: Vec<Entry>,
@@ -36,7 +34,7 @@ pub struct ListLog {
     ghost global_made: { All (IsBefore true (global_interval + 1)) entries.items },
     ghost local_past: { All (IsBefore false local_interval) (take local_first entries.items) },
     ghost global_past: { All (IsBefore true global_interval) (take global_first entries.items) },
-    ghost indexed: { IsIndexed entries.items (newest_of index.newest) index.before.items },
+    ghost indexed: { IsIndexed entries.items index },
 }
 
 impl ListLog {
@@ -52,6 +50,18 @@ impl ListLog {
             global_first: 0,
             index: Index::new(alloc),
         }
+    }
+
+    /// Forgets all accesses, as `new` begins, and keeps the memory.
+    pub fn clear(&mut self)
+        ensures { logged self.new.entries.items self.new.local_interval self.new.global_interval ≡ logged [] 0 0 }
+    {
+        self.entries.clear();
+        self.local_interval = 0;
+        self.global_interval = 0;
+        self.local_first = 0;
+        self.global_first = 0;
+        self.index.clear();
     }
 
     /// An access with the running interval of its address space.

@@ -2,9 +2,10 @@
 
 ghost use Rattle.std.specs.Prelude.{◌≡◌, ◌+◌, ◌<◌, ◌^◌, ℕ, false, None, All, IsTrue};
 ghost use Rattle.clmodel.specs.Cells.{byte_count};
-ghost use Rattle.shadow_list.specs.Log.{IsPlaced, hit_on, hit_from, hit};
+ghost use Rattle.shadow_list.specs.Log.{IsPlaced, IsThere, hit_on, hit_from, hit};
 
-use crate::compare::{byte_count, hit_between, may_conflict};
+use crate::compare::{hit_between, may_conflict};
+use crate::kinds::byte_count;
 use crate::log::{Entry, Hit};
 use clmodel::access::Access;
 
@@ -50,6 +51,19 @@ pub fn hit(one_group: bool, x: &Entry, log: &[Entry]) -> Option<Hit>
         }
     }
     None
+}
+
+/// Whether an access is in a log: a walk.
+pub(crate) fn is_among(x: &Access, log: &[Entry]) -> bool
+    ensures there { IsTrue result → IsThere log.now x.now }
+    ensures new { result ≡ false → IsThere log.now x.now → ⊥ }
+{
+    for y in log {
+        if is_same(&y.access, x) {
+            return true;
+        }
+    }
+    false
 }
 
 /// Whether two accesses are equal.

@@ -4,7 +4,7 @@ use Rattle.shadow_list.specs.Log.{stamped, logged}
 use Rattle.shadow_list.specs.Past.{IsBefore}
 use Rattle.shadow_list.specs.declared.list.ListLog.{ListLog}
 use Rattle.shadow_list.specs.declared.log.Entry.{Entry}
-use Rattle.shadow_list.proofs.Recent.{Walk, walk_finds, walk_sees, walk_misses, all_pushed, front_pushed, local_before, global_before}
+use Rattle.shadow_list.proofs.Past.{Walk, walk_finds, walk_sees, walk_misses, all_pushed, front_pushed, local_before, global_before}
 use Rattle.shadow_list.proofs.list.ListLogAccessLog.note.Goals as goal
 
 -- the access as it is kept

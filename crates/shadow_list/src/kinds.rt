@@ -1,11 +1,25 @@
-//! Kinds of accesses.
+//! Widths and kinds of accesses.
 
 ghost use Rattle.std.specs.Prelude.{◌≡◌, ◌<◌, ◌≤◌};
 ghost use Rattle.clmodel.specs.Cells.{byte_count};
 ghost use Rattle.clmodel.specs.Launch.{class_number, clash};
-ghost use Rattle.shadow.specs.Seen.{kind_number};
+ghost use Rattle.shadow_list.specs.Kinds.{kind_number};
 
 use clmodel::access::{AccessKind, Clash, Class, Width};
+
+/// How many bytes an element of a width has.
+pub fn byte_count(width: Width) -> u64
+    ensures value { result ≡ byte_count width }
+    ensures some { 0 < result }
+    ensures short { result ≤ 8 }
+{
+    match width {
+        Width::One => 1,
+        Width::Two => 2,
+        Width::Four => 4,
+        Width::Eight => 8,
+    }
+}
 
 /// The number of a class.
 fn class_number(class: Class) -> u8
@@ -24,9 +38,10 @@ fn class_number(class: Class) -> u8
     }
 }
 
-/// The number of a kind.
-pub(crate) fn kind_number(kind: AccessKind) -> u8
-    ensures { result ≡ kind_number kind }
+/// The number of a kind: kinds that don't conflict with one another have the same.
+pub fn kind_number(kind: AccessKind) -> u8
+    ensures value { result ≡ kind_number kind }
+    ensures small { result < 10 }
 {
     match kind {
         AccessKind::Load => 8,
@@ -35,22 +50,8 @@ pub(crate) fn kind_number(kind: AccessKind) -> u8
     }
 }
 
-/// How many bytes an element of a width has.
-pub(crate) fn byte_count(width: Width) -> usize
-    ensures value { result ≡ byte_count width }
-    ensures some { 0 < result }
-    ensures short { result ≤ 8 }
-{
-    match width {
-        Width::One => 1,
-        Width::Two => 2,
-        Width::Four => 4,
-        Width::Eight => 8,
-    }
-}
-
-/// How two kinds conflict.
-pub(crate) fn clash(kind: AccessKind, other: AccessKind) -> Option<Clash>
+/// How two kinds of accesses conflict, if they do (OpenCL 1.2, section 3.3.1).
+pub fn clash(kind: AccessKind, other: AccessKind) -> Option<Clash>
     ensures { result ≡ clash kind other }
 {
     match kind {

@@ -25,11 +25,15 @@ one_memory (region.Buffer a) (region.Local h b) e = absurd (false≢true e)
 one_memory (region.Local g a) (region.Buffer b) e = absurd (false≢true e)
 one_memory (region.Local g a) (region.Local h b) e = refl
 
+-- accesses of two intervals don't conflict
+pub other_interval : (x y : Access) (byte : ℕ) → (y.interval ≡ x.interval → ⊥) → conflict_between true y x byte ≡ None
+other_interval x y byte n =
+    ordered true y x byte (and_right (not (nat_eq y.item x.item)) (nat_eq y.interval x.interval) (ne_eqb y.interval x.interval n))
+
 no_conflict : (x y : Entry) (byte : ℕ) → IsPast x y → conflict_between true y.access x.access byte ≡ None
 no_conflict x y byte h =
     decided (same_region y.access.region x.access.region)
-    (λ e. ordered true y.access x.access byte (and_right (not (nat_eq y.access.item x.access.item)) (nat_eq y.access.interval x.access.interval)
-    (ne_eqb y.access.interval x.access.interval (λ s. omega (arith, s, h (one_memory y.access.region x.access.region e))))))
+    (λ e. other_interval x.access y.access byte (λ s. omega (arith, s, h (one_memory y.access.region x.access.region e))))
     (other_region true y.access x.access byte)
 
 same_on : (x : Entry) (byte n : ℕ) (log : List Entry) → All (IsPast x) (take n log) → hit_on true x byte log ≡ hit_on true x byte (drop n log)

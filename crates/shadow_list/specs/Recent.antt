@@ -1,0 +1,29 @@
+-- What is kept of the accesses to a byte (own).
+use Rattle.std.specs.Prelude.{◌≡◌, ℕ, ◌≤◌, ◌==◌, Bool, true, false}
+use Rattle.clmodel.specs.declared.access.Access.{Access}
+use Rattle.clmodel.specs.declared.access.AccessKind.{AccessKind}
+use Rattle.shadow_list.specs.Kinds.{kind_number}
+use Rattle.shadow_list.specs.declared.recent.Who.{Who}
+use Rattle.shadow_list.specs.declared.recent.Who.TheVariants as who
+use Rattle.shadow_list.specs.declared.recent.How.{How}
+use Rattle.shadow_list.specs.declared.recent.How.TheVariants as how
+use Rattle.shadow_list.specs.declared.recent.Recent.{Recent}
+
+-- whether an item is one of these
+abbrev pub is_item : Who → ℕ → Bool
+is_item who.Nobody item = false
+is_item (who.One first) item = item == first
+is_item who.Many item = true
+
+-- whether a kind is one of these
+abbrev pub is_kind : How → AccessKind → Bool
+is_kind (how.One first) kind = kind_number kind == kind_number first
+is_kind how.Mixed kind = true
+
+-- an access is one of those of which this is kept, or of an earlier interval
+abbrev pub Describes : Recent → Access → Type 0
+Describes r y = (y.interval ≤ r.interval) × (y.interval ≡ r.interval → (is_item r.who y.item ≡ true) × (is_kind r.how y.kind ≡ true))
+
+-- no accesses
+abbrev pub nothing : Recent
+nothing = record { interval = 0; who = who.Nobody; how = how.Mixed }
