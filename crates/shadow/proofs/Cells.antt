@@ -210,18 +210,18 @@ same_cells buffers n v w b e same m byte = go (cases_eq m n)
 pub marked_cells :
     (buffers : List Pages) (n : ℕ) (v w : Pages) (mark : Mark) (first count : ℕ) → n < length buffers → w ≡ get_or buffers n w
     → ((byte : ℕ) → cell_in v.pages.items byte ≡ (if covers first count byte then seen_with (cell_in w.pages.items byte) mark else cell_in w.pages.items byte))
-    → (m byte : ℕ) → cell (cells_of (set buffers n v)) m byte ≡ (if (n == m) && covers first count byte then seen_with (cell (cells_of buffers) m byte) mark else cell (cells_of buffers) m byte)
+    → (m byte : ℕ) → cell (cells_of (set buffers n v)) m byte ≡ (if (m == n) && covers first count byte then seen_with (cell (cells_of buffers) m byte) mark else cell (cells_of buffers) m byte)
 marked_cells buffers n v w mark first count b e marked m byte = go (cases_eq m n)
   where
     go : (m ≡ n) ⊎ (m ≡ n → ⊥)
-        → cell (cells_of (set buffers n v)) m byte ≡ (if (n == m) && covers first count byte then seen_with (cell (cells_of buffers) m byte) mark else cell (cells_of buffers) m byte)
+        → cell (cells_of (set buffers n v)) m byte ≡ (if (m == n) && covers first count byte then seen_with (cell (cells_of buffers) m byte) mark else cell (cells_of buffers) m byte)
     go (inl h) =
-        subst (λ k. cell (cells_of (set buffers n v)) k byte ≡ (if (n == k) && covers first count byte then seen_with (cell (cells_of buffers) k byte) mark else cell (cells_of buffers) k byte)) (sym h)
+        subst (λ k. cell (cells_of (set buffers n v)) k byte ≡ (if (k == n) && covers first count byte then seen_with (cell (cells_of buffers) k byte) mark else cell (cells_of buffers) k byte)) (sym h)
         (changed_here buffers n v byte b ∙ marked byte
         ∙ sym (ap₂ (λ (z : Bool) c. if z && covers first count byte then seen_with c mark else c) (eq-eqb n n refl) (was_here buffers n w byte b e)))
     go (inr h) =
         unchanged_there buffers n v m byte h
-        ∙ sym (ap (λ (z : Bool). if z && covers first count byte then seen_with (cell (cells_of buffers) m byte) mark else cell (cells_of buffers) m byte) (ne_eqb n m (λ k. h (sym k))))
+        ∙ sym (ap (λ (z : Bool). if z && covers first count byte then seen_with (cell (cells_of buffers) m byte) mark else cell (cells_of buffers) m byte) (ne_eqb m n h))
 
 pub on_err : {T E P : Type 0} (r : Result T E) → P → OnErr r P
 on_err (Ok t) p = tt

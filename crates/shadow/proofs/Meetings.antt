@@ -1,9 +1,10 @@
 -- What is kept of bytes tells the conflicts of an access of another group's item.
-use Rattle.std.proofs.Common.{◌≡◌, ℕ, zero, suc, ◌+◌, ◌<◌, ◌≤◌, ◌==◌, Bool, true, false, not, ◌&&◌, if◌then◌else◌, Option, None, Some, List, [], ◌∷◌, refl, sym, ap, ap₂, ◌∙◌, subst, inl, inr, arith, eqb-true, eq-eqb, le-leb, lt-ltb, length, map, get_or}
+use Rattle.std.proofs.Common.{◌≡◌, ℕ, zero, suc, ◌+◌, ◌<◌, ◌≤◌, ◌==◌, Bool, true, false, not, ◌&&◌, ◌||◌, ◌⊎◌, if◌then◌else◌, Option, None, Some, List, [], ◌∷◌, refl, sym, ap, ap₂, ◌∙◌, subst, inl, inr, arith, eqb-true, eq-eqb, le-leb, lt-ltb, length, map, get_or}
 use Rattle.std.proofs.lemmas.List.{get_or-map, get_or_past}
 use Rattle.clmodel.specs.declared.access.Region.TheVariants as region
 use Rattle.std.specs.Option.{option_map}
-use Rattle.std.proofs.lemmas.Bool.{and_from, false≢true, ne_eqb}
+use Rattle.std.proofs.lemmas.Bool.{and_from, or_left, or_right, cases_eq, false≢true, ne_eqb}
+use Rattle.std.proofs.Math.Bool.{or_comm, or_self}
 use Rattle.clmodel.specs.Cells.{byte_count, covers}
 use Rattle.clmodel.specs.Launch.{same_region, class_number, clash, share, conflict_between}
 use Rattle.clmodel.specs.Run.{or_else}
@@ -18,7 +19,8 @@ use Rattle.clmodel.specs.declared.access.Clash.TheVariants.{Race, Order}
 use Rattle.clmodel.specs.declared.access.Region.{Region}
 use Rattle.clmodel.specs.declared.access.Conflict as conflict_type
 use Rattle.clmodel.proofs.Steps.{none_some}
-use Rattle.shadow.specs.Seen.{kind_number, seen_with, at_byte, mark_of, seen, met, against, against_from, meeting_of, meeting, Remembers, OfOthers, cell, cell_in, cells_of}
+use Rattle.joining.specs.Memory.{writes, at_byte, wrote}
+use Rattle.shadow.specs.Seen.{kind_number, seen_with, is_written, mark_of, seen, met, against, against_from, meeting_of, meeting, Remembers, OfOthers, cell, cell_in, cells_of}
 use Rattle.shadow.specs.declared.pages.Pages.{Pages}
 use Rattle.shadow.specs.declared.seen.Mark.{Mark}
 use Rattle.shadow.specs.declared.seen.Meeting.{Meeting}
@@ -146,7 +148,77 @@ against_more k byte (Touched a) m h = go (kind_number a.kind == kind_number m.ki
     go false e = ap (λ (z : Bool). against k byte (if z then Touched a else Mixed a m)) e
 against_more k byte (Mixed a b) m h = one_is_met k byte a b m h
 
+-- ---- whether a byte was written
+
+kind_writes : (k : AccessKind) → writes k ≡ not (kind_number k == 8)
+kind_writes kind.Load = refl
+kind_writes kind.Store = refl
+kind_writes (kind.Update c) = sym (ap not (ne_eqb (class_number c) 8 (not_eight (class_number c) (class_small c))))
+
+-- of two kinds one writes
+one_writes : (a b : AccessKind) → (kind_number a == kind_number b) ≡ false → (writes a || writes b) ≡ true
+one_writes a b apart = go (cases_eq (kind_number a) 8) (cases_eq (kind_number b) 8)
+  where
+    go : (kind_number a ≡ 8) ⊎ (kind_number a ≡ 8 → ⊥) → (kind_number b ≡ 8) ⊎ (kind_number b ≡ 8 → ⊥) → (writes a || writes b) ≡ true
+    go (inl h) (inl i) = absurd (false≢true (sym apart ∙ eq-eqb (kind_number a) (kind_number b) (h ∙ sym i)))
+    go (inr h) _ = or_left (writes a) (writes b) (kind_writes a ∙ ap not (ne_eqb (kind_number a) 8 h))
+    go (inl h) (inr i) = or_right (writes a) (writes b) (kind_writes b ∙ ap not (ne_eqb (kind_number b) 8 i))
+
+written_with : (s : Seen) (m : Mark) → Apart s → is_written (seen_with s m) ≡ (writes m.kind || is_written s)
+written_with Untouched m h = or_comm false (writes m.kind)
+written_with (Touched a) m h = go (kind_number a.kind == kind_number m.kind) refl
+  where
+    go : (b : Bool) → (kind_number a.kind == kind_number m.kind) ≡ b
+        → is_written (if kind_number a.kind == kind_number m.kind then Touched a else Mixed a m) ≡ (writes m.kind || writes a.kind)
+    go true e =
+        let same : writes m.kind ≡ writes a.kind =
+        kind_writes m.kind ∙ ap (λ n. not (n == 8)) (sym (eqb-true (kind_number a.kind) (kind_number m.kind) e)) ∙ sym (kind_writes a.kind) in
+        ap (λ (z : Bool). is_written (if z then Touched a else Mixed a m)) e ∙ sym (ap (λ (z : Bool). z || writes a.kind) same ∙ or_self (writes a.kind))
+    go false e = ap (λ (z : Bool). is_written (if z then Touched a else Mixed a m)) e ∙ or_comm (writes a.kind) (writes m.kind)
+written_with (Mixed a b) m h =
+    one_writes a.kind b.kind h ∙ sym (or_right (writes m.kind) (writes a.kind || writes b.kind) (one_writes a.kind b.kind h))
+
+and_true : (b : Bool) → (b && true) ≡ b
+and_true true = refl
+and_true false = refl
+
+and_false : (b : Bool) → (b && false) ≡ false
+and_false true = refl
+and_false false = refl
+
+-- the marks of a byte tell whether it was written
+pub written : (at : Region) (byte : ℕ) (log : List Access) → is_written (seen at byte log) ≡ wrote log at byte
+written at byte [] = refl
+written at byte (x ∷ log) = go (written at byte log) (at_byte at byte x) refl
+  where
+    go : is_written (seen at byte log) ≡ wrote log at byte → (b : Bool) → at_byte at byte x ≡ b
+        → is_written (if at_byte at byte x then seen_with (seen at byte log) (mark_of x) else seen at byte log) ≡ ((writes x.kind && at_byte at byte x) || wrote log at byte)
+    go older true e =
+        ap (λ (z : Bool). is_written (if z then seen_with (seen at byte log) (mark_of x) else seen at byte log)) e
+        ∙ written_with (seen at byte log) (mark_of x) (seen_apart at byte log)
+        ∙ ap₂ (λ (u w : Bool). u || w) (sym (and_true (writes x.kind))) older
+        ∙ sym (ap (λ (z : Bool). (writes x.kind && z) || wrote log at byte) e)
+    go older false e =
+        ap (λ (z : Bool). is_written (if z then seen_with (seen at byte log) (mark_of x) else seen at byte log)) e
+        ∙ older
+        ∙ ap (λ (z : Bool). z || wrote log at byte) (sym (and_false (writes x.kind)))
+        ∙ sym (ap (λ (z : Bool). (writes x.kind && z) || wrote log at byte) e)
+
 -- ---- the conflict of an access
+
+eqb_swapped : (a b : ℕ) → (a == b) ≡ (b == a)
+eqb_swapped a b = go (cases_eq a b)
+  where
+    go : (a ≡ b) ⊎ (a ≡ b → ⊥) → (a == b) ≡ (b == a)
+    go (inl e) = eq-eqb a b e ∙ sym (eq-eqb b a (sym e))
+    go (inr ne) = ne_eqb a b ne ∙ sym (ne_eqb b a (λ e. ne (sym e)))
+
+-- whether two regions are one, whichever is named first
+pub region_swapped : (a b : Region) → same_region a b ≡ same_region b a
+region_swapped (region.Buffer a) (region.Buffer b) = eqb_swapped a b
+region_swapped (region.Buffer a) (region.Local h b) = refl
+region_swapped (region.Local g a) (region.Buffer b) = refl
+region_swapped (region.Local g a) (region.Local h b) = ap₂ (λ (x y : Bool). x && y) (eqb_swapped g h) (eqb_swapped a b)
 
 -- how an access conflicts with one of another item on a byte that it is at
 judged_bits : (same mine there : Bool) (o : Option Clash) → mine ≡ true
@@ -161,6 +233,7 @@ unfolding conflict_between
 judged x y byte ne here =
     ap (λ (z : Bool). if (not z && true) && share y x byte then clash y.kind x.kind else None) (ne_eqb y.item x.item ne)
     ∙ judged_bits (same_region y.region x.region) (covers x.first (byte_count x.width) byte) (covers y.first (byte_count y.width) byte) (clash y.kind x.kind) here
+    ∙ ap (λ (z : Bool). if z && covers y.first (byte_count y.width) byte then clash y.kind x.kind else None) (region_swapped y.region x.region)
 
 map_or : {A B : Type 0} (f : A → B) (o p : Option A) → option_map f (or_else o p) ≡ or_else (option_map f o) (option_map f p)
 map_or f None p = refl

@@ -1,9 +1,9 @@
 -- What is kept of the accesses to the bytes of a launch's buffers, and the conflicts that it tells (OpenCL 1.2, 3.3.1, 6.12.8; own in what is kept).
-use Rattle.std.specs.Prelude.{◌≡◌, ℕ, zero, suc, ◌/◌, ◌%◌, ◌<◌, ◌≤◌, ◌==◌, Bool, false, ◌&&◌, Option, None, List, [], ◌∷◌, if◌then◌else◌, slice_index_or, length, map, Vec}
+use Rattle.std.specs.Prelude.{◌≡◌, ℕ, zero, suc, ◌/◌, ◌%◌, ◌<◌, ◌≤◌, ◌==◌, Bool, false, ◌||◌, Option, None, List, [], ◌∷◌, if◌then◌else◌, slice_index_or, length, map, Vec}
 use Rattle.std.specs.declared.alloc.Global.{Global}
 use Rattle.std.specs.Option.{option_map}
-use Rattle.clmodel.specs.Cells.{byte_count, covers}
-use Rattle.clmodel.specs.Launch.{same_region, class_number, clash, conflict_between}
+use Rattle.clmodel.specs.Cells.{byte_count}
+use Rattle.clmodel.specs.Launch.{class_number, clash, conflict_between}
 use Rattle.clmodel.specs.Run.{or_else}
 use Rattle.clmodel.specs.Law.{Logged, conflict_from}
 use Rattle.clmodel.specs.declared.access.Access.{Access}
@@ -12,6 +12,7 @@ use Rattle.clmodel.specs.declared.access.AccessKind.TheVariants as kind
 use Rattle.clmodel.specs.declared.access.Region.{Region}
 use Rattle.clmodel.specs.declared.access.Region.TheVariants as region
 use Rattle.clmodel.specs.declared.access.Conflict as conflict_type
+use Rattle.joining.specs.Memory.{writes, at_byte}
 use Rattle.shadow.specs.declared.seen.Mark.{Mark}
 use Rattle.shadow.specs.declared.seen.Meeting.{Meeting}
 use Rattle.shadow.specs.declared.pages.Pages.{Pages}
@@ -31,10 +32,6 @@ seen_with Untouched m = Touched m
 seen_with (Touched a) m = if kind_number a.kind == kind_number m.kind then Touched a else Mixed a m
 seen_with (Mixed a b) m = Mixed a b
 
--- an access is at a byte of a region
-abbrev pub at_byte : Region → ℕ → Access → Bool
-at_byte at byte x = same_region x.region at && covers x.first (byte_count x.width) byte
-
 -- who made an access, and how
 abbrev pub mark_of : Access → Mark
 mark_of x = record { item = x.item; kind = x.kind }
@@ -43,6 +40,12 @@ mark_of x = record { item = x.item; kind = x.kind }
 abbrev pub seen : Region → ℕ → List Access → Seen
 seen at byte [] = Untouched
 seen at byte (x ∷ log) = if at_byte at byte x then seen_with (seen at byte log) (mark_of x) else seen at byte log
+
+-- whether one of the accesses to a byte wrote
+abbrev pub is_written : Seen → Bool
+is_written Untouched = false
+is_written (Touched a) = writes a.kind
+is_written (Mixed a b) = writes a.kind || writes b.kind
 
 -- how an access of a kind conflicts with a mark on a byte
 abbrev pub met : AccessKind → ℕ → Mark → Option Meeting

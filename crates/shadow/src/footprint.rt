@@ -3,11 +3,13 @@
 ghost use Rattle.std.specs.Prelude.{◌≡◌, ◌+◌, ◌<◌, ◌≤◌, ◌∷◌, ◌^◌, [], ℕ, List, length, OnOk, OnErr};
 ghost use Rattle.clmodel.specs.Cells.{byte_count};
 ghost use Rattle.clmodel.specs.declared.access.Access.{Access as TheAccess};
+ghost use Rattle.clmodel.specs.declared.access.Region.TheVariants as region;
+ghost use Rattle.joining.specs.Memory.{wrote};
 ghost use Rattle.shadow.specs.Seen.{cell, cells_of, OfOthers, InBuffer, meeting};
 
 use crate::kinds::byte_count;
 use crate::pages::{Pages, mark_all};
-use crate::seen::{Mark, Meeting};
+use crate::seen::{Mark, Meeting, is_written};
 use clmodel::access::{Access, Region};
 use std::alloc::{AllocError, Global};
 
@@ -55,6 +57,16 @@ impl Footprint {
         match self.buffers.get(number as usize) {
             None => None,
             Some(pages) => pages.against(x.kind, x.first as usize, byte_count(x.width)),
+        }
+    }
+
+    /// Whether an access wrote a byte of a buffer.
+    pub fn is_written(&self, number: u32, byte: u64) -> bool
+        ensures { (log : List TheAccess) → Keeps self.now log → result ≡ wrote log (region.Buffer number) byte }
+    {
+        match self.buffers.get(number as usize) {
+            None => false,
+            Some(pages) => is_written(pages.cell(byte as usize)),
         }
     }
 

@@ -72,7 +72,7 @@ impl Pages {
     }
 
     /// What is kept of a byte.
-    fn cell(&self, byte: usize) -> Seen
+    pub(crate) fn cell(&self, byte: usize) -> Seen
         ensures { result ≡ cell_in self.now.pages.items byte }
     {
         match self.pages.get(byte / 256) {

@@ -1,7 +1,8 @@
 //! What is kept of the accesses to one byte.
 
 ghost use Rattle.std.specs.Prelude.{◌≡◌};
-ghost use Rattle.shadow.specs.Seen.{seen_with, met, against};
+ghost use Rattle.joining.specs.Memory.{writes};
+ghost use Rattle.shadow.specs.Seen.{seen_with, is_written, met, against};
 
 use crate::kinds::{clash, kind_number};
 use clmodel::access::{AccessKind, Clash};
@@ -43,6 +44,28 @@ pub(crate) fn seen_with(seen: Seen, mark: Mark) -> Seen
             }
         }
         Seen::Mixed(_, _) => seen,
+    }
+}
+
+/// Whether an access of a kind writes.
+fn writes(kind: AccessKind) -> bool
+    ensures { result ≡ writes kind }
+{
+    match kind {
+        AccessKind::Load => false,
+        AccessKind::Store => true,
+        AccessKind::Update(_) => true,
+    }
+}
+
+/// Whether one of the accesses to a byte wrote.
+pub(crate) fn is_written(seen: Seen) -> bool
+    ensures { result ≡ is_written seen }
+{
+    match seen {
+        Seen::Untouched => false,
+        Seen::Touched(first) => writes(first.kind),
+        Seen::Mixed(first, other) => writes(first.kind) || writes(other.kind),
     }
 }
 

@@ -2,7 +2,8 @@ use Rattle.std.proofs.Common.{◌≡◌, ◌/◌, Bool, ◌&&◌, ◌==◌, if�
 use Rattle.clmodel.specs.Cells.{covers}
 use Rattle.clmodel.specs.Launch.{same_region}
 use Rattle.clmodel.specs.declared.access.Region.TheVariants as region
-use Rattle.shadow.specs.Seen.{seen_with, mark_of, at_byte, IsPage}
+use Rattle.joining.specs.Memory.{at_byte}
+use Rattle.shadow.specs.Seen.{seen_with, mark_of, IsPage}
 use Rattle.shadow.proofs.Cells.{same_cells, marked_cells, either_page, on_err}
 use Rattle.shadow.proofs.footprint.Footprint.add.Goals as goal
 
@@ -32,8 +33,8 @@ returns-clause-added c log keeps m byte =
     let x = c.args.x.now in
     let old = c.make_room.new.buffers.items in
     let n = c.in-Buffer.number in
-    let test : at_byte (region.Buffer m) byte x ≡ ((n == m) && covers x.first c.byte_count-count.result byte) =
-    ap₂ (λ a k. same_region a (region.Buffer m) && covers x.first k byte) c.in-Buffer.is (sym c.byte_count-count.ensures.value) in
+    let test : at_byte (region.Buffer m) byte x ≡ ((m == n) && covers x.first c.byte_count-count.result byte) =
+    ap₂ (λ a k. same_region (region.Buffer m) a && covers x.first k byte) c.in-Buffer.is (sym c.byte_count-count.ensures.value) in
     marked_cells old n (record { pages = c.mark_all.new.pages }) c.index_mut-touched.result.now (mark_of x) x.first c.byte_count-count.result c.in_ok-make_room.ensures.long c.index_mut-touched.ensures.value
     (λ k. c.mark_all.ensures k
     ∙ ap (λ z. if covers x.first c.byte_count-count.result k then seen_with z (mark_of x) else z) (c.make-2.ensures.same k ∙ c.make.ensures.same k)) m byte
