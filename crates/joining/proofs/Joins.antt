@@ -125,15 +125,15 @@ class_there (x ∷ log) c p byte only h =
     class_more x log c p byte (only x (inl refl)) (class_there log c p byte (λ z k. only z (inr k))) h (at_byte p byte x) refl
 
 -- a byte that the groups below and the group wrote
-record Both (l : Launch) (g : ℕ) (a b : State) (p : Region) (byte : ℕ) : Type 0 where
-  c : Class
-  n : ℕ
-  own : OnlyUpdates c b.log p (n * 4)
-  lower : OnlyUpdates c a.log p (n * 4)
-  from : n * 4 ≤ byte
-  below : byte < n * 4 + 4
-  own_wrote : wrote b.log p (n * 4) ≡ true
-  lower_wrote : wrote a.log p (n * 4) ≡ true
+pub record Both (l : Launch) (g : ℕ) (a b : State) (p : Region) (byte : ℕ) : Type 0 where
+  pub c : Class
+  pub n : ℕ
+  pub own : OnlyUpdates c b.log p (n * 4)
+  pub lower : OnlyUpdates c a.log p (n * 4)
+  pub from : n * 4 ≤ byte
+  pub below : byte < n * 4 + 4
+  pub own_wrote : wrote b.log p (n * 4) ≡ true
+  pub lower_wrote : wrote a.log p (n * 4) ≡ true
 
 -- an update covers its word
 word_covered : (x : Access) (p : Region) (n j : ℕ) → same_region p x.region ≡ true → byte_count x.width ≡ 4 → x.first ≡ n * 4 → j < 4 → at_byte p (n * 4 + j) x ≡ true
@@ -159,7 +159,7 @@ in_word a w n byte p r h i = (omega (arith, p, r, h, i), omega (arith, p, r, h, 
 other_group : (g a b : ℕ) → a < g → b ≡ g → a ≡ b → ⊥
 other_group g a b h e k = omega arith
 
-both_wrote : (l : Launch) (g : ℕ) (a b u : State) → Ready l g a → Over l g a b u → crossing l a.log b.log ≡ None → (p : Region) (byte : ℕ) → wrote b.log p byte ≡ true → wrote a.log p byte ≡ true
+pub both_wrote : (l : Launch) (g : ℕ) (a b u : State) → Ready l g a → Over l g a b u → crossing l a.log b.log ≡ None → (p : Region) (byte : ℕ) → wrote b.log p byte ≡ true → wrote a.log p byte ≡ true
     → Both l g a b p byte
 both_wrote l g a b u ready over none p byte h k =
     let z = wrote_some b.log p byte h in
@@ -188,8 +188,16 @@ both_wrote l g a b u ready over none p byte h k =
       lower_wrote = word_wrote y.0 a.log p fz.1 y.1 y.2 sy.0 fy.0 first_y;
     }
 
-three_numbers : (c : Class) (k : ℕ) (o p q : Option ℕ) (s a b : ℕ) → o ≡ Some s → p ≡ Some a → q ≡ Some b → joined_numbers c k o p q ≡ Some (byte_of k (joined_number c s a b))
+pub three_numbers : (c : Class) (k : ℕ) (o p q : Option ℕ) (s a b : ℕ) → o ≡ Some s → p ≡ Some a → q ≡ Some b → joined_numbers c k o p q ≡ Some (byte_of k (joined_number c s a b))
 three_numbers c k o p q s a b h i j = ap₂ (λ x y. joined_numbers c k x y q) h i ∙ ap (joined_numbers c k (Some s) (Some a)) j
+
+-- the numbers of a word before, and after the operands of each, where there is one that the groups below updated it with
+pub three_words : (c : Class) (n : ℕ) (us vs : List ℕ) (first lower own : Cells) → Updated c us first lower (n * 4) → true ≡ some_operand us → Updated c vs first own (n * 4)
+    → (s : ℕ) × (number first (n * 4) 4 ≡ Some s) × (number lower (n * 4) 4 ≡ Some (folded c us s)) × (number own (n * 4) 4 ≡ Some (folded c vs s))
+three_words c n [] vs first lower own r some_us u = absurd (true≢false some_us)
+three_words c n (x ∷ us) vs first lower own r some_us u =
+    let s = updated_old c x us first lower (n * 4) r in
+    (s.0, s.1, updated_number c (x ∷ us) first lower (n * 4) s.0 r s.1, updated_number c vs first own (n * 4) s.0 u s.1)
 
 -- a word that both updated, by operands of each
 operands_joined : (c : Class) (n k byte : ℕ) (us vs : List ℕ) (first lower own both : Cells) → byte ≡ n * 4 + k → k < 4 → Updated c us first lower (n * 4) → true ≡ some_operand us
@@ -197,18 +205,16 @@ operands_joined : (c : Class) (n k byte : ℕ) (us vs : List ℕ) (first lower o
 operands_joined c n k byte [] vs first lower own both at h r some_us u w some_vs = absurd (true≢false some_us)
 operands_joined c n k byte (x ∷ us) [] first lower own both at h r some_us u w some_vs = absurd (true≢false some_vs)
 operands_joined c n k byte (x ∷ us) (v ∷ vs) first lower own both at h r some_us u w some_vs =
-    let s = updated_old c x us first lower (n * 4) r in
-    let a = updated_number c (x ∷ us) first lower (n * 4) s.0 r s.1 in
-    let b = updated_number c (v ∷ vs) first own (n * 4) s.0 u s.1 in
+    let s = three_words c n (x ∷ us) (v ∷ vs) first lower own r some_us u in
     let word : byte / 4 * 4 ≡ n * 4 = omega (arith, at, h) in
     let byte_at : byte % 4 ≡ k = omega (arith, at, h) in
     ap both at
-    ∙ updated_byte c v vs lower both (n * 4) (folded c (x ∷ us) s.0) k w a h
+    ∙ updated_byte c v vs lower both (n * 4) (folded c (x ∷ us) s.0) k w s.2 h
     ∙ ap (λ z. Some (byte_of k z)) (sym (joined_folds c us (v ∷ vs) x s.0))
-    ∙ sym (three_numbers c k (number first (n * 4) 4) (number lower (n * 4) 4) (number own (n * 4) 4) s.0 (folded c (x ∷ us) s.0) (folded c (v ∷ vs) s.0) s.1 a b)
+    ∙ sym (three_numbers c k (number first (n * 4) 4) (number lower (n * 4) 4) (number own (n * 4) 4) s.0 (folded c (x ∷ us) s.0) (folded c (v ∷ vs) s.0) s.1 s.2 s.3)
     ∙ sym (ap₂ (λ i f. joined_numbers c i (number first f 4) (number lower f 4) (number own f 4)) byte_at word)
 
-byte_in : (n byte : ℕ) → n * 4 ≤ byte → byte < n * 4 + 4 → (k : ℕ) × (byte ≡ n * 4 + k) × (k < 4)
+pub byte_in : (n byte : ℕ) → n * 4 ≤ byte → byte < n * 4 + 4 → (k : ℕ) × (byte ≡ n * 4 + k) × (k < 4)
 byte_in n byte h i = (byte - n * 4, omega arith, omega arith)
 
 both_joined : (l : Launch) (g : ℕ) (a b u : State) → Ready l g a → Over l g a b u → (p : Region) (byte : ℕ) → wrote b.log p byte ≡ true → Both l g a b p byte
@@ -232,16 +238,16 @@ memory_joined l g a b u ready over none = fun_ext (λ p. fun_ext (λ byte. go p 
     go p byte true h true k = both_joined l g a b u ready over p byte h (both_wrote l g a b u ready over none p byte h k) ∙ sym (cond-true _ _ _ h ∙ cond-true _ _ _ k)
 
 -- what is known of the groups joined so far
-record So_far (l : Launch) (g : ℕ) (lower : Joined) : Type 0 where
-  a : State
-  ready : Ready l g a
-  runs : RunsTo l (start l) lower.events a
-  log : lower.log ≡ a.log
-  memory : lower.memory ≡ a.memory
-  report : lower.report ≡ None
+pub record So_far (l : Launch) (g : ℕ) (lower : Joined) : Type 0 where
+  pub a : State
+  pub ready : Ready l g a
+  pub runs : RunsTo l (start l) lower.events a
+  pub log : lower.log ≡ a.log
+  pub memory : lower.memory ≡ a.memory
+  pub report : lower.report ≡ None
 
 -- one group more: a report, or the next
-abbrev OneMore : Launch → ℕ → Part → Joined → Option Fault → Type 0
+abbrev pub OneMore : Launch → ℕ → Part → Joined → Option Fault → Type 0
 OneMore l g part joined None = So_far l (suc g) joined × (part.stopped ≡ None)
 OneMore l g part joined (Some f) = (end : State) × RunsIntoFault l joined.events end f
 
@@ -283,7 +289,7 @@ one_crossed l g lower part far c =
       ),
     )
 
-one_more : (l : Launch) (g : ℕ) → IsGroup (plan_of l g) → (lower : Joined) (part : Part) → So_far l g lower → IsPart l g part → OneMore l g part (join l lower part) (join l lower part).report
+pub one_more : (l : Launch) (g : ℕ) → IsGroup (plan_of l g) → (lower : Joined) (part : Part) → So_far l g lower → IsPart l g part → OneMore l g part (join l lower part) (join l lower part).report
 one_more l g whole lower part far is =
     ⊎_elim
     (λ t. subst (λ o. OneMore l g part (join_at l lower part o) (join_at l lower part o).report) (sym (ap (λ z. crossing l z part.end.log) far.log ∙ t.3))
@@ -308,6 +314,9 @@ all_joined l grouped g (part ∷ parts) lower far all =
     (λ next rest. all_joined l grouped (suc g) parts (join l lower part) next rest)
     (join l lower part).report refl (one_more l g (group_is l g grouped all.1) lower part far all.0)
 
+-- before any group
+pub no_group : (l : Launch) → So_far l 0 (nothing_yet l)
+no_group l = record { a = start l; ready = ready_start l; runs = refl; log = refl; memory = refl; report = refl }
+
 pub join_is_canonical : JoinIsCanonical
-join_is_canonical l parts grouped all =
-    all_joined l grouped 0 parts (nothing_yet l) (record { a = start l; ready = ready_start l; runs = refl; log = refl; memory = refl; report = refl }) all
+join_is_canonical l parts grouped all = all_joined l grouped 0 parts (nothing_yet l) (no_group l) all

@@ -9,3 +9,6 @@ pub mod Ride
 pub mod Joins
 pub mod Parts
 pub mod Lowest
+pub mod Kept
+pub mod Steps
+pub mod JoinedBytes

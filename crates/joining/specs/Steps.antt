@@ -1,6 +1,6 @@
 -- The groups of a launch joined one by one, as code joins them (OpenCL 1.2, 3.2; own).
 use Rattle.std.specs.Prelude.{◌≡◌, ◌≢◌, ℕ, zero, suc, ◌*◌, ◌/◌, ◌%◌, ◌<◌, ◌≤◌, true, false, None, Some, List, ◌++◌}
-use Rattle.clmodel.specs.Cells.{byte_count, byte_of, number}
+use Rattle.clmodel.specs.Cells.{byte_of, number}
 use Rattle.clmodel.specs.Launch.{Launch, group_of, region_of, conflict, conflict_between}
 use Rattle.clmodel.specs.Law.{Keeps, Logged, conflict_from, RunsClean, RunsIntoFault}
 use Rattle.clmodel.specs.Run.{State, initial}

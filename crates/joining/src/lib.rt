@@ -5,6 +5,7 @@
 ghost use Rattle.joining.specs.Crossings.{LowerFirst};
 ghost use Rattle.joining.specs.Join.{JoinIsCanonical};
 ghost use Rattle.joining.specs.Parts.{OnePart};
+ghost use Rattle.joining.specs.Steps.{JoinReports, JoinEnds, AreOwn, AreLower, BytesAreJoined, KeptConflicts, KeptBoth};
 
 /// The groups of a launch run apart and joined, up to the first report, are its canonical run: its events, what it leaves in memory, and its
 /// report. This holds for all classes of updates, for a group that stops, and for one whose access conflicts with a lower group's.
@@ -20,4 +21,40 @@ pub fn one_part()
 /// Of the conflicts of one access the report names the one on the lower byte, and on one byte that with the lower groups.
 pub fn lower_byte_first()
     ensures { LowerFirst }
+{}
+
+/// Where the join of a further group has a report, the canonical run of the launch makes the events of the join and ends with that report.
+pub fn join_reports()
+    ensures { JoinReports }
+{}
+
+/// Where all groups are joined without a report, the canonical run of the launch makes their events and leaves their memory.
+pub fn join_ends()
+    ensures { JoinEnds }
+{}
+
+/// The accesses of a group's run are of its items, to buffers or to its own local objects.
+pub fn accesses_are_own()
+    ensures { AreOwn }
+{}
+
+/// The accesses of the groups joined so far are of the items of lower groups, to buffers or to those groups' local objects.
+pub fn accesses_are_lower()
+    ensures { AreLower }
+{}
+
+/// A byte that a further group wrote, where nothing crosses, is the group's own where no lower group wrote it, and else one of the joined
+/// number of its word.
+pub fn bytes_are_joined()
+    ensures { BytesAreJoined }
+{}
+
+/// An access conflicts with a log of other groups' accesses as it does with what is kept of that log.
+pub fn kept_conflicts()
+    ensures { KeptConflicts }
+{}
+
+/// What is kept of two logs, one after the other, keeps both.
+pub fn kept_both()
+    ensures { KeptBoth }
 {}

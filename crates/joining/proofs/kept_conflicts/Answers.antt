@@ -1,0 +1,5 @@
+use Rattle.joining.proofs.Kept as kept
+use Rattle.joining.proofs.kept_conflicts.Goals as goal
+
+pub returns : goal.returns
+returns c = kept.kept_conflicts
