@@ -1,5 +1,5 @@
 -- Launches of whole work-groups (OpenCL 1.2, 5.8), and what a log is seen as.
-use Rattle.std.specs.Prelude.{◌≡◌, ℕ, ◌*◌, ◌%◌, ◌<◌, ◌^◌}
+use Rattle.std.specs.Prelude.{◌≡◌, ◌*◌, ◌%◌, ◌<◌, ◌^◌}
 use Rattle.clmodel.specs.Setup.{Setup, item_count, group_items}
 use Rattle.shadow_list.specs.Log.{Log, logged}
 use Rattle.shadow_list.specs.declared.list.ListLog.{ListLog}

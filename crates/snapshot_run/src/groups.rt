@@ -1,6 +1,6 @@
 //! The run of one work-group.
 
-ghost use Rattle.std.specs.Prelude.{IfOk};
+ghost use Rattle.std.specs.Prelude.{◌≡◌, Some, map, IfOk};
 ghost use Rattle.clmodel.specs.Next.{launch_of};
 ghost use Rattle.item_step.specs.Launches.{setup_of};
 ghost use Rattle.group_run.specs.Results.{IsResult};
@@ -8,12 +8,40 @@ ghost use Rattle.joining.specs.Steps.{HasGroup};
 ghost use Rattle.spaces_base.specs.Buffers.{bytes_in};
 ghost use Rattle.snapshot_run.specs.Launches.{HasGroups, list_log};
 
-use group_run::GroupResult;
+use crate::loaded::LoadedLaunch;
+use clmodel::next_laws::budget_bounds;
+use clmodel::text::Name;
+use group_run::{GroupResult, run_group};
 use item_step::Launch;
 use shadow_list::ListLog;
 use spaces::Overlay;
 use spaces_base::Buffers;
 use std::alloc::{AllocError, Global};
+
+/// The bytes of the buffer of a name, none where there is no such buffer.
+fn bytes_in<'a>(buffers: &'a Buffers, name: &Name) -> &'a [u8]
+    ensures { result.now ≡ bytes_in buffers.now name.now }
+{
+    match buffers.get(name) {
+        Some(bytes) => bytes.as_slice(),
+        None => &[],
+    }
+}
+
+/// An overlay without changes for each of these names, over the bytes of its buffer. An error is out of memory.
+fn overlays_of<'a>(
+    alloc: Global,
+    buffers: &'a Buffers,
+    names: &[Name],
+) -> Result<Vec<Overlay<'a>>, AllocError>
+    ensures { IfOk result (λ overlays. map (λ overlay. overlay.bytes) overlays.items ≡ map (λ name. map Some (bytes_in buffers.now name)) names.now) }
+{
+    let mut overlays = Vec::with_capacity(alloc, names.len())?;
+    for name in names {
+        overlays.push(Overlay::new(alloc, bytes_in(buffers, name)))?;
+    }
+    Ok(overlays)
+}
 
 /// The canonical run of one work-group of a launch on the buffers as they are (OpenCL 1.2, sections 3.2 and 5.8), whatever other groups
 /// do: the overlays hold what the group leaves, and the buffers stay. An error is out of memory.
@@ -27,5 +55,9 @@ pub fn one_group<'a>(
     requires there { HasGroup (launch_of (setup_of launch.now) (bytes_in buffers.now)) group }
     ensures { IfOk result (IsResult (λ overlay. overlay.bytes) list_log (launch_of (setup_of launch.now) (bytes_in buffers.now)) group) }
 {
-    Err(AllocError)
+    budget_bounds();
+    let _size = launch.group_size();
+    let loaded = LoadedLaunch::new(alloc, launch, buffers);
+    let overlays = overlays_of(alloc, buffers, launch.buffer_names())?;
+    run_group(alloc, &loaded, group, overlays, ListLog::new(alloc))
 }

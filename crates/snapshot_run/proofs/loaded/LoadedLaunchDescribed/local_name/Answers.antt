@@ -1,4 +1,4 @@
-use Rattle.std.proofs.Common.{◌≡◌, [], IfOk, slice_index_or, ◌<◌, length, map, ap, sym, subst, ◌∙◌, arith}
+use Rattle.std.proofs.Common.{◌≡◌, [], IfOk, slice_index_or, ◌<◌, length, ap, sym, subst, ◌∙◌, arith}
 use Rattle.std.proofs.lemmas.Bool.{ltb-true}
 use Rattle.std.proofs.lemmas.List.{length-map}
 use Rattle.clmodel.specs.Setup.{local_objects}
