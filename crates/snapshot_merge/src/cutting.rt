@@ -1,17 +1,17 @@
 //! Schedules, one after another.
 
-ghost use Rattle.std.specs.Prelude.{◌≡◌, ◌++◌, ◌∷◌, [], List, OnOk, IfSome, IfNone, take};
+ghost use Rattle.std.specs.Prelude.{◌≡◌, ◌++◌, ◌∷◌, [], List, ◌<◌, OnOk, IfSome, IfNone, take};
 ghost use Rattle.clmodel.specs.Outcome.{events_of};
 ghost use Rattle.clmodel.specs.declared.schedule.Run.{Run};
 ghost use Rattle.clmodel.specs.declared.schedule.Run.TheVariants as run;
-ghost use Rattle.snapshot_merge.specs.Runs.{EndsWith, Adds};
+ghost use Rattle.snapshot_merge.specs.Runs.{EndsWith, Adds, IsFirstOf};
 
 use clmodel::schedule::Run;
 use std::alloc::AllocError;
 
 /// The count of the last run, if it is of this item.
 fn last_count(runs: &[Run], item: u32) -> Option<u64>
-    ensures some { IfSome result (λ count. (rest : List Run) × (runs.now ≡ rest ++ Run.Item item count ∷ [])) }
+    ensures some { IfSome result (λ count. (rest : List Run) × (runs.now ≡ rest ++ run.Item item count ∷ [])) }
     ensures none { IfNone result (EndsWith item runs.now → ⊥) }
 {
     let (last, _) = runs.split_last()?;
@@ -23,10 +23,11 @@ fn last_count(runs: &[Run], item: u32) -> Option<u64>
 
 /// Adds so many events of an item, to the last run where that is of the same item. An error is out of memory, or a run of 2^64 events.
 fn add_item(runs: &mut Vec<Run>, item: u32, count: u64) -> Result<(), AllocError>
-    ensures { OnOk result (Adds runs.old.items runs.new.items (Run.Item item count ∷ []) (events_of (Run.Item item count ∷ []))) }
+    ensures { OnOk result (Adds runs.old.items runs.new.items (run.Item item count ∷ []) (events_of (run.Item item count ∷ []))) }
 {
     let Some(before) = last_count(runs.as_slice(), item) else {
-        return runs.push(Run::Item { item, count });
+        runs.push(Run::Item { item, count })?;
+        return Ok(());
     };
     let Some(sum) = before.checked_add(count) else {
         return Err(AllocError);
@@ -42,7 +43,10 @@ fn add_run(runs: &mut Vec<Run>, run: Run) -> Result<(), AllocError>
 {
     match run {
         Run::Item { item, count } => add_item(runs, item, count),
-        Run::Release { .. } => runs.push(run),
+        Run::Release { .. } => {
+            runs.push(run)?;
+            Ok(())
+        }
     }
 }
 
@@ -58,6 +62,7 @@ pub(crate) fn add_all(runs: &mut Vec<Run>, more: &[Run]) -> Result<(), AllocErro
 
 /// The first events of a run, `most` of them or all where it has fewer, and how many they are.
 fn first_of(run: Run, most: u64) -> (Run, u64)
+    requires { 0 < most }
     ensures { IsFirstOf run most result.0 result.1 }
 {
     match run {
@@ -75,11 +80,12 @@ pub(crate) fn add_first(runs: &mut Vec<Run>, more: &[Run], count: u64) -> Result
 {
     let mut left = count;
     for run in more {
-        if left > 0 {
-            let (first, taken) = first_of(*run, left);
-            add_run(runs, first)?;
-            left -= taken;
+        if left == 0 {
+            return Ok(());
         }
+        let (first, taken) = first_of(*run, left);
+        add_run(runs, first)?;
+        left -= taken;
     }
     Ok(())
 }

@@ -1,8 +1,7 @@
-//! Launches, run as their work-groups.
+//! The work-groups of a launch, run apart and joined.
 #![tactic(auto)]
 
-mod buffers;
-mod loaded;
-mod run;
-
-pub use run::run_launch;
+mod changes;
+mod cutting;
+mod meetings;
+mod words;
