@@ -1,8 +1,9 @@
 -- The number of bytes of a row, as code reads it.
-use Rattle.std.proofs.Common.{◌≡◌, ℕ, zero, suc, ◌+◌, ◌<◌, ◌≤◌, ◌⊎◌, Option, None, Some, List, [], ◌∷◌, refl, sym, ap, ◌∙◌, subst, inl, inr, arith, ⊎_elim}
+use Rattle.std.proofs.Common.{◌≡◌, ℕ, zero, suc, ◌+◌, ◌<◌, ◌≤◌, ◌⊎◌, Option, None, Some, List, [], ◌∷◌, refl, sym, ap, ◌∙◌, subst, inl, inr, arith, ⊎_elim, leb, false}
 use Rattle.std.specs.Prelude.{length, map, slice_get, Result, Ok, Err}
 use Rattle.std.specs.Option.{unwrap_or}
-use Rattle.std.proofs.lemmas.Bool.{cases_lt}
+use Rattle.std.proofs.lemmas.Bool.{cases_lt, leb-false}
+use Rattle.std.proofs.lemmas.List.{length-map}
 use Rattle.clmodel.specs.Cells.{Cells, cells_of, byte_count, number, joined, lowest_unset, unset_or}
 use Rattle.clmodel.specs.declared.access.Width.{Width}
 use Rattle.clmodel.specs.declared.access.Width.TheVariants.{One, Two, Four, Eight}
@@ -60,6 +61,12 @@ byte_count_some Eight = omega arith
 
 pub or_0 : (cells : Cells) (first count : ℕ) → number cells first count ≡ None → 0 ≡ number_or_0 cells first count
 or_0 cells first count h = sym (ap (λ o. unwrap_or o 0) h)
+
+-- bytes of a row that ends before
+pub past_0 : (row : List ℕ) (at count : ℕ) → 0 < count → leb (at + count) (length row) ≡ false → 0 ≡ number_or_0 (cells_of (map Some row)) at count
+past_0 row at count b h =
+    let e : length (map Some row) ≡ length row = length-map row Some in
+    or_0 (cells_of (map Some row)) at count (number_past (map Some row) at count b (omega (arith, e, leb-false (at + count) (length row) h)))
 
 pub loaded_or_0 : (cells : Cells) (first count value : ℕ) → number cells first count ≡ Some value → value ≡ number_or_0 cells first count
 loaded_or_0 cells first count value h = sym (ap (λ o. unwrap_or o 0) h)

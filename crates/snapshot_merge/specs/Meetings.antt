@@ -1,5 +1,5 @@
 -- The first access of a group that meets those of the lower groups (OpenCL 1.2, 3.3.1; own).
-use Rattle.std.specs.Prelude.{◌≡◌, ℕ, suc, ◌<◌, ◌==◌, Bool, true, false, ◌&&◌, nat_lt, Option, None, Some, List, length, slice_get, if◌then◌else◌}
+use Rattle.std.specs.Prelude.{◌≡◌, ℕ, ◌+◌, ◌<◌, ◌==◌, Bool, true, false, ◌&&◌, nat_lt, Option, None, Some, List, length, slice_get, if◌then◌else◌}
 use Rattle.clmodel.specs.Launch.{Launch, location_of}
 use Rattle.clmodel.specs.declared.access.Access.{Access}
 use Rattle.clmodel.specs.declared.access.Region.{Region}
@@ -38,4 +38,9 @@ abbrev pub IsFirstMet : List Entry → List Access → Option Met → Type 0
 IsFirstMet entries kept None = MissUpTo entries kept (length entries)
 IsFirstMet entries kept (Some met) =
     (k : ℕ) × (slice_get entries k ≡ Some met.entry) × MissUpTo entries kept k × (met_at met.entry.access.region met.entry.access kept ≡ Some met.meeting)
-    × (met.last ≡ (suc k == length entries))
+    × (met.last ≡ (k + 1 == length entries))
+
+-- the report where an access meets those of the lower groups: the group's own, if the access is its last and it stopped with a conflict on
+-- a lower byte, else the meeting
+abbrev pub report_at : Launch → Met → Option Fault → Option Fault
+report_at launch met stopped = if met.last && is_below stopped met.meeting.byte then stopped else Some (meeting_fault launch met.entry.access met.meeting)

@@ -1,6 +1,6 @@
 //! Schedules, one after another.
 
-ghost use Rattle.std.specs.Prelude.{◌≡◌, ◌++◌, ◌∷◌, [], List, ◌<◌, OnOk, IfSome, IfNone, take};
+ghost use Rattle.std.specs.Prelude.{◌≡◌, ◌++◌, ◌∷◌, [], List, ◌<◌, OnOk, IfOk, ◌+◌, IfSome, IfNone, take};
 ghost use Rattle.clmodel.specs.Outcome.{events_of};
 ghost use Rattle.clmodel.specs.declared.schedule.Run.{Run};
 ghost use Rattle.clmodel.specs.declared.schedule.Run.TheVariants as run;
@@ -21,6 +21,16 @@ fn last_count(runs: &[Run], item: u32) -> Option<u64>
     }
 }
 
+/// The sum of two counts. An error stands for a run of 2^64 events.
+fn added(count: u64, more: u64) -> Result<u64, AllocError>
+    ensures { IfOk result (λ sum. sum ≡ count + more) }
+{
+    match count.checked_add(more) {
+        Some(sum) => Ok(sum),
+        None => Err(AllocError),
+    }
+}
+
 /// Adds so many events of an item, to the last run where that is of the same item. An error is out of memory, or a run of 2^64 events.
 fn add_item(runs: &mut Vec<Run>, item: u32, count: u64) -> Result<(), AllocError>
     ensures { OnOk result (Adds runs.old.items runs.new.items (run.Item item count ∷ []) (events_of (run.Item item count ∷ []))) }
@@ -29,9 +39,7 @@ fn add_item(runs: &mut Vec<Run>, item: u32, count: u64) -> Result<(), AllocError
         runs.push(Run::Item { item, count })?;
         return Ok(());
     };
-    let Some(sum) = before.checked_add(count) else {
-        return Err(AllocError);
-    };
+    let sum = added(before, count)?;
     let last = runs.len() - 1;
     runs[last] = Run::Item { item, count: sum };
     Ok(())

@@ -3,5 +3,7 @@
 
 mod changes;
 mod cutting;
+mod laws;
 mod meetings;
+mod sofar;
 mod words;
