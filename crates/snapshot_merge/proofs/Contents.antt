@@ -1,5 +1,5 @@
 -- What the joined groups leave in the buffers, as code holds it.
-use Rattle.std.proofs.Common.{◌≡◌, ℕ, zero, suc, ◌+◌, ◌*◌, ◌/◌, ◌%◌, ◌<◌, ◌≤◌, ◌⊎◌, ◌&&◌, Bool, true, false, Option, None, Some, List, [], ◌∷◌, ◌++◌, length, map, refl, sym, ap, ap₂, ◌∙◌, subst, inl, inr, arith}
+use Rattle.std.proofs.Common.{◌≡◌, ℕ, zero, suc, ◌+◌, ◌*◌, ◌/◌, ◌%◌, ◌<◌, ◌≤◌, ◌⊎◌, ◌&&◌, Bool, true, false, Option, None, Some, List, [], ◌∷◌, ◌++◌, length, map, refl, sym, ap, ap₂, ◌∙◌, subst, inl, inr, arith, ⊎_elim}
 use Rattle.std.specs.Prelude.{reverse, slice_get, slice_index_or, if◌then◌else◌}
 use Rattle.std.specs.Option.{option_map, unwrap_or}
 use Rattle.std.proofs.lemmas.List.{reverse-append, map-append}
@@ -37,11 +37,7 @@ use Rattle.snapshot_merge.proofs.Filled.{own_set}
 pub in_log : (log kept : List Access) (x : Access) → Keeps log kept → Logged kept x → Logged log x
 in_log [] kept x h m = subst (λ z. Logged z x) h m
 in_log (y ∷ log) kept x (inl h) m = inr (in_log log kept x h.1 m)
-in_log (y ∷ log) kept x (inr (rest, e, h)) m = go (subst (λ z. Logged z x) e m)
-  where
-    go : (y ≡ x) ⊎ Logged rest x → Logged (y ∷ log) x
-    go (inl p) = inl p
-    go (inr p) = inr (in_log log rest x h p)
+in_log (y ∷ log) kept x (inr (rest, e, h)) m = ⊎_elim inl (λ p. inr (in_log log rest x h p)) (subst (λ z. Logged z x) e m)
 
 pub in_kept : (log kept : List Access) (x : Access) → Keeps log kept → Logged log x → Logged kept x
 in_kept [] kept x h m = absurd m
@@ -91,14 +87,16 @@ entry_logged (y ∷ es) zero e h =
 entry_logged (y ∷ es) (suc k) e h =
     subst (λ z. Logged z e.access) (sym (accesses_push y es)) (logged_front (accesses_of es) (y.access ∷ []) e.access (entry_logged es k e h))
 
+later_entry : (y : Entry) (es : List Entry) (x : Access) → (Logged (accesses_of es) x → (k : ℕ) × (e : Entry) × (slice_get es k ≡ Some e) × (e.access ≡ x))
+    → Logged (accesses_of es) x ⊎ Logged (y.access ∷ []) x → (k : ℕ) × (e : Entry) × (slice_get (y ∷ es) k ≡ Some e) × (e.access ≡ x)
+later_entry y es x rest (inl m) = let r = rest m in (suc r.0, r.1, r.2, r.3)
+later_entry y es x rest (inr (inl e)) = (zero, y, refl, e)
+later_entry y es x rest (inr (inr m)) = absurd m
+
 pub logged_entry : (es : List Entry) (x : Access) → Logged (accesses_of es) x → (k : ℕ) × (e : Entry) × (slice_get es k ≡ Some e) × (e.access ≡ x)
 logged_entry [] x h = absurd h
-logged_entry (y ∷ es) x h = go (logged_append (accesses_of es) (y.access ∷ []) x (subst (λ z. Logged z x) (accesses_push y es) h))
-  where
-    go : Logged (accesses_of es) x ⊎ Logged (y.access ∷ []) x → (k : ℕ) × (e : Entry) × (slice_get (y ∷ es) k ≡ Some e) × (e.access ≡ x)
-    go (inl m) = let r = logged_entry es x m in (suc r.0, r.1, r.2, r.3)
-    go (inr (inl e)) = (zero, y, refl, e)
-    go (inr (inr m)) = absurd m
+logged_entry (y ∷ es) x h =
+    later_entry y es x (λ m. logged_entry es x m) (logged_append (accesses_of es) (y.access ∷ []) x (subst (λ z. Logged z x) (accesses_push y es) h))
 
 -- ---- buffers and a memory
 

@@ -36,6 +36,7 @@ use Rattle.joining.specs.Join.{Joined, join, join_at}
 use Rattle.joining.specs.Steps.{HasGroup, IsJoined, AreOwn, AreLower, KeptConflicts}
 use Rattle.joining.proofs.Base.{reports_not_finishes}
 use Rattle.group_run.specs.Logs.{IsLogged, numbered}
+use Rattle.snapshot_merge.specs.Meetings.{meeting_fault, is_below}
 use Rattle.snapshot_merge.proofs.CrossedRuns.{accesses, Follows, runs_follow, none_from, repeat_calm, inner_calm, numbered_all, placed, Cut, cut}
 use Rattle.snapshot_merge.proofs.CrossedNotes.{made_there, there_made, there_at, at_there, get_below, Repeats, EndsAt, Found, found}
 use Rattle.snapshot_merge.proofs.CrossedMeets.{logged_kept, apart_between, other_region, crossing_none, crossing_at, IsMet, met_conflict}

@@ -1,6 +1,9 @@
 -- One more group joined to the groups so far, as code does it.
 use Rattle.std.proofs.Common.{◌≡◌, ℕ, suc, ◌+◌, ◌*◌, ◌<◌, ◌≤◌, ◌==◌, ◌&&◌, true, false, if◌then◌else◌, Option, None, Some, List, [], ◌∷◌, ◌++◌, length, take, map, refl, sym, ap, ap₂, ◌∙◌, subst, inl, inr, arith}
-use Rattle.std.specs.Prelude.{slice_get}
+use Rattle.std.specs.Prelude.{slice_get, Vec, Result, Ok, Err, IfOk}
+use Rattle.std.specs.declared.alloc.Global.{Global}
+use denote.Bor.{Bor}
+use Rattle.spaces.specs.Overlay.{Overlaid}
 use Rattle.std.specs.Option.{option_map}
 use Rattle.std.proofs.lemmas.List.{map-id}
 use Rattle.clmodel.specs.Cells.{byte_count}
@@ -31,7 +34,11 @@ use Rattle.shadow_list.specs.declared.log.Entry.{Entry}
 use Rattle.snapshot_merge.specs.Runs.{Adds}
 use Rattle.snapshot_merge.specs.Laws.{JoiningLaws}
 use Rattle.snapshot_merge.specs.Meetings.{met_at, AreOthers, MissUpTo, IsFirstMet, report_at, is_below, meeting_fault}
-use Rattle.snapshot_merge.specs.Sofar.{HoldsLog, IsStopped}
+use Rattle.snapshot_merge.specs.Changes.{AreChanged, changes_of, value_of}
+use Rattle.snapshot_merge.specs.Memory.{HoldsMemory}
+use Rattle.snapshot_merge.specs.Sofar.{HoldsLog, Holds, IsStopped}
+use Rattle.snapshot_merge.specs.declared.sofar.Sofar.{Sofar}
+use Rattle.snapshot_merge.proofs.Contents.{IsClear, joined_contents}
 use Rattle.snapshot_merge.specs.declared.meetings.Met.{Met}
 use Rattle.snapshot_merge.proofs.Crossed.{Laws, IsFurther, Misses, Crosses, not_crossed, crossed, entries_of_others, locals_miss}
 use Rattle.snapshot_merge.proofs.CrossedRuns.{none_from}
@@ -159,3 +166,134 @@ log_joined l g lower part log footprint old more r next new first remembers adds
       events = adds.events ∙ ap₂ (λ x y. x ++ y) r.held.events (sym r.events) ∙ ap (λ (j : Joined). j.events) (sym whole);
       merged = adds.merged r.held.merged r.merged;
     }
+
+-- ---- from what a call is given
+
+-- what a call that joins one more group is given
+pub record IsGiven (l : Launch) (g : ℕ) (sofar : Sofar) (more : List Run) : Type 0 where
+  pub laws : JoiningLaws
+  pub grouped : IsGrouped l
+  pub there : HasGroup l g
+  pub holds : Holds l g sofar
+  pub merged : IsMerged more
+
+-- what it finds to be met first, whatever is kept
+abbrev pub Finds : ℕ → Sofar → Log → Option Met → Type 0
+Finds g sofar log found =
+    (kept : List Access) → shadow.Keeps sofar.footprint kept → (g ≡ 0 → kept ≡ []) → AreOthers log.accesses kept → IsFirstMet log.accesses kept found
+
+stopped_running :
+    (l : Launch) (g : ℕ) (sofar : Sofar) (log : Log) (more : List Run) (fault : Fault) (c : IsGiven l g sofar more) (run : IsRun (plan_of l g) (IsLogged (plan_of l g) log) (start l) (events_of more) (Some fault))
+    → IsRunning l g c.holds.joined (stopped_part l g (IsLogged (plan_of l g) log) (events_of more) fault run) log sofar.footprint sofar.runs.items more
+stopped_running l g sofar log more fault c run =
+    record {
+      laws = c.laws;
+      grouped = c.grouped;
+      joined = c.holds.is_joined;
+      there = c.there;
+      runs = (run.runs, run.reports);
+      logged = run.holds;
+      held = c.holds.log c.there;
+      events = refl;
+      merged = c.merged;
+    }
+
+-- the spaces that a group leaves, by their bytes
+abbrev pub Left : Launch → ℕ → List Overlaid → Log → Events → State → Type 0
+Left l g spaces log = Leaves (λ (space : Overlaid). space.bytes) (plan_of l g) spaces log
+
+done_running :
+    (l : Launch) (g : ℕ) (sofar : Sofar) (log : Log) (more : List Run) (spaces : List Overlaid) (c : IsGiven l g sofar more) (run : IsRun (plan_of l g) (Left l g spaces log) (start l) (events_of more) None)
+    → IsRunning l g c.holds.joined (done_part l g (Left l g spaces log) (events_of more) run) log sofar.footprint sofar.runs.items more
+done_running l g sofar log more spaces c run =
+    record {
+      laws = c.laws;
+      grouped = c.grouped;
+      joined = c.holds.is_joined;
+      there = c.there;
+      runs = (run.0.runs, run.1);
+      logged = run.0.holds.logged;
+      held = c.holds.log c.there;
+      events = refl;
+      merged = c.merged;
+    }
+
+found_first :
+    (l : Launch) (g : ℕ) (lower : Joined) (part : Part) (log : Log) (sofar : Sofar) (more : List Run) (r : IsRunning l g lower part log sofar.footprint sofar.runs.items more) (found : Option Met)
+    → Finds g sofar log found → IsFirstMet log.accesses r.held.kept found
+found_first l g lower part log sofar more r found finds =
+    finds r.held.kept r.held.remembers (first_none l g lower part log sofar.footprint sofar.runs.items more r) (others l g lower part log sofar.footprint sofar.runs.items more r)
+
+-- a group that stopped meets the lower groups
+pub stop_meets :
+    (l : Launch) (g : ℕ) (sofar : Sofar) (log : Log) (more new : List Run) (fault : Fault) (c : IsGiven l g sofar more)
+    → IsRun (plan_of l g) (IsLogged (plan_of l g) log) (start l) (events_of more) (Some fault) → (met : Met) (report : Fault) → Finds g sofar log (Some met)
+    → Adds sofar.runs.items new more (take (met.entry.event + 1) (events_of more)) → Some report ≡ report_at l met (Some fault) → IsStopped l report new
+stop_meets l g sofar log more new fault c run met report finds adds told =
+    let part : Part = stopped_part l g (IsLogged (plan_of l g) log) (events_of more) fault run in
+    let r : IsRunning l g c.holds.joined part log sofar.footprint sofar.runs.items more = stopped_running l g sofar log more fault c run in
+    meets_stopped l g c.holds.joined part log sofar.footprint sofar.runs.items more new r met report (found_first l g c.holds.joined part log sofar more r (Some met) finds) adds told
+
+-- a group that stopped meets none of them
+pub stop_alone :
+    (l : Launch) (g : ℕ) (sofar : Sofar) (log : Log) (more new : List Run) (fault : Fault) (c : IsGiven l g sofar more)
+    → IsRun (plan_of l g) (IsLogged (plan_of l g) log) (start l) (events_of more) (Some fault) → Finds g sofar log None → Adds sofar.runs.items new more (events_of more) → IsStopped l fault new
+stop_alone l g sofar log more new fault c run finds adds =
+    let part : Part = stopped_part l g (IsLogged (plan_of l g) log) (events_of more) fault run in
+    let r : IsRunning l g c.holds.joined part log sofar.footprint sofar.runs.items more = stopped_running l g sofar log more fault c run in
+    own_stopped l g c.holds.joined part log sofar.footprint sofar.runs.items more new r fault (found_first l g c.holds.joined part log sofar more r None finds) adds refl
+
+-- a group that has ended meets the lower groups
+pub done_meets :
+    (l : Launch) (g : ℕ) (sofar : Sofar) (log : Log) (more new : List Run) (spaces : List Overlaid) (c : IsGiven l g sofar more)
+    → IsRun (plan_of l g) (Left l g spaces log) (start l) (events_of more) None → (met : Met) (report : Fault) → Finds g sofar log (Some met)
+    → Adds sofar.runs.items new more (take (met.entry.event + 1) (events_of more)) → Some report ≡ report_at l met None → IsStopped l report new
+done_meets l g sofar log more new spaces c run met report finds adds told =
+    let part : Part = done_part l g (Left l g spaces log) (events_of more) run in
+    let r : IsRunning l g c.holds.joined part log sofar.footprint sofar.runs.items more = done_running l g sofar log more spaces c run in
+    meets_stopped l g c.holds.joined part log sofar.footprint sofar.runs.items more new r met report (found_first l g c.holds.joined part log sofar more r (Some met) finds) adds told
+
+-- what its changes come to, whatever is kept
+abbrev pub Changes : Sofar → List Overlaid → Log → List (List ℕ) → Type 0
+Changes sofar spaces log new =
+    (kept : List Access) → shadow.Keeps sofar.footprint kept
+    → AreChanged sofar.contents.items new (changes_of (value_of (map (λ row. row.now) sofar.first.items) sofar.contents.items (λ n b. wrote kept (region.Buffer n) b) (map (λ (space : Overlaid). space.bytes) spaces)) log.accesses)
+
+-- a group that has ended is joined, where a further group may follow
+pub done_joined :
+    (l : Launch) (g : ℕ) (sofar : Sofar) (log : Log) (more : List Run) (spaces : List Overlaid) (c : IsGiven l g sofar more)
+    → IsRun (plan_of l g) (Left l g spaces log) (start l) (events_of more) None → Finds g sofar log None → (new : Sofar) → Changes sofar spaces log new.contents.items → new.first ≡ sofar.first
+    → (HasGroup l (suc g) → ((kept : List Access) → shadow.Keeps sofar.footprint kept → shadow.Keeps new.footprint (accesses_of log.accesses ++ kept)) × Adds sofar.runs.items new.runs.items more (events_of more))
+    → Holds l (suc g) new
+done_joined l g sofar log more spaces c run finds new changes first further_held =
+    let part : Part = done_part l g (Left l g spaces log) (events_of more) run in
+    let lower = c.holds.joined in
+    let r : IsRunning l g lower part log sofar.footprint sofar.runs.items more = done_running l g sofar log more spaces c run in
+    let met : IsFirstMet log.accesses r.held.kept None = found_first l g lower part log sofar more r None finds in
+    let none = none_crosses l g lower part log sofar.footprint sofar.runs.items more r met in
+    let clear : IsClear l g lower part sofar.contents.items log.accesses r.held.kept (map (λ row. row.now) sofar.first.items) (map (λ (space : Overlaid). space.bytes) spaces)
+    = record {
+        law = c.laws.bytes;
+        grouped = c.grouped;
+        joined = c.holds.is_joined;
+        there = c.there;
+        runs = r.runs;
+        none = none;
+        holds = c.holds.contents;
+        logged = r.logged.keeps;
+        keeps = r.held.keeps;
+        opening = c.holds.first;
+        leaves = run.0.holds.contents;
+      } in
+    record {
+      joined = join l lower part;
+      is_joined = is_joined l g lower part log sofar.footprint sofar.runs.items more r met refl;
+      first = ap (λ (z : Vec (Bor (List ℕ)) Global). map (λ row. row.now) z.items) first ∙ c.holds.first;
+      contents = subst (λ (j : Joined). HoldsMemory l j.memory new.contents.items) (sym (joined_whole l lower part none)) (joined_contents l g lower part sofar.contents.items log.accesses r.held.kept (map (λ row. row.now) sofar.first.items) (map (λ (space : Overlaid). space.bytes) spaces) clear new.contents.items (changes r.held.kept r.held.remembers));
+      log = λ h. let held = further_held h in log_joined l g lower part log sofar.footprint sofar.runs.items more r new.footprint new.runs.items met (held.0 r.held.kept r.held.remembers) held.1;
+    }
+
+-- two facts of a result that is there
+pub both_ok : {A E : Type 0} (P Q R : A → Type 0) (r : Result A E) → IfOk r P → IfOk r Q → ((a : A) → P a → Q a → R a) → IfOk r R
+both_ok P Q R (Ok a) p q f = f a p q
+both_ok P Q R (Err e) p q f = tt

@@ -30,11 +30,11 @@ pub(crate) struct Change {
 /// What is known before a further group is joined: the first bytes of the launch's buffers, what the lower groups left in them and
 /// which bytes they accessed, and what the further group alone leaves in them.
 #[derive(Clone, Copy)]
-pub(crate) struct Before<'a> {
-    pub(crate) first: &'a [&'a [u8]],
+pub(crate) struct Before<'a, 'b, 's, 'o> {
+    pub(crate) first: &'a [&'b [u8]],
     pub(crate) lower: &'a [Bytes],
     pub(crate) footprint: &'a Footprint,
-    pub(crate) own: &'a [Overlay<'a>],
+    pub(crate) own: &'s [Overlay<'o>],
 }
 
 /// The number of four bytes of a row, 0 where the row ends before.
@@ -77,7 +77,7 @@ fn byte_of(value: u32, byte: u64) -> u8
     }
 }
 
-impl Before<'_> {
+impl Before<'_, '_, '_, '_> {
     /// The number of four bytes of a buffer at first, 0 where it ends before.
     fn first_word(&self, number: u32, at: u64) -> u32
         ensures { result ≡ number_or_0 (filled_at (map (λ row. row.now) self.now.first.now) number) at 4 }

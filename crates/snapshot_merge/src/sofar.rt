@@ -1,6 +1,6 @@
 //! What the work-groups of a launch come to, one after another.
 
-ghost use Rattle.std.specs.Prelude.{◌≡◌, ◌+◌, ◌<◌, ℕ, List, Option, Some, None, [], map, suc, take, true, IfOk, OnOk};
+ghost use Rattle.std.specs.Prelude.{◌≡◌, ◌+◌, ◌++◌, ◌<◌, ℕ, List, Option, Some, None, [], map, suc, take, true, IfOk, OnOk};
 ghost use Rattle.clmodel.specs.Next.{launch_of};
 ghost use Rattle.clmodel.specs.Outcome.{events_of, IsMerged};
 ghost use Rattle.clmodel.specs.Run.{start};
@@ -50,12 +50,6 @@ pub(crate) struct Sofar<'a> {
 pub(crate) struct GroupNumber {
     pub(crate) group: u32,
     pub(crate) further: bool,
-}
-
-/// The log and the events of a group that has run.
-struct Ran<'a, L> {
-    log: &'a L,
-    runs: &'a Schedule,
 }
 
 /// The bytes of the buffers that have these names, none where there is no such buffer.
@@ -178,24 +172,25 @@ impl<'a> Sofar<'a> {
         alloc: Global,
         launch: &D,
         number: GroupNumber,
-        ran: Ran<'_, L>,
         spaces: &[Overlay<'_>],
+        log: &L,
+        runs: &Schedule,
     ) -> Result<Option<Fault>, AllocError>
         requires grouped { IsGrouped (D.launch launch.now) }
         requires there { HasGroup (D.launch launch.now) number.group }
         requires further { HasGroup (D.launch launch.now) (suc number.group) → number.further ≡ true }
         requires so_far { Holds (D.launch launch.now) number.group self.old }
-        requires merged { IsMerged ran.runs.now }
-        requires ran { IsRun (plan_of (D.launch launch.now) number.group) (Leaves (λ space. space.bytes) (plan_of (D.launch launch.now) number.group) spaces.now (L.log ran.log.now)) (start (D.launch launch.now)) (events_of ran.runs.now) None }
+        requires merged { IsMerged runs.now }
+        requires ran { IsRun (plan_of (D.launch launch.now) number.group) (Leaves (λ space. space.bytes) (plan_of (D.launch launch.now) number.group) spaces.now (L.log log.now)) (start (D.launch launch.now)) (events_of runs.now) None }
         ensures { IfOk result (λ report. IsFurther (D.launch launch.now) number.group report self.new) }
     {
         laws();
-        match self.first_met(number.group, ran.log) {
-            Some(met) => Ok(Some(self.cross(launch, &met, None, ran.runs)?)),
+        match self.first_met(number.group, log) {
+            Some(met) => Ok(Some(self.cross(launch, &met, None, runs)?)),
             None => {
-                self.change(alloc, spaces, ran.log)?;
+                self.change(alloc, spaces, log)?;
                 if number.further {
-                    self.add(alloc, ran.log, ran.runs)?;
+                    self.add(alloc, log, runs)?;
                 }
                 Ok(None)
             }
@@ -207,21 +202,22 @@ impl<'a> Sofar<'a> {
         &mut self,
         launch: &D,
         group: u32,
-        ran: Ran<'_, L>,
         fault: Fault,
+        log: &L,
+        runs: &Schedule,
     ) -> Result<Fault, AllocError>
         requires grouped { IsGrouped (D.launch launch.now) }
         requires there { HasGroup (D.launch launch.now) group }
         requires so_far { Holds (D.launch launch.now) group self.old }
-        requires merged { IsMerged ran.runs.now }
-        requires ran { IsRun (plan_of (D.launch launch.now) group) (IsLogged (plan_of (D.launch launch.now) group) (L.log ran.log.now)) (start (D.launch launch.now)) (events_of ran.runs.now) (Some fault) }
+        requires merged { IsMerged runs.now }
+        requires ran { IsRun (plan_of (D.launch launch.now) group) (IsLogged (plan_of (D.launch launch.now) group) (L.log log.now)) (start (D.launch launch.now)) (events_of runs.now) (Some fault) }
         ensures { IfOk result (λ report. IsStopped (D.launch launch.now) report self.new.runs.items) }
     {
         laws();
-        match self.first_met(group, ran.log) {
-            Some(met) => self.cross(launch, &met, Some(fault), ran.runs),
+        match self.first_met(group, log) {
+            Some(met) => self.cross(launch, &met, Some(fault), runs),
             None => {
-                add_all(&mut self.runs, ran.runs.as_slice())?;
+                add_all(&mut self.runs, runs.as_slice())?;
                 Ok(fault)
             }
         }
@@ -234,47 +230,39 @@ impl<'a> Sofar<'a> {
         alloc: Global,
         launch: &D,
         number: GroupNumber,
-        result: GroupResult<Overlay<'_>, L>,
+        came: GroupResult<Overlay<'_>, L>,
     ) -> Result<Option<Fault>, AllocError>
         requires grouped { IsGrouped (D.launch launch.now) }
         requires there { HasGroup (D.launch launch.now) number.group }
         requires further { HasGroup (D.launch launch.now) (suc number.group) → number.further ≡ true }
         requires so_far { Holds (D.launch launch.now) number.group self.old }
-        requires result { IsResult (λ overlay. overlay.bytes) L.log (D.launch launch.now) number.group result }
-        ensures { IfOk result (λ report. IsNext (D.launch launch.now) number.group result.entry report self.new) }
+        requires result { IsResult (λ overlay. overlay.bytes) L.log (D.launch launch.now) number.group came }
+        ensures { IfOk result (λ report. IsNext (D.launch launch.now) number.group came.entry report self.new) }
     {
-        match result {
+        match came {
             GroupResult::Done {
                 spaces, log, runs, ..
             } => {
-                let ran = Ran {
-                    log: &log,
-                    runs: &runs,
-                };
-                self.join_done(alloc, launch, number, ran, spaces.as_slice())
+                self.join_done(alloc, launch, number, spaces.as_slice(), &log, &runs)
             }
             GroupResult::Stopped {
                 fault, log, runs, ..
             } => {
-                let ran = Ran {
-                    log: &log,
-                    runs: &runs,
-                };
-                Ok(Some(self.join_stopped(launch, number.group, ran, fault)?))
+                Ok(Some(self.join_stopped(launch, number.group, fault, &log, &runs)?))
             }
         }
     }
 
     /// What the groups left in the launch's buffers.
     pub(crate) fn into_contents(self) -> Vec<Bytes>
-        ensures { result ≡ self.contents }
+        ensures { result ≡ self.entry.contents }
     {
         self.contents
     }
 
     /// The events of the groups.
     pub(crate) fn into_schedule(self) -> Schedule
-        ensures { result ≡ self.runs.items }
+        ensures { result ≡ self.entry.runs.items }
     {
         Schedule::new(self.runs)
     }

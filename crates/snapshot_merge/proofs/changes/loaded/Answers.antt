@@ -8,5 +8,5 @@ use Rattle.snapshot_merge.proofs.changes.loaded.Goals as goal
 pub returns-in-Err-clause-value : goal.returns-in-Err-clause-value
 returns-in-Err-clause-value c =
     let z : 0 ≡ number_or_0 (cells_of c.in-Some.space.now.bytes) c.args.at (byte_count c.args.width)
-    = or_0 _ _ _ (not_loaded c.in-Some.space.now.bytes c.args.at c.args.width c.in-Err.field-0 c.in-Err.ensures) in
+    = or_0 (cells_of c.in-Some.space.now.bytes) c.args.at (byte_count c.args.width) (not_loaded c.in-Some.space.now.bytes c.args.at c.args.width c.in-Err.field-0 c.in-Err.ensures) in
     grind (arith, common_steps, z)
