@@ -1,5 +1,5 @@
 -- One more group joined to the groups so far, as code does it.
-use Rattle.std.proofs.Common.{◌≡◌, ℕ, suc, ◌+◌, ◌*◌, ◌<◌, ◌≤◌, ◌==◌, ◌&&◌, true, false, if◌then◌else◌, Option, None, Some, List, [], ◌∷◌, ◌++◌, length, take, map, refl, sym, ap, ap₂, ◌∙◌, subst, inl, inr, arith}
+use Rattle.std.proofs.Common.{◌≡◌, ℕ, zero, suc, ◌+◌, ◌*◌, ◌<◌, ◌≤◌, ◌==◌, ◌&&◌, true, false, if◌then◌else◌, Option, None, Some, List, [], ◌∷◌, ◌++◌, length, take, map, refl, sym, ap, ap₂, ◌∙◌, subst, inl, inr, arith}
 use Rattle.std.specs.Prelude.{slice_get, Vec, Result, Ok, Err, IfOk}
 use Rattle.std.specs.declared.alloc.Global.{Global}
 use denote.Bor.{Bor}
@@ -48,10 +48,10 @@ pub crossing_laws : JoiningLaws → Laws
 crossing_laws laws = record { own = laws.own; lower = laws.lower; kept = laws.kept; first = laws.first }
 
 -- a group that has ended, and one that has stopped, as parts
-pub done_part : (l : Launch) (g : ℕ) (fits : Events → State → Type 0) (events : Events) → IsRun (plan_of l g) fits (start l) events None → Part
+abbrev pub done_part : (l : Launch) (g : ℕ) (fits : Events → State → Type 0) (events : Events) → IsRun (plan_of l g) fits (start l) events None → Part
 done_part l g fits events run = record { events = events; end = run.0.state; stopped = None }
 
-pub stopped_part : (l : Launch) (g : ℕ) (fits : Events → State → Type 0) (events : Events) (fault : Fault) → IsRun (plan_of l g) fits (start l) events (Some fault) → Part
+abbrev pub stopped_part : (l : Launch) (g : ℕ) (fits : Events → State → Type 0) (events : Events) (fault : Fault) → IsRun (plan_of l g) fits (start l) events (Some fault) → Part
 stopped_part l g fits events fault run = record { events = events; end = run.state; stopped = Some fault }
 
 -- what code holds of the groups so far and of one more, and of their events
@@ -297,3 +297,32 @@ done_joined l g sofar log more spaces c run finds new changes first further_held
 pub both_ok : {A E : Type 0} (P Q R : A → Type 0) (r : Result A E) → IfOk r P → IfOk r Q → ((a : A) → P a → Q a → R a) → IfOk r R
 both_ok P Q R (Ok a) p q f = f a p q
 both_ok P Q R (Err e) p q f = tt
+
+-- a group that has ended is joined and its accesses and events added
+pub done_added :
+    (l : Launch) (g : ℕ) (sofar : Sofar) (log : Log) (more : List Run) (spaces : List Overlaid) (c : IsGiven l g sofar more)
+    → IsRun (plan_of l g) (Left l g spaces log) (start l) (events_of more) None → Finds g sofar log None → (mid new : Sofar) → Changes sofar spaces log mid.contents.items → mid.first ≡ sofar.first
+    → mid.footprint ≡ sofar.footprint → mid.runs ≡ sofar.runs → new.first ≡ mid.first → new.contents ≡ mid.contents
+    → ((kept : List Access) → shadow.Keeps mid.footprint kept → shadow.Keeps new.footprint (accesses_of log.accesses ++ kept)) → Adds mid.runs.items new.runs.items more (events_of more)
+    → Holds l (suc g) new
+done_added l g sofar log more spaces c run finds mid new changes first footprint runs first2 contents2 remembers adds =
+    done_joined l g sofar log more spaces c run finds new
+    (λ kept k. subst (λ (z : Vec (List ℕ) Global). AreChanged sofar.contents.items z.items (changes_of (value_of (map (λ row. row.now) sofar.first.items) sofar.contents.items (λ n b. wrote kept (region.Buffer n) b) (map (λ (space : Overlaid). space.bytes) spaces)) log.accesses)) (sym contents2) (changes kept k))
+    (first2 ∙ first) (λ h. (
+      λ kept k. remembers kept (subst (λ f. shadow.Keeps f kept) (sym footprint) k),
+      subst (λ (z : Vec Run Global). Adds z.items new.runs.items more (events_of more)) runs adds,
+    ))
+
+-- the last group is joined
+pub done_last :
+    (l : Launch) (g : ℕ) (sofar : Sofar) (log : Log) (more : List Run) (spaces : List Overlaid) (c : IsGiven l g sofar more)
+    → IsRun (plan_of l g) (Left l g spaces log) (start l) (events_of more) None → Finds g sofar log None → (mid : Sofar) → Changes sofar spaces log mid.contents.items → mid.first ≡ sofar.first
+    → (HasGroup l (suc g) → ⊥) → Holds l (suc g) mid
+done_last l g sofar log more spaces c run finds mid changes first last = done_joined l g sofar log more spaces c run finds mid changes first (λ h. absurd (last h))
+
+-- a row that another is put in place of, as long as it
+pub front : {A : Type 0} (n : ℕ) (xs rest : List A) → length xs ≡ n → take n (xs ++ rest) ≡ xs
+front zero [] rest e = refl
+front zero (x ∷ xs) rest e = absurd (omega (arith, e))
+front (suc n) [] rest e = absurd (omega (arith, e))
+front (suc n) (x ∷ xs) rest e = ap (λ z. x ∷ z) (front n xs rest (omega (arith, e)))
