@@ -5,5 +5,10 @@ mod changes;
 mod cutting;
 mod laws;
 mod meetings;
+mod merging;
+mod run;
 mod sofar;
 mod words;
+
+pub use merging::merge;
+pub use run::run_launch;

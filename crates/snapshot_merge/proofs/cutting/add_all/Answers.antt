@@ -1,5 +1,5 @@
 use Rattle.std.proofs.lemmas.Option.{slice_get-get_or}
-use Rattle.snapshot_merge.proofs.Merging.{adds_none, adds_step}
+use Rattle.snapshot_merge.proofs.Merged.{adds_none, adds_step}
 use Rattle.snapshot_merge.proofs.cutting.add_all.Goals as goal
 
 pub loop-run-init : goal.loop-run-init

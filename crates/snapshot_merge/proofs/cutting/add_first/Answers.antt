@@ -1,6 +1,6 @@
 use Rattle.std.proofs.Common.{inl, inr}
 use Rattle.std.proofs.lemmas.Option.{slice_get-get_or}
-use Rattle.snapshot_merge.proofs.Merging.{part_none, part_step, part_end}
+use Rattle.snapshot_merge.proofs.Merged.{part_none, part_step, part_end}
 use Rattle.snapshot_merge.proofs.cutting.add_first.Goals as goal
 
 pub loop-run-init : goal.loop-run-init

@@ -1,4 +1,4 @@
-use Rattle.snapshot_merge.proofs.Merging.{AddsPart}
+use Rattle.snapshot_merge.proofs.Merged.{AddsPart}
 use Rattle.snapshot_merge.proofs.cutting.add_first.Given as goal
 
 abbrev pub invariant-loop-run : goal.invariant-loop-run

@@ -3,7 +3,7 @@ use Rattle.clmodel.specs.Outcome.{events_of}
 use Rattle.snapshot_merge.specs.Runs.{EndsWith, Adds}
 use Rattle.clmodel.specs.declared.schedule.Run.{Run}
 use Rattle.clmodel.specs.declared.schedule.Run.TheVariants as run
-use Rattle.snapshot_merge.proofs.Merging.{adds_item, adds_more, set_last}
+use Rattle.snapshot_merge.proofs.Merged.{adds_item, adds_more, set_last}
 use Rattle.snapshot_merge.proofs.cutting.add_item.Goals as goal
 
 pub returns-in_default : goal.returns-in_default

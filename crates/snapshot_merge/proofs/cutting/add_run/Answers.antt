@@ -1,7 +1,7 @@
 use Rattle.std.proofs.Common.{[], ◌∷◌, sym, subst}
 use Rattle.clmodel.specs.Outcome.{events_of}
 use Rattle.snapshot_merge.specs.Runs.{Adds}
-use Rattle.snapshot_merge.proofs.Merging.{adds_release}
+use Rattle.snapshot_merge.proofs.Merged.{adds_release}
 use Rattle.snapshot_merge.proofs.cutting.add_run.Goals as goal
 
 pub returns-in_ok-push-in-Release : goal.returns-in_ok-push-in-Release

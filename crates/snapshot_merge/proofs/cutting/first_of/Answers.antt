@@ -1,7 +1,7 @@
 use Rattle.std.proofs.Common.{◌≡◌, min, sym, subst}
 use Rattle.clmodel.specs.declared.schedule.Run.TheVariants as run
 use Rattle.snapshot_merge.specs.Runs.{IsFirstOf}
-use Rattle.snapshot_merge.proofs.Merging.{first_of_item}
+use Rattle.snapshot_merge.proofs.Merged.{first_of_item}
 use Rattle.snapshot_merge.proofs.cutting.first_of.Goals as goal
 
 pub returns-in-Item : goal.returns-in-Item
