@@ -84,3 +84,7 @@ pub rest_results :
     → IsNext l g r None sofar → AreResults bytes log_of l (suc g) rs
 rest_results bytes log_of l g (Done number spaces log runs) rs sofar h n = h.2
 rest_results bytes log_of l g (Stopped number fault log runs) rs sofar h n = absurd n
+
+pub none_left : {A : Type 0} (xs : List A) → length xs ≡ 0 → xs ≡ []
+none_left [] e = refl
+none_left (x ∷ xs) e = absurd (omega arith)
