@@ -13,7 +13,7 @@ ghost use Rattle.item_run.specs.Running.{action_of};
 
 use crate::local_objects::{LocalObjects, local_objects};
 use crate::setup::Setup;
-use clmodel::setup::Argument;
+use clmodel::setup::{Argument, Range};
 use clmodel::text::Name;
 use item_run::{Item, Surroundings};
 use item_state::context::{Context, group_counts};
@@ -121,6 +121,13 @@ impl<'a> Launch<'a> {
         ensures { result.now ≡ (setup_of self.now).program.names }
     {
         self.setup.tree.names.as_slice()
+    }
+
+    /// The index space, split into work-groups.
+    pub fn range(&self) -> &Range
+        ensures { result.now ≡ (setup_of self.now).range }
+    {
+        self.setup.range
     }
 
     /// How many items a work-group has.

@@ -1,14 +1,17 @@
--- Launches on buffers that are given by their bytes, and launches of one work-group (OpenCL 1.2, 3.2, 5.8).
-use Rattle.std.specs.Prelude.{◌≡◌, ℕ, ◌*◌, ◌<◌, ◌^◌, List, []}
+-- The results of a launch's work-groups, each run apart (OpenCL 1.2, 3.2, 5.8; own).
+use Rattle.std.specs.Prelude.{◌≡◌, ℕ, suc, ◌*◌, ◌≤◌, Option, List, [], ◌∷◌}
 use Rattle.clmodel.specs.Launch.{Launch}
-use Rattle.clmodel.specs.Next.{launch_of}
-use Rattle.clmodel.specs.Setup.{Setup, item_count, group_items}
+use Rattle.group_run.specs.Results.{IsResult}
+use Rattle.group_run.specs.declared.result.GroupResult.{GroupResult}
+use Rattle.group_run.specs.declared.result.GroupResult.TheVariants.{Done, Stopped}
+use Rattle.joining.specs.Steps.{HasGroup}
+use Rattle.shadow_list.specs.Log.{Log}
 
--- the launch of a setup on buffers that hold these bytes, in the order of the launch's buffers
-abbrev pub launch_on : Setup → List (List ℕ) → Launch
-launch_on setup contents = record (launch_of setup (λ name. [])) { buffers = contents }
-
--- a setup of one work-group whose answers have numbers of 32 bits
-pub record IsOneGroup (setup : Setup) : Type 0 where
-  pub whole : item_count setup.range ≡ group_items setup.range
-  pub short : group_items setup.range * setup.budget < 2 ^ 32
+-- The results of the groups from one on, each of which is that of its canonical run on the launch's first memory (3.2): there are results
+-- of all of them, or up to and with one that stopped (own). `bytes` says what a space holds, `log_of` what a log keeps.
+abbrev pub AreResults : {G L : Type 0} → (G → List (Option ℕ)) → (L → Log) → Launch → ℕ → List (GroupResult G L) → Type 0
+AreResults bytes log_of launch group [] = launch.items ≤ group * launch.group_size
+AreResults bytes log_of launch group (Done number spaces log runs ∷ results) =
+    HasGroup launch group × IsResult bytes log_of launch group (Done number spaces log runs) × AreResults bytes log_of launch (suc group) results
+AreResults bytes log_of launch group (Stopped number fault log runs ∷ results) =
+    HasGroup launch group × IsResult bytes log_of launch group (Stopped number fault log runs) × (results ≡ [])

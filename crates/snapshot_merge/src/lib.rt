@@ -1,8 +1,14 @@
-//! Launches, run as their work-groups.
+//! The work-groups of a launch, run apart and joined.
 #![tactic(auto)]
 
-mod buffers;
-mod loaded;
+mod changes;
+mod cutting;
+mod laws;
+mod meetings;
+mod merging;
 mod run;
+mod sofar;
+mod words;
 
+pub use merging::merge;
 pub use run::run_launch;

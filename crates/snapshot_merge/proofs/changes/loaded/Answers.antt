@@ -1,0 +1,12 @@
+use Rattle.std.proofs.Common.{◌≡◌, ℕ, arith}
+use Rattle.std.proofs.lemmas.Grind.{common_steps}
+use Rattle.clmodel.specs.Cells.{cells_of, byte_count}
+use Rattle.snapshot_merge.specs.Changes.{number_or_0}
+use Rattle.snapshot_merge.proofs.Numbers.{not_loaded, or_0}
+use Rattle.snapshot_merge.proofs.changes.loaded.Goals as goal
+
+pub returns-in-Err-clause-value : goal.returns-in-Err-clause-value
+returns-in-Err-clause-value c =
+    let z : 0 ≡ number_or_0 (cells_of c.in-Some.space.now.bytes) c.args.at (byte_count c.args.width)
+    = or_0 (cells_of c.in-Some.space.now.bytes) c.args.at (byte_count c.args.width) (not_loaded c.in-Some.space.now.bytes c.args.at c.args.width c.in-Err.field-0 c.in-Err.ensures) in
+    grind (arith, common_steps, z)

@@ -1,0 +1,20 @@
+use Rattle.std.proofs.Common.{inl, inr}
+use Rattle.std.proofs.lemmas.Option.{slice_get-get_or}
+use Rattle.snapshot_merge.proofs.Merged.{part_none, part_step, part_end}
+use Rattle.snapshot_merge.proofs.cutting.add_first.Goals as goal
+
+pub loop-run-init : goal.loop-run-init
+loop-run-init c = part_none c.args.runs.now.items c.args.more.now c.args.count
+
+pub loop-run-preserved : goal.loop-run-preserved
+loop-run-preserved c =
+    part_step c.args.runs.now.items c.loop-run.runs.items c.add_run.new.runs.items c.args.more.now c.loop-run.run-index c.loop-run.left c.args.count _ _ c.first_of-first.result.1
+    (slice_get-get_or c.args.more.now c.loop-run.run-index _ c.loop-run-test.true) c.loop-run.invariant c.first_of-first.ensures c.in_ok-add_run.ensures
+
+pub returns-then-left-eq0 : goal.returns-then-left-eq0
+returns-then-left-eq0 c =
+    part_end c.args.runs.now.items c.loop-run.runs.items c.args.more.now c.loop-run.run-index c.loop-run.left c.args.count (inl c.if-left-eq0.true) c.loop-run.invariant
+
+pub returns : goal.returns
+returns c =
+    part_end c.args.runs.now.items c.loop-run.runs.items c.args.more.now c.loop-run.run-index c.loop-run.left c.args.count (inr c.loop-run-test.false) c.loop-run.invariant

@@ -1,0 +1,94 @@
+use Rattle.std.proofs.Common.{◌≡◌, ℕ, suc, ◌+◌, ◌*◌, ◌<◌, ◌≤◌, Option, Some, None, List, [], ◌∷◌, sym, ap₂, ◌∙◌, subst, arith, add-one}
+use Rattle.std.specs.Prelude.{Vec}
+use Rattle.std.specs.declared.alloc.Global.{Global}
+use Rattle.std.proofs.Math.Nat.{mul-le-mul_right}
+use Rattle.clmodel.specs.Launch as model
+use Rattle.clmodel.specs.Next.{launch_of}
+use Rattle.clmodel.specs.Outcome.{Concludes}
+use Rattle.clmodel.specs.declared.outcome.Outcome.TheVariants.{Clean}
+use Rattle.clmodel.specs.declared.fault.Fault.{Fault}
+use Rattle.item_step.specs.Launches.{setup_of}
+use Rattle.item_step.specs.declared.launch.Launch.{Launch}
+use Rattle.joining.specs.Parts.{IsGrouped}
+use Rattle.spaces_base.specs.Buffers.{bytes_in}
+use Rattle.snapshot_merge.specs.Sofar.{Holds, IsStopped, IsNext}
+use Rattle.snapshot_merge.specs.declared.sofar.Sofar.{Sofar}
+use Rattle.std.specs.Vec.Iter.{into_iter_items}
+use Rattle.spaces.specs.Overlay.{Overlaid}
+use Rattle.group_run.specs.Results.{IsResult}
+use Rattle.group_run.specs.declared.result.GroupResult.{GroupResult}
+use Rattle.joining.specs.Steps.{HasGroup}
+use Rattle.shadow_list.specs.Log.{Log}
+use Rattle.snapshot_merge.specs.Launches.{AreResults}
+use Rattle.snapshot_merge.proofs.Ending.{grouped_of, there_below, further_there, next_stopped, next_held, concludes_fault, concludes_clean, first_there, first_result, rest_results, none_left}
+use Rattle.snapshot_merge.proofs.merging.merge.Goals as goal
+
+abbrev bytes_of : Overlaid → List (Option ℕ)
+bytes_of overlay = overlay.bytes
+
+pub loop-result-init : goal.loop-result-init
+loop-result-init g c =
+    let l = launch_of (setup_of c.args.launch.now) (bytes_in c.args.buffers.now) in
+    let all : into_iter_items c.into_iter-result-iterator.result ≡ c.args.results.items = c.into_iter-result-iterator.ensures.into_iter_gives in
+    record {
+      held = c.in_ok-sofar.ensures;
+      rest = subst (AreResults bytes_of g.L.Accesses.log l 0) (sym all) c.requires.results;
+    }
+
+pub overflow_add-group : goal.overflow_add-group
+overflow_add-group g c =
+    let l = launch_of (setup_of c.args.launch.now) (bytes_in c.args.buffers.now) in
+    let now = subst (AreResults bytes_of g.L.Accesses.log l c.loop-result.group) c.in-Some.ensures.steps.0 c.loop-result.invariant.rest in
+    let there : HasGroup l c.loop-result.group = first_there bytes_of g.L.Accesses.log l c.loop-result.group c.in-Some.result (into_iter_items c.next.new.self) now in
+    let below : c.loop-result.group < c.group_count-groups.result
+    = there_below c.loop-result.group c.group_count-groups.result l.group_size l.items c.group_count-groups.ensures.count there in
+    omega (arith, below, c.group_count-groups.type_inv)
+
+pub join-requires : goal.join-requires
+join-requires g c =
+    let same = ap₂ (λ x y. launch_of (setup_of x) (bytes_in y)) c.new-loaded.ensures.launch c.new-loaded.ensures.buffers in
+    let l = launch_of (setup_of c.args.launch.now) (bytes_in c.args.buffers.now) in
+    let group = c.loop-result.group in
+    let now = subst (AreResults bytes_of g.L.Accesses.log l group) c.in-Some.ensures.steps.0 c.loop-result.invariant.rest in
+    record {
+      grouped = subst IsGrouped (sym same) (grouped_of (setup_of c.args.launch.now) (bytes_in c.args.buffers.now) c.requires.whole c.group_count-groups.ensures.some);
+      there = subst (λ (z : model.Launch). HasGroup z group) (sym same) (first_there bytes_of g.L.Accesses.log l group c.in-Some.result (into_iter_items c.next.new.self) now);
+      further = λ h. further_there group c.group_count-groups.result l.group_size l.items c.group_count-groups.ensures.count (subst (λ (z : model.Launch). HasGroup z (suc group)) same h);
+      so_far = subst (λ (z : model.Launch). Holds z group c.loop-result.sofar) (sym same) c.loop-result.invariant.held;
+      result = subst (λ (z : model.Launch). IsResult bytes_of g.L.Accesses.log z group c.in-Some.result) (sym same) (first_result bytes_of g.L.Accesses.log l group c.in-Some.result (into_iter_items c.next.new.self) now);
+    }
+
+pub loop-result-preserved : goal.loop-result-preserved
+loop-result-preserved g c =
+    let same = ap₂ (λ x y. launch_of (setup_of x) (bytes_in y)) c.new-loaded.ensures.launch c.new-loaded.ensures.buffers in
+    let l = launch_of (setup_of c.args.launch.now) (bytes_in c.args.buffers.now) in
+    let group = c.loop-result.group in
+    let now = subst (AreResults bytes_of g.L.Accesses.log l group) c.in-Some.ensures.steps.0 c.loop-result.invariant.rest in
+    let next : IsNext l group c.in-Some.result None c.join.new.self
+    = subst (λ (f : Option Fault). IsNext l group c.in-Some.result f c.join.new.self) c.in_default.is
+      (subst (λ (z : model.Launch). IsNext z group c.in-Some.result c.in_ok-fault.field-0 c.join.new.self) same c.in_ok-fault.ensures) in
+    record {
+      held = subst (λ n. Holds l n c.join.new.self) (sym (add-one group)) (next_held l group c.in-Some.result c.join.new.self next);
+      rest = subst (λ n. AreResults bytes_of g.L.Accesses.log l n (into_iter_items c.next.new.self)) (sym (add-one group))
+          (rest_results bytes_of g.L.Accesses.log l group c.in-Some.result (into_iter_items c.next.new.self) c.join.new.self now next);
+    }
+
+pub returns-in-Some-2 : goal.returns-in-Some-2
+returns-in-Some-2 g c =
+    let same = ap₂ (λ x y. launch_of (setup_of x) (bytes_in y)) c.new-loaded.ensures.launch c.new-loaded.ensures.buffers in
+    let l = launch_of (setup_of c.args.launch.now) (bytes_in c.args.buffers.now) in
+    let group = c.loop-result.group in
+    let next : IsNext l group c.in-Some.result (Some c.in-Some-2.fault) c.join.new.self
+    = subst (λ (f : Option Fault). IsNext l group c.in-Some.result f c.join.new.self) c.in-Some-2.is
+      (subst (λ (z : model.Launch). IsNext z group c.in-Some.result c.in_ok-fault.field-0 c.join.new.self) same c.in_ok-fault.ensures) in
+    concludes_fault l c.in-Some-2.fault c.into_schedule.result
+    (subst (IsStopped l c.in-Some-2.fault) (sym c.into_schedule.ensures) (next_stopped l group c.in-Some.result c.in-Some-2.fault c.join.new.self next))
+
+pub returns : goal.returns
+returns g c =
+    let l = launch_of (setup_of c.args.launch.now) (bytes_in c.args.buffers.now) in
+    let group = c.loop-result.group in
+    let none : into_iter_items c.loop-result.result-iterator ≡ [] = none_left (into_iter_items c.loop-result.result-iterator) (sym c.loop-result.result-iterator.rest.ok.0 ∙ c.in-None.ensures.steps.0) in
+    subst (λ (z : Vec (List ℕ) Global). Concludes l (Clean z)) (sym c.into_contents.ensures)
+    (concludes_clean l group c.loop-result.sofar c.laws.ensures (grouped_of (setup_of c.args.launch.now) (bytes_in c.args.buffers.now) c.requires.whole c.group_count-groups.ensures.some) c.loop-result.invariant.held
+    (subst (AreResults bytes_of g.L.Accesses.log l group) none c.loop-result.invariant.rest))

@@ -1,0 +1,14 @@
+-- The laws by which groups are joined (own).
+use Rattle.joining.specs.Crossings.{LowerFirst}
+use Rattle.joining.specs.Steps.{AreOwn, AreLower, KeptConflicts, KeptBoth, BytesAreJoined, JoinReports, JoinEnds}
+
+-- what is known of joining the groups of any launch (own)
+pub record JoiningLaws : Type 0 where
+  pub own : AreOwn
+  pub lower : AreLower
+  pub kept : KeptConflicts
+  pub first : LowerFirst
+  pub bytes : BytesAreJoined
+  pub reports : JoinReports
+  pub ends : JoinEnds
+  pub both : KeptBoth

@@ -1,0 +1,99 @@
+//! Schedules, one after another.
+
+ghost use Rattle.std.specs.Prelude.{◌≡◌, ◌++◌, ◌∷◌, [], List, ◌<◌, OnOk, IfOk, ◌+◌, IfSome, IfNone, take};
+ghost use Rattle.clmodel.specs.Outcome.{events_of};
+ghost use Rattle.clmodel.specs.declared.schedule.Run.{Run};
+ghost use Rattle.clmodel.specs.declared.schedule.Run.TheVariants as run;
+ghost use Rattle.snapshot_merge.specs.Runs.{EndsWith, Adds, IsFirstOf};
+
+use clmodel::schedule::Run;
+use std::alloc::AllocError;
+
+/// The count of the last run, if it is of this item.
+fn last_count(runs: &[Run], item: u32) -> Option<u64>
+    ensures some { IfSome result (λ count. (rest : List Run) × (runs.now ≡ rest ++ run.Item item count ∷ [])) }
+    ensures none { IfNone result (EndsWith item runs.now → ⊥) }
+{
+    let (last, _) = runs.split_last()?;
+    match *last {
+        Run::Item { item: other, count } => { if other == item { Some(count) } else { None } }
+        Run::Release { .. } => None,
+    }
+}
+
+/// The sum of two counts. An error stands for a run of 2^64 events.
+fn added(count: u64, more: u64) -> Result<u64, AllocError>
+    ensures { IfOk result (λ sum. sum ≡ count + more) }
+{
+    match count.checked_add(more) {
+        Some(sum) => Ok(sum),
+        None => Err(AllocError),
+    }
+}
+
+/// Adds so many events of an item, to the last run where that is of the same item. An error is out of memory, or a run of 2^64 events.
+fn add_item(runs: &mut Vec<Run>, item: u32, count: u64) -> Result<(), AllocError>
+    ensures { OnOk result (Adds runs.old.items runs.new.items (run.Item item count ∷ []) (events_of (run.Item item count ∷ []))) }
+{
+    let Some(before) = last_count(runs.as_slice(), item) else {
+        runs.push(Run::Item { item, count })?;
+        return Ok(());
+    };
+    let sum = added(before, count)?;
+    let last = runs.len() - 1;
+    runs[last] = Run::Item { item, count: sum };
+    Ok(())
+}
+
+/// Adds a run.
+fn add_run(runs: &mut Vec<Run>, run: Run) -> Result<(), AllocError>
+    ensures { OnOk result (Adds runs.old.items runs.new.items (run ∷ []) (events_of (run ∷ []))) }
+{
+    match run {
+        Run::Item { item, count } => add_item(runs, item, count),
+        Run::Release { .. } => {
+            runs.push(run)?;
+            Ok(())
+        }
+    }
+}
+
+/// Adds the events of further runs. An error is out of memory, or a run of 2^64 events.
+pub(crate) fn add_all(runs: &mut Vec<Run>, more: &[Run]) -> Result<(), AllocError>
+    ensures { OnOk result (Adds runs.old.items runs.new.items more.now (events_of more.now)) }
+{
+    for run in more {
+        add_run(runs, *run)?;
+    }
+    Ok(())
+}
+
+/// The first events of a run, `most` of them or all where it has fewer, and how many they are.
+fn first_of(run: Run, most: u64) -> (Run, u64)
+    requires { 0 < most }
+    ensures { IsFirstOf run most result.0 result.1 }
+{
+    match run {
+        Run::Item { item, count } => {
+            let count = count.min(most);
+            (Run::Item { item, count }, count)
+        }
+        Run::Release { .. } => (run, 1),
+    }
+}
+
+/// Adds the first events of further runs, `count` of them or all where they have fewer. An error is out of memory, or a run of 2^64 events.
+pub(crate) fn add_first(runs: &mut Vec<Run>, more: &[Run], count: u64) -> Result<(), AllocError>
+    ensures { OnOk result (Adds runs.old.items runs.new.items more.now (take count (events_of more.now))) }
+{
+    let mut left = count;
+    for run in more {
+        if left == 0 {
+            return Ok(());
+        }
+        let (first, taken) = first_of(*run, left);
+        add_run(runs, first)?;
+        left -= taken;
+    }
+    Ok(())
+}

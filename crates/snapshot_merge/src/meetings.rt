@@ -1,0 +1,116 @@
+//! Conflicts of a work-group's accesses with those of the lower groups.
+
+ghost use Rattle.std.specs.Prelude.{◌≡◌, ◌<◌, ◌+◌, ◌++◌, ◌^◌, ◌&&◌, if◌then◌else◌, List, Some, IfOk, OnOk};
+ghost use Rattle.clmodel.specs.Cells.{byte_count};
+ghost use Rattle.clmodel.specs.declared.access.Access.{Access as TheAccess};
+ghost use Rattle.group_run.specs.Logs.{accesses_of};
+ghost use Rattle.shadow.specs.Seen.{Keeps, OfOthers};
+ghost use Rattle.snapshot_merge.specs.Meetings.{met_at, AreOthers, IsFirstMet, is_below, meeting_fault};
+
+use clmodel::access::{Access, Conflict, Region};
+use clmodel::fault::Fault;
+use group_run::{Described, conflict_fault};
+use shadow::{Footprint, Meeting};
+use shadow_list::{Accesses, Entry};
+use std::alloc::{AllocError, Global};
+
+/// The first access of a group that conflicts with the lower groups' accesses, the conflict, and whether it is the group's last access.
+#[derive(Clone, Copy)]
+pub(crate) struct Met {
+    pub(crate) entry: Entry,
+    pub(crate) meeting: Meeting,
+    pub(crate) last: bool,
+}
+
+/// The conflict of an access with those of lower groups.
+fn met_at(footprint: &Footprint, x: &Access) -> Option<Meeting>
+    requires { x.now.first + byte_count x.now.width < 2 ^ 64 }
+    ensures { (kept : List TheAccess) → Keeps footprint.now kept → OfOthers x.now.item kept → result ≡ met_at x.now.region x.now kept }
+{
+    match x.region {
+        Region::Buffer(_) => footprint.meeting(x),
+        Region::Local { .. } => None,
+    }
+}
+
+/// The first access of a log that conflicts with those of lower groups.
+pub(crate) fn first_met<L: Accesses>(footprint: &Footprint, log: &L) -> Option<Met>
+    ensures { (kept : List TheAccess) → Keeps footprint.now kept → AreOthers (L.log log.now).accesses kept → IsFirstMet (L.log log.now).accesses kept result }
+{
+    let count = log.len();
+    for i in 0..count {
+        let entry = log.get(i);
+        if let Some(meeting) = met_at(footprint, &entry.access) {
+            return Some(Met {
+                entry,
+                meeting,
+                last: i + 1 == count,
+            });
+        }
+    }
+    None
+}
+
+/// Adds the accesses of a log. An error is out of memory.
+pub(crate) fn add_accesses<L: Accesses>(
+    alloc: Global,
+    footprint: &mut Footprint,
+    log: &L,
+) -> Result<(), AllocError>
+    ensures { OnOk result ((kept : List TheAccess) → Keeps footprint.old kept → Keeps footprint.new (accesses_of (L.log log.now).accesses ++ kept)) }
+{
+    for i in 0..log.len() {
+        footprint.add(alloc, &log.get(i).access)?;
+    }
+    Ok(())
+}
+
+/// Whether a fault is a conflict on a byte below this one.
+fn is_below(fault: &Fault, byte: u64) -> bool
+    ensures { result ≡ is_below (Some fault.now) byte }
+{
+    match fault {
+        Fault::Conflict { byte: own, .. } => *own < byte,
+        _ => false,
+    }
+}
+
+/// A conflict with a lower group's access as a fault.
+fn meeting_fault<D: Described>(launch: &D, met: &Met) -> Result<Fault, AllocError>
+    ensures { IfOk result (λ fault. fault ≡ meeting_fault (D.launch launch.now) met.now.entry.access met.now.meeting) }
+{
+    let later = met.entry.access;
+    let mark = met.meeting.mark;
+    let conflict = Conflict {
+        earlier: Access {
+            item: mark.item,
+            kind: mark.kind,
+            ..later
+        },
+        later,
+        byte: met.meeting.byte,
+        clash: met.meeting.clash,
+    };
+    conflict_fault(launch, &conflict)
+}
+
+/// The report where an access conflicts with a lower group's: this conflict, or that with the group's own accesses, if the access is the
+/// last of a group that stopped with a conflict on a lower byte.
+pub(crate) fn report_of<D: Described>(
+    launch: &D,
+    met: &Met,
+    stopped: Option<Fault>,
+) -> Result<Fault, AllocError>
+    ensures { IfOk result (λ fault. Some fault ≡ (if met.now.last && is_below stopped met.now.meeting.byte then stopped else Some (meeting_fault (D.launch launch.now) met.now.entry.access met.now.meeting))) }
+{
+    match stopped {
+        Some(fault) => {
+            if met.last && is_below(&fault, met.meeting.byte) {
+                Ok(fault)
+            } else {
+                meeting_fault(launch, met)
+            }
+        }
+        None => meeting_fault(launch, met),
+    }
+}

@@ -1,0 +1,51 @@
+//! The join of results that are handed in.
+
+ghost use Rattle.std.specs.Prelude.{◌≡◌, IfOk};
+ghost use Rattle.clmodel.specs.Next.{launch_of};
+ghost use Rattle.clmodel.specs.Outcome.{Concludes};
+ghost use Rattle.item_step.specs.Launches.{setup_of};
+ghost use Rattle.spaces_base.specs.Buffers.{bytes_in};
+ghost use Rattle.snapshot_run.specs.Launches.{HasGroups};
+ghost use Rattle.snapshot_merge.specs.Launches.{AreResults};
+
+use crate::laws::laws;
+use crate::run::group_count;
+use crate::sofar::{GroupNumber, Sofar};
+use clmodel::outcome::Outcome;
+use group_run::GroupResult;
+use item_step::Launch;
+use shadow_list::AccessLog;
+use snapshot_run::LoadedLaunch;
+use spaces::Overlay;
+use spaces_base::Buffers;
+use std::alloc::{AllocError, Global};
+
+/// What the results of a launch's work-groups come to, joined in the order of the groups: what its canonical run comes to (OpenCL 1.2,
+/// section 3.2). The results are those of all groups, or up to and with one that stopped. An error is out of memory.
+pub fn merge<'a, L: AccessLog + Drop>(
+    alloc: Global,
+    launch: &Launch<'_>,
+    buffers: &'a Buffers,
+    results: Vec<GroupResult<Overlay<'a>, L>>,
+) -> Result<Outcome, AllocError>
+    requires whole { HasGroups (setup_of launch.now) }
+    requires results { AreResults (λ overlay. overlay.bytes) L.Accesses.log (launch_of (setup_of launch.now) (bytes_in buffers.now)) 0 results.items }
+    ensures { IfOk result (Concludes (launch_of (setup_of launch.now) (bytes_in buffers.now))) }
+{
+    laws();
+    let groups = group_count(launch);
+    let loaded = LoadedLaunch::new(alloc, launch, buffers);
+    let mut sofar = Sofar::new(alloc, launch, buffers)?;
+    let mut group = 0;
+    for result in results {
+        let number = GroupNumber {
+            group,
+            further: group + 1 < groups,
+        };
+        if let Some(fault) = sofar.join(alloc, &loaded, number, result)? {
+            return Ok(Outcome::Faulted(fault, sofar.into_schedule()));
+        }
+        group += 1;
+    }
+    Ok(Outcome::Clean(sofar.into_contents()))
+}

@@ -1,0 +1,269 @@
+//! What the work-groups of a launch come to, one after another.
+
+ghost use Rattle.std.specs.Prelude.{◌≡◌, ◌+◌, ◌++◌, ◌<◌, ℕ, List, Option, Some, None, [], map, suc, take, true, IfOk, OnOk};
+ghost use Rattle.clmodel.specs.Next.{launch_of};
+ghost use Rattle.clmodel.specs.Outcome.{events_of, IsMerged};
+ghost use Rattle.clmodel.specs.Run.{start};
+ghost use Rattle.clmodel.specs.declared.access.Access.{Access as TheAccess};
+ghost use Rattle.clmodel.specs.declared.access.Region.TheVariants as region;
+ghost use Rattle.group_run.specs.Logs.{accesses_of, IsLogged};
+ghost use Rattle.group_run.specs.Results.{IsResult, Leaves};
+ghost use Rattle.item_step.specs.Launches.{setup_of};
+ghost use Rattle.joining.specs.Group.{IsRun, plan_of};
+ghost use Rattle.joining.specs.Memory as joining;
+ghost use Rattle.joining.specs.Parts.{IsGrouped};
+ghost use Rattle.joining.specs.Steps.{HasGroup};
+ghost use Rattle.shadow.specs.Seen.{Keeps};
+ghost use Rattle.spaces_base.specs.Buffers.{bytes_in};
+ghost use Rattle.snapshot_merge.specs.Changes.{AreChanged, changes_of, value_of};
+ghost use Rattle.snapshot_merge.specs.Meetings.{AreOthers, IsFirstMet, report_at};
+ghost use Rattle.snapshot_merge.specs.Runs.{Adds};
+ghost use Rattle.snapshot_merge.specs.Sofar.{Holds, IsStopped, IsFurther, IsNext};
+
+use crate::changes::{Before, make_changes};
+use crate::cutting::{add_all, add_first};
+use crate::laws::laws;
+use crate::meetings::{Met, add_accesses, first_met, report_of};
+use clmodel::fault::Fault;
+use clmodel::schedule::{Run, Schedule};
+use clmodel::text::{Bytes, Name};
+use group_run::{Described, GroupResult};
+use item_step::Launch;
+use shadow::Footprint;
+use shadow_list::Accesses;
+use spaces::Overlay;
+use spaces_base::Buffers;
+use std::alloc::{AllocError, Global};
+
+/// What the groups so far come to: what they leave in the launch's buffers, the bytes that they accessed, and their events.
+#[derive(Drop)]
+pub(crate) struct Sofar<'a> {
+    /// The bytes of the launch's buffers before any group.
+    pub(crate) first: Vec<&'a [u8]>,
+    pub(crate) contents: Vec<Bytes>,
+    pub(crate) footprint: Footprint,
+    pub(crate) runs: Vec<Run>,
+}
+
+/// The number of a group, and whether a further group is to be joined after it.
+#[derive(Clone, Copy)]
+pub(crate) struct GroupNumber {
+    pub(crate) group: u32,
+    pub(crate) further: bool,
+}
+
+/// The bytes of the buffers that have these names, none where there is no such buffer.
+fn rows_of<'a>(
+    alloc: Global,
+    names: &[Name],
+    buffers: &'a Buffers,
+) -> Result<Vec<&'a [u8]>, AllocError>
+    ensures { IfOk result (λ rows. map (λ row. row.now) rows.items ≡ map (bytes_in buffers.now) names.now) }
+{
+    let mut rows = Vec::new(alloc);
+    for i in 0..names.len() {
+        rows.push(row_of(buffers, &names[i]))?;
+    }
+    Ok(rows)
+}
+
+/// The bytes of the buffer of a name, none where there is no such buffer.
+fn row_of<'a>(buffers: &'a Buffers, name: &Name) -> &'a [u8]
+    ensures { result.now ≡ bytes_in buffers.now name.now }
+{
+    match buffers.get(name) {
+        Some(bytes) => bytes.as_slice(),
+        None => &[],
+    }
+}
+
+/// Copies of rows of bytes.
+fn copies_of(alloc: Global, rows: &[&[u8]]) -> Result<Vec<Bytes>, AllocError>
+    ensures { IfOk result (λ copies. copies.items ≡ map (λ row. row.now) rows.now) }
+{
+    let mut copies = Vec::new(alloc);
+    for i in 0..rows.len() {
+        copies.push(Bytes::copy_of(alloc, rows[i])?)?;
+    }
+    Ok(copies)
+}
+
+impl<'a> Sofar<'a> {
+    /// Before any group. The bytes of the launch's buffers are copied once.
+    pub(crate) fn new(
+        alloc: Global,
+        launch: &Launch<'_>,
+        buffers: &'a Buffers,
+    ) -> Result<Self, AllocError>
+        ensures { IfOk result (Holds (launch_of (setup_of launch.now) (bytes_in buffers.now)) 0) }
+    {
+        let first = rows_of(alloc, launch.buffer_names(), buffers)?;
+        let contents = copies_of(alloc, first.as_slice())?;
+        Ok(Sofar {
+            first,
+            contents,
+            footprint: Footprint::new(alloc),
+            runs: Vec::new(alloc),
+        })
+    }
+
+    /// The first access of a group's log that conflicts with the lower groups': group 0 has none.
+    fn first_met<L: Accesses>(&self, group: u32, log: &L) -> Option<Met>
+        ensures { (kept : List TheAccess) → Keeps self.now.footprint kept → (group ≡ 0 → kept ≡ []) → AreOthers (L.log log.now).accesses kept → IsFirstMet (L.log log.now).accesses kept result }
+    {
+        if group == 0 {
+            return None;
+        }
+        first_met(&self.footprint, log)
+    }
+
+    /// Leaves in the contents what a further group, of which nothing crosses, leaves.
+    fn change<L: Accesses>(
+        &mut self,
+        alloc: Global,
+        spaces: &[Overlay<'_>],
+        log: &L,
+    ) -> Result<(), AllocError>
+        ensures changed { OnOk result ((kept : List TheAccess) → Keeps self.old.footprint kept → AreChanged self.old.contents.items self.new.contents.items (changes_of (value_of (map (λ row. row.now) self.old.first.items) self.old.contents.items (λ n b. joining.wrote kept (region.Buffer n) b) (map (λ space. space.bytes) spaces.now)) (L.log log.now).accesses)) }
+        ensures first { self.new.first ≡ self.old.first }
+        ensures footprint { self.new.footprint ≡ self.old.footprint }
+        ensures runs { self.new.runs ≡ self.old.runs }
+    {
+        let before = Before {
+            first: self.first.as_slice(),
+            lower: self.contents.as_slice(),
+            footprint: &self.footprint,
+            own: spaces,
+        };
+        let changes = before.changes(alloc, log)?;
+        make_changes(self.contents.as_mut_slice(), changes.as_slice());
+        Ok(())
+    }
+
+    /// Adds the accesses and the events of a group.
+    fn add<L: Accesses>(&mut self, alloc: Global, log: &L, runs: &Schedule) -> Result<(), AllocError>
+        ensures accesses { OnOk result ((kept : List TheAccess) → Keeps self.old.footprint kept → Keeps self.new.footprint (accesses_of (L.log log.now).accesses ++ kept)) }
+        ensures runs { OnOk result (Adds self.old.runs.items self.new.runs.items runs.now (events_of runs.now)) }
+        ensures first { self.new.first ≡ self.old.first }
+        ensures contents { self.new.contents ≡ self.old.contents }
+    {
+        add_accesses(alloc, &mut self.footprint, log)?;
+        add_all(&mut self.runs, runs.as_slice())
+    }
+
+    /// The report where an access of a group conflicts with a lower group's, with the events up to it.
+    fn cross<D: Described>(
+        &mut self,
+        launch: &D,
+        met: &Met,
+        stopped: Option<Fault>,
+        runs: &Schedule,
+    ) -> Result<Fault, AllocError>
+        ensures report { IfOk result (λ fault. Some fault ≡ report_at (D.launch launch.now) met.now stopped) }
+        ensures runs { IfOk result (λ fault. Adds self.old.runs.items self.new.runs.items runs.now (take (met.now.entry.event + 1) (events_of runs.now))) }
+    {
+        add_first(&mut self.runs, runs.as_slice(), met.entry.event as u64 + 1)?;
+        report_of(launch, met, stopped)
+    }
+
+    /// Joins a group that has ended: the report of its first access that conflicts with a lower group's, if there is one.
+    fn join_done<D: Described, L: Accesses>(
+        &mut self,
+        alloc: Global,
+        launch: &D,
+        number: GroupNumber,
+        spaces: &[Overlay<'_>],
+        log: &L,
+        runs: &Schedule,
+    ) -> Result<Option<Fault>, AllocError>
+        requires grouped { IsGrouped (D.launch launch.now) }
+        requires there { HasGroup (D.launch launch.now) number.group }
+        requires further { HasGroup (D.launch launch.now) (suc number.group) → number.further ≡ true }
+        requires so_far { Holds (D.launch launch.now) number.group self.old }
+        requires merged { IsMerged runs.now }
+        requires ran { IsRun (plan_of (D.launch launch.now) number.group) (Leaves (λ space. space.bytes) (plan_of (D.launch launch.now) number.group) spaces.now (L.log log.now)) (start (D.launch launch.now)) (events_of runs.now) None }
+        ensures { IfOk result (λ report. IsFurther (D.launch launch.now) number.group report self.new) }
+    {
+        laws();
+        match self.first_met(number.group, log) {
+            Some(met) => Ok(Some(self.cross(launch, &met, None, runs)?)),
+            None => {
+                self.change(alloc, spaces, log)?;
+                if number.further {
+                    self.add(alloc, log, runs)?;
+                }
+                Ok(None)
+            }
+        }
+    }
+
+    /// Joins a group that has stopped: its report, or that of its first access that conflicts with a lower group's, if there is one.
+    fn join_stopped<D: Described, L: Accesses>(
+        &mut self,
+        launch: &D,
+        group: u32,
+        fault: Fault,
+        log: &L,
+        runs: &Schedule,
+    ) -> Result<Fault, AllocError>
+        requires grouped { IsGrouped (D.launch launch.now) }
+        requires there { HasGroup (D.launch launch.now) group }
+        requires so_far { Holds (D.launch launch.now) group self.old }
+        requires merged { IsMerged runs.now }
+        requires ran { IsRun (plan_of (D.launch launch.now) group) (IsLogged (plan_of (D.launch launch.now) group) (L.log log.now)) (start (D.launch launch.now)) (events_of runs.now) (Some fault) }
+        ensures { IfOk result (λ report. IsStopped (D.launch launch.now) report self.new.runs.items) }
+    {
+        laws();
+        match self.first_met(group, log) {
+            Some(met) => self.cross(launch, &met, Some(fault), runs),
+            None => {
+                add_all(&mut self.runs, runs.as_slice())?;
+                Ok(fault)
+            }
+        }
+    }
+
+    /// Joins the result of one more group: its report, or that of its first access that conflicts with a lower group's, if there is one.
+    /// Where no further group is to be joined, its accesses and events aren't added. An error is out of memory.
+    pub(crate) fn join<D: Described, L: Accesses + Drop>(
+        &mut self,
+        alloc: Global,
+        launch: &D,
+        number: GroupNumber,
+        came: GroupResult<Overlay<'_>, L>,
+    ) -> Result<Option<Fault>, AllocError>
+        requires grouped { IsGrouped (D.launch launch.now) }
+        requires there { HasGroup (D.launch launch.now) number.group }
+        requires further { HasGroup (D.launch launch.now) (suc number.group) → number.further ≡ true }
+        requires so_far { Holds (D.launch launch.now) number.group self.old }
+        requires result { IsResult (λ overlay. overlay.bytes) L.log (D.launch launch.now) number.group came }
+        ensures { IfOk result (λ report. IsNext (D.launch launch.now) number.group came.entry report self.new) }
+    {
+        match came {
+            GroupResult::Done {
+                spaces, log, runs, ..
+            } => {
+                self.join_done(alloc, launch, number, spaces.as_slice(), &log, &runs)
+            }
+            GroupResult::Stopped {
+                fault, log, runs, ..
+            } => {
+                Ok(Some(self.join_stopped(launch, number.group, fault, &log, &runs)?))
+            }
+        }
+    }
+
+    /// What the groups left in the launch's buffers.
+    pub(crate) fn into_contents(self) -> Vec<Bytes>
+        ensures { result ≡ self.entry.contents }
+    {
+        self.contents
+    }
+
+    /// The events of the groups.
+    pub(crate) fn into_schedule(self) -> Schedule
+        ensures { result ≡ self.entry.runs.items }
+    {
+        Schedule::new(self.runs)
+    }
+}
