@@ -22,6 +22,5 @@ pub fn run_launch(
     requires { HasGroups (setup_of launch.now) }
     ensures { IfOk result (Concludes (launch_of (setup_of launch.now) (bytes_in buffers.now))) }
 {
-    let _ = (launch, buffers);
     Err(AllocError)
 }
