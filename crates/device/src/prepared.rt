@@ -65,8 +65,9 @@ impl Prepared<'_> {
         }
     }
 
-    /// Runs it over a range on these buffers, which stay as they are. The names of its buffers are copied, and no bytes of a buffer: a
-    /// clean outcome has one copy of each of its buffers, with the changes, and a fault has none.
+    /// Runs it over a range on these buffers, which stay as they are. A launch copies the names of its buffers, at most 64, here and in
+    /// `Launch::new`. What the buffers hold isn't copied here: `run_launch` makes one copy of each, in which it joins the groups, and a clean
+    /// outcome hands it on.
     pub(crate) fn run(
         &self,
         alloc: Global,
