@@ -1,31 +1,29 @@
 -- From the run of a launch to what the machine says of it.
-use Rattle.std.proofs.Common.{◌≡◌, ℕ, ◌*◌, ◌<◌, ◌≤◌, ◌^◌, List, map, Some, Option, refl, sym, ◌∙◌, subst, arith}
+use Rattle.std.proofs.Common.{◌≡◌, ℕ, ◌*◌, ◌%◌, ◌<◌, ◌≤◌, ◌^◌, List, map, Some, Option, refl, sym, subst, arith}
 use Rattle.std.proofs.Math.Nat.{mul-le-mul_left, mul-le-mul_right}
 use Rattle.clmodel.specs.Launch.{Launch}
 use Rattle.clmodel.specs.Run.{State, Events, left}
 use Rattle.clmodel.specs.Law.{Determinacy, CleanIsComplete, ReportIsShown, CleanWith, Reaches, RunsClean}
 use Rattle.device.specs.Machine.{IsReported}
-use Rattle.clmodel.specs.Next.{launch_of}
 use Rattle.clmodel.specs.Outcome.{Concludes, events_of, IsMerged}
-use Rattle.clmodel.specs.Setup.{Setup, item_count, group_items, buffer_names}
-use Rattle.snapshot_merge.specs.Launches.{launch_on, IsOneGroup}
+use Rattle.clmodel.specs.Setup.{Setup, item_count, group_items}
+use Rattle.snapshot_run.specs.Launches.{HasGroups}
 use Rattle.clmodel.specs.declared.outcome.Outcome.{Outcome}
 use Rattle.clmodel.specs.declared.outcome.Outcome.TheVariants.{Clean, Faulted}
 
--- a launch of at most 256 items in one group, within the greatest budget
-pub one_group : (setup other : Setup) (size : ℕ) → setup ≡ other → size ≡ group_items other.range → size ≤ 256 → item_count other.range ≡ size → other.budget ≤ 1000000
-    → IsOneGroup setup
-one_group setup other size same grouped few one limited =
-    subst (λ (s : Setup). IsOneGroup s) (sym same) (record { whole = one ∙ grouped; short = subst (λ n. n * other.budget < 2 ^ 32) grouped (short size other.budget few limited) })
+-- a launch of at most 65,536 items in whole groups of at most 256, within the greatest budget
+pub has_groups : (setup other : Setup) (size : ℕ) → setup ≡ other → size ≡ group_items other.range → size ≤ 256 → item_count other.range % size ≡ 0
+    → item_count other.range ≤ 65536 → other.budget ≤ 1000000 → HasGroups setup
+has_groups setup other size same grouped few whole few_items limited =
+    subst (λ (s : Setup). HasGroups s) (sym same)
+    (record {
+      whole = subst (λ n. item_count other.range % n ≡ 0) grouped whole;
+      numbered = omega (arith, few_items);
+      short = subst (λ n. n * other.budget < 2 ^ 32) grouped (short size other.budget few limited);
+    })
   where
     short : (n b : ℕ) → n ≤ 256 → b ≤ 1000000 → n * b < 2 ^ 32
     short n b few limited = omega (arith, mul-le-mul_right b few, mul-le-mul_left 256 limited)
-
--- a run on what buffers of these names have
-pub concluded : (setup other : Setup) (bytes : List ℕ → List ℕ) (contents : List (List ℕ)) (outcome : Outcome) → setup ≡ other → contents ≡ map bytes (buffer_names setup)
-    → Concludes (launch_on setup contents) outcome → Concludes (launch_of other bytes) outcome
-concluded setup other bytes contents outcome same have h =
-    subst (λ (s : Setup). Concludes (launch_of s bytes) outcome) same (subst (λ (c : List (List ℕ)). Concludes (launch_on setup c) outcome) have h)
 
 clean_with : Determinacy → CleanIsComplete → (launch : Launch) (events : Events) (end : State) → RunsClean launch events end → CleanWith launch (left launch end)
 clean_with determined complete launch events end run =

@@ -94,7 +94,7 @@ has_kernels m name = list_any (λ kernel. is name kernel.program) (values_of m.k
 abbrev pub is_in_use : Machine → List ℕ → Bool
 is_in_use m name = (is_some (find m.buffers name) && is_argument m name) || (is_some (find m.programs name) && has_kernels m name)
 
--- two ranges of so many bytes share one
+-- two ranges of `count` bytes share one
 abbrev pub do_overlap : ℕ → ℕ → ℕ → Bool
 do_overlap first second count = nat_lt first (second + count) && nat_lt second (first + count)
 
@@ -226,7 +226,7 @@ takes_memory (command.Kernel name program function) = true
 takes_memory (command.Arg kernel index argument) = true
 takes_memory (command.Launch kernel range) = true
 
--- want of memory may come in place of any answer of a command that takes memory
+-- out of memory may come in place of any answer of a command that takes memory
 abbrev pub LacksMemory : Machine → Command → Reply → Machine → Type 0
 LacksMemory old c r new = IsTrue (takes_memory c) × (r ≡ reply.Refused OutOfMemory) × (new ≡ old)
 

@@ -26,7 +26,7 @@ pub(crate) struct CompiledKernel {
     pub(crate) code: Code,
 }
 
-/// The code of a program's kernel, by the number of its name. An error is want of memory.
+/// The code of a program's kernel, by the number of its name. An error is out of memory.
 pub(crate) fn code_of(alloc: Global, checked: &Checked, number: u32) -> Result<Code, AllocError>
     requires { names_kernel (program checked.now.tree) number ≡ true }
     ensures { IfOk result (IsLowered (program checked.now.tree) number) }

@@ -35,7 +35,7 @@ const MAX_BUFFERS: usize = 64;
 /// The most bytes that a buffer has.
 const MAX_SIZE: u64 = 1048576;
 
-/// Whether some of so many bytes from an offset on aren't a buffer's.
+/// Whether some of the `count` bytes from an offset on aren't a buffer's.
 fn is_outside(buffer: &Bytes, offset: u64, count: u64) -> bool
     ensures value { result ≡ nat_lt (length buffer.now) (offset + count) }
     ensures fits { result ≡ false → offset + count < 2 ^ 64 }
@@ -60,7 +60,7 @@ impl Device {
     ghost use Rattle.device.specs.Machine.{Step, Answers, machine_of, opening, is_used, is_argument, has_kernels, is_in_use, is_there, has_kernel, kernel_of, program_of, setup_of, first, row, takes_memory};
     ghost use Rattle.device.specs.Prepared.{prepared_setup, Starts};
 
-    /// A device without buffers, programs and kernels, on which an item of a launch may make so many ticks.
+    /// A device without buffers, programs and kernels, on which an item of a launch may make `budget` ticks.
     pub fn new(alloc: Global, budget: u32) -> Self
         requires { budget ≤ 1000000 }
         ensures { machine_of result ≡ opening budget }
@@ -372,7 +372,7 @@ impl Device {
         })
     }
 
-    /// Runs a kernel over a range on copies of the buffers, or answers the launch's refusal.
+    /// Runs a kernel over a range on the buffers as they are, which it doesn't change, or answers the launch's refusal.
     fn start(&self, name: &Name, range: &Range) -> Result<Result<Launched, Refusal>, AllocError>
         ensures { IfOk result (Starts (machine_of self.now) name.now range.now) }
     {
@@ -403,7 +403,7 @@ impl Device {
         }
     }
 
-    /// What a command answers and does, or want of memory.
+    /// What a command answers and does. An error is out of memory, and nothing is done.
     fn perform(&mut self, command: Command) -> Result<Reply, AllocError>
         ensures ok { IfOk result (λ reply. Answers (machine_of self.old) command reply (machine_of self.new)) }
         ensures err { OnErr result (IsTrue (takes_memory command) × (machine_of self.new ≡ machine_of self.old)) }

@@ -1,7 +1,7 @@
 //! Launches that weren't refused.
 #![tactic(auto)]
 
-ghost use Rattle.std.specs.Prelude.{◌≡◌, ◌≤◌, map, IfOk};
+ghost use Rattle.std.specs.Prelude.{◌≡◌, ◌≤◌, IfOk};
 ghost use Rattle.item_step.specs.Setups.{plain};
 ghost use Rattle.clmodel.specs.Tree.{program};
 ghost use Rattle.device_store.specs.Ranges.{IsLaunchable};
@@ -10,7 +10,7 @@ ghost use Rattle.device.specs.Kept.{ActsAs};
 
 use clmodel::outcome::Outcome;
 use clmodel::setup::Range;
-use clmodel::text::{Bytes, Name};
+use clmodel::text::Name;
 use cltypes::Checked;
 use device_store::kernel::Kernel;
 use device_store::ranges::group_items;
@@ -49,27 +49,6 @@ fn copies(alloc: Global, names: &[Name]) -> Result<Vec<Name>, AllocError>
     Ok(copies)
 }
 
-/// A copy of what a buffer holds, of nothing where there is no such buffer.
-fn copy_of_bytes(alloc: Global, buffers: &Buffers, name: &Name) -> Result<Bytes, AllocError>
-    ensures { IfOk result (λ bytes. bytes ≡ bytes_in buffers.now name.now) }
-{
-    match buffers.get(name) {
-        None => Bytes::copy_of(alloc, &[]),
-        Some(bytes) => Bytes::copy_of(alloc, bytes.as_slice()),
-    }
-}
-
-/// Copies of what the buffers of these names hold.
-fn contents(alloc: Global, buffers: &Buffers, names: &[Name]) -> Result<Vec<Bytes>, AllocError>
-    ensures { IfOk result (λ contents. contents.items ≡ map (bytes_in buffers.now) names.now) }
-{
-    let mut contents = Vec::new(alloc);
-    for name in names {
-        contents.push(copy_of_bytes(alloc, buffers, name)?)?;
-    }
-    Ok(contents)
-}
-
 impl Prepared<'_> {
     ghost use Rattle.device.specs.Prepared.{prepared_setup, Came};
 
@@ -86,7 +65,9 @@ impl Prepared<'_> {
         }
     }
 
-    /// Runs it over a range on copies of the buffers.
+    /// Runs it over a range on these buffers, which stay as they are. A launch copies the names of its buffers, at most 64, here and in
+    /// `Launch::new`. What the buffers hold isn't copied here: `run_launch` makes one copy of each, in which it joins the groups, and a clean
+    /// outcome hands it on.
     pub(crate) fn run(
         &self,
         alloc: Global,
@@ -98,10 +79,8 @@ impl Prepared<'_> {
     {
         let group_size = group_items(range);
         let launch = Launch::new(alloc, self.setup(range), group_size, self.code)?;
-        let listed = launch.buffer_names();
-        let contents = contents(alloc, buffers, listed)?;
-        let outcome = run_launch(alloc, &launch, contents.as_slice())?;
-        let names = copies(alloc, listed)?;
+        let names = copies(alloc, launch.buffer_names())?;
+        let outcome = run_launch(alloc, &launch, buffers)?;
         Ok(Launched { names, outcome })
     }
 }

@@ -38,7 +38,7 @@ parameters_of program number = option_map_or (λ f. f.parameters) (kernel_in pro
 abbrev pub with_argument : KernelState → ℕ → Argument → KernelState
 with_argument kernel index argument = record kernel { arguments = slice_set kernel.arguments index (Some argument) }
 
--- a kernel of so many parameters, none of which was given an argument
+-- a kernel of `count` parameters, none of which was given an argument
 abbrev pub new_kernel : List ℕ → ℕ → ℕ → KernelState
 new_kernel program function count = record { program = program; function = function; arguments = replicate count None }
 

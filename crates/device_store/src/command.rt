@@ -11,7 +11,7 @@ use clsyntax_lex::token::SyntaxFault;
 /// A command of the host (OpenCL 1.2, chapter 5, in an order of their own).
 #[derive(Drop)]
 pub enum Command {
-    /// Makes a buffer of so many zero bytes (section 5.2.1).
+    /// Makes a buffer of `size` zero bytes (section 5.2.1).
     Buffer {
         name: Name,
         size: u64,
@@ -22,7 +22,7 @@ pub enum Command {
         offset: u64,
         bytes: Bytes,
     },
-    /// Repeats a pattern over so many bytes of a buffer from an offset on, in place of those that were there (section 5.2.3,
+    /// Repeats a pattern over `count` bytes of a buffer from an offset on, in place of those that were there (section 5.2.3,
     /// clEnqueueFillBuffer). The pattern has 1, 2, 4, 8, 16, 32, 64 or 128 bytes, and offset and count are multiples of its length.
     Fill {
         buffer: Name,
@@ -30,7 +30,7 @@ pub enum Command {
         count: u64,
         pattern: Bytes,
     },
-    /// Copies so many bytes of a buffer from an offset on into a buffer, which may be the same, from an offset of its own on (section
+    /// Copies `count` bytes of a buffer from an offset on into a buffer, which may be the same, from an offset of its own on (section
     /// 5.2.2, clEnqueueCopyBuffer).
     Copy {
         source: Name,
@@ -87,9 +87,9 @@ pub enum Refusal {
     NameInUse,
     /// 2: nothing of the wanted kind has the name
     NoSuchName,
-    /// 3
+    /// 3: a size of 0 bytes, a buffer of more than 1,048,576, or a bad pattern
     BadSize,
-    /// 4
+    /// 4: bytes behind the end of a buffer
     OutOfRange,
     /// 5: there are 64 buffers
     TooManyBuffers,
@@ -97,23 +97,23 @@ pub enum Refusal {
     BadDimension,
     /// 7: a size 0, a global size not divisible by its local size, or more than 256 items a group
     BadGroupSize,
-    /// 8
+    /// 8: more than 65,536 items
     TooManyItems,
-    /// 9
+    /// 9: a copy within a buffer whose two ranges share a byte
     Overlap,
-    /// 10
+    /// 10: the source doesn't build
     BuildFailed(BuildFault),
-    /// 11
+    /// 11: the program has no kernel of that name
     NoSuchKernel,
-    /// 12
+    /// 12: no parameter of that index, or an argument of another kind or outside its type
     BadArgument,
-    /// 13
+    /// 13: a parameter wasn't given an argument
     ArgumentsMissing,
-    /// 14
+    /// 14: more than 32,768 bytes of local memory a group
     LocalTooLarge,
-    /// 15
+    /// 15: a buffer that a kernel's argument names, or a program with a kernel
     InUse,
-    /// 16
+    /// 16: memory was refused
     OutOfMemory,
 }
 

@@ -4,7 +4,7 @@
 ghost use Rattle.std.specs.Prelude.{◌≡◌, ◌<◌, ◌%◌, length, true, false};
 ghost use Rattle.device_store.specs.Fills.{is_pattern_size, is_bad_fill};
 
-/// Whether a pattern may have so many bytes: 1, 2, 4, 8, 16, 32, 64 or 128.
+/// Whether a pattern may have this size in bytes: 1, 2, 4, 8, 16, 32, 64 or 128.
 fn is_pattern_size(size: usize) -> bool
     ensures value { result ≡ is_pattern_size size }
     ensures some { result ≡ true → 0 < size }

@@ -35,7 +35,7 @@ impl Model for Kernel {
     ghost view = { λ a. record { program = a.program; function = a.function; arguments = a.arguments.items } };
 }
 
-/// So many arguments that weren't given.
+/// A list of `count` arguments that weren't given.
 fn none_given(alloc: Global, count: usize) -> Result<Vec<Option<Argument>>, AllocError>
     ensures { IfOk result (λ arguments. arguments.items ≡ replicate count None) }
 {
@@ -57,7 +57,7 @@ fn names_buffer(name: &Name, argument: &Option<Argument>) -> bool
 }
 
 impl Kernel {
-    /// The kernel of a program's function, by the number of its name, with so many arguments that weren't given.
+    /// The kernel of a program's function, by the number of its name, with `count` arguments that weren't given.
     pub fn new(
         alloc: Global,
         program: Name,

@@ -11,6 +11,9 @@ use clmodel::setup::Range;
 /// The most items that a group may have.
 const MAX_GROUP: u64 = 256;
 
+/// The most items that a launch may have.
+const MAX_ITEMS: u64 = 65536;
+
 /// The product of sizes, or the greatest number where it is larger.
 #[tactic(auto, using(crate::proofs::Sizes::clipped))]
 fn product(sizes: &[u64]) -> u64
@@ -22,14 +25,14 @@ fn product(sizes: &[u64]) -> u64
     }
 }
 
-/// Whether an offset and a size pass 2^64 - 1 together.
+/// Whether in a dimension the offset and the global size pass 2^64 - 1 together (OpenCL 1.2, section 5.8).
 fn any_passes(offset: &[u64], global: &[u64]) -> bool
     ensures { result ≡ list_any (λ p. nat_lt (2 ^ 64 - 1) (p.0 + p.1)) (zip offset.now global.now) }
 {
     offset.iter().zip(global).any(|(o, g)| *o > u64::MAX - *g)
 }
 
-/// Whether a size is 0 or a global size isn't divisible by its local size.
+/// Whether a size is 0 or a global size isn't divisible by the local size of its dimension (OpenCL 1.2, section 5.8).
 fn any_uneven(global: &[u64], local: &[u64]) -> bool
     ensures { result ≡ list_any (λ p. (p.0 == 0) || (p.1 == 0) || not (p.0 % p.1 == 0)) (zip global.now local.now) }
 {
@@ -62,23 +65,22 @@ pub fn is_bad_group(range: &Range) -> bool
     any_uneven(global, local) || product(local) > MAX_GROUP
 }
 
-/// Whether there is more than one group.
+/// Whether there are more than 65,536 items in all groups together, the product of the global sizes.
 pub fn is_too_many(range: &Range) -> bool
     ensures { result ≡ is_too_many range.now }
 {
-    let global = range.global.as_slice();
-    let local = range.local.as_slice();
-    global.iter().zip(local).any(|(g, l)| *g != *l)
+    product(range.global.as_slice()) > MAX_ITEMS
 }
 
-/// How many items a group has.
+/// How many items a group has, 1 to 256: the product of the local sizes. The launch's items, at most 65,536, are a multiple of it.
 #[tactic(auto, using(crate::proofs::Sizes::sizes))]
 pub fn group_items(range: &Range) -> u32
     requires { IsLaunchable range.now }
     ensures count { result ≡ group_items range.now }
     ensures positive { 0 < result }
     ensures few { result ≤ 256 }
-    ensures one { item_count range.now ≡ result }
+    ensures whole { item_count range.now % result ≡ 0 }
+    ensures few_items { item_count range.now ≤ 65536 }
     ensures sized { All (λ size. 0 < size) range.now.local }
 {
     product(range.local.as_slice()) as u32

@@ -1,4 +1,4 @@
-use Rattle.std.proofs.Common.{◌≡◌, subst}
+use Rattle.std.proofs.Common.{subst}
 use Rattle.device.specs.Machine.{machine_of, bytes_of}
 use Rattle.device.specs.Prepared.{Came}
 use Rattle.device.proofs.Device.start.Goals as goal
