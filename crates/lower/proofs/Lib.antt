@@ -3,7 +3,7 @@ pub mod Stands
 pub mod Parts
 pub mod Rights
 pub mod Loops
-pub mod Statements
+pub mod StatementRuns
 pub mod Calls
 pub mod Suiting
 pub mod Suited

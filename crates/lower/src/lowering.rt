@@ -26,7 +26,7 @@ pub enum LowerFault {
     /// 1: no kernel has the name
     #[error("no such kernel")]
     NoSuchKernel,
-    /// 2: memory is wanting, or more registers are wanted than there are
+    /// 2: out of memory, or more registers are needed than there are
     #[error("out of memory")]
     OutOfMemory,
 }
