@@ -20,6 +20,8 @@ pub mod Scoped
 pub mod TypedRights
 pub mod TypedStatements
 pub mod TypedKernels
-pub mod Functions
 pub mod Counted
 pub mod Lowered
+pub mod Chosen
+pub mod Rounds
+pub mod Places

@@ -6,9 +6,9 @@
 ghost use Rattle.std.specs.Prelude.{◌≡◌, ◌++◌, reverse, IfOk, OnOk};
 ghost use Rattle.lower_code.specs.Parts.{hole_code, part_code, whole, HoleKnown, IsKnown, AllKnown};
 
+use crate::statements::emit_body;
 use lower_code::draft::Draft;
 use lower_code::holes::{Helpers, Hole, Part};
-use crate::statements::emit_body;
 use regcode::Instruction;
 use std::alloc::{AllocError, Global};
 
@@ -22,6 +22,7 @@ fn open<'a>(alloc: Global, hole: &Hole<'a>, rest: &mut Vec<Part<'a>>) -> Result<
     let helpers = Helpers {
         functions: hole.functions,
         known: hole.known,
+        ends: hole.ends,
     };
     let mut body = Draft::new(alloc);
     emit_body(
@@ -58,8 +59,7 @@ fn write<'a>(
     }
 }
 
-/// The whole code of parts, the last first, in time that is proportional to the statements that are written,
-/// times how deep they are nested, and to the functions at each call, since a helper is looked up by a walk. Err if out of memory.
+/// The whole code of parts, the last first. Err if out of memory.
 pub fn expand(alloc: Global, parts: Vec<Part<'_>>) -> Result<Vec<Instruction>, AllocError>
     requires { AllKnown parts.items }
     ensures { IfOk result (λ code. code.items ≡ whole (reverse parts.entry.items)) }

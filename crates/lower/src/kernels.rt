@@ -7,14 +7,13 @@ ghost use Rattle.clmodel.specs.Tree.{Func, NoFunc, func, then_funcs};
 ghost use Rattle.lower_code.specs.Code.{kernel_code};
 ghost use Rattle.lower_code.specs.Emission.{functions_of};
 
-use lower_code::draft::Draft;
 use crate::expansion::expand;
 use crate::lookup::kernel_named;
-use lower_code::holes::Helpers;
 use crate::statements::emit_body;
-use crate::table::known_of_all;
+use crate::table::{ends_of, known_of_all};
 use clmodel::tree::Function;
-use lower_place::backward::Backward;
+use lower_code::draft::Draft;
+use lower_code::holes::Helpers;
 use lower_code::variables::put_arguments;
 use regcode::Instruction;
 use std::alloc::{AllocError, Global};
@@ -27,12 +26,10 @@ fn emit_function(
 ) -> Result<Vec<Instruction>, AllocError>
     ensures { IfOk result (λ code. code.items ≡ kernel_code (functions_of helpers.entry.functions.now) (func kernel.now)) }
 {
-    let mut arguments = Backward::new(alloc);
-    put_arguments(kernel.parameters.as_slice(), &mut arguments)?;
     let mut code = Draft::new(alloc);
     code.put(Instruction::End)?;
     emit_body(helpers, kernel, 0, 0, 0, &mut code)?;
-    code.put_code(arguments)?;
+    put_arguments(kernel.parameters.as_slice(), &mut code)?;
     expand(alloc, code.into_parts())
 }
 
@@ -46,14 +43,16 @@ pub fn emit_kernel(
         × (code.items ≡ kernel_code (functions_before (then_funcs NoFunc (map func functions.now)) number) f))) }
     ensures none { IfOk result (λ found. found ≡ None → kernel_in (then_funcs NoFunc (map func functions.now)) number ≡ None) }
 {
-    let Some(found) = kernel_named(functions, number) else {
+    let Some(found) = kernel_named(functions, number as usize) else {
         return Ok(None);
     };
     let before = &functions[..found.place];
-    let known = known_of_all(alloc, before)?;
+    let ends = ends_of(alloc, before)?;
+    let known = known_of_all(alloc, before, ends.as_slice())?;
     let helpers = Helpers {
         functions: before,
         known: known.as_slice(),
+        ends: ends.as_slice(),
     };
     let code = emit_function(alloc, helpers, found.function)?;
     Ok(Some(code))

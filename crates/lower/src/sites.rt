@@ -6,14 +6,15 @@ ghost use Rattle.clmodel.specs.BuiltIns.{built_in};
 ghost use Rattle.clmodel.specs.Barrier as barrier;
 ghost use Rattle.clmodel.specs.Next as next;
 ghost use Rattle.clmodel.specs.Tree.{stmt, term};
-ghost use Rattle.lower_code.specs.Trees.{all_of, part_of};
-ghost use Rattle.lower_code.specs.Emission.{callee_sites, found_sites, inside};
+ghost use Rattle.lower_code.specs.Trees.{all_of};
+ghost use Rattle.lower_code.specs.Emission.{found_sites, inside};
+ghost use Rattle.lower.specs.Statements.{callee_sites};
 
-use lower_code::functions::{Found, find};
-use lower_code::holes::Helpers;
 use clmodel::barrier::is_barrier;
 use clmodel::setup::built_in_named;
 use clmodel::tree::{Expression, Statement};
+use lower_code::functions::{Found, find};
+use lower_code::holes::Helpers;
 use std::alloc::AllocError;
 
 /// What is called: nothing that can meet a barrier, the barrier itself, or the helper function of a name.
@@ -25,7 +26,7 @@ pub enum Callee {
 }
 
 /// What a call that is a whole statement calls.
-pub fn callee_of(name: u32) -> Callee
+fn callee_of(name: u32) -> Callee
     ensures { (inside : ℕ → ℕ) → next.statement_sites inside (barrier.is_barrier name) (built_in name) name ≡ callee_sites inside result }
 {
     if is_barrier(name) {
@@ -52,7 +53,7 @@ fn callee_in(value: &Expression) -> Callee
 
 /// The barriers in a statement; None where there are too many to count.
 #[cycle(sites)]
-pub fn sites(helpers: Helpers<'_>, statement: &Statement) -> Option<u32>
+fn sites(helpers: Helpers<'_>, statement: &Statement) -> Option<u32>
     ensures { IfSome result (λ n. n ≡ next.sites (inside helpers.entry.functions.now) (stmt statement.now)) }
 {
     match statement {
@@ -125,40 +126,14 @@ fn sites_in_call(helpers: Helpers<'_>, callee: Callee) -> Option<u32>
     match callee {
         Callee::Nothing => Some(0),
         Callee::Barrier => Some(1),
-        Callee::Helper(name) => match find(helpers.functions, name) {
+        Callee::Helper(name) => match find(helpers, name) {
             Some(found) => sites_in_helper(helpers, found),
             None => Some(0),
         },
     }
 }
 
-/// The number of the first barrier behind a statement. Err where there are too many.
-pub fn site_behind(
-    helpers: Helpers<'_>,
-    site: u32,
-    statement: &Statement,
-) -> Result<u32, AllocError>
-    ensures { IfOk result (λ behind. behind ≡ site + next.sites (inside helpers.entry.functions.now) (stmt statement.now)) }
-{
-    let count = sites(helpers, statement).ok_or(AllocError)?;
-    site.checked_add(count).ok_or(AllocError)
-}
-
-/// The same behind a part of a `for`.
-pub fn site_behind_part(
-    helpers: Helpers<'_>,
-    site: u32,
-    part: Option<&Statement>,
-) -> Result<u32, AllocError>
-    ensures { IfOk result (λ behind. behind ≡ site + next.part_sites (inside helpers.entry.functions.now) (part_of part.entry)) }
-{
-    match part {
-        None => Ok(site),
-        Some(statement) => site_behind(helpers, site, statement),
-    }
-}
-
-/// The same behind statements.
+/// The number of the first barrier behind statements, by that of their first one. Err if there are too many.
 pub fn site_behind_all(
     helpers: Helpers<'_>,
     site: u32,
@@ -170,7 +145,7 @@ pub fn site_behind_all(
     site.checked_add(count).ok_or(AllocError)
 }
 
-/// The number of the first barrier of a statement, by that of the first one behind it. Err where there are too many.
+/// The number of the first barrier of a statement, by that of the first one behind it. Err if there are too many.
 pub fn site_before(
     helpers: Helpers<'_>,
     behind: u32,

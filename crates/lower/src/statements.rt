@@ -1,30 +1,41 @@
 //! The code of statements and of the helper functions that they call (OpenCL 1.2, section 6.9; C99 6.5.2.2 and 6.8).
 //!
-//! Code is written from its end, so that the length of what a jump passes is known when the jump is written. The body of a helper
-//! that is called is left out, and only its length is counted, so nothing here goes into another function: the time is that of the
-//! function's own statements, times how deep they are nested (64 at most), since barriers are counted before they are numbered, and
-//! the turns of a loop are put together before the loop is; and a walk over the functions before it at each call that it has.
+//! Code is written from its end, so that the length of what a jump passes is known when the jump is written, and barriers are numbered
+//! from the last one. The body of a helper that is called is left out, and only its length and its barriers are counted, so nothing
+//! here goes into another function: the time is that of the function's own statements. But the body of a `for` with a third part is
+//! counted before it is written, since its barriers have the higher numbers and its code stands first, and the turns of a loop are
+//! put together before the loop is; a statement inside n such loops (64 at most) is so gone through n times more.
 #![tactic(auto)]
 
-ghost use Rattle.std.specs.Prelude.{◌≡◌, [], ◌++◌, true, length, IfOk, OnOk};
+ghost use Rattle.std.specs.Prelude.{◌≡◌, ◌+◌, ◌++◌, true, length, IfOk, OnOk};
 ghost use Rattle.std.specs.Option.{option_map};
+ghost use Rattle.clmodel.specs.Next.{sites, part_sites, all_sites};
 ghost use Rattle.clmodel.specs.Tree as tree;
 ghost use Rattle.clmodel.specs.Tree.{stmt, term};
 ghost use Rattle.lower_code.specs.Trees.{all_of, part_of};
-ghost use Rattle.lower_code.specs.Code.{condition_code};
-ghost use Rattle.lower_code.specs.Emission.{is_loop, body_of, statement_code, row_code, maybe_code, test_of, once_code, inner_code, turns_code};
+ghost use Rattle.lower_code.specs.Code.{condition_code, while_code};
+ghost use Rattle.lower_code.specs.Emission.{inside, body_of, statement_code, row_code, maybe_code, test_of};
+ghost use Rattle.lower.specs.Statements.{is_loop, is_single, begun_at, once_code, round_code};
 
+use crate::sites::{site_before, site_behind_all};
+use clmodel::tree::{Expression, Function, Statement};
 use lower_code::draft::Draft;
 use lower_code::holes::{Helpers, Setting};
 use lower_code::loops::{end_do, end_while, put_condition, put_no_value, put_test};
 use lower_code::positions::{Exits, Position};
 use lower_code::simple::{emit_assignment, emit_declaration, put_jump};
-use crate::sites::{site_before, site_behind, site_behind_all, site_behind_part};
-use clmodel::tree::{Expression, Function, Statement};
-use lower_expr::scope::{Scope, level_above};
 use lower_code::variables::{declare_all, declare_parameters, declare_part, leave, leave_part};
+use lower_expr::scope::{Scope, level_above};
 use regcode::Instruction;
 use std::alloc::AllocError;
+
+/// Where a statement ends: how many loops are round it, the number of the first barrier behind it, and its exits.
+#[derive(Clone, Copy)]
+pub struct Ending {
+    pub depth: u32,
+    pub behind: u32,
+    pub exits: Exits,
+}
 
 /// The condition of a `for`.
 fn condition_of(condition: &Option<Box<Expression>>) -> Option<&Expression>
@@ -46,44 +57,95 @@ fn statement_of(part: &Option<Box<Statement>>) -> Option<&Statement>
     }
 }
 
-/// Puts the code of a statement before the code.
-#[cycle(emission)]
-fn emit_statement<'a>(
+/// Puts a statement in which no other stands before the code, and gives the number of its first barrier.
+fn emit_single<'a>(
+    setting: &Setting<'a>,
+    scope: &mut Scope,
+    statement: &Statement,
+    ending: Ending,
+    code: &mut Draft<'a>,
+) -> Result<u32, AllocError>
+    requires { is_single statement.now ≡ true }
+    ensures code { IfOk result (λ site. code.new ≡ statement_code setting.now scope.old (stmt statement.now) (begun_at ending site) ++ code.old) }
+    ensures site { IfOk result (λ site. site + sites (inside setting.now.helpers.functions.now) (stmt statement.now) ≡ ending.behind) }
+    ensures scope { OnOk result (scope.new ≡ scope.old) }
+{
+    let site = site_before(setting.helpers, ending.behind, statement)?;
+    let position = Position {
+        depth: ending.depth,
+        site,
+        exits: ending.exits,
+    };
+    put_single(setting, scope, statement, position, code)?;
+    Ok(site)
+}
+
+/// Puts such a statement before the code at a position.
+fn put_single<'a>(
     setting: &Setting<'a>,
     scope: &mut Scope,
     statement: &Statement,
     position: Position,
     code: &mut Draft<'a>,
 ) -> Result<(), AllocError>
+    requires { is_single statement.now ≡ true }
     ensures code { OnOk result (code.new ≡ statement_code setting.now scope.old (stmt statement.now) position ++ code.old) }
     ensures scope { OnOk result (scope.new ≡ scope.old) }
 {
     match statement {
         Statement::Empty { .. } => Ok(()),
-        Statement::Block { body, .. } => emit_all(setting, scope, body, position, code),
         Statement::Declare { .. } | Statement::DeclareArray { .. } => {
             emit_declaration(setting, scope, statement, position, code)
         }
         Statement::Assign { .. } | Statement::Step { .. } | Statement::Call { .. } => {
             emit_assignment(setting, scope, statement, position, code)
         }
+        Statement::Break { .. } | Statement::Continue { .. } | Statement::Return { .. } => {
+            put_jump(setting, scope, statement, position, code)
+        }
+        _ => unreachable!(),
+    }
+}
+
+/// Puts a statement before the code, and gives the number of its first barrier, or of the first behind it if it has none. Err if out
+/// of memory, or if a number of 32 bits is too small.
+#[cycle(emission)]
+fn emit_statement<'a>(
+    setting: &Setting<'a>,
+    scope: &mut Scope,
+    statement: &Statement,
+    ending: Ending,
+    code: &mut Draft<'a>,
+) -> Result<u32, AllocError>
+    ensures code { IfOk result (λ site. code.new ≡ statement_code setting.now scope.old (stmt statement.now) (begun_at ending site) ++ code.old) }
+    ensures site { IfOk result (λ site. site + sites (inside setting.now.helpers.functions.now) (stmt statement.now) ≡ ending.behind) }
+    ensures scope { OnOk result (scope.new ≡ scope.old) }
+{
+    match statement {
+        Statement::Block { body, .. } => emit_all(setting, scope, body, ending, code),
         Statement::If {
             condition,
             chosen,
             ..
-        } => emit_if(setting, scope, condition, chosen, position, code),
+        } => emit_if(setting, scope, condition, chosen, ending, code),
         Statement::IfElse {
             condition,
             chosen,
             otherwise,
             ..
-        } => emit_choice(setting, scope, condition, chosen, otherwise, position, code),
+        } => emit_choice(setting, scope, condition, chosen, otherwise, ending, code),
         Statement::While { .. } | Statement::DoWhile { .. } | Statement::For { .. } => {
-            emit_loop(setting, scope, statement, position, code)
+            emit_loop(setting, scope, statement, ending, code)
         }
-        Statement::Break { .. } | Statement::Continue { .. } | Statement::Return { .. } => {
-            put_jump(setting, scope, statement, position, code)
-        }
+        Statement::Empty { .. }
+        | Statement::Declare { .. }
+        | Statement::DeclareArray { .. }
+        | Statement::Assign { .. }
+        | Statement::Step { .. }
+        | Statement::Call { .. }
+        | Statement::Break { .. }
+        | Statement::Continue { .. }
+        | Statement::Return { .. } => emit_single(setting, scope, statement, ending, code),
     }
 }
 
@@ -93,11 +155,12 @@ fn emit_loop<'a>(
     setting: &Setting<'a>,
     scope: &mut Scope,
     statement: &Statement,
-    position: Position,
+    ending: Ending,
     code: &mut Draft<'a>,
-) -> Result<(), AllocError>
+) -> Result<u32, AllocError>
     requires { is_loop statement.now ≡ true }
-    ensures code { OnOk result (code.new ≡ statement_code setting.now scope.old (stmt statement.now) position ++ code.old) }
+    ensures code { IfOk result (λ site. code.new ≡ statement_code setting.now scope.old (stmt statement.now) (begun_at ending site) ++ code.old) }
+    ensures site { IfOk result (λ site. site + sites (inside setting.now.helpers.functions.now) (stmt statement.now) ≡ ending.behind) }
     ensures scope { OnOk result (scope.new ≡ scope.old) }
 {
     match statement {
@@ -112,14 +175,14 @@ fn emit_loop<'a>(
             Some(condition),
             None,
             body,
-            position,
+            ending,
             code,
         ),
         Statement::DoWhile {
             body,
             condition,
             ..
-        } => emit_do(setting, scope, body, condition, position, code),
+        } => emit_do(setting, scope, body, condition, ending, code),
         Statement::For {
             first,
             condition,
@@ -133,7 +196,7 @@ fn emit_loop<'a>(
             condition_of(condition),
             statement_of(third),
             body,
-            position,
+            ending,
             code,
         ),
         _ => unreachable!(),
@@ -146,27 +209,27 @@ fn emit_all<'a>(
     setting: &Setting<'a>,
     scope: &mut Scope,
     statements: &[Statement],
-    position: Position,
+    ending: Ending,
     code: &mut Draft<'a>,
-) -> Result<(), AllocError>
-    ensures code { OnOk result (code.new ≡ row_code setting.now scope.old (all_of statements.now) position ++ code.old) }
+) -> Result<u32, AllocError>
+    ensures code { IfOk result (λ site. code.new ≡ row_code setting.now scope.old (all_of statements.now) (begun_at ending site) ++ code.old) }
+    ensures site { IfOk result (λ site. site + all_sites (inside setting.now.helpers.functions.now) (all_of statements.now) ≡ ending.behind) }
     ensures scope { OnOk result (scope.new ≡ scope.old) }
 {
     declare_all(scope, statements)?;
     let end = code.len();
-    let mut site = site_behind_all(setting.helpers, position.site, statements)?;
+    let mut behind = ending.behind;
     for i in 0..statements.len() {
         let statement = &statements[statements.len() - 1 - i];
-        site = site_before(setting.helpers, site, statement)?;
         leave(scope, statement);
-        let here = Position {
-            depth: position.depth,
-            site,
-            exits: position.exits.past(code.added(end)?)?,
+        let here = Ending {
+            depth: ending.depth,
+            behind,
+            exits: ending.exits.past(code.added(end)?)?,
         };
-        emit_statement(setting, scope, statement, here, code)?;
+        behind = emit_statement(setting, scope, statement, here, code)?;
     }
-    Ok(())
+    Ok(behind)
 }
 
 /// Puts the body of a function, whose parameters are at a level and above, before the code.
@@ -193,14 +256,15 @@ pub fn emit_body<'a>(
         helpers,
         result: function.result,
     };
-    let position = Position { depth, site, exits };
-    emit_all(
-        &setting,
-        &mut scope,
-        function.body.as_slice(),
-        position,
-        code,
-    )
+    let body = function.body.as_slice();
+    let behind = site_behind_all(helpers, site, body)?;
+    let ending = Ending {
+        depth,
+        behind,
+        exits,
+    };
+    emit_all(&setting, &mut scope, body, ending, code)?;
+    Ok(())
 }
 
 /// Puts a choice without a second side before the code.
@@ -210,15 +274,17 @@ fn emit_if<'a>(
     scope: &mut Scope,
     condition: &Expression,
     chosen: &Statement,
-    position: Position,
+    ending: Ending,
     code: &mut Draft<'a>,
-) -> Result<(), AllocError>
-    ensures code { OnOk result (code.new ≡ statement_code setting.now scope.old (tree.If 0 (term condition.now) (stmt chosen.now)) position ++ code.old) }
+) -> Result<u32, AllocError>
+    ensures code { IfOk result (λ site. code.new ≡ statement_code setting.now scope.old (tree.If 0 (term condition.now) (stmt chosen.now)) (begun_at ending site) ++ code.old) }
+    ensures site { IfOk result (λ site. site + sites (inside setting.now.helpers.functions.now) (stmt chosen.now) ≡ ending.behind) }
     ensures scope { OnOk result (scope.new ≡ scope.old) }
 {
     let end = code.len();
-    emit_statement(setting, scope, chosen, position, code)?;
-    put_test(scope, condition, code.added(end)?, code)
+    let site = emit_statement(setting, scope, chosen, ending, code)?;
+    put_test(scope, condition, code.added(end)?, code)?;
+    Ok(site)
 }
 
 /// Puts a choice between two statements before the code.
@@ -229,46 +295,44 @@ fn emit_choice<'a>(
     condition: &Expression,
     chosen: &Statement,
     otherwise: &Statement,
-    position: Position,
+    ending: Ending,
     code: &mut Draft<'a>,
-) -> Result<(), AllocError>
-    ensures code { OnOk result (code.new ≡ statement_code setting.now scope.old (tree.IfElse 0 (term condition.now) (stmt chosen.now) (stmt otherwise.now)) position ++ code.old) }
+) -> Result<u32, AllocError>
+    ensures code { IfOk result (λ site. code.new ≡ statement_code setting.now scope.old (tree.IfElse 0 (term condition.now) (stmt chosen.now) (stmt otherwise.now)) (begun_at ending site) ++ code.old) }
+    ensures site { IfOk result (λ site. site + (sites (inside setting.now.helpers.functions.now) (stmt chosen.now) + sites (inside setting.now.helpers.functions.now) (stmt otherwise.now)) ≡ ending.behind) }
     ensures scope { OnOk result (scope.new ≡ scope.old) }
 {
     let end = code.len();
-    let second = Position {
-        depth: position.depth,
-        site: site_behind(setting.helpers, position.site, chosen)?,
-        exits: position.exits,
-    };
-    emit_statement(setting, scope, otherwise, second, code)?;
+    let between = emit_statement(setting, scope, otherwise, ending, code)?;
     let middle = code.len();
     let by = code.added(end)?;
     code.put(Instruction::Jump { by })?;
-    let first = Position {
-        depth: position.depth,
-        site: position.site,
-        exits: position.exits.past(code.added(end)?)?,
+    let first = Ending {
+        depth: ending.depth,
+        behind: between,
+        exits: ending.exits.past(code.added(end)?)?,
     };
-    emit_statement(setting, scope, chosen, first, code)?;
-    put_test(scope, condition, code.added(middle)?, code)
+    let site = emit_statement(setting, scope, chosen, first, code)?;
+    put_test(scope, condition, code.added(middle)?, code)?;
+    Ok(site)
 }
 
-/// Puts the first or the third part of a `for` before the code.
+/// Puts the first part of a `for` before the code.
 #[cycle(emission)]
 fn emit_part<'a>(
     setting: &Setting<'a>,
     scope: &mut Scope,
     part: Option<&Statement>,
-    position: Position,
+    ending: Ending,
     code: &mut Draft<'a>,
-) -> Result<(), AllocError>
-    ensures code { OnOk result (code.new ≡ maybe_code setting.now scope.old (part_of part.entry) position ++ code.old) }
+) -> Result<u32, AllocError>
+    ensures code { IfOk result (λ site. code.new ≡ maybe_code setting.now scope.old (part_of part.entry) (begun_at ending site) ++ code.old) }
+    ensures site { IfOk result (λ site. site + part_sites (inside setting.now.helpers.functions.now) (part_of part.entry) ≡ ending.behind) }
     ensures scope { OnOk result (scope.new ≡ scope.old) }
 {
     match part {
-        None => Ok(()),
-        Some(statement) => emit_statement(setting, scope, statement, position, code),
+        None => Ok(ending.behind),
+        Some(statement) => emit_statement(setting, scope, statement, ending, code),
     }
 }
 
@@ -279,38 +343,85 @@ fn emit_do<'a>(
     scope: &mut Scope,
     body: &Statement,
     condition: &Expression,
-    position: Position,
+    ending: Ending,
     code: &mut Draft<'a>,
-) -> Result<(), AllocError>
-    ensures code { OnOk result (code.new ≡ statement_code setting.now scope.old (tree.DoWhile 0 (stmt body.now) (term condition.now)) position ++ code.old) }
+) -> Result<u32, AllocError>
+    ensures code { IfOk result (λ site. code.new ≡ statement_code setting.now scope.old (tree.DoWhile 0 (stmt body.now) (term condition.now)) (begun_at ending site) ++ code.old) }
+    ensures site { IfOk result (λ site. site + sites (inside setting.now.helpers.functions.now) (stmt body.now) ≡ ending.behind) }
     ensures scope { OnOk result (scope.new ≡ scope.old) }
 {
     let mut turn = Draft::new(code.allocator());
-    emit_turn(setting, scope, body, condition, position, &mut turn)?;
-    end_do(position.depth, turn, code)
+    put_condition(scope, Some(condition), &mut turn)?;
+    let site = emit_once(setting, scope, body, ending, &mut turn)?;
+    end_do(ending.depth, turn, code)?;
+    Ok(site)
 }
 
-/// Puts the body of such a loop and its condition.
+/// Puts the body of a loop before the rest of its turn. The ending is that of the loop.
 #[cycle(emission)]
-fn emit_turn<'a>(
+fn emit_once<'a>(
     setting: &Setting<'a>,
     scope: &mut Scope,
     body: &Statement,
-    condition: &Expression,
-    position: Position,
+    ending: Ending,
     turn: &mut Draft<'a>,
-) -> Result<(), AllocError>
-    requires { turn.old ≡ [] }
-    ensures code { OnOk result (turn.new ≡ once_code setting.now scope.old (stmt body.now) (tree.While_ (term condition.now)) position ++ condition_code scope.old (tree.While_ (term condition.now))) }
+) -> Result<u32, AllocError>
+    ensures code { IfOk result (λ site. turn.new ≡ once_code setting.now scope.old (stmt body.now) (begun_at ending site) (length turn.old) ++ turn.old) }
+    ensures site { IfOk result (λ site. site + sites (inside setting.now.helpers.functions.now) (stmt body.now) ≡ ending.behind) }
     ensures scope { OnOk result (scope.new ≡ scope.old) }
 {
-    put_condition(scope, Some(condition), turn)?;
-    let inside = Position {
-        depth: level_above(position.depth)?,
-        site: position.site,
-        exits: position.exits.in_loop(turn.past(0)?)?,
+    let here = Ending {
+        depth: level_above(ending.depth)?,
+        behind: ending.behind,
+        exits: ending.exits.in_loop(turn.past(0)?)?,
     };
-    emit_statement(setting, scope, body, inside, turn)
+    let site = emit_statement(setting, scope, body, here, turn)?;
+    Ok(site)
+}
+
+/// Puts the third part of a `for` before the rest of its turn, and its body before that. The ending is that of the loop.
+#[cycle(emission)]
+fn emit_stepped<'a>(
+    setting: &Setting<'a>,
+    scope: &mut Scope,
+    third: &Statement,
+    body: &Statement,
+    ending: Ending,
+    turn: &mut Draft<'a>,
+) -> Result<u32, AllocError>
+    ensures code { IfOk result (λ site. turn.new ≡ round_code setting.now scope.old (tree.With (stmt third.now)) (stmt body.now) (begun_at ending site) (length turn.old) ++ turn.old) }
+    ensures site { IfOk result (λ site. site + (sites (inside setting.now.helpers.functions.now) (stmt third.now) + sites (inside setting.now.helpers.functions.now) (stmt body.now)) ≡ ending.behind) }
+    ensures scope { OnOk result (scope.new ≡ scope.old) }
+{
+    let between = site_before(setting.helpers, ending.behind, body)?;
+    let last = Ending {
+        depth: level_above(ending.depth)?,
+        behind: between,
+        exits: ending.exits.in_loop(turn.past(0)?)?,
+    };
+    let site = emit_statement(setting, scope, third, last, turn)?;
+    emit_once(setting, scope, body, ending, turn)?;
+    Ok(site)
+}
+
+/// Puts the body and the third part of a `for`, if it has one, before the rest of its turn. The ending is that of the loop.
+#[cycle(emission)]
+fn emit_round<'a>(
+    setting: &Setting<'a>,
+    scope: &mut Scope,
+    third: Option<&Statement>,
+    body: &Statement,
+    ending: Ending,
+    turn: &mut Draft<'a>,
+) -> Result<u32, AllocError>
+    ensures code { IfOk result (λ site. turn.new ≡ round_code setting.now scope.old (part_of third.entry) (stmt body.now) (begun_at ending site) (length turn.old) ++ turn.old) }
+    ensures site { IfOk result (λ site. site + (part_sites (inside setting.now.helpers.functions.now) (part_of third.entry) + sites (inside setting.now.helpers.functions.now) (stmt body.now)) ≡ ending.behind) }
+    ensures scope { OnOk result (scope.new ≡ scope.old) }
+{
+    match third {
+        None => emit_once(setting, scope, body, ending, turn),
+        Some(third) => emit_stepped(setting, scope, third, body, ending, turn),
+    }
 }
 
 /// Puts a `for` before the code.
@@ -322,24 +433,24 @@ fn emit_for<'a>(
     condition: Option<&Expression>,
     third: Option<&Statement>,
     body: &Statement,
-    position: Position,
+    ending: Ending,
     code: &mut Draft<'a>,
-) -> Result<(), AllocError>
-    ensures code { OnOk result (code.new ≡ statement_code setting.now scope.old (tree.For 0 (part_of first.entry) (test_of condition.entry) (part_of third.entry) (stmt body.now)) position ++ code.old) }
+) -> Result<u32, AllocError>
+    ensures code { IfOk result (λ site. code.new ≡ statement_code setting.now scope.old (tree.For 0 (part_of first.entry) (test_of condition.entry) (part_of third.entry) (stmt body.now)) (begun_at ending site) ++ code.old) }
+    ensures site { IfOk result (λ site. site + sites (inside setting.now.helpers.functions.now) (tree.For 0 (part_of first.entry) (test_of condition.entry) (part_of third.entry) (stmt body.now)) ≡ ending.behind) }
     ensures scope { OnOk result (scope.new ≡ scope.old) }
 {
     let end = code.len();
     declare_part(scope, first)?;
-    emit_turns(
-        setting, scope, first, condition, third, body, position, code,
-    )?;
+    let behind = emit_turns(setting, scope, condition, third, body, ending, code)?;
     leave_part(scope, first);
-    let before = Position {
-        depth: position.depth,
-        site: position.site,
-        exits: position.exits.past(code.added(end)?)?,
+    let before = Ending {
+        depth: ending.depth,
+        behind,
+        exits: ending.exits.past(code.added(end)?)?,
     };
-    emit_part(setting, scope, first, before, code)
+    let site = emit_part(setting, scope, first, before, code)?;
+    Ok(site)
 }
 
 /// Puts a `for` without its first part, whose variable is declared, before the code.
@@ -347,56 +458,21 @@ fn emit_for<'a>(
 fn emit_turns<'a>(
     setting: &Setting<'a>,
     scope: &mut Scope,
-    first: Option<&Statement>,
     condition: Option<&Expression>,
     third: Option<&Statement>,
     body: &Statement,
-    position: Position,
+    ending: Ending,
     code: &mut Draft<'a>,
-) -> Result<(), AllocError>
-    ensures code { OnOk result (code.new ≡ turns_code setting.now scope.old (part_of first.entry) (test_of condition.entry) (part_of third.entry) (stmt body.now) position ++ code.old) }
+) -> Result<u32, AllocError>
+    ensures code { IfOk result (λ site. code.new
+        ≡ while_code ending.depth (round_code setting.now scope.old (part_of third.entry) (stmt body.now) (begun_at ending site) (length (condition_code scope.old (test_of condition.entry)))) (condition_code scope.old (test_of condition.entry)) ++ code.old) }
+    ensures site { IfOk result (λ site. site + (part_sites (inside setting.now.helpers.functions.now) (part_of third.entry) + sites (inside setting.now.helpers.functions.now) (stmt body.now)) ≡ ending.behind) }
     ensures scope { OnOk result (scope.new ≡ scope.old) }
 {
     let mut turn = Draft::new(code.allocator());
-    let start = emit_inner(
-        setting, scope, first, condition, third, body, position, &mut turn,
-    )?;
-    end_while(position.depth, start, turn, code)
-}
-
-/// Puts the condition of a `for`, before it the third part, and before that the body. Gives the number of the condition's instructions.
-#[cycle(emission)]
-fn emit_inner<'a>(
-    setting: &Setting<'a>,
-    scope: &mut Scope,
-    first: Option<&Statement>,
-    condition: Option<&Expression>,
-    third: Option<&Statement>,
-    body: &Statement,
-    position: Position,
-    turn: &mut Draft<'a>,
-) -> Result<usize, AllocError>
-    requires { turn.old ≡ [] }
-    ensures code { OnOk result (turn.new
-        ≡ inner_code setting.now scope.old (part_of first.entry) (test_of condition.entry) (part_of third.entry) (stmt body.now) position ++ condition_code scope.old (test_of condition.entry)) }
-    ensures start { IfOk result (λ start. start ≡ length (condition_code scope.old (test_of condition.entry))) }
-    ensures scope { OnOk result (scope.new ≡ scope.old) }
-{
-    let depth = level_above(position.depth)?;
-    let behind = site_behind_part(setting.helpers, position.site, first)?;
-    put_condition(scope, condition, turn)?;
+    put_condition(scope, condition, &mut turn)?;
     let start = turn.len();
-    let last = Position {
-        depth,
-        site: behind,
-        exits: position.exits.in_loop(turn.past(0)?)?,
-    };
-    emit_part(setting, scope, third, last, turn)?;
-    let inside = Position {
-        depth,
-        site: site_behind_part(setting.helpers, behind, third)?,
-        exits: position.exits.in_loop(turn.past(0)?)?,
-    };
-    emit_statement(setting, scope, body, inside, turn)?;
-    Ok(start)
+    let site = emit_round(setting, scope, third, body, ending, &mut turn)?;
+    end_while(ending.depth, start, turn, code)?;
+    Ok(site)
 }

@@ -1,17 +1,18 @@
 //! What is known of each function, found in the order of the text, so that code that calls one needn't look into it.
 #![tactic(auto)]
 
-ghost use Rattle.std.specs.Prelude.{◌≡◌, ℕ, Some, length, IfOk, IfSome};
+ghost use Rattle.std.specs.Prelude.{◌≡◌, ℕ, ◌<◌, Some, length, get_or, IfOk, IfSome};
 ghost use Rattle.clmodel.specs.Next.{all_sites};
+ghost use Rattle.clmodel.specs.declared.tree.Function.{Function};
 ghost use Rattle.lower_code.specs.Trees.{all_of};
-ghost use Rattle.lower_code.specs.Helpers.{inside, body_of, BarriersKnown, LengthsKnown};
+ghost use Rattle.lower_code.specs.Helpers.{inside, body_of, BarriersKnown, LengthsKnown, EndsKnown};
 
-use lower_code::draft::Draft;
-use lower_code::holes::Helpers;
-use lower_code::known::Known;
 use crate::sites::sites_in_all;
 use crate::statements::emit_body;
 use clmodel::tree::Function;
+use lower_code::draft::Draft;
+use lower_code::holes::Helpers;
+use lower_code::known::Known;
 use std::alloc::{AllocError, Global};
 
 /// How long the code of a function's body is, wherever it is called; None where it is too long,
@@ -38,7 +39,12 @@ fn known_of(alloc: Global, helpers: Helpers<'_>, function: &Function) -> Known
 }
 
 /// What is known of each of these functions. Err if out of memory.
-pub fn known_of_all(alloc: Global, functions: &[Function]) -> Result<Vec<Known>, AllocError>
+pub fn known_of_all(
+    alloc: Global,
+    functions: &[Function],
+    ends: &[usize],
+) -> Result<Vec<Known>, AllocError>
+    requires ends { EndsKnown functions.now ends.now }
     ensures barriers { IfOk result (λ known. BarriersKnown functions.now known.items) }
     ensures lengths { IfOk result (λ known. LengthsKnown functions.now known.items) }
 {
@@ -47,9 +53,33 @@ pub fn known_of_all(alloc: Global, functions: &[Function]) -> Result<Vec<Known>,
         let helpers = Helpers {
             functions,
             known: known.as_slice(),
+            ends,
         };
         let next = known_of(alloc, helpers.before(i), &functions[i]);
         known.push(next)?;
     }
     Ok(known)
+}
+
+/// One more than the greatest number of a function's name.
+fn name_end(functions: &[Function]) -> usize
+    ensures { (i : ℕ) (f : Function) → i < length functions.now → f ≡ get_or functions.now i f → f.name < result }
+{
+    let mut end = 0;
+    for function in functions {
+        end = end.max(function.name as usize + 1);
+    }
+    end
+}
+
+/// The end of each name among functions: how many of them there are up to the last that has it, and 0 where none has it. Err if out
+/// of memory.
+pub fn ends_of(alloc: Global, functions: &[Function]) -> Result<Vec<usize>, AllocError>
+    ensures { IfOk result (λ ends. EndsKnown functions.now ends.items) }
+{
+    let mut ends = vec![in alloc; 0; name_end(functions)]?;
+    for i in 0..functions.len() {
+        ends[functions[i].name as usize] = i + 1;
+    }
+    Ok(ends)
 }

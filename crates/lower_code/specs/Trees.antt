@@ -1,5 +1,5 @@
 -- Statements, as the code's functions take them (own).
-use Rattle.std.specs.Prelude.{ℕ, Option, None, Some, List, map}
+use Rattle.std.specs.Prelude.{Option, None, Some, List, map}
 use Rattle.std.specs.Borrow.{Bor}
 use Rattle.clmodel.specs.Tree.{Stmts, NoStmt, stmt, then_stmts, MaybeStmt, Without, With}
 use Rattle.clmodel.specs.declared.tree.Statement.{Statement}

@@ -5,5 +5,5 @@ use Rattle.lower.proofs.lookup.kernel_named.Given as goal
 
 abbrev pub invariant-loop-i : goal.invariant-loop-i
 invariant-loop-i l =
-    (kernel_in (functions_of l.functions) l.name ≡ kernel_in (functions_of (take (length l.functions - l.i) l.functions)) l.name)
-    × (functions_before (functions_of l.functions) l.name ≡ functions_before (functions_of (take (length l.functions - l.i) l.functions)) l.name)
+    (kernel_in (functions_of l.functions) l.number ≡ kernel_in (functions_of (take (length l.functions - l.i) l.functions)) l.number)
+    × (functions_before (functions_of l.functions) l.number ≡ functions_before (functions_of (take (length l.functions - l.i) l.functions)) l.number)

@@ -10,6 +10,7 @@ pub invariant_of-helpers : goal.invariant_of-helpers
 invariant_of-helpers c = record {
   barriers = subst (λ ks. BarriersKnown c.args.functions.now ks) (sym c.as_slice.ensures.value) c.loop-i.invariant.barriers;
   lengths = subst (λ ks. LengthsKnown c.args.functions.now ks) (sym c.as_slice.ensures.value) c.loop-i.invariant.lengths;
+  ends_known = c.requires.ends;
 }
 
 pub loop-i-preserved : goal.loop-i-preserved
