@@ -4,7 +4,7 @@
 //! from the last one. The body of a helper that is called is left out, and only its length and its barriers are counted, so nothing
 //! here goes into another function: the time is that of the function's own statements. But the body of a `for` with a third part is
 //! counted before it is written, since its barriers have the higher numbers and its code stands first, and the turns of a loop are
-//! put together before the loop is; a statement inside n such loops (64 at most) is so gone through n times more.
+//! put together before the loop is; a statement inside n such loops is so gone through n times more (8 at most in a checked kernel).
 #![tactic(auto)]
 
 ghost use Rattle.std.specs.Prelude.{◌≡◌, ◌+◌, ◌++◌, true, length, IfOk, OnOk};
