@@ -1,20 +1,27 @@
 #!/bin/sh
-# script.sh chain|short|blocks: writes a script with a program near 20,000 nodes, whose kernel is launched once.
+# script.sh chain|short|blocks|calls: writes a script with a program near 20,000 nodes, whose kernel is launched once.
 #   chain   2,900 helpers, each of which calls the one before
 #   short   2,900 helpers without statements, which the kernel calls one after the other
 #   blocks  150 helpers, each with 60 nested blocks round one call of the one before
+#   calls   2,400 helpers without statements, of which the kernel calls the first 7,000 times inside 60 nested blocks
 awk -v kind="$1" 'BEGIN {
-    count = kind == "blocks" ? 150 : 2900
+    count = kind == "blocks" ? 150 : kind == "calls" ? 2400 : 2900
     print "buffer a 4"
     print "program p " count + 2
-    print "void h0(){}"
+    first = kind == "calls" ? "h" : "h0"
+    print "void " first "(){}"
     for (i = 1; i < count; i++) {
-        body = kind == "short" ? "" : "h" i - 1 "();"
+        body = kind == "short" || kind == "calls" ? "" : "h" i - 1 "();"
         if (kind == "blocks") { for (b = 0; b < 60; b++) body = "{" body "}" }
         print "void h" i "(){" body "}"
     }
     calls = "h" count - 1 "();"
     if (kind == "short") { calls = ""; for (i = 0; i < count; i++) calls = calls "h" i "();" }
+    if (kind == "calls") {
+        calls = ""
+        for (i = 0; i < 7000; i++) calls = calls "h();"
+        for (b = 0; b < 60; b++) calls = "{" calls "}"
+    }
     print "__kernel void f(__global int *a){" calls
     print "a[0] = 1;}"
     print "kernel k p f"

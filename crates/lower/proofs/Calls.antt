@@ -23,7 +23,7 @@ use Rattle.lower.proofs.Scopes.{same_self, kind_small}
 use Rattle.lower.proofs.Stands.{Stands, Returned, put_stands, stands_to, stands_here, here_at}
 use Rattle.lower.proofs.Parts.{Placed}
 use Rattle.lower.proofs.Rights.{CallsRun}
-use Rattle.lower.proofs.Statements.{declared_seen, no_value_runs, stmts_run}
+use Rattle.lower.proofs.StatementRuns.{declared_seen, no_value_runs, stmts_run}
 
 -- values above a register are kept when it is written
 hold_above : (level : ℕ) (kind : VariableType) (registers : Registers) (v : Option Operand) (numbers : List ℕ) (values : List Operand) → Placed (level + 1) numbers → Hold registers numbers values

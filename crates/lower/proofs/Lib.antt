@@ -3,7 +3,7 @@ pub mod Stands
 pub mod Parts
 pub mod Rights
 pub mod Loops
-pub mod Statements
+pub mod StatementRuns
 pub mod Calls
 pub mod Suiting
 pub mod Suited
@@ -20,6 +20,8 @@ pub mod Scoped
 pub mod TypedRights
 pub mod TypedStatements
 pub mod TypedKernels
-pub mod Functions
 pub mod Counted
 pub mod Lowered
+pub mod Chosen
+pub mod Rounds
+pub mod Places

@@ -1,4 +1,4 @@
--- The parts of statements: what is assigned to, the values of calls, and built-in functions.
+-- The parts of statements: targets, the values of calls, and built-in functions.
 use Rattle.std.proofs.Common.{◌≡◌, ℕ, zero, suc, ℤ, pos, negsuc, ◌+◌, ◌*◌, ◌≤◌, ◌≢◌, Bool, true, false, if◌then◌else◌, nat_lt, slice_set, Option, None, Some, List, [], ◌∷◌, ◌++◌, length, slice_get, refl, sym, ap, ◌∙◌, subst, arith, length-append}
 use Rattle.clnum.specs.Integer.{bits_of}
 use Rattle.clnum.specs.Integer as numbers
@@ -91,7 +91,7 @@ write_kept ticks name kind elements i v f g some h =
     number_alike ticks i _ _ (λ n. number_alike ticks v _ _ (λ m. set_kept ticks name (index_of n) kind elements m f g some h))
 
 module _ (given : Given) (code : List Instruction) (bound : ℕ) where
-  -- a register that has no value ends the item where it is wanted
+  -- a register that has no value ends the item where it is needed
   pub hold_unset : (s : State) (to from : ℕ) (kind : VariableType) → slice_get code s.place ≡ Some (instruction.Hold to from kind) → reg s.registers from ≡ None → Agree given code bound s finish
   hold_unset s to from kind here is = steps given code bound s finish _ here (λ ticks on after next. rw is (λ answers. refl))
 
@@ -150,7 +150,7 @@ module _ (given : Given) (code : List Instruction) (bound : ℕ) where
           })
           (assigned_sees scope now.registers vs name r v e same))
 
-  -- what is assigned to is reached
+  -- the target is reached
   pub reach_runs : (scope : Scope) (level : ℕ) (place : Place) (s : State) (vs : Variables) (after : Destination → Run) → free_level scope ≤ level → Sees scope s.registers vs
       → HasAt code s.place (place_code scope level place)
       → ((now : State) (to : Destination) → Reached level s (s.place + length (place_code scope level place)) now → HoldsPlace scope now.registers (place_register scope level place) place to → Agree given code bound now (after to))

@@ -63,7 +63,7 @@ pointer_kept scope level higher place to registers now less same h =
     held_kept scope registers now (place_register scope level place) place to (same.registers _ (place_below scope level higher place less)) h
 
 module _ (given : Given) (code : List Instruction) (most : ℕ) (calls : Calls) (results : ℕ → Option IntType) (helpers : Helpers) (run_calls : CallsRun given code most calls results helpers) (inside : ℕ → ℕ) (result : Option IntType) (bound : ℕ) (below : bound ≤ most) where
-  -- a call whose value is wanted
+  -- a call whose value is needed
   needed_runs : (o : Option IntType) (level : ℕ) (s : State) (ts : List ℕ) (place : ℕ) (now : State) (v : Option Operand) (after : Operand → Run)
       → Stands level s ts place now → Returned o level now.registers v → HasAt code place (needed_code o)
       → ((last : State) (v : Option Operand) → Stands level s ts (place + length (needed_code o)) last → reg last.registers (register_at level (result_type o)) ≡ v → Agree given code bound last (value_of v after))

@@ -75,7 +75,7 @@ pub record InScope (scope : Scope) (name : ℕ) (d : Declaration) : Type 0 where
 abbrev pub Matches : Context → Scope → Type 0
 Matches c scope = (name : ℕ) (d : Declaration) → meaning c name ≡ Bound d → InScope scope name d
 
--- the code of typed expressions, and of what is assigned to
+-- the code of typed expressions, and of targets
 abbrev pub ExpressionsSuit : Type 0
 ExpressionsSuit =
     (parameters : List VariableType) (c : Context) (scope : Scope) (level : ℕ) (e : Term) (kind : VariableType) →
@@ -86,7 +86,7 @@ PlacesSuit =
     (parameters : List VariableType) (c : Context) (scope : Scope) (level : ℕ) (place : Place) (kind : VariableType) →
     Matches c scope → TypesPlace c place kind → Suit parameters (place_code scope level place)
 
--- an instruction with so many behind it goes to one of them or past the last, and names no loop
+-- an instruction with n behind it goes to one of them or past the last, and names no loop
 abbrev pub Stays : Instruction → ℕ → Type 0
 Stays (instruction.Jump by) n = by ≤ n
 Stays (instruction.JumpIfZero register by) n = by ≤ n
@@ -110,7 +110,7 @@ SuitFits =
     (parameters : List VariableType) (code : List Instruction) → Suit parameters code →
     (place : ℕ) (i : Instruction) → slice_get code place ≡ Some i → Fits (tabled code parameters) i
 
--- code stands at a place where so many loops are entered, and the table has the loops behind each instruction
+-- code stands at a place where n loops are entered, and the table has the loops behind each instruction
 abbrev pub Standing : Listing → ℕ → ℕ → List Instruction → Type 0
 Standing L at depth [] = Unit {0}
 Standing L at depth (i ∷ is) = (slice_get L.instructions at ≡ Some i) × (loops_at L at ≡ depth) × Standing L (at + 1) (depth_after depth i) is

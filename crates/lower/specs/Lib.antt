@@ -4,3 +4,4 @@ pub mod Accepted
 pub mod Lowers
 pub mod Lists
 pub mod Names
+pub mod Statements

@@ -2,8 +2,13 @@
 #![tactic(auto)]
 
 pub mod code_laws;
+mod expansion;
+mod kernels;
 mod lookup;
 mod lowering;
+mod sites;
+mod statements;
+mod table;
 pub mod table_laws;
 mod tables;
 

@@ -10,12 +10,12 @@ ghost use Rattle.lower.specs.Lowers.{IsLowered};
 ghost use Rattle.lower.specs.Names.{kernel_number, LowersNamed, ListsNamed};
 
 use crate::code_laws::acts_as_the_tree;
-use crate::lookup::{kernel_in, kernel_number};
+use crate::kernels::emit_kernel;
+use crate::lookup::{kernel_named, kernel_number};
 use crate::table_laws::typed_kernels_are_verified;
 use crate::tables::tables_of;
 use clmodel::tree::{Function, Parameter, VariableType};
 use cltypes::Checked;
-use lower_code::emit_kernel;
 use regcode::{Code, Instruction, Tables, VerifyFault, verify};
 use std::alloc::{AllocError, Global};
 use thiserror::Error;
@@ -26,7 +26,7 @@ pub enum LowerFault {
     /// 1: no kernel has the name
     #[error("no such kernel")]
     NoSuchKernel,
-    /// 2: memory is wanting, or more registers are wanted than there are
+    /// 2: out of memory, or more registers are needed than there are
     #[error("out of memory")]
     OutOfMemory,
 }
@@ -59,10 +59,10 @@ fn list_kernel(
     ensures none { IfOk result (λ found. found ≡ None → kernel_in (then_funcs NoFunc (map func functions.now)) number ≡ None) }
     ensures some { IfErr result (λ fault. IsSome (kernel_in (then_funcs NoFunc (map func functions.now)) number)) }
 {
-    let Some(kernel) = kernel_in(functions, number as usize) else {
+    let Some(found) = kernel_named(functions, number as usize) else {
         return Ok(None);
     };
-    let parameters = types_of(alloc, &kernel.parameters)?;
+    let parameters = types_of(alloc, &found.function.parameters)?;
     let Some(instructions) = emit_kernel(alloc, functions, number)? else {
         return Ok(None);
     };

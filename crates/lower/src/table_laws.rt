@@ -5,7 +5,7 @@ ghost use Rattle.lower.specs.Accepted.{ExpressionsSuit, PlacesSuit, ExpressionsF
 
 /// A kernel's code is verified with the tables that are made from it, if its loops are nested no deeper than the limit, no two
 /// functions before it have one name, and its instructions suit the types of its parameters. Those of typed expressions, and of
-/// what is assigned to, do. The jumps and loops of expressions, statements and kernels are sound whether they are typed or not.
+/// targets, do. The jumps and loops of expressions, statements and kernels are sound whether they are typed or not.
 pub fn code_is_verified()
     ensures expressions { ExpressionsSuit }
     ensures places { PlacesSuit }

@@ -123,7 +123,7 @@ fn register_kind(register: usize) -> RegisterKind
     KINDS[register % 16]
 }
 
-/// What so many registers may hold.
+/// What the first `count` registers may hold.
 fn register_kinds(alloc: Global, count: usize) -> Result<Vec<RegisterKind>, AllocError>
     ensures { IfOk result (λ kinds. kinds.items ≡ spec.each_below spec.register_kind count) }
 {
@@ -201,7 +201,7 @@ fn array_count(code: &[Instruction]) -> usize
     count
 }
 
-/// Gives the private array of an instruction, if it declares one, so many elements at least.
+/// Gives the private array of an instruction, if it declares one, at least the elements declared.
 fn raise(lengths: &mut Vec<u32>, instruction: &Instruction)
     requires { spec.arrays_of instruction.now ≤ length lengths.now.items }
     ensures count { length lengths.new.items ≡ length lengths.old.items }
@@ -248,7 +248,7 @@ fn loops_of(alloc: Global, code: &[Instruction]) -> Result<Vec<u32>, AllocError>
     Ok(loops)
 }
 
-/// The tables of a kernel's code with these types of parameters. Err where memory is wanting, or a number of 32 bits is too small.
+/// The tables of a kernel's code with these types of parameters. Err if out of memory, or if a number of 32 bits is too small.
 pub fn tables_of(
     alloc: Global,
     code: &[Instruction],

@@ -1,10 +1,11 @@
 pub mod Lengths
 pub mod Drafts
 pub mod Tables
-pub mod Chosen
 pub mod Helpers
 pub mod Calling
 pub mod Rows
 pub mod Lists
 pub mod Splits
 pub mod Turns
+pub mod Trees
+pub mod Parameters

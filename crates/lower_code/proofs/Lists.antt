@@ -7,7 +7,7 @@ use Rattle.clmodel.specs.declared.tree.Statement as rust_statement
 use Rattle.clmodel.specs.declared.tree.Statement.{Statement, size-Statement}
 use Rattle.clmodel.specs.Tree.{Block, row_stmts, Stmts, NoStmt, ThenStmt, stmt, then_stmts, Funcs, NoFunc, ThenFunc, then_funcs, func}
 use Rattle.clmodel.specs.Next.{all_sites, sites_in}
-use Rattle.lower_place.specs.Emission.{all_of}
+use Rattle.lower_code.specs.Trees.{all_of}
 use Rattle.lower_code.specs.Emission.{functions_of, inside}
 
 stmt_rows : (ss : Stmts) (n : _) (row : rust_statement.Row_of-Statement n) → row_stmts ss row ≡ then_stmts ss (map stmt (rust_statement.items-the_row-Statement n row))

@@ -1,19 +1,19 @@
--- Rows of statements, choices and loops from their parts.
+-- Rows of statements and choices from their parts.
 use Rattle.std.proofs.Common.{◌≡◌, ℕ, ◌+◌, ◌-◌, List, [], ◌∷◌, ◌++◌, length, Option, ap, ap₂, sym, ◌∙◌, arith}
 use Rattle.std.proofs.lemmas.List.{append_assoc, append-nil, length-append}
 use Rattle.clnum.specs.declared.int_type.IntType.{IntType}
 use Rattle.std.proofs.Common.{Result, OnOk}
 use Rattle.std.proofs.lemmas.Result.{on_ok_weaker}
 use Rattle.std.specs.declared.alloc.AllocError.{AllocError}
-use Rattle.clmodel.specs.Next.{sites, part_sites, all_sites}
-use Rattle.clmodel.specs.Tree.{Term, Stmt, IfElse, Stmts, ThenStmt, MaybeStmt, MaybeTerm}
+use Rattle.clmodel.specs.Next.{sites, all_sites}
+use Rattle.clmodel.specs.Tree.{Term, Stmt, IfElse, Stmts, ThenStmt}
 use Rattle.regcode.specs.declared.instruction.Instruction.{Instruction}
 use Rattle.regcode.specs.declared.instruction.Instruction.TheVariants as instruction
 use Rattle.lower_expr.specs.Scope.{Scope, free_level}
 use Rattle.lower_expr.specs.Expressions.{expr_code, register_for}
-use Rattle.lower_place.specs.Variables.{scope_after_all}
-use Rattle.lower_code.specs.Code.{Calls, Exits, past, body_exits, stmt_code, stmts_code, part_code, call_code, result_in, if_else_code, condition_code}
-use Rattle.lower_code.specs.Emission.{functions_of, inside, exits_of, statement_code, maybe_code, once_code, inner_code}
+use Rattle.lower_code.specs.Variables.{scope_after_all}
+use Rattle.lower_code.specs.Code.{Calls, Exits, past, stmt_code, stmts_code, call_code, result_in, if_else_code}
+use Rattle.lower_code.specs.Emission.{functions_of, inside, exits_of, statement_code}
 use Rattle.lower_code.specs.declared.positions.Exits as declared
 use Rattle.lower_code.specs.declared.positions.Position.{Position}
 use Rattle.lower_code.specs.declared.holes.Setting.{Setting}
@@ -91,47 +91,3 @@ choice_placed s scope middle later p test chosen otherwise site exits old one tw
 -- code that is put before none
 pub begun : (xs old new : List Instruction) → old ≡ [] → new ≡ xs ++ old → new ≡ xs
 begun xs old new e n = n ∙ ap (λ ys. xs ++ ys) e ∙ append-nil xs
-
-pub once_placed : (s : Setting) (scope : Scope) (p : Position) (body : Stmt) (test : MaybeTerm) (depth : ℕ) (exits : declared.Exits) (one two : List Instruction) (added : ℕ)
-    → depth ≡ p.depth + 1 → one ≡ condition_code scope test → added ≡ length one - 0 + 1 → exits_of exits ≡ body_exits added (exits_of p.exits)
-    → two ≡ statement_code s scope body (record { depth = depth; site = p.site; exits = exits }) ++ one
-    → two ≡ once_code s scope body test p ++ condition_code scope test
-once_placed s scope p body test depth exits one two added depth_is one_is added_is exits_is two_is =
-    let code : ℕ → Exits → List Instruction =
-    λ d e. stmt_code (call_code (functions_of s.helpers.functions.now)) (result_in (functions_of s.helpers.functions.now)) (inside s.helpers.functions.now) s.result scope body d p.site e in
-    let size = ap length one_is in
-    let added_at : added ≡ length (condition_code scope test) + 1 = omega (arith, added_is, size) in
-    two_is ∙ ap₂ (λ d xs. code d (exits_of exits) ++ xs) depth_is one_is
-    ∙ ap (λ e. code (p.depth + 1) e ++ condition_code scope test) (exits_is ∙ ap (λ n. body_exits n (exits_of p.exits)) added_at)
-
-pub inner_placed : (s : Setting) (scope middle : Scope) (p : Position) (first : MaybeStmt) (test : MaybeTerm) (third : MaybeStmt) (body : Stmt) (depth behind site : ℕ) (last_exits turn_exits : declared.Exits)
-    (one two three : List Instruction) (added more : ℕ)
-    → depth ≡ p.depth + 1 → behind ≡ p.site + part_sites (inside s.helpers.functions.now) first → site ≡ behind + part_sites (inside s.helpers.functions.now) third
-    → one ≡ condition_code scope test
-    → added ≡ length one - 0 + 1 → exits_of last_exits ≡ body_exits added (exits_of p.exits)
-    → two ≡ maybe_code s scope third (record { depth = depth; site = behind; exits = last_exits }) ++ one
-    → middle ≡ scope
-    → more ≡ length two - 0 + 1 → exits_of turn_exits ≡ body_exits more (exits_of p.exits)
-    → three ≡ statement_code s middle body (record { depth = depth; site = site; exits = turn_exits }) ++ two
-    → three ≡ inner_code s scope first test third body p ++ condition_code scope test
-inner_placed s scope middle p first test third body depth behind site last_exits turn_exits one two three added more depth_is behind_is site_is one_is added_is last_is two_is middle_is more_is turn_is three_is =
-    let calls = call_code (functions_of s.helpers.functions.now) in
-    let results = result_in (functions_of s.helpers.functions.now) in
-    let barriers = inside s.helpers.functions.now in
-    let condition = condition_code scope test in
-    let part : ℕ → ℕ → Exits → List Instruction = λ d n e. part_code calls results barriers s.result scope third d n e in
-    let code : Scope → ℕ → ℕ → Exits → List Instruction = λ c d n e. stmt_code calls results barriers s.result c body d n e in
-    let behind_first = p.site + part_sites barriers first in
-    let last = part (p.depth + 1) behind_first (body_exits (length condition + 1) (exits_of p.exits)) in
-    let turn = code scope (p.depth + 1) (behind_first + part_sites barriers third) (body_exits (length last + length condition + 1) (exits_of p.exits)) in
-    let size = ap length one_is in
-    let added_at : added ≡ length condition + 1 = omega (arith, added_is, size) in
-    let two_at : two ≡ last ++ one =
-    two_is ∙ ap₂ (λ d n. part d n (exits_of last_exits) ++ one) depth_is behind_is
-    ∙ ap (λ e. part (p.depth + 1) behind_first e ++ one) (last_is ∙ ap (λ n. body_exits n (exits_of p.exits)) added_at) in
-    let size_two = longer last one two two_at in
-    let more_at : more ≡ length last + length condition + 1 = omega (arith, more_is, size_two, size) in
-    let three_at : three ≡ turn ++ two =
-    three_is ∙ ap₂ (λ c d. code c d site (exits_of turn_exits) ++ two) middle_is depth_is
-    ∙ ap₂ (λ n e. code scope (p.depth + 1) n e ++ two) (site_is ∙ ap (λ n. n + part_sites barriers third) behind_is) (turn_is ∙ ap (λ n. body_exits n (exits_of p.exits)) more_at) in
-    three_at ∙ ap (λ xs. turn ++ xs) (two_at ∙ ap (λ xs. last ++ xs) one_is) ∙ sym (append_assoc turn last condition)

@@ -11,7 +11,7 @@ use Rattle.regcode.specs.declared.instruction.Instruction.{Instruction}
 use Rattle.regcode.specs.declared.instruction.Instruction.TheVariants as instruction
 use Rattle.lower_expr.specs.Scope.{Scope, free_level, register_at}
 use Rattle.lower_expr.specs.Expressions.{place_code, place_register}
-use Rattle.lower_place.specs.Places.{place_type, fetch_code, put_code, combine_code}
+use Rattle.lower_expr.specs.Places.{place_type, fetch_code, put_code, combine_code}
 use Rattle.lower_code.specs.Code.{Calls, right_code, right_type, assign_code, compound_code}
 use Rattle.lower_code.specs.Emission.{called_code, split_code}
 use Rattle.lower_code.specs.declared.assignments.Split.{Split}

@@ -4,8 +4,8 @@ use Rattle.std.proofs.lemmas.List.{get_or-take, take-take, length-take}
 use Rattle.clmodel.specs.Next.{all_sites}
 use Rattle.clmodel.specs.declared.tree.Function.{Function}
 use Rattle.clmodel.specs.Tree.{func}
-use Rattle.lower_place.specs.Emission.{all_of}
-use Rattle.lower_code.specs.Helpers.{functions_of, inside, body_of, BarriersKnown, LengthsKnown}
+use Rattle.lower_code.specs.Trees.{all_of}
+use Rattle.lower_code.specs.Helpers.{functions_of, inside, body_of, BarriersKnown, LengthsKnown, EndsKnown}
 use Rattle.lower_code.specs.declared.known.Known.{Known}
 use Rattle.lower_code.proofs.Lengths.{function_length}
 
@@ -34,6 +34,11 @@ lengths_before fs ks n small h i f k m level depth site below there f_is k_is m_
     let inner : i < n = within fs n i small below in
     h i f k m level depth site (omega (arith, inner, small)) there (f_is ∙ get_or-take n fs i f inner) k_is m_is
     ∙ ap (λ gs. length (body_of gs f level depth site)) (sym (take-take i n fs (omega (arith, inner))))
+
+pub ends_before : (fs : List Function) (es : List ℕ) (n : ℕ) → n ≤ length fs → EndsKnown fs es → EndsKnown (take n fs) es
+ends_before fs es n small h i f below f_is =
+    let inner : i < n = within fs n i small below in
+    h i f (omega (arith, inner, small)) (f_is ∙ get_or-take n fs i f inner)
 
 -- a fact of each of these and of one more
 each_more : (P : ℕ → Known → Type 0) (ks : List Known) (k : Known) → ((j : ℕ) (m : Known) → j < length ks → m ≡ get_or ks j m → P j m) → P (length ks) k

@@ -15,8 +15,8 @@ use Rattle.regcode.specs.declared.instruction.Instruction.{Instruction}
 use Rattle.regcode.specs.declared.instruction.Instruction.TheVariants as instruction
 use Rattle.lower_expr.specs.Scope.{Scope, free_level, register_at}
 use Rattle.lower_expr.specs.Expressions.{kind_of, register_for, registers_for, expr_code, terms_code, call_only_code, place_code, place_register}
-pub use Rattle.lower_place.specs.Places.{hold_code, place_type, fetch_code, put_code, combine_code}
-pub use Rattle.lower_place.specs.Variables.{variable, local_pointer, array_variable, with_variable, variables_after, variables_after_part, variables_after_all, scope_after, scope_after_part, scope_after_all, array_code, parameter_variables, pass_code, arguments_code}
+pub use Rattle.lower_expr.specs.Places.{hold_code, place_type, fetch_code, put_code, combine_code}
+pub use Rattle.lower_code.specs.Variables.{variable, local_pointer, array_variable, with_variable, variables_after, variables_after_part, variables_after_all, scope_after, scope_after_part, scope_after_all, array_code, parameter_variables, pass_code, arguments_code}
 
 -- How far behind the end of a statement's code its other ends are: what follows a loop that is broken, the condition or the third part of one that is
 -- continued, and the end of the function.
@@ -25,11 +25,11 @@ pub record Exits : Type 0 where
   pub continued : ℕ
   pub returned : ℕ
 
--- the exits from so many instructions earlier
+-- the exits from n instructions earlier
 abbrev pub past : ℕ → Exits → Exits
 past count exits = record { broken = count + exits.broken; continued = count + exits.continued; returned = count + exits.returned }
 
--- those of a part of a loop, behind which stand so many instructions of it: continued, the loop goes on with the first of them
+-- those of a part of a loop, behind which stand n instructions of it: continued, the loop goes on with the first of them
 abbrev pub body_exits : ℕ → Exits → Exits
 body_exits rest exits = record { broken = rest; continued = 0; returned = rest + exits.returned }
 
@@ -103,7 +103,7 @@ module _ (calls : Calls) (results : ℕ → Option IntType) (inside : ℕ → �
   right_type scope (Some c) value = result_type (results c.name)
   right_type scope None value = kind_of scope value
 
-  -- an assignment: what is assigned to, the right side, and the value is put there
+  -- an assignment: the target, the right side, and the value is put there
   abbrev pub assign_code : Scope → ℕ → Place → Option HelperCall → Term → ℕ → ℕ → List Instruction
   assign_code scope level place called value depth site =
       place_code scope level place
@@ -135,7 +135,7 @@ module _ (calls : Calls) (results : ℕ → Option IntType) (inside : ℕ → �
   call_only_statement scope false None name arguments depth site =
       terms_code scope (free_level scope) arguments ++ calls name (registers_for scope (free_level scope) arguments) (free_level scope) depth site
 
-  -- A statement in a scope, with so many loops round it and a number for its first barrier.
+  -- A statement in a scope, with n loops round it and a number for its first barrier.
   abbrev mutual
     pub stmt_code : Scope → Stmt → ℕ → ℕ → Exits → List Instruction
     stmt_code scope (Empty at) depth site exits = []

@@ -1,10 +1,9 @@
 -- How the code of statements is emitted (own).
-use Rattle.std.specs.Prelude.{ℕ, ◌+◌, ◌++◌, Bool, true, false, length, Option, None, Some, Box, List, [], ◌∷◌, take}
-use Rattle.std.specs.declared.alloc.Global.{Global}
+use Rattle.std.specs.Prelude.{ℕ, ◌++◌, Bool, true, false, Option, None, Some, List, [], ◌∷◌, take}
 use Rattle.std.specs.Borrow.{Bor}
 use Rattle.clnum.specs.declared.int_type.IntType.{IntType}
-use Rattle.clmodel.specs.Next.{part_sites, all_sites}
-use Rattle.clmodel.specs.Tree.{Stmt, Stmts, stmt, MaybeStmt, Without, With, MaybeTerm, Always, While_, term}
+use Rattle.clmodel.specs.Next.{all_sites}
+use Rattle.clmodel.specs.Tree.{Stmt, Stmts, MaybeStmt, MaybeTerm, Always, While_, term}
 use Rattle.clmodel.specs.declared.tree.Expression.{Expression}
 use Rattle.clmodel.specs.declared.tree.Function.{Function}
 use Rattle.clmodel.specs.declared.tree.Statement as statement
@@ -12,9 +11,9 @@ use Rattle.clmodel.specs.declared.tree.Statement.{Statement}
 use Rattle.regcode.specs.declared.instruction.Instruction.{Instruction}
 use Rattle.regcode.specs.declared.instruction.Instruction.TheVariants as instruction
 use Rattle.lower_expr.specs.Scope.{Scope}
-use Rattle.lower_place.specs.Emission.{all_of}
+use Rattle.lower_code.specs.Trees.{all_of}
 use Rattle.lower_code.specs.Code as spec
-use Rattle.lower_code.specs.Code.{Calls, stmt_code, stmts_code, part_code, call_code, pass_code, result_in, condition_code, body_exits, while_code}
+use Rattle.lower_code.specs.Code.{Calls, stmt_code, stmts_code, part_code, call_code, pass_code, result_in}
 pub use Rattle.lower_code.specs.Helpers.{functions_of, inside, body_of}
 use Rattle.lower_code.specs.declared.assignments.Call.{Call}
 use Rattle.lower_code.specs.declared.assignments.Split.{Split}
@@ -22,10 +21,8 @@ use Rattle.lower_code.specs.declared.functions.Found.{Found}
 use Rattle.lower_code.specs.declared.positions.Exits.{Exits}
 use Rattle.lower_code.specs.declared.positions.Position.{Position}
 use Rattle.lower_code.specs.declared.holes.Setting.{Setting}
-use Rattle.lower_code.specs.declared.sites.Callee.{Callee}
-use Rattle.lower_code.specs.declared.sites.Callee.TheVariants as callee
 
--- the statements by what emits them: declarations, assignments and calls, loops, and jumps
+-- the statements by what emits them: declarations, assignments and calls, and jumps
 abbrev pub is_declaration : Statement → Bool
 is_declaration (statement.Declare at kind name_at name value) = true
 is_declaration (statement.DeclareArray at is_local element name_at name length_at count) = true
@@ -37,31 +34,15 @@ is_assignment (statement.Step at to is_increment) = true
 is_assignment (statement.Call at name arguments) = true
 is_assignment _ = false
 
-abbrev pub is_loop : Statement → Bool
-is_loop (statement.While' at condition p body) = true
-is_loop (statement.DoWhile' at p body condition) = true
-is_loop (statement.For' at first condition third p body) = true
-is_loop _ = false
-
 abbrev pub is_jump : Statement → Bool
 is_jump (statement.Break at) = true
 is_jump (statement.Continue at) = true
 is_jump (statement.Return at value) = true
 is_jump _ = false
 
-abbrev pub boxed_part : Option (Box Statement Global) → MaybeStmt
-boxed_part None = Without
-boxed_part (Some s) = With (stmt s.value)
-
 abbrev pub test_of : Option (Bor Expression) → MaybeTerm
 test_of None = Always
 test_of (Some e) = While_ (term e.now)
-
--- the barriers in what a name calls
-abbrev pub callee_sites : (ℕ → ℕ) → Callee → ℕ
-callee_sites inside callee.Nothing = 0
-callee_sites inside callee.Barrier = 1
-callee_sites inside (callee.Helper name) = inside name
 
 -- the body of a helper with the functions before it, or the end of the item where there is none of a name
 abbrev pub found_code : List Function → Option Found → List ℕ → ℕ → ℕ → ℕ → List Instruction
@@ -104,24 +85,3 @@ maybe_code s scope part p =
 abbrev pub row_code : Setting → Scope → Stmts → Position → List Instruction
 row_code s scope statements p =
     stmts_code (call_code (functions_of s.helpers.functions.now)) (result_in (functions_of s.helpers.functions.now)) (inside s.helpers.functions.now) s.result scope statements p.depth p.site (exits_of p.exits)
-
--- the body of a loop that begins with it
-abbrev pub once_code : Setting → Scope → Stmt → MaybeTerm → Position → List Instruction
-once_code s scope body test p =
-    stmt_code (call_code (functions_of s.helpers.functions.now)) (result_in (functions_of s.helpers.functions.now)) (inside s.helpers.functions.now) s.result scope body (p.depth + 1) p.site
-    (body_exits (length (condition_code scope test) + 1) (exits_of p.exits))
-
--- the body and the third part of a `for`, behind which its condition stands
-abbrev pub inner_code : Setting → Scope → MaybeStmt → MaybeTerm → MaybeStmt → Stmt → Position → List Instruction
-inner_code s scope first test third body p =
-    let calls = call_code (functions_of s.helpers.functions.now) in
-    let results = result_in (functions_of s.helpers.functions.now) in
-    let barriers = inside s.helpers.functions.now in
-    let condition = condition_code scope test in
-    let last = part_code calls results barriers s.result scope third (p.depth + 1) (p.site + part_sites barriers first) (body_exits (length condition + 1) (exits_of p.exits)) in
-    let turn = stmt_code calls results barriers s.result scope body (p.depth + 1) (p.site + part_sites barriers first + part_sites barriers third) (body_exits (length last + length condition + 1) (exits_of p.exits)) in
-    turn ++ last
-
--- a `for` behind its first part, whose variable is in scope
-abbrev pub turns_code : Setting → Scope → MaybeStmt → MaybeTerm → MaybeStmt → Stmt → Position → List Instruction
-turns_code s scope first test third body p = while_code p.depth (inner_code s scope first test third body p) (condition_code scope test)

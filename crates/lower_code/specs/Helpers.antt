@@ -4,7 +4,7 @@ use Rattle.clmodel.specs.Next.{sites_in, all_sites}
 use Rattle.clmodel.specs.Tree.{Funcs, NoFunc, then_funcs, func}
 use Rattle.clmodel.specs.declared.tree.Function.{Function}
 use Rattle.regcode.specs.declared.instruction.Instruction.{Instruction}
-use Rattle.lower_place.specs.Emission.{all_of}
+use Rattle.lower_code.specs.Trees.{all_of}
 use Rattle.lower_code.specs.Code.{call_code, result_in, body_code}
 use Rattle.lower_code.specs.declared.known.Known.{Known}
 
@@ -24,6 +24,11 @@ abbrev pub BarriersKnown : List Function → List Known → Type 0
 BarriersKnown functions known =
     (i : ℕ) (f : Function) (k : Known) (n : ℕ) → i < length functions → i < length known → f ≡ get_or functions i f → k ≡ get_or known i k
     → k.barriers ≡ Some n → n ≡ all_sites (inside (take i functions)) (all_of f.body.items)
+
+-- each function stands before the end of its name
+abbrev pub EndsKnown : List Function → List ℕ → Type 0
+EndsKnown functions ends =
+    (i : ℕ) (f : Function) → i < length functions → f ≡ get_or functions i f → i < get_or ends f.name 0
 
 -- how long the code of each one's body is, wherever it is called, where it is known
 abbrev pub LengthsKnown : List Function → List Known → Type 0

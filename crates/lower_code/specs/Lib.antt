@@ -1,3 +1,5 @@
+pub mod Trees
+pub mod Variables
 pub mod Code
 pub mod Helpers
 pub mod Parts

@@ -1,7 +1,7 @@
 -- Code with the bodies of helpers left out (own).
 use Rattle.std.specs.Prelude.{List, [], ◌∷◌, ◌++◌, All}
 use Rattle.regcode.specs.declared.instruction.Instruction.{Instruction}
-use Rattle.lower_code.specs.Helpers.{body_of, BarriersKnown, LengthsKnown}
+use Rattle.lower_code.specs.Helpers.{body_of, BarriersKnown, LengthsKnown, EndsKnown}
 use Rattle.lower_code.specs.declared.holes.Hole.{Hole}
 use Rattle.lower_code.specs.declared.holes.Part.{Part}
 use Rattle.lower_code.specs.declared.holes.Part.TheVariants as part
@@ -23,6 +23,7 @@ whole (p ∷ ps) = part_code p ++ whole ps
 pub record HoleKnown (h : Hole) : Type 0 where
   pub barriers : BarriersKnown h.functions.now h.known.now
   pub lengths : LengthsKnown h.functions.now h.known.now
+  pub ends : EndsKnown h.functions.now h.ends.now
 
 abbrev pub IsKnown : Part → Type 0
 IsKnown (part.Own i) = Unit {0}

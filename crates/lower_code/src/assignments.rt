@@ -15,16 +15,17 @@ ghost use Rattle.lower_code.specs.Emission.{functions_of, split_code};
 
 use crate::draft::Draft;
 use crate::functions::find;
+use crate::holes::Helpers;
 use clmodel::action::Fences;
 use clmodel::barrier::{fences, is_barrier};
 use clmodel::setup::{BuiltIn, built_in_named};
-use clmodel::tree::{Expression, Function, Target, VariableType};
+use clmodel::tree::{Expression, Target, VariableType};
 use clnum::{BinaryOperator, IntType, Value};
+use lower_expr::destinations::{combine, destination_type, fetch, put, reach};
 use lower_expr::emission::{emit_arguments, emit_expression};
 use lower_expr::scope::{Scope, level_above, level_at, register_at};
 use lower_expr::tails::{add, call_only};
 use lower_expr::types::call_type;
-use lower_place::destinations::{combine, destination_type, fetch, put, reach};
 use regcode::Instruction;
 use smallvec::SmallVec;
 use std::alloc::AllocError;
@@ -80,10 +81,10 @@ fn helper_call(value: &Expression) -> Option<HelperCall<'_>>
 }
 
 /// The type of the value of a helper.
-fn result_of(functions: &[Function], name: u32) -> Option<IntType>
-    ensures { result ≡ result_in (functions_of functions.now) name }
+fn result_of(helpers: Helpers<'_>, name: u32) -> Option<IntType>
+    ensures { result ≡ result_in (functions_of helpers.entry.functions.now) name }
 {
-    let found = find(functions, name)?;
+    let found = find(helpers, name)?;
     found.function.result
 }
 
@@ -109,7 +110,7 @@ fn add_needed(kind: Option<IntType>, code: &mut Vec<Instruction>) -> Result<(), 
 
 /// The right side of an assignment at a level, behind other code.
 fn right_side(
-    functions: &[Function],
+    helpers: Helpers<'_>,
     scope: &Scope,
     level: u32,
     value: &Expression,
@@ -117,9 +118,9 @@ fn right_side(
 ) -> Result<Right, AllocError>
     ensures code { IfOk result (λ right. (calls : Calls) (inside : ℕ → ℕ) (kind : Option IntType) (depth site : ℕ)
         → split_code calls right.split depth site
-        ≡ front.items ++ spec.right_code calls (result_in (functions_of functions.now)) inside kind scope.now level (next.helper_call (term value.now)) (term value.now) depth site) }
+        ≡ front.items ++ spec.right_code calls (result_in (functions_of helpers.entry.functions.now)) inside kind scope.now level (next.helper_call (term value.now)) (term value.now) depth site) }
     ensures kind { IfOk result (λ right. (calls : Calls) (inside : ℕ → ℕ) (kind : Option IntType)
-        → right.kind ≡ spec.right_type calls (result_in (functions_of functions.now)) inside kind scope.now (next.helper_call (term value.now)) (term value.now)) }
+        → right.kind ≡ spec.right_type calls (result_in (functions_of helpers.entry.functions.now)) inside kind scope.now (next.helper_call (term value.now)) (term value.now)) }
 {
     let mut front = front;
     let mut back = Vec::new(scope.allocator());
@@ -135,7 +136,7 @@ fn right_side(
         }
         Some(call) => {
             let arguments = emit_arguments(scope, level, call.arguments, &mut front)?;
-            let result = result_of(functions, call.name);
+            let result = result_of(helpers, call.name);
             add_needed(result, &mut back)?;
             let call = Call {
                 name: call.name,
@@ -157,20 +158,20 @@ fn right_side(
 
 /// An assignment by `=`.
 pub fn assign(
-    functions: &[Function],
+    helpers: Helpers<'_>,
     scope: &Scope,
     target: &Target,
     value: &Expression,
 ) -> Result<Split, AllocError>
     ensures { IfOk result (λ split. (calls : Calls) (inside : ℕ → ℕ) (kind : Option IntType) (depth site : ℕ)
         → split_code calls split depth site
-        ≡ spec.assign_code calls (result_in (functions_of functions.now)) inside kind scope.now (free_level scope.now) (place target.now) (next.helper_call (term value.now)) (term value.now) depth site) }
+        ≡ spec.assign_code calls (result_in (functions_of helpers.entry.functions.now)) inside kind scope.now (free_level scope.now) (place target.now) (next.helper_call (term value.now)) (term value.now) depth site) }
 {
     let level = scope.free_level()?;
     let above = level_above(level)?;
     let mut front = Vec::new(scope.allocator());
     let destination = reach(scope, level, target, &mut front)?;
-    let mut right = right_side(functions, scope, above, value, front)?;
+    let mut right = right_side(helpers, scope, above, value, front)?;
     let from = register_at(above, right.kind)?;
     put(scope, level, destination, from, &mut right.split.back)?;
     Ok(right.split)
@@ -178,7 +179,7 @@ pub fn assign(
 
 /// An assignment by another operator: the old value is fetched before the right side.
 pub fn compound(
-    functions: &[Function],
+    helpers: Helpers<'_>,
     scope: &Scope,
     target: &Target,
     operator: BinaryOperator,
@@ -186,7 +187,7 @@ pub fn compound(
 ) -> Result<Split, AllocError>
     ensures { IfOk result (λ split. (calls : Calls) (inside : ℕ → ℕ) (kind : Option IntType) (depth site : ℕ)
         → split_code calls split depth site
-        ≡ spec.compound_code calls (result_in (functions_of functions.now)) inside kind scope.now (free_level scope.now) (place target.now) operator (next.helper_call (term value.now)) (term value.now) depth site) }
+        ≡ spec.compound_code calls (result_in (functions_of helpers.entry.functions.now)) inside kind scope.now (free_level scope.now) (place target.now) operator (next.helper_call (term value.now)) (term value.now) depth site) }
 {
     let level = scope.free_level()?;
     let above = level_above(level)?;
@@ -195,7 +196,7 @@ pub fn compound(
     let destination = reach(scope, level, target, &mut front)?;
     let old = register_at(above, destination_type(scope, destination))?;
     fetch(scope, level, destination, old, &mut front)?;
-    let mut right = right_side(functions, scope, top, value, front)?;
+    let mut right = right_side(helpers, scope, top, value, front)?;
     let kind = right.kind;
     let operand = register_at(top, kind)?;
     combine(
@@ -263,7 +264,7 @@ pub fn put_step(
 
 /// A declaration with an initialiser, which sees the variable, unset. The variable is left again.
 pub fn declare_as(
-    functions: &[Function],
+    helpers: Helpers<'_>,
     scope: &mut Scope,
     kind: VariableType,
     name: u32,
@@ -271,7 +272,7 @@ pub fn declare_as(
 ) -> Result<Split, AllocError>
     ensures code { IfOk result (λ split. (calls : Calls) (inside : ℕ → ℕ) (result_kind : Option IntType) (depth site : ℕ) (exits : spec.Exits)
         → split_code calls split depth site
-        ≡ spec.stmt_code calls (result_in (functions_of functions.now)) inside result_kind scope.old (tree.DeclareAs 0 kind 0 name (term value.now)) depth site exits) }
+        ≡ spec.stmt_code calls (result_in (functions_of helpers.entry.functions.now)) inside result_kind scope.old (tree.DeclareAs 0 kind 0 name (term value.now)) depth site exits) }
     ensures scope { OnOk result (scope.new ≡ scope.old) }
 {
     let level = scope.free_level()?;
@@ -281,7 +282,7 @@ pub fn declare_as(
     add(&mut front, Instruction::Unset { to })?;
     let count = scope.len();
     scope.declare(name, kind)?;
-    let mut right = right_side(functions, scope, above, value, front)?;
+    let mut right = right_side(helpers, scope, above, value, front)?;
     scope.leave(count);
     let from = register_at(above, right.kind)?;
     add(&mut right.split.back, Instruction::Hold { to, from, kind })?;
@@ -344,7 +345,7 @@ fn call_helper(scope: &Scope, name: u32, arguments: &[Expression]) -> Result<Spl
     })
 }
 
-/// A call that is a whole statement, inside so many loops and with a number for a barrier.
+/// A call that is a whole statement, inside `depth` loops and with a number for a barrier.
 pub fn call_statement(
     scope: &Scope,
     name: u32,

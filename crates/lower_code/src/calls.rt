@@ -10,8 +10,7 @@ use crate::draft::Draft;
 use crate::functions::{Found, find};
 use crate::holes::{Helpers, Hole};
 use crate::positions::Position;
-use lower_place::backward::Backward;
-use lower_place::variables::put_passed;
+use crate::variables::put_passed;
 use regcode::Instruction;
 use std::alloc::AllocError;
 
@@ -50,18 +49,11 @@ fn emit_call<'a>(
 ) -> Result<(), AllocError>
     ensures { OnOk result (code.new ≡ call_code (functions_of helpers.entry.functions.now) name arguments.now level position.depth position.site ++ code.old) }
 {
-    let Some(found) = find(helpers.functions, name) else {
+    let Some(found) = find(helpers, name) else {
         return code.put(Instruction::End);
     };
     leave_body(helpers, found, level, position, code)?;
-    let mut passed = Backward::new(code.allocator());
-    put_passed(
-        found.function.parameters.as_slice(),
-        arguments,
-        level,
-        &mut passed,
-    )?;
-    code.put_code(passed)
+    put_passed(found.function.parameters.as_slice(), arguments, level, code)
 }
 
 /// How long the code of a helper's body is, wherever it is called; None where it is not known.
@@ -93,6 +85,7 @@ fn leave_body<'a>(
     let hole = Hole {
         functions: before.functions,
         known: before.known,
+        ends: before.ends,
         function: found.function,
         level,
         depth: position.depth,

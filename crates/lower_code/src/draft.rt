@@ -6,7 +6,6 @@ ghost use Rattle.lower_code.specs.Parts.{hole_code, whole, HoleKnown, AllKnown};
 
 use crate::holes::{Hole, Part};
 use lower_expr::scope::word;
-use lower_place::backward::Backward;
 use regcode::Instruction;
 use std::alloc::{AllocError, Global};
 use std::marker::Model;
@@ -55,7 +54,7 @@ impl<'a> Draft<'a> {
         self.len
     }
 
-    /// How many instructions there are more than so many. Err where there are too many to jump past them.
+    /// How many instructions there are more than `before`. Err where there are too many to jump past them.
     pub fn added(&self, before: usize) -> Result<u32, AllocError>
         ensures { IfOk result (λ count. count ≡ length self.now - before) }
     {
@@ -70,7 +69,7 @@ impl<'a> Draft<'a> {
         count.checked_add(1).ok_or(AllocError)
     }
 
-    /// Puts parts before the code, the last first, with so many instructions.
+    /// Puts parts before the code, the last first, which have `count` instructions.
     fn put_parts(&mut self, parts: &[Part<'a>], count: usize) -> Result<(), AllocError>
         requires count { count ≡ length (whole (reverse parts.now)) }
         requires known { AllKnown parts.now }
@@ -89,7 +88,7 @@ impl<'a> Draft<'a> {
         self.put_parts(&[Part::Own(instruction)], 1)
     }
 
-    /// Puts the body of a helper before the code, and leaves it out. It has so many instructions.
+    /// Puts the body of a helper before the code, and leaves it out. It has `count` instructions.
     pub fn leave(&mut self, hole: Hole<'a>, count: usize) -> Result<(), AllocError>
         requires count { count ≡ length (hole_code hole) }
         requires known { HoleKnown hole }
@@ -106,13 +105,6 @@ impl<'a> Draft<'a> {
             self.put(code[code.len() - 1 - i])?;
         }
         Ok(())
-    }
-
-    /// Puts code without holes before the code.
-    pub fn put_code(&mut self, code: Backward) -> Result<(), AllocError>
-        ensures { OnOk result (self.new ≡ code ++ self.old) }
-    {
-        self.put_all(code.into_forward())
     }
 
     /// Puts another draft before the code.

@@ -2,20 +2,23 @@
 #![tactic(auto)]
 
 ghost use Rattle.std.specs.Prelude.{◌≡◌, ◌≤◌, length, take};
-ghost use Rattle.lower_code.specs.Helpers.{BarriersKnown, LengthsKnown};
+ghost use Rattle.lower_code.specs.Helpers.{BarriersKnown, LengthsKnown, EndsKnown};
 
 use crate::known::Known;
 use clmodel::tree::Function;
 use clnum::IntType;
 use regcode::Instruction;
 
-/// The functions that can be called, in the order of the text, and what is known of the first of them.
+/// The functions that can be called, in the order of the text, what is known of the first of them, and the end of each name:
+/// how many functions there are up to the last that has it, or more; 0, or nothing in the list, where none has it.
 #[derive(Clone, Copy)]
 pub struct Helpers<'a> {
     pub functions: &'a [Function],
     pub known: &'a [Known],
+    pub ends: &'a [usize],
     pub ghost barriers: { BarriersKnown functions.now known.now },
     pub ghost lengths: { LengthsKnown functions.now known.now },
+    pub ghost ends_known: { EndsKnown functions.now ends.now },
 }
 
 impl<'a> Helpers<'a> {
@@ -27,6 +30,7 @@ impl<'a> Helpers<'a> {
         Helpers {
             functions: &self.functions[..place],
             known: self.known,
+            ends: self.ends,
         }
     }
 }
@@ -38,12 +42,13 @@ pub struct Setting<'a> {
     pub result: Option<IntType>,
 }
 
-/// The body of a helper that is left out of code: the functions before the helper and what is known of them, the level of its first
-/// parameter, how many loops are round the call, and the number of its first barrier.
+/// The body of a helper that is left out of code: the functions before the helper, what is known of them and the ends of names, the
+/// level of its first parameter, how many loops are round the call, and the number of its first barrier.
 #[derive(Clone, Copy)]
 pub struct Hole<'a> {
     pub functions: &'a [Function],
     pub known: &'a [Known],
+    pub ends: &'a [usize],
     pub function: &'a Function,
     pub level: u32,
     pub depth: u32,

@@ -2,7 +2,7 @@
 #![tactic(auto)]
 
 /// How many barriers are in a function, and how many instructions the code of its body has; None where there are too many,
-/// or where memory is wanting.
+/// or out of memory.
 #[derive(Clone, Copy)]
 pub struct Known {
     pub barriers: Option<u32>,

@@ -1,19 +1,14 @@
-//! The register code of statements, of helper functions in place of their calls, and of kernels.
+//! The register code of statements in which no other statements stand, and of what stands round those that do, with the bodies
+//! of helper functions left out of their calls.
 #![tactic(auto)]
 
-mod assignments;
-mod calls;
-mod draft;
-mod expansion;
-mod functions;
-mod holes;
-mod kernels;
-mod known;
-mod loops;
-mod positions;
-mod simple;
-mod sites;
-mod statements;
-mod table;
-
-pub use kernels::emit_kernel;
+pub mod assignments;
+pub mod calls;
+pub mod draft;
+pub mod functions;
+pub mod holes;
+pub mod known;
+pub mod loops;
+pub mod positions;
+pub mod simple;
+pub mod variables;

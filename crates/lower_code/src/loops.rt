@@ -19,7 +19,7 @@ use lower_expr::tails::add;
 use regcode::Instruction;
 use std::alloc::AllocError;
 
-/// Puts a test before the code, and a jump past so many instructions where it doesn't hold.
+/// Puts a test before the code, and a jump past `by` instructions where it doesn't hold.
 pub fn put_test(
     scope: &Scope,
     test: &Expression,
@@ -69,7 +69,7 @@ pub fn end_do<'a>(depth: u32, turn: Draft<'a>, code: &mut Draft<'a>) -> Result<(
     code.put(Instruction::Enter { depth })
 }
 
-/// Puts a loop that begins with its condition, of so many instructions, before the code.
+/// Puts a loop that begins with its condition, of `start` instructions, before the code.
 pub fn end_while<'a>(
     depth: u32,
     start: usize,
@@ -111,7 +111,7 @@ pub fn put_no_value(
     }
 }
 
-/// Puts a return without a value before the code, with a jump past so many instructions.
+/// Puts a return without a value before the code, with a jump past `by` instructions.
 pub fn put_return(
     kind: Option<IntType>,
     scope: &Scope,
@@ -143,7 +143,7 @@ fn add_value(
     }
 }
 
-/// Puts a return of a value before the code, with a jump past so many instructions.
+/// Puts a return of a value before the code, with a jump past `by` instructions.
 pub fn put_return_value(
     kind: Option<IntType>,
     scope: &Scope,

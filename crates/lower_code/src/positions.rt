@@ -16,7 +16,7 @@ pub struct Exits {
 }
 
 impl Exits {
-    /// The exits from so many instructions earlier. Err where one is too far.
+    /// The exits from `count` instructions earlier. Err where one is too far.
     pub fn past(self, count: u32) -> Result<Exits, AllocError>
         ensures { IfOk result (λ exits. exits_of exits ≡ spec.past count (exits_of self)) }
     {
@@ -27,7 +27,7 @@ impl Exits {
         })
     }
 
-    /// The exits of a part of a loop, behind which stand so many instructions of it. Err where one is too far.
+    /// The exits of a part of a loop, behind which stand `rest` instructions of it. Err where one is too far.
     pub fn in_loop(self, rest: u32) -> Result<Exits, AllocError>
         ensures { IfOk result (λ exits. exits_of exits ≡ spec.body_exits rest (exits_of self)) }
     {

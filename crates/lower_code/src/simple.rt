@@ -1,12 +1,8 @@
 //! Statements with no other statement in them: declarations, assignments, calls and jumps (C99 6.5.16, 6.7 and 6.8.6).
 #![tactic(auto)]
 
-ghost use Rattle.std.specs.Prelude.{◌≡◌, ◌∷◌, ◌++◌, true, length, OnOk};
-ghost use Rattle.clmodel.specs.Tree as tree;
+ghost use Rattle.std.specs.Prelude.{◌≡◌, ◌++◌, true, OnOk};
 ghost use Rattle.clmodel.specs.Tree.{stmt};
-ghost use Rattle.regcode.specs.declared.instruction.Instruction.TheVariants as instruction;
-ghost use Rattle.lower_expr.specs.Scope.{free_level, register_at};
-ghost use Rattle.lower_place.specs.Variables as variables;
 ghost use Rattle.lower_code.specs.Emission.{is_declaration, is_assignment, is_jump, statement_code};
 
 use crate::assignments::{assign, call_statement, compound, declare_as, put_step};
@@ -15,37 +11,11 @@ use crate::draft::Draft;
 use crate::holes::Setting;
 use crate::loops::{put_return, put_return_value};
 use crate::positions::Position;
-use clmodel::tree::{Statement, VariableType};
-use clnum::{IntType, Value};
+use crate::variables::{put_array, put_unset};
+use clmodel::tree::Statement;
 use lower_expr::scope::Scope;
-use lower_place::backward::Backward;
-use lower_place::variables::{put_array, put_unset};
 use regcode::Instruction;
 use std::alloc::AllocError;
-
-/// Puts a declaration without an initialiser before the code.
-fn put_plain(scope: &Scope, kind: VariableType, code: &mut Draft<'_>) -> Result<(), AllocError>
-    ensures { OnOk result (code.new ≡ instruction.Unset (register_at (free_level scope.now) kind) ∷ code.old) }
-{
-    let mut front = Backward::new(code.allocator());
-    put_unset(scope, kind, &mut front)?;
-    code.put_code(front)
-}
-
-/// Puts the declaration of an array before the code.
-fn put_elements(
-    scope: &Scope,
-    is_local: bool,
-    element: IntType,
-    size: Value,
-    code: &mut Draft<'_>,
-) -> Result<(), AllocError>
-    ensures { OnOk result (code.new ≡ variables.array_code is_local element (tree.array_length size) (length scope.now.variables) (free_level scope.now) ++ code.old) }
-{
-    let mut front = Backward::new(code.allocator());
-    put_array(scope, is_local, element, size, &mut front)?;
-    code.put_code(front)
-}
 
 /// Puts a declaration before the code.
 pub fn emit_declaration<'a>(
@@ -66,9 +36,9 @@ pub fn emit_declaration<'a>(
             value,
             ..
         } => match value {
-            None => put_plain(scope, *kind, code),
+            None => put_unset(scope, *kind, code),
             Some(value) => {
-                let split = declare_as(setting.helpers.functions, scope, *kind, *name, value)?;
+                let split = declare_as(setting.helpers, scope, *kind, *name, value)?;
                 emit_split(setting.helpers, split, position, code)
             }
         },
@@ -77,7 +47,7 @@ pub fn emit_declaration<'a>(
             element,
             length,
             ..
-        } => put_elements(scope, *is_local, *element, *length, code),
+        } => put_array(scope, *is_local, *element, *length, code),
         _ => unreachable!(),
     }
 }
@@ -101,11 +71,11 @@ pub fn emit_assignment<'a>(
             ..
         } => match operator {
             None => {
-                let split = assign(setting.helpers.functions, scope, target, value)?;
+                let split = assign(setting.helpers, scope, target, value)?;
                 emit_split(setting.helpers, split, position, code)
             }
             Some(operator) => {
-                let split = compound(setting.helpers.functions, scope, target, *operator, value)?;
+                let split = compound(setting.helpers, scope, target, *operator, value)?;
                 emit_split(setting.helpers, split, position, code)
             }
         },

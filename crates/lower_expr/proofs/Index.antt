@@ -72,7 +72,7 @@ found_elements entries name place default h =
     f.elements ∙ sym (ap (λ es. replicate (get_or es place default).variable.elements None) (sym (reverse-reverse entries))
     ∙ ap (λ (e : Entry). replicate e.variable.elements None) (get_or-reverse (reverse entries) place default f.below))
 
--- so many elements are some
+-- n elements are some
 pub has_replicated : (n : ℕ) → has_elements (replicate n None) ≡ nat_lt 0 n
 has_replicated zero = refl
 has_replicated (suc n) = sym (lt-ltb 0 (suc n) (omega arith))

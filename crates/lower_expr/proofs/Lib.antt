@@ -4,3 +4,4 @@ pub mod Index
 pub mod Arguments
 pub mod Expressions
 pub mod Lengths
+pub mod Targets

@@ -1,4 +1,4 @@
--- The register code of an expression, of arguments and of what is assigned to (own). The value of an expression at a level is left in that
+-- The register code of an expression, of arguments and of targets (own). The value of an expression at a level is left in that
 -- level's register of its type, and the registers of lower levels stay as they are. An expression of a wrong type ends the item where its evaluation does.
 use Rattle.std.specs.Prelude.{ℕ, ◌+◌, true, false, if◌then◌else◌, Option, None, Some, List, [], ◌∷◌, ◌++◌, length}
 use Rattle.clnum.specs.Operations.{truth}
@@ -129,7 +129,7 @@ abbrev pub address_code : Scope → ℕ → ℕ → Term → List Instruction
 address_code scope level name index =
     element_code (register_at level (kind_named scope name)) (register_of scope name) name (expr_code scope (level + 1) index) (register_for scope (level + 1) index)
 
--- The index of what is assigned to, or the pointer to it, where it is no variable as a whole.
+-- The index of a target, or the pointer to it, where it is no variable as a whole.
 abbrev pub place_code : Scope → ℕ → Place → List Instruction
 place_code scope level (Whole at name) = []
 place_code scope level (Part at name index) =

@@ -2,3 +2,4 @@ pub mod Scope
 pub mod Expressions
 pub mod Agreement
 pub mod Index
+pub mod Places

@@ -91,6 +91,6 @@ Sees scope registers now = Shows scope.base scope.variables registers now
 abbrev pub declared : Scope → ℕ → VariableType → Scope
 declared scope name kind = record scope { variables = variable name kind None ∷ scope.variables }
 
--- with one private array more, of so many elements
+-- with one private array more, of n elements
 abbrev pub declared_array : Scope → ℕ → IntType → ℕ → Scope
 declared_array scope name element count = record scope { variables = private_array element count name ∷ scope.variables }

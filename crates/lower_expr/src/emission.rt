@@ -20,7 +20,7 @@ use smallvec::SmallVec;
 use std::alloc::AllocError;
 
 /// Adds the code of an expression, which leaves its value in the register of its type at a level, and gives its type (OpenCL 1.2,
-/// section 6.3). The level is at least the first that is free. Err where memory is wanting, or there are too few registers.
+/// section 6.3). The level is at least the first that is free. Err if out of memory, or if there are too few registers.
 #[cycle(emission)]
 pub fn emit_expression(
     scope: &Scope,
@@ -102,8 +102,8 @@ pub fn emit_expression(
     }
 }
 
-/// Adds the code of a pointer variable's value moved by an index, which leaves it at a level, and gives its type. Err where memory is
-/// wanting, or there are too few registers.
+/// Adds the code of a pointer variable's value moved by an index, which leaves it at a level, and gives its type. Err if out of
+/// memory, or if there are too few registers.
 #[cycle(emission)]
 fn emit_address(
     scope: &Scope,
@@ -122,7 +122,7 @@ fn emit_address(
 }
 
 /// Adds the code of arguments, from left to right, and gives the registers where their values are, the first at a level, and each
-/// further one a level above. Err where memory is wanting, or there are too few registers.
+/// further one a level above. Err if out of memory, or if there are too few registers.
 #[cycle(emission)]
 pub fn emit_arguments(
     scope: &Scope,
@@ -145,7 +145,7 @@ pub fn emit_arguments(
     Ok(Arguments { registers, kind })
 }
 
-/// What is left at a level for what is assigned to.
+/// What is left at a level for a target.
 #[derive(Clone, Copy)]
 pub enum TargetKind {
     /// Nothing: it is a variable as a whole
@@ -156,8 +156,8 @@ pub enum TargetKind {
     Pointer(VariableType),
 }
 
-/// Adds the code of what is assigned to, which leaves its index or a pointer to it at a level, and gives which of them, and its type;
-/// nothing where it is a variable as a whole (C99 6.5.16). Err where memory is wanting, or there are too few registers.
+/// Adds the code of a target, which leaves its index or a pointer to it at a level, and gives which of them, and its type;
+/// nothing where it is a variable as a whole (C99 6.5.16). Err if out of memory, or if there are too few registers.
 pub fn emit_target(
     scope: &Scope,
     level: u32,

@@ -12,7 +12,7 @@ ghost use Rattle.lower_expr.specs.Scope.{Scope, free_level, Sees};
 ghost use Rattle.lower_expr.specs.Expressions.{expr_code, terms_code, place_code, register_for, registers_for, place_register};
 ghost use Rattle.lower_expr.specs.Agreement.{HasAt, Follows, FollowsAll, FollowsPlace};
 
-/// Where the code of an expression, of arguments or of what is assigned to stands, code acts as the evaluation does with the values
+/// Where the code of an expression, of arguments or of targets stands, code acts as the evaluation does with the values
 /// that the registers hold, whatever follows: if it does so from where the value is in its register and the registers below the
 /// level and the private arrays are as they were.
 pub fn expressions_run()

@@ -41,7 +41,7 @@ fn kind_number(kind: VariableType) -> u32
     }
 }
 
-/// The register of a type at a level. Err where there are no so many registers.
+/// The register of a type at a level. Err where there are too few registers.
 pub fn register_at(level: u32, kind: VariableType) -> Result<u32, AllocError>
     ensures { IfOk result (λ register. register ≡ spec.register_at level kind) }
 {
@@ -66,7 +66,7 @@ pub fn word(count: usize) -> Result<u32, AllocError>
     Ok(count as u32)
 }
 
-/// The level so many above another. Err where there is none.
+/// The level `count` above another. Err where there is none.
 pub fn level_at(base: u32, count: usize) -> Result<u32, AllocError>
     ensures { IfOk result (λ level. level ≡ base + count) }
 {
@@ -143,7 +143,7 @@ impl Scope {
         self.latest.get(&name).copied()
     }
 
-    /// Declares one more, which is the innermost from now on. Err where memory is wanting: nothing changes then.
+    /// Declares one more, which is the innermost from now on. Err if out of memory: nothing changes then.
     pub fn declare(&mut self, name: u32, kind: VariableType) -> Result<(), AllocError>
         ensures declared { OnOk result (self.new ≡ spec.declared self.old name kind) }
         ensures err { OnErr result (self.new ≡ self.old) }
@@ -155,7 +155,7 @@ impl Scope {
         })
     }
 
-    /// Declares a private array of so many elements, which is the innermost variable from now on. Err where memory is wanting: nothing
+    /// Declares a private array of `count` elements, which is the innermost variable from now on. Err if out of memory: nothing
     /// changes then.
     pub fn declare_array(
         &mut self,
@@ -173,7 +173,7 @@ impl Scope {
         })
     }
 
-    /// Adds a variable, the innermost from now on. Err where memory is wanting: nothing changes then.
+    /// Adds a variable, the innermost from now on. Err if out of memory: nothing changes then.
     fn add(&mut self, variable: Variable) -> Result<(), AllocError>
         ensures added { OnOk result (self.new ≡ record self.old { variables = empty variable ∷ self.old.variables }) }
         ensures err { OnErr result (self.new ≡ self.old) }
@@ -210,7 +210,7 @@ impl Scope {
         }
     }
 
-    /// Leaves all but so many, the outermost.
+    /// Leaves all but the outermost `count`.
     pub fn leave(&mut self, count: usize)
         ensures { self.new ≡ record self.old { variables = next.leave count self.old.variables } }
     {
@@ -240,7 +240,7 @@ impl Scope {
     }
 
     /// The level of the innermost variable of a name, which is the number of its private array; the lowest where there is none. Err
-    /// where there are no so many levels.
+    /// where there are too few levels.
     pub(crate) fn level(&self, name: u32) -> Result<u32, AllocError>
         ensures { IfOk result (λ level. level ≡ spec.level_of self.now name) }
     {
@@ -250,7 +250,7 @@ impl Scope {
         }
     }
 
-    /// The register of the innermost variable of a name. Err where there are no so many registers.
+    /// The register of the innermost variable of a name. Err where there are too few registers.
     pub fn register(&self, name: u32) -> Result<Option<u32>, AllocError>
         ensures { IfOk result (λ register. register ≡ spec.register_of self.now name) }
     {

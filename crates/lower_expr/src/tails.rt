@@ -242,7 +242,7 @@ pub struct Arguments {
     pub kind: IntType,
 }
 
-/// Adds the call of a built-in function that gives a value, and gives its type. Where there is no such function of so many
+/// Adds the call of a built-in function that gives a value, and gives its type. Where there is no such function with that many
 /// arguments, the item ends.
 pub(crate) fn call(
     level: u32,
@@ -264,7 +264,7 @@ pub(crate) fn call(
 }
 
 /// Adds the call of a built-in function whose value, if it gives one, is left in a register that nothing reads. Where there is no such
-/// function of so many arguments, the item ends.
+/// function with that many arguments, the item ends.
 pub fn call_only(
     function: BuiltIn,
     to: u32,

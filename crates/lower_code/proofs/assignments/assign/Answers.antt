@@ -12,7 +12,7 @@ returns c calls inside kind depth site =
     let scope = c.args.scope.now in
     let to = place c.args.target.now in
     let value = term c.args.value.now in
-    let results = result_in (functions_of c.args.functions.now) in
+    let results = result_in (functions_of c.args.helpers.functions.now) in
     let level = c.in_ok-level.level in
     let right = c.in_ok-right.right in
     assign_laid calls results inside kind scope to (helper_call value) value depth site level c.in_ok-above.above c.in_ok-from.from right.kind c.reach.new.code.items _

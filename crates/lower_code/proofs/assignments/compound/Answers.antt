@@ -2,7 +2,7 @@ use Rattle.std.proofs.Common.{◌++◌, ap, ◌∙◌}
 use Rattle.clmodel.specs.Next.{helper_call}
 use Rattle.clmodel.specs.Tree.{place, term}
 use Rattle.lower_expr.specs.Expressions.{place_code, place_register}
-use Rattle.lower_place.specs.Places.{fetch_code}
+use Rattle.lower_expr.specs.Places.{fetch_code}
 use Rattle.lower_code.specs.Code.{result_in}
 use Rattle.lower_code.specs.Emission.{functions_of}
 use Rattle.lower_code.proofs.Splits.{split_tail, compound_laid}
@@ -13,7 +13,7 @@ returns c calls inside kind depth site =
     let scope = c.args.scope.now in
     let to = place c.args.target.now in
     let value = term c.args.value.now in
-    let results = result_in (functions_of c.args.functions.now) in
+    let results = result_in (functions_of c.args.helpers.functions.now) in
     let level = c.in_ok-level.level in
     let right = c.in_ok-right.right in
     let found = c.in_ok-destination.ensures.found in

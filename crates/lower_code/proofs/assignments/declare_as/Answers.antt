@@ -3,7 +3,7 @@ use Rattle.clmodel.specs.Next.{helper_call}
 use Rattle.clmodel.specs.Tree.{term}
 use Rattle.regcode.specs.declared.instruction.Instruction.TheVariants as instruction
 use Rattle.lower_expr.specs.Scope.{Scope}
-use Rattle.lower_place.specs.Variables.{with_variable}
+use Rattle.lower_code.specs.Variables.{with_variable}
 use Rattle.lower_code.specs.Code.{result_in, right_code, right_type}
 use Rattle.lower_code.specs.Emission.{functions_of}
 use Rattle.lower_code.proofs.Splits.{split_tail, declare_laid}
@@ -13,7 +13,7 @@ pub returns-clause-code : goal.returns-clause-code
 returns-clause-code c calls inside result depth site exits =
     let scope = c.args.scope.now in
     let value = term c.args.value.now in
-    let results = result_in (functions_of c.args.functions.now) in
+    let results = result_in (functions_of c.args.helpers.functions.now) in
     let right = c.in_ok-right.right in
     let inner = with_variable scope c.args.name c.args.kind in
     let declared : c.declare.new.self ≡ inner = c.in_ok-declare.ensures.declared in

@@ -1,0 +1,177 @@
+use Rattle.std.proofs.Common.{◌≡◌, ℕ, ◌+◌, ◌-◌, ◌<◌, ◌++◌, Option, Bor, List, length, take, ap, ap₂, sym, subst, ◌∙◌, arith, IfOk}
+use Rattle.std.proofs.lemmas.Result.{IfOk-weaker}
+use Rattle.std.specs.Option.{option_map}
+use Rattle.clmodel.specs.Next.{sites, part_sites, all_sites}
+use Rattle.clmodel.specs.Tree.{Stmt, ThenStmt, Without, While_, stmt, term}
+use Rattle.clmodel.specs.declared.tree.Statement.{Statement}
+use Rattle.regcode.specs.declared.instruction.Instruction.{Instruction}
+use Rattle.lower_expr.specs.Scope.{Scope}
+use Rattle.lower_code.specs.Variables.{scope_after_all}
+use Rattle.lower_code.specs.Trees.{all_of, part_of}
+use Rattle.lower_code.specs.Code.{Exits, past, stmt_code, stmts_code, condition_code, call_code, result_in}
+use Rattle.lower_code.specs.Emission.{functions_of, inside, statement_code, row_code, test_of, exits_of}
+use Rattle.lower_code.proofs.Trees.{row_more}
+use Rattle.lower_code.proofs.Rows.{row_laid, longer, choice_placed, begun}
+use Rattle.lower_code.proofs.Lists.{block_is}
+use Rattle.lower.specs.Statements.{begun_at, once_code, round_code}
+use Rattle.lower.proofs.Rounds.{once_placed, stepped_placed, lone_round, for_placed, part_named, part_is, for_sites}
+use Rattle.lower.proofs.statements.+emission.Goals as goal
+
+pub emit_statement-returns-in-Block-clause-code : goal.emit_statement-returns-in-Block-clause-code
+emit_statement-returns-in-Block-clause-code t c =
+    subst (λ (s : Stmt). IfOk c.emit_all.result (λ site. c.emit_all.new.code ≡ statement_code c.args.setting.now c.args.scope.now s (begun_at c.args.ending site) ++ c.args.code.now))
+    (block_is c.args.statement.now c.in-Block.at c.in-Block.body c.deref.result.now c.in-Block.is c.deref.ensures.value)
+    c.emit_all.ensures.code
+
+pub emit_statement-returns-in-Block-clause-site : goal.emit_statement-returns-in-Block-clause-site
+emit_statement-returns-in-Block-clause-site t c =
+    subst (λ (s : Stmt). IfOk c.emit_all.result (λ site. site + sites (inside c.args.setting.now.helpers.functions.now) s ≡ c.args.ending.behind))
+    (block_is c.args.statement.now c.in-Block.at c.in-Block.body c.deref.result.now c.in-Block.is c.deref.ensures.value)
+    c.emit_all.ensures.site
+
+pub emit_choice-returns-clause-code : goal.emit_choice-returns-clause-code
+emit_choice-returns-clause-code t c =
+    let s = c.args.setting.now in
+    let p = begun_at c.args.ending c.in_ok-site.site in
+    let scope = c.args.scope.now in
+    let test = term c.args.condition.now in
+    let later = c.emit_statement-2.new.scope in
+    let three = c.emit_statement-2.new.code in
+    let one = c.emit_statement.new.code in
+    let old = c.args.code.now in
+    choice_placed s scope c.emit_statement.new.scope later p test (stmt c.args.chosen.now) (stmt c.args.otherwise.now) c.in_ok-between.between c.in_ok-past.field-0 old one c.put.new.self three c.put_test.new.code
+    c.in_ok-by.by c.in_ok-added.field-0 c.in_ok-added-2.field-0
+    (sym c.in_ok-site.ensures.site) c.in_ok-between.ensures.code c.in_ok-between.ensures.scope c.in_ok-site.ensures.scope
+    (c.in_ok-by.ensures ∙ ap (λ n. length one - n) c.len-end.ensures) c.in_ok-put.ensures
+    (c.in_ok-added.ensures ∙ ap (λ n. length c.put.new.self - n) c.len-end.ensures) c.in_ok-past.ensures
+    c.in_ok-site.ensures.code
+    (c.in_ok-added-2.ensures ∙ ap (λ n. length three - n) c.len-middle.ensures)
+    c.in_ok-put_test.ensures
+
+pub emit_once-returns-clause-code : goal.emit_once-returns-clause-code
+emit_once-returns-clause-code t c =
+    once_placed c.args.setting.now c.args.scope.now (begun_at c.args.ending c.in_ok-site.site) (stmt c.args.body.now) c.in_ok-level_above.field-0 c.in_ok-in_loop.field-0 c.args.turn.now c.emit_statement.new.code c.in_ok-past.field-0
+    c.in_ok-level_above.ensures c.in_ok-past.ensures c.in_ok-in_loop.ensures c.in_ok-site.ensures.code
+
+pub emit_stepped-returns-clause-code : goal.emit_stepped-returns-clause-code
+emit_stepped-returns-clause-code t c =
+    let s = c.args.setting.now in
+    let third = stmt c.args.third.now in
+    let body = stmt c.args.body.now in
+    let f = inside s.helpers.functions.now in
+    let at : c.in_ok-emit_once.field-0 ≡ c.in_ok-site.site + sites f third = omega (arith, c.in_ok-between.ensures, c.in_ok-site.ensures.site, c.in_ok-emit_once.ensures.site) in
+    stepped_placed s c.args.scope.now c.emit_statement.new.scope (begun_at c.args.ending c.in_ok-site.site) third body c.in_ok-level_above.field-0 c.in_ok-emit_once.field-0 c.in_ok-in_loop.field-0
+    c.args.turn.now c.emit_statement.new.code c.emit_once.new.turn c.in_ok-past.field-0
+    c.in_ok-level_above.ensures at c.in_ok-past.ensures c.in_ok-in_loop.ensures c.in_ok-site.ensures.code c.in_ok-site.ensures.scope c.in_ok-emit_once.ensures.code
+
+pub emit_round-returns-in-None-clause-code : goal.emit_round-returns-in-None-clause-code
+emit_round-returns-in-None-clause-code t c =
+    let s = c.args.setting.now in
+    let scope = c.args.scope.now in
+    let old = c.args.turn.now in
+    let body = stmt c.args.body.now in
+    subst (λ (o : Option (Bor Statement)). IfOk c.emit_once.result (λ site. c.emit_once.new.turn ≡ round_code s scope (part_of o) body (begun_at c.args.ending site) (length old) ++ old)) (sym c.in-None.is)
+    (IfOk-weaker c.emit_once.result (λ site. c.emit_once.new.turn ≡ once_code s scope body (begun_at c.args.ending site) (length old) ++ old)
+    (λ site. c.emit_once.new.turn ≡ round_code s scope Without body (begun_at c.args.ending site) (length old) ++ old)
+    (λ site h. h ∙ ap (λ xs. xs ++ old) (lone_round s scope (begun_at c.args.ending site) body (length old))) c.emit_once.ensures.code)
+
+pub emit_turns-returns-clause-code : goal.emit_turns-returns-clause-code
+emit_turns-returns-clause-code t c =
+    let s = c.args.setting.now in
+    let p = begun_at c.args.ending c.in_ok-site.site in
+    let scope = c.args.scope.now in
+    let third = part_of c.args.third in
+    let body = stmt c.args.body.now in
+    let condition = condition_code scope (test_of c.args.condition) in
+    let one = begun condition c.new-turn.result c.put_condition.new.code c.new-turn.ensures c.in_ok-put_condition.ensures in
+    c.in_ok-end_while.ensures (round_code s scope third body p (length condition)) condition
+    (c.in_ok-site.ensures.code ∙ ap (λ xs. round_code s scope third body p (length xs) ++ xs) one)
+    (c.len-start.ensures ∙ ap length one)
+
+pub emit_do-returns-clause-code : goal.emit_do-returns-clause-code
+emit_do-returns-clause-code t c =
+    let s = c.args.setting.now in
+    let p = begun_at c.args.ending c.in_ok-site.site in
+    let scope = c.args.scope.now in
+    let body = stmt c.args.body.now in
+    let condition = condition_code scope (While_ (term c.args.condition.now)) in
+    let one = begun condition c.new-turn.result c.put_condition.new.code c.new-turn.ensures c.in_ok-put_condition.ensures in
+    c.in_ok-end_do.ensures (once_code s scope body p (length condition)) condition
+    (c.in_ok-site.ensures.code ∙ ap (λ xs. once_code s scope body p (length xs) ++ xs) one)
+
+pub emit_for-returns-clause-code : goal.emit_for-returns-clause-code
+emit_for-returns-clause-code t c =
+    let one = c.emit_turns.new.code in
+    for_placed c.args.setting.now c.args.scope.now c.declare_part.new.scope c.leave_part.new.scope (begun_at c.args.ending c.in_ok-site.site) (part_of c.args.first) (test_of c.args.condition) (part_of c.args.third) (stmt c.args.body.now)
+    c.in_ok-behind.behind c.in_ok-past.field-0 c.args.code.now one c.emit_part.new.code c.in_ok-added.field-0
+    c.in_ok-declare_part.ensures (c.leave_part.ensures c.args.scope.now (c.in_ok-behind.ensures.scope ∙ c.in_ok-declare_part.ensures))
+    c.in_ok-site.ensures.site c.in_ok-behind.ensures.code
+    (c.in_ok-added.ensures ∙ ap (λ n. length one - n) c.len-end.ensures) c.in_ok-past.ensures c.in_ok-site.ensures.code
+
+pub emit_for-returns-clause-site : goal.emit_for-returns-clause-site
+emit_for-returns-clause-site t c =
+    let f = inside c.args.setting.now.helpers.functions.now in
+    let first = part_sites f (part_of c.args.first) in
+    let third = part_sites f (part_of c.args.third) in
+    let body = sites f (stmt c.args.body.now) in
+    let front : c.in_ok-site.site + first ≡ c.in_ok-behind.behind = c.in_ok-site.ensures.site in
+    let rest : c.in_ok-behind.behind + (third + body) ≡ c.args.ending.behind = c.in_ok-behind.ensures.site in
+    let all : c.in_ok-site.site + (first + third + body) ≡ c.args.ending.behind = omega (arith, front, rest) in
+    all
+
+pub emit_loop-returns-in-For-clause-site : goal.emit_loop-returns-in-For-clause-site
+emit_loop-returns-in-For-clause-site t c =
+    let f = inside c.args.setting.now.helpers.functions.now in
+    let first = part_named (option_map (λ s. s.value) c.in-For.first) in
+    let third = part_named (option_map (λ s. s.value) c.in-For.third) in
+    let x = stmt c.deref-in-For.result.now in
+    let first_is : part_of c.statement_of.result ≡ first = part_is c.statement_of.result ∙ ap part_named c.statement_of.ensures in
+    let third_is : part_of c.statement_of-in-For.result ≡ third = part_is c.statement_of-in-For.result ∙ ap part_named c.statement_of-in-For.ensures in
+    let all : part_sites f (part_of c.statement_of.result) + part_sites f (part_of c.statement_of-in-For.result) + sites f x ≡ sites f (stmt c.args.statement.now) =
+    ap₂ (λ a b. part_sites f a + part_sites f b + sites f x) first_is third_is
+    ∙ ap (λ (s : Statement). part_sites f first + part_sites f third + sites f (stmt s)) c.deref-in-For.ensures
+    ∙ sym (for_sites f c.in-For.at c.in-For.first c.in-For.condition c.in-For.third c.in-For.body) ∙ ap (λ (s : Statement). sites f (stmt s)) (sym c.in-For.is) in
+    subst (λ (n : ℕ). IfOk c.emit_for-in-For.result (λ site. site + n ≡ c.args.ending.behind)) all c.emit_for-in-For.ensures.site
+
+pub emit_all-loop-i-preserved : goal.emit_all-loop-i-preserved
+emit_all-loop-i-preserved t c =
+    let s = c.args.setting.now in
+    let e = c.args.ending in
+    let start = c.args.scope.now in
+    let ss = c.args.statements.now in
+    let fs = functions_of s.helpers.functions.now in
+    let f = inside s.helpers.functions.now in
+    let n = length ss - c.loop-i.i in
+    let place = length ss - 1 - c.loop-i.i in
+    let k = length c.loop-i.code - length c.args.code.now in
+    let x = c.index-statements-statements.result in
+    let first = c.in_ok-behind.behind in
+    let below : place < length ss = omega (arith, c.loop-i-test.true) in
+    let left : n ≡ place + 1 = omega (arith, c.loop-i-test.true) in
+    let next : place ≡ length ss - (c.loop-i.i + 1) = omega (arith, c.loop-i-test.true) in
+    let front = all_of (take place ss) in
+    let more : all_of (take n ss) ≡ ThenStmt front (stmt x) = ap (λ m. all_of (take m ss)) left ∙ row_more ss place x below c.index-statements-statements.is in
+    let inner : c.leave.new.scope ≡ scope_after_all start front = c.leave.ensures (scope_after_all start front) (c.loop-i.invariant.scope ∙ ap (λ r. scope_after_all start r) more) in
+    let count : all_sites f (all_of (take n ss)) ≡ all_sites f front + sites f (stmt x) = ap (λ r. all_sites f r) more in
+    let begins : first + sites f (stmt x) ≡ c.loop-i.behind = c.in_ok-behind.ensures.site in
+    let added : c.in_ok-added.field-0 ≡ k = c.in_ok-added.ensures ∙ ap (λ m. length c.loop-i.code - m) c.len-end.ensures in
+    let exits : exits_of c.in_ok-past.field-0 ≡ past k (exits_of e.exits) = c.in_ok-past.ensures ∙ ap (λ m. past m (exits_of e.exits)) added in
+    let code : Scope → ℕ → Exits → List Instruction = λ z m q. stmt_code (call_code fs) (result_in fs) f s.result z (stmt x) e.depth m q in
+    let last = code c.leave.new.scope first (exits_of c.in_ok-past.field-0) in
+    let emitted : c.emit_statement.new.code ≡ last ++ c.loop-i.code = c.in_ok-behind.ensures.code in
+    let size = longer last c.loop-i.code c.emit_statement.new.code emitted in
+    let behind = length c.emit_statement.new.code - length c.args.code.now in
+    let shorter : all_sites f (all_of (take (length ss - (c.loop-i.i + 1)) ss)) ≡ all_sites f front = ap (λ m. all_sites f (all_of (take m ss))) (sym next) in
+    record {
+      scope = c.in_ok-behind.ensures.scope ∙ inner ∙ ap (λ m. scope_after_all start (all_of (take m ss))) next;
+      site = omega (arith, c.loop-i.invariant.site, count, begins, shorter);
+      longer = omega (arith, size, c.loop-i.invariant.longer);
+      code = λ site there.
+          let here : site + all_sites f front ≡ first = ap (λ m. site + m) (sym shorter) ∙ there in
+          let was : site + all_sites f (all_of (take n ss)) ≡ c.loop-i.behind = omega (arith, count, here, begins) in
+          row_laid (call_code fs) (result_in fs) f s.result start front (stmt x) e.depth site k behind (exits_of e.exits) last c.loop-i.code c.emit_statement.new.code (row_code s start (all_of ss) (begun_at e site) ++ c.args.code.now)
+          (ap₂ (λ z m. code z m (exits_of c.in_ok-past.field-0)) inner (sym here) ∙ ap (λ q. code (scope_after_all start front) (site + all_sites f front) q) exits)
+          (c.loop-i.invariant.code site was ∙ ap (λ r. stmts_code (call_code fs) (result_in fs) f s.result start r e.depth site (past k (exits_of e.exits)) ++ c.loop-i.code) more)
+          emitted (omega (arith, size, c.loop-i.invariant.longer))
+          ∙ ap (λ m. stmts_code (call_code fs) (result_in fs) f s.result start (all_of (take m ss)) e.depth site (past behind (exits_of e.exits)) ++ c.emit_statement.new.code) next;
+    }

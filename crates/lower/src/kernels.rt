@@ -1,0 +1,59 @@
+//! The code of kernels.
+#![tactic(auto)]
+
+ghost use Rattle.std.specs.Prelude.{◌≡◌, None, Some, map, IfOk, IfSome};
+ghost use Rattle.clmodel.specs.Setup.{kernel_in, functions_before};
+ghost use Rattle.clmodel.specs.Tree.{Func, NoFunc, func, then_funcs};
+ghost use Rattle.lower_code.specs.Code.{kernel_code};
+ghost use Rattle.lower_code.specs.Emission.{functions_of};
+
+use crate::expansion::expand;
+use crate::lookup::kernel_named;
+use crate::statements::emit_body;
+use crate::table::{ends_of, known_of_all};
+use clmodel::tree::Function;
+use lower_code::draft::Draft;
+use lower_code::holes::Helpers;
+use lower_code::variables::put_arguments;
+use regcode::Instruction;
+use std::alloc::{AllocError, Global};
+
+/// The code of a kernel that stands behind these functions.
+fn emit_function(
+    alloc: Global,
+    helpers: Helpers<'_>,
+    kernel: &Function,
+) -> Result<Vec<Instruction>, AllocError>
+    ensures { IfOk result (λ code. code.items ≡ kernel_code (functions_of helpers.entry.functions.now) (func kernel.now)) }
+{
+    let mut code = Draft::new(alloc);
+    code.put(Instruction::End)?;
+    emit_body(helpers, kernel, 0, 0, 0, &mut code)?;
+    put_arguments(kernel.parameters.as_slice(), &mut code)?;
+    expand(alloc, code.into_parts())
+}
+
+/// The code of the kernel of a name's number, None where there is none. Err if out of memory, or if there are too few registers.
+pub fn emit_kernel(
+    alloc: Global,
+    functions: &[Function],
+    number: u32,
+) -> Result<Option<Vec<Instruction>>, AllocError>
+    ensures code { IfOk result (λ found. IfSome found (λ code. (f : Func) × (kernel_in (then_funcs NoFunc (map func functions.now)) number ≡ Some f)
+        × (code.items ≡ kernel_code (functions_before (then_funcs NoFunc (map func functions.now)) number) f))) }
+    ensures none { IfOk result (λ found. found ≡ None → kernel_in (then_funcs NoFunc (map func functions.now)) number ≡ None) }
+{
+    let Some(found) = kernel_named(functions, number as usize) else {
+        return Ok(None);
+    };
+    let before = &functions[..found.place];
+    let ends = ends_of(alloc, before)?;
+    let known = known_of_all(alloc, before, ends.as_slice())?;
+    let helpers = Helpers {
+        functions: before,
+        known: known.as_slice(),
+        ends: ends.as_slice(),
+    };
+    let code = emit_function(alloc, helpers, found.function)?;
+    Ok(Some(code))
+}

@@ -1,0 +1,158 @@
+//! How many barriers are in a statement, with those in the helper functions that it calls, which are looked up.
+#![tactic(auto)]
+
+ghost use Rattle.std.specs.Prelude.{◌≡◌, ℕ, ◌+◌, ◌<◌, Some, length, get_or, IfOk, IfSome};
+ghost use Rattle.clmodel.specs.BuiltIns.{built_in};
+ghost use Rattle.clmodel.specs.Barrier as barrier;
+ghost use Rattle.clmodel.specs.Next as next;
+ghost use Rattle.clmodel.specs.Tree.{stmt, term};
+ghost use Rattle.lower_code.specs.Trees.{all_of};
+ghost use Rattle.lower_code.specs.Emission.{found_sites, inside};
+ghost use Rattle.lower.specs.Statements.{callee_sites};
+
+use clmodel::barrier::is_barrier;
+use clmodel::setup::built_in_named;
+use clmodel::tree::{Expression, Statement};
+use lower_code::functions::{Found, find};
+use lower_code::holes::Helpers;
+use std::alloc::AllocError;
+
+/// What is called: nothing that can meet a barrier, the barrier itself, or the helper function of a name.
+#[derive(Clone, Copy)]
+pub enum Callee {
+    Nothing,
+    Barrier,
+    Helper(u32),
+}
+
+/// What a call that is a whole statement calls.
+fn callee_of(name: u32) -> Callee
+    ensures { (inside : ℕ → ℕ) → next.statement_sites inside (barrier.is_barrier name) (built_in name) name ≡ callee_sites inside result }
+{
+    if is_barrier(name) {
+        return Callee::Barrier;
+    }
+    match built_in_named(name) {
+        Some(_) => Callee::Nothing,
+        None => Callee::Helper(name),
+    }
+}
+
+/// What an expression calls that is the right side of an assignment.
+fn callee_in(value: &Expression) -> Callee
+    ensures { (inside : ℕ → ℕ) → next.call_sites inside (next.helper_call (term value.now)) ≡ callee_sites inside result }
+{
+    match value {
+        Expression::Call { name, .. } => match built_in_named(*name) {
+            Some(_) => Callee::Nothing,
+            None => Callee::Helper(*name),
+        },
+        _ => Callee::Nothing,
+    }
+}
+
+/// The barriers in a statement; None where there are too many to count.
+#[cycle(sites)]
+fn sites(helpers: Helpers<'_>, statement: &Statement) -> Option<u32>
+    ensures { IfSome result (λ n. n ≡ next.sites (inside helpers.entry.functions.now) (stmt statement.now)) }
+{
+    match statement {
+        Statement::Block { body, .. } => sites_in_all(helpers, body),
+        Statement::If { chosen, .. } => sites(helpers, chosen),
+        Statement::IfElse {
+            chosen,
+            otherwise,
+            ..
+        } => {
+            let first = sites(helpers, chosen)?;
+            first.checked_add(sites(helpers, otherwise)?)
+        }
+        Statement::While { body, .. } | Statement::DoWhile { body, .. } => sites(helpers, body),
+        Statement::For {
+            first,
+            third,
+            body,
+            ..
+        } => {
+            let first = match first {
+                Some(first) => sites(helpers, first)?,
+                None => 0,
+            };
+            let third = match third {
+                Some(third) => sites(helpers, third)?,
+                None => 0,
+            };
+            let parts = first.checked_add(third)?;
+            parts.checked_add(sites(helpers, body)?)
+        }
+        Statement::Call { name, .. } => sites_in_call(helpers, callee_of(*name)),
+        Statement::Declare {
+            value: Some(value),
+            ..
+        } => sites_in_call(helpers, callee_in(value)),
+        Statement::Assign { value, .. } => sites_in_call(helpers, callee_in(value)),
+        _ => Some(0),
+    }
+}
+
+/// The barriers in statements.
+#[cycle(sites)]
+pub fn sites_in_all(helpers: Helpers<'_>, statements: &[Statement]) -> Option<u32>
+    ensures { IfSome result (λ n. n ≡ next.all_sites (inside helpers.entry.functions.now) (all_of statements.now)) }
+{
+    let mut all: u32 = 0;
+    for i in 0..statements.len() {
+        all = all.checked_add(sites(helpers, &statements[i])?)?;
+    }
+    Some(all)
+}
+
+/// The barriers in a helper; None where they are not known.
+fn sites_in_helper(helpers: Helpers<'_>, found: Found<'_>) -> Option<u32>
+    requires within { found.place < length helpers.functions.now }
+    requires there { found.function.now ≡ get_or helpers.functions.now found.place found.function.now }
+    ensures { IfSome result (λ n. n ≡ found_sites helpers.entry.functions.now (Some found.entry)) }
+{
+    if found.place >= helpers.known.len() {
+        return None;
+    }
+    helpers.known[found.place].barriers
+}
+
+/// The barriers in what is called.
+fn sites_in_call(helpers: Helpers<'_>, callee: Callee) -> Option<u32>
+    ensures { IfSome result (λ n. n ≡ callee_sites (inside helpers.entry.functions.now) callee) }
+{
+    match callee {
+        Callee::Nothing => Some(0),
+        Callee::Barrier => Some(1),
+        Callee::Helper(name) => match find(helpers, name) {
+            Some(found) => sites_in_helper(helpers, found),
+            None => Some(0),
+        },
+    }
+}
+
+/// The number of the first barrier behind statements, by that of their first one. Err if there are too many.
+pub fn site_behind_all(
+    helpers: Helpers<'_>,
+    site: u32,
+    statements: &[Statement],
+) -> Result<u32, AllocError>
+    ensures { IfOk result (λ behind. behind ≡ site + next.all_sites (inside helpers.entry.functions.now) (all_of statements.now)) }
+{
+    let count = sites_in_all(helpers, statements).ok_or(AllocError)?;
+    site.checked_add(count).ok_or(AllocError)
+}
+
+/// The number of the first barrier of a statement, by that of the first one behind it. Err if there are too many.
+pub fn site_before(
+    helpers: Helpers<'_>,
+    behind: u32,
+    statement: &Statement,
+) -> Result<u32, AllocError>
+    ensures { IfOk result (λ site. site + next.sites (inside helpers.entry.functions.now) (stmt statement.now) ≡ behind) }
+{
+    let count = sites(helpers, statement).ok_or(AllocError)?;
+    behind.checked_sub(count).ok_or(AllocError)
+}

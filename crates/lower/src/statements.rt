@@ -1,0 +1,478 @@
+//! The code of statements and of the helper functions that they call (OpenCL 1.2, section 6.9; C99 6.5.2.2 and 6.8).
+//!
+//! Code is written from its end, so that the length of what a jump passes is known when the jump is written, and barriers are numbered
+//! from the last one. The body of a helper that is called is left out, and only its length and its barriers are counted, so nothing
+//! here goes into another function: the time is that of the function's own statements. But the body of a `for` with a third part is
+//! counted before it is written, since its barriers have the higher numbers and its code stands first, and the turns of a loop are
+//! put together before the loop is; a statement inside n such loops is so gone through n times more (8 at most in a checked kernel).
+#![tactic(auto)]
+
+ghost use Rattle.std.specs.Prelude.{◌≡◌, ◌+◌, ◌++◌, true, length, IfOk, OnOk};
+ghost use Rattle.std.specs.Option.{option_map};
+ghost use Rattle.clmodel.specs.Next.{sites, part_sites, all_sites};
+ghost use Rattle.clmodel.specs.Tree as tree;
+ghost use Rattle.clmodel.specs.Tree.{stmt, term};
+ghost use Rattle.lower_code.specs.Trees.{all_of, part_of};
+ghost use Rattle.lower_code.specs.Code.{condition_code, while_code};
+ghost use Rattle.lower_code.specs.Emission.{inside, body_of, statement_code, row_code, maybe_code, test_of};
+ghost use Rattle.lower.specs.Statements.{is_loop, is_single, begun_at, once_code, round_code};
+
+use crate::sites::{site_before, site_behind_all};
+use clmodel::tree::{Expression, Function, Statement};
+use lower_code::draft::Draft;
+use lower_code::holes::{Helpers, Setting};
+use lower_code::loops::{end_do, end_while, put_condition, put_no_value, put_test};
+use lower_code::positions::{Exits, Position};
+use lower_code::simple::{emit_assignment, emit_declaration, put_jump};
+use lower_code::variables::{declare_all, declare_parameters, declare_part, leave, leave_part};
+use lower_expr::scope::{Scope, level_above};
+use regcode::Instruction;
+use std::alloc::AllocError;
+
+/// Where a statement ends: how many loops are round it, the number of the first barrier behind it, and its exits.
+#[derive(Clone, Copy)]
+pub struct Ending {
+    pub depth: u32,
+    pub behind: u32,
+    pub exits: Exits,
+}
+
+/// The condition of a `for`.
+fn condition_of(condition: &Option<Box<Expression>>) -> Option<&Expression>
+    ensures { test_of result ≡ tree.maybe_term condition.now }
+{
+    match condition {
+        Some(condition) => Some(condition),
+        None => None,
+    }
+}
+
+/// The first or the third part of a `for`.
+fn statement_of(part: &Option<Box<Statement>>) -> Option<&Statement>
+    ensures { option_map (λ s. s.now) result ≡ option_map (λ s. s.value) part.now }
+{
+    match part {
+        Some(part) => Some(part),
+        None => None,
+    }
+}
+
+/// Puts a statement in which no other stands before the code, and gives the number of its first barrier.
+fn emit_single<'a>(
+    setting: &Setting<'a>,
+    scope: &mut Scope,
+    statement: &Statement,
+    ending: Ending,
+    code: &mut Draft<'a>,
+) -> Result<u32, AllocError>
+    requires { is_single statement.now ≡ true }
+    ensures code { IfOk result (λ site. code.new ≡ statement_code setting.now scope.old (stmt statement.now) (begun_at ending site) ++ code.old) }
+    ensures site { IfOk result (λ site. site + sites (inside setting.now.helpers.functions.now) (stmt statement.now) ≡ ending.behind) }
+    ensures scope { OnOk result (scope.new ≡ scope.old) }
+{
+    let site = site_before(setting.helpers, ending.behind, statement)?;
+    let position = Position {
+        depth: ending.depth,
+        site,
+        exits: ending.exits,
+    };
+    put_single(setting, scope, statement, position, code)?;
+    Ok(site)
+}
+
+/// Puts such a statement before the code at a position.
+fn put_single<'a>(
+    setting: &Setting<'a>,
+    scope: &mut Scope,
+    statement: &Statement,
+    position: Position,
+    code: &mut Draft<'a>,
+) -> Result<(), AllocError>
+    requires { is_single statement.now ≡ true }
+    ensures code { OnOk result (code.new ≡ statement_code setting.now scope.old (stmt statement.now) position ++ code.old) }
+    ensures scope { OnOk result (scope.new ≡ scope.old) }
+{
+    match statement {
+        Statement::Empty { .. } => Ok(()),
+        Statement::Declare { .. } | Statement::DeclareArray { .. } => {
+            emit_declaration(setting, scope, statement, position, code)
+        }
+        Statement::Assign { .. } | Statement::Step { .. } | Statement::Call { .. } => {
+            emit_assignment(setting, scope, statement, position, code)
+        }
+        Statement::Break { .. } | Statement::Continue { .. } | Statement::Return { .. } => {
+            put_jump(setting, scope, statement, position, code)
+        }
+        _ => unreachable!(),
+    }
+}
+
+/// Puts a statement before the code, and gives the number of its first barrier, or of the first behind it if it has none. Err if out
+/// of memory, or if a number of 32 bits is too small.
+#[cycle(emission)]
+fn emit_statement<'a>(
+    setting: &Setting<'a>,
+    scope: &mut Scope,
+    statement: &Statement,
+    ending: Ending,
+    code: &mut Draft<'a>,
+) -> Result<u32, AllocError>
+    ensures code { IfOk result (λ site. code.new ≡ statement_code setting.now scope.old (stmt statement.now) (begun_at ending site) ++ code.old) }
+    ensures site { IfOk result (λ site. site + sites (inside setting.now.helpers.functions.now) (stmt statement.now) ≡ ending.behind) }
+    ensures scope { OnOk result (scope.new ≡ scope.old) }
+{
+    match statement {
+        Statement::Block { body, .. } => emit_all(setting, scope, body, ending, code),
+        Statement::If {
+            condition,
+            chosen,
+            ..
+        } => emit_if(setting, scope, condition, chosen, ending, code),
+        Statement::IfElse {
+            condition,
+            chosen,
+            otherwise,
+            ..
+        } => emit_choice(setting, scope, condition, chosen, otherwise, ending, code),
+        Statement::While { .. } | Statement::DoWhile { .. } | Statement::For { .. } => {
+            emit_loop(setting, scope, statement, ending, code)
+        }
+        Statement::Empty { .. }
+        | Statement::Declare { .. }
+        | Statement::DeclareArray { .. }
+        | Statement::Assign { .. }
+        | Statement::Step { .. }
+        | Statement::Call { .. }
+        | Statement::Break { .. }
+        | Statement::Continue { .. }
+        | Statement::Return { .. } => emit_single(setting, scope, statement, ending, code),
+    }
+}
+
+/// Puts a loop before the code.
+#[cycle(emission)]
+fn emit_loop<'a>(
+    setting: &Setting<'a>,
+    scope: &mut Scope,
+    statement: &Statement,
+    ending: Ending,
+    code: &mut Draft<'a>,
+) -> Result<u32, AllocError>
+    requires { is_loop statement.now ≡ true }
+    ensures code { IfOk result (λ site. code.new ≡ statement_code setting.now scope.old (stmt statement.now) (begun_at ending site) ++ code.old) }
+    ensures site { IfOk result (λ site. site + sites (inside setting.now.helpers.functions.now) (stmt statement.now) ≡ ending.behind) }
+    ensures scope { OnOk result (scope.new ≡ scope.old) }
+{
+    match statement {
+        Statement::While {
+            condition,
+            body,
+            ..
+        } => emit_for(
+            setting,
+            scope,
+            None,
+            Some(condition),
+            None,
+            body,
+            ending,
+            code,
+        ),
+        Statement::DoWhile {
+            body,
+            condition,
+            ..
+        } => emit_do(setting, scope, body, condition, ending, code),
+        Statement::For {
+            first,
+            condition,
+            third,
+            body,
+            ..
+        } => emit_for(
+            setting,
+            scope,
+            statement_of(first),
+            condition_of(condition),
+            statement_of(third),
+            body,
+            ending,
+            code,
+        ),
+        _ => unreachable!(),
+    }
+}
+
+/// Puts the code of statements, in order, before the code.
+#[cycle(emission)]
+fn emit_all<'a>(
+    setting: &Setting<'a>,
+    scope: &mut Scope,
+    statements: &[Statement],
+    ending: Ending,
+    code: &mut Draft<'a>,
+) -> Result<u32, AllocError>
+    ensures code { IfOk result (λ site. code.new ≡ row_code setting.now scope.old (all_of statements.now) (begun_at ending site) ++ code.old) }
+    ensures site { IfOk result (λ site. site + all_sites (inside setting.now.helpers.functions.now) (all_of statements.now) ≡ ending.behind) }
+    ensures scope { OnOk result (scope.new ≡ scope.old) }
+{
+    declare_all(scope, statements)?;
+    let end = code.len();
+    let mut behind = ending.behind;
+    for i in 0..statements.len() {
+        let statement = &statements[statements.len() - 1 - i];
+        leave(scope, statement);
+        let here = Ending {
+            depth: ending.depth,
+            behind,
+            exits: ending.exits.past(code.added(end)?)?,
+        };
+        behind = emit_statement(setting, scope, statement, here, code)?;
+    }
+    Ok(behind)
+}
+
+/// Puts the body of a function, whose parameters are at a level and above, before the code.
+pub fn emit_body<'a>(
+    helpers: Helpers<'a>,
+    function: &Function,
+    level: u32,
+    depth: u32,
+    site: u32,
+    code: &mut Draft<'a>,
+) -> Result<(), AllocError>
+    ensures { OnOk result (code.new ≡ body_of helpers.entry.functions.now function.now level depth site ++ code.old) }
+{
+    let end = code.len();
+    put_no_value(function.result, level, code)?;
+    let exits = Exits {
+        broken: 0,
+        continued: 0,
+        returned: code.added(end)?,
+    };
+    let mut scope = Scope::new(code.allocator(), level);
+    declare_parameters(&mut scope, function.parameters.as_slice())?;
+    let setting = Setting {
+        helpers,
+        result: function.result,
+    };
+    let body = function.body.as_slice();
+    let behind = site_behind_all(helpers, site, body)?;
+    let ending = Ending {
+        depth,
+        behind,
+        exits,
+    };
+    emit_all(&setting, &mut scope, body, ending, code)?;
+    Ok(())
+}
+
+/// Puts a choice without a second side before the code.
+#[cycle(emission)]
+fn emit_if<'a>(
+    setting: &Setting<'a>,
+    scope: &mut Scope,
+    condition: &Expression,
+    chosen: &Statement,
+    ending: Ending,
+    code: &mut Draft<'a>,
+) -> Result<u32, AllocError>
+    ensures code { IfOk result (λ site. code.new ≡ statement_code setting.now scope.old (tree.If 0 (term condition.now) (stmt chosen.now)) (begun_at ending site) ++ code.old) }
+    ensures site { IfOk result (λ site. site + sites (inside setting.now.helpers.functions.now) (stmt chosen.now) ≡ ending.behind) }
+    ensures scope { OnOk result (scope.new ≡ scope.old) }
+{
+    let end = code.len();
+    let site = emit_statement(setting, scope, chosen, ending, code)?;
+    put_test(scope, condition, code.added(end)?, code)?;
+    Ok(site)
+}
+
+/// Puts a choice between two statements before the code.
+#[cycle(emission)]
+fn emit_choice<'a>(
+    setting: &Setting<'a>,
+    scope: &mut Scope,
+    condition: &Expression,
+    chosen: &Statement,
+    otherwise: &Statement,
+    ending: Ending,
+    code: &mut Draft<'a>,
+) -> Result<u32, AllocError>
+    ensures code { IfOk result (λ site. code.new ≡ statement_code setting.now scope.old (tree.IfElse 0 (term condition.now) (stmt chosen.now) (stmt otherwise.now)) (begun_at ending site) ++ code.old) }
+    ensures site { IfOk result (λ site. site + (sites (inside setting.now.helpers.functions.now) (stmt chosen.now) + sites (inside setting.now.helpers.functions.now) (stmt otherwise.now)) ≡ ending.behind) }
+    ensures scope { OnOk result (scope.new ≡ scope.old) }
+{
+    let end = code.len();
+    let between = emit_statement(setting, scope, otherwise, ending, code)?;
+    let middle = code.len();
+    let by = code.added(end)?;
+    code.put(Instruction::Jump { by })?;
+    let first = Ending {
+        depth: ending.depth,
+        behind: between,
+        exits: ending.exits.past(code.added(end)?)?,
+    };
+    let site = emit_statement(setting, scope, chosen, first, code)?;
+    put_test(scope, condition, code.added(middle)?, code)?;
+    Ok(site)
+}
+
+/// Puts the first part of a `for` before the code.
+#[cycle(emission)]
+fn emit_part<'a>(
+    setting: &Setting<'a>,
+    scope: &mut Scope,
+    part: Option<&Statement>,
+    ending: Ending,
+    code: &mut Draft<'a>,
+) -> Result<u32, AllocError>
+    ensures code { IfOk result (λ site. code.new ≡ maybe_code setting.now scope.old (part_of part.entry) (begun_at ending site) ++ code.old) }
+    ensures site { IfOk result (λ site. site + part_sites (inside setting.now.helpers.functions.now) (part_of part.entry) ≡ ending.behind) }
+    ensures scope { OnOk result (scope.new ≡ scope.old) }
+{
+    match part {
+        None => Ok(ending.behind),
+        Some(statement) => emit_statement(setting, scope, statement, ending, code),
+    }
+}
+
+/// Puts a loop whose condition stands behind its body before the code.
+#[cycle(emission)]
+fn emit_do<'a>(
+    setting: &Setting<'a>,
+    scope: &mut Scope,
+    body: &Statement,
+    condition: &Expression,
+    ending: Ending,
+    code: &mut Draft<'a>,
+) -> Result<u32, AllocError>
+    ensures code { IfOk result (λ site. code.new ≡ statement_code setting.now scope.old (tree.DoWhile 0 (stmt body.now) (term condition.now)) (begun_at ending site) ++ code.old) }
+    ensures site { IfOk result (λ site. site + sites (inside setting.now.helpers.functions.now) (stmt body.now) ≡ ending.behind) }
+    ensures scope { OnOk result (scope.new ≡ scope.old) }
+{
+    let mut turn = Draft::new(code.allocator());
+    put_condition(scope, Some(condition), &mut turn)?;
+    let site = emit_once(setting, scope, body, ending, &mut turn)?;
+    end_do(ending.depth, turn, code)?;
+    Ok(site)
+}
+
+/// Puts the body of a loop before the rest of its turn. The ending is that of the loop.
+#[cycle(emission)]
+fn emit_once<'a>(
+    setting: &Setting<'a>,
+    scope: &mut Scope,
+    body: &Statement,
+    ending: Ending,
+    turn: &mut Draft<'a>,
+) -> Result<u32, AllocError>
+    ensures code { IfOk result (λ site. turn.new ≡ once_code setting.now scope.old (stmt body.now) (begun_at ending site) (length turn.old) ++ turn.old) }
+    ensures site { IfOk result (λ site. site + sites (inside setting.now.helpers.functions.now) (stmt body.now) ≡ ending.behind) }
+    ensures scope { OnOk result (scope.new ≡ scope.old) }
+{
+    let here = Ending {
+        depth: level_above(ending.depth)?,
+        behind: ending.behind,
+        exits: ending.exits.in_loop(turn.past(0)?)?,
+    };
+    let site = emit_statement(setting, scope, body, here, turn)?;
+    Ok(site)
+}
+
+/// Puts the third part of a `for` before the rest of its turn, and its body before that. The ending is that of the loop.
+#[cycle(emission)]
+fn emit_stepped<'a>(
+    setting: &Setting<'a>,
+    scope: &mut Scope,
+    third: &Statement,
+    body: &Statement,
+    ending: Ending,
+    turn: &mut Draft<'a>,
+) -> Result<u32, AllocError>
+    ensures code { IfOk result (λ site. turn.new ≡ round_code setting.now scope.old (tree.With (stmt third.now)) (stmt body.now) (begun_at ending site) (length turn.old) ++ turn.old) }
+    ensures site { IfOk result (λ site. site + (sites (inside setting.now.helpers.functions.now) (stmt third.now) + sites (inside setting.now.helpers.functions.now) (stmt body.now)) ≡ ending.behind) }
+    ensures scope { OnOk result (scope.new ≡ scope.old) }
+{
+    let between = site_before(setting.helpers, ending.behind, body)?;
+    let last = Ending {
+        depth: level_above(ending.depth)?,
+        behind: between,
+        exits: ending.exits.in_loop(turn.past(0)?)?,
+    };
+    let site = emit_statement(setting, scope, third, last, turn)?;
+    emit_once(setting, scope, body, ending, turn)?;
+    Ok(site)
+}
+
+/// Puts the body and the third part of a `for`, if it has one, before the rest of its turn. The ending is that of the loop.
+#[cycle(emission)]
+fn emit_round<'a>(
+    setting: &Setting<'a>,
+    scope: &mut Scope,
+    third: Option<&Statement>,
+    body: &Statement,
+    ending: Ending,
+    turn: &mut Draft<'a>,
+) -> Result<u32, AllocError>
+    ensures code { IfOk result (λ site. turn.new ≡ round_code setting.now scope.old (part_of third.entry) (stmt body.now) (begun_at ending site) (length turn.old) ++ turn.old) }
+    ensures site { IfOk result (λ site. site + (part_sites (inside setting.now.helpers.functions.now) (part_of third.entry) + sites (inside setting.now.helpers.functions.now) (stmt body.now)) ≡ ending.behind) }
+    ensures scope { OnOk result (scope.new ≡ scope.old) }
+{
+    match third {
+        None => emit_once(setting, scope, body, ending, turn),
+        Some(third) => emit_stepped(setting, scope, third, body, ending, turn),
+    }
+}
+
+/// Puts a `for` before the code.
+#[cycle(emission)]
+fn emit_for<'a>(
+    setting: &Setting<'a>,
+    scope: &mut Scope,
+    first: Option<&Statement>,
+    condition: Option<&Expression>,
+    third: Option<&Statement>,
+    body: &Statement,
+    ending: Ending,
+    code: &mut Draft<'a>,
+) -> Result<u32, AllocError>
+    ensures code { IfOk result (λ site. code.new ≡ statement_code setting.now scope.old (tree.For 0 (part_of first.entry) (test_of condition.entry) (part_of third.entry) (stmt body.now)) (begun_at ending site) ++ code.old) }
+    ensures site { IfOk result (λ site. site + sites (inside setting.now.helpers.functions.now) (tree.For 0 (part_of first.entry) (test_of condition.entry) (part_of third.entry) (stmt body.now)) ≡ ending.behind) }
+    ensures scope { OnOk result (scope.new ≡ scope.old) }
+{
+    let end = code.len();
+    declare_part(scope, first)?;
+    let behind = emit_turns(setting, scope, condition, third, body, ending, code)?;
+    leave_part(scope, first);
+    let before = Ending {
+        depth: ending.depth,
+        behind,
+        exits: ending.exits.past(code.added(end)?)?,
+    };
+    let site = emit_part(setting, scope, first, before, code)?;
+    Ok(site)
+}
+
+/// Puts a `for` without its first part, whose variable is declared, before the code.
+#[cycle(emission)]
+fn emit_turns<'a>(
+    setting: &Setting<'a>,
+    scope: &mut Scope,
+    condition: Option<&Expression>,
+    third: Option<&Statement>,
+    body: &Statement,
+    ending: Ending,
+    code: &mut Draft<'a>,
+) -> Result<u32, AllocError>
+    ensures code { IfOk result (λ site. code.new
+        ≡ while_code ending.depth (round_code setting.now scope.old (part_of third.entry) (stmt body.now) (begun_at ending site) (length (condition_code scope.old (test_of condition.entry)))) (condition_code scope.old (test_of condition.entry)) ++ code.old) }
+    ensures site { IfOk result (λ site. site + (part_sites (inside setting.now.helpers.functions.now) (part_of third.entry) + sites (inside setting.now.helpers.functions.now) (stmt body.now)) ≡ ending.behind) }
+    ensures scope { OnOk result (scope.new ≡ scope.old) }
+{
+    let mut turn = Draft::new(code.allocator());
+    put_condition(scope, condition, &mut turn)?;
+    let start = turn.len();
+    let site = emit_round(setting, scope, third, body, ending, &mut turn)?;
+    end_while(ending.depth, start, turn, code)?;
+    Ok(site)
+}

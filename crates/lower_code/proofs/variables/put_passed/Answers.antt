@@ -1,0 +1,27 @@
+use Rattle.std.proofs.Common.{◌≡◌, ◌+◌, ◌-◌, ◌++◌, length, drop, ap, sym, ◌∙◌, arith}
+use Rattle.lower_code.specs.Variables.{pass_code}
+use Rattle.lower_code.proofs.Parameters.{drop_all, passed_more}
+use Rattle.lower_code.proofs.variables.put_passed.Goals as goal
+
+pub loop-i-init : goal.loop-i-init
+loop-i-init c =
+    let ps = c.args.parameters.now in
+    let n = length ps - 0 in
+    sym (ap (λ qs. pass_code qs (drop n c.args.arguments.now) (c.args.level + n) ++ c.args.code.now) (drop_all ps n (omega arith)))
+
+pub loop-i-preserved : goal.loop-i-preserved
+loop-i-preserved c =
+    let ps = c.args.parameters.now in
+    let n = length ps - 1 - c.loop-i.i in
+    c.in_ok-put.ensures
+    ∙ passed_more c.in_ok-pass_one.field-0 ps _ c.args.arguments.now c.args.level c.in_ok-at.at n (length ps - c.loop-i.i) (length ps - (c.loop-i.i + 1)) c.loop-i.code c.args.code.now
+    (omega (arith, c.loop-i-test.true)) (omega (arith, c.loop-i-test.true)) (omega arith) c.in_ok-at.ensures c.in_ok-pass_one.ensures c.loop-i.invariant
+
+pub returns : goal.returns
+returns c =
+    let ps = c.args.parameters.now in
+    let none : length ps - c.loop-i.i ≡ 0 = omega (arith, c.loop-i-test.false) in
+    let same : c.args.level + 0 ≡ c.args.level = omega arith in
+    c.loop-i.invariant
+    ∙ ap (λ n. pass_code (drop n ps) (drop n c.args.arguments.now) (c.args.level + n) ++ c.args.code.now) none
+    ∙ ap (λ l. pass_code ps c.args.arguments.now l ++ c.args.code.now) same

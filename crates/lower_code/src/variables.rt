@@ -1,0 +1,208 @@
+//! The variables of blocks and of functions, and the registers that they are given.
+#![tactic(auto)]
+
+ghost use Rattle.std.specs.Prelude.{◌≡◌, ◌++◌, [], ◌∷◌, drop, length, IfOk, OnOk};
+ghost use Rattle.clmodel.specs.Tree as tree;
+ghost use Rattle.clmodel.specs.Tree.{stmt};
+ghost use Rattle.regcode.specs.declared.instruction.Instruction.TheVariants as instruction;
+ghost use Rattle.lower_expr.specs.Scope.{Scope, free_level, register_at};
+ghost use Rattle.lower_code.specs.Variables as spec;
+ghost use Rattle.lower_code.specs.Trees.{all_of, part_of};
+
+use crate::draft::Draft;
+use clmodel::tree::{AddressSpace, Parameter, PointerType, Statement, VariableType};
+use clnum::{IntType, Value};
+use lower_expr::scope::{Scope, level_at, register_at, word};
+use regcode::Instruction;
+use std::alloc::AllocError;
+
+/// How many elements an array has, by the number in its brackets. Err where there are too many.
+fn array_length(length: Value) -> Result<u32, AllocError>
+    ensures { IfOk result (λ count. count ≡ tree.array_length length) }
+{
+    let number = length.number();
+    if number < 0 {
+        return Ok(0);
+    }
+    word(number as usize)
+}
+
+/// The type of the variable that points to a local array.
+fn local_pointer(element: IntType) -> VariableType
+    ensures { result ≡ spec.local_pointer element }
+{
+    VariableType::Pointer(PointerType {
+        space: AddressSpace::Local,
+        is_const: false,
+        element,
+    })
+}
+
+/// Declares an array.
+fn declare_array(
+    scope: &mut Scope,
+    is_local: bool,
+    element: IntType,
+    name: u32,
+    length: Value,
+) -> Result<(), AllocError>
+    ensures { OnOk result (scope.new ≡ record scope.old { variables = spec.array_variable is_local element (tree.array_length length) name ∷ scope.old.variables }) }
+{
+    if is_local {
+        return scope.declare(name, local_pointer(element));
+    }
+    scope.declare_array(name, element, array_length(length)?)
+}
+
+/// Declares the variable of a declaration.
+fn declare(scope: &mut Scope, statement: &Statement) -> Result<(), AllocError>
+    ensures { OnOk result (scope.new ≡ spec.scope_after scope.old (stmt statement.now)) }
+{
+    match statement {
+        Statement::Declare { kind, name, .. } => scope.declare(*name, *kind),
+        Statement::DeclareArray {
+            is_local,
+            element,
+            name,
+            length,
+            ..
+        } => declare_array(scope, *is_local, *element, *name, *length),
+        _ => Ok(()),
+    }
+}
+
+/// Declares the variable of a part of a `for`.
+pub fn declare_part(scope: &mut Scope, part: Option<&Statement>) -> Result<(), AllocError>
+    ensures { OnOk result (scope.new ≡ spec.scope_after_part scope.old (part_of part.entry)) }
+{
+    match part {
+        None => Ok(()),
+        Some(statement) => declare(scope, statement),
+    }
+}
+
+/// Declares the variables of statements.
+pub fn declare_all(scope: &mut Scope, statements: &[Statement]) -> Result<(), AllocError>
+    ensures { OnOk result (scope.new ≡ spec.scope_after_all scope.old (all_of statements.now)) }
+{
+    for i in 0..statements.len() {
+        declare(scope, &statements[i])?;
+    }
+    Ok(())
+}
+
+/// Leaves the variable of a declaration.
+pub fn leave(scope: &mut Scope, statement: &Statement)
+    ensures { (before : Scope) → scope.old ≡ spec.scope_after before (stmt statement.now) → scope.new ≡ before }
+{
+    match statement {
+        Statement::Declare { .. } | Statement::DeclareArray { .. } => {
+            scope.leave(scope.len().saturating_sub(1));
+        }
+        _ => {}
+    }
+}
+
+/// Leaves the variable of a part of a `for`.
+pub fn leave_part(scope: &mut Scope, part: Option<&Statement>)
+    ensures { (before : Scope) → scope.old ≡ spec.scope_after_part before (part_of part.entry) → scope.new ≡ before }
+{
+    if let Some(statement) = part {
+        leave(scope, statement);
+    }
+}
+
+/// Declares the parameters of a function.
+pub fn declare_parameters(scope: &mut Scope, parameters: &[Parameter]) -> Result<(), AllocError>
+    ensures { OnOk result (scope.new ≡ record scope.old { variables = spec.parameter_variables parameters.now scope.old.variables }) }
+{
+    for i in 0..parameters.len() {
+        let parameter = parameters[i];
+        scope.declare(parameter.name, parameter.kind)?;
+    }
+    Ok(())
+}
+
+/// The instruction that gives a parameter its argument at a level; one without an argument is unset.
+fn pass_one(
+    parameter: Parameter,
+    arguments: &[u32],
+    place: usize,
+    level: u32,
+) -> Result<Instruction, AllocError>
+    ensures { IfOk result (λ instruction. instruction ∷ [] ≡ spec.pass_code (parameter ∷ []) (drop place arguments.now) level) }
+{
+    let to = register_at(level, parameter.kind)?;
+    if place < arguments.len() {
+        let from = arguments[place];
+        let kind = parameter.kind;
+        return Ok(Instruction::Hold { to, from, kind });
+    }
+    Ok(Instruction::Unset { to })
+}
+
+/// Puts before the code what gives the parameters of a helper from a level on the arguments of a call.
+pub fn put_passed(
+    parameters: &[Parameter],
+    arguments: &[u32],
+    level: u32,
+    code: &mut Draft<'_>,
+) -> Result<(), AllocError>
+    ensures { OnOk result (code.new ≡ spec.pass_code parameters.now arguments.now level ++ code.old) }
+{
+    for i in 0..parameters.len() {
+        let place = parameters.len() - 1 - i;
+        let at = level_at(level, place)?;
+        code.put(pass_one(parameters[place], arguments, place, at)?)?;
+    }
+    Ok(())
+}
+
+/// Puts before the code what gives the parameters of a kernel the arguments of the launch.
+pub fn put_arguments(parameters: &[Parameter], code: &mut Draft<'_>) -> Result<(), AllocError>
+    ensures { OnOk result (code.new ≡ spec.arguments_code parameters.now 0 ++ code.old) }
+{
+    for i in 0..parameters.len() {
+        let place = parameters.len() - 1 - i;
+        let kind = parameters[place].kind;
+        let number = level_at(0, place)?;
+        let to = register_at(number, kind)?;
+        code.put(Instruction::Argument { to, number, kind })?;
+    }
+    Ok(())
+}
+
+/// Puts a declaration without an initialiser before the code.
+pub fn put_unset(scope: &Scope, kind: VariableType, code: &mut Draft<'_>) -> Result<(), AllocError>
+    ensures { OnOk result (code.new ≡ instruction.Unset (register_at (free_level scope.now) kind) ∷ code.old) }
+{
+    let level = scope.free_level()?;
+    let to = register_at(level, kind)?;
+    code.put(Instruction::Unset { to })
+}
+
+/// Puts the declaration of an array before the code.
+pub fn put_array(
+    scope: &Scope,
+    is_local: bool,
+    element: IntType,
+    size: Value,
+    code: &mut Draft<'_>,
+) -> Result<(), AllocError>
+    ensures { OnOk result (code.new ≡ spec.array_code is_local element (tree.array_length size) (length scope.now.variables) (free_level scope.now) ++ code.old) }
+{
+    let array = scope.free_level()?;
+    if is_local {
+        let to = register_at(array, local_pointer(element))?;
+        let number = word(scope.len())?;
+        return code.put(Instruction::Local {
+            to,
+            number,
+            element,
+        });
+    }
+    let to = register_at(array, VariableType::Integer(element))?;
+    let length = array_length(size)?;
+    code.put(Instruction::UnsetArray { array, length })?;
+    code.put(Instruction::Unset { to })
+}

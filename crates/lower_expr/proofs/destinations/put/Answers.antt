@@ -1,0 +1,22 @@
+use Rattle.std.proofs.Common.{◌≡◌, ◌++◌, [], ◌∷◌, ap, ◌∙◌}
+use Rattle.std.proofs.lemmas.Result.{on_ok_weaker}
+use Rattle.clmodel.specs.Tree.{Place}
+use Rattle.lower_expr.specs.Expressions.{private_store, place_register}
+use Rattle.lower_expr.specs.declared.emission.TargetKind.TheVariants as target
+use Rattle.lower_expr.specs.Places.{put_code}
+use Rattle.lower_expr.specs.Places.{destination_of}
+use Rattle.lower_expr.proofs.Targets.{put_at}
+use Rattle.lower_expr.proofs.destinations.put.Goals as goal
+
+pub returns-in_ok-index-in-Index : goal.returns-in_ok-index-in-Index
+returns-in_ok-index-in-Index c =
+    let scope = c.args.scope.now in
+    let old = c.args.code.now.items in
+    let d = c.args.destination in
+    let from = c.args.from in
+    let level = c.args.level in
+    on_ok_weaker {Q = (place : Place) → d ≡ destination_of scope place → c.private_store.new.code.items ≡ old ++ put_code scope place (place_register scope level place) from} c.private_store.result
+    (λ h place e.
+    h ∙ ap (λ n. old ++ private_store scope d.name n from ∷ []) c.in_ok-index-in-Index.ensures
+    ∙ ap (λ xs. old ++ xs) (put_at scope place d (target.Index c.in-Index.index) level from e c.in-Index.is))
+    c.private_store.ensures

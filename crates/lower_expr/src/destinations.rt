@@ -1,0 +1,180 @@
+//! The targets of assignments (C99 6.5.16).
+#![tactic(auto)]
+
+ghost use Rattle.std.specs.Prelude.{◌≡◌, ℕ, ◌+◌, ◌++◌, IfOk, OnOk};
+ghost use Rattle.clmodel.specs.Tree.{Place, place};
+ghost use Rattle.lower_expr.specs.Scope.{register_of};
+ghost use Rattle.lower_expr.specs.Expressions.{kind_named, variable_code, place_code, place_register};
+ghost use Rattle.lower_expr.specs.Places as spec;
+ghost use Rattle.lower_expr.specs.Places.{place_name, destination_of};
+
+use crate::emission::{TargetKind, emit_target};
+use crate::scope::{Scope, level_above, register_at};
+use crate::tails::{add, private_load, private_store};
+use crate::types::{base_type, infix_type};
+use clmodel::tree::{InfixOperator, Target, VariableType};
+use clnum::BinaryOperator;
+use regcode::Instruction;
+use std::alloc::AllocError;
+
+/// The target of an assignment: a variable of a name, an element of its array by an index of a type, or what a pointer of a type points to.
+#[derive(Clone, Copy)]
+pub struct Destination {
+    name: u32,
+    kind: TargetKind,
+}
+
+/// The name of a target's variable; 0 where there is none.
+fn target_name(target: &Target) -> u32
+    ensures { result ≡ place_name (place target.now) }
+{
+    match target {
+        Target::Variable { name, .. } => *name,
+        Target::Element { name, .. } => *name,
+        Target::Dereference { .. } => 0,
+    }
+}
+
+/// Adds the code of a target, which leaves its index or a pointer to it at a level.
+pub fn reach(
+    scope: &Scope,
+    level: u32,
+    target: &Target,
+    code: &mut Vec<Instruction>,
+) -> Result<Destination, AllocError>
+    ensures code { IfOk result (λ _. code.new.items ≡ code.old.items ++ place_code scope.now level (place target.now)) }
+    ensures found { IfOk result (λ destination. destination ≡ destination_of scope.now (place target.now)) }
+{
+    let kind = emit_target(scope, level, target, code)?;
+    Ok(Destination {
+        name: target_name(target),
+        kind,
+    })
+}
+
+/// The type of the target.
+pub fn destination_type(scope: &Scope, destination: Destination) -> VariableType
+    ensures { (to : Place) → destination ≡ destination_of scope.now to → result ≡ spec.place_type scope.now to }
+{
+    match destination.kind {
+        TargetKind::Variable => scope.kind(destination.name),
+        TargetKind::Index(_) => VariableType::Integer(base_type(scope.kind(destination.name))),
+        TargetKind::Pointer(pointer) => VariableType::Integer(base_type(pointer)),
+    }
+}
+
+/// Adds the code that fetches the value which is there.
+pub fn fetch(
+    scope: &Scope,
+    level: u32,
+    destination: Destination,
+    to: u32,
+    code: &mut Vec<Instruction>,
+) -> Result<(), AllocError>
+    ensures { OnOk result ((place : Place) → destination ≡ destination_of scope.now place
+        → code.new.items ≡ code.old.items ++ spec.fetch_code scope.now place (place_register scope.now level place) to) }
+{
+    match destination.kind {
+        TargetKind::Variable => fetch_variable(scope, destination.name, to, code),
+        TargetKind::Index(index) => {
+            let index = register_at(level, index)?;
+            private_load(scope, to, destination.name, index, code)
+        }
+        TargetKind::Pointer(pointer) => {
+            let pointer = register_at(level, pointer)?;
+            add(code, Instruction::Load { to, pointer })
+        }
+    }
+}
+
+/// Adds the code of a variable's value.
+fn fetch_variable(
+    scope: &Scope,
+    name: u32,
+    to: u32,
+    code: &mut Vec<Instruction>,
+) -> Result<(), AllocError>
+    ensures { OnOk result (code.new.items ≡ code.old.items ++ variable_code to (register_of scope.now name) name) }
+{
+    match scope.register(name)? {
+        Some(from) => add(code, Instruction::Move { to, from, name }),
+        None => {
+            add(code, Instruction::Unset { to })?;
+            add(code, Instruction::Move { to, from: to, name })
+        }
+    }
+}
+
+/// Adds the code that puts a register's value there.
+pub fn put(
+    scope: &Scope,
+    level: u32,
+    destination: Destination,
+    from: u32,
+    code: &mut Vec<Instruction>,
+) -> Result<(), AllocError>
+    ensures { OnOk result ((place : Place) → destination ≡ destination_of scope.now place
+        → code.new.items ≡ code.old.items ++ spec.put_code scope.now place (place_register scope.now level place) from) }
+{
+    match destination.kind {
+        TargetKind::Variable => hold(scope, destination.name, from, code),
+        TargetKind::Index(index) => {
+            let index = register_at(level, index)?;
+            private_store(scope, destination.name, index, from, code)
+        }
+        TargetKind::Pointer(pointer) => {
+            let pointer = register_at(level, pointer)?;
+            add(
+                code,
+                Instruction::Store {
+                    pointer,
+                    value: from,
+                },
+            )
+        }
+    }
+}
+
+/// Adds the code that gives a variable a register's value.
+fn hold(scope: &Scope, name: u32, from: u32, code: &mut Vec<Instruction>) -> Result<(), AllocError>
+    ensures { OnOk result (code.new.items ≡ code.old.items ++ spec.hold_code (register_of scope.now name) from (kind_named scope.now name)) }
+{
+    let kind = scope.kind(name);
+    let to = match scope.register(name)? {
+        Some(to) => to,
+        None => from,
+    };
+    add(code, Instruction::Hold { to, from, kind })
+}
+
+/// Adds the code of an operator on the value that was there and on a right operand of a type, whose value is put there.
+pub fn combine(
+    scope: &Scope,
+    level: u32,
+    destination: Destination,
+    operator: BinaryOperator,
+    kind: VariableType,
+    old: u32,
+    right: u32,
+    code: &mut Vec<Instruction>,
+) -> Result<(), AllocError>
+    ensures { OnOk result ((place : Place) → destination ≡ destination_of scope.now place
+        → code.new.items ≡ code.old.items ++ spec.combine_code scope.now place level operator kind old right) }
+{
+    let first = destination_type(scope, destination);
+    let above = level_above(level)?;
+    let to = register_at(
+        above,
+        infix_type(InfixOperator::Arithmetic(operator), first, kind),
+    )?;
+    add(
+        code,
+        Instruction::Binary {
+            to,
+            operator,
+            left: old,
+            right,
+        },
+    )?;
+    put(scope, level, destination, to, code)
+}

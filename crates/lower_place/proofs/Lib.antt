@@ -1,4 +1,0 @@
-pub mod Backwards
-pub mod Lists
-pub mod Parameters
-pub mod Places

@@ -1,7 +1,0 @@
-use Rattle.std.proofs.Common.{◌≡◌, ◌+◌, ◌-◌, ◌++◌, length, drop}
-use Rattle.lower_place.specs.Variables.{pass_code}
-use Rattle.lower_place.proofs.variables.put_passed.Given as goal
-
-abbrev pub invariant-loop-i : goal.invariant-loop-i
-invariant-loop-i l =
-    l.code ≡ pass_code (drop (length l.parameters - l.i) l.parameters) (drop (length l.parameters - l.i) l.arguments) (l.level + (length l.parameters - l.i)) ++ l.fn.code

@@ -1,3 +1,0 @@
-pub mod Emission
-pub mod Places
-pub mod Variables
