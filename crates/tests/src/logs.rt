@@ -8,17 +8,16 @@ use shadow_list::{AccessLog, Accesses, Entry, Fenced, ListLog};
 use std::test::Fail;
 
 /// The item, the first of four bytes of buffer 0, and the kind of an access; the byte of its conflict; how many accesses are then
-/// kept. Before the fifth begins a new interval of global memory.
-const ROWS: [(u32, u8, AccessKind, Option<u64>, usize); 9] = [
-    (0, 6, AccessKind::Store, None, 1),
-    (0, 6, AccessKind::Store, None, 1),
-    (0, 20, AccessKind::Store, None, 2),
-    (1, 9, AccessKind::Load, Some(9), 3),
-    (0, 6, AccessKind::Store, None, 4),
+/// kept.
+const ROWS: [(u32, u8, AccessKind, Option<u64>, usize); 8] = [
+    (0, 6, AccessKind::Store, None, 2),
+    (0, 6, AccessKind::Store, None, 2),
+    (5, 6, AccessKind::Store, Some(6), 3),
+    (1, 9, AccessKind::Load, Some(9), 4),
     (1, 17, AccessKind::Store, None, 5),
     (2, 7, AccessKind::Load, Some(7), 6),
     (3, 17, AccessKind::Update(Class::Add), Some(17), 7),
-    (4, 17, AccessKind::Update(Class::Add), Some(17), 8),
+    (4, 20, AccessKind::Update(Class::Add), Some(20), 8),
 ];
 
 fn entry(item: u32, first: u8, kind: AccessKind) -> Entry
@@ -35,14 +34,13 @@ fn entry(item: u32, first: u8, kind: AccessKind) -> Entry
     Entry { access, event: 0 }
 }
 
-// An access that is there in the running interval isn't kept again, and one of another interval is no conflict.
+// An access that is there in the running interval isn't kept again. One of another interval is, and is no conflict.
 #[test]
 fn accesses_are_noted(rt: HostRuntime) -> Result<(), Fail> {
     let mut log = ListLog::new(rt.alloc());
-    for (i, (item, first, kind, byte, kept)) in ROWS.into_iter().enumerate() {
-        if i == 4 {
-            log.fence(Fenced::Global);
-        }
+    assert!(rt; log.note(entry(5, 6, AccessKind::Store))?.is_none());
+    log.fence(Fenced::Global);
+    for (item, first, kind, byte, kept) in ROWS {
         let found = match log.note(entry(item, first, kind))? {
             Some(hit) => Some(hit.byte),
             None => None,
