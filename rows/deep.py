@@ -24,7 +24,7 @@ def kernel(body):
 
 
 def filled(front, body, nodes, total=MOST_NODES):
-    """A source whose kernel has so many nodes in all: after `body` of `nodes` nodes come empty statements."""
+    """A source whose kernel has `total` nodes in all: after `body` of `nodes` nodes come empty statements."""
     source = front + kernel(body + ";" * (total - nodes - 4))
     assert len(source) < MOST_BYTES, len(source)
     return source
@@ -35,7 +35,7 @@ def replies(data):
 
 
 def stored(name):
-    """The code of the store of 7, where `a` is so many names behind the built-in ones."""
+    """The code of the store of 7, where `a` is the name at `name` behind the built-in ones."""
     return f"""0 argument r12, 0, __global int *
 1 move r28, r12, {26 + name}
 2 constant r36, int 0

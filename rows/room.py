@@ -1,4 +1,5 @@
-"""Outputs that take a part of the text: of each that fails the bytes that it took are written. `rows` gives the rows to tools/rows."""
+"""Outputs that take a part of the text, files and pipes: of each that fails the bytes that it took are written. `rows` gives the rows to
+tools/rows."""
 
 FIRST_RUN = """buffer a 8
 program p 1
@@ -30,15 +31,25 @@ ASKED = [
     ("dump FILE f", "__kernel void f() { y[0] = 1; }", "type 1 UnknownName at 20\n", 2),
 ]
 
+# what is told on standard error
+TOLD = [
+    ("run MISSING", "", "clsim: cannot read MISSING\n"),
+    ("run FILE", "buffer a\n", "clsim: line 1: bad line\n"),
+    ("check FOLDER", "", "clsim: cannot read FOLDER\n"),
+    ("dump FILE g", STORE, "clsim: no such kernel\n"),
+]
+
 # more than a writer holds back: a run that writes it piece by piece
 LONG = ("buffer a 1000\n" + "read a 0 1000\n" * 20, "ok\n" + f"data {'00' * 1000}\n" * 20)
+# bytes that a small pipe may hold behind those that its reader took
+HELD = 8_192
 
 
-def cut(asked, text, whole, room):
-    """The row of an output that takes so many bytes of the whole, and fails."""
-    title = f"{asked} of {text.splitlines()[0]}: room for {room} bytes of {len(whole)}"
+def cut(asked, text, whole, room, end="ROOM"):
+    """The row of an output that takes some bytes of the whole, and fails."""
+    title = f"{asked} of {text.splitlines()[0]}: {end} for {room} bytes of {len(whole)}"
     return dict(title=title, text=text, output=whole[:room], error="clsim: cannot write\n", status=2,
-                command=f"clsim {asked} > ROOM {room}")
+                command=f"clsim {asked} > {end} {room}")
 
 
 def rows():
@@ -50,3 +61,9 @@ def rows():
     text, whole = LONG
     for room in [*range(0, len(whole), 997), len(whole) - 1]:
         yield cut("run FILE", text, whole, room)
+    for room in range(0, len(whole) - HELD, 997):
+        yield cut("run FILE", text, whole, room, "PIPE")
+    for asked, text, whole in TOLD:
+        for room in range(len(whole) + 1):
+            yield dict(title=f"{asked}: room for {room} bytes of {len(whole)} on standard error", text=text, output="", error=whole[:room],
+                       status=2, command=f"clsim {asked} 2> ROOM {room}")

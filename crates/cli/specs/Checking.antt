@@ -1,5 +1,5 @@
 -- A source that is checked, and the line that tells what was found.
-use Rattle.std.specs.Prelude.{◌≡◌, ℕ, Bool, Option, None, Some, Result, Ok, Err, is_ok, List, []}
+use Rattle.std.specs.Prelude.{◌≡◌, ℕ, Bool, true, false, Option, None, Some, Result, Ok, Err, is_ok, List, []}
 use Rattle.clmodel.specs.Tree.{Program}
 use Rattle.device_store.specs.Builds.{Builds}
 use Rattle.device_store.specs.declared.command.BuildFault.{BuildFault}
@@ -38,3 +38,9 @@ Unchecked rest failures failures' old new fault.OutOfMemory = new ≡ old
 Unchecked rest failures failures' old new fault.Write = Untold rest old new
 Unchecked rest failures failures' old new (fault.BadLine n) = ⊥
 Unchecked rest failures failures' old new fault.NoSuchKernel = ⊥
+
+-- 0 where a source that was checked or dumped builds, else 2 (own)
+abbrev pub source_status_of : Result Bool RunFault → ℕ
+source_status_of (Ok true) = 0
+source_status_of (Ok false) = 2
+source_status_of (Err fault) = 2

@@ -4,7 +4,7 @@
 ghost use Rattle.std.specs.Prelude.{◌≡◌, [], IfOk, IfErr, OnOk};
 ghost use Rattle.ends.specs.Sink.{Puts};
 ghost use Rattle.simfile.specs.Lines.{check_line};
-ghost use Rattle.cli.specs.Checking.{Checked, Unchecked};
+ghost use Rattle.cli.specs.Checking.{Checked, Unchecked, source_status_of};
 
 use crate::session::RunFault;
 use device_store::build::build;
@@ -48,5 +48,15 @@ pub fn check_file<R: Read, W: Write>(
     match tell(fault, writer) {
         Ok(()) => Ok(fault.is_none()),
         Err(WriteFailed) => Err(RunFault::Write),
+    }
+}
+
+/// The status of a check or a dump: 0 where the source builds, else 2.
+pub fn source_status(outcome: &Result<bool, RunFault>) -> u8
+    ensures { result ≡ source_status_of outcome.now }
+{
+    match outcome {
+        Ok(true) => 0,
+        _ => 2,
     }
 }

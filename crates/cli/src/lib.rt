@@ -4,9 +4,7 @@
 pub mod checking;
 pub mod command_line;
 pub mod dumping;
-pub mod memory;
 pub mod session;
-pub mod streams;
 
 pub use checking::check_file;
 pub use command_line::command;

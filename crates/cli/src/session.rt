@@ -1,8 +1,10 @@
 //! A whole run: a script in, its replies out.
 #![tactic(auto)]
 
-ghost use Rattle.std.specs.Prelude.{◌≡◌, ◌≤◌, IfOk, IfErr, OnErr};
-ghost use Rattle.device.specs.Machine.{machine_of};
+ghost use Rattle.std.specs.Prelude.{◌≡◌, ◌≤◌, ℕ, IfOk, IfErr, OnErr};
+ghost use Rattle.device.specs.Machine.{machine_of, opening};
+ghost use Rattle.ends.specs.Sink.{Wrote, Stopped};
+ghost use Rattle.simfile.specs.Lines.{line};
 ghost use Rattle.cli.specs.Session.{one_end, AnswersOne, BreaksOne, Answered, Broken, Ran, Failed, status_of};
 
 use device::Device;
@@ -81,6 +83,15 @@ fn one_end(reply: &Reply, end: RunEnd) -> RunEnd
     }
 }
 
+/// Writes a reply's line. Answers what the replies come to with this one.
+fn write_answer<W: Write>(reply: &Reply, end: RunEnd, writer: &mut W) -> Result<RunEnd, WriteFailed>
+    ensures ok { IfOk result (λ next. Wrote (W.sink writer.old) (W.sink writer.new) (line reply.now) × (next ≡ one_end reply.now end)) }
+    ensures err { OnErr result (Stopped (W.sink writer.old) (W.sink writer.new) (line reply.now)) }
+{
+    write_reply(reply, writer)?;
+    Ok(one_end(reply, end))
+}
+
 /// Performs a command and writes its reply's line.
 fn answer<W: Write>(
     device: &mut Device,
@@ -93,13 +104,30 @@ fn answer<W: Write>(
     ensures err { OnErr result (BreaksOne (machine_of device.old) command (W.sink writer.old) (W.sink writer.new)) }
 {
     let reply = device.apply(command);
-    match write_reply(&reply, writer) {
-        Ok(()) => Ok(one_end(&reply, end)),
-        Err(WriteFailed) => Err(WriteFailed),
-    }
+    write_answer(&reply, end, writer)
 }
 
-/// Performs the commands in order, and writes a line for each reply.
+/// Performs the commands in order on a device, and writes a line for each reply.
+fn answer_all<W: Write>(
+    device: &mut Device,
+    commands: Vec<Command>,
+    writer: &mut W,
+) -> Result<RunEnd, WriteFailed>
+    ensures ok { IfOk result (λ end. (budget : ℕ) → machine_of device.old ≡ opening budget → Answered budget commands.items (W.sink writer.old) (W.sink writer.new) end) }
+    ensures err { OnErr result ((budget : ℕ) → machine_of device.old ≡ opening budget → Broken budget commands.items (W.sink writer.old) (W.sink writer.new)) }
+{
+    let mut end = RunEnd {
+        faulted: false,
+        refused: false,
+    };
+    for command in commands {
+        end = answer(device, command, end, writer)?;
+    }
+    writer.flush()?;
+    Ok(end)
+}
+
+/// Performs the commands in order on a new device, and writes a line for each reply.
 fn perform<W: Write>(
     alloc: Global,
     budget: u32,
@@ -111,15 +139,7 @@ fn perform<W: Write>(
     ensures err { OnErr result (Broken budget commands.items (W.sink writer.old) (W.sink writer.new)) }
 {
     let mut device = Device::new(alloc, budget);
-    let mut end = RunEnd {
-        faulted: false,
-        refused: false,
-    };
-    for command in commands {
-        end = answer(&mut device, command, end, writer)?;
-    }
-    writer.flush()?;
-    Ok(end)
+    answer_all(&mut device, commands, writer)
 }
 
 /// Reads a script, performs its commands on a new device and writes a line for each reply, in order and nothing else.

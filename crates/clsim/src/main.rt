@@ -1,15 +1,34 @@
 //! The program `clsim`: scripts for a simulated OpenCL 1.2 device.
 #![tactic(auto)]
 
-use cli::checking::check_file;
+ghost use Rattle.std.specs.Prelude.{◌≡◌, ◌≤◌, IfOk};
+ghost use Rattle.std.specs.Process.{exit_status};
+ghost use Rattle.cli.specs.Session.{status_of};
+ghost use Rattle.cli.specs.Checking.{source_status_of};
+
+use cli::checking::{check_file, source_status};
 use cli::command_line::{Invocation, command};
 use cli::dumping::dump_file;
 use cli::session::{Options, RunEnd, RunFault, run, status};
-use cli::streams::{Input, Output};
-use std::io::BufWriter;
+use std::io::{BufWriter, Printer};
 use std::process::ExitCode;
 use std::rt::Files;
 use std::{env, fs, io};
+use streams::{Input, Output};
+
+/// Opens a file to read, and standard output to be written.
+fn open<'a, R: Files + Print + AllocGlobal>(
+    rt: &'a R,
+    file: &str,
+) -> Result<(Input<R::File>, Output<Printer<'a, R>>), RunFault> {
+    let Ok(reader) = fs::open(rt, file) else {
+        return Err(RunFault::Read);
+    };
+    match BufWriter::new(rt.alloc(), io::writer(rt)) {
+        Ok(writer) => Ok((Input::new(reader), Output::new(writer))),
+        Err(_) => Err(RunFault::OutOfMemory),
+    }
+}
 
 /// Runs the script of a file, with the replies on standard output.
 fn run_script<R: Files + Print + AllocGlobal>(
@@ -17,27 +36,13 @@ fn run_script<R: Files + Print + AllocGlobal>(
     file: &str,
     options: Options,
 ) -> Result<RunEnd, RunFault> {
-    let Ok(script) = fs::open(rt, file) else {
-        return Err(RunFault::Read);
-    };
-    let Ok(replies) = BufWriter::new(rt.alloc(), io::writer(rt)) else {
-        return Err(RunFault::OutOfMemory);
-    };
-    let mut reader = Input::new(script);
-    let mut writer = Output::new(replies);
+    let (mut reader, mut writer) = open(rt, file)?;
     run(rt.alloc(), &mut reader, &mut writer, options)
 }
 
 /// Checks the source of a file, with the line that tells what was found on standard output.
 fn check_source<R: Files + Print + AllocGlobal>(rt: &R, file: &str) -> Result<bool, RunFault> {
-    let Ok(source) = fs::open(rt, file) else {
-        return Err(RunFault::Read);
-    };
-    let Ok(line) = BufWriter::new(rt.alloc(), io::writer(rt)) else {
-        return Err(RunFault::OutOfMemory);
-    };
-    let mut reader = Input::new(source);
-    let mut writer = Output::new(line);
+    let (mut reader, mut writer) = open(rt, file)?;
     check_file(rt.alloc(), &mut reader, &mut writer)
 }
 
@@ -47,68 +52,82 @@ fn dump_kernel<R: Files + Print + AllocGlobal>(
     file: &str,
     kernel: &str,
 ) -> Result<bool, RunFault> {
-    let Ok(source) = fs::open(rt, file) else {
-        return Err(RunFault::Read);
-    };
-    let Ok(text) = BufWriter::new(rt.alloc(), io::writer(rt)) else {
-        return Err(RunFault::OutOfMemory);
-    };
-    let mut reader = Input::new(source);
-    let mut writer = Output::new(text);
+    let (mut reader, mut writer) = open(rt, file)?;
     dump_file(rt.alloc(), &mut reader, kernel, &mut writer)
 }
 
-/// The status of a command on a source, which told what it had to tell. A fault is told on standard error.
-fn told(rt: &impl Eprint, outcome: Result<bool, RunFault>, file: &str) -> io::Result<u8> {
-    match outcome {
-        Ok(true) => Ok(0),
-        Ok(false) => Ok(2),
-        Err(fault) => {
-            tell(rt, fault, file)?;
-            Ok(2)
+/// Tells on standard error why a file came to no end. Where that fails too, the status alone tells it.
+fn tell(rt: &impl Eprint, fault: RunFault, file: &str) {
+    let _ = match fault {
+        RunFault::Read => eprintln!(rt; "clsim: {fault} {file}"),
+        _ => eprintln!(rt; "clsim: {fault}"),
+    };
+}
+
+/// The status of a run. A fault is told.
+fn end_run(rt: &impl Eprint, outcome: Result<RunEnd, RunFault>, file: &str) -> u8
+    ensures { result ≡ status_of outcome }
+{
+    if let Err(fault) = outcome {
+        tell(rt, fault, file);
+    }
+    status(&outcome)
+}
+
+/// The status of a check or a dump. A fault is told.
+fn end_source(rt: &impl Eprint, outcome: Result<bool, RunFault>, file: &str) -> u8
+    ensures { result ≡ source_status_of outcome }
+{
+    if let Err(fault) = outcome {
+        tell(rt, fault, file);
+    }
+    source_status(&outcome)
+}
+
+/// Does what the words of the command line ask for, and gives the status.
+fn perform<R: Files + Print + Eprint + AllocGlobal>(rt: &R, words: &[&str]) -> u8
+    ensures { result ≤ 2 }
+{
+    match command(rt.alloc(), words) {
+        Ok(Invocation::Run { file, options }) => end_run(rt, run_script(rt, file, options), file),
+        Ok(Invocation::Check { file }) => end_source(rt, check_source(rt, file), file),
+        Ok(Invocation::Dump { file, kernel }) => {
+            end_source(rt, dump_kernel(rt, file, kernel), file)
+        }
+        Err(error) => {
+            let _ = rt.eprint(&error);
+            2
         }
     }
 }
 
-/// Tells on standard error why a file came to no end.
-fn tell(rt: &impl Eprint, fault: RunFault, file: &str) -> io::Result<()> {
-    match fault {
-        RunFault::Read => eprintln!(rt; "clsim: cannot read {file}"),
-        _ => eprintln!(rt; "clsim: {fault}"),
-    }
-}
-
-/// Does what the command line asks for, and gives the status.
-fn perform(rt: &HostRuntime) -> io::Result<u8> {
+/// Does what the command line asks for, and gives the status. No memory may be left for its words.
+fn ask(rt: &HostRuntime) -> io::Result<u8>
+    ensures { IfOk result (λ status. status ≤ 2) }
+{
     let words: Vec<String> = env::args(rt)?.collect(rt.alloc())?;
     let mut texts = Vec::new(rt.alloc());
     texts.push("clsim")?;
     for word in words.iter().skip(1) {
         texts.push(word.as_str())?;
     }
-    match command(rt.alloc(), texts.as_slice()) {
-        Ok(Invocation::Run { file, options }) => {
-            let outcome = run_script(rt, file, options);
-            if let Err(fault) = outcome {
-                tell(rt, fault, file)?;
-            }
-            Ok(status(&outcome))
-        }
-        Ok(Invocation::Check { file }) => told(rt, check_source(rt, file), file),
-        Ok(Invocation::Dump { file, kernel }) => told(rt, dump_kernel(rt, file, kernel), file),
-        Err(error) => {
-            rt.eprint(&error)?;
-            Ok(2)
+    Ok(perform(rt, texts.as_slice()))
+}
+
+/// Does what the command line asks for, and gives the status of the process: where anything is told on standard error, it is 2,
+/// whatever that takes.
+fn end(rt: &HostRuntime) -> ExitCode
+    ensures { exit_status result ≤ 2 }
+{
+    match ask(rt) {
+        Ok(status) => ExitCode::from(status),
+        Err(_) => {
+            let _ = eprintln!(rt; "clsim: out of memory");
+            ExitCode::from(2)
         }
     }
 }
 
-fn main(rt: HostRuntime) -> io::Result<ExitCode> {
-    match perform(&rt) {
-        Ok(status) => Ok(ExitCode::from(status)),
-        Err(_) => {
-            eprintln!(&rt; "clsim: out of memory")?;
-            Ok(ExitCode::from(2))
-        }
-    }
+fn main(rt: HostRuntime) -> ExitCode {
+    end(&rt)
 }

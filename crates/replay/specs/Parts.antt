@@ -9,7 +9,7 @@ abbrev pub part_text : Part → List ℕ
 part_text (part.Text text) = text.now
 part_text (part.Name name) = name.now
 part_text (part.Number number) = decimal number
-part_text (part.Index number) = decimal number
+part_text (part.Number32 number) = decimal number
 part_text (part.Signed number) = signed_decimal number
 part_text (part.Clash clash) = clash_text clash
 part_text (part.Kind kind) = kind_text kind

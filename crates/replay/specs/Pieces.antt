@@ -13,5 +13,5 @@ abbrev pub piece_text : Piece → List ℕ
 piece_text (piece.Text text) = text.now
 piece_text (piece.Bytes bytes) = bytes.now
 piece_text (piece.Number number) = decimal number
-piece_text (piece.Index number) = decimal number
+piece_text (piece.Number32 number) = decimal number
 piece_text (piece.Signed number) = signed_decimal number

@@ -18,7 +18,7 @@ pub enum Piece<'a> {
     /// In decimal
     Number(u64),
     /// In decimal
-    Index(u32),
+    Number32(u32),
     /// In decimal, with a sign where it is below 0
     Signed(i64),
 }
@@ -42,7 +42,7 @@ fn write_piece<W: Write>(piece: &Piece<'_>, writer: &mut W) -> Result<(), WriteF
         Piece::Text(text) => writer.write(text.as_bytes()),
         Piece::Bytes(bytes) => writer.write(bytes),
         Piece::Number(number) => write_number(*number, writer),
-        Piece::Index(number) => write_number(u64::from(*number), writer),
+        Piece::Number32(number) => write_number(u64::from(*number), writer),
         Piece::Signed(number) => write_signed(*number, writer),
     }
 }

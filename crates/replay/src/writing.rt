@@ -12,6 +12,7 @@ use clmodel::access::{AccessKind, Clash, Class};
 use clmodel::action::Stop;
 use clmodel::fault::{Fault, Location};
 use clmodel::schedule::{Run, Schedule};
+use clmodel::text::Name;
 use ends::{Write, WriteFailed};
 
 /// A part of a fault's line.
@@ -20,7 +21,7 @@ enum Part<'a> {
     Text(&'a str),
     Name(&'a [u8]),
     Number(u64),
-    Index(u32),
+    Number32(u32),
     Signed(i64),
     Clash(Clash),
     Kind(AccessKind),
@@ -74,7 +75,7 @@ fn write_location<W: Write>(location: &Location, writer: &mut W) -> Result<(), W
         Location::Local { group, name } => write_pieces(
             &[
                 Piece::Text("local "),
-                Piece::Index(*group),
+                Piece::Number32(*group),
                 Piece::Text(" "),
                 Piece::Bytes(name.as_slice()),
             ],
@@ -86,7 +87,7 @@ fn write_location<W: Write>(location: &Location, writer: &mut W) -> Result<(), W
 fn write_later_turn<W: Write>(turn: u32, writer: &mut W) -> Result<(), WriteFailed>
     ensures { Puts (W.sink writer.old) result (W.sink writer.new) (later_turn_text turn) }
 {
-    write_pieces(&[Piece::Text(","), Piece::Index(turn)], writer)
+    write_pieces(&[Piece::Text(","), Piece::Number32(turn)], writer)
 }
 
 fn write_later_turns<W: Write>(turns: &[u32], writer: &mut W) -> Result<(), WriteFailed>
@@ -104,7 +105,7 @@ fn write_turns<W: Write>(turns: &[u32], writer: &mut W) -> Result<(), WriteFaile
     let Some((first, others)) = turns.split_first() else {
         return writer.write(b"");
     };
-    write_pieces(&[Piece::Text(" turns "), Piece::Index(*first)], writer)?;
+    write_pieces(&[Piece::Text(" turns "), Piece::Number32(*first)], writer)?;
     write_later_turns(others, writer)
 }
 
@@ -115,7 +116,7 @@ fn write_stop<W: Write>(stop: &Stop, writer: &mut W) -> Result<(), WriteFailed>
         return writer.write(b"end");
     };
     write_pieces(
-        &[Piece::Text("barrier "), Piece::Index(instance.site)],
+        &[Piece::Text("barrier "), Piece::Number32(instance.site)],
         writer,
     )?;
     write_turns(instance.turns.as_slice(), writer)
@@ -128,13 +129,16 @@ fn write_run<W: Write>(run: Run, writer: &mut W) -> Result<(), WriteFailed>
         Run::Item { item, count } => write_pieces(
             &[
                 Piece::Text(" "),
-                Piece::Index(item),
+                Piece::Number32(item),
                 Piece::Text("*"),
                 Piece::Number(count),
             ],
             writer,
         ),
-        Run::Release { group } => write_pieces(&[Piece::Text(" r"), Piece::Index(group)], writer),
+        Run::Release { group } => write_pieces(
+            &[Piece::Text(" r"), Piece::Number32(group)],
+            writer,
+        ),
     }
 }
 
@@ -163,7 +167,7 @@ fn write_part<W: Write>(part: &Part<'_>, writer: &mut W) -> Result<(), WriteFail
         Part::Text(text) => writer.write(text.as_bytes()),
         Part::Name(name) => writer.write(name),
         Part::Number(number) => write_number(*number, writer),
-        Part::Index(number) => write_number(u64::from(*number), writer),
+        Part::Number32(number) => write_number(u64::from(*number), writer),
         Part::Signed(number) => write_signed(*number, writer),
         Part::Clash(clash) => writer.write(clash_words(*clash).as_bytes()),
         Part::Kind(kind) => writer.write(kind_word(*kind).as_bytes()),
@@ -197,11 +201,11 @@ fn write_conflict<W: Write>(
     write_parts(
         &[
             Part::Clash(clash),
-            Part::Index(earlier.0),
+            Part::Number32(earlier.0),
             Part::Text(" "),
             Part::Kind(earlier.1),
             Part::Text(" item "),
-            Part::Index(later.0),
+            Part::Number32(later.0),
             Part::Text(" "),
             Part::Kind(later.1),
             Part::Text(" "),
@@ -226,11 +230,11 @@ fn write_divergence<'a, W: Write>(
     write_parts(
         &[
             Part::Text("fault 3 divergence item "),
-            Part::Index(item),
+            Part::Number32(item),
             Part::Text(" "),
             Part::Stop(stop),
             Part::Text(" item "),
-            Part::Index(other_item),
+            Part::Number32(other_item),
             Part::Text(" "),
             Part::Stop(other_stop),
         ],
@@ -251,7 +255,7 @@ fn write_bounds<W: Write>(
     write_parts(
         &[
             Part::Text("fault 4 bounds item "),
-            Part::Index(item),
+            Part::Number32(item),
             Part::Text(" "),
             Part::Kind(kind),
             Part::Text(" "),
@@ -276,7 +280,7 @@ fn write_unset<W: Write>(
     write_parts(
         &[
             Part::Text("fault 5 unset item "),
-            Part::Index(item),
+            Part::Number32(item),
             Part::Text(" "),
             Part::Kind(kind),
             Part::Text(" "),
@@ -290,7 +294,7 @@ fn write_unset<W: Write>(
 
 fn write_unset_variable<W: Write>(
     item: u32,
-    variable: &[u8],
+    variable: &Name,
     writer: &mut W,
 ) -> Result<(), WriteFailed>
     ensures { Puts (W.sink writer.old) result (W.sink writer.new)
@@ -299,9 +303,9 @@ fn write_unset_variable<W: Write>(
     write_parts(
         &[
             Part::Text("fault 5 unset item "),
-            Part::Index(item),
+            Part::Number32(item),
             Part::Text(" variable "),
-            Part::Name(variable),
+            Part::Name(variable.as_slice()),
         ],
         writer,
     )
@@ -311,7 +315,7 @@ fn write_unset_variable<W: Write>(
 fn write_private<'a, W: Write>(
     words: &'a str,
     item: u32,
-    array: &'a [u8],
+    array: &'a Name,
     element: &i64,
     writer: &mut W,
 ) -> Result<(), WriteFailed>
@@ -321,9 +325,9 @@ fn write_private<'a, W: Write>(
     write_parts(
         &[
             Part::Text(words),
-            Part::Index(item),
+            Part::Number32(item),
             Part::Text(" private "),
-            Part::Name(array),
+            Part::Name(array.as_slice()),
             Part::Text(" element "),
             Part::Signed(*element),
         ],
@@ -335,7 +339,7 @@ fn write_private<'a, W: Write>(
 fn write_item<W: Write>(words: &str, item: u32, writer: &mut W) -> Result<(), WriteFailed>
     ensures { Puts (W.sink writer.old) result (W.sink writer.new) (item_text words.now item) }
 {
-    write_parts(&[Part::Text(words), Part::Index(item)], writer)
+    write_parts(&[Part::Text(words), Part::Number32(item)], writer)
 }
 
 /// Writes a fault without its schedule.
@@ -375,35 +379,19 @@ fn write_fault<W: Write>(fault: &Fault, writer: &mut W) -> Result<(), WriteFaile
             item,
             array,
             element,
-        } => write_private(
-            "fault 4 bounds item ",
-            *item,
-            array.as_slice(),
-            element,
-            writer,
-        ),
+        } => write_private("fault 4 bounds item ", *item, array, element, writer),
         Fault::Unset {
             item,
             kind,
             location,
             byte,
         } => write_unset(*item, *kind, location, *byte, writer),
-        Fault::UnsetVariable { item, variable } => write_unset_variable(
-            *item,
-            variable.as_slice(),
-            writer,
-        ),
+        Fault::UnsetVariable { item, variable } => write_unset_variable(*item, variable, writer),
         Fault::UnsetElement {
             item,
             array,
             element,
-        } => write_private(
-            "fault 5 unset item ",
-            *item,
-            array.as_slice(),
-            element,
-            writer,
-        ),
+        } => write_private("fault 5 unset item ", *item, array, element, writer),
         Fault::DivideByZero { item } => write_item("fault 6 divide_by_zero item ", *item, writer),
         Fault::DivideOverflow { item } => write_item(
             "fault 7 divide_overflow item ",

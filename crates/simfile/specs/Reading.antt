@@ -58,7 +58,7 @@ or_else (Some x) f o = f x
 unfoldable pub value_at : List ℕ → Option (ℤ × List ℕ)
 value_at bytes = or_else (after (45 ∷ []) bytes) negative_at (positive_at bytes)
 
--- where so many lines end, behind so many bytes
+-- where the first n lines end, behind `at` bytes
 abbrev pub lines_end : ℕ → ℕ → List ℕ → Option ℕ
 lines_end n at [] = None
 lines_end n at (b ∷ bs) = if b == 10 then (if n == 1 then Some (at + 1) else lines_end (n - 1) (at + 1) bs) else lines_end n (at + 1) bs
@@ -70,7 +70,7 @@ before end read = do
   rest ← after (end ∷ []) field.1
   Some (field.0, rest)
 
--- so many lines, and the rest
+-- the first n lines, and the rest
 unfoldable pub lines_at : ℕ → List ℕ → Option (List ℕ × List ℕ)
 lines_at n bytes = do
   k ← lines_end n 0 bytes

@@ -12,7 +12,7 @@ abbrev pub line_feeds : List ℕ → ℕ
 line_feeds [] = 0
 line_feeds (b ∷ bs) = if b == 10 then 1 + line_feeds bs else line_feeds bs
 
--- so many lines, at least one, each with its line feed
+-- n lines, at least one, each with its line feed
 pub record AreLines (text : List ℕ) (n : ℕ) : Type 0 where
   pub front : List ℕ
   pub ends : text ≡ front ++ 10 ∷ []

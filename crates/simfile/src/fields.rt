@@ -303,7 +303,7 @@ pub fn bytes_of(alloc: Global, digits: &[u8]) -> Result<Bytes, AllocError>
     Ok(Bytes::new(bytes))
 }
 
-/// Where the first so many lines end, each with its line feed.
+/// Where the first `count` lines end, each with its line feed.
 fn lines_end(count: u64, bytes: &[u8]) -> Option<usize>
     requires { 0 < count }
     ensures value { result ≡ lines_end count 0 bytes.now }
@@ -321,7 +321,7 @@ fn lines_end(count: u64, bytes: &[u8]) -> Option<usize>
     None
 }
 
-/// So many lines, and the rest.
+/// The first `count` lines, and the rest.
 #[tactic(auto, unfolding(crate::specs::Reading::lines_at))]
 pub fn lines_at(count: u64, bytes: &[u8]) -> Option<(&[u8], &[u8])>
     requires { 0 < count }

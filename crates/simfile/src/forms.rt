@@ -71,7 +71,7 @@ pub enum Line<'a> {
 pub enum Setting<'a> {
     Buffer(&'a [u8]),
     Value(i128),
-    /// So many bytes of local memory
+    /// The bytes of local memory
     Local(u64),
 }
 

@@ -100,7 +100,7 @@ pub fn write_check<W: Write>(fault: Option<BuildFault>, writer: &mut W) -> Resul
     };
     let (words, at) = fault_in_source(fault);
     write_pieces(
-        &[Piece::Text(words), Piece::Index(at), Piece::Text("\n")],
+        &[Piece::Text(words), Piece::Number32(at), Piece::Text("\n")],
         writer,
     )
 }
@@ -164,7 +164,7 @@ fn write_refused<W: Write>(
             Piece::Text(word),
             Piece::Text(" "),
             Piece::Text(words),
-            Piece::Index(at),
+            Piece::Number32(at),
             Piece::Text("\n"),
         ],
         writer,

@@ -3,14 +3,38 @@
 ghost use Rattle.std.specs.Prelude.{◌<◌, ◌+◌, ◌^◌};
 ghost use Rattle.clmodel.specs.Cells.{byte_count};
 
-use clmodel::access::{Access, AccessKind, Clash, Class, Region, Width};
+use clmodel::access::{Access, AccessKind, Class, Region, Width};
 use shadow::Footprint;
 use std::test::Fail;
 
-/// An access of four bytes of a buffer.
-fn access(item: u32, number: u32, first: u16, kind: AccessKind) -> Access
+/// An item, a buffer, the first of four bytes, and the kind of an access.
+type Row = (u32, u32, u16, AccessKind);
+
+const ADD: AccessKind = AccessKind::Update(Class::Add);
+
+const KEPT: [Row; 4] = [
+    (0, 3, 254, AccessKind::Load),
+    (1, 3, 256, AccessKind::Load),
+    (2, 3, 600, ADD),
+    (3, 3, 600, ADD),
+];
+
+/// Accesses of an item of another group, with the item that each meets and the byte where.
+const ASKED: [(Row, Option<(u32, u64)>); 8] = [
+    ((9, 3, 256, AccessKind::Load), None),
+    ((9, 3, 256, AccessKind::Store), Some((0, 256))),
+    ((9, 3, 258, AccessKind::Store), Some((1, 258))),
+    ((9, 3, 598, AccessKind::Load), Some((2, 600))),
+    ((9, 3, 600, ADD), None),
+    ((9, 3, 603, AccessKind::Update(Class::Or)), Some((2, 603))),
+    ((9, 2, 256, AccessKind::Store), None),
+    ((9, 4, 256, AccessKind::Store), None),
+];
+
+fn access(row: Row) -> Access
     ensures { result.first + byte_count result.width < 2 ^ 64 }
 {
+    let (item, number, first, kind) = row;
     Access {
         item,
         region: Region::Buffer(number),
@@ -23,35 +47,16 @@ fn access(item: u32, number: u32, first: u16, kind: AccessKind) -> Access
 
 #[test]
 fn the_lowest_byte_and_there_the_earliest(rt: HostRuntime) -> Result<(), Fail> {
-    let add = AccessKind::Update(Class::Add);
     let mut footprint = Footprint::new(rt.alloc());
-    // item, buffer, first byte
-    for (item, number, first, kind) in [
-        (0, 3, 254, AccessKind::Load),
-        (1, 3, 256, AccessKind::Load),
-        (2, 3, 600, add),
-        (3, 3, 600, add),
-    ] {
-        footprint.add(rt.alloc(), &access(item, number, first, kind))?;
+    for row in KEPT {
+        footprint.add(rt.alloc(), &access(row))?;
     }
-    // an access, and whom it meets on which byte
-    let asked = [
-        (9, 3, 256, AccessKind::Load, None),
-        (9, 3, 256, AccessKind::Store, Some((0, 256))),
-        (9, 3, 258, AccessKind::Store, Some((1, 258))),
-        (9, 3, 598, AccessKind::Load, Some((2, 600))),
-        (9, 3, 600, add, None),
-        (9, 2, 256, AccessKind::Store, None),
-        (9, 4, 256, AccessKind::Store, None),
-    ];
-    for (item, number, first, kind, expected) in asked {
-        let met = match footprint.meeting(&access(item, number, first, kind)) {
+    for (row, expected) in ASKED {
+        let met = match footprint.meeting(&access(row)) {
             Some(meeting) => Some((meeting.mark.item, meeting.byte)),
             None => None,
         };
         assert_eq!(rt; met, expected);
     }
-    let other = footprint.meeting(&access(9, 3, 603, AccessKind::Update(Class::Or)));
-    assert!(rt; matches!(other, Some(meeting) if meeting.clash == Clash::Order));
     Ok(())
 }

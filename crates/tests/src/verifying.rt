@@ -1,6 +1,5 @@
 //! Code that is verified, and code that breaks a rule.
 
-use crate::failing_dumps::dump_over;
 use clmodel::action::Fences;
 use clmodel::setup::{AtomicFunction, WorkItemFunction};
 use clmodel::tree::{AddressSpace, PointerType, VariableType};
@@ -59,51 +58,6 @@ const WAIT: Instruction = Barrier {
         global: false,
     },
 };
-
-// A barrier in a loop, behind declarations.
-#[test]
-fn verified_code(rt: HostRuntime) -> Result<(), Fail> {
-    let alloc = rt.alloc();
-    let instructions = vec![in alloc;
-        Constant {
-            to: 0,
-            value: Value::new(IntType::Int, -7)
-        },
-        Local {
-            to: 2,
-            number: 2,
-            element: IntType::Int
-        },
-        UnsetArray {
-            array: 0,
-            length: 4
-        },
-        Enter { depth: 0 },
-        Turn { depth: 0 },
-        WAIT,
-        JumpIfZero { test: 0, by: 1 },
-        Back { by: 3 },
-        End,
-    ]?;
-    let code = verify(instructions, tables(alloc, &[0, 0, 0, 0, 1, 1, 1, 1, 0])?)?;
-    let (outcome, text) = dump_over(alloc, &code, u64::MAX)?;
-    assert_eq!(rt; outcome, Ok(()));
-    assert_eq!(rt;
-        text.as_slice(),
-        b"0 constant r0, int -7
-1 local r2, 2, int
-2 unset_array 0, 4
-3 enter 0
-4 turn 0
-5 barrier 3, 1, local
-6 jump_if_zero r0, 8
-7 back 4
-8 end
-"
-            .as_slice()
-    );
-    Ok(())
-}
 
 // Codes and the loops that are entered at each place: the first instruction, the ways out of the code and into loops, the ways
 // back, and loops in one another.
@@ -189,124 +143,130 @@ fn ways(rt: HostRuntime) -> Result<(), Fail> {
 
 /// Instructions each of which names a register or an entry of a table that isn't there, or one of a kind that it doesn't want.
 /// Changed in one number or one operator, each would fit.
-fn misfits() -> [Instruction; 25] {
-    [
-        Constant {
-            to: 1,
-            value: Value::new(IntType::Int, -7),
-        },
-        Unset { to: 5 },
-        Move {
-            to: 0,
-            from: 0,
-            name: 6,
-        },
-        Hold {
-            to: 2,
-            from: 4,
-            kind: POINTER,
-        },
-        Common {
-            to: 0,
-            from: 0,
-            other: IntType::Uint,
-        },
-        Unary {
-            to: 3,
-            operator: UnaryOperator::Not,
-            operand: 3,
-        },
-        Binary {
-            to: 2,
-            operator: BinaryOperator::Subtract,
-            left: 3,
-            right: 2,
-        },
-        Instruction::Builtin {
-            to: 0,
-            function: Builtin::Max,
-            first: 0,
-            second: None,
-        },
-        Instruction::Builtin {
-            to: 0,
-            function: Builtin::Max,
-            first: 0,
-            second: Some(1),
-        },
-        Dimensions { to: 0 },
-        Query {
-            to: 3,
-            function: WorkItemFunction::GlobalId,
-            dimension: 2,
-        },
-        Argument {
-            to: 2,
-            number: 0,
-            kind: POINTER,
-        },
-        Argument {
-            to: 0,
-            number: 2,
-            kind: INT,
-        },
-        Local {
-            to: 2,
-            number: 3,
-            element: IntType::Int,
-        },
-        UnsetArray {
-            array: 0,
-            length: 5,
-        },
-        UnsetArray {
-            array: 1,
-            length: 0,
-        },
-        PrivateLoad {
-            to: 0,
-            array: 1,
-            index: 0,
-            element: IntType::Int,
-            name: 5,
-        },
-        PrivateStore {
-            array: 0,
-            index: 0,
-            value: 2,
-            element: IntType::Int,
-            name: 5,
-        },
-        Point { to: 0, from: 0 },
-        Offset {
-            to: 2,
-            pointer: 2,
-            index: 4,
-        },
-        Load { to: 3, pointer: 4 },
-        Store {
-            pointer: 0,
-            value: 0,
-        },
-        Update {
-            function: AtomicFunction::Inc,
-            pointer: 4,
-            value: None,
-        },
-        Update {
-            function: AtomicFunction::Add,
-            pointer: 2,
-            value: Some(4),
-        },
-        JumpIfZero { test: 2, by: 0 },
-    ]
-}
+const MISFITS: [Instruction; 24] = [
+    Unset { to: 5 },
+    Move {
+        to: 0,
+        from: 0,
+        name: 6,
+    },
+    Hold {
+        to: 2,
+        from: 4,
+        kind: POINTER,
+    },
+    Common {
+        to: 0,
+        from: 0,
+        other: IntType::Uint,
+    },
+    Unary {
+        to: 3,
+        operator: UnaryOperator::Not,
+        operand: 3,
+    },
+    Binary {
+        to: 2,
+        operator: BinaryOperator::Subtract,
+        left: 3,
+        right: 2,
+    },
+    Instruction::Builtin {
+        to: 0,
+        function: Builtin::Max,
+        first: 0,
+        second: None,
+    },
+    Instruction::Builtin {
+        to: 0,
+        function: Builtin::Max,
+        first: 0,
+        second: Some(1),
+    },
+    Dimensions { to: 0 },
+    Query {
+        to: 3,
+        function: WorkItemFunction::GlobalId,
+        dimension: 2,
+    },
+    Argument {
+        to: 2,
+        number: 0,
+        kind: POINTER,
+    },
+    Argument {
+        to: 0,
+        number: 2,
+        kind: INT,
+    },
+    Local {
+        to: 2,
+        number: 3,
+        element: IntType::Int,
+    },
+    UnsetArray {
+        array: 0,
+        length: 5,
+    },
+    UnsetArray {
+        array: 1,
+        length: 0,
+    },
+    PrivateLoad {
+        to: 0,
+        array: 1,
+        index: 0,
+        element: IntType::Int,
+        name: 5,
+    },
+    PrivateStore {
+        array: 0,
+        index: 0,
+        value: 2,
+        element: IntType::Int,
+        name: 5,
+    },
+    Point { to: 0, from: 0 },
+    Offset {
+        to: 2,
+        pointer: 2,
+        index: 4,
+    },
+    Load { to: 3, pointer: 4 },
+    Store {
+        pointer: 0,
+        value: 0,
+    },
+    Update {
+        function: AtomicFunction::Inc,
+        pointer: 4,
+        value: None,
+    },
+    Update {
+        function: AtomicFunction::Add,
+        pointer: 2,
+        value: Some(4),
+    },
+    JumpIfZero { test: 2, by: 0 },
+];
 
 #[test]
 fn operands(rt: HostRuntime) -> Result<(), Fail> {
-    for (row, instruction) in misfits().iter().enumerate() {
-        let fault = fault_of(rt.alloc(), &[*instruction, End], &[0, 0])?;
+    for (row, instruction) in MISFITS.into_iter().enumerate() {
+        let fault = fault_of(rt.alloc(), &[instruction, End], &[0, 0])?;
         assert_eq!(rt; fault, Some(VerifyFault::Rejected), "{row}");
     }
+    Ok(())
+}
+
+// A number of `int` in a register of `uint`.
+#[test]
+fn a_constant_of_another_type(rt: HostRuntime) -> Result<(), Fail> {
+    let constant = Constant {
+        to: 1,
+        value: Value::new(IntType::Int, -7),
+    };
+    let fault = fault_of(rt.alloc(), &[constant, End], &[0, 0])?;
+    assert_eq!(rt; fault, Some(VerifyFault::Rejected));
     Ok(())
 }

@@ -1,4 +1,4 @@
-use Rattle.std.proofs.Common.{◌≡◌, ◌∙◌, ap, ap₂, subst, false, Ok, Result, ℕ}
+use Rattle.std.proofs.Common.{◌≡◌, ◌∙◌, ap, ap₂, subst, false, Ok, Result}
 use Rattle.std.specs.Prelude.{IfOk}
 use Rattle.std.proofs.lemmas.Result.{IfOk-weaker}
 use Rattle.clap.specs.Words.{App, AddsSubcommand, app_of, with_subcommand}

@@ -1,38 +1,8 @@
-use Rattle.std.proofs.Common.{◌≡◌, [], ◌∷◌, ◌++◌, refl, ap, sym, ◌∙◌, append_assoc, rules, arith, List, length}
-use Rattle.std.specs.Vec.Iter.{into_iter_items}
-use Rattle.std.proofs.lemmas.List.{append-nil}
-use Rattle.std.proofs.lemmas.Result.{err_from_is_err_and}
-use Rattle.cli.proofs.Sessions.{answered_none, answered_more, broken_at, answered_all, broken_last}
+use Rattle.std.proofs.lemmas.Result.{IfOk-weaker, on_err_weaker}
 use Rattle.cli.proofs.session.perform.Goals as goal
 
-nothing_left : {A : Type 0} (xs : List A) → length xs ≡ 0 → xs ≡ []
-nothing_left [] h = refl
-nothing_left (x ∷ xs) h = absurd (omega (arith, h))
-
-pub loop-command-init : goal.loop-command-init
-loop-command-init g c = record { split = search rules; answered = answered_none c.args.budget _ _ c.new-device.ensures }
-
-pub loop-command-preserved : goal.loop-command-preserved
-loop-command-preserved g c = record {
-  split = c.loop-command.invariant.split ∙ (ap (λ l. c.loop-command.yielded ++ l) c.in-Some.ensures.steps.0 ∙ sym (append_assoc c.loop-command.yielded (c.in-Some.command ∷ []) (into_iter_items c.next.new.self)));
-  answered = answered_more c.in-Some.command c.loop-command.invariant.answered c.in_ok-end.ensures.ok;
-}
-
-pub returns-in_err-end-clause-err : goal.returns-in_err-end-clause-err
-returns-in_err-end-clause-err g c =
-    let p = err_from_is_err_and c.from_residual.result c.from_residual.ensures.1 in
-    let split = c.loop-command.invariant.split ∙ ap (λ l. c.loop-command.yielded ++ l) c.in-Some.ensures.steps.0 in
-    rw p.1 (broken_at c.args.commands.items (into_iter_items c.next.new.self) c.in-Some.command split c.loop-command.invariant.answered c.in_err-end.ensures.err)
-
-pub returns-in_err-flush-clause-err : goal.returns-in_err-flush-clause-err
-returns-in_err-flush-clause-err g c =
-    let p = err_from_is_err_and c.from_residual-in_err-flush.result c.from_residual-in_err-flush.ensures.1 in
-    let empty = nothing_left (into_iter_items c.loop-command.command-iterator) (omega (arith, c.in-None.ensures.steps.0, c.loop-command.command-iterator.rest.ok)) in
-    let all : c.args.commands.items ≡ c.loop-command.yielded = c.loop-command.invariant.split ∙ (ap (λ l. c.loop-command.yielded ++ l) empty ∙ append-nil c.loop-command.yielded) in
-    rw p.1 (broken_last c.args.commands.items all c.loop-command.invariant.answered c.in_err-flush.ensures.bytes)
-
 pub returns-clause-ok : goal.returns-clause-ok
-returns-clause-ok g c =
-    let empty = nothing_left (into_iter_items c.loop-command.command-iterator) (omega (arith, c.in-None.ensures.steps.0, c.loop-command.command-iterator.rest.ok)) in
-    let all : c.args.commands.items ≡ c.loop-command.yielded = c.loop-command.invariant.split ∙ (ap (λ l. c.loop-command.yielded ++ l) empty ∙ append-nil c.loop-command.yielded) in
-    answered_all c.args.commands.items all c.loop-command.invariant.answered c.in_ok-flush.ensures.bytes c.in_ok-flush.ensures.released
+returns-clause-ok g c = IfOk-weaker c.answer_all.result _ _ (λ end h. h c.args.budget c.new-device.ensures) c.answer_all.ensures.ok
+
+pub returns-clause-err : goal.returns-clause-err
+returns-clause-err g c = on_err_weaker c.answer_all.result (λ h. h c.args.budget c.new-device.ensures) c.answer_all.ensures.err

@@ -1,4 +1,4 @@
-use Rattle.std.proofs.Common.{◌++◌, refl, rules}
+use Rattle.std.proofs.Common.{◌++◌, refl, sym, rules}
 use Rattle.std.proofs.lemmas.Result.{err_from_is_err_and}
 use Rattle.clsyntax_print.specs.Printing.{infix_kind}
 use Rattle.clsyntax_print.proofs.Lists.{behind_commas, terms_first, term_call, term_binary, term_choice}
@@ -33,6 +33,27 @@ write_between-returns-in_err-write_expression g t c rest =
 
 pub write_between-returns : goal.write_between-returns
 write_between-returns g t c rest = passes_then _ rest c.write_tokens-2.result (passed_then (c.in_ok-write_tokens.ensures _) (c.in_ok-write_expression.ensures (c.args.back.now ++ rest))) (c.write_tokens-2.ensures rest)
+
+pub write_expression-returns-in-Number : goal.write_expression-returns-in-Number
+write_expression-returns-in-Number g t c rest = rw c.in-Number.is (c.write_tokens.ensures rest)
+
+pub write_expression-returns-in-Variable : goal.write_expression-returns-in-Variable
+write_expression-returns-in-Variable g t c rest = rw c.in-Variable.is (c.write_tokens-in-Variable.ensures rest)
+
+pub write_expression-returns-in-Element : goal.write_expression-returns-in-Element
+write_expression-returns-in-Element g t c rest = rw (c.in-Element.is, sym c.deref.ensures) (c.write_between.ensures rest)
+
+pub write_expression-returns-in-ElementAddress : goal.write_expression-returns-in-ElementAddress
+write_expression-returns-in-ElementAddress g t c rest = rw (c.in-ElementAddress.is, sym c.deref-in-ElementAddress.ensures) (c.write_between-in-ElementAddress.ensures rest)
+
+pub write_expression-returns-in-Dereference : goal.write_expression-returns-in-Dereference
+write_expression-returns-in-Dereference g t c rest = rw (c.in-Dereference.is, sym c.deref-in-Dereference.ensures) (c.write_between-in-Dereference.ensures rest)
+
+pub write_expression-returns-in-Unary : goal.write_expression-returns-in-Unary
+write_expression-returns-in-Unary g t c rest = rw (c.in-Unary.is, sym c.deref-in-Unary.ensures, sym c.unary_kind.ensures) (c.write_between-in-Unary.ensures rest)
+
+pub write_expression-returns-in-Cast : goal.write_expression-returns-in-Cast
+write_expression-returns-in-Cast g t c rest = rw (c.in-Cast.is, sym c.deref-in-Cast.ensures) (c.write_between-in-Cast.ensures rest)
 
 pub write_expression-returns-in_err-write_arguments-in-Call : goal.write_expression-returns-in_err-write_arguments-in-Call
 write_expression-returns-in_err-write_arguments-in-Call g t c rest =

@@ -2,7 +2,7 @@ use Rattle.std.proofs.Common.{rules}
 use Rattle.replay.proofs.writing.write_fault.Goals as goal
 
 pub returns-in-UnsetElement : goal.returns-in-UnsetElement
-returns-in-UnsetElement g c = rw c.in-UnsetElement.is (rw c.as_slice-in-UnsetElement.ensures at c.write_private-in-UnsetElement.ensures)
+returns-in-UnsetElement g c = rw c.in-UnsetElement.is c.write_private-in-UnsetElement.ensures
 
 pub returns-in-DivideByZero : goal.returns-in-DivideByZero
 returns-in-DivideByZero g c = rw c.in-DivideByZero.is (search rules)

@@ -1,6 +1,6 @@
 use Rattle.ends.proofs.Puts.{pushed_slice, pushed_kept}
-use Rattle.cli.proofs.streams.push_all.Goals as goal
-use Rattle.cli.proofs.streams.push_all.Goals.{in-Ok, in-Err+else-ne}
+use Rattle.streams.proofs.push_all.Goals as goal
+use Rattle.streams.proofs.push_all.Goals.{in-Ok, in-Err+else-ne}
 
 pub loop-preserved : goal.loop-preserved
 loop-preserved g c =
