@@ -9,7 +9,7 @@ abbrev pub Are : Option (List ℕ) → List ℕ → Type 0
 Are None bytes = ⊤
 Are (Some xs) bytes = bytes ≡ xs
 
--- all that is left, or a failure that is counted, or want of memory
+-- all that is left, or a failure that is counted, or out of memory
 abbrev pub ReadsAll : {A : Type 0} → (A → List ℕ) → Option (List ℕ) → ℕ → Result A ReadFault → ℕ → Type 0
 ReadsAll items rest failures (Ok v) failures' = Are rest (items v) × (failures' ≡ failures)
 ReadsAll items rest failures (Err fault.Failed) failures' = CountsUp failures failures'

@@ -11,7 +11,7 @@ use Rattle.item_run.specs.Running.{Running, action_of}
 use Rattle.group_run.specs.Fits.{AreAnswered, AreStarted}
 use Rattle.group_run.proofs.Lists.{get_set}
 
--- the first items, so many, were answered, and the others are as before
+-- the first k items were answered, and the others are as before
 pub record Answers {I : Type 0} (acts : I → List Answer → Action) (answer : Answer) (old new : List I) (k : ℕ) : Type 0 where
   pub many : length new ≡ length old
   pub done : (j : ℕ) (y : I) → j < k → slice_get new j ≡ Some y

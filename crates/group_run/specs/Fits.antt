@@ -18,7 +18,7 @@ use Rattle.spaces_base.specs.declared.space.SpaceFault.TheVariants as space_faul
 use Rattle.joining.specs.Group.{Plan, IsGroup}
 use Rattle.group_run.specs.Logs.{IsLogged}
 
--- a program's spaces, one for each of so many regions of a kind, hold what a memory has there
+-- a program's spaces, one for each of `count` regions of a kind, hold what a memory has there
 pub record Holds {S : Type 0} (bytes : S → List (Option ℕ)) (launch : Launch) (count : ℕ) (region_at : ℕ → Region) (spaces : List S) (memory : Memory) : Type 0 where
   pub many : length spaces ≡ count
   pub sized : (n : ℕ) (x : S) → slice_get spaces n ≡ Some x → length (bytes x) ≡ bytes_of launch (region_at n)
@@ -47,7 +47,7 @@ pub record AreAnswered {I : Type 0} (acts : I → List Answer → Action) (answe
   pub each : (k : ℕ) (y : I) → slice_get new k ≡ Some y
       → (x : I) × (slice_get old k ≡ Some x) × ((answers : List Answer) → acts y answers ≡ acts x (answer ∷ answers))
 
--- items of a launch before their first actions, so many from the first on
+-- items of a launch before their first actions, `count` from the first on
 pub record AreStarted (launch : Launch) (first count : ℕ) (items : List Running) : Type 0 where
   pub many : length items ≡ count
   pub each : (k : ℕ) (i : Running) → slice_get items k ≡ Some i → (answers : List Answer) → action_of i answers ≡ launch.next (first + k) answers
@@ -56,7 +56,7 @@ pub record AreStarted (launch : Launch) (first count : ℕ) (items : List Runnin
 abbrev pub group_left : Plan → ℕ → State → ℕ
 group_left plan bound state = sum_below (λ k. bound - length (state.answers (plan.first + k))) plan.count
 
--- so many events were made, and there is room for the number of one more where an item can still be answered
+-- n events were made, and there is room for the number of one more where an item can still be answered
 pub record Counts (plan : Plan) (made : ℕ) (events : Events) (state : State) : Type 0 where
   pub counted : made ≡ length events
   pub bound : ℕ

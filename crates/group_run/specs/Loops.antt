@@ -37,7 +37,7 @@ IsMade plan old new item (made.Refused fault) =
     (events : Events) (state : State) → old events state → Accesses plan state item
     → (item_turn plan.launch state plan.first item (next_action plan.launch state item) ≡ Reports fault) × new events state
 
--- the first items of the group, so many, are at the first one's stop
+-- the first k items of the group are at the first one's stop
 abbrev pub AtOneStop : Plan → State → ℕ → Type 0
 AtOneStop plan state count =
     (k : ℕ) → k < count → both_stop (stop_of (next_action plan.launch state plan.first)) (stop_of (next_action plan.launch state (plan.first + k))) ≡ true

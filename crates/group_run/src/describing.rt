@@ -12,7 +12,7 @@ use clmodel::fault::{Fault, Location};
 use clmodel::text::Name;
 use std::alloc::AllocError;
 
-/// A launch (OpenCL 1.2, section 3.2) with the names that reports use. Errors are want of memory.
+/// A launch (OpenCL 1.2, section 3.2) with the names that reports use. Errors are out of memory.
 pub trait Described {
     ghost launch: { Self → Launch };
 

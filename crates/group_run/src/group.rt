@@ -79,7 +79,7 @@ fn conflict_of(hit: Hit) -> Conflict
     }
 }
 
-/// Notes an access, and answers the fault that it makes, if it does. An error is want of memory.
+/// Notes an access, and answers the fault that it makes, if it does. An error is out of memory.
 fn judge<D: Described, L: AccessLog>(
     launch: &D,
     log: &mut L,

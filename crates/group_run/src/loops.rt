@@ -138,7 +138,7 @@ fn run_interval<M: Machine>(m: &mut M, runs: &mut Runs) -> Result<Option<Fault>,
     Ok(None)
 }
 
-/// Runs a group to its end, and answers its report, if it has one. An error is want of memory.
+/// Runs a group to its end, and answers its report, if it has one. An error is out of memory.
 pub fn run_items<M: Machine>(m: &mut M, runs: &mut Runs) -> Result<Option<Fault>, AllocError>
     ghost origin: { State }
     requires whole { IsGroup (M.plan m.old) }

@@ -54,7 +54,7 @@ pub trait Machine {
         ensures fits_same { (events : Events) (s : State) → fits self.old events s → fits self.new events s }
         ensures value { (events : Events) (s : State) → fits self.old events s → next_action (plan self.old).launch s ((plan self.old).first + k) ≡ result };
 
-    /// Does the access that an item does next. An error is want of memory.
+    /// Does the access that an item does next. An error is out of memory.
     fn access(&mut self, k: u32) -> Result<Made, AllocError>
         requires inside { k < (plan self.old).count }
         requires next { (events : Events) × (s : State) × (fits self.old events s) × Accesses (plan self.old) s ((plan self.old).first + k) }
@@ -73,7 +73,7 @@ pub trait Machine {
             → (instance : Instance) (fences : Fences) → next_action (plan self.old).launch s (plan self.old).first ≡ Barrier instance fences
             → (n : State) × (step (plan self.old).launch s (Release (plan self.old).group) ≡ Some n) × (fits self.new (events ++ Release (plan self.old).group ∷ []) n) };
 
-    /// The fault of an item that can do nothing more. An error is want of memory.
+    /// The fault of an item that can do nothing more. An error is out of memory.
     fn fault_of(&self, item: u32, cause: Cause) -> Result<Fault, AllocError>
         ensures { IfOk result (λ fault. fault ≡ fault_of (plan self.now).launch item cause) };
 }

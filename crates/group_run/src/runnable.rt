@@ -18,7 +18,7 @@ pub trait Runnable: Described {
     fn local_sizes(&self) -> &[u64]
         ensures { result.now ≡ (Self.launch self.now).local_sizes };
 
-    /// An item before its first action. An error is want of memory.
+    /// An item before its first action. An error is out of memory.
     fn start(&self, alloc: Global, item: u32) -> Result<Item<'_>, AllocError>
         ensures { IfOk result (λ started. (answers : List Answer) → action_of started answers ≡ (Self.launch self.now).next item answers) };
 }

@@ -33,7 +33,7 @@ fn local_objects(alloc: Global, sizes: &[u64]) -> Result<Vec<LocalMem>, AllocErr
     Ok(locals)
 }
 
-/// So many items from the first on, before their first actions.
+/// `count` items from the first on, before their first actions.
 #[tactic(auto, using(crate::proofs::Items::started_more, crate::proofs::Items::started_none))]
 fn start_items<'a, D: Runnable>(
     alloc: Global,
@@ -51,7 +51,7 @@ fn start_items<'a, D: Runnable>(
     Ok(items)
 }
 
-/// The canonical run of one group of a launch, on spaces for its buffers that hold their first bytes. An error is want of memory.
+/// The canonical run of one group of a launch, on spaces for its buffers that hold their first bytes. An error is out of memory.
 pub fn run_group<D: Runnable, G: Space + Drop, L: AccessLog + Drop>(
     alloc: Global,
     launch: &D,

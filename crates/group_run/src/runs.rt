@@ -69,7 +69,7 @@ impl Runs {
         }
     }
 
-    /// Adds an event. An error is want of memory.
+    /// Adds an event. An error is out of memory.
     pub fn push(&mut self, event: Event) -> Result<(), AllocError>
         requires { length self.old + 1 < 2 ^ 64 }
         ensures added { OnOk result (self.new ≡ self.old ++ event ∷ []) }

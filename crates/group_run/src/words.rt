@@ -38,7 +38,7 @@ pub fn region_of(group: u32, object: Object) -> Region
     }
 }
 
-/// The first byte of an element of so many bytes, or `None` where the element is out of range.
+/// The first byte of an element of n bytes, or `None` where the element is out of range.
 pub fn first_byte(bytes: u64, element: i64, count: u64) -> Option<u64>
     requires { 0 < count }
     ensures value { result ≡ first_byte bytes element count }

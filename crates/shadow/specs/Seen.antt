@@ -51,7 +51,7 @@ against k byte Untouched = None
 against k byte (Touched a) = met k byte a
 against k byte (Mixed a b) = or_else (met k byte a) (met k byte b)
 
--- the same on the lowest of so many bytes
+-- the same on the lowest of n bytes
 abbrev pub against_from : AccessKind → (ℕ → Seen) → ℕ → ℕ → Option Meeting
 against_from k cells byte zero = None
 against_from k cells byte (suc count) = or_else (against k byte (cells byte)) (against_from k cells (suc byte) count)

@@ -15,7 +15,7 @@ pub(crate) struct Pages {
     pub(crate) pages: Vec<Vec<Seen>>,
 }
 
-/// Places for so many pages.
+/// Places for `count` pages.
 #[tactic(auto, using(crate::proofs::Cells::pushed))]
 fn grow(alloc: Global, pages: &mut Vec<Vec<Seen>>, count: usize) -> Result<(), AllocError>
     ensures long { OnOk result (count ≤ length pages.new.items) }
@@ -27,7 +27,7 @@ fn grow(alloc: Global, pages: &mut Vec<Vec<Seen>>, count: usize) -> Result<(), A
     Ok(())
 }
 
-/// Cells for so many bytes of a page.
+/// Cells for `count` bytes of a page.
 fn fill(row: &mut Vec<Seen>, count: usize) -> Result<(), AllocError>
     ensures long { OnOk result (count ≤ length row.new.items) }
     ensures same { (k : ℕ) → slice_index_or row.new.items k seen.Untouched ≡ slice_index_or row.old.items k seen.Untouched }
@@ -49,7 +49,7 @@ fn mark_byte(pages: &mut Vec<Vec<Seen>>, byte: usize, mark: Mark)
     row[byte % 256] = seen_with(row[byte % 256], mark);
 }
 
-/// Marks so many bytes from the first on.
+/// Marks `count` bytes from the first on.
 pub(crate) fn mark_all(pages: &mut Vec<Vec<Seen>>, mark: Mark, first: usize, count: usize)
     requires inside { first + count < 2 ^ 64 }
     requires there { (byte : ℕ) → first ≤ byte → byte < first + count → IsPage pages.old.items (byte / 256) }
@@ -84,7 +84,7 @@ impl Pages {
         }
     }
 
-    /// The conflict of an access of a kind on the lowest of so many bytes that has one.
+    /// The conflict of an access of a kind on the lowest of n bytes that has one.
     pub(crate) fn against(&self, kind: AccessKind, first: usize, count: usize) -> Option<Meeting>
         requires { first + count < 2 ^ 64 }
         ensures { result ≡ against_from kind (cell_in self.now.pages.items) first count }

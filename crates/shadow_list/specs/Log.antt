@@ -33,7 +33,7 @@ abbrev pub hit_on : Bool → Entry → ℕ → List Entry → Option Hit
 hit_on one_group x byte [] = None
 hit_on one_group x byte (y ∷ log) = or_else (hit_between one_group y x byte) (hit_on one_group x byte log)
 
--- the same on the lowest of so many bytes
+-- the same on the lowest of n bytes
 abbrev pub hit_from : Bool → Entry → List Entry → ℕ → ℕ → Option Hit
 hit_from one_group x log byte zero = None
 hit_from one_group x log byte (suc count) = or_else (hit_on one_group x byte log) (hit_from one_group x log (suc byte) count)

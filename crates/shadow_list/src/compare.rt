@@ -35,7 +35,7 @@ fn unordered(one_group: bool, x: &Access, y: &Access) -> bool
     x.item != y.item && (!one_group || x.interval == y.interval)
 }
 
-/// Whether a byte is one of so many from the first on.
+/// Whether a byte is one of `count` from the first on.
 fn covers(first: u64, count: u64, byte: u64) -> bool
     ensures { result ≡ covers first count byte }
 {
