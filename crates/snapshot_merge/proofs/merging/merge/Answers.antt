@@ -29,11 +29,20 @@ bytes_of overlay = overlay.bytes
 pub loop-result-init : goal.loop-result-init
 loop-result-init g c =
     let l = launch_of (setup_of c.args.launch.now) (bytes_in c.args.buffers.now) in
-    let all : into_iter_items c.into_iter-result-iterator.result ≡ c.args.results.items = c.into_iter-result-iterator.ensures.into_iter_gives in
+    let all : into_iter_items c.into_iter-result-iterator.result ≡ c.args.results.items = c.into_iter-result-iterator.ensures.into_iter_gives.0 in
     record {
       held = c.in_ok-sofar.ensures;
       rest = subst (AreResults bytes_of g.L.Accesses.log l 0) (sym all) c.requires.results;
     }
+
+pub overflow_add-number : goal.overflow_add-number
+overflow_add-number g c =
+    let l = launch_of (setup_of c.args.launch.now) (bytes_in c.args.buffers.now) in
+    let now = subst (AreResults bytes_of g.L.Accesses.log l c.loop-result.group) c.in-Some.ensures.steps.0 c.loop-result.invariant.rest in
+    let there : HasGroup l c.loop-result.group = first_there bytes_of g.L.Accesses.log l c.loop-result.group c.in-Some.result (into_iter_items c.next.new.self) now in
+    let below : c.loop-result.group < c.group_count-groups.result
+    = there_below c.loop-result.group c.group_count-groups.result l.group_size l.items c.group_count-groups.ensures.count there in
+    omega (arith, below, c.group_count-groups.type_inv)
 
 pub overflow_add-group : goal.overflow_add-group
 overflow_add-group g c =
