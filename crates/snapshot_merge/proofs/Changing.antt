@@ -1,9 +1,9 @@
 -- Changes of bytes, one after another.
-use Rattle.std.proofs.Common.{◌≡◌, ℕ, zero, suc, ◌+◌, ◌<◌, ◌≤◌, ◌⊎◌, ◌==◌, ◌&&◌, Bool, true, false, Option, None, Some, List, [], ◌∷◌, ◌++◌, length, set, take, drop, map, refl, sym, ap, ap₂, ◌∙◌, subst, inl, inr, arith, add-one, ne_eqb, eq-eqb, length-set}
+use Rattle.std.proofs.Common.{◌≡◌, ℕ, zero, suc, ◌+◌, ◌<◌, ◌≤◌, ◌⊎◌, ◌==◌, ◌&&◌, Bool, true, false, Option, None, Some, List, [], ◌∷◌, ◌++◌, length, set, take, drop, map, refl, sym, ap, ap₂, ◌∙◌, subst, inl, inr, arith, eq-eqb, length-set}
 use Rattle.std.specs.Prelude.{if◌then◌else◌, slice_get, slice_index_or}
-use Rattle.std.specs.List.{range_with_len, flat_map}
+use Rattle.std.specs.List.{range_with_len}
 use Rattle.std.specs.Option.{option_map}
-use Rattle.std.proofs.lemmas.Bool.{and_parts, and_from, cases_lt, eqb-true, true≢false}
+use Rattle.std.proofs.lemmas.Bool.{and_parts, and_from, eqb-true, true≢false}
 use Rattle.std.proofs.lemmas.Bool.Decides.{eqb_tells}
 use Rattle.std.proofs.lemmas.Option.{slice_get-get_or, slice_get_within}
 use Rattle.clmodel.specs.Cells.{covers, byte_count}
@@ -136,9 +136,9 @@ changed_nothing old c out =
     same n b None e = refl
     same n b (Some v) e =
         ap Some (sym (if_false (is_of n b c) c.value v (is_there n b c (λ p q.
-            let w : b < length (row old n) = slice_get_within (row old n) b v e in
-            let s : length (row old n) ≤ b = subst (λ m. length (row old m) ≤ b) p (subst (λ j. length (row old c.buffer) ≤ j) q out) in
-            absurd (omega (arith, w, s))))))
+        let w : b < length (row old n) = slice_get_within (row old n) b v e in
+        let s : length (row old n) ≤ b = subst (λ m. length (row old m) ≤ b) p (subst (λ j. length (row old c.buffer) ≤ j) q out) in
+        absurd (omega (arith, w, s))))))
 
 pub row_past : (xs : List (List ℕ)) (n : ℕ) → length xs ≤ n → row xs n ≡ []
 row_past [] n h = refl
@@ -165,9 +165,9 @@ range_put f n first zero b old h = let p = covers_parts first zero b h in absurd
 range_put f n first (suc count) b old h =
     go
     (λ a.
-        let p = covers_parts first (suc count) b h in
-        range_put f n (first + 1) count b (if is_of n b (record { buffer = n; byte = first; value = f first }) then f first else old)
-        (covers_from (first + 1) count b (omega (arith, a)) (omega (arith, p.1)))) (eqb_tells first b)
+    let p = covers_parts first (suc count) b h in
+    range_put f n (first + 1) count b (if is_of n b (record { buffer = n; byte = first; value = f first }) then f first else old)
+    (covers_from (first + 1) count b (omega (arith, a)) (omega (arith, p.1)))) (eqb_tells first b)
   where
     c : Change
     c = record { buffer = n; byte = first; value = f first }

@@ -1,6 +1,6 @@
 -- What the joined groups leave in the buffers, as code holds it.
-use Rattle.std.proofs.Common.{◌≡◌, ℕ, zero, suc, ◌+◌, ◌*◌, ◌/◌, ◌%◌, ◌<◌, ◌≤◌, ◌⊎◌, ◌&&◌, Bool, true, false, Option, None, Some, List, [], ◌∷◌, ◌++◌, length, map, refl, sym, ap, ap₂, ◌∙◌, subst, inl, inr, arith, ⊎_elim}
-use Rattle.std.specs.Prelude.{reverse, slice_get, slice_index_or, if◌then◌else◌}
+use Rattle.std.proofs.Common.{◌≡◌, ℕ, zero, suc, ◌+◌, ◌*◌, ◌/◌, ◌%◌, ◌<◌, ◌⊎◌, Bool, true, false, Option, None, Some, List, [], ◌∷◌, ◌++◌, length, map, refl, sym, ap, ap₂, ◌∙◌, subst, inl, inr, arith, ⊎_elim}
+use Rattle.std.specs.Prelude.{reverse, slice_get, if◌then◌else◌}
 use Rattle.std.specs.Option.{option_map, unwrap_or}
 use Rattle.std.proofs.lemmas.List.{reverse-append, map-append}
 use Rattle.std.proofs.lemmas.Bool.{and_parts, and_from, true≢false}
@@ -8,27 +8,26 @@ use Rattle.std.proofs.lemmas.Option.{slice_get-get_or, slice_get_within}
 use Rattle.clmodel.specs.Cells.{Cells, cells_of, covers, byte_count, byte_of, number, joined}
 use Rattle.clmodel.specs.Launch.{Launch, same_region}
 use Rattle.clmodel.specs.Law.{Keeps, Logged}
-use Rattle.clmodel.specs.Run.{Memory, initial, cells_from, contents, left}
+use Rattle.clmodel.specs.Run.{Memory, initial, cells_from, contents}
 use Rattle.clmodel.specs.declared.access.Access.{Access}
 use Rattle.clmodel.specs.declared.access.AccessKind.{AccessKind}
 use Rattle.clmodel.specs.declared.access.AccessKind.TheVariants as kind
 use Rattle.clmodel.specs.declared.access.Region.{Region}
 use Rattle.clmodel.specs.declared.access.Region.TheVariants as region
-use Rattle.clmodel.proofs.Steps.{none_some, some_inj, if_true, if_false}
-use Rattle.clmodel.proofs.CellLaws.{number_frame, covers_parts, covers_from}
+use Rattle.clmodel.proofs.Steps.{none_some, some_inj, if_false}
+use Rattle.clmodel.proofs.CellLaws.{number_frame, covers_parts}
 use Rattle.clmodel.proofs.Swaps.{same_region-true}
 use Rattle.joining.specs.Memory.{joined_number, joined_update, joined_memory, class_at, writes, at_byte, wrote}
 use Rattle.joining.specs.Crossings.{crossing}
 use Rattle.joining.specs.Parts.{Part, IsGrouped, IsPart}
 use Rattle.joining.specs.Join.{Joined}
 use Rattle.joining.specs.Steps.{HasGroup, IsJoined, IsJoinedByte, BytesAreJoined}
-use Rattle.joining.proofs.Over.{wrote_some, wrote_from, logged_own, logged_lower}
+use Rattle.joining.proofs.Over.{wrote_some, wrote_from}
 use Rattle.group_run.specs.Logs.{accesses_of}
 use Rattle.shadow_list.specs.declared.log.Entry.{Entry}
-use Rattle.snapshot_merge.specs.declared.changes.Change.{Change}
 use Rattle.snapshot_merge.specs.Changes.{row, number_or_0, joined_value, value_of, changed_byte, changes_of, AreChanged, cells_at, filled_at}
 use Rattle.snapshot_merge.specs.Memory.{HoldsMemory}
-use Rattle.snapshot_merge.proofs.Numbers.{number_none, loaded_or_0, cells_filled}
+use Rattle.snapshot_merge.proofs.Numbers.{number_none, cells_filled}
 use Rattle.snapshot_merge.proofs.Changing.{wrote_by, entries_put, entries_kept}
 use Rattle.snapshot_merge.proofs.Filled.{own_set}
 

@@ -1,14 +1,12 @@
 -- What a launch concludes once its groups are joined.
-use Rattle.std.proofs.Common.{◌≡◌, ℕ, suc, ◌+◌, ◌*◌, ◌<◌, ◌≤◌, ◌⊎◌, Bool, true, Option, None, Some, List, [], ◌∷◌, length, map, nat_lt, refl, sym, ap, ◌∙◌, subst, inl, inr, arith}
-use Rattle.std.specs.Prelude.{Vec}
-use Rattle.std.specs.declared.alloc.Global.{Global}
+use Rattle.std.proofs.Common.{◌≡◌, ℕ, suc, ◌+◌, ◌*◌, ◌<◌, ◌≤◌, ◌⊎◌, true, Option, None, Some, List, [], ◌∷◌, length, nat_lt, refl, ap, ◌∙◌, inl, inr, arith}
 use Rattle.std.proofs.Math.Nat.{suc-mul, mul-le-mul_right}
 use Rattle.std.proofs.lemmas.Bool.{cases_lt, lt-ltb}
 use Rattle.clmodel.specs.Launch.{Launch}
 use Rattle.clmodel.specs.Next.{launch_of}
 use Rattle.clmodel.specs.Outcome.{Concludes, events_of}
-use Rattle.clmodel.specs.Run.{State, contents}
-use Rattle.clmodel.specs.Setup.{Setup, item_count, group_items}
+use Rattle.clmodel.specs.Run.{contents}
+use Rattle.clmodel.specs.Setup.{Setup, group_items}
 use Rattle.clmodel.specs.declared.fault.Fault.{Fault}
 use Rattle.clmodel.specs.declared.outcome.Outcome.TheVariants.{Clean, Faulted}
 use Rattle.clmodel.specs.declared.schedule.Run.{Run}
@@ -21,7 +19,6 @@ use Rattle.shadow_list.specs.Log.{Log}
 use Rattle.snapshot_run.specs.Launches.{HasGroups}
 use Rattle.snapshot_merge.specs.Launches.{AreResults}
 use Rattle.snapshot_merge.specs.Laws.{JoiningLaws}
-use Rattle.snapshot_merge.specs.Memory.{HoldsMemory}
 use Rattle.snapshot_merge.specs.Sofar.{Holds, IsStopped, IsNext}
 use Rattle.snapshot_merge.specs.declared.sofar.Sofar.{Sofar}
 use Rattle.snapshot_merge.proofs.Contents.{contents_end}

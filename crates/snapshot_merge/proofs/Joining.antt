@@ -1,23 +1,22 @@
 -- One more group joined to the groups so far, as code does it.
-use Rattle.std.proofs.Common.{◌≡◌, ℕ, zero, suc, ◌+◌, ◌*◌, ◌<◌, ◌≤◌, ◌==◌, ◌&&◌, true, false, if◌then◌else◌, Option, None, Some, List, [], ◌∷◌, ◌++◌, length, take, map, refl, sym, ap, ap₂, ◌∙◌, subst, inl, inr, arith}
-use Rattle.std.specs.Prelude.{slice_get, Vec, Result, Ok, Err, IfOk}
+use Rattle.std.proofs.Common.{◌≡◌, ℕ, zero, suc, ◌+◌, ◌==◌, ◌&&◌, false, if◌then◌else◌, Option, None, Some, List, [], ◌∷◌, ◌++◌, length, take, map, refl, sym, ap, ap₂, ◌∙◌, subst, arith}
+use Rattle.std.specs.Prelude.{Vec, Result, Ok, Err, IfOk}
 use Rattle.std.specs.declared.alloc.Global.{Global}
 use denote.Bor.{Bor}
 use Rattle.spaces.specs.Overlay.{Overlaid}
 use Rattle.std.specs.Option.{option_map}
-use Rattle.std.proofs.lemmas.List.{map-id}
 use Rattle.clmodel.specs.Cells.{byte_count}
 use Rattle.clmodel.specs.Launch.{Launch, conflict_between}
-use Rattle.clmodel.specs.Law.{Keeps, RunsIntoFault, RunsClean, conflict_from}
+use Rattle.clmodel.specs.Law.{Keeps, RunsIntoFault}
 use Rattle.clmodel.specs.Outcome.{events_of, IsMerged}
-use Rattle.clmodel.specs.Run.{State, Events, start, initial, contents, left}
+use Rattle.clmodel.specs.Run.{State, Events, start}
 use Rattle.clmodel.specs.declared.access.Access.{Access}
 use Rattle.clmodel.specs.declared.access.Region.{Region}
 use Rattle.clmodel.specs.declared.access.Region.TheVariants as region
 use Rattle.clmodel.specs.declared.fault.Fault.{Fault}
 use Rattle.clmodel.specs.declared.schedule.Run.{Run}
 use Rattle.joining.specs.Group.{plan_of, IsRun}
-use Rattle.joining.specs.Memory.{wrote, joined_memory}
+use Rattle.joining.specs.Memory.{wrote}
 use Rattle.joining.specs.Crossings.{crossing}
 use Rattle.joining.specs.Parts.{Part, IsGrouped, IsPart}
 use Rattle.joining.specs.Join.{Joined, nothing_yet, join, join_at}
@@ -115,7 +114,7 @@ meets_stopped l g lower part log footprint old more new r met fault first adds t
     let laws = crossing_laws r.laws in
     let at : Crosses l lower part met.entry met.meeting (first.0 + 1 == length log.accesses)
     = crossed laws l g lower part log r.held.kept far first.0 met.entry met.meeting first.1 (misses l g lower part log r.held.kept first.0 laws far first.2)
-      (met_is met.entry.access.region met.entry.access r.held.kept met.meeting first.3) in
+    (met_is met.entry.access.region met.entry.access r.held.kept met.meeting first.3) in
     let report : (join l lower part).report ≡ Some fault
     = at.report ∙ ap (λ b. if b && is_below part.stopped met.meeting.byte then part.stopped else Some (meeting_fault l met.entry.access met.meeting)) (sym first.4) ∙ sym told in
     let events : events_of new ≡ (join l lower part).events
@@ -273,18 +272,18 @@ done_joined l g sofar log more spaces c run finds new changes first further_held
     let none = none_crosses l g lower part log sofar.footprint sofar.runs.items more r met in
     let clear : IsClear l g lower part sofar.contents.items log.accesses r.held.kept (map (λ row. row.now) sofar.first.items) (map (λ (space : Overlaid). space.bytes) spaces)
     = record {
-        law = c.laws.bytes;
-        grouped = c.grouped;
-        joined = c.holds.is_joined;
-        there = c.there;
-        runs = r.runs;
-        none = none;
-        holds = c.holds.contents;
-        logged = r.logged.keeps;
-        keeps = r.held.keeps;
-        opening = c.holds.first;
-        leaves = run.0.holds.contents;
-      } in
+      law = c.laws.bytes;
+      grouped = c.grouped;
+      joined = c.holds.is_joined;
+      there = c.there;
+      runs = r.runs;
+      none = none;
+      holds = c.holds.contents;
+      logged = r.logged.keeps;
+      keeps = r.held.keeps;
+      opening = c.holds.first;
+      leaves = run.0.holds.contents;
+    } in
     record {
       joined = join l lower part;
       is_joined = is_joined l g lower part log sofar.footprint sofar.runs.items more r met refl;

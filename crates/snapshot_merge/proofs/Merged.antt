@@ -1,8 +1,8 @@
 -- Runs with further runs.
-use Rattle.std.proofs.Common.{◌≡◌, ℕ, zero, suc, ◌+◌, ◌-◌, ◌<◌, ◌≤◌, List, [], ◌∷◌, ◌++◌, length, set, replicate, take, drop, min, refl, sym, ap, ap₂, ◌∙◌, subst, arith, length-append, zero-add, suc-add, add-one, Option, None, Some, ◌⊎◌, inl, inr}
+use Rattle.std.proofs.Common.{◌≡◌, ℕ, zero, suc, ◌+◌, ◌-◌, ◌<◌, ◌≤◌, List, [], ◌∷◌, ◌++◌, length, set, replicate, take, drop, min, refl, sym, ap, ap₂, ◌∙◌, subst, arith, length-append, zero-add, suc-add, add-one, Some, ◌⊎◌, inl, inr}
 use Rattle.std.specs.Prelude.{slice_get}
 use Rattle.clmodel.proofs.Steps.{none_some, some_inj}
-use Rattle.std.proofs.lemmas.List.{append_assoc, append-nil, replicate_more, length-replicate}
+use Rattle.std.proofs.lemmas.List.{append_assoc, append-nil}
 use Rattle.clmodel.specs.Outcome.{events_of, BeginsApart, IsMerged}
 use Rattle.snapshot_merge.specs.Runs.{EndsWith, Adds, IsFirstOf}
 use Rattle.clmodel.specs.declared.schedule.Event.{Event}

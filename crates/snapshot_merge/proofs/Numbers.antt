@@ -1,13 +1,13 @@
 -- The number of bytes of a row, as code reads it.
-use Rattle.std.proofs.Common.{◌≡◌, ℕ, zero, suc, ◌+◌, ◌<◌, ◌≤◌, ◌⊎◌, Option, None, Some, List, [], ◌∷◌, refl, sym, ap, ◌∙◌, subst, inl, inr, arith, ⊎_elim, leb, false}
-use Rattle.std.specs.Prelude.{length, map, slice_get, Result, Ok, Err}
+use Rattle.std.proofs.Common.{◌≡◌, ℕ, zero, suc, ◌+◌, ◌<◌, ◌≤◌, ◌⊎◌, Option, None, Some, List, [], ◌∷◌, refl, sym, ap, ◌∙◌, inl, inr, arith, ⊎_elim, leb, false}
+use Rattle.std.specs.Prelude.{length, map, slice_get, Err}
 use Rattle.std.specs.Option.{unwrap_or}
 use Rattle.std.proofs.lemmas.Bool.{cases_lt, leb-false}
 use Rattle.std.proofs.lemmas.List.{length-map}
 use Rattle.clmodel.specs.Cells.{Cells, cells_of, byte_count, number, joined, lowest_unset, unset_or}
 use Rattle.clmodel.specs.declared.access.Width.{Width}
 use Rattle.clmodel.specs.declared.access.Width.TheVariants.{One, Two, Four, Eight}
-use Rattle.clmodel.proofs.Steps.{none_some, some_inj}
+use Rattle.clmodel.proofs.Steps.{none_some}
 use Rattle.spaces_base.specs.Space.{IsLoaded}
 use Rattle.spaces_base.specs.declared.space.SpaceFault.{SpaceFault}
 use Rattle.spaces_base.specs.declared.space.SpaceFault.TheVariants as fault

@@ -1,5 +1,5 @@
 -- The first access of a group that meets those of the lower groups (OpenCL 1.2, 3.3.1; own).
-use Rattle.std.specs.Prelude.{◌≡◌, ℕ, ◌+◌, ◌<◌, ◌==◌, Bool, true, false, ◌&&◌, nat_lt, Option, None, Some, List, length, slice_get, if◌then◌else◌}
+use Rattle.std.specs.Prelude.{◌≡◌, ℕ, ◌+◌, ◌<◌, ◌==◌, Bool, false, ◌&&◌, nat_lt, Option, None, Some, List, length, slice_get, if◌then◌else◌}
 use Rattle.clmodel.specs.Launch.{Launch, location_of}
 use Rattle.clmodel.specs.declared.access.Access.{Access}
 use Rattle.clmodel.specs.declared.access.Region.{Region}

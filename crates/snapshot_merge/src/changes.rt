@@ -134,7 +134,12 @@ impl Before<'_, '_, '_, '_> {
     }
 
     /// Adds the changes of the bytes of an access of a buffer.
-    fn add_bytes(&self, changes: &mut Vec<Change>, number: u32, x: &Access) -> Result<(), AllocError>
+    fn add_bytes(
+        &self,
+        changes: &mut Vec<Change>,
+        number: u32,
+        x: &Access,
+    ) -> Result<(), AllocError>
         requires { x.now.first + byte_count x.now.width < 2 ^ 64 }
         ensures { OnOk result ((log : List TheAccess) → Keeps self.now.footprint.now log → changes.new.items ≡ changes.old.items ++ changes_at (value_of (map (λ row. row.now) self.now.first.now) self.now.lower.now (λ n b. joining.wrote log (region.Buffer n) b) (map (λ space. space.bytes) self.now.own.now)) x.now (region.Buffer number)) }
     {

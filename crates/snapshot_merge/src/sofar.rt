@@ -141,7 +141,12 @@ impl<'a> Sofar<'a> {
     }
 
     /// Adds the accesses and the events of a group.
-    fn add<L: Accesses>(&mut self, alloc: Global, log: &L, runs: &Schedule) -> Result<(), AllocError>
+    fn add<L: Accesses>(
+        &mut self,
+        alloc: Global,
+        log: &L,
+        runs: &Schedule,
+    ) -> Result<(), AllocError>
         ensures accesses { OnOk result ((kept : List TheAccess) → Keeps self.old.footprint kept → Keeps self.new.footprint (accesses_of (L.log log.now).accesses ++ kept)) }
         ensures runs { OnOk result (Adds self.old.runs.items self.new.runs.items runs.now (events_of runs.now)) }
         ensures first { self.new.first ≡ self.old.first }
@@ -241,15 +246,17 @@ impl<'a> Sofar<'a> {
     {
         match came {
             GroupResult::Done {
-                spaces, log, runs, ..
-            } => {
-                self.join_done(alloc, launch, number, spaces.as_slice(), &log, &runs)
-            }
+                spaces,
+                log,
+                runs,
+                ..
+            } => { self.join_done(alloc, launch, number, spaces.as_slice(), &log, &runs) }
             GroupResult::Stopped {
-                fault, log, runs, ..
-            } => {
-                Ok(Some(self.join_stopped(launch, number.group, fault, &log, &runs)?))
-            }
+                fault,
+                log,
+                runs,
+                ..
+            } => { Ok(Some(self.join_stopped(launch, number.group, fault, &log, &runs)?)) }
         }
     }
 

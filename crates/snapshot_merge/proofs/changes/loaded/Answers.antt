@@ -1,4 +1,4 @@
-use Rattle.std.proofs.Common.{◌≡◌, ℕ, arith}
+use Rattle.std.proofs.Common.{◌≡◌, arith}
 use Rattle.std.proofs.lemmas.Grind.{common_steps}
 use Rattle.clmodel.specs.Cells.{cells_of, byte_count}
 use Rattle.snapshot_merge.specs.Changes.{number_or_0}

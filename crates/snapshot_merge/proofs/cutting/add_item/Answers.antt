@@ -1,4 +1,4 @@
-use Rattle.std.proofs.Common.{◌≡◌, ◌+◌, ◌-◌, [], ◌∷◌, ◌++◌, length, set, sym, ap, subst, ◌∙◌, arith, length-append}
+use Rattle.std.proofs.Common.{◌≡◌, ◌-◌, [], ◌∷◌, ◌++◌, length, set, sym, ap, subst, ◌∙◌, arith, length-append}
 use Rattle.clmodel.specs.Outcome.{events_of}
 use Rattle.snapshot_merge.specs.Runs.{EndsWith, Adds}
 use Rattle.clmodel.specs.declared.schedule.Run.{Run}

@@ -1,4 +1,4 @@
-use Rattle.std.proofs.Common.{◌≡◌, min, sym, subst}
+use Rattle.std.proofs.Common.{sym, subst}
 use Rattle.clmodel.specs.declared.schedule.Run.TheVariants as run
 use Rattle.snapshot_merge.specs.Runs.{IsFirstOf}
 use Rattle.snapshot_merge.proofs.Merged.{first_of_item}

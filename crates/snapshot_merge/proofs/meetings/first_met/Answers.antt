@@ -1,4 +1,4 @@
-use Rattle.std.proofs.Common.{◌≡◌, ◌==◌, ◌<◌, ◌+◌, Some, sym, ap, ◌∙◌, arith, length}
+use Rattle.std.proofs.Common.{◌≡◌, ◌==◌, ◌+◌, Some, sym, ap, ◌∙◌, arith}
 use Rattle.std.specs.Prelude.{slice_get}
 use Rattle.snapshot_merge.proofs.Entries.{entry_at, miss_more}
 use Rattle.snapshot_merge.proofs.meetings.first_met.Goals as goal

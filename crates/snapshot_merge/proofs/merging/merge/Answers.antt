@@ -1,24 +1,19 @@
-use Rattle.std.proofs.Common.{◌≡◌, ℕ, suc, ◌+◌, ◌*◌, ◌<◌, ◌≤◌, Option, Some, None, List, [], ◌∷◌, sym, ap₂, ◌∙◌, subst, arith, add-one}
+use Rattle.std.proofs.Common.{◌≡◌, ℕ, suc, ◌<◌, Option, Some, None, List, [], sym, ap₂, ◌∙◌, subst, arith, add-one}
 use Rattle.std.specs.Prelude.{Vec}
 use Rattle.std.specs.declared.alloc.Global.{Global}
-use Rattle.std.proofs.Math.Nat.{mul-le-mul_right}
 use Rattle.clmodel.specs.Launch as model
 use Rattle.clmodel.specs.Next.{launch_of}
 use Rattle.clmodel.specs.Outcome.{Concludes}
 use Rattle.clmodel.specs.declared.outcome.Outcome.TheVariants.{Clean}
 use Rattle.clmodel.specs.declared.fault.Fault.{Fault}
 use Rattle.item_step.specs.Launches.{setup_of}
-use Rattle.item_step.specs.declared.launch.Launch.{Launch}
 use Rattle.joining.specs.Parts.{IsGrouped}
 use Rattle.spaces_base.specs.Buffers.{bytes_in}
 use Rattle.snapshot_merge.specs.Sofar.{Holds, IsStopped, IsNext}
-use Rattle.snapshot_merge.specs.declared.sofar.Sofar.{Sofar}
 use Rattle.std.specs.Vec.Iter.{into_iter_items}
 use Rattle.spaces.specs.Overlay.{Overlaid}
 use Rattle.group_run.specs.Results.{IsResult}
-use Rattle.group_run.specs.declared.result.GroupResult.{GroupResult}
 use Rattle.joining.specs.Steps.{HasGroup}
-use Rattle.shadow_list.specs.Log.{Log}
 use Rattle.snapshot_merge.specs.Launches.{AreResults}
 use Rattle.snapshot_merge.proofs.Ending.{grouped_of, there_below, further_there, next_stopped, next_held, concludes_fault, concludes_clean, first_there, first_result, rest_results, none_left}
 use Rattle.snapshot_merge.proofs.merging.merge.Goals as goal
@@ -75,7 +70,7 @@ loop-result-preserved g c =
     let now = subst (AreResults bytes_of g.L.Accesses.log l group) c.in-Some.ensures.steps.0 c.loop-result.invariant.rest in
     let next : IsNext l group c.in-Some.result None c.join.new.self
     = subst (λ (f : Option Fault). IsNext l group c.in-Some.result f c.join.new.self) c.in_default.is
-      (subst (λ (z : model.Launch). IsNext z group c.in-Some.result c.in_ok-fault.field-0 c.join.new.self) same c.in_ok-fault.ensures) in
+    (subst (λ (z : model.Launch). IsNext z group c.in-Some.result c.in_ok-fault.field-0 c.join.new.self) same c.in_ok-fault.ensures) in
     record {
       held = subst (λ n. Holds l n c.join.new.self) (sym (add-one group)) (next_held l group c.in-Some.result c.join.new.self next);
       rest = subst (λ n. AreResults bytes_of g.L.Accesses.log l n (into_iter_items c.next.new.self)) (sym (add-one group))
@@ -89,7 +84,7 @@ returns-in-Some-2 g c =
     let group = c.loop-result.group in
     let next : IsNext l group c.in-Some.result (Some c.in-Some-2.fault) c.join.new.self
     = subst (λ (f : Option Fault). IsNext l group c.in-Some.result f c.join.new.self) c.in-Some-2.is
-      (subst (λ (z : model.Launch). IsNext z group c.in-Some.result c.in_ok-fault.field-0 c.join.new.self) same c.in_ok-fault.ensures) in
+    (subst (λ (z : model.Launch). IsNext z group c.in-Some.result c.in_ok-fault.field-0 c.join.new.self) same c.in_ok-fault.ensures) in
     concludes_fault l c.in-Some-2.fault c.into_schedule.result
     (subst (IsStopped l c.in-Some-2.fault) (sym c.into_schedule.ensures) (next_stopped l group c.in-Some.result c.in-Some-2.fault c.join.new.self next))
 

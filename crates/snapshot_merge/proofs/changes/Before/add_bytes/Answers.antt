@@ -1,5 +1,4 @@
 use Rattle.std.proofs.Common.{ap, arith}
-use Rattle.snapshot_merge.specs.declared.changes.Change.{Change}
 use Rattle.snapshot_merge.proofs.Entries.{pushed_change, range_end}
 use Rattle.snapshot_merge.proofs.changes.Before.add_bytes.Goals as goal
 

@@ -1,4 +1,4 @@
-use Rattle.std.proofs.Common.{◌≡◌, ◌<◌, ◌≤◌, Some, ap, ◌∙◌, arith, length}
+use Rattle.std.proofs.Common.{◌≡◌, Some, arith}
 use Rattle.std.specs.Prelude.{slice_get}
 use Rattle.snapshot_merge.proofs.Entries.{entry_at, changes_push, changes_end}
 use Rattle.snapshot_merge.proofs.changes.Before.changes.Goals as goal

@@ -21,12 +21,12 @@ returns-after-number g c =
     let log : Log = g.L.Accesses.log c.args.log.now in
     let given : IsGiven l c.args.number.group c.args.self.now c.args.runs.now = record { laws = c.laws.ensures; grouped = c.requires.grouped; there = c.requires.there; holds = c.requires.so_far; merged = c.requires.merged } in
     elim c.if-number.branch [
-      then-number+in_ok-add-in-None w ↦
+      | then-number+in_ok-add-in-None w ↦
           subst (Holds l (suc c.args.number.group)) (sym w.self-is)
           (done_added l c.args.number.group c.args.self.now log c.args.runs.now c.args.spaces.now given c.requires.ran c.in-None.ensures c.change.new.self w.add.new.self
           c.in_ok-change-in-None.ensures.changed c.in_ok-change-in-None.ensures.first c.in_ok-change-in-None.ensures.footprint c.in_ok-change-in-None.ensures.runs w.in_ok-add-in-None.ensures.first
           w.in_ok-add-in-None.ensures.contents w.in_ok-add-in-None.ensures.accesses w.in_ok-add-in-None.ensures.runs)
-    | else-number w ↦
+      | else-number w ↦
           subst (Holds l (suc c.args.number.group)) (sym w.self-is)
           (done_last l c.args.number.group c.args.self.now log c.args.runs.now c.args.spaces.now given c.requires.ran c.in-None.ensures c.change.new.self c.in_ok-change-in-None.ensures.changed
           c.in_ok-change-in-None.ensures.first (λ h. true≢false (sym (c.requires.further h) ∙ w.if-number.false)))

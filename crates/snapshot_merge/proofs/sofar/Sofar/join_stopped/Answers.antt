@@ -12,7 +12,7 @@ returns-in-Some g c =
     let log : Log = g.L.Accesses.log c.args.log.now in
     let given : IsGiven l c.args.group c.args.self.now c.args.runs.now = record { laws = c.laws.ensures; grouped = c.requires.grouped; there = c.requires.there; holds = c.requires.so_far; merged = c.requires.merged } in
     both_ok _ _ _ c.cross.result c.cross.ensures.report c.cross.ensures.runs (λ report told adds.
-        stop_meets l c.args.group c.args.self.now log c.args.runs.now c.cross.new.self.runs.items c.args.fault given c.requires.ran c.in-Some.met report c.in-Some.ensures adds told)
+    stop_meets l c.args.group c.args.self.now log c.args.runs.now c.cross.new.self.runs.items c.args.fault given c.requires.ran c.in-Some.met report c.in-Some.ensures adds told)
 
 pub returns-in_ok-add_all-in-None : goal.returns-in_ok-add_all-in-None
 returns-in_ok-add_all-in-None g c =
