@@ -161,7 +161,7 @@ adds_step first mid last more k r e h n =
       merged = λ m w. n.merged (h.merged m w) (merged_at more k r e w);
     }
 
--- the first runs were added, and of what is left so many events are to be added
+-- the first runs were added, and of what is left n events are to be added
 pub record AddsPart (first new more : List Run) (k left count : ℕ) : Type 0 where
   pub events : events_of new ++ take left (events_of (drop k more)) ≡ events_of first ++ take count (events_of more)
   pub merged : IsMerged first → IsMerged more → IsMerged new

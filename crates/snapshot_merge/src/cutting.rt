@@ -31,7 +31,7 @@ fn added(count: u64, more: u64) -> Result<u64, AllocError>
     }
 }
 
-/// Adds so many events of an item, to the last run where that is of the same item. An error is out of memory, or a run of 2^64 events.
+/// Adds `count` events of an item, to the last run where that is of the same item. An error is out of memory, or a run of 2^64 events.
 fn add_item(runs: &mut Vec<Run>, item: u32, count: u64) -> Result<(), AllocError>
     ensures { OnOk result (Adds runs.old.items runs.new.items (run.Item item count ∷ []) (events_of (run.Item item count ∷ []))) }
 {
