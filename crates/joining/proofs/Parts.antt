@@ -1,4 +1,4 @@
--- A group has one run.
+-- A group has at most one run.
 use Rattle.std.proofs.Common.{◌≡◌, Option, None, Some, [], ◌∷◌, refl, sym, ap, ap₂, ◌∙◌, subst, arith}
 use Rattle.std.proofs.lemmas.Option.{same_Some}
 use Rattle.clmodel.specs.Run.{State, Events, start, step}

@@ -32,7 +32,7 @@ AreParts launch group [] = (item : ℕ) → item < launch.items → group_of lau
 AreParts launch group (part ∷ parts) =
     IsPart launch group part × (group * launch.group_size < launch.items) × (((fault : Fault) × (part.stopped ≡ Some fault)) ⊎ AreParts launch (suc group) parts)
 
--- a group of a launch has one run (own)
+-- a group of a launch has at most one run (own)
 abbrev pub OnePart : Type 0
 OnePart =
     (launch : Launch) (group : ℕ) (part other : Part) → IsPart launch group part → IsPart launch group other

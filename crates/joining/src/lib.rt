@@ -13,7 +13,7 @@ pub fn join_is_canonical()
     ensures { JoinIsCanonical }
 {}
 
-/// A group has one run on the launch's first memory.
+/// A group has at most one run on the launch's first memory.
 pub fn one_part()
     ensures { OnePart }
 {}

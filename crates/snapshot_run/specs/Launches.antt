@@ -4,7 +4,7 @@ use Rattle.clmodel.specs.Setup.{Setup, item_count, group_items}
 use Rattle.shadow_list.specs.Log.{Log, logged}
 use Rattle.shadow_list.specs.declared.list.ListLog.{ListLog}
 
--- a setup of whole work-groups, of items and of answers to a group's items whose numbers have 32 bits (5.8, own in the bounds)
+-- a setup of whole work-groups, of items and of answers to a group's items whose numbers have 32 bits (own; 5.8 asks for whole groups in each dimension)
 pub record HasGroups (setup : Setup) : Type 0 where
   pub whole : item_count setup.range % group_items setup.range ≡ 0
   pub numbered : item_count setup.range < 2 ^ 32
