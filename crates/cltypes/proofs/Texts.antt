@@ -119,7 +119,3 @@ answered_well t fs e h = program_sound (program t) (ap first_of (sym e) ∙ h)
 
 pub if_err_by : {A : Type 0} (r : Result A TypeFault) (f : TypeFault) (P : TypeFault → Type 0) → (y : TypeFault) × (r ≡ Err y) × (y ≡ f) → P f → IfErr r P
 if_err_by r f P h x = subst (λ z. IfErr z P) (sym h.1) (subst P (sym h.2) x)
-
-pub ends_by : {A : Type 0} (r : Result A TypeFault) (f : TypeFault) (o : Option TypeFault)
-    → (y : TypeFault) × (r ≡ Err y) × (y ≡ f) → (f ≡ fault.OutOfMemory) ⊎ (o ≡ Some f) → Ends r o
-ends_by r f o h x = subst (λ z. Ends z o) (sym h.1) (subst (λ y. (y ≡ fault.OutOfMemory) ⊎ (o ≡ Some y)) (sym h.2) x)

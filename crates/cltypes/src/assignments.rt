@@ -95,17 +95,15 @@ pub(crate) fn check_target(context: &Context, target: &Target) -> Result<Operand
             let meaning = context.meaning(*name);
             checked(whole_fault(meaning, *at), name_kind(meaning), *at)
         }
-        Target::Element { at, name, index } => match check_expression(context, index) {
-            Err(fault) => Err(fault),
-            Ok(index) => {
-                let meaning = context.meaning(*name);
-                checked(target_fault(meaning, *at, index), front_kind(meaning), *at)
-            }
-        },
-        Target::Dereference { at, pointer } => match check_expression(context, pointer) {
-            Err(fault) => Err(fault),
-            Ok(pointer) => checked(behind_fault(pointer, *at), element_kind(pointer.kind), *at),
-        },
+        Target::Element { at, name, index } => {
+            let index = check_expression(context, index)?;
+            let meaning = context.meaning(*name);
+            checked(target_fault(meaning, *at, index), front_kind(meaning), *at)
+        }
+        Target::Dereference { at, pointer } => {
+            let pointer = check_expression(context, pointer)?;
+            checked(behind_fault(pointer, *at), element_kind(pointer.kind), *at)
+        }
     }
 }
 

@@ -97,11 +97,7 @@ pub(crate) fn check_function(
         return Err(TypeFault::OutOfMemory);
     };
     context.begin(function.name, signature);
-    match declare_parameters(context, &function.parameters) {
-        Err(fault) => Err(fault),
-        Ok(()) => match check_statements(context, &function.body) {
-            Err(fault) => Err(fault),
-            Ok(()) => end_function(context, summaries, function),
-        },
-    }
+    declare_parameters(context, &function.parameters)?;
+    check_statements(context, &function.body)?;
+    end_function(context, summaries, function)
 }

@@ -35,10 +35,10 @@ fn check_condition(
 {
     match condition {
         None => Ok(None),
-        Some(condition) => match check_expression(context, condition) {
-            Err(fault) => Err(fault),
-            Ok(condition) => Ok(integer_fault(condition)),
-        },
+        Some(condition) => {
+            let condition = check_expression(context, condition)?;
+            Ok(integer_fault(condition))
+        }
     }
 }
 
@@ -204,18 +204,18 @@ fn check_statement(context: &mut Context, statement: &Statement) -> Result<(), T
             value,
             ..
         } => ended(assignment_fault(context, target, *operator, value)),
-        Statement::Step { target, .. } => match check_target(context, target) {
-            Err(fault) => Err(fault),
-            Ok(_) => Ok(()),
-        },
+        Statement::Step { target, .. } => {
+            check_target(context, target)?;
+            Ok(())
+        }
         Statement::Call {
             at,
             name,
             arguments,
-        } => match check_call(context, Spot::WholeStatement, *at, *name, arguments) {
-            Err(fault) => Err(fault),
-            Ok(_) => Ok(()),
-        },
+        } => {
+            check_call(context, Spot::WholeStatement, *at, *name, arguments)?;
+            Ok(())
+        }
         Statement::If {
             condition,
             chosen,
@@ -258,13 +258,9 @@ fn check_controlled(context: &mut Context, statement: &Statement) -> Result<(), 
     if context.enter().is_err() {
         return Err(TypeFault::OutOfMemory);
     }
-    match check_statement(context, statement) {
-        Err(fault) => Err(fault),
-        Ok(()) => {
-            context.leave();
-            Ok(())
-        }
-    }
+    check_statement(context, statement)?;
+    context.leave();
+    Ok(())
 }
 
 /// Checks the body of a loop, in a scope of its own, which is left behind it. Err(OutOfMemory) may come at any time.
@@ -278,14 +274,10 @@ fn check_turn(context: &mut Context, body: &Statement) -> Result<(), TypeFault>
         return Err(TypeFault::OutOfMemory);
     }
     context.set_in_loop(true);
-    match check_statement(context, body) {
-        Err(fault) => Err(fault),
-        Ok(()) => {
-            context.leave();
-            context.set_in_loop(was_in_loop);
-            Ok(())
-        }
-    }
+    check_statement(context, body)?;
+    context.leave();
+    context.set_in_loop(was_in_loop);
+    Ok(())
 }
 
 /// Checks an `if` with no `else`. Err(OutOfMemory) may come at any time.
@@ -298,13 +290,9 @@ fn check_if(
     ensures first { (at : ℕ) → Ends result (first (faults context.old (If at (term condition.now) (stmt chosen.now)))) }
     ensures left { IfOk result (λ _. context.new ≡ context.old) }
 {
-    match check_expression(context, condition) {
-        Err(fault) => Err(fault),
-        Ok(condition) => match check_controlled(context, chosen) {
-            Err(fault) => Err(fault),
-            Ok(()) => ended(integer_fault(condition)),
-        },
-    }
+    let condition = check_expression(context, condition)?;
+    check_controlled(context, chosen)?;
+    ended(integer_fault(condition))
 }
 
 /// Checks an `if` with its `else`. Err(OutOfMemory) may come at any time.
@@ -318,16 +306,10 @@ fn check_if_else(
     ensures first { (at : ℕ) → Ends result (first (faults context.old (IfElse at (term condition.now) (stmt chosen.now) (stmt otherwise.now)))) }
     ensures left { IfOk result (λ _. context.new ≡ context.old) }
 {
-    match check_expression(context, condition) {
-        Err(fault) => Err(fault),
-        Ok(condition) => match check_controlled(context, chosen) {
-            Err(fault) => Err(fault),
-            Ok(()) => match check_controlled(context, otherwise) {
-                Err(fault) => Err(fault),
-                Ok(()) => ended(integer_fault(condition)),
-            },
-        },
-    }
+    let condition = check_expression(context, condition)?;
+    check_controlled(context, chosen)?;
+    check_controlled(context, otherwise)?;
+    ended(integer_fault(condition))
 }
 
 /// Checks a `while`. Err(OutOfMemory) may come at any time.
@@ -340,13 +322,9 @@ fn check_while(
     ensures first { (at : ℕ) → Ends result (first (faults context.old (While at (term condition.now) (stmt body.now)))) }
     ensures left { IfOk result (λ _. context.new ≡ context.old) }
 {
-    match check_expression(context, condition) {
-        Err(fault) => Err(fault),
-        Ok(condition) => match check_turn(context, body) {
-            Err(fault) => Err(fault),
-            Ok(()) => ended(integer_fault(condition)),
-        },
-    }
+    let condition = check_expression(context, condition)?;
+    check_turn(context, body)?;
+    ended(integer_fault(condition))
 }
 
 /// Checks a `do`. Err(OutOfMemory) may come at any time.
@@ -359,13 +337,9 @@ fn check_do(
     ensures first { (at : ℕ) → Ends result (first (faults context.old (DoWhile at (stmt body.now) (term condition.now)))) }
     ensures left { IfOk result (λ _. context.new ≡ context.old) }
 {
-    match check_turn(context, body) {
-        Err(fault) => Err(fault),
-        Ok(()) => match check_expression(context, condition) {
-            Err(fault) => Err(fault),
-            Ok(condition) => ended(integer_fault(condition)),
-        },
-    }
+    check_turn(context, body)?;
+    let condition = check_expression(context, condition)?;
+    ended(integer_fault(condition))
 }
 
 /// Checks a part of a `for` that may be left out, and that what follows sees. Err(OutOfMemory) may come at any time.
@@ -403,16 +377,10 @@ fn check_turns(
     ensures first { Ends result (first (turns_faults context.old (maybe_term condition.now) (held third.now) (stmt body.now))) }
     ensures left { IfOk result (λ _. context.new ≡ context.old) }
 {
-    match check_condition(context, condition) {
-        Err(fault) => Err(fault),
-        Ok(fault) => match check_third(context, third) {
-            Err(fault) => Err(fault),
-            Ok(()) => match check_turn(context, body) {
-                Err(fault) => Err(fault),
-                Ok(()) => ended(fault),
-            },
-        },
-    }
+    let fault = check_condition(context, condition)?;
+    check_third(context, third)?;
+    check_turn(context, body)?;
+    ended(fault)
 }
 
 /// Checks a `for`, in a scope of its own, which is left behind it. Err(OutOfMemory) may come at any time.
@@ -430,16 +398,10 @@ fn check_for(
     if context.enter().is_err() {
         return Err(TypeFault::OutOfMemory);
     }
-    match check_part(context, start) {
-        Err(fault) => Err(fault),
-        Ok(()) => match check_turns(context, condition, third, body) {
-            Err(fault) => Err(fault),
-            Ok(()) => {
-                context.leave();
-                Ok(())
-            }
-        },
-    }
+    check_part(context, start)?;
+    check_turns(context, condition, third, body)?;
+    context.leave();
+    Ok(())
 }
 
 /// Checks the statements of a block in a scope of their own, which is left behind them. Err(OutOfMemory) may come at any time.
@@ -451,13 +413,9 @@ fn check_block(context: &mut Context, body: &[Statement]) -> Result<(), TypeFaul
     if context.enter().is_err() {
         return Err(TypeFault::OutOfMemory);
     }
-    match check_statements(context, body) {
-        Err(fault) => Err(fault),
-        Ok(()) => {
-            context.leave();
-            Ok(())
-        }
-    }
+    check_statements(context, body)?;
+    context.leave();
+    Ok(())
 }
 
 /// Checks statements one after the other, or answers the first fault. Err(OutOfMemory) may come at any time.
@@ -467,9 +425,7 @@ pub(crate) fn check_statements(context: &mut Context, body: &[Statement]) -> Res
     ensures after { IfOk result (λ _. context.new ≡ after_all context.old (statements body.now)) }
 {
     for statement in body {
-        if let Err(fault) = check_statement(context, statement) {
-            return Err(fault);
-        }
+        check_statement(context, statement)?;
     }
     Ok(())
 }

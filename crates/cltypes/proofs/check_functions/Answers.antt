@@ -2,7 +2,8 @@ use Rattle.std.proofs.Common.{take, inl, inr, ◌∙◌}
 use Rattle.std.proofs.lemmas.Result.{err_from_is_err_and}
 use Rattle.clmodel.specs.Typing.Functions.{names}
 use Rattle.cltypes.specs.Views.{functions_of}
-use Rattle.cltypes.proofs.Texts.{signatures_more, summary_more, function_inside, functions_more, ends_by}
+use Rattle.cltypes.proofs.Texts.{signatures_more, summary_more, function_inside, functions_more}
+use Rattle.cltypes.proofs.Control.{handed_on}
 use Rattle.cltypes.proofs.check_functions.Goals as goal
 
 pub returns-in_err-check_function : goal.returns-in_err-check_function
@@ -11,7 +12,7 @@ returns-in_err-check_function c =
     let i = c.loop-function.function-index in
     let f = c.function-item.result in
     let e = c.in_err-check_function in
-    ends_by c.from_residual.result e.field-0.0 _ (err_from_is_err_and c.from_residual.result c.from_residual.ensures.1)
+    handed_on c.from_residual.result e.field-0.0 _ (err_from_is_err_and c.from_residual.result c.from_residual.ensures.1)
     (elim (e.ensures.first (functions_of (take i fs)) c.loop-function.invariant.before c.loop-function.invariant.summed) [
       | inl h ↦ inl h
       | inr h ↦ inr (function_inside (names (functions_of fs)) c.loop-function.context.all fs i f e.field-0.0
