@@ -12,7 +12,6 @@ use Rattle.clmodel.specs.Tree.{Stmt, MaybeStmt, MaybeTerm, stmt, maybe_term}
 use Rattle.clmodel.specs.Typing.Context.{Context, enter, turning, for_context}
 use Rattle.clmodel.specs.Typing.Least.{least, lesser, earlier, first}
 use Rattle.clmodel.specs.Typing.Faults.{condition_parts, condition_faults, part_faults, faults}
-use Rattle.cltypes_scope.specs.Answers.{Checks}
 use Rattle.cltypes_scope.proofs.Least.{least_append, first_append, first_node}
 use Rattle.cltypes.specs.Answers.{Ends}
 use Rattle.cltypes.specs.Views.{held, turns_faults}
@@ -77,7 +76,3 @@ in_rest o p q e h = e ∙ ap (λ z. earlier z q) h
 pub handed_on : {A : Type 0} (r : Result A TypeFault) (f : TypeFault) (o : Option TypeFault)
     → (y : TypeFault) × (r ≡ Err y) × (y ≡ f) → (f ≡ fault.OutOfMemory) ⊎ (o ≡ Some f) → Ends r o
 handed_on r f o h x = subst (λ z. Ends z o) (sym h.1) (subst (λ y. (y ≡ fault.OutOfMemory) ⊎ (o ≡ Some y)) (sym h.2) x)
-
-pub fault_handed_on : {A : Type 0} (r : Result A TypeFault) (f : TypeFault) (o : Option TypeFault) (wanted : A)
-    → (y : TypeFault) × (r ≡ Err y) × (y ≡ f) → o ≡ Some f → Checks r o wanted
-fault_handed_on r f o wanted h x = subst (λ z. Checks z o wanted) (sym h.1) (subst (λ y. o ≡ Some y) (sym h.2) x)

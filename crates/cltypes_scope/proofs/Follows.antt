@@ -1,5 +1,5 @@
 -- What the checker's steps say of a node's places.
-use Rattle.std.proofs.Common.{◌≡◌, ℕ, List, ◌++◌, Option, None, Some, Result, Ok, sym, ap, ◌∙◌, subst}
+use Rattle.std.proofs.Common.{◌≡◌, ℕ, List, ◌++◌, Option, None, Some, Result, Ok, Err, sym, ap, ◌∙◌, subst}
 use Rattle.clmodel.specs.declared.tree.VariableType.{VariableType}
 use Rattle.clmodel.specs.declared.type_fault.TypeFault.{TypeFault}
 use Rattle.clmodel.specs.Tree.{Term}
@@ -71,3 +71,8 @@ pub own_of_two : (ps qs : Places) (owns : Operand → Operand → List TypeFault
     → Checks (Ok t) (first ps) j → Checks (Ok u) (first qs) k → o ≡ least (owns t u) → o ≡ first (node (ps ++ qs) (owns j k))
 own_of_two ps qs owns t j u k o n m h =
     h ∙ ap (λ z. least (owns z u)) n.1 ∙ ap (λ z. least (owns j z)) m.1 ∙ sym (own_fault (ps ++ qs) (owns j k) (neither_of ps qs n.0 m.0))
+
+-- the fault that `?` hands on is the one that it met
+pub fault_handed_on : {A : Type 0} (r : Result A TypeFault) (f : TypeFault) (o : Option TypeFault) (wanted : A)
+    → (y : TypeFault) × (r ≡ Err y) × (y ≡ f) → o ≡ Some f → Checks r o wanted
+fault_handed_on r f o wanted h x = subst (λ z. Checks z o wanted) (sym h.1) (subst (λ y. o ≡ Some y) (sym h.2) x)

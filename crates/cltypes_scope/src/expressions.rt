@@ -94,13 +94,9 @@ fn check_element(
 ) -> Result<Operand, TypeFault>
     ensures { let e = Element at name (term index.now) in Checks result (first (term_faults (names_of names.entry) e)) (operand_of (names_of names.entry) e) }
 {
-    match check_in(names, index) {
-        Err(fault) => Err(fault),
-        Ok(index) => {
-            let meaning = meaning_among(names, name);
-            checked(element_fault(meaning, at, index), front_kind(meaning), at)
-        }
-    }
+    let index = check_in(names, index)?;
+    let meaning = meaning_among(names, name);
+    checked(element_fault(meaning, at, index), front_kind(meaning), at)
 }
 
 /// An element's address, `&name[index]`.
@@ -114,17 +110,13 @@ fn check_address(
 ) -> Result<Operand, TypeFault>
     ensures { let e = ElementAddress at name_at name (term index.now) in Checks result (first (term_faults (names_of names.entry) e)) (operand_of (names_of names.entry) e) }
 {
-    match check_in(names, index) {
-        Err(fault) => Err(fault),
-        Ok(index) => {
-            let meaning = meaning_among(names, name);
-            checked(
-                element_address_fault(meaning, at, name_at, index),
-                name_kind(meaning),
-                at,
-            )
-        }
-    }
+    let index = check_in(names, index)?;
+    let meaning = meaning_among(names, name);
+    checked(
+        element_address_fault(meaning, at, name_at, index),
+        name_kind(meaning),
+        at,
+    )
 }
 
 /// What a pointer points to.
@@ -132,10 +124,8 @@ fn check_address(
 fn check_dereference(names: Names<'_>, at: u32, pointer: &Expression) -> Result<Operand, TypeFault>
     ensures { let e = Dereference at (term pointer.now) in Checks result (first (term_faults (names_of names.entry) e)) (operand_of (names_of names.entry) e) }
 {
-    match check_in(names, pointer) {
-        Err(fault) => Err(fault),
-        Ok(pointer) => checked(pointer_fault(pointer), element_kind(pointer.kind), at),
-    }
+    let pointer = check_in(names, pointer)?;
+    checked(pointer_fault(pointer), element_kind(pointer.kind), at)
 }
 
 /// A call at a spot.
@@ -156,21 +146,19 @@ pub(crate) fn check_call_in(
         (record { kind = call_kind m (last_kind c es); at = at }) }
 {
     let meaning = meaning_among(names, name);
-    match check_arguments(names_inside(names, meaning), meaning, arguments) {
-        Err(fault) => Err(fault),
-        Ok(given) => checked(
-            call_fault(
-                spot,
-                meaning,
-                at,
-                arguments.len(),
-                given,
-                flags_fault(meaning, arguments),
-            ),
-            call_kind(meaning, given.last),
+    let given = check_arguments(names_inside(names, meaning), meaning, arguments)?;
+    checked(
+        call_fault(
+            spot,
+            meaning,
             at,
+            arguments.len(),
+            given,
+            flags_fault(meaning, arguments),
         ),
-    }
+        call_kind(meaning, given.last),
+        at,
+    )
 }
 
 /// An operator before an operand.
@@ -183,14 +171,12 @@ fn check_unary(
 ) -> Result<Operand, TypeFault>
     ensures { let e = Unary at operator (term operand.now) in Checks result (first (term_faults (names_of names.entry) e)) (operand_of (names_of names.entry) e) }
 {
-    match check_in(names, operand) {
-        Err(fault) => Err(fault),
-        Ok(operand) => checked(
-            integer_fault(operand),
-            unary_type(operator, operand.kind),
-            at,
-        ),
-    }
+    let operand = check_in(names, operand)?;
+    checked(
+        integer_fault(operand),
+        unary_type(operator, operand.kind),
+        at,
+    )
 }
 
 /// A cast.
@@ -203,10 +189,8 @@ fn check_cast(
 ) -> Result<Operand, TypeFault>
     ensures { let e = Cast at target (term operand.now) in Checks result (first (term_faults (names_of names.entry) e)) (operand_of (names_of names.entry) e) }
 {
-    match check_in(names, operand) {
-        Err(fault) => Err(fault),
-        Ok(operand) => checked(integer_fault(operand), VariableType::Integer(target), at),
-    }
+    let operand = check_in(names, operand)?;
+    checked(integer_fault(operand), VariableType::Integer(target), at)
 }
 
 /// An operator between two operands.
@@ -220,17 +204,13 @@ fn check_binary(
 ) -> Result<Operand, TypeFault>
     ensures { let e = Binary at operator (term left.now) (term right.now) in Checks result (first (term_faults (names_of names.entry) e)) (operand_of (names_of names.entry) e) }
 {
-    match check_in(names, left) {
-        Err(fault) => Err(fault),
-        Ok(left) => match check_in(names, right) {
-            Err(fault) => Err(fault),
-            Ok(right) => checked(
-                operand_fault(operator, left, right),
-                binary_type(operator, left.kind, right.kind),
-                at,
-            ),
-        },
-    }
+    let left = check_in(names, left)?;
+    let right = check_in(names, right)?;
+    checked(
+        operand_fault(operator, left, right),
+        binary_type(operator, left.kind, right.kind),
+        at,
+    )
 }
 
 /// `condition ? chosen : otherwise`.
@@ -245,20 +225,14 @@ fn check_choice(
     ensures { let e = Choice at (term condition.now) (term chosen.now) (term otherwise.now) in
         Checks result (first (term_faults (names_of names.entry) e)) (operand_of (names_of names.entry) e) }
 {
-    match check_in(names, condition) {
-        Err(fault) => Err(fault),
-        Ok(condition) => match check_in(names, chosen) {
-            Err(fault) => Err(fault),
-            Ok(chosen) => match check_in(names, otherwise) {
-                Err(fault) => Err(fault),
-                Ok(otherwise) => checked(
-                    choice_fault(condition, chosen, otherwise),
-                    choice_type(chosen.kind, otherwise.kind),
-                    at,
-                ),
-            },
-        },
-    }
+    let condition = check_in(names, condition)?;
+    let chosen = check_in(names, chosen)?;
+    let otherwise = check_in(names, otherwise)?;
+    checked(
+        choice_fault(condition, chosen, otherwise),
+        choice_type(chosen.kind, otherwise.kind),
+        at,
+    )
 }
 
 /// The least of the faults that the arguments of a call have as such, and the type of the last one; or the first fault inside them.
@@ -276,16 +250,12 @@ fn check_arguments(
     let mut least = None;
     let mut last = VariableType::Integer(IntType::Int);
     for (index, argument) in arguments.iter().enumerate() {
-        match check_in(names, argument) {
-            Err(fault) => return Err(fault),
-            Ok(argument) => {
-                least = lesser(
-                    least,
-                    argument_fault(wanted(meaning, index), last, argument),
-                );
-                last = argument.kind;
-            }
-        }
+        let argument = check_in(names, argument)?;
+        least = lesser(
+            least,
+            argument_fault(wanted(meaning, index), last, argument),
+        );
+        last = argument.kind;
     }
     Ok(Arguments { fault: least, last })
 }

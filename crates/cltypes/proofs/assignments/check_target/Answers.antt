@@ -5,10 +5,9 @@ use Rattle.clmodel.specs.Typing.Context.{meaning}
 use Rattle.clmodel.specs.Typing.Least.{least}
 use Rattle.clmodel.specs.Typing.Faults.{target_faults, integer_faults, pointer_faults, store_faults, term_faults, front_kind, element_kind}
 use Rattle.cltypes_scope.specs.Views.{operand_of}
-use Rattle.cltypes_scope.proofs.Follows.{inside, checks_as, operand, one_here}
+use Rattle.cltypes_scope.proofs.Follows.{fault_handed_on, inside, checks_as, operand, one_here}
 use Rattle.cltypes.proofs.Bodies.{place_along, place_fault_along}
 use Rattle.std.proofs.lemmas.Result.{err_from_is_err_and}
-use Rattle.cltypes.proofs.Control.{fault_handed_on}
 use Rattle.cltypes.proofs.assignments.check_target.Goals as goal
 
 pub returns-in_err-index-in-Element : goal.returns-in_err-index-in-Element
