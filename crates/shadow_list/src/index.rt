@@ -24,14 +24,14 @@ pub(crate) struct Index {
     pub(crate) cells: Cells,
 }
 
-/// The key of an access, which no other has of its group and its interval: as long as buffers have at most 2^28 bytes, groups at most
-/// 2^16 items, and a launch at most 2^11 buffers.
+/// The key of an access, which no other has of its group and its interval: as long as buffers and local objects have at most 2^24 bytes,
+/// groups at most 2^16 items, and a launch at most 2^15 buffers and 2^15 local objects.
 fn access_key(x: &Access) -> u64
     ensures { result ≡ access_key x.now }
 {
-    let start = x.first % 268435456 * 65536 + (x.item % 65536) as u64;
+    let start = x.first % 16777216 * 65536 + (x.item % 65536) as u64;
     let kind = kind_number(x.kind) as u64 * 16 + x.width.bytes();
-    start * 1048576 + object(x.region) % 4096 * 256 + kind
+    start * 16777216 + object(x.region) * 256 + kind
 }
 
 impl Index {
