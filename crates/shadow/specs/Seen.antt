@@ -3,7 +3,7 @@ use Rattle.std.specs.Prelude.{◌≡◌, ℕ, zero, suc, ◌/◌, ◌%◌, ◌<�
 use Rattle.std.specs.declared.alloc.Global.{Global}
 use Rattle.std.specs.Option.{option_map}
 use Rattle.clmodel.specs.Cells.{byte_count}
-use Rattle.clmodel.specs.Launch.{clash, conflict_between}
+use Rattle.clmodel.specs.Launch.{clash, across_groups, conflict_between}
 use Rattle.clmodel.specs.Run.{or_else}
 use Rattle.clmodel.specs.Law.{Logged, conflict_from}
 use Rattle.clmodel.specs.declared.access.Access.{Access}
@@ -90,7 +90,7 @@ OfOthers item log = (y : Access) → Logged log y → y.item ≡ item → ⊥
 
 -- the conflict of an access of another group's item with these, on its lowest byte that has one, with the earliest access there: only buffers are shared
 abbrev pub meeting : Access → List Access → Option Meeting
-meeting x log = option_map meeting_of (conflict_from (conflict_between false) x log x.first (byte_count x.width))
+meeting x log = option_map meeting_of (conflict_from (conflict_between across_groups) x log x.first (byte_count x.width))
 
 -- whether an access is of a buffer
 abbrev pub InBuffer : Access → Type 0

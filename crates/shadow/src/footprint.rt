@@ -10,7 +10,6 @@ ghost use Rattle.shadow.specs.Seen.{cell, cells_of, OfOthers, InBuffer, meeting}
 use crate::pages::{Pages, mark_all};
 use crate::seen::{Mark, Meeting, is_written};
 use clmodel::access::{Access, Region};
-use shadow_list::byte_count;
 use std::alloc::{AllocError, Global};
 
 /// What is kept of the accesses of work-groups so far to each byte of the launch's buffers: the first access, and the first of another kind.
@@ -56,7 +55,7 @@ impl Footprint {
         };
         match self.buffers.get(number as usize) {
             None => None,
-            Some(pages) => pages.against(x.kind, x.first as usize, byte_count(x.width) as usize),
+            Some(pages) => pages.against(x.kind, x.first as usize, x.width.bytes() as usize),
         }
     }
 
@@ -80,7 +79,7 @@ impl Footprint {
             return Ok(());
         };
         let first = x.first as usize;
-        let count = byte_count(x.width) as usize;
+        let count = x.width.bytes() as usize;
         make_room(alloc, &mut self.buffers, number as usize)?;
         let touched = &mut self.buffers[number as usize];
         touched.make(alloc, first / 256)?;

@@ -22,8 +22,8 @@ returns-in-Some c log keeps others inside =
     let buffers = c.args.self.now.buffers.items in
     let v = c.in-Some.pages.now in
     c.against.ensures
-    ∙ met_whole x log (cell_in v.pages.items) c.byte_count.result others
+    ∙ met_whole x log (cell_in v.pages.items) c.bytes.result others
     (keeps_at buffers log c.in-Buffer.number x.region (cell_in v.pages.items) keeps c.in-Buffer.is
     (cells_there buffers c.in-Buffer.number v (subst (λ z. c.in-Buffer.number < length z) c.deref.ensures.value c.in-Some.ensures.lookup.3.0)
     (subst (λ z. v ≡ get_or z c.in-Buffer.number v) c.deref.ensures.value c.in-Some.ensures.lookup.1)))
-    c.byte_count.ensures.value
+    c.bytes.ensures.value
