@@ -77,7 +77,7 @@ pub element_narrowed : next (narrowed 9) 0 [] ≡ stores 44
 unfolding next operations.binary_value integer.wrap conversions.common conversions.promoted integer.converted integer.bits_of
 element_narrowed = refl
 
-pub element_unset : next (unset_element 9) 0 [] ≡ action.Fault (cause.UnsetElement 32 (pos 1))
+pub element_unset : next (unset_element 9) 0 [] ≡ action.Fault (cause.UnsetElement 106 (pos 1))
 unfolding next operations.binary_value integer.wrap conversions.common conversions.promoted integer.converted integer.bits_of
 element_unset = refl
 
@@ -85,11 +85,11 @@ pub value_first : next (stored_before 9) 0 [] ≡ action.Fault cause.DivideByZer
 unfolding next operations.binary_value integer.wrap conversions.common conversions.promoted integer.converted integer.bits_of
 value_first = refl
 
-pub load_first : next (loaded_behind 9) 0 [] ≡ action.Fault (cause.PrivateBounds 32 (pos 2))
+pub load_first : next (loaded_behind 9) 0 [] ≡ action.Fault (cause.PrivateBounds 106 (pos 2))
 unfolding next operations.binary_value integer.wrap conversions.common conversions.promoted integer.converted integer.bits_of
 load_first = refl
 
-pub unset_again : next (declared_again 9) 0 [] ≡ action.Fault (cause.UnsetElement 32 (pos 0))
+pub unset_again : next (declared_again 9) 0 [] ≡ action.Fault (cause.UnsetElement 106 (pos 0))
 unfolding next operations.binary_value integer.wrap conversions.common conversions.promoted integer.converted integer.bits_of
 unset_again = refl
 
@@ -101,31 +101,31 @@ pub array_stepped : next (stepped 9) 0 [] ≡ stores 4294967168
 unfolding next operations.binary_value integer.wrap conversions.common conversions.promoted integer.converted integer.bits_of
 array_stepped = refl
 
-pub array_stepped_unset : next (stepped_unset 9) 0 [] ≡ action.Fault (cause.UnsetElement 32 (pos 1))
+pub array_stepped_unset : next (stepped_unset 9) 0 [] ≡ action.Fault (cause.UnsetElement 106 (pos 1))
 unfolding next operations.binary_value integer.wrap conversions.common conversions.promoted integer.converted integer.bits_of
 array_stepped_unset = refl
 
-pub array_all_bits : next (put_at (record { kind = Ulong; number = pos 18446744073709551615 }) 9) 0 [] ≡ action.Fault (cause.PrivateBounds 32 (negsuc 0))
+pub array_all_bits : next (put_at (record { kind = Ulong; number = pos 18446744073709551615 }) 9) 0 [] ≡ action.Fault (cause.PrivateBounds 106 (negsuc 0))
 unfolding next operations.binary_value integer.wrap conversions.common conversions.promoted integer.converted integer.bits_of
 array_all_bits = refl
 
-pub array_half_of_them : next (added_at (record { kind = Ulong; number = pos 9223372036854775808 }) 9) 0 [] ≡ action.Fault (cause.PrivateBounds 32 (negsuc 9223372036854775807))
+pub array_half_of_them : next (added_at (record { kind = Ulong; number = pos 9223372036854775808 }) 9) 0 [] ≡ action.Fault (cause.PrivateBounds 106 (negsuc 9223372036854775807))
 unfolding next operations.binary_value integer.wrap conversions.common conversions.promoted integer.converted integer.bits_of
 array_half_of_them = refl
 
-pub array_unsigned : next (put_at (record { kind = Uint; number = pos 4294967295 }) 9) 0 [] ≡ action.Fault (cause.PrivateBounds 32 (pos 4294967295))
+pub array_unsigned : next (put_at (record { kind = Uint; number = pos 4294967295 }) 9) 0 [] ≡ action.Fault (cause.PrivateBounds 106 (pos 4294967295))
 unfolding next operations.binary_value integer.wrap conversions.common conversions.promoted integer.converted integer.bits_of
 array_unsigned = refl
 
-pub array_element_before_value : next (added_to_unset 9) 0 [] ≡ action.Fault (cause.UnsetElement 32 (pos 1))
+pub array_element_before_value : next (added_to_unset 9) 0 [] ≡ action.Fault (cause.UnsetElement 106 (pos 1))
 unfolding next operations.binary_value integer.wrap conversions.common conversions.promoted integer.converted integer.bits_of
 array_element_before_value = refl
 
-pub array_index_before_value : next (unset_index 9) 0 [] ≡ action.Fault (cause.UnsetVariable 31)
+pub array_index_before_value : next (unset_index 9) 0 [] ≡ action.Fault (cause.UnsetVariable 105)
 unfolding next operations.binary_value integer.wrap conversions.common conversions.promoted integer.converted integer.bits_of
 array_index_before_value = refl
 
-pub array_value_before_range : next (unset_value 9) 0 [] ≡ action.Fault (cause.UnsetVariable 31)
+pub array_value_before_range : next (unset_value 9) 0 [] ≡ action.Fault (cause.UnsetVariable 105)
 unfolding next operations.binary_value integer.wrap conversions.common conversions.promoted integer.converted integer.bits_of
 array_value_before_range = refl
 
@@ -133,7 +133,7 @@ pub array_no_ticks : next (without_ticks 1) 0 [] ≡ stores 10
 unfolding next operations.binary_value integer.wrap conversions.common conversions.promoted integer.converted integer.bits_of
 array_no_ticks = refl
 
-pub array_no_ticks_behind : next (without_ticks 1) 0 (Done ∷ []) ≡ action.Fault (cause.PrivateBounds 32 (pos 1))
+pub array_no_ticks_behind : next (without_ticks 1) 0 (Done ∷ []) ≡ action.Fault (cause.PrivateBounds 106 (pos 1))
 unfolding next operations.binary_value integer.wrap conversions.common conversions.promoted integer.converted integer.bits_of
 array_no_ticks_behind = refl
 
@@ -141,7 +141,7 @@ pub array_called : next (called_again 9) 0 [] ≡ stores 1
 unfolding next operations.binary_value integer.wrap conversions.common conversions.promoted integer.converted integer.bits_of
 array_called = refl
 
-pub array_called_again : next (called_again 9) 0 (Done ∷ []) ≡ action.Fault (cause.UnsetElement 32 (pos 0))
+pub array_called_again : next (called_again 9) 0 (Done ∷ []) ≡ action.Fault (cause.UnsetElement 106 (pos 0))
 unfolding next operations.binary_value integer.wrap conversions.common conversions.promoted integer.converted integer.bits_of
 array_called_again = refl
 
@@ -153,11 +153,11 @@ pub array_longer : next (shorter_behind 9) 0 [] ≡ stores 7
 unfolding next operations.binary_value integer.wrap conversions.common conversions.promoted integer.converted integer.bits_of
 array_longer = refl
 
-pub array_shorter : next (shorter_behind 9) 0 (Done ∷ []) ≡ action.Fault (cause.PrivateBounds 34 (pos 2))
+pub array_shorter : next (shorter_behind 9) 0 (Done ∷ []) ≡ action.Fault (cause.PrivateBounds 108 (pos 2))
 unfolding next operations.binary_value integer.wrap conversions.common conversions.promoted integer.converted integer.bits_of
 array_shorter = refl
 
-pub array_unset_behind : next (unset_behind 9) 0 [] ≡ action.Fault (cause.UnsetElement 34 (pos 0))
+pub array_unset_behind : next (unset_behind 9) 0 [] ≡ action.Fault (cause.UnsetElement 108 (pos 0))
 unfolding next operations.binary_value integer.wrap conversions.common conversions.promoted integer.converted integer.bits_of
 array_unset_behind = refl
 

@@ -1,28 +1,29 @@
 -- The barrier and the names of its fences, by their places in a tree's table of names (OpenCL 1.2, 6.12.8).
-use Rattle.std.specs.Prelude.{ℕ, ◌==◌, ◌&&◌, ◌||◌, Bool, true, false, Option, None, Some, if◌then◌else◌}
+use Rattle.std.specs.Prelude.{ℕ, ◌&&◌, ◌||◌, Bool, true, false, Option, None, Some, if◌then◌else◌}
 use Rattle.clnum.specs.declared.operators.BinaryOperator.TheVariants.{BitOr}
 use Rattle.clmodel.specs.Tree.{Term, Variable, Binary, Terms, NoTerm, ThenTerm}
+use Rattle.clmodel.specs.BuiltIns.{meaning_of_place}
 use Rattle.clmodel.specs.declared.action.Fences.{Fences}
+use Rattle.clmodel.specs.declared.setup.Predefined.{Predefined}
+use Rattle.clmodel.specs.declared.setup.Predefined.TheVariants.{Barrier, Fence}
 use Rattle.clmodel.specs.declared.tree.InfixOperator.{InfixOperator}
 use Rattle.clmodel.specs.declared.tree.InfixOperator.TheVariants.{Arithmetic}
 
+abbrev barrier_in : Option Predefined → Bool
+barrier_in (Some Barrier) = true
+barrier_in _ = false
+
+-- whether a name is that of the barrier
 abbrev pub is_barrier : ℕ → Bool
-is_barrier name = name == 14
+is_barrier name = barrier_in (meaning_of_place name)
 
--- `CLK_LOCAL_MEM_FENCE`
-abbrev pub local_fence : ℕ
-local_fence = 24
-
--- `CLK_GLOBAL_MEM_FENCE`
-abbrev pub global_fence : ℕ
-global_fence = 25
+abbrev pub fence_in : Option Predefined → Option Fences
+fence_in (Some (Fence f)) = Some f
+fence_in _ = None
 
 -- what a name fences
 abbrev pub fence_named : ℕ → Option Fences
-fence_named name =
-    if name == local_fence then Some (record { local = true; global = false })
-    else (if name == global_fence then Some (record { local = false; global = true })
-    else None)
+fence_named name = fence_in (meaning_of_place name)
 
 abbrev pub fence : Term → Option Fences
 fence (Variable at name) = fence_named name

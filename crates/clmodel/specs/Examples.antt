@@ -1,9 +1,10 @@
--- Kernels on which the next action is computed. Names: 26 `f`, 27 `a`, 28 `g`, 29 `n`, 30 `s`, 31 `j`, 32 `p`, 33 `q`, 34 `r`.
+-- Kernels on which the next action is computed. Names: 100 `f`, 101 `a`, 102 `g`, 103 `n`, 104 `s`, 105 `j`, 106 `p`, 107 `q`, 108 `r`.
 use Rattle.std.specs.Prelude.{ℕ, pos, Bool, true, false, Option, None, Some, List, [], ◌∷◌}
 use Rattle.clnum.specs.Integer as clnum
 use Rattle.clnum.specs.declared.int_type.IntType.TheVariants.{Char, Uchar, Int}
 use Rattle.clnum.specs.declared.operators.BinaryOperator.TheVariants as operator
 use Rattle.clnum.specs.declared.operators.UnaryOperator.TheVariants.{Negate}
+use Rattle.clmodel.specs.BuiltIns.{local_fence}
 use Rattle.clmodel.specs.Setup.{Setup}
 use Rattle.clmodel.specs.Tree.{Term, Number, Variable, Element, Call, Unary, Binary, NoTerm, then_all, Whole, Part, Stmt, Block, Declare, DeclareAs, DeclareArray, Assign, Step, CallOnly, If, While, DoWhile, For, Break, Continue, ReturnValue, NoStmt, then_stmts, With, Always, While_, Func, NoFunc, then_funcs}
 use Rattle.clmodel.specs.declared.access.Object.TheVariants as object
@@ -37,11 +38,11 @@ declare name e = DeclareAs 0 (Integer Int) 0 name e
 
 -- `a[0] = e;`
 abbrev pub store : Term → Stmt
-store e = Assign 0 (Part 0 27 (number 0)) None e
+store e = Assign 0 (Part 0 101 (number 0)) None e
 
 -- `barrier(CLK_LOCAL_MEM_FENCE);`
 abbrev pub barrier : Stmt
-barrier = CallOnly 0 14 (then_all NoTerm (variable 24 ∷ []))
+barrier = CallOnly 0 14 (then_all NoTerm (variable local_fence ∷ []))
 
 -- `name++`
 abbrev pub increment : ℕ → Stmt
@@ -52,7 +53,7 @@ less = Binary 0 (Arithmetic operator.Less)
 
 -- `for (int j = first; condition; j++) body`
 abbrev pub for_j : ℕ → Term → Stmt → Stmt
-for_j first condition body = For 0 (With (declare 31 (number first))) (While_ condition) (With (increment 31)) body
+for_j first condition body = For 0 (With (declare 105 (number first))) (While_ condition) (With (increment 105)) body
 
 -- a helper: its type, its name, the names of its parameters, which are ints, and its body
 abbrev pub ints : List ℕ → List Parameter
@@ -62,7 +63,7 @@ ints (name ∷ names) = record { name_at = 0; name = name; kind = Integer Int } 
 -- `int g(int n) { .. }`
 abbrev pub helper_g : List Stmt → Func
 helper_g body =
-    record { is_kernel = false; result = Some Int; name_at = 0; name = 28; parameters = ints (29 ∷ []); body_at = 0; body = then_stmts NoStmt body }
+    record { is_kernel = false; result = Some Int; name_at = 0; name = 102; parameters = ints (103 ∷ []); body_at = 0; body = then_stmts NoStmt body }
 
 -- a pointer to ints
 abbrev pub pointer : AddressSpace → ℕ → Parameter
@@ -77,14 +78,14 @@ launched_with parameters arguments helpers body budget =
           is_kernel = true;
           result = None;
           name_at = 0;
-          name = 26;
+          name = 100;
           parameters = parameters;
           body_at = 0;
           body = then_stmts NoStmt body;
         } ∷ []);
         names = [];
       };
-      kernel = 26;
+      kernel = 100;
       range = record { global = 1 ∷ []; local = 1 ∷ []; offset = 0 ∷ [] };
       arguments = arguments;
       budget = budget;
@@ -92,7 +93,7 @@ launched_with parameters arguments helpers body budget =
 
 -- `__kernel void f(__global int *a) { .. }`
 abbrev pub launched : List Func → List Stmt → ℕ → Setup
-launched = launched_with (pointer Global 27 ∷ []) (Some (argument.Buffer (97 ∷ [])) ∷ [])
+launched = launched_with (pointer Global 101 ∷ []) (Some (argument.Buffer (97 ∷ [])) ∷ [])
 
 -- the actions of these kernels
 abbrev pub stores : ℕ → Action
@@ -106,20 +107,20 @@ abbrev pub sum_by_helper : ℕ → Setup
 sum_by_helper =
     launched
     (helper_g (
-    declare 30 (number 0)
-    ∷ for_j 1 (Binary 0 (Arithmetic operator.LessOrEqual) (variable 31) (variable 29)) (Assign 0 (Whole 0 30) (Some operator.Add) (variable 31))
-    ∷ ReturnValue 0 (variable 30)
+    declare 104 (number 0)
+    ∷ for_j 1 (Binary 0 (Arithmetic operator.LessOrEqual) (variable 105) (variable 103)) (Assign 0 (Whole 0 104) (Some operator.Add) (variable 105))
+    ∷ ReturnValue 0 (variable 104)
     ∷ []
     ) ∷ [])
-    (store (call 28 (number 4 ∷ [])) ∷ [])
+    (store (call 102 (number 4 ∷ [])) ∷ [])
 
 -- `for (int j = 0; j < 3; j++) a[0] = j;`
 abbrev pub three_turns : ℕ → Setup
-three_turns = launched [] (for_j 0 (less (variable 31) (number 3)) (store (variable 31)) ∷ [])
+three_turns = launched [] (for_j 0 (less (variable 105) (number 3)) (store (variable 105)) ∷ [])
 
 -- `for (int j = 0; j < 2; j++) { continue; a[0] = 1; }`
 abbrev pub continues : ℕ → Setup
-continues = launched [] (for_j 0 (less (variable 31) (number 2)) (block (Continue 0 ∷ store (number 1) ∷ [])) ∷ [])
+continues = launched [] (for_j 0 (less (variable 105) (number 2)) (block (Continue 0 ∷ store (number 1) ∷ [])) ∷ [])
 
 -- `for (barrier(..); ; barrier(..)) barrier(..);`
 abbrev pub three_barriers : ℕ → Setup
@@ -129,11 +130,11 @@ three_barriers = launched [] (For 0 (With barrier) Always (With barrier) barrier
 abbrev pub nested : ℕ → Setup
 nested =
     launched
-    (helper_g (While 0 (number 1) (block (barrier ∷ ReturnValue 0 (variable 29) ∷ [])) ∷ []) ∷ [])
+    (helper_g (While 0 (number 1) (block (barrier ∷ ReturnValue 0 (variable 103) ∷ [])) ∷ []) ∷ [])
     (While 0 (number 1) (block (
     DoWhile 0 (block (barrier ∷ Break 0 ∷ [])) (number 1)
-    ∷ CallOnly 0 28 (then_all NoTerm (number 0 ∷ []))
-    ∷ CallOnly 0 28 (then_all NoTerm (number 0 ∷ []))
+    ∷ CallOnly 0 102 (then_all NoTerm (number 0 ∷ []))
+    ∷ CallOnly 0 102 (then_all NoTerm (number 0 ∷ []))
     ∷ []
     )) ∷ [])
 
@@ -141,36 +142,36 @@ nested =
 abbrev pub through_local : ℕ → Setup
 through_local =
     launched_with
-    (pointer Global 27 ∷ pointer Local 30 ∷ [])
+    (pointer Global 101 ∷ pointer Local 104 ∷ [])
     (Some (argument.Buffer (97 ∷ [])) ∷ Some (argument.Local 8) ∷ [])
     []
-    (Assign 0 (Part 0 30 (number 0)) None (number 1) ∷ barrier ∷ store (Element 0 30 (number 0)) ∷ [])
+    (Assign 0 (Part 0 104 (number 0)) None (number 1) ∷ barrier ∷ store (Element 0 104 (number 0)) ∷ [])
 
 -- `int p[count];` and `__local int q[count];`
 abbrev pub private_ints : ℕ → Stmt
-private_ints count = DeclareArray 0 false Int 0 32 0 (record { kind = Int; number = pos count })
+private_ints count = DeclareArray 0 false Int 0 106 0 (record { kind = Int; number = pos count })
 
 abbrev pub local_ints : ℕ → Stmt
-local_ints count = DeclareArray 0 true Int 0 33 0 (record { kind = Int; number = pos count })
+local_ints count = DeclareArray 0 true Int 0 107 0 (record { kind = Int; number = pos count })
 
 -- `p[i]`, and `p[i] = e;`
 abbrev pub of_p : Term → Term
-of_p i = Element 0 32 i
+of_p i = Element 0 106 i
 
 abbrev pub into_p : Term → Term → Stmt
-into_p i e = Assign 0 (Part 0 32 i) None e
+into_p i e = Assign 0 (Part 0 106 i) None e
 
 -- `int p[2]; p[1] = 7; p[1]++; a[0] = p[1];`
 abbrev pub kept_in_private : ℕ → Setup
 kept_in_private =
-    launched [] (private_ints 2 ∷ into_p (number 1) (number 7) ∷ Step 0 (Part 0 32 (number 1)) true ∷ store (of_p (number 1)) ∷ [])
+    launched [] (private_ints 2 ∷ into_p (number 1) (number 7) ∷ Step 0 (Part 0 106 (number 1)) true ∷ store (of_p (number 1)) ∷ [])
 
 -- `char p[1]; p[0] = 300; a[0] = p[0];`
 abbrev pub narrowed : ℕ → Setup
 narrowed =
     launched
     []
-    (DeclareArray 0 false Char 0 32 0 (record { kind = Int; number = pos 1 })
+    (DeclareArray 0 false Char 0 106 0 (record { kind = Int; number = pos 1 })
     ∷ into_p (number 0) (number 300)
     ∷ store (of_p (number 0))
     ∷ [])
@@ -187,54 +188,54 @@ abbrev pub stored_before : ℕ → Setup
 stored_before = launched [] (private_ints 2 ∷ into_p (Unary 0 Negate (number 1)) by_zero ∷ [])
 
 abbrev pub loaded_behind : ℕ → Setup
-loaded_behind = launched [] (private_ints 2 ∷ Assign 0 (Part 0 32 (number 2)) (Some operator.Add) by_zero ∷ [])
+loaded_behind = launched [] (private_ints 2 ∷ Assign 0 (Part 0 106 (number 2)) (Some operator.Add) by_zero ∷ [])
 
 -- `for (int j = 0; j < 2; j++) { int p[1]; if (j) a[0] = p[0]; p[0] = j; }`  A declaration leaves no element set.
 abbrev pub declared_again : ℕ → Setup
 declared_again =
     launched
     []
-    (for_j 0 (less (variable 31) (number 2)) (block (
+    (for_j 0 (less (variable 105) (number 2)) (block (
     private_ints 1
-    ∷ If 0 (variable 31) (store (of_p (number 0)))
-    ∷ into_p (number 0) (variable 31)
+    ∷ If 0 (variable 105) (store (of_p (number 0)))
+    ∷ into_p (number 0) (variable 105)
     ∷ []
     )) ∷ [])
 
 -- `int n = 1; __local int q[2]; q[n] = 3;`
 abbrev pub in_local_array : ℕ → Setup
-in_local_array = launched [] (declare 29 (number 1) ∷ local_ints 2 ∷ Assign 0 (Part 0 33 (variable 29)) None (number 3) ∷ [])
+in_local_array = launched [] (declare 103 (number 1) ∷ local_ints 2 ∷ Assign 0 (Part 0 107 (variable 103)) None (number 3) ∷ [])
 
 -- `char p[2]; p[0] = 127; p[0]++; a[0] = p[0];` and `int p[2]; p[1]++;`
 abbrev pub stepped : ℕ → Setup
 stepped =
     launched
     []
-    (DeclareArray 0 false Char 0 32 0 (record { kind = Int; number = pos 2 })
+    (DeclareArray 0 false Char 0 106 0 (record { kind = Int; number = pos 2 })
     ∷ into_p (number 0) (number 127)
-    ∷ Step 0 (Part 0 32 (number 0)) true
+    ∷ Step 0 (Part 0 106 (number 0)) true
     ∷ store (of_p (number 0))
     ∷ [])
 
 abbrev pub stepped_unset : ℕ → Setup
-stepped_unset = launched [] (private_ints 2 ∷ Step 0 (Part 0 32 (number 1)) true ∷ [])
+stepped_unset = launched [] (private_ints 2 ∷ Step 0 (Part 0 106 (number 1)) true ∷ [])
 
 -- `int p[2]; p[i] = 1;` and `int p[2]; p[i] += 1;`
 abbrev pub put_at : clnum.Integer → ℕ → Setup
 put_at i = launched [] (private_ints 2 ∷ into_p (Number 0 i) (number 1) ∷ [])
 
 abbrev pub added_at : clnum.Integer → ℕ → Setup
-added_at i = launched [] (private_ints 2 ∷ Assign 0 (Part 0 32 (Number 0 i)) (Some operator.Add) (number 1) ∷ [])
+added_at i = launched [] (private_ints 2 ∷ Assign 0 (Part 0 106 (Number 0 i)) (Some operator.Add) (number 1) ∷ [])
 
 -- `int p[2]; p[1] += 1 / 0;`, `int p[2]; int j; p[j] = 1 / 0;` and `int p[2]; int j; p[9] = j;`
 abbrev pub added_to_unset : ℕ → Setup
-added_to_unset = launched [] (private_ints 2 ∷ Assign 0 (Part 0 32 (number 1)) (Some operator.Add) by_zero ∷ [])
+added_to_unset = launched [] (private_ints 2 ∷ Assign 0 (Part 0 106 (number 1)) (Some operator.Add) by_zero ∷ [])
 
 abbrev pub unset_index : ℕ → Setup
-unset_index = launched [] (private_ints 2 ∷ Declare 0 (Integer Int) 0 31 ∷ into_p (variable 31) by_zero ∷ [])
+unset_index = launched [] (private_ints 2 ∷ Declare 0 (Integer Int) 0 105 ∷ into_p (variable 105) by_zero ∷ [])
 
 abbrev pub unset_value : ℕ → Setup
-unset_value = launched [] (private_ints 2 ∷ Declare 0 (Integer Int) 0 31 ∷ into_p (number 9) (variable 31) ∷ [])
+unset_value = launched [] (private_ints 2 ∷ Declare 0 (Integer Int) 0 105 ∷ into_p (number 9) (variable 105) ∷ [])
 
 -- `int p[1]; p[0] = 5; p[0] += p[0]; a[0] = p[0]; p[1] = 0;`
 abbrev pub without_ticks : ℕ → Setup
@@ -243,7 +244,7 @@ without_ticks =
     []
     (private_ints 1
     ∷ into_p (number 0) (number 5)
-    ∷ Assign 0 (Part 0 32 (number 0)) (Some operator.Add) (of_p (number 0))
+    ∷ Assign 0 (Part 0 106 (number 0)) (Some operator.Add) (of_p (number 0))
     ∷ store (of_p (number 0))
     ∷ into_p (number 1) (number 0)
     ∷ [])
@@ -254,12 +255,12 @@ called_again =
     launched
     (helper_g (
     private_ints 1
-    ∷ If 0 (Binary 0 (Arithmetic operator.Equal) (variable 29) (number 2)) (ReturnValue 0 (of_p (number 0)))
-    ∷ into_p (number 0) (variable 29)
+    ∷ If 0 (Binary 0 (Arithmetic operator.Equal) (variable 103) (number 2)) (ReturnValue 0 (of_p (number 0)))
+    ∷ into_p (number 0) (variable 103)
     ∷ ReturnValue 0 (of_p (number 0))
     ∷ []
     ) ∷ [])
-    (store (call 28 (number 1 ∷ [])) ∷ store (call 28 (number 2 ∷ [])) ∷ [])
+    (store (call 102 (number 1 ∷ [])) ∷ store (call 102 (number 2 ∷ [])) ∷ [])
 
 -- `int g(int n) { int p[1]; p[0] = n * 2; return p[0]; }`, with `int p[2]; p[1] = 3; p[1] += g(p[1]); a[0] = p[1];`
 abbrev pub added_by_helper : ℕ → Setup
@@ -267,19 +268,19 @@ added_by_helper =
     launched
     (helper_g (
     private_ints 1
-    ∷ into_p (number 0) (Binary 0 (Arithmetic operator.Multiply) (variable 29) (number 2))
+    ∷ into_p (number 0) (Binary 0 (Arithmetic operator.Multiply) (variable 103) (number 2))
     ∷ ReturnValue 0 (of_p (number 0))
     ∷ []
     ) ∷ [])
     (private_ints 2
     ∷ into_p (number 1) (number 3)
-    ∷ Assign 0 (Part 0 32 (number 1)) (Some operator.Add) (call 28 (of_p (number 1) ∷ []))
+    ∷ Assign 0 (Part 0 106 (number 1)) (Some operator.Add) (call 102 (of_p (number 1) ∷ []))
     ∷ store (of_p (number 1))
     ∷ [])
 
 -- `int r[count];` and `__local int r[count];`
 abbrev pub other_ints : (is_local : Bool) → ℕ → Stmt
-other_ints is_local count = DeclareArray 0 is_local Int 0 34 0 (record { kind = Int; number = pos count })
+other_ints is_local count = DeclareArray 0 is_local Int 0 108 0 (record { kind = Int; number = pos count })
 
 -- `{ int p[3]; p[2] = 7; a[0] = p[2]; } { int r[2]; r[2] = 1; }`
 abbrev pub shorter_behind : ℕ → Setup
@@ -287,7 +288,7 @@ shorter_behind =
     launched
     []
     (block (private_ints 3 ∷ into_p (number 2) (number 7) ∷ store (of_p (number 2)) ∷ [])
-    ∷ block (other_ints false 2 ∷ Assign 0 (Part 0 34 (number 2)) None (number 1) ∷ [])
+    ∷ block (other_ints false 2 ∷ Assign 0 (Part 0 108 (number 2)) None (number 1) ∷ [])
     ∷ [])
 
 -- `{ int p[2]; p[0] = 7; } { int r[2]; a[0] = r[0]; }`
@@ -296,12 +297,12 @@ unset_behind =
     launched
     []
     (block (private_ints 2 ∷ into_p (number 0) (number 7) ∷ [])
-    ∷ block (other_ints false 2 ∷ store (Element 0 34 (number 0)) ∷ [])
+    ∷ block (other_ints false 2 ∷ store (Element 0 108 (number 0)) ∷ [])
     ∷ [])
 
 -- `a[1] = e;`
 abbrev pub store_second : Term → Stmt
-store_second e = Assign 0 (Part 0 27 (number 1)) None e
+store_second e = Assign 0 (Part 0 101 (number 1)) None e
 
 -- `int p[2]; p[0] = 1; { int p = 3; a[0] = p; } a[1] = p[0];`
 abbrev pub hidden : ℕ → Setup
@@ -310,13 +311,13 @@ hidden =
     []
     (private_ints 2
     ∷ into_p (number 0) (number 1)
-    ∷ block (declare 32 (number 3) ∷ store (variable 32) ∷ [])
+    ∷ block (declare 106 (number 3) ∷ store (variable 106) ∷ [])
     ∷ store_second (of_p (number 0))
     ∷ [])
 
 -- `__local int q[2]; q[0] = 5; { int q[1]; q[0] = 6; a[0] = q[0]; } a[1] = q[0];`
 abbrev pub into_q : Term → Stmt
-into_q e = Assign 0 (Part 0 33 (number 0)) None e
+into_q e = Assign 0 (Part 0 107 (number 0)) None e
 
 abbrev pub local_hidden : ℕ → Setup
 local_hidden =
@@ -325,8 +326,8 @@ local_hidden =
     (local_ints 2
     ∷ into_q (number 5)
     ∷ block
-    (DeclareArray 0 false Int 0 33 0 (record { kind = Int; number = pos 1 }) ∷ into_q (number 6) ∷ store (Element 0 33 (number 0)) ∷ [])
-    ∷ store_second (Element 0 33 (number 0))
+    (DeclareArray 0 false Int 0 107 0 (record { kind = Int; number = pos 1 }) ∷ into_q (number 6) ∷ store (Element 0 107 (number 0)) ∷ [])
+    ∷ store_second (Element 0 107 (number 0))
     ∷ [])
 
 -- `int n = 0; do { int p[1]; p[0] = n; n++; if (p[0] == 0) continue; a[0] = p[0]; } while (n < 3);`
@@ -334,15 +335,15 @@ abbrev pub continued_past : ℕ → Setup
 continued_past =
     launched
     []
-    (declare 29 (number 0)
+    (declare 103 (number 0)
     ∷ DoWhile 0 (block (
     private_ints 1
-    ∷ into_p (number 0) (variable 29)
-    ∷ increment 29
+    ∷ into_p (number 0) (variable 103)
+    ∷ increment 103
     ∷ If 0 (Binary 0 (Arithmetic operator.Equal) (of_p (number 0)) (number 0)) (Continue 0)
     ∷ store (of_p (number 0))
     ∷ []
-    )) (less (variable 29) (number 3))
+    )) (less (variable 103) (number 3))
     ∷ [])
 
 -- `__kernel void f(__local int *s, __global int *a) { int n = 3; int p[2]; __local uchar q[8]; { int j; } __local int r[2]; r[0] = n; q[4] = 9; }`, with
@@ -350,16 +351,16 @@ continued_past =
 abbrev pub numbered : ℕ → Setup
 numbered =
     launched_with
-    (pointer Local 30 ∷ pointer Global 27 ∷ [])
+    (pointer Local 104 ∷ pointer Global 101 ∷ [])
     (Some (argument.Local 4) ∷ Some (argument.Buffer (97 ∷ [])) ∷ [])
     []
-    (declare 29 (number 3)
+    (declare 103 (number 3)
     ∷ private_ints 2
-    ∷ DeclareArray 0 true Uchar 0 33 0 (record { kind = Int; number = pos 8 })
-    ∷ block (Declare 0 (Integer Int) 0 31 ∷ [])
+    ∷ DeclareArray 0 true Uchar 0 107 0 (record { kind = Int; number = pos 8 })
+    ∷ block (Declare 0 (Integer Int) 0 105 ∷ [])
     ∷ other_ints true 2
-    ∷ Assign 0 (Part 0 34 (number 0)) None (variable 29)
-    ∷ Assign 0 (Part 0 33 (number 4)) None (number 9)
+    ∷ Assign 0 (Part 0 108 (number 0)) None (variable 103)
+    ∷ Assign 0 (Part 0 107 (number 4)) None (number 9)
     ∷ [])
 
 -- `void g(__local int *p) { p[3] = 1; }`, with `__local int r[2]; __local int q[4]; g(q + 1);`
@@ -370,12 +371,12 @@ passed_on =
       is_kernel = false;
       result = None;
       name_at = 0;
-      name = 28;
-      parameters = pointer Local 32 ∷ [];
+      name = 102;
+      parameters = pointer Local 106 ∷ [];
       body_at = 0;
       body = then_stmts NoStmt (into_p (number 3) (number 1) ∷ []);
     } ∷ [])
     (other_ints true 2
     ∷ local_ints 4
-    ∷ CallOnly 0 28 (then_all NoTerm (Binary 0 (Arithmetic operator.Add) (variable 33) (number 1) ∷ []))
+    ∷ CallOnly 0 102 (then_all NoTerm (Binary 0 (Arithmetic operator.Add) (variable 107) (number 1) ∷ []))
     ∷ [])

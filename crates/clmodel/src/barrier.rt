@@ -6,29 +6,26 @@ ghost use Rattle.clmodel.specs.Barrier as barrier;
 ghost use Rattle.clmodel.specs.Tree.{term, terms};
 
 use crate::action::Fences;
+use crate::setup::{Predefined, meaning_of_place};
 use crate::tree::{Expression, InfixOperator};
 use clnum::BinaryOperator;
 
-/// Whether a name is that of the barrier.
+/// Whether a name is that of the barrier, by its place in a tree's table of names.
 pub fn is_barrier(name: u32) -> bool
     ensures { result ≡ barrier.is_barrier name }
 {
-    name == 14
+    match meaning_of_place(name) {
+        Some(Predefined::Barrier) => true,
+        _ => false,
+    }
 }
 
 /// What a name fences.
-fn fence_named(name: u32) -> Option<Fences>
+pub fn fence_named(name: u32) -> Option<Fences>
     ensures { result ≡ barrier.fence_named name }
 {
-    match name {
-        24 => Some(Fences {
-            local: true,
-            global: false,
-        }),
-        25 => Some(Fences {
-            local: false,
-            global: true,
-        }),
+    match meaning_of_place(name) {
+        Some(Predefined::Fence(fences)) => Some(fences),
         _ => None,
     }
 }

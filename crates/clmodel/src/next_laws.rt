@@ -53,10 +53,10 @@ pub fn local_memory()
 pub fn arrays()
     ensures kept { next (kept_in_private 9) 0 [] ≡ stores 8 }
     ensures narrowed { next (narrowed 9) 0 [] ≡ stores 44 }
-    ensures unset { next (unset_element 9) 0 [] ≡ action.Fault (cause.UnsetElement 32 (pos 1)) }
+    ensures unset { next (unset_element 9) 0 [] ≡ action.Fault (cause.UnsetElement 106 (pos 1)) }
     ensures value_first { next (stored_before 9) 0 [] ≡ action.Fault cause.DivideByZero }
-    ensures load_first { next (loaded_behind 9) 0 [] ≡ action.Fault (cause.PrivateBounds 32 (pos 2)) }
-    ensures unset_again { next (declared_again 9) 0 [] ≡ action.Fault (cause.UnsetElement 32 (pos 0)) }
+    ensures load_first { next (loaded_behind 9) 0 [] ≡ action.Fault (cause.PrivateBounds 106 (pos 2)) }
+    ensures unset_again { next (declared_again 9) 0 [] ≡ action.Fault (cause.UnsetElement 106 (pos 0)) }
     ensures local { next (in_local_array 9) 0 [] ≡ action.Access (object.Local 2) (pos 1) (operation.Store Four 3) }
     ensures sizes { (bytes : List ℕ → List ℕ) → (launch_of (in_local_array 9) bytes).local_sizes ≡ 0 ∷ 0 ∷ 8 ∷ [] }
 {}
@@ -65,25 +65,25 @@ pub fn arrays()
 /// 1.2, section 6.2.3; C99 6.5.2.1 and 6.5.16, which leaves the order open; the order, the range and 64 bits of an index are this project's own).
 pub fn elements_in_order()
     ensures stepped { next (stepped 9) 0 [] ≡ stores 4294967168 }
-    ensures stepped_unset { next (stepped_unset 9) 0 [] ≡ action.Fault (cause.UnsetElement 32 (pos 1)) }
-    ensures all_bits { next (put_at (record { kind = Ulong; number = pos 18446744073709551615 }) 9) 0 [] ≡ action.Fault (cause.PrivateBounds 32 (negsuc 0)) }
-    ensures half_of_them { next (added_at (record { kind = Ulong; number = pos 9223372036854775808 }) 9) 0 [] ≡ action.Fault (cause.PrivateBounds 32 (negsuc 9223372036854775807)) }
-    ensures unsigned { next (put_at (record { kind = Uint; number = pos 4294967295 }) 9) 0 [] ≡ action.Fault (cause.PrivateBounds 32 (pos 4294967295)) }
-    ensures element_before_value { next (added_to_unset 9) 0 [] ≡ action.Fault (cause.UnsetElement 32 (pos 1)) }
-    ensures index_before_value { next (unset_index 9) 0 [] ≡ action.Fault (cause.UnsetVariable 31) }
-    ensures value_before_range { next (unset_value 9) 0 [] ≡ action.Fault (cause.UnsetVariable 31) }
+    ensures stepped_unset { next (stepped_unset 9) 0 [] ≡ action.Fault (cause.UnsetElement 106 (pos 1)) }
+    ensures all_bits { next (put_at (record { kind = Ulong; number = pos 18446744073709551615 }) 9) 0 [] ≡ action.Fault (cause.PrivateBounds 106 (negsuc 0)) }
+    ensures half_of_them { next (added_at (record { kind = Ulong; number = pos 9223372036854775808 }) 9) 0 [] ≡ action.Fault (cause.PrivateBounds 106 (negsuc 9223372036854775807)) }
+    ensures unsigned { next (put_at (record { kind = Uint; number = pos 4294967295 }) 9) 0 [] ≡ action.Fault (cause.PrivateBounds 106 (pos 4294967295)) }
+    ensures element_before_value { next (added_to_unset 9) 0 [] ≡ action.Fault (cause.UnsetElement 106 (pos 1)) }
+    ensures index_before_value { next (unset_index 9) 0 [] ≡ action.Fault (cause.UnsetVariable 105) }
+    ensures value_before_range { next (unset_value 9) 0 [] ≡ action.Fault (cause.UnsetVariable 105) }
     ensures no_ticks { next (without_ticks 1) 0 [] ≡ stores 10 }
-    ensures no_ticks_behind { next (without_ticks 1) 0 (Done ∷ []) ≡ action.Fault (cause.PrivateBounds 32 (pos 1)) }
+    ensures no_ticks_behind { next (without_ticks 1) 0 (Done ∷ []) ≡ action.Fault (cause.PrivateBounds 106 (pos 1)) }
 {}
 
 /// Arrays in blocks, in turns of a loop and in helpers (OpenCL 1.2, section 6.5; C99 6.2.1, paragraph 4, and 6.2.4, paragraph 5).
 pub fn arrays_in_blocks()
     ensures called { next (called_again 9) 0 [] ≡ stores 1 }
-    ensures called_again { next (called_again 9) 0 (Done ∷ []) ≡ action.Fault (cause.UnsetElement 32 (pos 0)) }
+    ensures called_again { next (called_again 9) 0 (Done ∷ []) ≡ action.Fault (cause.UnsetElement 106 (pos 0)) }
     ensures added_by_helper { next (added_by_helper 9) 0 [] ≡ stores 9 }
     ensures longer { next (shorter_behind 9) 0 [] ≡ stores 7 }
-    ensures shorter { next (shorter_behind 9) 0 (Done ∷ []) ≡ action.Fault (cause.PrivateBounds 34 (pos 2)) }
-    ensures unset_behind { next (unset_behind 9) 0 [] ≡ action.Fault (cause.UnsetElement 34 (pos 0)) }
+    ensures shorter { next (shorter_behind 9) 0 (Done ∷ []) ≡ action.Fault (cause.PrivateBounds 108 (pos 2)) }
+    ensures unset_behind { next (unset_behind 9) 0 [] ≡ action.Fault (cause.UnsetElement 108 (pos 0)) }
     ensures hidden { next (hidden 9) 0 [] ≡ stores 3 }
     ensures seen_again { next (hidden 9) 0 (Done ∷ []) ≡ action.Access (object.Buffer 0) (pos 1) (operation.Store Four 1) }
     ensures hiding { next (local_hidden 9) 0 (Done ∷ []) ≡ stores 6 }

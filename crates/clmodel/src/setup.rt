@@ -1,9 +1,11 @@
 //! What a launch is asked with: its range and its kernel's arguments, and the built-in functions of the language.
 #![tactic(auto)]
 
-ghost use Rattle.std.specs.Prelude.{◌≡◌};
-ghost use Rattle.clmodel.specs.BuiltIns.{built_in};
+ghost use Rattle.std.specs.Prelude.{◌≡◌, slice_get};
+ghost use Rattle.clmodel.specs.BuiltIns.{built_in, meanings, meaning_of_place};
+ghost use Rattle.clmodel.specs.Typing.Context.{is_reserved};
 
+use crate::action::Fences;
 use crate::text::{Name, Numbers};
 use clnum::Builtin;
 
@@ -78,34 +80,86 @@ pub enum BuiltIn {
     Atomic(AtomicFunction),
 }
 
-/// The built-in function of a name, by its place in a tree's table of names, which begins with the names of the built-ins.
+/// What a name means without a declaration: a built-in function, the barrier, or what a barrier fences (OpenCL 1.2, section 6.12.8).
+#[derive(Clone, Copy)]
+pub enum Predefined {
+    Function(BuiltIn),
+    Barrier,
+    Fence(Fences),
+}
+
+/// The names that have a meaning without a declaration. A tree's table of names begins with these, in this order.
+pub static PREDEFINED: [(&[u8], Predefined); 26] = [
+    (b"get_work_dim", Predefined::Function(BuiltIn::WorkDim)),
+    (b"get_global_id", Predefined::Function(BuiltIn::WorkItem(WorkItemFunction::GlobalId))),
+    (b"get_local_id", Predefined::Function(BuiltIn::WorkItem(WorkItemFunction::LocalId))),
+    (b"get_group_id", Predefined::Function(BuiltIn::WorkItem(WorkItemFunction::GroupId))),
+    (b"get_global_offset", Predefined::Function(BuiltIn::WorkItem(WorkItemFunction::GlobalOffset))),
+    (b"get_global_size", Predefined::Function(BuiltIn::WorkItem(WorkItemFunction::GlobalSize))),
+    (b"get_local_size", Predefined::Function(BuiltIn::WorkItem(WorkItemFunction::LocalSize))),
+    (b"get_num_groups", Predefined::Function(BuiltIn::WorkItem(WorkItemFunction::NumGroups))),
+    (b"min", Predefined::Function(BuiltIn::Integer(Builtin::Min))),
+    (b"max", Predefined::Function(BuiltIn::Integer(Builtin::Max))),
+    (b"abs", Predefined::Function(BuiltIn::Integer(Builtin::Abs))),
+    (b"clz", Predefined::Function(BuiltIn::Integer(Builtin::Clz))),
+    (b"popcount", Predefined::Function(BuiltIn::Integer(Builtin::Popcount))),
+    (b"rotate", Predefined::Function(BuiltIn::Integer(Builtin::Rotate))),
+    (b"barrier", Predefined::Barrier),
+    (b"atomic_add", Predefined::Function(BuiltIn::Atomic(AtomicFunction::Add))),
+    (b"atomic_sub", Predefined::Function(BuiltIn::Atomic(AtomicFunction::Sub))),
+    (b"atomic_min", Predefined::Function(BuiltIn::Atomic(AtomicFunction::Min))),
+    (b"atomic_max", Predefined::Function(BuiltIn::Atomic(AtomicFunction::Max))),
+    (b"atomic_and", Predefined::Function(BuiltIn::Atomic(AtomicFunction::And))),
+    (b"atomic_or", Predefined::Function(BuiltIn::Atomic(AtomicFunction::Or))),
+    (b"atomic_xor", Predefined::Function(BuiltIn::Atomic(AtomicFunction::Xor))),
+    (b"atomic_inc", Predefined::Function(BuiltIn::Atomic(AtomicFunction::Inc))),
+    (b"atomic_dec", Predefined::Function(BuiltIn::Atomic(AtomicFunction::Dec))),
+    (
+        b"CLK_LOCAL_MEM_FENCE",
+        Predefined::Fence(Fences {
+            local: true,
+            global: false,
+        }),
+    ),
+    (
+        b"CLK_GLOBAL_MEM_FENCE",
+        Predefined::Fence(Fences {
+            local: false,
+            global: true,
+        }),
+    ),
+];
+
+/// The meaning at a place of a table.
+fn meaning_in(table: &[(&[u8], Predefined)], place: usize) -> Option<Predefined>
+    ensures { result ≡ slice_get (meanings table.now) place }
+{
+    match table.get(place) {
+        Some(entry) => Some(entry.1),
+        None => None,
+    }
+}
+
+/// What a name means by its place in a tree's table of names, if it is predefined.
+pub fn meaning_of_place(name: u32) -> Option<Predefined>
+    ensures { result ≡ meaning_of_place name }
+{
+    meaning_in(&PREDEFINED, name as usize)
+}
+
+/// The built-in function of a name, by its place in a tree's table of names.
 pub fn built_in_named(name: u32) -> Option<BuiltIn>
     ensures { result ≡ built_in name }
 {
-    match name {
-        0 => Some(BuiltIn::WorkDim),
-        1 => Some(BuiltIn::WorkItem(WorkItemFunction::GlobalId)),
-        2 => Some(BuiltIn::WorkItem(WorkItemFunction::LocalId)),
-        3 => Some(BuiltIn::WorkItem(WorkItemFunction::GroupId)),
-        4 => Some(BuiltIn::WorkItem(WorkItemFunction::GlobalOffset)),
-        5 => Some(BuiltIn::WorkItem(WorkItemFunction::GlobalSize)),
-        6 => Some(BuiltIn::WorkItem(WorkItemFunction::LocalSize)),
-        7 => Some(BuiltIn::WorkItem(WorkItemFunction::NumGroups)),
-        8 => Some(BuiltIn::Integer(Builtin::Min)),
-        9 => Some(BuiltIn::Integer(Builtin::Max)),
-        10 => Some(BuiltIn::Integer(Builtin::Abs)),
-        11 => Some(BuiltIn::Integer(Builtin::Clz)),
-        12 => Some(BuiltIn::Integer(Builtin::Popcount)),
-        13 => Some(BuiltIn::Integer(Builtin::Rotate)),
-        15 => Some(BuiltIn::Atomic(AtomicFunction::Add)),
-        16 => Some(BuiltIn::Atomic(AtomicFunction::Sub)),
-        17 => Some(BuiltIn::Atomic(AtomicFunction::Min)),
-        18 => Some(BuiltIn::Atomic(AtomicFunction::Max)),
-        19 => Some(BuiltIn::Atomic(AtomicFunction::And)),
-        20 => Some(BuiltIn::Atomic(AtomicFunction::Or)),
-        21 => Some(BuiltIn::Atomic(AtomicFunction::Xor)),
-        22 => Some(BuiltIn::Atomic(AtomicFunction::Inc)),
-        23 => Some(BuiltIn::Atomic(AtomicFunction::Dec)),
+    match meaning_of_place(name) {
+        Some(Predefined::Function(function)) => Some(function),
         _ => None,
     }
+}
+
+/// Whether nothing else can have a name, since it is predefined.
+pub fn is_reserved(name: u32) -> bool
+    ensures { result ≡ is_reserved name }
+{
+    (name as usize) < PREDEFINED.len()
 }

@@ -1,12 +1,12 @@
 -- What a name stands for (OpenCL 1.2, 6.9; C99 6.2.1 and 6.2.3).
-use Rattle.std.specs.Prelude.{ℕ, Bool, true, false, not, ◌&&◌, nat_eq, nat_lt, List, [], ◌∷◌, ◌++◌, Option, None, Some, is_some, if◌then◌else◌}
+use Rattle.std.specs.Prelude.{ℕ, Bool, true, false, not, ◌&&◌, nat_eq, nat_lt, List, [], ◌∷◌, ◌++◌, length, Option, None, Some, is_some, if◌then◌else◌}
 use Rattle.std.specs.List.{list_any}
 use Rattle.std.specs.Option.{option_or}
 use Rattle.std.specs.Map.{lookup}
 use Rattle.clnum.specs.declared.int_type.IntType.{IntType}
 use Rattle.clnum.specs.declared.int_type.IntType.TheVariants.{Uint}
-use Rattle.clmodel.specs.Barrier.{is_barrier, local_fence, global_fence}
-use Rattle.clmodel.specs.BuiltIns.{built_in}
+use Rattle.clmodel.specs.Barrier.{is_barrier}
+use Rattle.clmodel.specs.BuiltIns.{predefined, built_in, local_fence, global_fence}
 use Rattle.clmodel.specs.declared.declaration.Declaration.{Declaration}
 pub use Rattle.clmodel.specs.declared.declaration.Declaration.TheVariants.{Single, LocalArray, PrivateArray}
 use Rattle.clmodel.specs.declared.setup.BuiltIn.{BuiltIn}
@@ -95,9 +95,9 @@ function_meaning c x = if nat_eq x c.current then Current c.signature else calle
 abbrev pub meaning : Context → ℕ → Meaning
 meaning c x = found (variable (c.inner ∷ c.outer) x) (function_meaning c x)
 
--- A table of names begins with those of the built-in functions and of the fences of a barrier.
+-- A table of names begins with the predefined ones, which nothing else can have.
 abbrev pub is_reserved : ℕ → Bool
-is_reserved x = nat_lt x 26
+is_reserved x = nat_lt x (length predefined)
 
 -- whether a variable or an array of this name may be declared: an outer scope's is hidden by it
 abbrev pub is_free : Context → ℕ → Bool
