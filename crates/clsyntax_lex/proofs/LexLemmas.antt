@@ -36,7 +36,7 @@ completed-end bytes at tokens names (b ∷ rest) ended = cc
 -- so far a source is read as these tokens and names
 pub record ReadsTo (source : List ℕ) (at : ℕ) (tokens : List Token) (names : List (List ℕ)) : Type 0 where
   pub within : at ≤ length source
-  pub few : length names ≤ 26 + at
+  pub few : length names ≤ length built_in_names + at
   pub numbered : All (λ token. IsNumberedBelow (length names) token.kind) tokens
   pub same : lexing source ≡ completed (length source) tokens names (lexemes_from at 0 (drop at source))
 

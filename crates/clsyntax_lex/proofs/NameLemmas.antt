@@ -7,6 +7,7 @@ use Rattle.std.proofs.lemmas.List.{map-append}
 use Rattle.std.proofs.lemmas.Bool.Decides.{Decides-eqb}
 use Rattle.std.proofs.lemmas.Slice.Eq.{slice_eq-Decides}
 use Rattle.indexmap.specs.IndexSet.{insert_key}
+use Rattle.clmodel.specs.declared.setup.Predefined.{Predefined}
 use Rattle.clsyntax_lex.specs.Lexing.{Lexeme, Named, Plain, Placed, place, with_text, with_name, with_names}
 
 -- the texts of keys that are references
@@ -109,10 +110,10 @@ length-with_text names t =
     ]
 
 -- one more text of those given
-pub texts-fold_more : (given : List (Bor (List ℕ))) (i : ℕ) (d : Bor (List ℕ)) (old new : List (Bor (List ℕ))) → i < length given
-    → new ≡ insert_key (λ a b. bytes_eq a.now b.now) old (get_or given i d)
-    → texts old ≡ fold (λ names text. with_text names text.now) [] (take i given)
-    → texts new ≡ fold (λ names text. with_text names text.now) [] (take (i + 1) given)
+pub texts-fold_more : (given : List (Bor (List ℕ) × Predefined)) (i : ℕ) (d : Bor (List ℕ) × Predefined) (old new : List (Bor (List ℕ))) → i < length given
+    → new ≡ insert_key (λ a b. bytes_eq a.now b.now) old (get_or given i d).0
+    → texts old ≡ fold (λ names entry. with_text names entry.0.now) [] (take i given)
+    → texts new ≡ fold (λ names entry. with_text names entry.0.now) [] (take (i + 1) given)
 texts-fold_more given i d old new inside grown before =
-    ap texts grown ∙ texts-insert_key (get_or given i d) old ∙ ap (λ names. with_text names (get_or given i d).now) before
-    ∙ sym (fold_more {X = Bor (List ℕ)} {Y = List (List ℕ)} (λ names text. with_text names text.now) [] given i d inside)
+    ap texts grown ∙ texts-insert_key (get_or given i d).0 old ∙ ap (λ names. with_text names (get_or given i d).0.now) before
+    ∙ sym (fold_more {X = Bor (List ℕ) × Predefined} {Y = List (List ℕ)} (λ names entry. with_text names entry.0.now) [] given i d inside)

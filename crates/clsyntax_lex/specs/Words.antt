@@ -2,6 +2,7 @@
 use Rattle.std.specs.Prelude.{ℕ, List, [], ◌∷◌, map, codes}
 use Rattle.std.specs.Borrow.{Bor}
 use Rattle.clnum.specs.declared.int_type.IntType.TheVariants as types
+use Rattle.clmodel.specs.BuiltIns.{predefined}
 use Rattle.clmodel.specs.declared.tree.AddressSpace.TheVariants as spaces
 use Rattle.clsyntax_lex.specs.declared.token.TokenKind.{TokenKind}
 use Rattle.clsyntax_lex.specs.declared.token.TokenKind.TheVariants as kinds
@@ -120,31 +121,4 @@ symbols =
 
 -- the names that have a meaning without a declaration (OpenCL 1.2, sections 6.12.1, 6.12.3, 6.12.8 and 6.12.11)
 abbrev pub built_in_names : List (List ℕ)
-built_in_names =
-    codes "get_work_dim" ∷
-    codes "get_global_id" ∷
-    codes "get_local_id" ∷
-    codes "get_group_id" ∷
-    codes "get_global_offset" ∷
-    codes "get_global_size" ∷
-    codes "get_local_size" ∷
-    codes "get_num_groups" ∷
-    codes "min" ∷
-    codes "max" ∷
-    codes "abs" ∷
-    codes "clz" ∷
-    codes "popcount" ∷
-    codes "rotate" ∷
-    codes "barrier" ∷
-    codes "atomic_add" ∷
-    codes "atomic_sub" ∷
-    codes "atomic_min" ∷
-    codes "atomic_max" ∷
-    codes "atomic_and" ∷
-    codes "atomic_or" ∷
-    codes "atomic_xor" ∷
-    codes "atomic_inc" ∷
-    codes "atomic_dec" ∷
-    codes "CLK_LOCAL_MEM_FENCE" ∷
-    codes "CLK_GLOBAL_MEM_FENCE" ∷
-    []
+built_in_names = map (λ entry. entry.0) predefined

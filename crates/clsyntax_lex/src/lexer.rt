@@ -4,6 +4,7 @@
 ghost use Rattle.std.specs.Prelude.{◌≡◌, ◌<◌, ◌≤◌, ◌+◌, IfOk, IfErr, length};
 ghost use Rattle.clsyntax_lex.specs.Lexing.{LexesUnlessMemory};
 ghost use Rattle.clsyntax_lex.specs.Progress.{Advances, Stops};
+ghost use Rattle.clsyntax_lex.specs.Words.{built_in_names};
 
 use crate::names::NameTable;
 use crate::pieces::{Piece, front_piece};
@@ -26,7 +27,7 @@ impl<'a> Progress<'a> {
     fn take_piece(&mut self, rest: &'a [u8], at: usize) -> Result<usize, SyntaxFault>
         requires nonempty { 0 < length rest.now }
         requires short { at + length rest.now ≤ 65536 }
-        requires few { length self.old.names ≤ 26 + at }
+        requires few { length self.old.names ≤ length built_in_names + at }
         ensures taken { IfOk result (Advances at rest.now self.old.tokens.items self.old.names self.new.tokens.items self.new.names) }
         ensures fault { IfErr result (Stops at rest.now self.old.tokens.items self.old.names) }
     {

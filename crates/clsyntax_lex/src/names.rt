@@ -5,7 +5,7 @@ ghost use Rattle.std.specs.Prelude.{◌≡◌, ◌<◌, IfOk, OnOk, OnErr, lengt
 ghost use Rattle.clsyntax_lex.specs.Lexing.{place, with_text};
 ghost use Rattle.clsyntax_lex.specs.Words.{built_in_names};
 
-use crate::words::BUILT_IN_NAMES;
+use clmodel::setup::{PREDEFINED, Predefined};
 use clmodel::text::Name;
 use indexmap::IndexSet;
 use std::alloc::{AllocError, Global};
@@ -30,16 +30,16 @@ impl<'a> NameTable<'a> {
     pub(crate) fn new(alloc: Global) -> Result<Self, AllocError>
         ensures { IfOk result (λ table. table ≡ built_in_names) }
     {
-        NameTable::of_texts(alloc, &BUILT_IN_NAMES)
+        NameTable::of_entries(alloc, &PREDEFINED)
     }
 
-    // The table of these texts.
-    fn of_texts(alloc: Global, given: &'a [&'a [u8]]) -> Result<Self, AllocError>
-        ensures { IfOk result (λ table. table ≡ fold (λ names text. with_text names text.now) [] given.now) }
+    // The table of the texts of these entries.
+    fn of_entries(alloc: Global, given: &'a [(&'a [u8], Predefined)]) -> Result<Self, AllocError>
+        ensures { IfOk result (λ table. table ≡ fold (λ names entry. with_text names entry.0.now) [] given.now) }
     {
         let mut texts = IndexSet::new(alloc);
-        for text in given {
-            texts.insert(*text)?;
+        for entry in given {
+            texts.insert(entry.0)?;
         }
         Ok(NameTable { texts })
     }

@@ -111,36 +111,6 @@ const SYMBOLS: [(&[u8], TokenKind); 43] = [
     (b"}", TokenKind::CloseBrace),
 ];
 
-/// The names that have a meaning without a declaration, in the order of their numbers.
-pub(crate) static BUILT_IN_NAMES: [&[u8]; 26] = [
-    b"get_work_dim",
-    b"get_global_id",
-    b"get_local_id",
-    b"get_group_id",
-    b"get_global_offset",
-    b"get_global_size",
-    b"get_local_size",
-    b"get_num_groups",
-    b"min",
-    b"max",
-    b"abs",
-    b"clz",
-    b"popcount",
-    b"rotate",
-    b"barrier",
-    b"atomic_add",
-    b"atomic_sub",
-    b"atomic_min",
-    b"atomic_max",
-    b"atomic_and",
-    b"atomic_or",
-    b"atomic_xor",
-    b"atomic_inc",
-    b"atomic_dec",
-    b"CLK_LOCAL_MEM_FENCE",
-    b"CLK_GLOBAL_MEM_FENCE",
-];
-
 /// What a text is as a reserved word, if it is one.
 pub(crate) fn reserved_word(text: &[u8]) -> Option<TokenKind>
     ensures { result ≡ word_in reserved_words text.now }
