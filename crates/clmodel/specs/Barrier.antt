@@ -9,7 +9,7 @@ use Rattle.clmodel.specs.declared.setup.Predefined.TheVariants.{Barrier, Fence}
 use Rattle.clmodel.specs.declared.tree.InfixOperator.{InfixOperator}
 use Rattle.clmodel.specs.declared.tree.InfixOperator.TheVariants.{Arithmetic}
 
-abbrev barrier_in : Option Predefined → Bool
+abbrev pub barrier_in : Option Predefined → Bool
 barrier_in (Some Barrier) = true
 barrier_in _ = false
 

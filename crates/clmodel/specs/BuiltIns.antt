@@ -47,7 +47,7 @@ meanings = map (λ entry. entry.1)
 abbrev pub meaning_of_place : ℕ → Option Predefined
 meaning_of_place name = slice_get (meanings predefined) name
 
-abbrev function_in : Option Predefined → Option BuiltIn
+abbrev pub function_in : Option Predefined → Option BuiltIn
 function_in (Some (Function f)) = Some f
 function_in _ = None
 

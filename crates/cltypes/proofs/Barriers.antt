@@ -1,10 +1,9 @@
 -- A barrier is typed exactly where it has no fault.
-use Rattle.std.proofs.Common.{◌≡◌, ℕ, nat_eq, Bool, true, false, ◌⊎◌, inl, inr, [], Option, None, Some, is_some, if◌then◌else◌, refl, sym, ap, subst, arith}
-use Rattle.std.proofs.lemmas.Bool.Decides.{nat_tests}
+use Rattle.std.proofs.Common.{◌≡◌, ℕ, true, [], Option, None, Some, is_some, refl, sym, ap, subst}
 use Rattle.clnum.specs.declared.int_type.IntType.{IntType}
 use Rattle.clnum.specs.declared.int_type.IntType.TheVariants.{Uint}
 use Rattle.clnum.specs.declared.operators.BinaryOperator.TheVariants.{BitOr}
-use Rattle.clmodel.specs.Barrier.{fence_named, fence, both_fences, fences_of, fences}
+use Rattle.clmodel.specs.Barrier.{fence, both_fences, fences_of, fences}
 use Rattle.clmodel.specs.declared.action.Fences.{Fences}
 use Rattle.clmodel.specs.declared.tree.InfixOperator.TheVariants.{Arithmetic}
 use Rattle.clmodel.specs.declared.tree.VariableType.TheVariants.{Integer as Number}
@@ -17,6 +16,7 @@ use Rattle.clmodel.specs.Typing.Least.{least, first, node}
 use Rattle.clmodel.specs.Typing.Rules as rule
 use Rattle.clmodel.specs.Typing.Rules.{Types, count}
 use Rattle.clmodel.specs.Typing.Faults.{unless, start, integer_faults, WholeStatement, kind_of, flags_faults, inside_call, call_faults, term_faults, terms_faults}
+use Rattle.cltypes_scope.proofs.Fenced.{fence_meaning}
 use Rattle.cltypes.proofs.Splits.{none_joined, places_joined, node_joined, unless_none, unless_true}
 use Rattle.cltypes.proofs.CallTables.{one_term}
 use Rattle.cltypes.proofs.Exact.{term_complete}
@@ -35,22 +35,6 @@ flags_sound es h n =
     subst (λ ts. (f : Fences) × (fences ts ≡ Some f)) (sym r.1) (some_fences (fences_of e) (unless_none (is_some (fences_of e)) (fault.BadBarrierFlags (start e)) o))
 
 -- no fault where there are flags
-
-same_number : (m n : ℕ) → nat_eq m n ≡ true → m ≡ n
-same_number m n e = grind (arith, nat_tests)
-
-one_of_two : (a b : Bool) (l g f : Fences) → (if a then Some l else (if b then Some g else None)) ≡ Some f → (a ≡ true) ⊎ (b ≡ true)
-one_of_two true b l g f h = inl refl
-one_of_two false true l g f h = inr refl
-one_of_two false false l g f h = absurd (cc)
-
--- the name of a fence, in the arguments of a barrier
-fence_meaning : (c : Context) (x : ℕ) (f : Fences) → fence_named x ≡ Some f → meaning (fenced c) x ≡ Bound (Single (Number Uint))
-fence_meaning c x f h =
-    elim (one_of_two (nat_eq x 24) (nat_eq x 25) _ _ f h) [
-      | inl e ↦ subst (λ y. meaning (fenced c) y ≡ Bound (Single (Number Uint))) (sym (same_number x 24 e)) refl
-      | inr e ↦ subst (λ y. meaning (fenced c) y ≡ Bound (Single (Number Uint))) (sym (same_number x 25 e)) refl
-    ]
 
 fence_typed : (c : Context) (e : Term) (f : Fences) → fence e ≡ Some f → Types (fenced c) e (Number Uint)
 fence_typed c (tree.Variable a x) f h = rule.variable (fence_meaning c x f h) refl

@@ -29,49 +29,49 @@ helper result parameters = record { is_kernel = false; result = result; paramete
 -- the parameters: __global int *a, __global const int *c, __constant int *t, __global long *w, int n, char b
 abbrev here : Context
 here = record {
-  all = 26 ∷ 42 ∷ 43 ∷ 44 ∷ 45 ∷ [];
-  before = (42, helper (Some Int) (kind.Integer Int ∷ []))
-      ∷ (43, helper None [])
-      ∷ (44, helper (Some Char) (global Int ∷ []))
-      ∷ (45, record { is_kernel = true; result = None; parameters = [] })
+  all = 100 ∷ 116 ∷ 117 ∷ 118 ∷ 119 ∷ [];
+  before = (116, helper (Some Int) (kind.Integer Int ∷ []))
+      ∷ (117, helper None [])
+      ∷ (118, helper (Some Char) (global Int ∷ []))
+      ∷ (119, record { is_kernel = true; result = None; parameters = [] })
       ∷ [];
-  current = 26;
+  current = 100;
   signature = record { is_kernel = true; result = None; parameters = [] };
   in_loop = false;
-  inner = (27, Single (global Int))
-      ∷ (28, Single (kind.Pointer (record { space = Global; is_const = true; element = Int })))
-      ∷ (29, Single (kind.Pointer (record { space = Constant; is_const = false; element = Int })))
-      ∷ (30, Single (global Long))
-      ∷ (31, Single (kind.Integer Int))
-      ∷ (32, Single (kind.Integer Char))
+  inner = (101, Single (global Int))
+      ∷ (102, Single (kind.Pointer (record { space = Global; is_const = true; element = Int })))
+      ∷ (103, Single (kind.Pointer (record { space = Constant; is_const = false; element = Int })))
+      ∷ (104, Single (global Long))
+      ∷ (105, Single (kind.Integer Int))
+      ∷ (106, Single (kind.Integer Char))
       ∷ [];
   outer = [];
 }
 
 abbrev a : ℕ → Term
-a at = Variable at 27
+a at = Variable at 101
 
 abbrev c : ℕ → Term
-c at = Variable at 28
+c at = Variable at 102
 
 abbrev t : ℕ → Term
-t at = Variable at 29
+t at = Variable at 103
 
 abbrev w : ℕ → Term
-w at = Variable at 30
+w at = Variable at 104
 
 abbrev n : ℕ → Term
-n at = Variable at 31
+n at = Variable at 105
 
 abbrev b : ℕ → Term
-b at = Variable at 32
+b at = Variable at 106
 
 abbrev x : ℕ → Term
-x at = Variable at 33
+x at = Variable at 107
 
 -- names that stand for nothing: y and z
 abbrev z : ℕ → Term
-z at = Variable at 41
+z at = Variable at 115
 
 abbrev number : (at n : ℕ) → Term
 number at n = Number at (record { kind = Int; number = pos n })
@@ -84,7 +84,7 @@ call at name es = Call at name (then_all NoTerm es)
 
 -- `n = ` this
 abbrev set : Term → Stmts
-set e = then_stmts NoStmt (Assign 0 (Whole 0 31) None e ∷ [])
+set e = then_stmts NoStmt (Assign 0 (Whole 0 105) None e ∷ [])
 
 abbrev only : Stmt → Stmts
 only s = then_stmts NoStmt (s ∷ [])
@@ -95,46 +95,46 @@ array is_local t at name_at name length_at n = DeclareArray at is_local t name_a
 
 -- behind `int x[2];` and behind `__local int x[2];`
 abbrev behind_private : Stmt → Stmts
-behind_private s = then_stmts NoStmt (array false Int 0 4 33 6 2 ∷ s ∷ [])
+behind_private s = then_stmts NoStmt (array false Int 0 4 107 6 2 ∷ s ∷ [])
 
 abbrev behind_local : Stmt → Stmts
-behind_local s = then_stmts NoStmt (array true Int 0 12 33 14 2 ∷ s ∷ [])
+behind_local s = then_stmts NoStmt (array true Int 0 12 107 14 2 ∷ s ∷ [])
 
 abbrev pub samples : List (Stmts × Option TypeFault)
 samples =
     -- n = y[z];  The index comes before the name in front of it.
-    (set (Element 4 40 (z 6)), Some (UnknownName 6))
+    (set (Element 4 114 (z 6)), Some (UnknownName 6))
     -- n = y[1];
-    ∷ (set (Element 4 40 (one 6)), Some (UnknownName 4))
+    ∷ (set (Element 4 114 (one 6)), Some (UnknownName 4))
     -- n = n[z];
-    ∷ (set (Element 4 31 (z 6)), Some (UnknownName 6))
+    ∷ (set (Element 4 105 (z 6)), Some (UnknownName 6))
     -- n = a[c];
-    ∷ (set (Element 4 27 (c 6)), Some (TypeMismatch 6))
+    ∷ (set (Element 4 101 (c 6)), Some (TypeMismatch 6))
     -- n = *n;
     ∷ (set (Dereference 4 (n 5)), Some (TypeMismatch 5))
     -- c[1] = z;  What is stored to comes before the value.
-    ∷ (only (Assign 0 (Part 0 28 (one 2)) None (z 7)), Some (NotAssignable 0))
+    ∷ (only (Assign 0 (Part 0 102 (one 2)) None (z 7)), Some (NotAssignable 0))
     -- t[1] = 1;
-    ∷ (only (Assign 0 (Part 0 29 (one 2)) None (one 7)), Some (NotAssignable 0))
+    ∷ (only (Assign 0 (Part 0 103 (one 2)) None (one 7)), Some (NotAssignable 0))
     -- *c = 1;
     ∷ (only (Assign 0 (Behind 0 (c 1)) None (one 5)), Some (NotAssignable 0))
     -- ++c[1];
-    ∷ (only (Step 0 (Part 2 28 (one 4)) true), Some (NotAssignable 2))
+    ∷ (only (Step 0 (Part 2 102 (one 4)) true), Some (NotAssignable 2))
     -- int x = 1; { int x = x; } x++;
     ∷ (
       then_stmts NoStmt
-          (DeclareAs 0 (kind.Integer Int) 4 33 (one 8)
-          ∷ Block 11 (then_stmts NoStmt (DeclareAs 13 (kind.Integer Int) 17 33 (x 21) ∷ []))
-          ∷ Step 26 (Whole 26 33) true
+          (DeclareAs 0 (kind.Integer Int) 4 107 (one 8)
+          ∷ Block 11 (then_stmts NoStmt (DeclareAs 13 (kind.Integer Int) 17 107 (x 21) ∷ []))
+          ∷ Step 26 (Whole 26 107) true
           ∷ []),
       None,
     )
     -- { int x = 1; } x++;
-    ∷ (then_stmts NoStmt (Block 0 (then_stmts NoStmt (DeclareAs 2 (kind.Integer Int) 6 33 (one 10) ∷ [])) ∷ Step 15 (Whole 15 33) true ∷ []), Some (UnknownName 15))
+    ∷ (then_stmts NoStmt (Block 0 (then_stmts NoStmt (DeclareAs 2 (kind.Integer Int) 6 107 (one 10) ∷ [])) ∷ Step 15 (Whole 15 107) true ∷ []), Some (UnknownName 15))
     -- int x; int x = z;
-    ∷ (then_stmts NoStmt (Declare 0 (kind.Integer Int) 4 33 ∷ DeclareAs 7 (kind.Integer Int) 11 33 (z 15) ∷ []), Some (Redeclared 11))
+    ∷ (then_stmts NoStmt (Declare 0 (kind.Integer Int) 4 107 ∷ DeclareAs 7 (kind.Integer Int) 11 107 (z 15) ∷ []), Some (Redeclared 11))
     -- int n = z;  A parameter's scope is that of the outermost block.
-    ∷ (only (DeclareAs 0 (kind.Integer Int) 4 31 (z 8)), Some (Redeclared 4))
+    ∷ (only (DeclareAs 0 (kind.Integer Int) 4 105 (z 8)), Some (Redeclared 4))
     -- int min;
     ∷ (only (Declare 0 (kind.Integer Int) 4 8), Some (Redeclared 4))
     -- n = min(a);  Of one node the lowest number: a wrong kind before a wrong count.
@@ -160,23 +160,23 @@ samples =
     -- barrier(1);
     ∷ (only (CallOnly 0 14 (then_all NoTerm (one 8 ∷ []))), Some (BadBarrierFlags 8))
     -- a = c;  A const dropped; then a pointer to another type, to another space, and a const added.
-    ∷ (only (Assign 0 (Whole 0 27) None (c 4)), Some (NotAssignable 4))
+    ∷ (only (Assign 0 (Whole 0 101) None (c 4)), Some (NotAssignable 4))
     -- a = w;
-    ∷ (only (Assign 0 (Whole 0 27) None (w 4)), Some (TypeMismatch 4))
+    ∷ (only (Assign 0 (Whole 0 101) None (w 4)), Some (TypeMismatch 4))
     -- a = t;
-    ∷ (only (Assign 0 (Whole 0 27) None (t 4)), Some (WrongSpace 4))
+    ∷ (only (Assign 0 (Whole 0 101) None (t 4)), Some (WrongSpace 4))
     -- c = a;
-    ∷ (only (Assign 0 (Whole 0 28) None (a 4)), None)
+    ∷ (only (Assign 0 (Whole 0 102) None (a 4)), None)
     -- a *= n;  Of the operators that assign, += and -= take a pointer.
-    ∷ (only (Assign 0 (Whole 0 27) (Some Multiply) (n 5)), Some (TypeMismatch 0))
+    ∷ (only (Assign 0 (Whole 0 101) (Some Multiply) (n 5)), Some (TypeMismatch 0))
     -- a += c;
-    ∷ (only (Assign 0 (Whole 0 27) (Some Add) (c 5)), Some (TypeMismatch 5))
+    ∷ (only (Assign 0 (Whole 0 101) (Some Add) (c 5)), Some (TypeMismatch 5))
     -- n += a;
-    ∷ (only (Assign 0 (Whole 0 31) (Some Add) (a 5)), Some (TypeMismatch 5))
+    ∷ (only (Assign 0 (Whole 0 105) (Some Add) (a 5)), Some (TypeMismatch 5))
     -- a -= 1;
-    ∷ (only (Assign 0 (Whole 0 27) (Some Subtract) (one 5)), None)
+    ∷ (only (Assign 0 (Whole 0 101) (Some Subtract) (one 5)), None)
     -- a = 1 + a;
-    ∷ (only (Assign 0 (Whole 0 27) None (Binary 4 (Arithmetic Add) (one 4) (a 8))), None)
+    ∷ (only (Assign 0 (Whole 0 101) None (Binary 4 (Arithmetic Add) (one 4) (a 8))), None)
     -- n = 1 - a;
     ∷ (set (Binary 4 (Arithmetic Subtract) (one 4) (a 8)), Some (TypeMismatch 8))
     -- n = a == c;
@@ -186,9 +186,9 @@ samples =
     -- n = n ? 1 : a;
     ∷ (set (Choice 4 (n 4) (one 8) (a 12)), Some (TypeMismatch 12))
     -- if (a) z = 1;  A condition comes after what it controls.
-    ∷ (only (If 0 (a 4) (Assign 7 (Whole 7 41) None (one 11))), Some (UnknownName 7))
+    ∷ (only (If 0 (a 4) (Assign 7 (Whole 7 115) None (one 11))), Some (UnknownName 7))
     -- if (a) n = 1;
-    ∷ (only (If 0 (a 4) (Assign 7 (Whole 7 31) None (one 11))), Some (TypeMismatch 4))
+    ∷ (only (If 0 (a 4) (Assign 7 (Whole 7 105) None (one 11))), Some (TypeMismatch 4))
     -- if (n) ; else break;
     ∷ (only (IfElse 0 (n 4) (Empty 7) (Break 14)), Some (TypeMismatch 14))
     -- while (n) { if (n) break; else continue; }
@@ -196,126 +196,126 @@ samples =
     -- continue;
     ∷ (only (Continue 0), Some (TypeMismatch 0))
     -- do z++; while (a);
-    ∷ (only (DoWhile 0 (Step 3 (Whole 3 41) true) (a 14)), Some (UnknownName 3))
+    ∷ (only (DoWhile 0 (Step 3 (Whole 3 115) true) (a 14)), Some (UnknownName 3))
     -- do n++; while (a);
-    ∷ (only (DoWhile 0 (Step 3 (Whole 3 31) true) (a 14)), Some (TypeMismatch 14))
+    ∷ (only (DoWhile 0 (Step 3 (Whole 3 105) true) (a 14)), Some (TypeMismatch 14))
     -- for (int x = 0; x; x++) { int x = x; }
     ∷ (
-      only (For 0 (With (DeclareAs 5 (kind.Integer Int) 9 33 (one 13))) (While_ (x 16)) (With (Step 19 (Whole 19 33) true))
-          (Block 24 (then_stmts NoStmt (DeclareAs 26 (kind.Integer Int) 30 33 (x 34) ∷ [])))),
+      only (For 0 (With (DeclareAs 5 (kind.Integer Int) 9 107 (one 13))) (While_ (x 16)) (With (Step 19 (Whole 19 107) true))
+          (Block 24 (then_stmts NoStmt (DeclareAs 26 (kind.Integer Int) 30 107 (x 34) ∷ [])))),
       None,
     )
     -- for (int x = 1; ; ) ; x++;
     ∷ (
-      then_stmts NoStmt (For 0 (With (DeclareAs 5 (kind.Integer Int) 9 33 (one 13))) Always Without (Empty 20) ∷ Step 22 (Whole 22 33) true ∷ []),
+      then_stmts NoStmt (For 0 (With (DeclareAs 5 (kind.Integer Int) 9 107 (one 13))) Always Without (Empty 20) ∷ Step 22 (Whole 22 107) true ∷ []),
       Some (UnknownName 22),
     )
     -- for (; a; z++) y++;  In the order of the text, and the condition last.
-    ∷ (only (For 0 Without (While_ (a 7)) (With (Step 10 (Whole 10 41) true)) (Step 15 (Whole 15 40) true)), Some (UnknownName 10))
+    ∷ (only (For 0 Without (While_ (a 7)) (With (Step 10 (Whole 10 115) true)) (Step 15 (Whole 15 114) true)), Some (UnknownName 10))
     -- for (; a; n++) n++;
-    ∷ (only (For 0 Without (While_ (a 7)) (With (Step 10 (Whole 10 31) true)) (Step 15 (Whole 15 31) true)), Some (TypeMismatch 7))
+    ∷ (only (For 0 Without (While_ (a 7)) (With (Step 10 (Whole 10 105) true)) (Step 15 (Whole 15 105) true)), Some (TypeMismatch 7))
     -- return 1;
     ∷ (only (ReturnValue 0 (one 7)), Some (TypeMismatch 0))
     -- return;
     ∷ (only (Return 0), None)
     -- h(1);
-    ∷ (only (CallOnly 0 42 (then_all NoTerm (one 2 ∷ []))), None)
+    ∷ (only (CallOnly 0 116 (then_all NoTerm (one 2 ∷ []))), None)
     -- n = h(1);
-    ∷ (set (call 4 42 (one 6 ∷ [])), None)
+    ∷ (set (call 4 116 (one 6 ∷ [])), None)
     -- n += h(1);
-    ∷ (only (Assign 0 (Whole 0 31) (Some Add) (call 5 42 (one 7 ∷ []))), None)
+    ∷ (only (Assign 0 (Whole 0 105) (Some Add) (call 5 116 (one 7 ∷ []))), None)
     -- int x = h(1);
-    ∷ (only (DeclareAs 0 (kind.Integer Int) 4 33 (call 8 42 (one 10 ∷ []))), None)
+    ∷ (only (DeclareAs 0 (kind.Integer Int) 4 107 (call 8 116 (one 10 ∷ []))), None)
     -- n = h(1) + 1;  A helper isn't called inside an expression.
-    ∷ (set (Binary 4 (Arithmetic Add) (call 4 42 (one 6 ∷ [])) (one 11)), Some (TypeMismatch 4))
+    ∷ (set (Binary 4 (Arithmetic Add) (call 4 116 (one 6 ∷ [])) (one 11)), Some (TypeMismatch 4))
     -- h(h(1));
-    ∷ (only (CallOnly 0 42 (then_all NoTerm (call 2 42 (one 4 ∷ []) ∷ []))), Some (TypeMismatch 2))
+    ∷ (only (CallOnly 0 116 (then_all NoTerm (call 2 116 (one 4 ∷ []) ∷ []))), Some (TypeMismatch 2))
     -- if (h(1)) ;
-    ∷ (only (If 0 (call 4 42 (one 6 ∷ [])) (Empty 10)), Some (TypeMismatch 4))
+    ∷ (only (If 0 (call 4 116 (one 6 ∷ [])) (Empty 10)), Some (TypeMismatch 4))
     -- n = v();  A void value used; before that its call's own fault.
-    ∷ (set (call 4 43 []), Some (TypeMismatch 4))
+    ∷ (set (call 4 117 []), Some (TypeMismatch 4))
     -- n = v(1);
-    ∷ (set (call 4 43 (one 6 ∷ [])), Some (WrongArgumentCount 4))
+    ∷ (set (call 4 117 (one 6 ∷ [])), Some (WrongArgumentCount 4))
     -- a *= v();
-    ∷ (only (Assign 0 (Whole 0 27) (Some Multiply) (call 5 43 [])), Some (TypeMismatch 0))
+    ∷ (only (Assign 0 (Whole 0 101) (Some Multiply) (call 5 117 [])), Some (TypeMismatch 0))
     -- v();
-    ∷ (only (CallOnly 0 43 NoTerm), None)
+    ∷ (only (CallOnly 0 117 NoTerm), None)
     -- h();
-    ∷ (only (CallOnly 0 42 NoTerm), Some (WrongArgumentCount 0))
+    ∷ (only (CallOnly 0 116 NoTerm), Some (WrongArgumentCount 0))
     -- h(a, 1);
-    ∷ (only (CallOnly 0 42 (then_all NoTerm (a 2 ∷ one 5 ∷ []))), Some (TypeMismatch 2))
+    ∷ (only (CallOnly 0 116 (then_all NoTerm (a 2 ∷ one 5 ∷ []))), Some (TypeMismatch 2))
     -- h(z);
-    ∷ (only (CallOnly 0 42 (then_all NoTerm (z 2 ∷ []))), Some (UnknownName 2))
+    ∷ (only (CallOnly 0 116 (then_all NoTerm (z 2 ∷ []))), Some (UnknownName 2))
     -- g(c);  Passed as assigned: a const dropped, another element, another space.
-    ∷ (only (CallOnly 0 44 (then_all NoTerm (c 2 ∷ []))), Some (NotAssignable 2))
+    ∷ (only (CallOnly 0 118 (then_all NoTerm (c 2 ∷ []))), Some (NotAssignable 2))
     -- g(w);
-    ∷ (only (CallOnly 0 44 (then_all NoTerm (w 2 ∷ []))), Some (TypeMismatch 2))
+    ∷ (only (CallOnly 0 118 (then_all NoTerm (w 2 ∷ []))), Some (TypeMismatch 2))
     -- g(t);
-    ∷ (only (CallOnly 0 44 (then_all NoTerm (t 2 ∷ []))), Some (WrongSpace 2))
+    ∷ (only (CallOnly 0 118 (then_all NoTerm (t 2 ∷ []))), Some (WrongSpace 2))
     -- a = g(a);
-    ∷ (only (Assign 0 (Whole 0 27) None (call 4 44 (a 6 ∷ []))), Some (TypeMismatch 4))
+    ∷ (only (Assign 0 (Whole 0 101) None (call 4 118 (a 6 ∷ []))), Some (TypeMismatch 4))
     -- k();  No kernel is called, nor this one.
-    ∷ (only (CallOnly 0 45 NoTerm), Some (TypeMismatch 0))
+    ∷ (only (CallOnly 0 119 NoTerm), Some (TypeMismatch 0))
     -- f();
-    ∷ (only (CallOnly 0 26 NoTerm), Some (TypeMismatch 0))
+    ∷ (only (CallOnly 0 100 NoTerm), Some (TypeMismatch 0))
     -- n = h;
-    ∷ (set (Variable 4 42), Some (TypeMismatch 4))
+    ∷ (set (Variable 4 116), Some (TypeMismatch 4))
     -- n(1);
-    ∷ (only (CallOnly 0 31 (then_all NoTerm (one 2 ∷ []))), Some (TypeMismatch 0))
+    ∷ (only (CallOnly 0 105 (then_all NoTerm (one 2 ∷ []))), Some (TypeMismatch 0))
     -- int h;
-    ∷ (only (Declare 0 (kind.Integer Int) 4 42), Some (Redeclared 4))
+    ∷ (only (Declare 0 (kind.Integer Int) 4 116), Some (Redeclared 4))
     -- int x[2]; a[1] = x;  A private array is no value, and there is no pointer to it.
-    ∷ (behind_private (Assign 10 (Part 10 27 (one 12)) None (x 17)), Some (WrongSpace 17))
+    ∷ (behind_private (Assign 10 (Part 10 101 (one 12)) None (x 17)), Some (WrongSpace 17))
     -- int x[2]; a[1] = x[1];
-    ∷ (behind_private (Assign 10 (Part 10 27 (one 12)) None (Element 17 33 (one 19))), None)
+    ∷ (behind_private (Assign 10 (Part 10 101 (one 12)) None (Element 17 107 (one 19))), None)
     -- int x[2]; x = y;  The target comes before the value.
-    ∷ (behind_private (Assign 10 (Whole 10 33) None (Variable 14 40)), Some (NotAssignable 10))
+    ∷ (behind_private (Assign 10 (Whole 10 107) None (Variable 14 114)), Some (NotAssignable 10))
     -- int x[2]; ++x;
-    ∷ (behind_private (Step 10 (Whole 12 33) true), Some (NotAssignable 12))
+    ∷ (behind_private (Step 10 (Whole 12 107) true), Some (NotAssignable 12))
     -- int x[2]; a[1] = *x;
-    ∷ (behind_private (Assign 10 (Part 10 27 (one 12)) None (Dereference 17 (x 18))), Some (WrongSpace 18))
+    ∷ (behind_private (Assign 10 (Part 10 101 (one 12)) None (Dereference 17 (x 18))), Some (WrongSpace 18))
     -- int x[2]; atomic_add(&x[1], 1);
-    ∷ (behind_private (CallOnly 10 15 (then_all NoTerm (ElementAddress 21 22 33 (one 24) ∷ one 28 ∷ []))), Some (WrongSpace 21))
+    ∷ (behind_private (CallOnly 10 15 (then_all NoTerm (ElementAddress 21 22 107 (one 24) ∷ one 28 ∷ []))), Some (WrongSpace 21))
     -- int x[2]; atomic_add(&x[a], 1);  Of one node the lowest number.
-    ∷ (behind_private (CallOnly 10 15 (then_all NoTerm (ElementAddress 21 22 33 (a 24) ∷ one 28 ∷ []))), Some (TypeMismatch 24))
+    ∷ (behind_private (CallOnly 10 15 (then_all NoTerm (ElementAddress 21 22 107 (a 24) ∷ one 28 ∷ []))), Some (TypeMismatch 24))
     -- int x[2]; y[x] = 1;
-    ∷ (behind_private (Assign 10 (Part 10 40 (x 12)) None (one 17)), Some (WrongSpace 12))
+    ∷ (behind_private (Assign 10 (Part 10 114 (x 12)) None (one 17)), Some (WrongSpace 12))
     -- int x[2]; x();
-    ∷ (behind_private (CallOnly 10 33 NoTerm), Some (TypeMismatch 10))
+    ∷ (behind_private (CallOnly 10 107 NoTerm), Some (TypeMismatch 10))
     -- int x[2]; if (x) y = 1;
-    ∷ (behind_private (If 10 (x 14) (Assign 17 (Whole 17 40) None (one 21))), Some (WrongSpace 14))
+    ∷ (behind_private (If 10 (x 14) (Assign 17 (Whole 17 114) None (one 21))), Some (WrongSpace 14))
     -- int x[2]; { int x; x = 1; }  An inner variable hides it.
     ∷ (
-      behind_private (Block 10 (then_stmts NoStmt (Declare 12 (kind.Integer Int) 16 33 ∷ Assign 19 (Whole 19 33) None (one 23) ∷ []))),
+      behind_private (Block 10 (then_stmts NoStmt (Declare 12 (kind.Integer Int) 16 107 ∷ Assign 19 (Whole 19 107) None (one 23) ∷ []))),
       None,
     )
     -- __local int x[2]; if (x) y = 1;  The kind of a condition comes behind what is controlled.
-    ∷ (behind_local (If 18 (x 22) (Assign 25 (Whole 25 40) None (one 29))), Some (UnknownName 25))
+    ∷ (behind_local (If 18 (x 22) (Assign 25 (Whole 25 114) None (one 29))), Some (UnknownName 25))
     -- __local int x[2]; if (x) n = 1;
-    ∷ (behind_local (If 18 (x 22) (Assign 25 (Whole 25 31) None (one 29))), Some (TypeMismatch 22))
+    ∷ (behind_local (If 18 (x 22) (Assign 25 (Whole 25 105) None (one 29))), Some (TypeMismatch 22))
     -- __local int x[2]; x += 1;
-    ∷ (behind_local (Assign 18 (Whole 18 33) (Some Add) (one 23)), Some (NotAssignable 18))
+    ∷ (behind_local (Assign 18 (Whole 18 107) (Some Add) (one 23)), Some (NotAssignable 18))
     -- __local int x[2]; __global int *p = x;
-    ∷ (behind_local (DeclareAs 18 (global Int) 32 34 (x 36)), Some (WrongSpace 36))
+    ∷ (behind_local (DeclareAs 18 (global Int) 32 108 (x 36)), Some (WrongSpace 36))
     -- __local int x[2]; *(x + 1) = x[1];
-    ∷ (behind_local (Assign 18 (Behind 18 (Binary 20 (Arithmetic Add) (x 20) (one 24))) None (Element 29 33 (one 31))), None)
+    ∷ (behind_local (Assign 18 (Behind 18 (Binary 20 (Arithmetic Add) (x 20) (one 24))) None (Element 29 107 (one 31))), None)
     -- { __local int x[0]; }  Of one place the lowest number.
-    ∷ (only (Block 0 (then_stmts NoStmt (array true Int 2 14 33 16 0 ∷ []))), Some (WrongSpace 14))
+    ∷ (only (Block 0 (then_stmts NoStmt (array true Int 2 14 107 16 0 ∷ []))), Some (WrongSpace 14))
     ∷ []
 
 -- the bodies of helpers: g has two nodes, and h a loop in a loop and ten nodes
 abbrev bodies : Sizes
-bodies = (44, record { loops = 0; bytes = 0; nodes = 2 }) ∷ (42, record { loops = 2; bytes = 0; nodes = 10 }) ∷ []
+bodies = (118, record { loops = 0; bytes = 0; nodes = 2 }) ∷ (116, record { loops = 2; bytes = 0; nodes = 10 }) ∷ []
 
 -- statements, how many nodes they have and how deep their loops are nested
 abbrev pub counted : List (Stmt × (ℕ × ℕ))
 counted =
     -- n++;
-    (Step 0 (Whole 0 31) true, (2, 0))
+    (Step 0 (Whole 0 105) true, (2, 0))
     -- n = 1;
-    ∷ (Assign 0 (Whole 0 31) None (one 4), (3, 0))
+    ∷ (Assign 0 (Whole 0 105) None (one 4), (3, 0))
     -- a[n] = 1;
-    ∷ (Assign 0 (Part 0 27 (n 2)) None (one 7), (4, 0))
+    ∷ (Assign 0 (Part 0 101 (n 2)) None (one 7), (4, 0))
     -- *a = 1;
     ∷ (Assign 0 (Behind 0 (a 1)) None (one 5), (4, 0))
     -- abs(1);
@@ -329,24 +329,24 @@ counted =
     -- { ; }
     ∷ (Block 0 (then_stmts NoStmt (Empty 2 ∷ [])), (2, 0))
     -- int x = 1;
-    ∷ (DeclareAs 0 (kind.Integer Int) 4 33 (one 8), (2, 0))
+    ∷ (DeclareAs 0 (kind.Integer Int) 4 107 (one 8), (2, 0))
     -- int x[2];  With `__local` too.
-    ∷ (array false Int 0 4 33 6 2, (1, 0))
-    ∷ (array true Int 0 12 33 14 2, (1, 0))
+    ∷ (array false Int 0 4 107 6 2, (1, 0))
+    ∷ (array true Int 0 12 107 14 2, (1, 0))
     -- __global int *x = &a[1];
-    ∷ (DeclareAs 0 (global Int) 14 33 (ElementAddress 18 19 27 (one 21)), (3, 0))
+    ∷ (DeclareAs 0 (global Int) 14 107 (ElementAddress 18 19 101 (one 21)), (3, 0))
     -- barrier(CLK_LOCAL_MEM_FENCE | CLK_GLOBAL_MEM_FENCE);
     ∷ (CallOnly 0 14 (then_all NoTerm (Binary 8 (Arithmetic BitOr) (Variable 8 24) (Variable 30 25) ∷ [])), (4, 0))
     -- if (n) ;
     ∷ (If 0 (n 4) (Empty 7), (3, 0))
     -- n = g(1);
-    ∷ (Assign 0 (Whole 0 31) None (call 4 44 (one 6 ∷ [])), (6, 0))
+    ∷ (Assign 0 (Whole 0 105) None (call 4 118 (one 6 ∷ [])), (6, 0))
     -- while (n) h(1);
-    ∷ (While 0 (n 7) (CallOnly 10 42 (then_all NoTerm (one 12 ∷ []))), (14, 3))
+    ∷ (While 0 (n 7) (CallOnly 10 116 (then_all NoTerm (one 12 ∷ []))), (14, 3))
     -- for (h(1); n; g(1)) ;  The first part isn't in the loop, the third is.
-    ∷ (For 0 (With (CallOnly 5 42 (then_all NoTerm (one 7 ∷ [])))) (While_ (n 11)) (With (CallOnly 14 44 (then_all NoTerm (one 16 ∷ [])))) (Empty 20), (19, 2))
+    ∷ (For 0 (With (CallOnly 5 116 (then_all NoTerm (one 7 ∷ [])))) (While_ (n 11)) (With (CallOnly 14 118 (then_all NoTerm (one 16 ∷ [])))) (Empty 20), (19, 2))
     -- for (; ; h(1)) ;
-    ∷ (For 0 Without Always (With (CallOnly 9 42 (then_all NoTerm (one 11 ∷ [])))) (Empty 15), (14, 3))
+    ∷ (For 0 Without Always (With (CallOnly 9 116 (then_all NoTerm (one 11 ∷ [])))) (Empty 15), (14, 3))
     -- do while (n) ; while (n);
     ∷ (DoWhile 0 (While 3 (n 10) (Empty 13)) (n 22), (5, 2))
     ∷ []
@@ -367,7 +367,7 @@ loops (suc n) s = While 0 (one 0) (loops n s)
 
 -- `int f() { }` with this body
 abbrev returning : List Stmt → Funcs
-returning ss = then_funcs NoFunc (function (Some Int) 4 26 [] ss ∷ [])
+returning ss = then_funcs NoFunc (function (Some Int) 4 100 [] ss ∷ [])
 
 -- helpers that call each other twice: the first one of this name, each with the name after, and the names from it on
 abbrev doubling : (first so_many : ℕ) → Funcs
@@ -378,35 +378,35 @@ doubling first (suc n) = ThenFunc (doubling first n) (function None 0 (first + s
 abbrev local_parameter : (at name : ℕ) → Parameter
 local_parameter at name = record { name_at = at; name = name; kind = kind.Pointer (record { space = Local; is_const = false; element = Int }) }
 
--- whole texts, in which f is the name 26, g 27, p 28, t 29 and u 30
+-- whole texts, in which f is the name 100, g 101, p 102, t 103 and u 104
 abbrev pub texts : List (Funcs × Option TypeFault)
 texts =
     -- kernel void f(int f) { }
-    (then_funcs NoFunc (kernel 12 26 (parameter 18 26 ∷ []) [] ∷ []), Some (Redeclared 18))
+    (then_funcs NoFunc (kernel 12 100 (parameter 18 100 ∷ []) [] ∷ []), Some (Redeclared 18))
     -- kernel void f() { g(); } kernel void g() { }
-    ∷ (then_funcs NoFunc (kernel 12 26 [] (CallOnly 18 27 NoTerm ∷ []) ∷ kernel 37 27 [] [] ∷ []), Some (UnknownName 18))
+    ∷ (then_funcs NoFunc (kernel 12 100 [] (CallOnly 18 101 NoTerm ∷ []) ∷ kernel 37 101 [] [] ∷ []), Some (UnknownName 18))
     -- kernel void f() { } kernel void g() { f(); }
-    ∷ (then_funcs NoFunc (kernel 12 26 [] [] ∷ kernel 32 27 [] (CallOnly 38 26 NoTerm ∷ []) ∷ []), Some (TypeMismatch 38))
+    ∷ (then_funcs NoFunc (kernel 12 100 [] [] ∷ kernel 32 101 [] (CallOnly 38 100 NoTerm ∷ []) ∷ []), Some (TypeMismatch 38))
     -- kernel void f() { } kernel void f(int p, int p) { }
-    ∷ (then_funcs NoFunc (kernel 12 26 [] [] ∷ kernel 32 26 (parameter 38 28 ∷ parameter 45 28 ∷ []) [] ∷ []), Some (Redeclared 32))
+    ∷ (then_funcs NoFunc (kernel 12 100 [] [] ∷ kernel 32 100 (parameter 38 102 ∷ parameter 45 102 ∷ []) [] ∷ []), Some (Redeclared 32))
     -- kernel void f(int p) { p++; } kernel void g(int p) { { int p = p; } }
     ∷ (
       then_funcs NoFunc
-          (kernel 12 26 (parameter 18 28 ∷ []) (Step 23 (Whole 23 28) true ∷ [])
-          ∷ kernel 42 27 (parameter 48 28 ∷ []) (Block 53 (then_stmts NoStmt (DeclareAs 55 (kind.Integer Int) 59 28 (Variable 63 28) ∷ [])) ∷ [])
+          (kernel 12 100 (parameter 18 102 ∷ []) (Step 23 (Whole 23 102) true ∷ [])
+          ∷ kernel 42 101 (parameter 48 102 ∷ []) (Block 53 (then_stmts NoStmt (DeclareAs 55 (kind.Integer Int) 59 102 (Variable 63 102) ∷ [])) ∷ [])
           ∷ []),
       None,
     )
     -- void f() { f(); }
-    ∷ (then_funcs NoFunc (function None 5 26 [] (CallOnly 11 26 NoTerm ∷ []) ∷ []), Some (Recursion 11))
+    ∷ (then_funcs NoFunc (function None 5 100 [] (CallOnly 11 100 NoTerm ∷ []) ∷ []), Some (Recursion 11))
     -- int f() { return f(); }  Of one node the lowest number: a helper isn't called in a `return`.
-    ∷ (returning (ReturnValue 10 (Call 17 26 NoTerm) ∷ []), Some (TypeMismatch 17))
+    ∷ (returning (ReturnValue 10 (Call 17 100 NoTerm) ∷ []), Some (TypeMismatch 17))
     -- void f(int p) { f(); }
-    ∷ (then_funcs NoFunc (function None 5 26 (parameter 11 28 ∷ []) (CallOnly 16 26 NoTerm ∷ []) ∷ []), Some (Recursion 16))
+    ∷ (then_funcs NoFunc (function None 5 100 (parameter 11 102 ∷ []) (CallOnly 16 100 NoTerm ∷ []) ∷ []), Some (Recursion 16))
     -- void f() { g(); } void g() { }
-    ∷ (then_funcs NoFunc (function None 5 26 [] (CallOnly 11 27 NoTerm ∷ []) ∷ function None 23 27 [] [] ∷ []), Some (UnknownName 11))
+    ∷ (then_funcs NoFunc (function None 5 100 [] (CallOnly 11 101 NoTerm ∷ []) ∷ function None 23 101 [] [] ∷ []), Some (UnknownName 11))
     -- void f(int g) { } void g() { }  A parameter with the name of a later function.
-    ∷ (then_funcs NoFunc (function None 5 26 (parameter 11 27 ∷ []) [] ∷ function None 23 27 [] [] ∷ []), Some (Redeclared 11))
+    ∷ (then_funcs NoFunc (function None 5 100 (parameter 11 101 ∷ []) [] ∷ function None 23 101 [] [] ∷ []), Some (Redeclared 11))
     -- int f() { }
     ∷ (returning [], Some (MissingReturn 4))
     -- int f() { return 1; ; }
@@ -420,43 +420,43 @@ texts =
     -- int f() { return; }
     ∷ (returning (Return 10 ∷ []), Some (TypeMismatch 10))
     -- kernel void f() { }, with eight loops, and with nine
-    ∷ (then_funcs NoFunc (kernel 12 26 [] (loops 8 (Empty 0) ∷ []) ∷ []), None)
-    ∷ (then_funcs NoFunc (kernel 12 26 [] (loops 9 (Empty 0) ∷ []) ∷ []), Some (TooManyLoops 12))
+    ∷ (then_funcs NoFunc (kernel 12 100 [] (loops 8 (Empty 0) ∷ []) ∷ []), None)
+    ∷ (then_funcs NoFunc (kernel 12 100 [] (loops 9 (Empty 0) ∷ []) ∷ []), Some (TooManyLoops 12))
     -- with five, and five in a helper that it calls there; the helper may have nine
-    ∷ (then_funcs NoFunc (function None 5 26 [] (loops 4 (Empty 0) ∷ []) ∷ kernel 40 27 [] (loops 4 (CallOnly 50 26 NoTerm) ∷ []) ∷ []), None)
-    ∷ (then_funcs NoFunc (function None 5 26 [] (loops 4 (Empty 0) ∷ []) ∷ kernel 40 27 [] (loops 5 (CallOnly 50 26 NoTerm) ∷ []) ∷ []), Some (TooManyLoops 40))
-    ∷ (then_funcs NoFunc (function None 5 26 [] (loops 9 (Empty 0) ∷ []) ∷ kernel 40 27 [] [] ∷ []), None)
+    ∷ (then_funcs NoFunc (function None 5 100 [] (loops 4 (Empty 0) ∷ []) ∷ kernel 40 101 [] (loops 4 (CallOnly 50 100 NoTerm) ∷ []) ∷ []), None)
+    ∷ (then_funcs NoFunc (function None 5 100 [] (loops 4 (Empty 0) ∷ []) ∷ kernel 40 101 [] (loops 5 (CallOnly 50 100 NoTerm) ∷ []) ∷ []), Some (TooManyLoops 40))
+    ∷ (then_funcs NoFunc (function None 5 100 [] (loops 9 (Empty 0) ∷ []) ∷ kernel 40 101 [] [] ∷ []), None)
     -- helpers that call each other twice: the body of one of depth n has 3 · 2ⁿ - 2 nodes
-    ∷ (ThenFunc (doubling 100 11) (kernel 40 27 [] (CallOnly 50 111 NoTerm ∷ CallOnly 50 111 NoTerm ∷ CallOnly 50 111 NoTerm ∷ [])), None)
-    ∷ (ThenFunc (doubling 100 12) (kernel 40 27 [] (CallOnly 50 112 NoTerm ∷ CallOnly 50 112 NoTerm ∷ [])), Some (TooLarge 40))
-    ∷ (doubling 100 63, None)
-    ∷ (ThenFunc (doubling 100 62) (kernel 40 27 [] (CallOnly 50 162 NoTerm ∷ [])), Some (TooLarge 40))
+    ∷ (ThenFunc (doubling 200 11) (kernel 40 101 [] (CallOnly 50 211 NoTerm ∷ CallOnly 50 211 NoTerm ∷ CallOnly 50 211 NoTerm ∷ [])), None)
+    ∷ (ThenFunc (doubling 200 12) (kernel 40 101 [] (CallOnly 50 212 NoTerm ∷ CallOnly 50 212 NoTerm ∷ [])), Some (TooLarge 40))
+    ∷ (doubling 200 63, None)
+    ∷ (ThenFunc (doubling 200 62) (kernel 40 101 [] (CallOnly 50 262 NoTerm ∷ [])), Some (TooLarge 40))
     -- void g() { __local int t[2]; } __kernel void f() { }  A helper has no local memory of its own.
-    ∷ (then_funcs NoFunc (function None 5 27 [] (array true Int 11 23 29 25 2 ∷ []) ∷ kernel 45 26 [] [] ∷ []), Some (WrongSpace 23))
+    ∷ (then_funcs NoFunc (function None 5 101 [] (array true Int 11 23 103 25 2 ∷ []) ∷ kernel 45 100 [] [] ∷ []), Some (WrongSpace 23))
     -- __kernel void f(int t) { int t[0]; }
-    ∷ (then_funcs NoFunc (kernel 14 26 (parameter 20 29 ∷ []) (array false Int 25 29 29 31 0 ∷ []) ∷ []), Some (Redeclared 29))
+    ∷ (then_funcs NoFunc (kernel 14 100 (parameter 20 103 ∷ []) (array false Int 25 29 103 31 0 ∷ []) ∷ []), Some (Redeclared 29))
     -- void g(__local int *p) { } __kernel void f() { int t[2]; g(t, 1); }
-    ∷ (then_funcs NoFunc (function None 5 27 (local_parameter 20 28 ∷ []) [] ∷ kernel 41 26 [] (array false Int 47 51 29 53 2 ∷ CallOnly 57 27 (then_all NoTerm (Variable 59 29 ∷ one 62 ∷ [])) ∷ []) ∷ []), Some (WrongSpace 59))
+    ∷ (then_funcs NoFunc (function None 5 101 (local_parameter 20 102 ∷ []) [] ∷ kernel 41 100 [] (array false Int 47 51 103 53 2 ∷ CallOnly 57 101 (then_all NoTerm (Variable 59 103 ∷ one 62 ∷ [])) ∷ []) ∷ []), Some (WrongSpace 59))
     -- void g(__local int *p) { } __kernel void f() { __local uint t[2]; g(t, 1); }
-    ∷ (then_funcs NoFunc (function None 5 27 (local_parameter 20 28 ∷ []) [] ∷ kernel 41 26 [] (array true Uint 47 60 29 62 2 ∷ CallOnly 66 27 (then_all NoTerm (Variable 68 29 ∷ one 71 ∷ [])) ∷ []) ∷ []), Some (TypeMismatch 68))
+    ∷ (then_funcs NoFunc (function None 5 101 (local_parameter 20 102 ∷ []) [] ∷ kernel 41 100 [] (array true Uint 47 60 103 62 2 ∷ CallOnly 66 101 (then_all NoTerm (Variable 68 103 ∷ one 71 ∷ [])) ∷ []) ∷ []), Some (TypeMismatch 68))
     -- void g(__local int *p) { } __kernel void f() { __local int t[2]; g(t); }
-    ∷ (then_funcs NoFunc (function None 5 27 (local_parameter 20 28 ∷ []) [] ∷ kernel 41 26 [] (array true Int 47 59 29 61 2 ∷ CallOnly 65 27 (then_all NoTerm (Variable 67 29 ∷ [])) ∷ []) ∷ []), None)
+    ∷ (then_funcs NoFunc (function None 5 101 (local_parameter 20 102 ∷ []) [] ∷ kernel 41 100 [] (array true Int 47 59 103 61 2 ∷ CallOnly 65 101 (then_all NoTerm (Variable 67 103 ∷ [])) ∷ []) ∷ []), None)
     -- __kernel void f() { do { int t[1]; t[0] = 0; } while (t[0]); }  The condition stands behind the block.
-    ∷ (then_funcs NoFunc (kernel 14 26 [] (DoWhile 20 (Block 23 (then_stmts NoStmt (array false Int 25 29 29 31 1 ∷ Assign 35 (Part 35 29 (number 37 0)) None (number 42 0) ∷ []))) (Element 54 29 (number 56 0)) ∷ []) ∷ []), Some (UnknownName 54))
+    ∷ (then_funcs NoFunc (kernel 14 100 [] (DoWhile 20 (Block 23 (then_stmts NoStmt (array false Int 25 29 103 31 1 ∷ Assign 35 (Part 35 103 (number 37 0)) None (number 42 0) ∷ []))) (Element 54 103 (number 56 0)) ∷ []) ∷ []), Some (UnknownName 54))
     -- __kernel void f() { __local char t[32768]; }
-    ∷ (then_funcs NoFunc (kernel 14 26 [] (array true Char 20 33 29 35 32768 ∷ []) ∷ []), None)
+    ∷ (then_funcs NoFunc (kernel 14 100 [] (array true Char 20 33 103 35 32768 ∷ []) ∷ []), None)
     -- __kernel void f() { __local char t[32769]; }
-    ∷ (then_funcs NoFunc (kernel 14 26 [] (array true Char 20 33 29 35 32769 ∷ []) ∷ []), Some (TooLarge 35))
+    ∷ (then_funcs NoFunc (kernel 14 100 [] (array true Char 20 33 103 35 32769 ∷ []) ∷ []), Some (TooLarge 35))
     -- __kernel void f() { int t[32768]; }  A kernel's private arrays have 4096 bytes at most.
-    ∷ (then_funcs NoFunc (kernel 14 26 [] (array false Int 20 24 29 26 32768 ∷ []) ∷ []), Some (TooLarge 14))
+    ∷ (then_funcs NoFunc (kernel 14 100 [] (array false Int 20 24 103 26 32768 ∷ []) ∷ []), Some (TooLarge 14))
     -- void g() { uchar t[2048]; } __kernel void f() { g(); g(); }
-    ∷ (then_funcs NoFunc (function None 5 27 [] (array false Uchar 11 17 29 19 2048 ∷ []) ∷ kernel 42 26 [] (CallOnly 48 27 NoTerm ∷ CallOnly 53 27 NoTerm ∷ []) ∷ []), None)
+    ∷ (then_funcs NoFunc (function None 5 101 [] (array false Uchar 11 17 103 19 2048 ∷ []) ∷ kernel 42 100 [] (CallOnly 48 101 NoTerm ∷ CallOnly 53 101 NoTerm ∷ []) ∷ []), None)
     -- void g() { uchar t[2048]; } __kernel void f() { uchar u[1]; g(); g(); }
-    ∷ (then_funcs NoFunc (function None 5 27 [] (array false Uchar 11 17 29 19 2048 ∷ []) ∷ kernel 42 26 [] (array false Uchar 48 54 30 56 1 ∷ CallOnly 60 27 NoTerm ∷ CallOnly 65 27 NoTerm ∷ []) ∷ []), Some (TooLarge 42))
+    ∷ (then_funcs NoFunc (function None 5 101 [] (array false Uchar 11 17 103 19 2048 ∷ []) ∷ kernel 42 100 [] (array false Uchar 48 54 104 56 1 ∷ CallOnly 60 101 NoTerm ∷ CallOnly 65 101 NoTerm ∷ []) ∷ []), Some (TooLarge 42))
     -- void g() { int t[0]; } __kernel void f() { y = 1; }
-    ∷ (then_funcs NoFunc (function None 5 27 [] (array false Int 11 15 29 17 0 ∷ []) ∷ kernel 37 26 [] (Assign 43 (Whole 43 40) None (one 47) ∷ []) ∷ []), Some (TooLarge 17))
+    ∷ (then_funcs NoFunc (function None 5 101 [] (array false Int 11 15 103 17 0 ∷ []) ∷ kernel 37 100 [] (Assign 43 (Whole 43 114) None (one 47) ∷ []) ∷ []), Some (TooLarge 17))
     -- void g() { long t[32768]; } __kernel void f() { }
-    ∷ (then_funcs NoFunc (function None 5 27 [] (array false Long 11 16 29 18 32768 ∷ []) ∷ kernel 42 26 [] [] ∷ []), None)
+    ∷ (then_funcs NoFunc (function None 5 101 [] (array false Long 11 16 103 18 32768 ∷ []) ∷ kernel 42 100 [] [] ∷ []), None)
     ∷ []
 
 -- each sample has that fault, or that size

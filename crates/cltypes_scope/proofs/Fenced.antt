@@ -1,8 +1,16 @@
 -- What is known in the arguments of a barrier, and contexts in which each name stands for the same.
-use Rattle.std.proofs.Common.{◌≡◌, ℕ, List, [], ◌∷◌, ◌++◌, Option, None, Some, Result, refl, sym, ap, ◌∙◌}
+use Rattle.std.proofs.Common.{◌≡◌, ℕ, zero, suc, ◌+◌, List, [], ◌∷◌, ◌++◌, Option, None, Some, Result, is_some, true, refl, sym, ap, ◌∙◌, subst, arith}
 use Rattle.std.specs.List.{slice_get}
 use Rattle.std.specs.Option.{option_or}
+use Rattle.clnum.specs.declared.int_type.IntType.TheVariants.{Uint}
+use Rattle.clmodel.specs.Barrier.{fence_in, fence_named}
+use Rattle.clmodel.specs.BuiltIns.{predefined, meanings}
+use Rattle.clmodel.specs.declared.action.Fences.{Fences}
+use Rattle.clmodel.specs.declared.setup.Predefined.{Predefined}
+use Rattle.clmodel.specs.declared.setup.Predefined.TheVariants as name
 use Rattle.clmodel.specs.declared.declaration.Declaration.{Declaration}
+use Rattle.clmodel.specs.declared.declaration.Declaration.TheVariants.{Single}
+use Rattle.clmodel.specs.declared.tree.VariableType.TheVariants.{Integer}
 use Rattle.clmodel.specs.declared.type_fault.TypeFault.{TypeFault}
 use Rattle.clmodel.specs.Tree as tree
 use Rattle.clmodel.specs.Tree.{Term, Terms, NoTerm, ThenTerm}
@@ -19,6 +27,35 @@ use Rattle.cltypes_scope.proofs.Follows.{checks_same}
 -- a function of two values that are two others
 two : {A B D : Type 0} (f : A → B → D) (a x : A) (b y : B) → a ≡ x → b ≡ y → f a b ≡ f x y
 two f a x b y p q = ap (λ z. f z b) p ∙ ap (f x) q
+
+-- P holds at each place, from k on, where a list of meanings has a fence
+abbrev AtFences : (ℕ → Type 0) → ℕ → List Predefined → Type 0
+AtFences P k [] = Unit {0}
+AtFences P k (name.Fence f ∷ ms) = P k × AtFences P (suc k) ms
+AtFences P k (name.Barrier ∷ ms) = AtFences P (suc k) ms
+AtFences P k (name.Function g ∷ ms) = AtFences P (suc k) ms
+
+at_fence : (P : ℕ → Type 0) (k i : ℕ) (ms : List Predefined) (f : Fences) → AtFences P k ms → fence_in (slice_get ms i) ≡ Some f → P (k + i)
+at_fence P k i [] f a h = absurd (cc)
+at_fence P k zero (name.Fence g ∷ ms) f a h = let same : k ≡ k + 0 = omega arith in subst P same a.0
+at_fence P k zero (name.Barrier ∷ ms) f a h = absurd (cc)
+at_fence P k zero (name.Function g ∷ ms) f a h = absurd (cc)
+at_fence P k (suc i) (name.Fence g ∷ ms) f a h = let same : suc k + i ≡ k + suc i = omega arith in subst P same (at_fence P (suc k) i ms f a.1 h)
+at_fence P k (suc i) (name.Barrier ∷ ms) f a h = let same : suc k + i ≡ k + suc i = omega arith in subst P same (at_fence P (suc k) i ms f a h)
+at_fence P k (suc i) (name.Function g ∷ ms) f a h = let same : suc k + i ≡ k + suc i = omega arith in subst P same (at_fence P (suc k) i ms f a h)
+
+-- the name of a fence, in the arguments of a barrier
+pub fence_meaning : (c : Context) (x : ℕ) (f : Fences) → fence_named x ≡ Some f → meaning (fenced c) x ≡ Bound (Single (Integer Uint))
+fence_meaning c x f h =
+    let same : 0 + x ≡ x = omega arith in
+    ap (meaning (fenced c)) (sym same) ∙ at_fence (λ y. meaning (fenced c) y ≡ Bound (Single (Integer Uint))) 0 x (meanings predefined) f (refl, (refl, tt)) h
+
+some_fence : (c : Context) (x : ℕ) (o : Option Fences) → fence_named x ≡ o → is_some o ≡ true → meaning (fenced c) x ≡ Bound (Single (Integer Uint))
+some_fence c x None h e = absurd (cc)
+some_fence c x (Some f) h e = fence_meaning c x f h
+
+pub fence_stands : (c : Context) (x : ℕ) → is_some (fence_named x) ≡ true → meaning (fenced c) x ≡ Bound (Single (Integer Uint))
+fence_stands c x e = some_fence c x (fence_named x) refl e
 
 -- names
 

@@ -3,6 +3,6 @@ mod Functions
 pub mod Least
 pub mod Views
 pub mod Follows
-mod Fenced
+pub mod Fenced
 pub mod Arguments
 pub mod Calls

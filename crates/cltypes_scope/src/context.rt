@@ -11,23 +11,12 @@ ghost use Rattle.cltypes_scope.specs.Names.{signature_of, meaning_of, nowhere, w
 use crate::meaning::{Meaning, Signature};
 use clmodel::barrier::is_barrier;
 use clmodel::declaration::Declaration;
-use clmodel::setup::built_in_named;
+use clmodel::setup::{built_in_named, is_reserved};
 use clnum::IntType;
 use indexmap::{IndexMap, IndexSet};
 use std::alloc::{AllocError, Global};
 use std::marker::Model;
 use std::mem::replace;
-
-/// How many names a table of names begins with that nothing else can have: those of the built-in functions and of the fences of
-/// a barrier.
-const RESERVED_NAMES: u32 = 26;
-
-/// Whether nothing else can have this name, since it is a built-in function's or a fence's.
-fn is_reserved(name: u32) -> bool
-    ensures { result ≡ is_reserved name }
-{
-    name < RESERVED_NAMES
-}
 
 /// What a scope declares, in the order of the text.
 type Scope = IndexMap<u32, Declaration>;

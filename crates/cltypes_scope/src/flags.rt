@@ -12,7 +12,7 @@ ghost use Rattle.cltypes_scope.specs.Names.{meaning_of};
 
 use crate::faults::lesser;
 use crate::meaning::Meaning;
-use clmodel::barrier::fences_of;
+use clmodel::barrier::{fence_named, fences_of};
 use clmodel::tree::Expression;
 use clmodel::type_fault::TypeFault;
 
@@ -20,7 +20,7 @@ use clmodel::type_fault::TypeFault;
 pub(crate) fn is_fence(name: u32) -> bool
     ensures { result ≡ is_some (fence_named name) }
 {
-    name == 24 || name == 25
+    fence_named(name).is_some()
 }
 
 /// Where an expression begins.
