@@ -5,7 +5,7 @@ ghost use Rattle.clmodel.specs.Cells.{byte_count};
 ghost use Rattle.clmodel.specs.declared.access.Access.{Access as TheAccess};
 ghost use Rattle.clmodel.specs.declared.access.Region.TheVariants as region;
 ghost use Rattle.joining.specs.Memory.{wrote};
-ghost use Rattle.shadow.specs.Seen.{cell, cells_of, OfOthers, InBuffer, meeting};
+ghost use Rattle.shadow.specs.Seen.{cell, cells_of, OfOthers, met_at};
 
 use crate::pages::{Pages, mark_all};
 use crate::seen::{Mark, Meeting, is_written};
@@ -45,10 +45,11 @@ impl Footprint {
     }
 
     /// The conflict of an access of another group's item with these, on its lowest byte that has one, with the earliest access there
-    /// (OpenCL 1.2, section 3.3.1).
+    /// (OpenCL 1.2, section 3.3.1). `None` where it has none, and for each access of a local object, which no other group shares
+    /// (section 6.5.2).
     pub fn meeting(&self, x: &Access) -> Option<Meeting>
         requires { x.now.first + byte_count x.now.width < 2 ^ 64 }
-        ensures { (log : List TheAccess) → Keeps self.now log → OfOthers x.now.item log → InBuffer x.now → result ≡ meeting x.now log }
+        ensures { (log : List TheAccess) → Keeps self.now log → OfOthers x.now.item log → result ≡ met_at x.now.region x.now log }
     {
         let Region::Buffer(number) = x.region else {
             return None;
