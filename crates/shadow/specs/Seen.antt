@@ -77,8 +77,8 @@ abbrev pub cell : List (ℕ → Seen) → ℕ → ℕ → Seen
 cell buffers number = slice_index_or buffers number (λ _. Untouched)
 
 -- buffers as what is kept of each byte
-abbrev pub cells_of : List Pages → List (ℕ → Seen)
-cells_of buffers = map (λ b. cell_in b.pages.items) buffers
+abbrev pub buffer_cells : List Pages → List (ℕ → Seen)
+buffer_cells buffers = map (λ b. cell_in b.pages.items) buffers
 
 -- the cells keep what these accesses did to buffers, the newest first
 abbrev pub Remembers : List (ℕ → Seen) → List Access → Type 0
@@ -103,5 +103,5 @@ conflict_with m x =
     record { earlier = record x { item = m.mark.item; kind = m.mark.kind }; later = x; byte = m.byte; clash = m.clash }
 
 -- a footprint keeps what these accesses did to buffers, the newest first
-abbrev pub Keeps : Footprint → List Access → Type 0
-Keeps footprint log = Remembers (cells_of footprint.buffers.items) log
+abbrev pub IsFootprint : Footprint → List Access → Type 0
+IsFootprint footprint log = Remembers (buffer_cells footprint.buffers.items) log
