@@ -21,7 +21,7 @@ use Rattle.clmodel.specs.declared.access.Conflict as conflict_type
 use Rattle.joining.specs.Memory.{writes, at_byte, wrote}
 use Rattle.shadow_list.specs.Kinds.{kind_number}
 use Rattle.shadow_list.proofs.Agreeing.{class_small, agree_number, not_eight, number_agrees}
-use Rattle.shadow.specs.Seen.{seen_with, is_written, mark_of, seen, met, against, against_from, meeting_of, meeting, Remembers, OfOthers, cell, cell_in, cells_of}
+use Rattle.shadow.specs.Seen.{seen_with, is_written, mark_of, seen, met, against, against_from, meeting_of, meeting, Remembers, OfOthers, cell, cell_in, buffer_cells}
 use Rattle.shadow.specs.declared.pages.Pages.{Pages}
 use Rattle.shadow.specs.declared.seen.Mark.{Mark}
 use Rattle.shadow.specs.declared.seen.Meeting.{Meeting}
@@ -239,17 +239,17 @@ on_bytes x log cells others kept first (suc count) a b =
 -- ---- cells in lists
 
 -- a buffer's cells, and a buffer that has none
-pub cells_there : (buffers : List Pages) (n : ℕ) (p : Pages) → n < length buffers → p ≡ get_or buffers n p → cell (cells_of buffers) n ≡ cell_in p.pages.items
+pub cells_there : (buffers : List Pages) (n : ℕ) (p : Pages) → n < length buffers → p ≡ get_or buffers n p → cell (buffer_cells buffers) n ≡ cell_in p.pages.items
 cells_there buffers n p b e =
     get_or-map (λ (q : Pages). cell_in q.pages.items) buffers n p (λ _. Untouched) b ∙ sym (ap (λ (q : Pages). cell_in q.pages.items) e)
 
-shorter : (buffers : List Pages) (n : ℕ) → length buffers ≤ n → length (cells_of buffers) ≤ n
+shorter : (buffers : List Pages) (n : ℕ) → length buffers ≤ n → length (buffer_cells buffers) ≤ n
 shorter [] n b = b
 shorter (v ∷ buffers) zero b = absurd (omega (arith, b))
-shorter (v ∷ buffers) (suc n) b = let r : length (cells_of buffers) ≤ n = shorter buffers n (omega (arith, b)) in omega (arith, r)
+shorter (v ∷ buffers) (suc n) b = let r : length (buffer_cells buffers) ≤ n = shorter buffers n (omega (arith, b)) in omega (arith, r)
 
-pub cells_gone : (buffers : List Pages) (n : ℕ) → length buffers ≤ n → cell (cells_of buffers) n ≡ (λ _. Untouched)
-cells_gone buffers n b = get_or_past (cells_of buffers) n (λ _. Untouched) (shorter buffers n b)
+pub cells_gone : (buffers : List Pages) (n : ℕ) → length buffers ≤ n → cell (buffer_cells buffers) n ≡ (λ _. Untouched)
+cells_gone buffers n b = get_or_past (buffer_cells buffers) n (λ _. Untouched) (shorter buffers n b)
 
 pub nothing_met : (k : AccessKind) (cells : ℕ → Seen) → ((byte : ℕ) → cells byte ≡ Untouched) → (first count : ℕ) → against_from k cells first count ≡ None
 nothing_met k cells none first zero = refl
@@ -259,7 +259,7 @@ nothing_met k cells none first (suc count) = ap₂ or_else (ap (against k first)
 abbrev pub KeepsAt : (ℕ → Seen) → Region → List Access → Type 0
 KeepsAt cells at log = (byte : ℕ) → cells byte ≡ seen at byte log
 
-pub keeps_at : (buffers : List Pages) (log : List Access) (n : ℕ) (at : Region) (cells : ℕ → Seen) → Remembers (cells_of buffers) log → at ≡ region.Buffer n → cell (cells_of buffers) n ≡ cells
+pub keeps_at : (buffers : List Pages) (log : List Access) (n : ℕ) (at : Region) (cells : ℕ → Seen) → Remembers (buffer_cells buffers) log → at ≡ region.Buffer n → cell (buffer_cells buffers) n ≡ cells
     → KeepsAt cells at log
 keeps_at buffers log n at cells h e f byte = ap (λ (c : ℕ → Seen). c byte) (sym f) ∙ h n byte ∙ ap (λ z. seen z byte log) (sym e)
 

@@ -1,4 +1,4 @@
--- How the bytes of each cell were accessed last: what is kept of each byte, in cells of eight (own).
+-- How the bytes of each cell were accessed last: what is kept of each byte, in cells of eight (own, on OpenCL 1.2, 3.3.1).
 use Rattle.std.specs.Prelude.{◌≡◌, ℕ, ◌+◌, ◌*◌, ◌/◌, ◌%◌, ◌^◌, ◌<◌, true, nat_eq, Option, None, Some, List, slice_index_or}
 use Rattle.std.specs.HashMap.{get}
 use Rattle.clmodel.specs.Cells.{byte_count, covers}
@@ -10,36 +10,36 @@ use Rattle.shadow_list.specs.Recent.{Describes, nothing}
 use Rattle.shadow_list.specs.declared.cells.Cells.{Cells}
 use Rattle.shadow_list.specs.declared.recent.Recent.{Recent}
 
--- the number of a memory object among buffers and local objects, up to multiples of 2^15 of each
+-- the number of a memory object among buffers and local objects, up to multiples of 2^15 of each (own)
 abbrev pub object : Region → ℕ
 object (region.Buffer number) = number % 2 ^ 15 * 2
 object (region.Local group number) = number % 2 ^ 15 * 2 + 1
 
--- the key of the cell of a byte
+-- the key of the cell of a byte (own)
 abbrev pub cell_key : Region → ℕ → ℕ
 cell_key r byte = byte / 8 % 2 ^ 48 * 2 ^ 16 + object r
 
--- what is kept of a byte of a cell, by where the cell starts
+-- what is kept of a byte of a cell, by where the cell starts (own)
 abbrev pub in_cell : List Recent → ℕ → Option ℕ → Recent
 in_cell bytes k None = nothing
 in_cell bytes k (Some start) = slice_index_or bytes (start + k) nothing
 
--- what is kept of a byte of a key's cell
+-- what is kept of a byte of a key's cell (own)
 abbrev pub at_key : Cells → ℕ → ℕ → Recent
 at_key cells key k = in_cell cells.bytes.items k (get nat_eq cells.starts key)
 
--- what is kept of a byte of a region
+-- what is kept of a byte of a region (own)
 abbrev pub cell_of : Cells → Region → ℕ → Recent
 cell_of cells r byte = at_key cells (cell_key r byte) (byte % 8)
 
--- an access is kept at each of its bytes
+-- an access is kept at each of its bytes (own)
 abbrev pub IsMarked : Cells → Access → Type 0
 IsMarked cells y = (byte : ℕ) → covers y.first (byte_count y.width) byte ≡ true → Describes (cell_of cells y.region byte) y
 
--- an access conflicts with none of those of which this is kept
+-- an access conflicts with none of those of which this is kept (3.3.1, 6.12.8)
 abbrev pub Passes : Recent → Access → Type 0
 Passes r x = (y : Access) (byte : ℕ) → Describes r y → conflict_between within_group y x byte ≡ None
 
--- what is kept before is kept after
+-- what is kept before is kept after (own)
 abbrev pub KeepsAll : Cells → Cells → Type 0
 KeepsAll old new = (key k : ℕ) (y : Access) → k < 8 → Describes (at_key old key k) y → Describes (at_key new key k) y

@@ -15,11 +15,11 @@ abbrev pub access_key : Access → ℕ
 access_key x =
     (x.first % 2 ^ 24 * 2 ^ 16 + x.item % 2 ^ 16) * 2 ^ 24 + object x.region * 2 ^ 8 + (kind_number x.kind * 16 + byte_count x.width)
 
--- what a map has at a key, and 0 where it has nothing
+-- what a map has at a key, and 0 where it has nothing (own)
 abbrev pub newest_of : {S : Type 0} → HashMap ℕ ℕ S → ℕ → ℕ
 newest_of m h = unwrap_or (get nat_eq m h) 0
 
--- each access stands below the place of its key, and is kept at its bytes
+-- each access stands below the place of its key, and is kept at its bytes (own)
 pub record IsIndexed (log : List Entry) (index : Index) : Type 0 where
   pub below : (j : ℕ) (y : Entry) → slice_get log j ≡ Some y → j < newest_of index.newest (access_key y.access)
   pub marked : All (λ y. IsMarked index.cells y.access) log

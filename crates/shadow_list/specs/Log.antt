@@ -15,66 +15,67 @@ use Rattle.shadow_list.specs.declared.log.Hit.{Hit}
 use Rattle.shadow_list.specs.declared.log.Fenced.{Fenced}
 use Rattle.shadow_list.specs.declared.log.Fenced.TheVariants as fenced
 
--- the accesses, the oldest first, and how many barriers the group has passed that fenced local and that fenced global memory
+-- the accesses, the oldest first, and how many barriers the group has passed that fenced local and that fenced global
+-- memory (6.12.8, own)
 pub record Log : Type 0 where
   pub accesses : List Entry
   pub local_interval : ℕ
   pub global_interval : ℕ
 
--- what a log is given of an item's operation at the bytes from `first` on: it gives the access its interval itself
+-- what a log is given of an item's operation at the bytes from `first` on: it gives the access its interval itself (own)
 abbrev pub entry_of : ℕ → Region → ℕ → Operation → ℕ → Entry
 entry_of item region first operation event = record { access = access_in item region first operation 0; event = event }
 
--- an access as it is kept: with the running interval of its address space
+-- an access as it is kept: with the running interval of its address space (6.12.8)
 abbrev pub stamped : Log → Entry → Entry
 stamped log x = record x { access = record x.access { interval = by_region x.access.region log.global_interval log.local_interval } }
 
--- how the earlier of two accesses conflicts with the later on a byte by their rule, if they do
+-- how the earlier of two accesses conflicts with the later on a byte by their rule, if they do (3.3.1)
 abbrev pub hit_between : Rule → Entry → Entry → ℕ → Option Hit
 hit_between rule y x byte =
     option_map (λ clash. record { clash = clash; earlier = y; later = x; byte = byte }) (conflict_between rule y.access x.access byte)
 
--- the conflict of an access on a byte with the earliest that has one
+-- the conflict of an access on a byte with the earliest that has one (own in which)
 abbrev pub hit_on : Rule → Entry → ℕ → List Entry → Option Hit
 hit_on rule x byte [] = None
 hit_on rule x byte (y ∷ log) = or_else (hit_between rule y x byte) (hit_on rule x byte log)
 
--- the same on the lowest of n bytes
+-- the same on the lowest of n bytes (own)
 abbrev pub hit_from : Rule → Entry → List Entry → ℕ → ℕ → Option Hit
 hit_from rule x log byte zero = None
 hit_from rule x log byte (suc count) = or_else (hit_on rule x byte log) (hit_from rule x log (suc byte) count)
 
--- the conflict of an access with a log: on its lowest byte that has one, there with the earliest access
+-- the conflict of an access with a log: on its lowest byte that has one, there with the earliest access (3.3.1, own in which)
 unfoldable pub hit : Rule → Entry → List Entry → Option Hit
 hit rule x log = hit_from rule x log x.access.first (byte_count x.access.width)
 
--- an access is in a log, whatever the number of its event
+-- an access is in a log, whatever the number of its event (own)
 abbrev pub IsThere : List Entry → Access → Type 0
 IsThere [] x = ⊥
 IsThere (y ∷ log) x = (y.access ≡ x) ⊎ IsThere log x
 
--- a log once an access is kept: at the end, unless it is there
+-- a log once an access is kept: at the end, unless it is there (own)
 abbrev pub IsKept : List Entry → Entry → List Entry → Type 0
 IsKept log x new = (IsThere log x.access × (new ≡ log)) ⊎ ((IsThere log x.access → ⊥) × (new ≡ log ++ x ∷ []))
 
--- what `note` leaves and answers
+-- what a new access leaves of the log of its group, and the conflict that it answers (3.3.1, 6.12.8, own in what is kept)
 abbrev pub IsNoted : Log → Entry → Log → Result (Option Hit) AllocError → Type 0
 IsNoted old x new (Ok found) =
     (found ≡ hit within_group (stamped old x) old.accesses) × IsKept old.accesses (stamped old x) new.accesses
     × (new.local_interval ≡ old.local_interval) × (new.global_interval ≡ old.global_interval)
 IsNoted old x new (Err _) = new ≡ old
 
--- the number of the running interval of an address space
+-- the number of the running interval of an address space (6.12.8)
 abbrev pub running : Log → Fenced → ℕ
 running log fenced.Local = log.local_interval
 running log fenced.Global = log.global_interval
 
--- the log once a barrier that fences an address space is passed
+-- the log once a barrier that fences an address space is passed (6.12.8)
 abbrev pub after_fence : Log → Fenced → Log
 after_fence log fenced.Local = record log { local_interval = log.local_interval + 1 }
 after_fence log fenced.Global = record log { global_interval = log.global_interval + 1 }
 
--- an access of a buffer
+-- whether a region is a buffer (5.2.1)
 abbrev pub in_buffer : Region → Bool
 in_buffer (region.Buffer number) = true
 in_buffer (region.Local group number) = false
@@ -84,14 +85,14 @@ abbrev pub across : List Entry → List Entry → Option Hit
 across log [] = None
 across log (x ∷ later) = or_else (if in_buffer x.access.region then hit across_groups x log else None) (across log later)
 
--- its bytes are numbers of 64 bits
+-- its bytes are numbers of 64 bits (own)
 abbrev pub IsPlaced : Entry → Type 0
 IsPlaced x = x.access.first + byte_count x.access.width < 2 ^ 64
 
--- a log by its parts
+-- a log by its parts (own)
 abbrev pub logged : List Entry → ℕ → ℕ → Log
 logged accesses local_interval global_interval = record { accesses = accesses; local_interval = local_interval; global_interval = global_interval }
 
--- the log of a group that has made no access and passed no barrier
+-- the log of a group that has made no access and passed no barrier (own)
 abbrev pub fresh_log : Log
 fresh_log = logged [] 0 0

@@ -1,4 +1,4 @@
--- What is kept of the accesses to a byte (own).
+-- What is kept of the accesses to a byte (own, on OpenCL 1.2, 3.3.1 and 6.12.8).
 use Rattle.std.specs.Prelude.{◌≡◌, ℕ, ◌≤◌, ◌==◌, Bool, true, false}
 use Rattle.clmodel.specs.declared.access.Access.{Access}
 use Rattle.clmodel.specs.declared.access.AccessKind.{AccessKind}
@@ -9,21 +9,21 @@ use Rattle.shadow_list.specs.declared.recent.How.{How}
 use Rattle.shadow_list.specs.declared.recent.How.TheVariants as how
 use Rattle.shadow_list.specs.declared.recent.Recent.{Recent}
 
--- whether an item is one of these
+-- whether an item is one of these (own)
 abbrev pub is_item : Who → ℕ → Bool
 is_item who.Nobody item = false
 is_item (who.One first) item = item == first
 is_item who.Many item = true
 
--- whether a kind is one of these
+-- whether a kind is one of these (own)
 abbrev pub is_kind : How → AccessKind → Bool
 is_kind (how.One first) kind = kind_number kind == kind_number first
 is_kind how.Mixed kind = true
 
--- an access is one of those of which this is kept, or of an earlier interval
+-- an access is one of those of which this is kept, or of an earlier interval (6.12.8)
 abbrev pub Describes : Recent → Access → Type 0
 Describes r y = (y.interval ≤ r.interval) × (y.interval ≡ r.interval → (is_item r.who y.item ≡ true) × (is_kind r.how y.kind ≡ true))
 
--- no accesses
+-- no accesses (own)
 abbrev pub nothing : Recent
 nothing = record { interval = 0; who = who.Nobody; how = how.Mixed }

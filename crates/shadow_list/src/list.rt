@@ -13,10 +13,11 @@ use clmodel::access::{Access, Region, Rule};
 use std::alloc::{AllocError, Global};
 
 /// A log with an index: for each byte, whose its accesses were in its newest interval and of which kind, and for each access where the
-/// newest equal one stands. So a new access costs two look-ups in hash tables and a step for each of its bytes, however many items
-/// access the same bytes: where nothing has conflicted yet, all accesses of a byte in an interval are of one item or of one kind. Where
-/// one may conflict, all entries since the barrier are walked for the exact answer, which ends a launch where there is a conflict. The
-/// index takes some 150 bytes for each cell of eight bytes that was accessed, and some 30 for each entry.
+/// newest equal one stands. So a new access costs four look-ups in hash tables, or two where an equal one is there, up to four more where
+/// it lies in two cells of eight bytes or is the first of one, and a step or two for each of its bytes, however many items access the same
+/// bytes: where nothing has conflicted yet, all accesses of a byte in an interval are of one item or of one kind. Where one may conflict,
+/// all entries since the barrier are walked for the exact answer, which ends a launch where there is a conflict. The index takes some 150
+/// bytes for each cell that was accessed, and some 30 for each entry.
 #[derive(Drop)]
 pub struct ListLog {
     entries: Vec<Entry>,

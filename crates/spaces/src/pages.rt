@@ -128,7 +128,7 @@ impl Pages {
         }
     }
 
-    /// Copies a page that has no copy. An error is out of memory, or a buffer with 65,535 pages and more.
+    /// Copies a page that has no copy. An error is out of memory, or a buffer with more than 65,535 pages.
     fn copy(&mut self, base: &[u8], page: usize) -> Result<(), AllocError>
         requires { page * 256 < length base.now }
         ensures bytes { (byte : ℕ) → byte < length base.now → overlaid_byte base.now self.new.table.items self.new.cells.items byte ≡ overlaid_byte base.now self.old.table.items self.old.cells.items byte }
