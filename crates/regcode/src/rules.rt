@@ -26,7 +26,10 @@ impl Judged<'_> {
     fn kind(&self, register: u32) -> Option<RegisterKind>
         ensures { result ≡ spec.kind_at (listing self.now.instructions.now self.now.tables.now) register }
     {
-        self.tables.registers.get(register as usize).copied()
+        self.tables
+            .registers
+            .get(register as usize)
+            .map(|register| register.kind)
     }
 
     /// Whether a register may hold a value.
