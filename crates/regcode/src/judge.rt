@@ -19,10 +19,12 @@ pub enum VerifyFault {
 }
 
 /// Whether the name of each register is in a table of so many names.
-fn are_named(registers: &[Register], names: u32) -> bool
+fn are_named(registers: &[Register], names: usize) -> bool
     ensures { IsTrue result ↔ All (λ register. register.name < names) registers.now }
 {
-    registers.iter().all(|register| register.name < names)
+    registers
+        .iter()
+        .all(|register| (register.name as usize) < names)
 }
 
 /// Whether code keeps all rules.

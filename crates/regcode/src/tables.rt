@@ -27,11 +27,11 @@ pub struct Tables {
     /// How many elements each private array has at most
     pub arrays: Vec<u32>,
     /// How many local objects the launch has
-    pub objects: u32,
+    pub objects: usize,
     /// How many names the tree's table of names has
-    pub names: u32,
+    pub names: usize,
     /// The types of the kernel's parameters
     pub parameters: Vec<VariableType>,
     /// How many loops are entered where each instruction stands
-    pub loops: Vec<u32>,
+    pub loops: Vec<usize>,
 }

@@ -28,7 +28,7 @@ fn register(kind: RegisterKind) -> Register {
 
 /// Registers of int, uint, a pointer to int, ulong, and a pointer to long; a private array of four elements; three local objects;
 /// six names; an int and a pointer as parameters.
-fn tables(alloc: Global, loops: &[u32]) -> Result<Tables, AllocError> {
+fn tables(alloc: Global, loops: &[usize]) -> Result<Tables, AllocError> {
     Ok(Tables {
         registers: vec![in alloc;
             register(RegisterKind::Integer(IntType::Int)),
@@ -49,7 +49,7 @@ fn tables(alloc: Global, loops: &[u32]) -> Result<Tables, AllocError> {
 fn fault_of(
     alloc: Global,
     code: &[Instruction],
-    loops: &[u32],
+    loops: &[usize],
 ) -> Result<Option<VerifyFault>, Fail> {
     Ok(verify(code.to_vec(alloc)?, tables(alloc, loops)?).err())
 }
@@ -128,7 +128,7 @@ fn is_verified(alloc: Global, row: &str) -> Result<Option<bool>, Fail> {
         code.push(instruction)?;
     }
     for number in numbers.split_whitespace() {
-        let Ok(number) = number.parse::<u32>() else {
+        let Ok(number) = number.parse::<usize>() else {
             return Ok(None);
         };
         loops.push(number)?;
