@@ -2,6 +2,7 @@
 use Rattle.std.proofs.Common.{◌≡◌, ℕ, ◌<◌, IsTrue, Option, None, Some, List, length, slice_get, refl, ap}
 use Rattle.std.proofs.lemmas.Bool.{false≢true}
 use Rattle.std.proofs.lemmas.Option.{slice_get_within}
+use Rattle.std.specs.Option.{option_map}
 use Rattle.clnum.specs.declared.int_type.IntType.{IntType}
 use Rattle.clnum.specs.declared.int_type.IntType.TheVariants.{Int, Uint}
 use Rattle.clnum.specs.declared.operators.BinaryOperator.{BinaryOperator}
@@ -16,6 +17,7 @@ use Rattle.regcode.specs.Rules.{Fits, Takes, HasType, HasRoom, kind_at, held_kin
 use Rattle.regcode.specs.Safety.{InTables}
 use Rattle.regcode.specs.declared.instruction.Instruction.{Instruction}
 use Rattle.regcode.specs.declared.instruction.Instruction.TheVariants as instruction
+use Rattle.regcode.specs.declared.tables.Register.{Register}
 use Rattle.regcode.specs.declared.tables.RegisterKind.{RegisterKind}
 use Rattle.regcode.specs.declared.tables.RegisterKind.TheVariants.{Integer, Pointer}
 
@@ -23,6 +25,10 @@ use Rattle.regcode.specs.declared.tables.RegisterKind.TheVariants.{Integer, Poin
 abbrev There : {A : Type 0} → Option A → Type 0
 There None = ⊥
 There (Some x) = Unit {0}
+
+entry_there : (o : Option Register) → There (option_map (λ register. register.kind) o) → There o
+entry_there (Some x) h = tt
+entry_there None h = h
 
 within : {A : Type 0} (xs : List A) (i : ℕ) (o : Option A) → slice_get xs i ≡ o → There o → i < length xs
 within xs i (Some x) e h = slice_get_within xs i x e
@@ -107,7 +113,7 @@ room_there None count h = absurd h
 
 module _ (code : Listing) where
   register : (r : ℕ) → There (kind_at code r) → r < length code.registers
-  register r h = within code.registers r (kind_at code r) refl h
+  register r h = within code.registers r (slice_get code.registers r) refl (entry_there (slice_get code.registers r) h)
 
   target : (to : ℕ) (v : Option RegisterKind) → Takes (kind_at code to) v → to < length code.registers
   target to v h = register to (taken (kind_at code to) v h)

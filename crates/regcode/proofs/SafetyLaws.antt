@@ -2,7 +2,8 @@
 use Rattle.std.proofs.Common.{◌≡◌, ℕ, zero, suc, ℤ, pos, negsuc, ◌+◌, ◌<◌, ◌≤◌, ◌++◌, ◌⊎◌, inl, inr, Bool, true, false, IsTrue, if◌then◌else◌, Option, None, Some, List, [], ◌∷◌, Result, Ok, Err, length, take, replicate, slice_get, slice_index, refl, ap, sym, ◌∙◌, subst, arith}
 use Rattle.std.proofs.lemmas.Bool.{false≢true, cases_eq}
 use Rattle.std.proofs.lemmas.List.{length-take-le, length-append, length-replicate, length-set}
-use Rattle.std.proofs.lemmas.Option.{none-some, slice_get-get_or, slice_get_within}
+use Rattle.std.proofs.lemmas.Option.{none-some, slice_get-get_or}
+use Rattle.std.specs.List.{All}
 use Rattle.std.specs.Option.{option_map}
 use Rattle.clnum.specs.Integer.{Integer, converted}
 use Rattle.clnum.specs.Builtins.{is_same, builtin_value}
@@ -28,14 +29,15 @@ use Rattle.clmodel.specs.declared.setup.AtomicFunction.{AtomicFunction}
 use Rattle.clmodel.specs.declared.tree.VariableType.{VariableType}
 use Rattle.clmodel.specs.declared.tree.VariableType.TheVariants as variable_type
 use Rattle.regcode.specs.Listing.{Listing}
-use Rattle.regcode.specs.Machine.{State, Given, Registers, reg, put, put_array, array_of, entry_at, act, filled, with_put, with_array, with_turns, passed, onward, argument_at}
+use Rattle.regcode.specs.Machine.{State, Given, Registers, reg, put, put_array, array_of, entry_at, act, name_of, with_put, with_array, with_turns, passed, onward, argument_at}
 use Rattle.regcode.specs.Rules.{IsVerified, Fits, Goes, Takes, HasRoom, Leads, kind_at, loops_at, kind_of, held_kind, number_kind, common_kind, changed_kind, combined_kind, of_one_kind, of_two_kind, offset_kind, loaded_kind, is_integer, is_pointer, is_atomic, is_turn}
-use Rattle.regcode.specs.Safety.{Suits, operand_kind, InTables, MayEnd, GoesOn, ended, failed, on_at, after_at, asked, ticked, IsNext, NeverSticks}
+use Rattle.regcode.specs.Safety.{Suits, operand_kind, InTables, GoesOn, ended, failed, on_at, after_at, asked, ticked, IsNext, NeverSticks}
 use Rattle.regcode.specs.declared.instruction.Instruction.{Instruction}
 use Rattle.regcode.specs.declared.instruction.Instruction.TheVariants as instruction
+use Rattle.regcode.specs.declared.tables.Register.{Register}
 use Rattle.regcode.specs.declared.tables.RegisterKind.{RegisterKind}
 use Rattle.regcode.specs.declared.tables.RegisterKind.TheVariants.{Integer as IntegerKind, Pointer as PointerKind}
-use Rattle.regcode.proofs.Registers.{reg_put, reg_kept, array_put, array_kept, with_entry_length}
+use Rattle.regcode.proofs.Registers.{reg_put, reg_kept, array_put, array_kept, with_entry_length, kind_within}
 use Rattle.regcode.proofs.Named.{in_tables}
 
 -- The types of operators' values.
@@ -93,10 +95,6 @@ takes_nothing None h = h
 module _ (Ends : Type 0) (Next : State → Type 0) (on after : State → Run) where
   abbrev Safe : Run → Type 0
   Safe run = GoesOn Ends Next on after run
-
-  filled_safe : (o : Option Operand) (f : Operand → Run) → (o ≡ None → Ends) → ((v : Operand) → o ≡ Some v → Safe (f v)) → Safe (filled o f)
-  filled_safe None f e h = ended (e refl)
-  filled_safe (Some v) f e h = h v refl
 
   known_safe : (name : ℕ) (o : Option Operand) (f : Operand → Run) → ((v : Operand) → o ≡ Some v → Safe (f v)) → Safe (known name o f)
   known_safe name None f h = failed _
@@ -280,7 +278,7 @@ module _ (code : Listing) (s : State) (suits : Suits code s) where
       record { suits = record { inside = leads.0; registers = put_size to v below; arrays = suits.arrays; typed = put_typed to v fits; room = suits.room; counted = omega (arith, counted, few) }; forward = inl (omega arith) }
 
   put_next : (to : ℕ) (v : Operand) → kind_at code to ≡ Some (operand_kind v) → Leads code (s.place + 1) (loops_at code s.place) → IsNext code s (with_put s to (Some v))
-  put_next to v is leads = set_next to (Some v) (slice_get_within code.registers to _ is) (λ w e. is ∙ ap (option_map operand_kind) e) leads
+  put_next to v is leads = set_next to (Some v) (kind_within code to _ is) (λ w e. is ∙ ap (option_map operand_kind) e) leads
 
   array_next : (array : ℕ) (elements : List (Option ℕ)) → array < length code.arrays → length elements ≤ slice_index code.arrays array → Leads code (s.place + 1) (loops_at code s.place) → IsNext code s (with_array s array elements)
   array_next array elements below small leads =
@@ -311,92 +309,92 @@ module _ (code : Listing) (s : State) (suits : Suits code s) where
 
   -- what an instruction does, where its operands are as it wants them
   module _ (given : Given) (on after : State → Run) where
-    does : (i : Instruction) → Fits code i → InTables code i → Goes code s.place i → GoesOn (MayEnd code i s.registers) (IsNext code s) on after (act given (Some i) on after s)
+    does : (i : Instruction) → Fits code i → InTables code i → Goes code s.place i → GoesOn (i ≡ instruction.End) (IsNext code s) on after (act given (Some i) on after s)
     unfolding converted
     does (instruction.Constant to value) fits named goes = on_at _ (put_next to _ (takes_is _ _ fits) goes)
     does (instruction.Unset to) fits named goes = on_at _ (set_next to None fits (λ w e. absurd (none-some w e)) goes)
     does (instruction.Move to from name) fits named goes =
         known_safe _ _ on after name _ _ (λ v e. on_at _ (put_next to v (takes_is _ _ fits.0 ∙ suits.typed from v e) goes))
     does (instruction.Hold to from kind) fits named goes =
-        filled_safe _ _ on after _ _ (λ e. inr (from, (0, omega arith, refl), named.reads.0, e)) (λ v e.
+        known_safe _ _ on after _ _ _ (λ v e.
         on_at _ (put_next to _ (held_takes kind v _ (subst (λ k. Takes (kind_at code to) (held_kind kind k)) (suits.typed from v e) fits)) goes))
     does (instruction.Convert to from kind) fits named goes =
-        filled_safe _ _ on after _ _ (λ e. inr (from, (0, omega arith, refl), named.reads.0, e)) (λ v e.
+        known_safe _ _ on after _ _ _ (λ v e.
         let takes = subst (λ k. Takes (kind_at code to) (number_kind kind k)) (suits.typed from v e) fits in
         number_safe _ _ on after v _ (number_integer kind v _ takes) (λ n is. on_at _ (put_next to _ (number_takes kind v _ takes) goes)))
     does (instruction.Common to from other) fits named goes =
-        filled_safe _ _ on after _ _ (λ e. inr (from, (0, omega arith, refl), named.reads.0, e)) (λ v e.
+        known_safe _ _ on after _ _ _ (λ v e.
         let takes = subst (λ k. Takes (kind_at code to) (common_kind other k)) (suits.typed from v e) fits in
         number_safe _ _ on after v _ (common_integer other v _ takes) (λ n is.
         on_at _ (put_next to _ (takes_is _ _ (subst (λ x. Takes (kind_at code to) (common_kind other (Some (operand_kind x)))) is takes)) goes)))
     does (instruction.Unary to operator operand) fits named goes =
-        filled_safe _ _ on after _ _ (λ e. inr (operand, (0, omega arith, refl), named.reads.0, e)) (λ v e.
+        known_safe _ _ on after _ _ _ (λ v e.
         let takes = subst (λ k. Takes (kind_at code to) (changed_kind operator k)) (suits.typed operand v e) fits in
         number_safe _ _ on after v _ (changed_integer operator v _ takes) (λ n is.
         on_at _ (put_next to _ (takes_is _ _ (subst (λ x. Takes (kind_at code to) (changed_kind operator (Some (operand_kind x)))) is takes) ∙ ap (λ k. Some (IntegerKind k)) (sym (unary_is operator n))) goes)))
     does (instruction.Binary to operator left right) fits named goes =
-        filled_safe _ _ on after _ _ (λ e. inr (left, (0, omega arith, refl), named.reads.0, e)) (λ v e.
-        filled_safe _ _ on after _ _ (λ e'. inr (right, (1, omega arith, refl), named.reads.1.0, e')) (λ w e'.
+        known_safe _ _ on after _ _ _ (λ v e.
+        known_safe _ _ on after _ _ _ (λ w e'.
         combined_safe _ _ on after operator v w _ (kind_at code to)
         (subst (λ k. Takes (kind_at code to) (combined_kind operator (Some (operand_kind v)) k)) (suits.typed right w e')
         (subst (λ k. Takes (kind_at code to) (combined_kind operator k (kind_at code right))) (suits.typed left v e) fits))
         (λ x is. on_at _ (put_next to x is goes))))
     does (instruction.Builtin to function first None) fits named goes =
-        filled_safe _ _ on after _ _ (λ e. inr (first, (0, omega arith, refl), named.reads.0, e)) (λ v e.
+        known_safe _ _ on after _ _ _ (λ v e.
         of_one_safe _ _ on after function v _ (kind_at code to) (subst (λ k. Takes (kind_at code to) (of_one_kind function k)) (suits.typed first v e) fits)
         (λ x is. on_at _ (put_next to x is goes)))
     does (instruction.Builtin to function first (Some second)) fits named goes =
-        filled_safe _ _ on after _ _ (λ e. inr (first, (0, omega arith, refl), named.reads.0, e)) (λ v e.
-        filled_safe _ _ on after _ _ (λ e'. inr (second, (1, omega arith, refl), named.reads.1.0, e')) (λ w e'.
+        known_safe _ _ on after _ _ _ (λ v e.
+        known_safe _ _ on after _ _ _ (λ w e'.
         of_two_safe _ _ on after function v w _ (kind_at code to)
         (subst (λ k. Takes (kind_at code to) (of_two_kind function (Some (operand_kind v)) k)) (suits.typed second w e')
         (subst (λ k. Takes (kind_at code to) (of_two_kind function k (kind_at code second))) (suits.typed first v e) fits))
         (λ x is. on_at _ (put_next to x is goes))))
     does (instruction.Dimensions to) fits named goes = on_at _ (put_next to _ (takes_is _ _ fits) goes)
     does (instruction.Query to function dimension) fits named goes =
-        filled_safe _ _ on after _ _ (λ e. inr (dimension, (0, omega arith, refl), named.reads.0, e)) (λ d e.
+        known_safe _ _ on after _ _ _ (λ d e.
         on_at _ (put_next to _ (number_takes Ulong d _ (subst (λ k. Takes (kind_at code to) (number_kind Ulong k)) (suits.typed dimension d e) fits)) goes))
     does (instruction.Argument to index kind) fits named goes =
         on_at _ (set_next to _ named.writes.0 (λ w e. takes_is _ _ fits.0 ∙ content_is given.buffers index kind (argument_at given.arguments index) w e) goes)
     does (instruction.Local to object element) fits named goes = on_at _ (put_next to _ (takes_is _ _ fits.0) goes)
     does (instruction.UnsetArray array count) fits named goes = on_at _ (array_next array (replicate count None) named.arrays.0 (subst (λ n. n ≤ slice_index code.arrays array) (sym (length-replicate count None)) (room_is code.arrays array count fits)) goes)
     does (instruction.PrivateLoad to array index element name) fits named goes =
-        filled_safe _ _ on after _ _ (λ e. inr (index, (0, omega arith, refl), named.reads.0, e)) (λ i e.
+        known_safe _ _ on after _ _ _ (λ i e.
         read_safe _ _ on after name element _ i _ (subst (λ k. IsTrue (is_integer k)) (suits.typed index i e) fits.1)
         (λ x kind. on_at _ (put_next to x (takes_is _ _ fits.0 ∙ ap Some (sym kind)) goes)))
     does (instruction.PrivateStore array index value element name) fits named goes =
-        filled_safe _ _ on after _ _ (λ e. inr (index, (0, omega arith, refl), named.reads.0, e)) (λ i e.
-        filled_safe _ _ on after _ _ (λ e'. inr (value, (1, omega arith, refl), named.reads.1.0, e')) (λ v e'.
+        known_safe _ _ on after _ _ _ (λ i e.
+        known_safe _ _ on after _ _ _ (λ v e'.
         write_safe _ _ on after name element _ i v _ (subst (λ k. IsTrue (is_integer k)) (suits.typed index i e) fits.0)
         (subst (λ k. IsTrue (is_integer k)) (suits.typed value v e') fits.1) (λ xs same. on_at _ (array_next array xs named.arrays.0 (let small = suits.room array in omega (arith, small, same)) goes))))
     does (instruction.Point to from) fits named goes =
-        filled_safe _ _ on after _ _ (λ e. inr (from, (0, omega arith, refl), named.reads.0, e)) (λ v e.
+        known_safe _ _ on after _ _ _ (λ v e.
         pointing_safe _ _ on after v _ (subst (λ k. IsTrue (is_pointer k)) (suits.typed from v e) fits.1) (λ q is.
         on_at _ (put_next to (Pointed q) (takes_is _ _ fits.0 ∙ suits.typed from v e ∙ ap (λ w. Some (operand_kind w)) is) goes)))
     does (instruction.Offset to pointer index) fits named goes =
-        filled_safe _ _ on after _ _ (λ e. inr (pointer, (0, omega arith, refl), named.reads.0, e)) (λ p e.
-        filled_safe _ _ on after _ _ (λ e'. inr (index, (1, omega arith, refl), named.reads.1.0, e')) (λ i e'.
+        known_safe _ _ on after _ _ _ (λ p e.
+        known_safe _ _ on after _ _ _ (λ i e'.
         moved_safe _ _ on after p i _ (kind_at code to)
         (subst (λ k. Takes (kind_at code to) (offset_kind (Some (operand_kind p)) k)) (suits.typed index i e')
         (subst (λ k. Takes (kind_at code to) (offset_kind k (kind_at code index))) (suits.typed pointer p e) fits))
         (λ q is. on_at _ (put_next to _ is goes))))
     does (instruction.Load to pointer) fits named goes =
-        filled_safe _ _ on after _ _ (λ e. inr (pointer, (0, omega arith, refl), named.reads.0, e)) (λ p e.
+        known_safe _ _ on after _ _ _ (λ p e.
         let takes = subst (λ k. Takes (kind_at code to) (loaded_kind k)) (suits.typed pointer p e) fits in
         pointing_safe _ _ on after p _ (loaded_pointer p _ takes) (λ q is.
         load_safe _ _ on after q _ (λ x kind.
         after_at _ (put_next to x (takes_is _ _ (subst (λ y. Takes (kind_at code to) (loaded_kind (Some (operand_kind y)))) is takes) ∙ ap Some (sym kind)) goes))))
     does (instruction.Store pointer value) fits named goes =
-        filled_safe _ _ on after _ _ (λ e. inr (pointer, (0, omega arith, refl), named.reads.0, e)) (λ p e.
-        filled_safe _ _ on after _ _ (λ e'. inr (value, (1, omega arith, refl), named.reads.1.0, e')) (λ v e'.
+        known_safe _ _ on after _ _ _ (λ p e.
+        known_safe _ _ on after _ _ _ (λ v e'.
         pointing_safe _ _ on after p _ (subst (λ k. IsTrue (is_pointer k)) (suits.typed pointer p e) fits.0) (λ q is.
         store_safe _ _ on after q v _ (subst (λ k. IsTrue (is_integer k)) (suits.typed value v e') fits.1) (after_at _ (onward_next _ (omega arith) goes)))))
     does (instruction.Update function pointer None) fits named goes =
-        filled_safe _ _ on after _ _ (λ e. inr (pointer, (0, omega arith, refl), named.reads.0, e)) (λ p e.
+        known_safe _ _ on after _ _ _ (λ p e.
         update_by_one_safe _ _ on after function p _ (subst (λ k. IsTrue (is_atomic k)) (suits.typed pointer p e) fits) (after_at _ (onward_next _ (omega arith) goes)))
     does (instruction.Update function pointer (Some value)) fits named goes =
-        filled_safe _ _ on after _ _ (λ e. inr (pointer, (0, omega arith, refl), named.reads.0, e)) (λ p e.
-        filled_safe _ _ on after _ _ (λ e'. inr (value, (1, omega arith, refl), named.reads.1.0, e')) (λ v e'.
+        known_safe _ _ on after _ _ _ (λ p e.
+        known_safe _ _ on after _ _ _ (λ v e'.
         update_safe _ _ on after function p v _ (subst (λ k. IsTrue (is_atomic k)) (suits.typed pointer p e) fits.0)
         (subst (λ k. IsTrue (is_integer k)) (suits.typed value v e') fits.1) (after_at _ (onward_next _ (omega arith) goes))))
     does (instruction.Barrier site depth fences) fits named goes = asked _ _ (λ answer. after_at _ (onward_next _ (omega arith) goes.1))
@@ -404,14 +402,14 @@ module _ (code : Listing) (s : State) (suits : Suits code s) where
     does (instruction.Turn depth) fits named goes = ticked _ (after_at _ (turns_next depth _ (let within = goes.0 in omega (arith, within)) goes.1))
     does (instruction.Jump by) fits named goes = on_at _ (onward_next _ (omega arith) goes)
     does (instruction.JumpIfZero register by) fits named goes =
-        filled_safe _ _ on after _ _ (λ e. inr (register, (0, omega arith, refl), named.reads.0, e)) (λ v e.
+        known_safe _ _ on after _ _ _ (λ v e.
         test_safe _ _ on after v _ (subst (λ k. IsTrue (is_integer k)) (suits.typed register v e) fits) sides)
       where
-        sides : (b : Bool) → GoesOn (MayEnd code (instruction.JumpIfZero register by) s.registers) (IsNext code s) on after (if b then on (passed s) else on (onward s by))
+        sides : (b : Bool) → GoesOn ((instruction.JumpIfZero register by) ≡ instruction.End) (IsNext code s) on after (if b then on (passed s) else on (onward s by))
         sides true = on_at _ (onward_next _ (omega arith) goes.0)
         sides false = on_at _ (onward_next _ (omega arith) goes.1)
     does (instruction.Back by) fits named goes = on_at _ (back_next _ (let inside = suits.inside in omega (arith, inside)) goes.1 goes.2)
-    does instruction.End fits named goes = ended (inl refl)
+    does instruction.End fits named goes = ended refl
 
 -- no array has elements at the start
 empty_at_start : (count a : ℕ) → entry_at {A = List (Option ℕ)} [] (replicate count []) a ≡ []
@@ -425,6 +423,12 @@ unset_at_start zero r = refl
 unset_at_start (suc count) zero = refl
 unset_at_start (suc count) (suc r) = unset_at_start count r
 
+-- the names of registers are in the table of names
+name_below : (names : ℕ) (registers : List Register) → All (λ register. register.name < names) registers → (r : ℕ) → r < length registers → name_of (slice_get registers r) < names
+name_below names [] named r inside = absurd (omega (arith, inside))
+name_below names (x ∷ registers) named zero inside = named 0 x inside
+name_below names (x ∷ registers) named (suc r) inside = name_below names registers (λ k d h. named (suc k) d (omega (arith, h))) r (omega (arith, inside))
+
 pub never_sticks : (code : Listing) → IsVerified code → NeverSticks code
 never_sticks code ok =
     record {
@@ -436,10 +440,11 @@ never_sticks code ok =
         room = λ a. subst (λ xs. length xs ≤ slice_index code.arrays a) (sym (empty_at_start (length code.arrays) a)) (omega arith);
         counted = let outside = ok.outside in omega (arith, outside);
       };
+      named = name_below code.names code.registers ok.named;
       next = λ given s suits on after. goes given s suits on after (slice_get code.instructions s.place) refl;
     }
   where
     goes : (given : Given) (s : State) → Suits code s → (on after : State → Run) → (o : Option Instruction) → slice_get code.instructions s.place ≡ o
-        → (i : Instruction) × (o ≡ Some i) × InTables code i × GoesOn (MayEnd code i s.registers) (IsNext code s) on after (act given o on after s)
+        → (i : Instruction) × (o ≡ Some i) × InTables code i × GoesOn (i ≡ instruction.End) (IsNext code s) on after (act given o on after s)
     goes given s suits on after (Some i) here = let fine = ok.each s.place i here in let named = in_tables code i fine.fits in (i, refl, named, does code s suits given on after i fine.fits named fine.goes)
     goes given s suits on after None here = absurd (none-some _ (sym here ∙ slice_get-get_or code.instructions s.place instruction.End suits.inside))

@@ -1,6 +1,5 @@
 -- What verified code never meets.
 use Rattle.std.specs.Prelude.{◌≡◌, ℕ, ◌<◌, ◌≤◌, ◌⊎◌, IsTrue, None, Some, List, [], ◌∷◌, length, slice_get, slice_index}
-use Rattle.std.specs.List.{Contains}
 use Rattle.clmodel.specs.Next.{Run, finish, fail, ask, tick}
 use Rattle.clmodel.specs.declared.action.Action.{Action}
 use Rattle.clmodel.specs.declared.action.Answer.{Answer}
@@ -9,7 +8,7 @@ use Rattle.clmodel.specs.declared.operand.Operand.{Operand}
 use Rattle.clmodel.specs.declared.operand.Operand.TheVariants.{Integral, Pointed}
 use Rattle.clmodel.specs.declared.tree.VariableType.{VariableType}
 use Rattle.regcode.specs.Listing.{Listing}
-use Rattle.regcode.specs.Machine.{State, Given, Registers, reg, array_of, act, at_start}
+use Rattle.regcode.specs.Machine.{State, Given, reg, array_of, name_of, act, at_start}
 use Rattle.regcode.specs.Rules.{kind_at, loops_at, is_turn}
 use Rattle.regcode.specs.declared.instruction.Instruction.{Instruction}
 use Rattle.regcode.specs.declared.instruction.Instruction.TheVariants as instruction
@@ -31,31 +30,27 @@ pub record Suits (code : Listing) (s : State) : Type 0 where
   pub room : (a : ℕ) → length (array_of s.registers a) ≤ slice_index code.arrays a
   pub counted : loops_at code s.place ≤ length s.counters
 
--- the registers whose values an instruction works on; `Move` isn't here: it fails where its variable is unset
-abbrev pub operands : Instruction → List ℕ
-operands (instruction.Hold to from kind) = from ∷ []
-operands (instruction.Convert to from kind) = from ∷ []
-operands (instruction.Common to from other) = from ∷ []
-operands (instruction.Unary to operator operand) = operand ∷ []
-operands (instruction.Binary to operator left right) = left ∷ right ∷ []
-operands (instruction.Builtin to function first None) = first ∷ []
-operands (instruction.Builtin to function first (Some second)) = first ∷ second ∷ []
-operands (instruction.Query to function dimension) = dimension ∷ []
-operands (instruction.PrivateLoad to array index element name) = index ∷ []
-operands (instruction.PrivateStore array index value element name) = index ∷ value ∷ []
-operands (instruction.Point to from) = from ∷ []
-operands (instruction.Offset to pointer index) = pointer ∷ index ∷ []
-operands (instruction.Load to pointer) = pointer ∷ []
-operands (instruction.Store pointer value) = pointer ∷ value ∷ []
-operands (instruction.Update function pointer None) = pointer ∷ []
-operands (instruction.Update function pointer (Some value)) = pointer ∷ value ∷ []
-operands (instruction.JumpIfZero register by) = register ∷ []
-operands _ = []
-
--- all registers that an instruction reads
+-- the registers that an instruction reads
 abbrev pub sources : Instruction → List ℕ
 sources (instruction.Move to from name) = from ∷ []
-sources i = operands i
+sources (instruction.Hold to from kind) = from ∷ []
+sources (instruction.Convert to from kind) = from ∷ []
+sources (instruction.Common to from other) = from ∷ []
+sources (instruction.Unary to operator operand) = operand ∷ []
+sources (instruction.Binary to operator left right) = left ∷ right ∷ []
+sources (instruction.Builtin to function first None) = first ∷ []
+sources (instruction.Builtin to function first (Some second)) = first ∷ second ∷ []
+sources (instruction.Query to function dimension) = dimension ∷ []
+sources (instruction.PrivateLoad to array index element name) = index ∷ []
+sources (instruction.PrivateStore array index value element name) = index ∷ value ∷ []
+sources (instruction.Point to from) = from ∷ []
+sources (instruction.Offset to pointer index) = pointer ∷ index ∷ []
+sources (instruction.Load to pointer) = pointer ∷ []
+sources (instruction.Store pointer value) = pointer ∷ value ∷ []
+sources (instruction.Update function pointer None) = pointer ∷ []
+sources (instruction.Update function pointer (Some value)) = pointer ∷ value ∷ []
+sources (instruction.JumpIfZero register by) = register ∷ []
+sources _ = []
 
 -- the register that it writes
 abbrev pub targets : Instruction → List ℕ
@@ -121,10 +116,6 @@ pub record InTables (code : Listing) (i : Instruction) : Type 0 where
   pub names : Below code.names (names_named i)
   pub parameters : Declared code.parameters (parameters_named i)
 
--- An instruction may end an item: it is the end, or an operand, whose register is in the tables, is unset.
-abbrev pub MayEnd : Listing → Instruction → Registers → Type 0
-MayEnd code i registers = (i ≡ instruction.End) ⊎ ((r : ℕ) × Contains (operands i) r × (r < length code.registers) × (reg registers r ≡ None))
-
 -- What an instruction does, where `on` and `after` are what follows: it fails, or asks or takes a tick and goes on, always in a state of which `Next` holds. It ends only where `Ends` holds.
 pub data GoesOn (Ends : Type 0) (Next : State → Type 0) (on after : State → Run) : Run → Type 0 where
   ended : Ends → GoesOn Ends Next on after finish
@@ -139,10 +130,11 @@ pub record IsNext (code : Listing) (s : State) (next : State) : Type 0 where
   pub suits : Suits code next
   pub forward : (s.place < next.place) ⊎ IsTrue (is_turn (slice_get code.instructions next.place))
 
--- Verified code suits its start. In a state that suits it an instruction is there, which names nothing but entries of the tables. Whatever follows, it goes
--- on in states that suit the code; it ends only at its end or for want of an operand.
+-- Verified code suits its start, and the name of each register of it is in the table of names. In a state that suits it an instruction is there, which names
+-- nothing but entries of the tables. Whatever follows, it goes on in states that suit the code; it ends only at its end.
 pub record NeverSticks (code : Listing) : Type 0 where
   pub start : Suits code (at_start (length code.registers) (length code.arrays))
+  pub named : (r : ℕ) → r < length code.registers → name_of (slice_get code.registers r) < code.names
   pub next : (given : Given) (s : State) → Suits code s → (on after : State → Run)
       → (i : Instruction) × (slice_get code.instructions s.place ≡ Some i) × InTables code i
-      × GoesOn (MayEnd code i s.registers) (IsNext code s) on after (act given (slice_get code.instructions s.place) on after s)
+      × GoesOn (i ≡ instruction.End) (IsNext code s) on after (act given (slice_get code.instructions s.place) on after s)

@@ -1,20 +1,30 @@
 //! The judge of code.
 #![tactic(auto)]
 
-ghost use Rattle.std.specs.Prelude.{◌≡◌, ◌↔◌, IfOk, IsOk, IsTrue};
+ghost use Rattle.std.specs.Prelude.{◌≡◌, ◌<◌, ◌↔◌, IfOk, IsOk, IsTrue};
+ghost use Rattle.std.specs.List.{All};
 ghost use Rattle.regcode.specs.Listed.{listing};
 ghost use Rattle.regcode.specs.Rules.{IsVerified};
 
 use crate::code::Code;
 use crate::instruction::Instruction;
 use crate::rules::Judged;
-use crate::tables::Tables;
+use crate::tables::{Register, Tables};
 
 /// Why code isn't verified.
 #[derive(Clone, Copy, Debug, PartialEq, Eq)]
 pub enum VerifyFault {
     /// A rule fails
     Rejected,
+}
+
+/// Whether the name of each register is in a table of so many names.
+fn are_named(registers: &[Register], names: usize) -> bool
+    ensures { IsTrue result ↔ All (λ register. register.name < names) registers.now }
+{
+    registers
+        .iter()
+        .all(|register| (register.name as usize) < names)
 }
 
 /// Whether code keeps all rules.
@@ -26,6 +36,9 @@ fn is_verified(instructions: &[Instruction], tables: &Tables) -> bool
         tables,
     };
     if instructions.is_empty() || tables.loops.len() != instructions.len() || tables.loops[0] != 0 {
+        return false;
+    }
+    if !are_named(&tables.registers, tables.names) {
         return false;
     }
     for place in 0..instructions.len() {

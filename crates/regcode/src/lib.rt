@@ -16,4 +16,4 @@ pub use code::Code;
 pub use dumping::{DumpFault, dump};
 pub use instruction::Instruction;
 pub use judge::{VerifyFault, verify};
-pub use tables::{RegisterKind, Tables};
+pub use tables::{Register, RegisterKind, Tables};

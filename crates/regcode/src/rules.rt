@@ -26,7 +26,10 @@ impl Judged<'_> {
     fn kind(&self, register: u32) -> Option<RegisterKind>
         ensures { result ≡ spec.kind_at (listing self.now.instructions.now self.now.tables.now) register }
     {
-        self.tables.registers.get(register as usize).copied()
+        self.tables
+            .registers
+            .get(register as usize)
+            .map(|register| register.kind)
     }
 
     /// Whether a register may hold a value.
@@ -74,7 +77,7 @@ impl Judged<'_> {
             ),
             Instruction::Unset { to } => (*to as usize) < self.tables.registers.len(),
             Instruction::Move { to, from, name } => self.takes(*to, self.kind(*from))
-                && *name < self.tables.names,
+                && (*name as usize) < self.tables.names,
             Instruction::Hold { to, from, kind } => self.takes(
                 *to,
                 held_kind(*kind, self.kind(*from)),
@@ -131,7 +134,7 @@ impl Judged<'_> {
                 number,
                 element,
             } => self.takes(*to, Some(RegisterKind::Pointer(*element)))
-                && *number < self.tables.objects,
+                && (*number as usize) < self.tables.objects,
             Instruction::UnsetArray { array, length } => self.has_room(*array, *length),
             Instruction::PrivateLoad {
                 to,
@@ -143,7 +146,7 @@ impl Judged<'_> {
                 self.takes(*to, Some(RegisterKind::Integer(*element)))
                     && is_integer(self.kind(*index))
                     && (*array as usize) < self.tables.arrays.len()
-                    && *name < self.tables.names
+                    && (*name as usize) < self.tables.names
             }
             Instruction::PrivateStore {
                 array,
@@ -155,7 +158,7 @@ impl Judged<'_> {
                 is_integer(self.kind(*index))
                     && is_integer(self.kind(*value))
                     && (*array as usize) < self.tables.arrays.len()
-                    && *name < self.tables.names
+                    && (*name as usize) < self.tables.names
             }
             Instruction::Point { to, from } => self.takes(*to, self.kind(*from))
                 && is_pointer(self.kind(*from)),
@@ -187,18 +190,18 @@ impl Judged<'_> {
     }
 
     /// How many loops are entered at a place.
-    fn loops(&self, place: usize) -> u64
+    fn loops(&self, place: usize) -> usize
         ensures { result ≡ spec.loops_at (listing self.now.instructions.now self.now.tables.now) place }
     {
         if place < self.tables.loops.len() {
-            u64::from(self.tables.loops[place])
+            self.tables.loops[place]
         } else {
             0
         }
     }
 
     /// Whether code may go on at a place where n loops are entered.
-    fn leads(&self, place: usize, entered: u64) -> bool
+    fn leads(&self, place: usize, entered: usize) -> bool
         ensures { IsTrue result ↔ spec.Leads (listing self.now.instructions.now self.now.tables.now) place entered }
     {
         place < self.instructions.len() && self.loops(place) <= entered
@@ -221,13 +224,13 @@ impl Judged<'_> {
     {
         let loops = self.loops(place);
         match instruction {
-            Instruction::Barrier { depth, .. } => u64::from(*depth) <= loops
+            Instruction::Barrier { depth, .. } => *depth as usize <= loops
                 && self.leads(place + 1, loops),
-            Instruction::Enter { depth } => u64::from(*depth) <= loops
+            Instruction::Enter { depth } => *depth as usize <= loops
                 && *depth < 8
-                && self.leads(place + 1, u64::from(*depth) + 1),
-            Instruction::Turn { depth } => u64::from(*depth) < loops
-                && self.leads(place + 1, u64::from(*depth) + 1),
+                && self.leads(place + 1, *depth as usize + 1),
+            Instruction::Turn { depth } => (*depth as usize) < loops
+                && self.leads(place + 1, *depth as usize + 1),
             Instruction::Jump { by } => self.leads(place + 1 + *by as usize, loops),
             Instruction::JumpIfZero { by, .. } => self.leads(place + 1, loops)
                 && self.leads(place + 1 + *by as usize, loops),

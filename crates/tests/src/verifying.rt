@@ -9,7 +9,7 @@ use regcode::Instruction::{
     JumpIfZero, Load, Local, Move, Offset, Point, PrivateLoad, PrivateStore, Query, Store, Turn,
     Unary, Unset, UnsetArray, Update,
 };
-use regcode::{Instruction, RegisterKind, Tables, VerifyFault, verify};
+use regcode::{Instruction, Register, RegisterKind, Tables, VerifyFault, verify};
 use std::alloc::{AllocError, Global};
 use std::test::Fail;
 
@@ -21,16 +21,21 @@ const POINTER: VariableType = VariableType::Pointer(PointerType {
     element: IntType::Int,
 });
 
+/// A register of a kind with the last of six names.
+fn register(kind: RegisterKind) -> Register {
+    Register { kind, name: 5 }
+}
+
 /// Registers of int, uint, a pointer to int, ulong, and a pointer to long; a private array of four elements; three local objects;
 /// six names; an int and a pointer as parameters.
-fn tables(alloc: Global, loops: &[u32]) -> Result<Tables, AllocError> {
+fn tables(alloc: Global, loops: &[usize]) -> Result<Tables, AllocError> {
     Ok(Tables {
         registers: vec![in alloc;
-            RegisterKind::Integer(IntType::Int),
-            RegisterKind::Integer(IntType::Uint),
-            RegisterKind::Pointer(IntType::Int),
-            RegisterKind::Integer(IntType::Ulong),
-            RegisterKind::Pointer(IntType::Long),
+            register(RegisterKind::Integer(IntType::Int)),
+            register(RegisterKind::Integer(IntType::Uint)),
+            register(RegisterKind::Pointer(IntType::Int)),
+            register(RegisterKind::Integer(IntType::Ulong)),
+            register(RegisterKind::Pointer(IntType::Long)),
         ]?,
         arrays: vec![in alloc; 4]?,
         objects: 3,
@@ -44,7 +49,7 @@ fn tables(alloc: Global, loops: &[u32]) -> Result<Tables, AllocError> {
 fn fault_of(
     alloc: Global,
     code: &[Instruction],
-    loops: &[u32],
+    loops: &[usize],
 ) -> Result<Option<VerifyFault>, Fail> {
     Ok(verify(code.to_vec(alloc)?, tables(alloc, loops)?).err())
 }
@@ -123,7 +128,7 @@ fn is_verified(alloc: Global, row: &str) -> Result<Option<bool>, Fail> {
         code.push(instruction)?;
     }
     for number in numbers.split_whitespace() {
-        let Ok(number) = number.parse::<u32>() else {
+        let Ok(number) = number.parse::<usize>() else {
             return Ok(None);
         };
         loops.push(number)?;
@@ -267,6 +272,16 @@ fn a_constant_of_another_type(rt: HostRuntime) -> Result<(), Fail> {
         value: Value::new(IntType::Int, -7),
     };
     let fault = fault_of(rt.alloc(), &[constant, End], &[0, 0])?;
+    assert_eq!(rt; fault, Some(VerifyFault::Rejected));
+    Ok(())
+}
+
+// The registers' names are the last of six, so that five are too few.
+#[test]
+fn a_register_of_a_missing_name(rt: HostRuntime) -> Result<(), Fail> {
+    let mut tables = tables(rt.alloc(), &[0])?;
+    tables.names = 5;
+    let fault = verify(vec![in rt.alloc(); End]?, tables).err();
     assert_eq!(rt; fault, Some(VerifyFault::Rejected));
     Ok(())
 }

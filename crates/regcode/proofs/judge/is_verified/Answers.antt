@@ -1,4 +1,5 @@
-use Rattle.std.proofs.Common.{◌≡◌, ◌<◌, ◌∙◌, length, refl, sym, arith, rules, below_more}
+use Rattle.std.proofs.Common.{◌≡◌, ◌<◌, ◌∙◌, length, refl, sym, subst, arith, rules, below_more}
+use Rattle.std.specs.List.{All}
 use Rattle.std.proofs.lemmas.Bool.Decides.{nat_tests}
 use Rattle.std.proofs.lemmas.List.{get_or_read}
 use Rattle.std.proofs.lemmas.Option.{slice_get_read, slice_get_within}
@@ -20,6 +21,7 @@ returns c =
         begins = some;
         listed = listed;
         outside = sym (get_or_read c.args.tables.now.loops.items 0 _ (omega (arith, some, listed)) c.index.ensures 0) ∙ c.if-index-ne0.false;
+        named = subst (All (λ register. register.name < c.args.tables.now.names)) c.deref.ensures.value (c.are_named.ensures.0 c.if-not-are_named.false);
         each = λ place i here. c.loop-place.invariant place (let inside = slice_get_within _ place i here in let all = c.loop-place-test.false in omega (arith, inside, all)) i here;
       }),
       (λ _. refl),
