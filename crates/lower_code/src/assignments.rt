@@ -26,7 +26,7 @@ use clnum::{BinaryOperator, IntType, Value};
 use lower_expr::destinations::{combine, destination_type, fetch, put, reach};
 use lower_expr::emission::{emit_arguments, emit_expression};
 use lower_expr::scope::{Scope, level_above, level_at, register_at};
-use lower_expr::tails::{add, call_only};
+use lower_expr::instructions::{add, call_only};
 use lower_expr::types::call_type;
 use regcode::Instruction;
 use smallvec::SmallVec;

@@ -1,4 +1,4 @@
-//! Code that is written from its end, with the bodies of helpers left out.
+//! Code that is written from its end, with the bodies of helpers left out: so a jump is written when the length of what it passes is known.
 #![tactic(auto, using(crate::proofs::Drafts::draft_whole, crate::proofs::Drafts::part_whole, crate::proofs::Drafts::part_length, crate::proofs::Drafts::draft_length, crate::proofs::Growth::unchanged, crate::proofs::Growth::before, crate::proofs::Growth::one_before))]
 
 ghost use Rattle.std.specs.Prelude.{◌≡◌, ◌-◌, ◌+◌, [], ◌∷◌, ◌++◌, length, reverse, IfOk, OnOk, OnErr};

@@ -1,7 +1,7 @@
 //! Tests, loops and returns, with the statements in them left out (OpenCL 1.2, section 6.9; C99 6.8.4 to 6.8.6).
 #![tactic(auto, using(crate::proofs::Growth::unchanged, crate::proofs::Growth::before, crate::proofs::Growth::one_before))]
 
-ghost use Rattle.std.specs.Prelude.{◌≡◌, [], ◌∷◌, ◌++◌, List, length, IfOk, OnOk, OnErr};
+ghost use Rattle.std.specs.Prelude.{◌≡◌, [], ◌∷◌, ◌++◌, List, length, OnOk, OnErr};
 ghost use Rattle.clmodel.specs.Tree.{term};
 ghost use Rattle.regcode.specs.declared.instruction.Instruction.{Instruction};
 ghost use Rattle.regcode.specs.declared.instruction.Instruction.TheVariants as instruction;
@@ -16,8 +16,8 @@ use crate::draft::Draft;
 use clmodel::tree::{Expression, VariableType};
 use clnum::IntType;
 use lower_expr::emission::emit_expression;
-use lower_expr::scope::{Scope, register_at, word};
-use lower_expr::tails::add;
+use lower_expr::scope::{Scope, register_at};
+use lower_expr::instructions::add;
 use regcode::Instruction;
 use std::alloc::AllocError;
 
@@ -92,15 +92,6 @@ pub fn end_while<'a>(
     code.put(Instruction::Enter { depth })
 }
 
-/// The level of the outermost variable.
-fn base_level(scope: &Scope) -> Result<u32, AllocError>
-    ensures { IfOk result (λ base. base ≡ scope.now.base) }
-{
-    let count = word(scope.len())?;
-    let level = scope.free_level()?;
-    level.checked_sub(count).ok_or(AllocError)
-}
-
 /// Puts before the code that a function returns no value.
 pub fn put_no_value(
     kind: Option<IntType>,
@@ -130,7 +121,7 @@ pub fn put_return(
     ensures longer { OnErr result (GrowsBefore code.old code.new) }
 {
     code.put(Instruction::Jump { by })?;
-    put_no_value(kind, base_level(scope)?, code)
+    put_no_value(kind, scope.base(), code)
 }
 
 /// Adds that a function returns a register's value, in its type.
@@ -171,7 +162,7 @@ pub fn put_return_value(
     let mut front = Vec::new(scope.allocator());
     let found = emit_expression(scope, level, value, &mut front)?;
     let from = register_at(level, found)?;
-    add_value(kind, base_level(scope)?, from, &mut front)?;
+    add_value(kind, scope.base(), from, &mut front)?;
     code.put(Instruction::Jump { by })?;
     code.put_all(front)
 }

@@ -9,7 +9,7 @@ ghost use Rattle.lower_expr.specs.Growth.{IsLonger};
 
 use crate::jumps::{begin_choice, begin_infix, between_branches, end_choice, end_infix};
 use crate::scope::{Scope, level_above, level_at, register_at};
-use crate::tails::{
+use crate::instructions::{
     Arguments, array_element, call, cast, load, number, offset, point, unary, variable,
 };
 use crate::types::base_type;

@@ -13,7 +13,7 @@ ghost use Rattle.lower_expr.specs.Expressions.{truth_code, infix_begun, infix_co
 ghost use Rattle.lower_expr.specs.Growth.{IsLonger};
 
 use crate::scope::{level_above, register_at, word};
-use crate::tails::add;
+use crate::instructions::add;
 use crate::types::{base_type, infix_type};
 use clmodel::tree::{InfixOperator, VariableType};
 use clnum::{BinaryOperator, IntType, Value};
