@@ -1,11 +1,12 @@
 -- The code of each kernel of a typed program is verified with the tables that are made from it.
 use Rattle.std.proofs.Common.{◌≡◌, ℕ, suc, ◌+◌, ◌<◌, ◌≤◌, Bool, true, false, cond, not, ◌&&◌, nat_eq, if◌then◌else◌, Option, None, Some, is_some, List, [], ◌∷◌, ◌++◌, length, map, slice_get, refl, ap, sym, subst, ◌∙◌, arith, eqb-true}
 use Rattle.std.specs.Map.{lookup}
-use Rattle.std.proofs.lemmas.Bool.{and_parts, not-true, ne_eqb, ltb-false}
+use Rattle.std.proofs.lemmas.Bool.{and_parts, not-true, ltb-false}
+use Rattle.std.proofs.lemmas.Option.{slice_get_past}
 use Rattle.std.proofs.Math.Nat.{zero-add}
 use Rattle.clnum.specs.declared.int_type.IntType.{IntType}
-use Rattle.clmodel.specs.Barrier.{is_barrier}
-use Rattle.clmodel.specs.BuiltIns.{built_in}
+use Rattle.clmodel.specs.Barrier.{is_barrier, barrier_in}
+use Rattle.clmodel.specs.BuiltIns.{predefined, meanings, built_in, function_in}
 use Rattle.clmodel.specs.Next.{sites_in}
 use Rattle.clmodel.specs.Setup.{kernel_in, functions_before}
 use Rattle.clmodel.specs.Tree.{Func, Funcs, NoFunc, ThenFunc}
@@ -13,7 +14,6 @@ use Rattle.clmodel.specs.Typing.{IsTypedProgram}
 use Rattle.clmodel.specs.Typing.Context.{Signature, signature_of, is_reserved}
 use Rattle.clmodel.specs.Typing.Functions.{signature, signatures, begin, with_params, is_new, names, IsTypedFunction, AreTypedFunctions}
 use Rattle.clmodel.specs.Typing.Sizes.{sizes_of, row_size}
-use Rattle.clmodel.specs.declared.setup.BuiltIn.{BuiltIn}
 use Rattle.clmodel.specs.declared.tree.Parameter.{Parameter}
 use Rattle.clmodel.specs.declared.tree.VariableType.{VariableType}
 use Rattle.regcode.specs.declared.instruction.Instruction.{Instruction}
@@ -29,40 +29,10 @@ use Rattle.lower.proofs.TypedStatements.{stmts_suit}
 use Rattle.lower.proofs.Verified.{kernels_verified}
 
 -- names that are free for functions are those of no built-in function
-other_name : (name n : ℕ) → n < name → nat_eq name n ≡ false
-other_name name n less = ne_eqb name n (λ e. absurd (omega (arith, less, e)))
-
 unreserved : (name : ℕ) → is_reserved name ≡ false → (built_in name ≡ None) × (is_barrier name ≡ false)
-unreserved name e = (no_built_in name (ltb-false name 26 e), other_name name 14 (let b = ltb-false name 26 e in omega (arith, b)))
-  where
-    later : (x rest : Option BuiltIn) (name n : ℕ) → n < name → (if nat_eq name n then x else rest) ≡ rest
-    later x rest name n less = ap (λ b. if b then x else rest) (other_name name n less)
-
-    no_built_in : (name : ℕ) → 26 ≤ name → built_in name ≡ None
-    no_built_in name b =
-        later _ _ name 0 (omega (arith, b))
-        ∙ later _ _ name 1 (omega (arith, b))
-        ∙ later _ _ name 2 (omega (arith, b))
-        ∙ later _ _ name 3 (omega (arith, b))
-        ∙ later _ _ name 4 (omega (arith, b))
-        ∙ later _ _ name 5 (omega (arith, b))
-        ∙ later _ _ name 6 (omega (arith, b))
-        ∙ later _ _ name 7 (omega (arith, b))
-        ∙ later _ _ name 8 (omega (arith, b))
-        ∙ later _ _ name 9 (omega (arith, b))
-        ∙ later _ _ name 10 (omega (arith, b))
-        ∙ later _ _ name 11 (omega (arith, b))
-        ∙ later _ _ name 12 (omega (arith, b))
-        ∙ later _ _ name 13 (omega (arith, b))
-        ∙ later _ _ name 15 (omega (arith, b))
-        ∙ later _ _ name 16 (omega (arith, b))
-        ∙ later _ _ name 17 (omega (arith, b))
-        ∙ later _ _ name 18 (omega (arith, b))
-        ∙ later _ _ name 19 (omega (arith, b))
-        ∙ later _ _ name 20 (omega (arith, b))
-        ∙ later _ _ name 21 (omega (arith, b))
-        ∙ later _ _ name 22 (omega (arith, b))
-        ∙ later _ _ name 23 (omega (arith, b))
+unreserved name e =
+    let none = slice_get_past (meanings predefined) name (ltb-false name (length predefined) e) in
+    (ap function_in none, ap barrier_in none)
 
 none_of : {V : Type 0} (o : Option V) → not (is_some o) ≡ true → o ≡ None
 none_of None e = refl
