@@ -15,7 +15,7 @@ ghost use Rattle.item_value.specs.Leading.{Leads};
 ghost use Rattle.item_run.specs.Running.{action_of, is_asking};
 
 use crate::accesses::{load_of, store_of, update_of};
-use crate::item::Item;
+use crate::machine::Machine;
 use crate::rest::Wanted;
 use clmodel::operand::Pointer;
 use clmodel::setup::AtomicFunction;
@@ -24,7 +24,7 @@ use item_value::halt::Halt;
 use item_value::pointers::{number, pointing};
 use regcode::Instruction;
 
-impl<'a> Item<'a> {
+impl<'a> Machine<'a> {
     /// An operand that is a pointer.
     fn pointer(&self, register: u32) -> Result<Pointer, Halt>
         ensures { (after : Pointer → Run) → Leads result (filled (reg self.now.state.registers register) (λ v. next.pointing v after)) after }

@@ -8,5 +8,6 @@ pub mod operators;
 mod parameters;
 pub mod pointers;
 pub mod private_array;
+pub mod registers;
 pub mod surroundings;
 pub mod values;
