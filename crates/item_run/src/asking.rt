@@ -7,10 +7,10 @@ ghost use Rattle.clmodel.specs.Next as next;
 ghost use Rattle.clmodel.specs.Next.{Run};
 ghost use Rattle.clmodel.specs.declared.action.Answer.{Answer};
 ghost use Rattle.clmodel.specs.declared.operand.Pointer.{Pointer};
-ghost use Rattle.regcode.specs.Machine.{State, act, filled, reg};
+ghost use Rattle.regcode.specs.Machine.{State, act, read};
 ghost use Rattle.regcode.specs.Rules.{IsVerified};
 ghost use Rattle.regcode.specs.declared.instruction.Instruction.TheVariants as instruction;
-ghost use Rattle.item_run.specs.Asking.{asks, answered_state, wanted_action};
+ghost use Rattle.item_run.specs.Asking.{asks};
 ghost use Rattle.item_value.specs.Leading.{Leads};
 ghost use Rattle.item_run.specs.Running.{action_of, is_asking};
 
@@ -27,7 +27,7 @@ use regcode::Instruction;
 impl<'a> Machine<'a> {
     /// An operand that is a pointer.
     fn pointer(&self, register: u32) -> Result<Pointer, Halt>
-        ensures { (after : Pointer → Run) → Leads result (filled (reg self.now.state.registers register) (λ v. next.pointing v after)) after }
+        ensures { (after : Pointer → Run) → Leads result (read self.now.given self.now.state register (λ v. next.pointing v after)) after }
     {
         let value = self.operand(register)?;
         pointing(value)
@@ -35,7 +35,7 @@ impl<'a> Machine<'a> {
 
     /// Operands that are a pointer and a number.
     fn pointer_and_number(&self, pointer: u32, value: u32) -> Result<(Pointer, Value), Halt>
-        ensures { (after : Pointer → Integer → Run) → Leads result (filled (reg self.now.state.registers pointer) (λ v. filled (reg self.now.state.registers value) (λ w. next.pointing v (λ q. next.number w (λ n. after q n))))) (λ pair. after pair.0 pair.1) }
+        ensures { (after : Pointer → Integer → Run) → Leads result (read self.now.given self.now.state pointer (λ v. read self.now.given self.now.state value (λ w. next.pointing v (λ q. next.number w (λ n. after q n))))) (λ pair. after pair.0 pair.1) }
     {
         let pointer = self.operand(pointer)?;
         let value = self.operand(value)?;

@@ -5,6 +5,7 @@ mod accesses;
 mod asking;
 mod counters;
 mod item;
+mod machine;
 mod rest;
 mod run;
 mod stepping;

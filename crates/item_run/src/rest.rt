@@ -2,8 +2,9 @@
 #![tactic(auto)]
 
 use clmodel::access::Operation;
-use clmodel::action::Fences;
+use clmodel::action::{Action, Fences};
 use clmodel::operand::Pointer;
+use clnum::IntType;
 use item_value::halt::Halt;
 use regcode::Instruction;
 
@@ -26,4 +27,23 @@ pub(crate) enum Wanted {
         depth: u32,
         fences: Fences,
     },
+}
+
+/// How an item goes on with an answer.
+#[derive(Clone, Copy)]
+pub(crate) enum Pending {
+    /// A register gets the number that a load was answered, as one of a type
+    Load {
+        to: u32,
+        element: IntType,
+    },
+    /// The next instruction follows
+    Pass,
+}
+
+/// The action that an item makes, and how it goes on with the answer, if it takes one.
+#[derive(Drop)]
+pub(crate) struct Found {
+    pub(crate) action: Action,
+    pub(crate) pending: Option<Pending>,
 }

@@ -153,6 +153,7 @@ impl<'a> Launch<'a> {
             context,
             buffers: self.buffers.as_slice(),
             arguments: self.setup.arguments,
+            registers: self.code.tables().registers.as_slice(),
         };
         Item::start(self.code, surroundings, self.setup.budget)
     }
