@@ -1,4 +1,5 @@
 pub mod Arrays
+pub mod Context
 pub mod Leading
 pub mod Givens
 pub mod Giving

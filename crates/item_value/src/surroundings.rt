@@ -3,9 +3,9 @@
 
 ghost use Rattle.std.specs.Prelude.{◌<◌, ◌^◌, length};
 
+use crate::context::Context;
 use clmodel::setup::Argument;
 use clmodel::text::Name;
-use item_state::context::Context;
 use regcode::Register;
 
 /// The item's place in its range, the names of the launch's buffers, the kernel's arguments, and the code's table of registers.

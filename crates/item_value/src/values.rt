@@ -4,7 +4,7 @@
 ghost use Rattle.std.specs.Prelude.{◌≡◌, Option, [], ◌∷◌};
 ghost use Rattle.clnum.specs.Integer.{converted};
 ghost use Rattle.clnum.specs.Operations.{unary_value};
-ghost use Rattle.item_state.specs.Context.{here};
+ghost use Rattle.item_value.specs.Context.{here};
 ghost use Rattle.clmodel.specs.Next as next;
 ghost use Rattle.clmodel.specs.Next.{Run};
 ghost use Rattle.clmodel.specs.declared.operand.Operand.{Operand};
@@ -15,6 +15,7 @@ ghost use Rattle.regcode.specs.Machine.{entry_at};
 ghost use Rattle.item_value.specs.Leading.{Leads};
 ghost use Rattle.item_value.specs.Reading.{reads};
 
+use crate::context::Context;
 use crate::elements::element;
 use crate::halt::Halt;
 use crate::operators::{chosen_value, combined, of_one, of_two, work_item};
@@ -25,7 +26,6 @@ use clmodel::operand::Operand;
 use clmodel::setup::WorkItemFunction;
 use clmodel::tree::VariableType;
 use clnum::{BinaryOperator, Builtin, IntType, UnaryOperator, convert, unary};
-use item_state::context::Context;
 
 /// The value of a variable of a name, which must be set.
 pub(crate) fn known(
