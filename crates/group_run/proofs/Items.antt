@@ -7,7 +7,7 @@ use Rattle.clmodel.specs.declared.action.Action.{Action}
 use Rattle.clmodel.specs.declared.action.Answer.{Answer}
 use Rattle.clmodel.specs.Launch.{Launch}
 use Rattle.clmodel.proofs.Steps.{none_some, some_inj}
-use Rattle.item_run.specs.Running.{Running, action_of}
+use Rattle.item_step.specs.Running.{Running, action_of}
 use Rattle.group_run.specs.Fits.{AreAnswered, AreStarted}
 use Rattle.group_run.proofs.Lists.{get_set}
 

@@ -15,7 +15,7 @@ use Rattle.clmodel.specs.declared.action.Answer.{Answer}
 use Rattle.clmodel.specs.declared.access.Region.TheVariants as region
 use Rattle.clmodel.specs.declared.fault.Fault.{Fault}
 use Rattle.clmodel.proofs.Steps.{none_some, some_inj}
-use Rattle.item_run.specs.Running.{Running, action_of}
+use Rattle.item_step.specs.Running.{Running, action_of}
 use Rattle.shadow_list.specs.Log.{Log, logged}
 use Rattle.group_run.specs.Fits.{Holds, HoldsMemory, Fits, Counts, AreStarted, group_left}
 use Rattle.joining.specs.Parts.{IsGrouped}

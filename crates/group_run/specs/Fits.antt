@@ -11,7 +11,7 @@ use Rattle.clmodel.specs.declared.access.Region.{Region}
 use Rattle.clmodel.specs.declared.access.Region.TheVariants as region
 use Rattle.clmodel.specs.declared.action.Action.{Action}
 use Rattle.clmodel.specs.declared.action.Answer.{Answer}
-use Rattle.item_run.specs.Running.{Running, action_of}
+use Rattle.item_step.specs.Running.{Running, action_of}
 use Rattle.shadow_list.specs.Log.{Log}
 use Rattle.spaces_base.specs.declared.space.SpaceFault.{SpaceFault}
 use Rattle.spaces_base.specs.declared.space.SpaceFault.TheVariants as space_fault

@@ -3,10 +3,10 @@
 ghost use Rattle.std.specs.Prelude.{◌≡◌, [], ◌∷◌, List};
 ghost use Rattle.clmodel.specs.declared.action.Action.{Action};
 ghost use Rattle.clmodel.specs.declared.action.Answer.{Answer};
-ghost use Rattle.item_run.specs.Running.{action_of};
+ghost use Rattle.item_step.specs.Running.{action_of};
 
 use clmodel::action::{Action, Answer};
-use item_run::Item;
+use item_step::Item;
 
 /// A work-item that runs, seen as the action that it makes after each list of further answers (OpenCL 1.2, section 3.2).
 pub trait RunningItem {

@@ -2,10 +2,10 @@
 
 ghost use Rattle.std.specs.Prelude.{◌≡◌, IfOk, List};
 ghost use Rattle.clmodel.specs.declared.action.Answer.{Answer};
-ghost use Rattle.item_run.specs.Running.{action_of};
+ghost use Rattle.item_step.specs.Running.{action_of};
 
 use crate::describing::Described;
-use item_run::Item;
+use item_step::Item;
 use std::alloc::{AllocError, Global};
 
 /// A launch whose groups can be run (OpenCL 1.2, section 3.2).

@@ -2,3 +2,7 @@ pub mod Starts
 pub mod Functions
 pub mod Objects
 pub mod Declarations
+pub mod Turns
+pub mod ArrayLaws
+pub mod StateLaws
+pub mod AskingLaws

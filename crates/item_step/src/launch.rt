@@ -9,14 +9,15 @@ ghost use Rattle.clmodel.specs.Setup.{names_among, same_text, group_items};
 ghost use Rattle.clmodel.specs.declared.action.Answer.{Answer};
 ghost use Rattle.item_step.specs.Setups.{plain, ActsAsNext};
 ghost use Rattle.item_step.specs.Objects.{Lists};
-ghost use Rattle.item_run.specs.Running.{action_of};
+ghost use Rattle.item_step.specs.Running.{action_of};
 
+use crate::item::Item;
 use crate::local_objects::{LocalObjects, local_objects};
 use crate::setup::Setup;
 use clmodel::setup::{Argument, Range};
 use clmodel::text::Name;
-use item_run::{Item, Surroundings};
-use item_state::context::{Context, group_counts};
+use item_value::context::{Context, group_counts};
+use item_value::surroundings::Surroundings;
 use regcode::Code;
 use std::alloc::{AllocError, Global};
 
@@ -153,6 +154,7 @@ impl<'a> Launch<'a> {
             context,
             buffers: self.buffers.as_slice(),
             arguments: self.setup.arguments,
+            registers: self.code.tables().registers.as_slice(),
         };
         Item::start(self.code, surroundings, self.setup.budget)
     }

@@ -15,6 +15,7 @@ use crate::operators::work_dim;
 use crate::parameters::parameter;
 use crate::pointers::local_pointer;
 use crate::private_array::PrivateArray;
+use crate::registers::RegisterFile;
 use crate::surroundings::Surroundings;
 use crate::values::{
     asked, changed, common, converted, hold, joined, known, of_both, of_first, offset, pointed,
@@ -26,15 +27,19 @@ use regcode::Instruction;
 /// The value that an instruction with a target gives it without an answer.
 pub fn value_of(
     surroundings: &Surroundings<'_>,
-    registers: &[Option<Operand>],
+    values: &[Option<Operand>],
     arrays: &[PrivateArray],
     instruction: &Instruction,
 ) -> Result<Option<Operand>, Halt>
     requires { IsTrue (gives instruction.now) }
     ensures { (place : ℕ) (counters : List ℕ) (on after : State → Run) →
-        let state : State = record { place = place; registers = registers_with registers.now arrays.now; counters = counters } in
+        let state : State = record { place = place; registers = registers_with values.now arrays.now; counters = counters } in
         Leads result (act (given surroundings.now) (Some instruction.now) on after state) (λ v. on (with_put state (target instruction.now) v)) }
 {
+    let registers = RegisterFile {
+        table: surroundings.registers,
+        values,
+    };
     match instruction {
         Instruction::Constant { value, .. } => Ok(Some(Operand::Integral(*value))),
         Instruction::Unset { .. } => Ok(None),

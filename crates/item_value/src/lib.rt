@@ -1,6 +1,7 @@
 //! What instructions that touch no memory give: the values of registers and the elements of private arrays, or why there are none.
 #![tactic(auto)]
 
+pub mod context;
 pub mod elements;
 pub mod giving;
 pub mod halt;
@@ -8,5 +9,6 @@ pub mod operators;
 mod parameters;
 pub mod pointers;
 pub mod private_array;
+pub mod registers;
 pub mod surroundings;
 pub mod values;

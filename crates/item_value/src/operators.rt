@@ -13,13 +13,13 @@ ghost use Rattle.clmodel.specs.declared.operand.Operand.TheVariants as operand;
 ghost use Rattle.clmodel.specs.declared.tree.VariableType.TheVariants as variable_type;
 ghost use Rattle.item_value.specs.Leading.{Leads};
 
+use crate::context::Context;
 use crate::halt::Halt;
 use crate::pointers::{moved, moved_back};
 use clmodel::action::Cause;
 use clmodel::operand::Operand;
 use clmodel::setup::WorkItemFunction;
 use clnum::{ArithFault, BinaryOperator, Builtin, IntType, Value, binary, builtin, convert};
-use item_state::context::Context;
 
 /// What an operator on integers gave.
 fn arithmetic(outcome: Result<Value, ArithFault>) -> Result<Operand, Halt>

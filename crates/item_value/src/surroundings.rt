@@ -3,15 +3,17 @@
 
 ghost use Rattle.std.specs.Prelude.{◌<◌, ◌^◌, length};
 
+use crate::context::Context;
 use clmodel::setup::Argument;
 use clmodel::text::Name;
-use item_state::context::Context;
+use regcode::Register;
 
-/// The item's place in its range, the names of the launch's buffers, and the kernel's arguments.
+/// The item's place in its range, the names of the launch's buffers, the kernel's arguments, and the code's table of registers.
 #[derive(Clone, Copy)]
 pub struct Surroundings<'a> {
     pub context: Context<'a>,
     pub buffers: &'a [Name],
     pub arguments: &'a [Option<Argument>],
+    pub registers: &'a [Register],
     ghost few: { length buffers.now < 2 ^ 32 },
 }

@@ -4,58 +4,38 @@
 ghost use Rattle.std.specs.Prelude.{◌≡◌, Option, [], ◌∷◌};
 ghost use Rattle.clnum.specs.Integer.{converted};
 ghost use Rattle.clnum.specs.Operations.{unary_value};
-ghost use Rattle.item_state.specs.Context.{here};
+ghost use Rattle.item_value.specs.Context.{here};
 ghost use Rattle.clmodel.specs.Next as next;
 ghost use Rattle.clmodel.specs.Next.{Run};
 ghost use Rattle.clmodel.specs.declared.operand.Operand.{Operand};
 ghost use Rattle.clmodel.specs.declared.operand.Operand.TheVariants as operand;
 ghost use Rattle.clmodel.specs.declared.setup.BuiltIn.TheVariants as built_in;
 ghost use Rattle.clmodel.specs.declared.tree.VariableType.TheVariants as variable_type;
-ghost use Rattle.regcode.specs.Machine.{filled, entry_at};
+ghost use Rattle.regcode.specs.Machine.{entry_at};
 ghost use Rattle.item_value.specs.Leading.{Leads};
+ghost use Rattle.item_value.specs.Reading.{reads};
 
+use crate::context::Context;
 use crate::elements::element;
 use crate::halt::Halt;
 use crate::operators::{chosen_value, combined, of_one, of_two, work_item};
 use crate::pointers::{index_of, moved, number, pointing};
+use crate::registers::{RegisterFile, operand, register};
 use clmodel::action::Cause;
 use clmodel::operand::Operand;
 use clmodel::setup::WorkItemFunction;
 use clmodel::tree::VariableType;
 use clnum::{BinaryOperator, Builtin, IntType, UnaryOperator, convert, unary};
-use item_state::context::Context;
-
-/// What a register has.
-pub fn register(registers: &[Option<Operand>], number: u32) -> Option<Operand>
-    ensures { result ≡ entry_at None registers.now number }
-{
-    let place = number as usize;
-    if place < registers.len() {
-        registers[place]
-    } else {
-        None
-    }
-}
-
-/// An operand.
-pub(crate) fn operand(registers: &[Option<Operand>], number: u32) -> Result<Operand, Halt>
-    ensures { (after : Operand → Run) → Leads result (filled (entry_at None registers.now number) after) after }
-{
-    match register(registers, number) {
-        Some(value) => Ok(value),
-        None => Err(Halt::Finish),
-    }
-}
 
 /// The value of a variable of a name, which must be set.
 pub(crate) fn known(
-    registers: &[Option<Operand>],
+    registers: RegisterFile<'_>,
     from: u32,
     name: u32,
 ) -> Result<Option<Operand>, Halt>
-    ensures { (after : Option Operand → Run) → Leads result (next.known name (entry_at None registers.now from) (λ v. after (Some v))) after }
+    ensures { (after : Option Operand → Run) → Leads result (next.known name (entry_at None registers.entry.values.now from) (λ v. after (Some v))) after }
 {
-    match register(registers, from) {
+    match register(registers.values, from) {
         Some(value) => Ok(Some(value)),
         None => Err(Halt::Fail(Cause::UnsetVariable { variable: name })),
     }
@@ -76,11 +56,11 @@ fn held(kind: VariableType, value: Operand) -> Operand
 
 /// An operand as a variable of a type holds it.
 pub(crate) fn hold(
-    registers: &[Option<Operand>],
+    registers: RegisterFile<'_>,
     from: u32,
     kind: VariableType,
 ) -> Result<Option<Operand>, Halt>
-    ensures { (after : Option Operand → Run) → Leads result (filled (entry_at None registers.now from) (λ v. after (Some (next.held kind v)))) after }
+    ensures { (after : Option Operand → Run) → Leads result (reads registers.entry from (λ v. after (Some (next.held kind v)))) after }
 {
     let value = operand(registers, from)?;
     Ok(Some(held(kind, value)))
@@ -88,11 +68,11 @@ pub(crate) fn hold(
 
 /// An operand in another type.
 pub(crate) fn converted(
-    registers: &[Option<Operand>],
+    registers: RegisterFile<'_>,
     from: u32,
     kind: IntType,
 ) -> Result<Option<Operand>, Halt>
-    ensures { (after : Option Operand → Run) → Leads result (filled (entry_at None registers.now from) (λ v. next.number v (λ n. after (Some (operand.Integral (converted n kind)))))) after }
+    ensures { (after : Option Operand → Run) → Leads result (reads registers.entry from (λ v. next.number v (λ n. after (Some (operand.Integral (converted n kind)))))) after }
 {
     let value = operand(registers, from)?;
     let number = number(value)?;
@@ -101,11 +81,11 @@ pub(crate) fn converted(
 
 /// An operand in the common type of its own and another type.
 pub(crate) fn common(
-    registers: &[Option<Operand>],
+    registers: RegisterFile<'_>,
     from: u32,
     other: IntType,
 ) -> Result<Option<Operand>, Halt>
-    ensures { (after : Option Operand → Run) → Leads result (filled (entry_at None registers.now from) (λ v. next.chosen_value v (variable_type.Integer other) (λ w. after (Some w)))) after }
+    ensures { (after : Option Operand → Run) → Leads result (reads registers.entry from (λ v. next.chosen_value v (variable_type.Integer other) (λ w. after (Some w)))) after }
 {
     let value = operand(registers, from)?;
     let value = chosen_value(value, other)?;
@@ -114,11 +94,11 @@ pub(crate) fn common(
 
 /// An operator on one integer.
 pub(crate) fn changed(
-    registers: &[Option<Operand>],
+    registers: RegisterFile<'_>,
     from: u32,
     operator: UnaryOperator,
 ) -> Result<Option<Operand>, Halt>
-    ensures { (after : Option Operand → Run) → Leads result (filled (entry_at None registers.now from) (λ v. next.number v (λ n. after (Some (operand.Integral (unary_value operator n)))))) after }
+    ensures { (after : Option Operand → Run) → Leads result (reads registers.entry from (λ v. next.number v (λ n. after (Some (operand.Integral (unary_value operator n)))))) after }
 {
     let value = operand(registers, from)?;
     let number = number(value)?;
@@ -127,12 +107,12 @@ pub(crate) fn changed(
 
 /// An operator on two values.
 pub(crate) fn joined(
-    registers: &[Option<Operand>],
+    registers: RegisterFile<'_>,
     operator: BinaryOperator,
     left: u32,
     right: u32,
 ) -> Result<Option<Operand>, Halt>
-    ensures { (after : Option Operand → Run) → Leads result (filled (entry_at None registers.now left) (λ v. filled (entry_at None registers.now right) (λ w. next.combined operator v w (λ x. after (Some x))))) after }
+    ensures { (after : Option Operand → Run) → Leads result (reads registers.entry left (λ v. reads registers.entry right (λ w. next.combined operator v w (λ x. after (Some x))))) after }
 {
     let left = operand(registers, left)?;
     let right = operand(registers, right)?;
@@ -142,11 +122,11 @@ pub(crate) fn joined(
 
 /// A function of one integer.
 pub(crate) fn of_first(
-    registers: &[Option<Operand>],
+    registers: RegisterFile<'_>,
     function: Builtin,
     first: u32,
 ) -> Result<Option<Operand>, Halt>
-    ensures { (after : Option Operand → Run) → Leads result (filled (entry_at None registers.now first) (λ v. next.integer_call function (v ∷ []) (λ x. after (Some x)))) after }
+    ensures { (after : Option Operand → Run) → Leads result (reads registers.entry first (λ v. next.integer_call function (v ∷ []) (λ x. after (Some x)))) after }
 {
     let first = operand(registers, first)?;
     let value = of_one(function, first)?;
@@ -155,12 +135,12 @@ pub(crate) fn of_first(
 
 /// A function of two integers.
 pub(crate) fn of_both(
-    registers: &[Option<Operand>],
+    registers: RegisterFile<'_>,
     function: Builtin,
     first: u32,
     second: u32,
 ) -> Result<Option<Operand>, Halt>
-    ensures { (after : Option Operand → Run) → Leads result (filled (entry_at None registers.now first) (λ v. filled (entry_at None registers.now second) (λ w. next.integer_call function (v ∷ w ∷ []) (λ x. after (Some x))))) after }
+    ensures { (after : Option Operand → Run) → Leads result (reads registers.entry first (λ v. reads registers.entry second (λ w. next.integer_call function (v ∷ w ∷ []) (λ x. after (Some x))))) after }
 {
     let first = operand(registers, first)?;
     let second = operand(registers, second)?;
@@ -170,20 +150,20 @@ pub(crate) fn of_both(
 
 /// What a work-item function gives in a dimension.
 pub(crate) fn asked(
-    registers: &[Option<Operand>],
+    registers: RegisterFile<'_>,
     context: &Context<'_>,
     function: WorkItemFunction,
     dimension: u32,
 ) -> Result<Option<Operand>, Halt>
-    ensures { (after : Option Operand → Run) → Leads result (filled (entry_at None registers.now dimension) (λ d. next.call (here context.now) (Some (built_in.WorkItem function)) (d ∷ []) (λ x. after (Some x)))) after }
+    ensures { (after : Option Operand → Run) → Leads result (reads registers.entry dimension (λ d. next.call (here context.now) (Some (built_in.WorkItem function)) (d ∷ []) (λ x. after (Some x)))) after }
 {
     let dimension = operand(registers, dimension)?;
     Ok(Some(work_item(context, function, dimension)))
 }
 
 /// An operand that is a pointer.
-pub(crate) fn pointed(registers: &[Option<Operand>], from: u32) -> Result<Option<Operand>, Halt>
-    ensures { (after : Option Operand → Run) → Leads result (filled (entry_at None registers.now from) (λ v. next.pointing v (λ p. after (Some (operand.Pointed p))))) after }
+pub(crate) fn pointed(registers: RegisterFile<'_>, from: u32) -> Result<Option<Operand>, Halt>
+    ensures { (after : Option Operand → Run) → Leads result (reads registers.entry from (λ v. next.pointing v (λ p. after (Some (operand.Pointed p))))) after }
 {
     let value = operand(registers, from)?;
     let pointer = pointing(value)?;
@@ -192,11 +172,11 @@ pub(crate) fn pointed(registers: &[Option<Operand>], from: u32) -> Result<Option
 
 /// A pointer moved by a number of elements.
 pub(crate) fn offset(
-    registers: &[Option<Operand>],
+    registers: RegisterFile<'_>,
     pointer: u32,
     index: u32,
 ) -> Result<Option<Operand>, Halt>
-    ensures { (after : Option Operand → Run) → Leads result (filled (entry_at None registers.now pointer) (λ p. filled (entry_at None registers.now index) (λ i. next.moved p i (λ q. after (Some (operand.Pointed q)))))) after }
+    ensures { (after : Option Operand → Run) → Leads result (reads registers.entry pointer (λ p. reads registers.entry index (λ i. next.moved p i (λ q. after (Some (operand.Pointed q)))))) after }
 {
     let pointer = operand(registers, pointer)?;
     let index = operand(registers, index)?;
@@ -206,13 +186,13 @@ pub(crate) fn offset(
 
 /// An element of a private array; a fault with its name where there is none, or none that is set.
 pub(crate) fn private_element(
-    registers: &[Option<Operand>],
+    registers: RegisterFile<'_>,
     elements: &[Option<u64>],
     index: u32,
     kind: IntType,
     name: u32,
 ) -> Result<Option<Operand>, Halt>
-    ensures { (after : Option Operand → Run) → Leads result (filled (entry_at None registers.now index) (λ i. next.read_element name kind elements.now i (λ v. after (Some v)))) after }
+    ensures { (after : Option Operand → Run) → Leads result (reads registers.entry index (λ i. next.read_element name kind elements.now i (λ v. after (Some v)))) after }
 {
     let index = operand(registers, index)?;
     let index = number(index)?;

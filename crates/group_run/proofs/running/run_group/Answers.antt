@@ -1,5 +1,5 @@
 use Rattle.std.proofs.Common.{rules, lives, subst, ◌*◌, ◌+◌, ◌<◌, ◌^◌, ◌≡◌, length, refl, sym, ap, ◌∙◌, map, replicate, None}
-use Rattle.item_run.specs.Running.{action_of}
+use Rattle.item_step.specs.Running.{action_of}
 use Rattle.clmodel.specs.Outcome.{events_of}
 use Rattle.clmodel.specs.Run.{State, Events, start}
 use Rattle.group_run.specs.Fits.{Fits}

@@ -1,4 +1,0 @@
-pub mod Turns
-pub mod ArrayLaws
-pub mod StateLaws
-pub mod AskingLaws

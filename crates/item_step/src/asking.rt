@@ -1,0 +1,131 @@
+//! What an item asks, and how it goes on with the answer.
+#![tactic(auto)]
+
+ghost use Rattle.std.specs.Prelude.{◌≡◌, ◌<◌, ◌∷◌, [], List, IsTrue, slice_get, take};
+ghost use Rattle.clnum.specs.Integer.{Integer};
+ghost use Rattle.clmodel.specs.Next as next;
+ghost use Rattle.clmodel.specs.Next.{Run};
+ghost use Rattle.clmodel.specs.declared.action.Answer.{Answer};
+ghost use Rattle.clmodel.specs.declared.operand.Pointer.{Pointer};
+ghost use Rattle.regcode.specs.Machine.{State, act, read};
+ghost use Rattle.regcode.specs.Rules.{IsVerified};
+ghost use Rattle.regcode.specs.declared.instruction.Instruction.TheVariants as instruction;
+ghost use Rattle.item_step.specs.Asking.{asks};
+ghost use Rattle.item_value.specs.Leading.{Leads};
+ghost use Rattle.item_step.specs.Running.{action_of, is_asking};
+
+use crate::accesses::{load_of, store_of, update_of};
+use crate::machine::Machine;
+use crate::rest::Wanted;
+use clmodel::operand::Pointer;
+use clmodel::setup::AtomicFunction;
+use clnum::{Value, convert};
+use item_value::halt::Halt;
+use item_value::pointers::{number, pointing};
+use regcode::Instruction;
+
+impl<'a> Machine<'a> {
+    /// An operand that is a pointer.
+    fn pointer(&self, register: u32) -> Result<Pointer, Halt>
+        ensures { (after : Pointer → Run) → Leads result (read self.now.given self.now.state register (λ v. next.pointing v after)) after }
+    {
+        let value = self.operand(register)?;
+        pointing(value)
+    }
+
+    /// Operands that are a pointer and a number.
+    fn pointer_and_number(&self, pointer: u32, value: u32) -> Result<(Pointer, Value), Halt>
+        ensures { (after : Pointer → Integer → Run) → Leads result (read self.now.given self.now.state pointer (λ v. read self.now.given self.now.state value (λ w. next.pointing v (λ q. next.number w (λ n. after q n))))) (λ pair. after pair.0 pair.1) }
+    {
+        let pointer = self.operand(pointer)?;
+        let value = self.operand(value)?;
+        let pointer = pointing(pointer)?;
+        let value = number(value)?;
+        Ok((pointer, value))
+    }
+
+    /// What a load asks.
+    fn load(&self, to: u32, pointer: u32) -> Result<Wanted, Halt>
+        ensures { (on after : State → Run) → Leads result (act self.now.given (Some (instruction.Load to pointer)) on after self.now.state) (asks (instruction.Load to pointer) self.now.state after) }
+    {
+        match self.pointer(pointer) {
+            Ok(pointer) => Ok(Wanted::Access {
+                pointer,
+                operation: load_of(pointer.element),
+            }),
+            Err(halt) => Err(halt),
+        }
+    }
+
+    /// What a store asks.
+    fn store(&self, pointer: u32, value: u32) -> Result<Wanted, Halt>
+        ensures { (on after : State → Run) → Leads result (act self.now.given (Some (instruction.Store pointer value)) on after self.now.state) (asks (instruction.Store pointer value) self.now.state after) }
+    {
+        match self.pointer_and_number(pointer, value) {
+            Ok(pair) => Ok(Wanted::Access {
+                pointer: pair.0,
+                operation: store_of(pair.0.element, pair.1),
+            }),
+            Err(halt) => Err(halt),
+        }
+    }
+
+    /// What an atomic update by 1 asks.
+    fn update_by_one(&self, function: AtomicFunction, pointer: u32) -> Result<Wanted, Halt>
+        ensures { (on after : State → Run) → Leads result (act self.now.given (Some (instruction.Update function pointer None)) on after self.now.state) (asks (instruction.Update function pointer None) self.now.state after) }
+    {
+        match self.pointer(pointer) {
+            Ok(pointer) => Ok(Wanted::Access {
+                pointer,
+                operation: update_of(
+                    function,
+                    pointer.element,
+                    Value::wrapped(pointer.element, 1),
+                ),
+            }),
+            Err(halt) => Err(halt),
+        }
+    }
+
+    /// What an atomic update asks.
+    fn update(&self, function: AtomicFunction, pointer: u32, value: u32) -> Result<Wanted, Halt>
+        ensures { (on after : State → Run) → Leads result (act self.now.given (Some (instruction.Update function pointer (Some value))) on after self.now.state) (asks (instruction.Update function pointer (Some value)) self.now.state after) }
+    {
+        match self.pointer_and_number(pointer, value) {
+            Ok(pair) => Ok(Wanted::Access {
+                pointer: pair.0,
+                operation: update_of(function, pair.0.element, convert(pair.1, pair.0.element)),
+            }),
+            Err(halt) => Err(halt),
+        }
+    }
+
+    /// What an instruction asks; an instruction that asks nothing has ended.
+    pub(crate) fn wanted(&self, instruction: &Instruction) -> Result<Wanted, Halt>
+        requires { IsTrue (is_asking instruction.now) }
+        ensures { (on after : State → Run) → Leads result (act self.now.given (Some instruction.now) on after self.now.state) (asks instruction.now self.now.state after) }
+    {
+        match instruction {
+            Instruction::Load { to, pointer } => self.load(*to, *pointer),
+            Instruction::Store { pointer, value } => self.store(*pointer, *value),
+            Instruction::Update {
+                function,
+                pointer,
+                value,
+            } => match value {
+                None => self.update_by_one(*function, *pointer),
+                Some(value) => self.update(*function, *pointer, *value),
+            },
+            Instruction::Barrier {
+                site,
+                depth,
+                fences,
+            } => Ok(Wanted::Barrier {
+                site: *site,
+                depth: *depth,
+                fences: *fences,
+            }),
+            _ => Err(Halt::Finish),
+        }
+    }
+}
