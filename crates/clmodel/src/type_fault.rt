@@ -1,6 +1,11 @@
 //! Why a syntax tree is no typed program.
 #![tactic(auto)]
 
+ghost use Rattle.std.specs.Prelude.{◌≡◌};
+ghost use Rattle.clmodel.specs.Typing.Least.{number, offset};
+
+use std::alloc::AllocError;
+
 /// A fault of a tree's types (OpenCL 1.2, sections 6.1 to 6.12). Each has the byte number of the name, expression, statement or number
 /// that it is about, but out of memory.
 #[derive(Clone, Copy, Debug, PartialEq, Eq)]
@@ -31,4 +36,59 @@ pub enum TypeFault {
     MissingReturn { at: u32 },
     /// 13
     OutOfMemory,
+}
+
+impl TypeFault {
+    /// Its number, from 1 on.
+    pub fn number(self) -> u8
+        ensures { result ≡ number self }
+    {
+        match self {
+            TypeFault::UnknownName { .. } => 1,
+            TypeFault::Redeclared { .. } => 2,
+            TypeFault::TypeMismatch { .. } => 3,
+            TypeFault::NotAssignable { .. } => 4,
+            TypeFault::Recursion { .. } => 5,
+            TypeFault::WrongArgumentCount { .. } => 6,
+            TypeFault::WrongSpace { .. } => 7,
+            TypeFault::BadBarrierFlags { .. } => 8,
+            TypeFault::AtomicValueUsed { .. } => 9,
+            TypeFault::TooManyLoops { .. } => 10,
+            TypeFault::TooLarge { .. } => 11,
+            TypeFault::MissingReturn { .. } => 12,
+            TypeFault::OutOfMemory => 13,
+        }
+    }
+
+    /// The number of the byte where it is, 0 for out of memory.
+    pub fn offset(self) -> u32
+        ensures { result ≡ offset self }
+    {
+        match self {
+            TypeFault::UnknownName { at }
+            | TypeFault::Redeclared { at }
+            | TypeFault::TypeMismatch { at }
+            | TypeFault::NotAssignable { at }
+            | TypeFault::Recursion { at }
+            | TypeFault::WrongArgumentCount { at }
+            | TypeFault::WrongSpace { at }
+            | TypeFault::BadBarrierFlags { at }
+            | TypeFault::AtomicValueUsed { at }
+            | TypeFault::TooManyLoops { at }
+            | TypeFault::TooLarge { at }
+            | TypeFault::MissingReturn { at } => at,
+            TypeFault::OutOfMemory => 0,
+        }
+    }
+}
+
+impl From<AllocError> for TypeFault {
+    ghost use Rattle.std.specs.Prelude.{◌≡◌};
+    ghost use Rattle.clmodel.specs.declared.type_fault.TypeFault.TheVariants.{OutOfMemory};
+
+    ghost from_gives = { λ _ fault. fault ≡ OutOfMemory };
+
+    fn from(_: AllocError) -> Self {
+        TypeFault::OutOfMemory
+    }
 }

@@ -30,9 +30,7 @@ fn declare_parameters(context: &mut Context, parameters: &[Parameter]) -> Result
             });
         }
         let declared = Declaration::Single(parameter.kind);
-        if context.bind(parameter.name, declared).is_err() {
-            return Err(TypeFault::OutOfMemory);
-        }
+        context.bind(parameter.name, declared)?;
     }
     Ok(())
 }
@@ -63,12 +61,8 @@ fn end_function(
     ensures ended { IfOk result (λ _. context.new ≡ ended context.old) }
     ensures summed { IfOk result (λ _. (fs : Funcs) → IsSummary summaries.old fs → IsSummary summaries.new (ThenFunc fs (func function.now))) }
 {
-    let Ok(size) = summaries.add(function) else {
-        return Err(TypeFault::OutOfMemory);
-    };
-    if context.end().is_err() {
-        return Err(TypeFault::OutOfMemory);
-    }
+    let size = summaries.add(function)?;
+    context.end()?;
     ended(end_fault(function, size))
 }
 
@@ -93,9 +87,7 @@ pub(crate) fn check_function(
             at: function.name_at,
         });
     }
-    let Ok(signature) = signature(alloc, function) else {
-        return Err(TypeFault::OutOfMemory);
-    };
+    let signature = signature(alloc, function)?;
     context.begin(function.name, signature);
     declare_parameters(context, &function.parameters)?;
     check_statements(context, &function.body)?;

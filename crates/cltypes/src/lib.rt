@@ -38,9 +38,7 @@ fn context_before(alloc: Global, functions: &[Function]) -> Result<Context, Allo
 fn check_functions(alloc: Global, functions: &[Function]) -> Result<(), TypeFault>
     ensures { Ends result (first (functions_faults (names (functions_of functions.now)) (functions_of functions.now))) }
 {
-    let Ok(mut context) = context_before(alloc, functions) else {
-        return Err(TypeFault::OutOfMemory);
-    };
+    let mut context = context_before(alloc, functions)?;
     let mut summaries = Summaries::new(alloc);
     for function in functions {
         check_function(alloc, &mut context, &mut summaries, function)?;

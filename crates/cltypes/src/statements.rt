@@ -106,9 +106,7 @@ fn check_declaration(
     if !context.is_free(name) {
         return Err(TypeFault::Redeclared { at: name_at });
     }
-    if context.bind(name, Declaration::Single(kind)).is_err() {
-        return Err(TypeFault::OutOfMemory);
-    }
+    context.bind(name, Declaration::Single(kind))?;
     match value {
         None => Ok(()),
         Some(value) => ended(initial_fault(context, kind, value)),
@@ -163,9 +161,7 @@ fn declare(
     if let Some(fault) = fault {
         return Err(fault);
     }
-    if context.bind(name, declared).is_err() {
-        return Err(TypeFault::OutOfMemory);
-    }
+    context.bind(name, declared)?;
     Ok(())
 }
 
@@ -255,9 +251,7 @@ fn check_controlled(context: &mut Context, statement: &Statement) -> Result<(), 
     ensures first { Ends result (first (faults (enter context.old) (stmt statement.now))) }
     ensures left { IfOk result (λ _. context.new ≡ context.old) }
 {
-    if context.enter().is_err() {
-        return Err(TypeFault::OutOfMemory);
-    }
+    context.enter()?;
     check_statement(context, statement)?;
     context.leave();
     Ok(())
@@ -270,9 +264,7 @@ fn check_turn(context: &mut Context, body: &Statement) -> Result<(), TypeFault>
     ensures left { IfOk result (λ _. context.new ≡ context.old) }
 {
     let was_in_loop = context.is_in_loop();
-    if context.enter().is_err() {
-        return Err(TypeFault::OutOfMemory);
-    }
+    context.enter()?;
     context.set_in_loop(true);
     check_statement(context, body)?;
     context.leave();
@@ -395,9 +387,7 @@ fn check_for(
     ensures first { (at : ℕ) → Ends result (first (faults context.old (For at (held start.now) (maybe_term condition.now) (held third.now) (stmt body.now)))) }
     ensures left { IfOk result (λ _. context.new ≡ context.old) }
 {
-    if context.enter().is_err() {
-        return Err(TypeFault::OutOfMemory);
-    }
+    context.enter()?;
     check_part(context, start)?;
     check_turns(context, condition, third, body)?;
     context.leave();
@@ -410,9 +400,7 @@ fn check_block(context: &mut Context, body: &[Statement]) -> Result<(), TypeFaul
     ensures first { Ends result (first (row_faults (enter context.old) (statements body.now))) }
     ensures left { IfOk result (λ _. context.new ≡ context.old) }
 {
-    if context.enter().is_err() {
-        return Err(TypeFault::OutOfMemory);
-    }
+    context.enter()?;
     check_statements(context, body)?;
     context.leave();
     Ok(())

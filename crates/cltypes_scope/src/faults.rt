@@ -3,7 +3,7 @@
 
 ghost use Rattle.std.specs.Prelude.{◌≡◌, ◌++◌, length, map, option_map};
 ghost use Rattle.std.specs.List.{slice_get};
-ghost use Rattle.clmodel.specs.Typing.Least.{number, offset, is_up_to, lesser, least};
+ghost use Rattle.clmodel.specs.Typing.Least.{is_up_to, lesser, least};
 ghost use Rattle.clmodel.specs.Typing.Faults.{is_same_space, moves, takes_pointer, is_sum, integer_faults, pointer_faults, passing_faults, name_faults, front_faults, address_faults, operand_faults, wants, has_value, helper_faults, callee_faults, wanted, ForParameter, same_faults, atomic_faults, argument_faults, integer_wants, atomic_wants};
 ghost use Rattle.clmodel.specs.Typing.Rules.{has_operand};
 ghost use Rattle.clnum.specs.Builtins.{is_same};
@@ -56,54 +56,12 @@ pub struct Arguments {
     pub last: VariableType,
 }
 
-/// A fault's number.
-fn number(fault: TypeFault) -> u8
-    ensures { result ≡ number fault }
-{
-    match fault {
-        TypeFault::UnknownName { .. } => 1,
-        TypeFault::Redeclared { .. } => 2,
-        TypeFault::TypeMismatch { .. } => 3,
-        TypeFault::NotAssignable { .. } => 4,
-        TypeFault::Recursion { .. } => 5,
-        TypeFault::WrongArgumentCount { .. } => 6,
-        TypeFault::WrongSpace { .. } => 7,
-        TypeFault::BadBarrierFlags { .. } => 8,
-        TypeFault::AtomicValueUsed { .. } => 9,
-        TypeFault::TooManyLoops { .. } => 10,
-        TypeFault::TooLarge { .. } => 11,
-        TypeFault::MissingReturn { .. } => 12,
-        TypeFault::OutOfMemory => 13,
-    }
-}
-
-/// Where a fault is, 0 for out of memory.
-fn offset(fault: TypeFault) -> u32
-    ensures { result ≡ offset fault }
-{
-    match fault {
-        TypeFault::UnknownName { at }
-        | TypeFault::Redeclared { at }
-        | TypeFault::TypeMismatch { at }
-        | TypeFault::NotAssignable { at }
-        | TypeFault::Recursion { at }
-        | TypeFault::WrongArgumentCount { at }
-        | TypeFault::WrongSpace { at }
-        | TypeFault::BadBarrierFlags { at }
-        | TypeFault::AtomicValueUsed { at }
-        | TypeFault::TooManyLoops { at }
-        | TypeFault::TooLarge { at }
-        | TypeFault::MissingReturn { at } => at,
-        TypeFault::OutOfMemory => 0,
-    }
-}
-
 /// Whether a fault has a lesser number than another, or the same and an offset that is not greater.
 fn is_up_to(fault: TypeFault, other: TypeFault) -> bool
     ensures { result ≡ is_up_to fault other }
 {
-    number(fault) < number(other)
-        || number(fault) == number(other) && offset(fault) <= offset(other)
+    fault.number() < other.number()
+        || fault.number() == other.number() && fault.offset() <= other.offset()
 }
 
 /// The lesser of two faults of a place, or the one that there is.

@@ -12,7 +12,7 @@ returns-in_err-check_function c =
     let i = c.loop-function.function-index in
     let f = c.function-item.result in
     let e = c.in_err-check_function in
-    handed_on c.from_residual.result e.field-0.0 _ (err_from_is_err_and c.from_residual.result c.from_residual.ensures.1)
+    handed_on c.from_residual-in_err-check_function.result e.field-0.0 _ (err_from_is_err_and c.from_residual-in_err-check_function.result c.from_residual-in_err-check_function.ensures.1)
     (elim (e.ensures.first (functions_of (take i fs)) c.loop-function.invariant.before c.loop-function.invariant.summed) [
       | inl h ↦ inl h
       | inr h ↦ inr (function_inside (names (functions_of fs)) c.loop-function.context.all fs i f e.field-0.0

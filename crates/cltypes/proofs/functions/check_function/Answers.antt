@@ -16,8 +16,8 @@ end_function-requires c =
     let x = c.args.context.now in
     let f = c.args.function.now in
     let s = c.begin.new.self in
-    let w : s ≡ begun x f.name (signature_of c.in-Ok.signature) = search rules in
-    let e = function_fixed x s c.declare_parameters.new.context c.check_statements.new.context f.name (signature_of c.in-Ok.signature) c.deref.result.now
+    let w : s ≡ begun x f.name (signature_of c.in_ok-signature.signature) = search rules in
+    let e = function_fixed x s c.declare_parameters.new.context c.check_statements.new.context f.name (signature_of c.in_ok-signature.signature) c.deref.result.now
     (statements c.deref-2.result.now) w c.in_ok-declare_parameters.ensures.declared c.in_ok-check_statements.ensures.after in
     ap (λ z. typing.signature_of z.before z.current) e ∙ not_before x.before f.name (sym c.is_new.ensures ∙ c.if-not-is_new.false)
 
@@ -26,10 +26,10 @@ returns-in_err-declare_parameters-clause-first c = λ fs n k.
     let x = c.args.context.now in
     let s = c.begin.new.self in
     let f = func c.args.function.now in
-    let w : s ≡ begun x f.name (signature_of c.in-Ok.signature) = search rules in
-    let b = begun_context x s fs f (signature_of c.in-Ok.signature) n c.in-Ok.ensures w in
+    let w : s ≡ begun x f.name (signature_of c.in_ok-signature.signature) = search rules in
+    let b = begun_context x s fs f (signature_of c.in_ok-signature.signature) n c.in_ok-signature.ensures w in
     let h = heading_of x.before fs f true n (sym (sym c.is_new.ensures ∙ c.if-not-is_new.false)) in
-    handed_on c.from_residual.result c.in_err-declare_parameters.field-0.0 _ (err_from_is_err_and c.from_residual.result c.from_residual.ensures.1)
+    handed_on c.from_residual-in_err-declare_parameters.result c.in_err-declare_parameters.field-0.0 _ (err_from_is_err_and c.from_residual-in_err-declare_parameters.result c.from_residual-in_err-declare_parameters.ensures.1)
     (through (first (params_faults s c.deref.result.now)) (first (function_faults x.all fs f)) c.in_err-declare_parameters.field-0.0
     (λ e. in_parameters x.all s fs f c.in_err-declare_parameters.field-0.0 h b (ap (λ z. first (params_faults s z)) (sym c.deref.ensures.value) ∙ e))
     c.in_err-declare_parameters.ensures.first)
@@ -41,8 +41,8 @@ returns-in_err-check_statements-clause-first c = λ fs n k.
     let t = c.declare_parameters.new.context in
     let f = func c.args.function.now in
     let g = c.in_err-check_statements.field-0.0 in
-    let w : s ≡ begun x f.name (signature_of c.in-Ok.signature) = search rules in
-    let b = begun_context x s fs f (signature_of c.in-Ok.signature) n c.in-Ok.ensures w in
+    let w : s ≡ begun x f.name (signature_of c.in_ok-signature.signature) = search rules in
+    let b = begun_context x s fs f (signature_of c.in_ok-signature.signature) n c.in_ok-signature.ensures w in
     let h = heading_of x.before fs f true n (sym (sym c.is_new.ensures ∙ c.if-not-is_new.false)) in
     handed_on c.from_residual-in_err-check_statements.result g _ (err_from_is_err_and c.from_residual-in_err-check_statements.result c.from_residual-in_err-check_statements.ensures.1)
     (through (first (row_faults t (statements c.deref-2.result.now))) (first (function_faults x.all fs f)) g
@@ -58,8 +58,8 @@ returns-clause-first c = λ fs n k.
     let s = c.begin.new.self in
     let t = c.declare_parameters.new.context in
     let f = func c.args.function.now in
-    let w : s ≡ begun x f.name (signature_of c.in-Ok.signature) = search rules in
-    let b = begun_context x s fs f (signature_of c.in-Ok.signature) n c.in-Ok.ensures w in
+    let w : s ≡ begun x f.name (signature_of c.in_ok-signature.signature) = search rules in
+    let b = begun_context x s fs f (signature_of c.in_ok-signature.signature) n c.in_ok-signature.ensures w in
     let h = heading_of x.before fs f true n (sym (sym c.is_new.ensures ∙ c.if-not-is_new.false)) in
     ends_along c.end_function.result (first (end_faults f (size_of fs f))) (first (function_faults x.all fs f))
     (in_end x.all s t fs f h b
@@ -73,8 +73,8 @@ returns-clause-all c =
     let x = c.args.context.now in
     let f = c.args.function.now in
     let s = c.begin.new.self in
-    let w : s ≡ begun x f.name (signature_of c.in-Ok.signature) = search rules in
-    let e = function_fixed x s c.declare_parameters.new.context c.check_statements.new.context f.name (signature_of c.in-Ok.signature) c.deref.result.now
+    let w : s ≡ begun x f.name (signature_of c.in_ok-signature.signature) = search rules in
+    let e = function_fixed x s c.declare_parameters.new.context c.check_statements.new.context f.name (signature_of c.in_ok-signature.signature) c.deref.result.now
     (statements c.deref-2.result.now) w c.in_ok-declare_parameters.ensures.declared c.in_ok-check_statements.ensures.after in
     if_ok_by c.end_function.result (λ h. ap (λ z. z.all) h ∙ ap (λ z. z.all) e) c.end_function.ensures.ended
 
@@ -83,9 +83,9 @@ returns-clause-before c =
     let x = c.args.context.now in
     let f = c.args.function.now in
     let s = c.begin.new.self in
-    let w : s ≡ begun x f.name (signature_of c.in-Ok.signature) = search rules in
-    let e = function_fixed x s c.declare_parameters.new.context c.check_statements.new.context f.name (signature_of c.in-Ok.signature) c.deref.result.now
+    let w : s ≡ begun x f.name (signature_of c.in_ok-signature.signature) = search rules in
+    let e = function_fixed x s c.declare_parameters.new.context c.check_statements.new.context f.name (signature_of c.in_ok-signature.signature) c.deref.result.now
     (statements c.deref-2.result.now) w c.in_ok-declare_parameters.ensures.declared c.in_ok-check_statements.ensures.after in
     if_ok_by c.end_function.result
-    (λ h. ap (λ z. z.before) h ∙ ap (λ z. z.before ++ (z.current, z.signature) ∷ []) e ∙ ap (λ g. x.before ++ (f.name, g) ∷ []) c.in-Ok.ensures)
+    (λ h. ap (λ z. z.before) h ∙ ap (λ z. z.before ++ (z.current, z.signature) ∷ []) e ∙ ap (λ g. x.before ++ (f.name, g) ∷ []) c.in_ok-signature.ensures)
     c.end_function.ensures.ended

@@ -254,7 +254,7 @@ check_for-returns-in_err-check_part-clause-first t c = λ at.
     let s = stmt c.args.body.now in
     let f = c.in_err-check_part.field-0.0 in
     let entered : c.enter.new.self ≡ enter x = search rules in
-    handed_on c.from_residual.result f _ (err_from_is_err_and c.from_residual.result c.from_residual.ensures.1)
+    handed_on c.from_residual-in_err-check_part.result f _ (err_from_is_err_and c.from_residual-in_err-check_part.result c.from_residual-in_err-check_part.ensures.1)
     (through (first (part_faults c.enter.new.self begin)) (first (faults x (tree.For at begin e third s))) f
     (λ h. in_first _ (first (part_faults (enter x) begin)) (first (turns_faults (after_part (enter x) begin) e third s)) f (for_first x at begin e third s)
     (ap (λ z. first (part_faults z begin)) (sym entered) ∙ h))
