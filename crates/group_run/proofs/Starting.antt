@@ -1,15 +1,13 @@
 -- What a program holds of a group at the start of its run, and at its end.
-use Rattle.std.proofs.Common.{◌≡◌, ℕ, zero, suc, ◌+◌, ◌-◌, ◌*◌, ◌/◌, ◌%◌, ◌<◌, ◌≤◌, ◌^◌, Bool, false, ◌==◌, Option, None, Some, List, [], ◌∷◌, ◌++◌, length, map, replicate, refl, sym, ap, ap₂, ◌∙◌, subst, arith, eq-eqb, ne_eqb}
+use Rattle.std.proofs.Common.{◌≡◌, ℕ, zero, suc, ◌+◌, ◌-◌, ◌*◌, ◌<◌, ◌≤◌, ◌^◌, Bool, false, Option, None, Some, List, [], ◌∷◌, length, map, replicate, refl, sym, ap, ap₂, ◌∙◌, subst, arith}
 use Rattle.std.specs.Prelude.{slice_get, slice_index, slice_index_or}
 use Rattle.std.proofs.Math.Path.{fun_ext}
-use Rattle.std.proofs.Math.Nat.{mod-lt, suc-mul, mul_comm, lt_of_mul-lt-mul_right, mul-le-mul_right, mul-le-mul_left, le-mul_of_pos_right}
+use Rattle.std.proofs.Math.Nat.{suc-mul, mul_comm, mul-le-mul_right, mul-le-mul_left, le-mul_of_pos_right}
 use Rattle.std.proofs.lemmas.List.{length-replicate, length-map}
-use Rattle.std.proofs.lemmas.Nat.{div-add-mod', div-mul-add}
-use Rattle.std.proofs.lemmas.Option.{slice_get_within}
-use Rattle.clmodel.specs.Cells.{Cells, cells_of}
-use Rattle.clmodel.specs.Launch.{Launch, group_of, bytes_of}
-use Rattle.clmodel.specs.Law.{IsBounded, sum_below, answers_left, newest_conflict}
-use Rattle.clmodel.specs.Run.{State, Events, Memory, start, initial, first_item, cells_from, contents, left}
+use Rattle.clmodel.specs.Cells.{cells_of}
+use Rattle.clmodel.specs.Launch.{Launch}
+use Rattle.clmodel.specs.Law.{sum_below}
+use Rattle.clmodel.specs.Run.{State, Events, Memory, start, initial, cells_from, contents}
 use Rattle.clmodel.specs.declared.action.Action.{Action}
 use Rattle.clmodel.specs.declared.action.Answer.{Answer}
 use Rattle.clmodel.specs.declared.access.Region.TheVariants as region
@@ -17,7 +15,7 @@ use Rattle.clmodel.specs.declared.fault.Fault.{Fault}
 use Rattle.clmodel.proofs.Steps.{none_some, some_inj}
 use Rattle.item_run.specs.Running.{Running, action_of}
 use Rattle.shadow_list.specs.Log.{Log, logged}
-use Rattle.group_run.specs.Fits.{Holds, HoldsMemory, Fits, Counts, AreStarted, group_left}
+use Rattle.group_run.specs.Fits.{Holds, Fits, AreStarted}
 use Rattle.joining.specs.Parts.{IsGrouped}
 use Rattle.joining.specs.Group.{Plan, IsGroup, Reached, Reported, IsRun, plan_of}
 use Rattle.group_run.specs.Logs.{IsLogged}

@@ -5,6 +5,7 @@ use Rattle.clmodel.specs.Law.{Makes, Reports, newest_conflict, conflict_fault, i
 use Rattle.clmodel.specs.declared.access.Conflict as conflict_type
 use Rattle.clmodel.specs.declared.access.Object.{Object}
 use Rattle.clmodel.specs.declared.access.Operation.{Operation}
+use Rattle.clmodel.specs.declared.action.Action.{Action}
 use Rattle.clmodel.specs.declared.action.Action.TheVariants as action
 use Rattle.clmodel.specs.declared.fault.Fault.{Fault}
 use Rattle.clmodel.specs.declared.schedule.Event.TheVariants.{Item}
@@ -14,27 +15,26 @@ use Rattle.group_run.specs.declared.machine.Made.TheVariants as made
 use Rattle.group_run.specs.declared.loops.Halt.{Halt}
 use Rattle.group_run.specs.declared.loops.Halt.TheVariants as halt
 
--- an item's next action is an access
-abbrev pub Accesses : Plan → State → ℕ → Type 0
-Accesses plan state item =
-    (object : Object) × (element : ℤ) × (operation : Operation) × (next_action plan.launch state item ≡ action.Access object element operation)
+-- an item's next action is this access (OpenCL 1.2, 6.1.5, 6.3, 6.12.11)
+abbrev pub Accesses : Plan → State → ℕ → Object → ℤ → Operation → Type 0
+Accesses plan state item object element operation = next_action plan.launch state item ≡ action.Access object element operation
 
 -- an item's access is its turn and leads to a state
 pub record Steps (plan : Plan) (old new : State) (item : ℕ) : Type 0 where
   pub makes : item_turn plan.launch old plan.first item (next_action plan.launch old item) ≡ Makes (Item item)
   pub steps : step plan.launch old (Item item) ≡ Some new
 
--- what became of the access that an item does next, in each state that fitted: it is done, with a conflict or without, or it can't be done
-abbrev pub IsMade : Plan → (Events → State → Type 0) → (Events → State → Type 0) → ℕ → Made → Type 0
-IsMade plan old new item made.Done =
-    (events : Events) (state : State) → old events state → Accesses plan state item
+-- what became of an action that an item does next, in each state that fitted: it is done, with a conflict or without, or it can't be done
+abbrev pub IsMade : Plan → (Events → State → Type 0) → (Events → State → Type 0) → ℕ → Action → Made → Type 0
+IsMade plan old new item act made.Done =
+    (events : Events) (state : State) → old events state → next_action plan.launch state item ≡ act
     → (next : State) × Steps plan state next item × new (events ++ Item item ∷ []) next × (newest_conflict plan.launch next.log ≡ None)
-IsMade plan old new item (made.Conflicts fault) =
-    (events : Events) (state : State) → old events state → Accesses plan state item
+IsMade plan old new item act (made.Conflicts fault) =
+    (events : Events) (state : State) → old events state → next_action plan.launch state item ≡ act
     → (next : State) × (conflict : conflict_type.Conflict) × Steps plan state next item × new (events ++ Item item ∷ []) next × (newest_conflict plan.launch next.log ≡ Some conflict)
     × (conflict_fault plan.launch conflict ≡ fault)
-IsMade plan old new item (made.Refused fault) =
-    (events : Events) (state : State) → old events state → Accesses plan state item
+IsMade plan old new item act (made.Refused fault) =
+    (events : Events) (state : State) → old events state → next_action plan.launch state item ≡ act
     → (item_turn plan.launch state plan.first item (next_action plan.launch state item) ≡ Reports fault) × new events state
 
 -- the first k items of the group are at the first one's stop

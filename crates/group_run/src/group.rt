@@ -143,15 +143,13 @@ impl<'a, D: Described, I: RunningItem, G: Space, L: AccessLog> Machine for Group
         self.items[k as usize].next()
     }
 
-    fn access(&mut self, k: u32) -> Result<Made, AllocError> {
-        let Action::Access {
-            object,
-            element,
-            operation,
-        } = self.next(k)
-        else {
-            unreachable!();
-        };
+    fn access(
+        &mut self,
+        k: u32,
+        object: Object,
+        element: i64,
+        operation: Operation,
+    ) -> Result<Made, AllocError> {
         let item = self.first + k;
         let region = region_of(self.number, object);
         let Some(first) = place(
@@ -190,10 +188,7 @@ impl<'a, D: Described, I: RunningItem, G: Space, L: AccessLog> Machine for Group
         }
     }
 
-    fn release(&mut self) {
-        let Action::Barrier { fences, .. } = self.next(0) else {
-            unreachable!();
-        };
+    fn release(&mut self, fences: Fences) {
         pass(&mut self.log, fences);
         answer_all(&mut self.items);
         self.made += 1;

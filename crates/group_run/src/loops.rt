@@ -7,6 +7,7 @@ ghost use Rattle.group_run.specs.Loops.{Accesses, AtOneStop, Gathers, IsBrief, I
 
 use crate::machine::{Machine, Made};
 use crate::runs::Runs;
+use clmodel::access::{Object, Operation};
 use clmodel::action::{Action, Stop};
 use clmodel::fault::Fault;
 use clmodel::schedule::Event;
@@ -62,20 +63,27 @@ fn stop_at<M: Machine>(m: &mut M, k: u32, stop: Stop, runs: &Runs) -> Halt
     }
 }
 
-/// Makes the access that an item does next, and keeps its event.
-fn advance<M: Machine>(m: &mut M, k: u32, runs: &mut Runs) -> Result<Option<Fault>, AllocError>
+/// Makes this access, which an item does next, and keeps its event.
+fn advance<M: Machine>(
+    m: &mut M,
+    k: u32,
+    object: Object,
+    element: i64,
+    operation: Operation,
+    runs: &mut Runs,
+) -> Result<Option<Fault>, AllocError>
     ghost origin: { State }
     requires whole { IsGroup (M.plan m.old) }
     requires inside { k < (M.plan m.old).count }
     requires brief { IsBrief (M.plan m.old) origin }
-    requires reached { (g : Gathers (M.plan m.old) (M.fits m.old) origin runs.old k) × Accesses (M.plan m.old) g.0.state ((M.plan m.old).first + k) }
+    requires reached { (g : Gathers (M.plan m.old) (M.fits m.old) origin runs.old k) × Accesses (M.plan m.old) g.0.state ((M.plan m.old).first + k) object element operation }
     ensures plan_same { M.plan m.new ≡ M.plan m.old }
     ensures ticks_kept { (j : ℕ) → M.ticks m.new j ≤ M.ticks m.old j }
     ensures ticks_less { IfOk result (λ report. report ≡ None → M.ticks m.new k < M.ticks m.old k) }
     ensures advanced { IfOk result (IsAdvanced (M.plan m.old) (M.fits m.new) origin runs.new k) }
 {
     let event = Event::Item(m.first() + k);
-    match m.access(k)? {
+    match m.access(k, object, element, operation)? {
         Made::Done => {
             runs.push(event)?;
             Ok(None)
@@ -101,8 +109,12 @@ fn run_item<M: Machine>(m: &mut M, k: u32, runs: &mut Runs) -> Result<Halt, Allo
 {
     'steps: loop {
         match m.next(k) {
-            Action::Access { .. } => {
-                match advance(m, k, runs)? {
+            Action::Access {
+                object,
+                element,
+                operation,
+            } => {
+                match advance(m, k, object, element, operation, runs)? {
                     None => {}
                     Some(fault) => return Ok(Halt::Reports(fault)),
                 }
@@ -152,12 +164,13 @@ pub fn run_items<M: Machine>(m: &mut M, runs: &mut Runs) -> Result<Option<Fault>
             None => {}
             Some(fault) => return Ok(Some(fault)),
         }
-        match leader(m) {
-            Stop::Ended => return Ok(None),
-            Stop::At(_) => {
-                m.release();
+        match m.next(0) {
+            Action::Barrier { fences, .. } => {
+                m.release(fences);
                 runs.push(Event::Release(m.group()))?;
             }
+            // All items are at one stop, and it is no barrier: they have ended.
+            _ => return Ok(None),
         }
     }
 }
