@@ -5,8 +5,8 @@ use Rattle.std.specs.Option.{option_map}
 use Rattle.std.proofs.lemmas.Bool.{cases_eq}
 use Rattle.std.proofs.lemmas.List.{append_assoc, append-nil, reverse-append, length-reverse}
 use Rattle.std.proofs.lemmas.Option.{slice_get_within}
-use Rattle.clmodel.specs.Cells.{width_of, size_of, reads, found, answer_to, effect, lowest_unset}
-use Rattle.clmodel.specs.Launch.{Launch, region_of, location_of, kind_of, group_of, bytes_of, first_byte}
+use Rattle.clmodel.specs.Cells.{size_of, reads, found, answer_to, effect, lowest_unset}
+use Rattle.clmodel.specs.Launch.{Launch, within_group, access_in, region_of, location_of, kind_of, group_of, bytes_of, first_byte}
 use Rattle.clmodel.specs.Run.{State, Events, Memory, step, next_action, straggler, byte_at, by_region, access_of, with_cells, released, changed}
 use Rattle.clmodel.specs.Law.{Makes, Reports, newest_conflict, conflict_fault, unset_turn, access_turn, item_turn, is_over, sum_below}
 use Rattle.clmodel.specs.declared.access.Access.{Access}
@@ -26,13 +26,14 @@ use Rattle.clmodel.specs.declared.schedule.Event.TheVariants.{Item, Release}
 use Rattle.clmodel.proofs.CellLaws.{found_unset}
 use Rattle.clmodel.proofs.Ending.{sum_below_less, not_over}
 use Rattle.clmodel.proofs.Steps.{none_some, some_inj, if_true, if_false, made, region_for, item_at, release_at}
-use Rattle.shadow_list.specs.Log.{Log, stamped, hit, IsKept, IsNoted}
+use Rattle.shadow_list.specs.Log.{Log, stamped, entry_of, hit, IsKept, IsNoted}
 use Rattle.shadow_list.specs.declared.log.Entry.{Entry}
 use Rattle.shadow_list.specs.declared.log.Hit.{Hit}
-use Rattle.group_run.specs.Fits.{HoldsMemory, IsMoved, Fits, Counts, AreAnswered, group_left, space_of}
+use Rattle.group_run.specs.Fits.{ObjectsHold, IsMoved, Fits, Counts, AreAnswered, group_left, space_of}
 use Rattle.joining.specs.Group.{Plan, IsGroup}
-use Rattle.group_run.specs.Logs.{conflict_of, numbered, Notes, IsLogged, IsJudged, entry_of, after_fences}
-use Rattle.group_run.specs.Loops.{Steps, IsMade}
+use Rattle.group_run.specs.Logs.{conflict_of, numbered, Notes, IsLogged, IsJudged, after_fences}
+use Rattle.group_run.specs.Loops.{Steps, IsMade, judged_as}
+use Rattle.group_run.specs.declared.machine.Made.{Made}
 use Rattle.group_run.specs.declared.machine.Made.TheVariants as made_as
 use Rattle.spaces_base.specs.declared.space.SpaceFault.TheVariants as space_fault
 use Rattle.group_run.proofs.Lists.{get_set}
@@ -128,7 +129,7 @@ stamped_is :
     (p : Plan) (log : Log) (events : Events) (s : State) (item : ℕ) (at : Region) (first : ℕ) (op : Operation) (number : ℕ) → IsLogged p log events s → group_of p.launch item ≡ p.group
     → stamped log (entry_of item at first op number) ≡ record { access = access_of p.launch s item at first op; event = number }
 stamped_is p log events s item at first op number h e =
-    ap (λ i. record { access = record { item = item; region = at; first = first; width = width_of op; kind = kind_of op; interval = i }; event = number })
+    ap (λ i. record { access = access_in item at first op i; event = number })
     (ap₂ (by_region at) (h.global_interval ∙ ap s.global_interval (sym e)) (h.local_interval ∙ ap s.local_interval (sym e)))
 
 -- the numbered accesses with one more
@@ -163,7 +164,7 @@ pub record Moves {G : Type 0} (bytes : G → List (Option ℕ)) (p : Plan) (glob
   pub value : ℕ
   pub finds : found op (s.memory at) first ≡ Some value
   pub answers : answer ≡ answer_to op value
-  pub holds : HoldsMemory bytes p.launch p.group globals locals (with_cells s.memory at (effect op value (s.memory at) first))
+  pub holds : ObjectsHold bytes p.launch p.group globals locals (with_cells s.memory at (effect op value (s.memory at) first))
 
 -- after an access that is done
 pub record Accessed
@@ -243,7 +244,7 @@ accessed_fits acts bytes ro p items number globals globals2 locals locals2 log l
           };
       conflict =
           newest_is_hit l p.group s.log y log.accesses mine f.logged.mine f.logged.keeps
-          ∙ ap (λ z. option_map conflict_of (hit true z log.accesses)) (sym is)
+          ∙ ap (λ z. option_map conflict_of (hit within_group z log.accesses)) (sym is)
           ∙ ap (option_map conflict_of) (sym kept.0);
     }
 
@@ -360,7 +361,7 @@ module _
   -- it reads a byte that is unset
   pub unset_made :
       (globals2 : List G) (locals2 : List (List (Option ℕ))) (first byte : ℕ) (told : Fault) → Some first ≡ first_byte (length (space_of bytes globals locals o)) element (size_of op)
-      → IsMoved (HoldsMemory bytes p.launch p.group globals locals) (HoldsMemory bytes p.launch p.group globals2 locals2) (region_of p.group o) first op (Err (space_fault.Unset byte))
+      → IsMoved (ObjectsHold bytes p.launch p.group globals locals) (ObjectsHold bytes p.launch p.group globals2 locals2) (region_of p.group o) first op (Err (space_fault.Unset byte))
       → told ≡ fault.Unset (p.first + k) (kind_of op) (location_of p.launch (region_of p.group o)) byte
       → IsMade p before (Fits acts bytes ro p items number globals2 locals2 log) (p.first + k) (action.Access o element op) (made_as.Refused told)
   unset_made globals2 locals2 first byte told place moved is events s f asked =
@@ -385,7 +386,7 @@ module _
   module _
       (r : Plan) (globals2 : List G) (locals2 : List (List (Option ℕ))) (log2 : Log) (i j : I) (first : ℕ) (answer : Answer) (told : Option Fault) (last : r ≡ p)
       (there : slice_get items k ≡ Some i) (place : Some first ≡ first_byte (length (space_of bytes globals locals o)) element (size_of op))
-      (moved : IsMoved (HoldsMemory bytes p.launch p.group globals locals) (HoldsMemory bytes p.launch p.group globals2 locals2) (region_of p.group o) first op (Ok answer))
+      (moved : IsMoved (ObjectsHold bytes p.launch p.group globals locals) (ObjectsHold bytes p.launch p.group globals2 locals2) (region_of p.group o) first op (Ok answer))
       (answered : (answers : List Answer) → acts j answers ≡ acts i (answer ∷ answers))
       (judged : IsJudged p.launch log (entry_of (p.first + k) (region_of p.group o) first op number) log2 told) where
     after :
@@ -396,7 +397,7 @@ module _
         accessed_fits acts bytes ro p items number globals globals2 locals locals2 log log2 events s k i j o element op first answer judged.0 f inside there asked
         (placed_at events s (Some first) f place) (record { value = w.0; finds = w.1; answers = w.2; holds = w.3 }) answered judged.1
 
-    pub done_made :
+    done_made :
         told ≡ None → IsMade p before (Fits acts bytes ro r (set items k j) (number + 1) globals2 locals2 log2) (p.first + k) (action.Access o element op) made_as.Done
     done_made none =
         subst (λ z. IsMade p before (Fits acts bytes ro z (set items k j) (number + 1) globals2 locals2 log2) (p.first + k) (action.Access o element op) made_as.Done) (sym last)
@@ -405,7 +406,7 @@ module _
         let quiet = nothing_mapped (λ hit. conflict_fault p.launch (conflict_of hit)) judged.0 (sym judged.2 ∙ none) in
         (a.next, a.steps, a.fits, a.conflict ∙ ap (option_map conflict_of) quiet))
 
-    pub conflict_made :
+    conflict_made :
         (report : Fault) → told ≡ Some report
         → IsMade p before (Fits acts bytes ro r (set items k j) (number + 1) globals2 locals2 log2) (p.first + k) (action.Access o element op) (made_as.Conflicts report)
     conflict_made report some =
@@ -414,6 +415,18 @@ module _
         let a = after events s f asked in
         let found = some_mapped (λ hit. conflict_fault p.launch (conflict_of hit)) judged.0 report (sym judged.2 ∙ some) in
         (a.next, conflict_of found.0, a.steps, a.fits, a.conflict ∙ ap (option_map conflict_of) found.1, found.2))
+
+    by_report :
+        (report : Option Fault) → told ≡ report
+        → IsMade p before (Fits acts bytes ro r (set items k j) (number + 1) globals2 locals2 log2) (p.first + k) (action.Access o element op) (judged_as report)
+    by_report None e = done_made e
+    by_report (Some report) e = conflict_made report e
+
+    pub access_made :
+        (became : Made) → became ≡ judged_as told
+        → IsMade p before (Fits acts bytes ro r (set items k j) (number + 1) globals2 locals2 log2) (p.first + k) (action.Access o element op) became
+    access_made became is =
+        subst (λ z. IsMade p before (Fits acts bytes ro r (set items k j) (number + 1) globals2 locals2 log2) (p.first + k) (action.Access o element op) z) (sym is) (by_report told refl)
 
 -- room for a release
 pub record Room (number : ℕ) (log : Log) : Type 0 where

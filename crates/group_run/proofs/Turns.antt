@@ -21,9 +21,9 @@ use Rattle.clmodel.proofs.Steps.{none_some, some_inj, lowest_is_none, item_inver
 use Rattle.clmodel.proofs.Ending.{step_less}
 use Rattle.joining.specs.Group.{Plan, IsGroup, going, turn_of, RunsIn, Reached, Reported}
 use Rattle.joining.proofs.Grouped.{found_first}
-use Rattle.group_run.specs.Loops.{Accesses, Steps, IsMade, AtOneStop, Gathers, IsBrief, IsAdvanced, IsHalted, IsGathered}
-use Rattle.group_run.specs.declared.loops.Halt.{Halt}
-use Rattle.group_run.specs.declared.loops.Halt.TheVariants as halt
+use Rattle.group_run.specs.Loops.{Accesses, Steps, IsMade, AtOneStop, Gathers, IsBrief, IsAdvanced, IsItemRun, IsGathered}
+use Rattle.group_run.specs.declared.loops.ItemRun.{ItemRun}
+use Rattle.group_run.specs.declared.loops.ItemRun.TheVariants as item_run
 use Rattle.group_run.specs.declared.machine.Made.{Made}
 use Rattle.group_run.specs.declared.machine.Made.TheVariants as made_as
 
@@ -383,11 +383,11 @@ pub advanced_on :
 advanced_on p q fits origin events k o e is h =
     subst (λ z. Gathers z fits origin events k) e (subst (λ z. IsAdvanced q fits origin events k z) is h)
 
-pub halted_on :
-    (p q : Plan) (fits : Events → State → Type 0) (origin : State) (events : Events) (k : ℕ) (o : Halt) → q ≡ p → o ≡ halt.Stops → IsHalted q fits origin events k o
+pub item_ran_on :
+    (p q : Plan) (fits : Events → State → Type 0) (origin : State) (events : Events) (k : ℕ) (o : ItemRun) → q ≡ p → o ≡ item_run.Stops → IsItemRun q fits origin events k o
     → Gathers p fits origin events (k + 1)
-halted_on p q fits origin events k o e is h =
-    subst (λ z. Gathers z fits origin events (k + 1)) e (subst (λ z. IsHalted q fits origin events k z) is h)
+item_ran_on p q fits origin events k o e is h =
+    subst (λ z. Gathers z fits origin events (k + 1)) e (subst (λ z. IsItemRun q fits origin events k z) is h)
 
 pub gathered_on :
     (p q : Plan) (fits : Events → State → Type 0) (origin : State) (events : Events) (o : Option Fault) → q ≡ p → o ≡ None → IsGathered q fits origin events o

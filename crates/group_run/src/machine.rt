@@ -7,7 +7,7 @@ ghost use Rattle.clmodel.specs.declared.action.Action.TheVariants.{Access, Barri
 ghost use Rattle.clmodel.specs.declared.action.Instance.{Instance};
 ghost use Rattle.clmodel.specs.declared.schedule.Event.TheVariants.{Release};
 ghost use Rattle.joining.specs.Group.{Plan};
-ghost use Rattle.group_run.specs.Loops.{Accesses, IsMade};
+ghost use Rattle.group_run.specs.Loops.{Accesses, IsMade, judged_as};
 
 use clmodel::access::{Object, Operation};
 use clmodel::action::{Action, Cause, Fences};
@@ -23,6 +23,18 @@ pub enum Made {
     Conflicts(Fault),
     /// It can't be done: it is out of range, or reads an unset byte.
     Refused(Fault),
+}
+
+impl Made {
+    /// What became of an access that was done, by the fault that its log reports.
+    pub(crate) fn judged(fault: Option<Fault>) -> Self
+        ensures { result ≡ judged_as fault }
+    {
+        match fault {
+            None => Made::Done,
+            Some(fault) => Made::Conflicts(fault),
+        }
+    }
 }
 
 /// The items of a group with their memory and the log of their accesses. Items are named by their place in the group.
