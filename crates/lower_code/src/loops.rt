@@ -16,8 +16,8 @@ use crate::draft::Draft;
 use clmodel::tree::{Expression, VariableType};
 use clnum::IntType;
 use lower_expr::emission::emit_expression;
-use lower_expr::scope::{Scope, register_at};
 use lower_expr::instructions::add;
+use lower_expr::scope::{Scope, register_at};
 use regcode::Instruction;
 use std::alloc::AllocError;
 
