@@ -22,8 +22,11 @@ same_scope old new e = record { added = []; is = e }
 
 pub inner_scope : (old one new : Scope) → KeepsOuter old one → KeepsOuter one new → KeepsOuter old new
 inner_scope old one new h k =
-    record { added = k.added ++ h.added; is = k.is ∙ ap (λ (s : Scope). record s { variables = k.added ++ s.variables }) h.is
-        ∙ ap (λ vs. record old { variables = vs }) (sym (append_assoc k.added h.added old.variables)) }
+    record {
+      added = k.added ++ h.added;
+      is = k.is ∙ ap (λ (s : Scope). record s { variables = k.added ++ s.variables }) h.is
+          ∙ ap (λ vs. record old { variables = vs }) (sym (append_assoc k.added h.added old.variables));
+    }
 
 after_one : (scope : Scope) (s : Stmt) → KeepsOuter scope (scope_after scope s)
 after_one scope (Declare at kind name_at name) = record { added = variable name kind ∷ []; is = refl }

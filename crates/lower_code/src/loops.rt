@@ -16,8 +16,8 @@ use crate::draft::Draft;
 use clmodel::tree::{Expression, VariableType};
 use clnum::IntType;
 use lower_expr::emission::emit_expression;
-use lower_expr::scope::{Scope, register_at};
 use lower_expr::instructions::add;
+use lower_expr::scope::{Scope, register_at};
 use regcode::Instruction;
 use std::alloc::AllocError;
 
@@ -92,7 +92,7 @@ pub fn end_while<'a>(
     code.put(Instruction::Enter { depth })
 }
 
-/// Puts before the code that a function returns no value.
+/// Puts before the code that a function returns no value: one that gives a value ends the item there.
 pub fn put_no_value(
     kind: Option<IntType>,
     level: u32,
@@ -103,10 +103,7 @@ pub fn put_no_value(
 {
     match kind {
         None => Ok(()),
-        Some(kind) => {
-            let to = register_at(level, VariableType::Integer(kind))?;
-            code.put(Instruction::Unset { to })
-        }
+        Some(_) => code.put(Instruction::End),
     }
 }
 

@@ -10,8 +10,8 @@ ghost use Rattle.lower_expr.specs.Places as spec;
 ghost use Rattle.lower_expr.specs.Places.{place_name, destination_of};
 
 use crate::emission::{TargetKind, emit_target};
-use crate::scope::{Scope, level_above, register_at};
 use crate::instructions::{add, private_load, private_store};
+use crate::scope::{Scope, level_above, register_at};
 use crate::types::{base_type, infix_type};
 use clmodel::tree::{InfixOperator, Target, VariableType};
 use clnum::BinaryOperator;

@@ -7,11 +7,11 @@ ghost use Rattle.clmodel.specs.Tree.{term, terms, place};
 ghost use Rattle.lower_expr.specs.Expressions.{kind_of, kind_named, expr_code, address_code, terms_code, registers_for, place_code, place_kind};
 ghost use Rattle.lower_expr.specs.Growth.{IsLonger};
 
-use crate::jumps::{begin_choice, begin_infix, between_branches, end_choice, end_infix};
-use crate::scope::{Scope, level_above, level_at, register_at};
 use crate::instructions::{
     Arguments, array_element, call, cast, load, number, offset, point, unary, variable,
 };
+use crate::jumps::{begin_choice, begin_infix, between_branches, end_choice, end_infix};
+use crate::scope::{Scope, level_above, level_at, register_at};
 use crate::types::base_type;
 use clmodel::setup::built_in_named;
 use clmodel::tree::{Expression, Target, VariableType};

@@ -12,8 +12,8 @@ ghost use Rattle.lower_expr.specs.Scope.{register_at};
 ghost use Rattle.lower_expr.specs.Expressions.{truth_code, infix_begun, infix_code, branch_code, choice_code};
 ghost use Rattle.lower_expr.specs.Growth.{IsLonger};
 
-use crate::scope::{level_above, register_at, word};
 use crate::instructions::add;
+use crate::scope::{level_above, register_at, word};
 use crate::types::{base_type, infix_type};
 use clmodel::tree::{InfixOperator, VariableType};
 use clnum::{BinaryOperator, IntType, Value};
