@@ -48,10 +48,10 @@ abbrev pub needed_code : Option IntType → List Instruction
 needed_code None = instruction.End ∷ []
 needed_code (Some kind) = []
 
--- a function returns no value
+-- a function returns no value: one that gives a value ends the item there
 abbrev pub no_value_code : Option IntType → ℕ → List Instruction
 no_value_code None level = []
-no_value_code (Some kind) level = instruction.Unset (register_at level (Integer kind)) ∷ []
+no_value_code (Some kind) level = instruction.End ∷ []
 
 -- a function returns a register's value, in its type
 abbrev pub value_code : Option IntType → ℕ → ℕ → List Instruction

@@ -94,7 +94,7 @@ fn base_level(scope: &Scope) -> Result<u32, AllocError>
     level.checked_sub(count).ok_or(AllocError)
 }
 
-/// Puts before the code that a function returns no value.
+/// Puts before the code that a function returns no value: one that gives a value ends the item there.
 pub fn put_no_value(
     kind: Option<IntType>,
     level: u32,
@@ -104,10 +104,7 @@ pub fn put_no_value(
 {
     match kind {
         None => Ok(()),
-        Some(kind) => {
-            let to = register_at(level, VariableType::Integer(kind))?;
-            code.put(Instruction::Unset { to })
-        }
+        Some(_) => code.put(Instruction::End),
     }
 }
 
