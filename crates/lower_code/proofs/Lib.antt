@@ -9,3 +9,4 @@ pub mod Splits
 pub mod Turns
 pub mod Trees
 pub mod Parameters
+pub mod Growth

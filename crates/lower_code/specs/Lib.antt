@@ -4,3 +4,4 @@ pub mod Code
 pub mod Helpers
 pub mod Parts
 pub mod Emission
+pub mod Growth

@@ -1,7 +1,7 @@
 //! Assignments, declarations and calls, with the body of the helper that they call left out (C99 6.5.16 and 6.7).
 #![tactic(auto)]
 
-ghost use Rattle.std.specs.Prelude.{◌≡◌, ℕ, ◌++◌, ◌∷◌, [], Some, None, Option, false, IfOk, OnOk};
+ghost use Rattle.std.specs.Prelude.{◌≡◌, ℕ, ◌++◌, ◌∷◌, [], Some, None, Option, false, IfOk, OnOk, OnErr};
 ghost use Rattle.std.specs.Option.{option_map};
 ghost use Rattle.clmodel.specs.Barrier as barrier;
 ghost use Rattle.clmodel.specs.BuiltIns.{built_in};
@@ -9,9 +9,11 @@ ghost use Rattle.clmodel.specs.Next as next;
 ghost use Rattle.clmodel.specs.Tree as tree;
 ghost use Rattle.clmodel.specs.Tree.{place, term, terms};
 ghost use Rattle.lower_expr.specs.Scope.{free_level};
+ghost use Rattle.lower_expr.specs.Growth.{IsLonger};
 ghost use Rattle.lower_code.specs.Code as spec;
 ghost use Rattle.lower_code.specs.Code.{Calls, result_in};
 ghost use Rattle.lower_code.specs.Emission.{functions_of, split_code};
+ghost use Rattle.lower_code.specs.Growth.{GrowsBefore};
 
 use crate::draft::Draft;
 use crate::functions::find;
@@ -23,8 +25,8 @@ use clmodel::tree::{Expression, Target, VariableType};
 use clnum::{BinaryOperator, IntType, Value};
 use lower_expr::destinations::{combine, destination_type, fetch, put, reach};
 use lower_expr::emission::{emit_arguments, emit_expression};
+use lower_expr::instructions::{add, call_only};
 use lower_expr::scope::{Scope, level_above, level_at, register_at};
-use lower_expr::tails::{add, call_only};
 use lower_expr::types::call_type;
 use regcode::Instruction;
 use smallvec::SmallVec;
@@ -99,8 +101,10 @@ fn result_type(kind: Option<IntType>) -> VariableType
 }
 
 /// Adds the end of the item, where a call has no value.
+#[tactic(auto, using(lower_expr::proofs::Growth::unchanged, lower_expr::proofs::Growth::behind))]
 fn add_needed(kind: Option<IntType>, code: &mut Vec<Instruction>) -> Result<(), AllocError>
-    ensures { OnOk result (code.new.items ≡ code.old.items ++ spec.needed_code kind) }
+    ensures code { OnOk result (code.new.items ≡ code.old.items ++ spec.needed_code kind) }
+    ensures longer { OnErr result (IsLonger code.old.items code.new.items) }
 {
     match kind {
         Some(_) => Ok(()),
@@ -224,14 +228,16 @@ fn step_operator(is_increment: bool) -> BinaryOperator
 }
 
 /// Puts `++` or `--` before the code.
+#[tactic(auto, using(crate::proofs::Growth::unchanged, crate::proofs::Growth::before, crate::proofs::Growth::one_before))]
 pub fn put_step(
     scope: &Scope,
     target: &Target,
     is_increment: bool,
     code: &mut Draft<'_>,
 ) -> Result<(), AllocError>
-    ensures { OnOk result ((calls : Calls) (results : ℕ → Option IntType) (inside : ℕ → ℕ) (kind : Option IntType)
+    ensures code { OnOk result ((calls : Calls) (results : ℕ → Option IntType) (inside : ℕ → ℕ) (kind : Option IntType)
         → code.new ≡ spec.step_code calls results inside kind scope.now (free_level scope.now) (place target.now) (next.step_operator is_increment) ++ code.old) }
+    ensures longer { OnErr result (GrowsBefore code.old code.new) }
 {
     let level = scope.free_level()?;
     let above = level_above(level)?;
@@ -273,7 +279,7 @@ pub fn declare_as(
     ensures code { IfOk result (λ split. (calls : Calls) (inside : ℕ → ℕ) (result_kind : Option IntType) (depth site : ℕ) (exits : spec.Exits)
         → split_code calls split depth site
         ≡ spec.stmt_code calls (result_in (functions_of helpers.entry.functions.now)) inside result_kind scope.old (tree.DeclareAs 0 kind 0 name (term value.now)) depth site exits) }
-    ensures scope { OnOk result (scope.new ≡ scope.old) }
+    ensures scope { scope.new ≡ scope.old }
 {
     let level = scope.free_level()?;
     let above = level_above(level)?;
@@ -282,8 +288,9 @@ pub fn declare_as(
     add(&mut front, Instruction::Unset { to })?;
     let count = scope.len();
     scope.declare(name, kind)?;
-    let mut right = right_side(helpers, scope, above, value, front)?;
+    let right = right_side(helpers, scope, above, value, front);
     scope.leave(count);
+    let mut right = right?;
     let from = register_at(above, right.kind)?;
     add(&mut right.split.back, Instruction::Hold { to, from, kind })?;
     Ok(right.split)

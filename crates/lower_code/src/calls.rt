@@ -1,9 +1,10 @@
 //! Calls of helpers, whose bodies are left out (C99 6.5.2.2).
-#![tactic(auto)]
+#![tactic(auto, using(crate::proofs::Growth::unchanged, crate::proofs::Growth::before, crate::proofs::Growth::one_before))]
 
-ghost use Rattle.std.specs.Prelude.{◌≡◌, ℕ, ◌<◌, ◌++◌, length, take, get_or, IfSome, OnOk};
+ghost use Rattle.std.specs.Prelude.{◌≡◌, ℕ, ◌<◌, ◌++◌, length, take, get_or, IfSome, OnOk, OnErr};
 ghost use Rattle.lower_code.specs.Code.{call_code};
 ghost use Rattle.lower_code.specs.Emission.{functions_of, body_of, split_code};
+ghost use Rattle.lower_code.specs.Growth.{GrowsBefore};
 
 use crate::assignments::Split;
 use crate::draft::Draft;
@@ -21,7 +22,8 @@ pub fn emit_split<'a>(
     position: Position,
     code: &mut Draft<'a>,
 ) -> Result<(), AllocError>
-    ensures { OnOk result (code.new ≡ split_code (call_code (functions_of helpers.entry.functions.now)) split position.depth position.site ++ code.old) }
+    ensures code { OnOk result (code.new ≡ split_code (call_code (functions_of helpers.entry.functions.now)) split position.depth position.site ++ code.old) }
+    ensures longer { OnErr result (GrowsBefore code.old code.new) }
 {
     let Split { front, call, back } = split;
     code.put_all(back)?;
@@ -47,7 +49,8 @@ fn emit_call<'a>(
     position: Position,
     code: &mut Draft<'a>,
 ) -> Result<(), AllocError>
-    ensures { OnOk result (code.new ≡ call_code (functions_of helpers.entry.functions.now) name arguments.now level position.depth position.site ++ code.old) }
+    ensures code { OnOk result (code.new ≡ call_code (functions_of helpers.entry.functions.now) name arguments.now level position.depth position.site ++ code.old) }
+    ensures longer { OnErr result (GrowsBefore code.old code.new) }
 {
     let Some(found) = find(helpers, name) else {
         return code.put(Instruction::End);
@@ -78,7 +81,8 @@ fn leave_body<'a>(
 ) -> Result<(), AllocError>
     requires within { found.place < length helpers.functions.now }
     requires there { found.function.now ≡ get_or helpers.functions.now found.place found.function.now }
-    ensures { OnOk result (code.new ≡ body_of (take found.entry.place helpers.entry.functions.now) found.entry.function.now level position.depth position.site ++ code.old) }
+    ensures code { OnOk result (code.new ≡ body_of (take found.entry.place helpers.entry.functions.now) found.entry.function.now level position.depth position.site ++ code.old) }
+    ensures longer { OnErr result (GrowsBefore code.old code.new) }
 {
     let count = length_of(helpers, found).ok_or(AllocError)?;
     let before = helpers.before(found.place);

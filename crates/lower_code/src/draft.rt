@@ -1,7 +1,8 @@
-//! Code that is written from its end, with the bodies of helpers left out.
-#![tactic(auto, using(crate::proofs::Drafts::draft_whole, crate::proofs::Drafts::part_whole, crate::proofs::Drafts::part_length, crate::proofs::Drafts::draft_length))]
+//! Code that is written from its end, with the bodies of helpers left out: so a jump is written when the length of what it passes is known.
+#![tactic(auto, using(crate::proofs::Drafts::draft_whole, crate::proofs::Drafts::part_whole, crate::proofs::Drafts::part_length, crate::proofs::Drafts::draft_length, crate::proofs::Growth::unchanged, crate::proofs::Growth::before, crate::proofs::Growth::one_before))]
 
-ghost use Rattle.std.specs.Prelude.{◌≡◌, ◌-◌, ◌+◌, [], ◌∷◌, ◌++◌, length, reverse, IfOk, OnOk};
+ghost use Rattle.std.specs.Prelude.{◌≡◌, ◌-◌, ◌+◌, [], ◌∷◌, ◌++◌, length, reverse, IfOk, OnOk, OnErr};
+ghost use Rattle.lower_code.specs.Growth.{GrowsBefore};
 ghost use Rattle.lower_code.specs.Parts.{hole_code, whole, HoleKnown, AllKnown};
 
 use crate::holes::{Hole, Part};
@@ -73,7 +74,8 @@ impl<'a> Draft<'a> {
     fn put_parts(&mut self, parts: &[Part<'a>], count: usize) -> Result<(), AllocError>
         requires count { count ≡ length (whole (reverse parts.now)) }
         requires known { AllKnown parts.now }
-        ensures { OnOk result (self.new ≡ whole (reverse parts.now) ++ self.old) }
+        ensures code { OnOk result (self.new ≡ whole (reverse parts.now) ++ self.old) }
+        ensures longer { OnErr result (GrowsBefore self.old self.new) }
     {
         let len = self.len.checked_add(count).ok_or(AllocError)?;
         self.parts.extend_from_slice(parts)?;
@@ -83,7 +85,8 @@ impl<'a> Draft<'a> {
 
     /// Puts an instruction before the code.
     pub fn put(&mut self, instruction: Instruction) -> Result<(), AllocError>
-        ensures { OnOk result (self.new ≡ instruction ∷ self.old) }
+        ensures code { OnOk result (self.new ≡ instruction ∷ self.old) }
+        ensures longer { OnErr result (GrowsBefore self.old self.new) }
     {
         self.put_parts(&[Part::Own(instruction)], 1)
     }
@@ -92,14 +95,16 @@ impl<'a> Draft<'a> {
     pub fn leave(&mut self, hole: Hole<'a>, count: usize) -> Result<(), AllocError>
         requires count { count ≡ length (hole_code hole) }
         requires known { HoleKnown hole }
-        ensures { OnOk result (self.new ≡ hole_code hole.entry ++ self.old) }
+        ensures code { OnOk result (self.new ≡ hole_code hole.entry ++ self.old) }
+        ensures longer { OnErr result (GrowsBefore self.old self.new) }
     {
         self.put_parts(&[Part::Left(hole)], count)
     }
 
     /// Puts other code before the code.
     pub fn put_all(&mut self, code: Vec<Instruction>) -> Result<(), AllocError>
-        ensures { OnOk result (self.new ≡ code.items ++ self.old) }
+        ensures code { OnOk result (self.new ≡ code.items ++ self.old) }
+        ensures longer { OnErr result (GrowsBefore self.old self.new) }
     {
         for i in 0..code.len() {
             self.put(code[code.len() - 1 - i])?;
@@ -109,7 +114,8 @@ impl<'a> Draft<'a> {
 
     /// Puts another draft before the code.
     pub fn put_draft(&mut self, draft: Draft<'a>) -> Result<(), AllocError>
-        ensures { OnOk result (self.new ≡ draft.entry ++ self.old) }
+        ensures code { OnOk result (self.new ≡ draft.entry ++ self.old) }
+        ensures longer { OnErr result (GrowsBefore self.old self.new) }
     {
         self.put_parts(&draft.parts, draft.len)
     }

@@ -1,21 +1,23 @@
 //! Tests, loops and returns, with the statements in them left out (OpenCL 1.2, section 6.9; C99 6.8.4 to 6.8.6).
-#![tactic(auto)]
+#![tactic(auto, using(crate::proofs::Growth::unchanged, crate::proofs::Growth::before, crate::proofs::Growth::one_before))]
 
-ghost use Rattle.std.specs.Prelude.{◌≡◌, [], ◌∷◌, ◌++◌, List, length, IfOk, OnOk};
+ghost use Rattle.std.specs.Prelude.{◌≡◌, [], ◌∷◌, ◌++◌, List, length, OnOk, OnErr};
 ghost use Rattle.clmodel.specs.Tree.{term};
 ghost use Rattle.regcode.specs.declared.instruction.Instruction.{Instruction};
 ghost use Rattle.regcode.specs.declared.instruction.Instruction.TheVariants as instruction;
 ghost use Rattle.lower_expr.specs.Scope.{free_level};
 ghost use Rattle.lower_expr.specs.Expressions.{expr_code, register_for};
+ghost use Rattle.lower_expr.specs.Growth.{IsLonger};
 ghost use Rattle.lower_code.specs.Code as spec;
 ghost use Rattle.lower_code.specs.Emission.{test_of};
+ghost use Rattle.lower_code.specs.Growth.{GrowsBefore};
 
 use crate::draft::Draft;
 use clmodel::tree::{Expression, VariableType};
 use clnum::IntType;
 use lower_expr::emission::emit_expression;
-use lower_expr::scope::{Scope, register_at, word};
-use lower_expr::tails::add;
+use lower_expr::instructions::add;
+use lower_expr::scope::{Scope, register_at};
 use regcode::Instruction;
 use std::alloc::AllocError;
 
@@ -26,8 +28,9 @@ pub fn put_test(
     by: u32,
     code: &mut Draft<'_>,
 ) -> Result<(), AllocError>
-    ensures { OnOk result (code.new
+    ensures code { OnOk result (code.new
         ≡ expr_code scope.now (free_level scope.now) (term test.now) ++ (instruction.JumpIfZero (register_for scope.now (free_level scope.now) (term test.now)) by ∷ code.old)) }
+    ensures longer { OnErr result (GrowsBefore code.old code.new) }
 {
     let level = scope.free_level()?;
     let mut front = Vec::new(scope.allocator());
@@ -43,7 +46,8 @@ pub fn put_condition(
     condition: Option<&Expression>,
     code: &mut Draft<'_>,
 ) -> Result<(), AllocError>
-    ensures { OnOk result (code.new ≡ spec.condition_code scope.now (test_of condition.entry) ++ code.old) }
+    ensures code { OnOk result (code.new ≡ spec.condition_code scope.now (test_of condition.entry) ++ code.old) }
+    ensures longer { OnErr result (GrowsBefore code.old code.new) }
 {
     match condition {
         None => Ok(()),
@@ -53,7 +57,8 @@ pub fn put_condition(
 
 /// Puts a loop's turn before the code: its body and condition, and the way back.
 fn end_turn<'a>(depth: u32, turn: Draft<'a>, code: &mut Draft<'a>) -> Result<(), AllocError>
-    ensures { OnOk result ((body condition : List Instruction) → turn.entry ≡ body ++ condition → code.new ≡ spec.turn_code depth body condition ++ code.old) }
+    ensures code { OnOk result ((body condition : List Instruction) → turn.entry ≡ body ++ condition → code.new ≡ spec.turn_code depth body condition ++ code.old) }
+    ensures longer { OnErr result (GrowsBefore code.old code.new) }
 {
     let by = turn.past(0)?;
     code.put(Instruction::Back { by })?;
@@ -63,7 +68,8 @@ fn end_turn<'a>(depth: u32, turn: Draft<'a>, code: &mut Draft<'a>) -> Result<(),
 
 /// Puts a loop that begins with its body before the code.
 pub fn end_do<'a>(depth: u32, turn: Draft<'a>, code: &mut Draft<'a>) -> Result<(), AllocError>
-    ensures { OnOk result ((body condition : List Instruction) → turn.entry ≡ body ++ condition → code.new ≡ spec.do_code depth body condition ++ code.old) }
+    ensures code { OnOk result ((body condition : List Instruction) → turn.entry ≡ body ++ condition → code.new ≡ spec.do_code depth body condition ++ code.old) }
+    ensures longer { OnErr result (GrowsBefore code.old code.new) }
 {
     end_turn(depth, turn, code)?;
     code.put(Instruction::Enter { depth })
@@ -76,22 +82,14 @@ pub fn end_while<'a>(
     turn: Draft<'a>,
     code: &mut Draft<'a>,
 ) -> Result<(), AllocError>
-    ensures { OnOk result ((body condition : List Instruction) → turn.entry ≡ body ++ condition → start ≡ length condition
+    ensures code { OnOk result ((body condition : List Instruction) → turn.entry ≡ body ++ condition → start ≡ length condition
         → code.new ≡ spec.while_code depth body condition ++ code.old) }
+    ensures longer { OnErr result (GrowsBefore code.old code.new) }
 {
     let by = turn.past(start)?;
     end_turn(depth, turn, code)?;
     code.put(Instruction::Jump { by })?;
     code.put(Instruction::Enter { depth })
-}
-
-/// The level of the outermost variable.
-fn base_level(scope: &Scope) -> Result<u32, AllocError>
-    ensures { IfOk result (λ base. base ≡ scope.now.base) }
-{
-    let count = word(scope.len())?;
-    let level = scope.free_level()?;
-    level.checked_sub(count).ok_or(AllocError)
 }
 
 /// Puts before the code that a function returns no value: one that gives a value ends the item there.
@@ -100,7 +98,8 @@ pub fn put_no_value(
     level: u32,
     code: &mut Draft<'_>,
 ) -> Result<(), AllocError>
-    ensures { OnOk result (code.new ≡ spec.no_value_code kind level ++ code.old) }
+    ensures code { OnOk result (code.new ≡ spec.no_value_code kind level ++ code.old) }
+    ensures longer { OnErr result (GrowsBefore code.old code.new) }
 {
     match kind {
         None => Ok(()),
@@ -115,20 +114,23 @@ pub fn put_return(
     by: u32,
     code: &mut Draft<'_>,
 ) -> Result<(), AllocError>
-    ensures { OnOk result (code.new ≡ spec.no_value_code kind scope.now.base ++ (instruction.Jump by ∷ code.old)) }
+    ensures code { OnOk result (code.new ≡ spec.no_value_code kind scope.now.base ++ (instruction.Jump by ∷ code.old)) }
+    ensures longer { OnErr result (GrowsBefore code.old code.new) }
 {
     code.put(Instruction::Jump { by })?;
-    put_no_value(kind, base_level(scope)?, code)
+    put_no_value(kind, scope.base(), code)
 }
 
 /// Adds that a function returns a register's value, in its type.
+#[tactic(auto, using(lower_expr::proofs::Growth::unchanged, lower_expr::proofs::Growth::behind))]
 fn add_value(
     kind: Option<IntType>,
     level: u32,
     from: u32,
     code: &mut Vec<Instruction>,
 ) -> Result<(), AllocError>
-    ensures { OnOk result (code.new.items ≡ code.old.items ++ spec.value_code kind level from) }
+    ensures code { OnOk result (code.new.items ≡ code.old.items ++ spec.value_code kind level from) }
+    ensures longer { OnErr result (IsLonger code.old.items code.new.items) }
 {
     match kind {
         None => Ok(()),
@@ -148,15 +150,16 @@ pub fn put_return_value(
     by: u32,
     code: &mut Draft<'_>,
 ) -> Result<(), AllocError>
-    ensures { OnOk result (code.new
+    ensures code { OnOk result (code.new
         ≡ expr_code scope.now (free_level scope.now) (term value.now)
         ++ (spec.value_code kind scope.now.base (register_for scope.now (free_level scope.now) (term value.now)) ++ (instruction.Jump by ∷ code.old))) }
+    ensures longer { OnErr result (GrowsBefore code.old code.new) }
 {
     let level = scope.free_level()?;
     let mut front = Vec::new(scope.allocator());
     let found = emit_expression(scope, level, value, &mut front)?;
     let from = register_at(level, found)?;
-    add_value(kind, base_level(scope)?, from, &mut front)?;
+    add_value(kind, scope.base(), from, &mut front)?;
     code.put(Instruction::Jump { by })?;
     code.put_all(front)
 }

@@ -1,9 +1,12 @@
 //! Statements with no other statement in them: declarations, assignments, calls and jumps (C99 6.5.16, 6.7 and 6.8.6).
-#![tactic(auto)]
+//!
+//! One `match` on all statements would be one proof of all of them, so each function takes some kinds, and its `requires` leaves out the others.
+#![tactic(auto, using(crate::proofs::Growth::unchanged, crate::proofs::Growth::before, crate::proofs::Growth::one_before))]
 
-ghost use Rattle.std.specs.Prelude.{◌≡◌, ◌++◌, true, OnOk};
+ghost use Rattle.std.specs.Prelude.{◌≡◌, ◌++◌, true, OnOk, OnErr};
 ghost use Rattle.clmodel.specs.Tree.{stmt};
 ghost use Rattle.lower_code.specs.Emission.{is_declaration, is_assignment, is_jump, statement_code};
+ghost use Rattle.lower_code.specs.Growth.{GrowsBefore};
 
 use crate::assignments::{assign, call_statement, compound, declare_as, put_step};
 use crate::calls::emit_split;
@@ -27,7 +30,8 @@ pub fn emit_declaration<'a>(
 ) -> Result<(), AllocError>
     requires { is_declaration statement.now ≡ true }
     ensures code { OnOk result (code.new ≡ statement_code setting.now scope.old (stmt statement.now) position ++ code.old) }
-    ensures scope { OnOk result (scope.new ≡ scope.old) }
+    ensures scope { scope.new ≡ scope.old }
+    ensures longer { OnErr result (GrowsBefore code.old code.new) }
 {
     match statement {
         Statement::Declare {
@@ -61,7 +65,8 @@ pub fn emit_assignment<'a>(
     code: &mut Draft<'a>,
 ) -> Result<(), AllocError>
     requires { is_assignment statement.now ≡ true }
-    ensures { OnOk result (code.new ≡ statement_code setting.now scope.now (stmt statement.now) position ++ code.old) }
+    ensures code { OnOk result (code.new ≡ statement_code setting.now scope.now (stmt statement.now) position ++ code.old) }
+    ensures longer { OnErr result (GrowsBefore code.old code.new) }
 {
     match statement {
         Statement::Assign {
@@ -105,7 +110,8 @@ pub fn put_jump<'a>(
     code: &mut Draft<'a>,
 ) -> Result<(), AllocError>
     requires { is_jump statement.now ≡ true }
-    ensures { OnOk result (code.new ≡ statement_code setting.now scope.now (stmt statement.now) position ++ code.old) }
+    ensures code { OnOk result (code.new ≡ statement_code setting.now scope.now (stmt statement.now) position ++ code.old) }
+    ensures longer { OnErr result (GrowsBefore code.old code.new) }
 {
     let exits = position.exits;
     match statement {

@@ -1,13 +1,14 @@
 //! The variables of blocks and of functions, and the registers that they are given.
-#![tactic(auto)]
+#![tactic(auto, using(crate::proofs::Growth::unchanged, crate::proofs::Growth::before, crate::proofs::Growth::one_before))]
 
-ghost use Rattle.std.specs.Prelude.{◌≡◌, ◌++◌, [], ◌∷◌, drop, length, IfOk, OnOk};
+ghost use Rattle.std.specs.Prelude.{◌≡◌, ◌++◌, [], ◌∷◌, drop, length, IfOk, OnOk, OnErr};
 ghost use Rattle.clmodel.specs.Tree as tree;
 ghost use Rattle.clmodel.specs.Tree.{stmt};
 ghost use Rattle.regcode.specs.declared.instruction.Instruction.TheVariants as instruction;
 ghost use Rattle.lower_expr.specs.Scope.{Scope, free_level, register_at};
 ghost use Rattle.lower_code.specs.Variables as spec;
 ghost use Rattle.lower_code.specs.Trees.{all_of, part_of};
+ghost use Rattle.lower_code.specs.Growth.{GrowsBefore, KeepsOuter};
 
 use crate::draft::Draft;
 use clmodel::tree::{AddressSpace, Parameter, PointerType, Statement, VariableType};
@@ -46,7 +47,8 @@ fn declare_array(
     name: u32,
     length: Value,
 ) -> Result<(), AllocError>
-    ensures { OnOk result (scope.new ≡ record scope.old { variables = spec.array_variable is_local element (tree.array_length length) name ∷ scope.old.variables }) }
+    ensures declared { OnOk result (scope.new ≡ record scope.old { variables = spec.array_variable is_local element (tree.array_length length) name ∷ scope.old.variables }) }
+    ensures err { OnErr result (scope.new ≡ scope.old) }
 {
     if is_local {
         return scope.declare(name, local_pointer(element));
@@ -56,7 +58,8 @@ fn declare_array(
 
 /// Declares the variable of a declaration.
 fn declare(scope: &mut Scope, statement: &Statement) -> Result<(), AllocError>
-    ensures { OnOk result (scope.new ≡ spec.scope_after scope.old (stmt statement.now)) }
+    ensures declared { OnOk result (scope.new ≡ spec.scope_after scope.old (stmt statement.now)) }
+    ensures err { OnErr result (scope.new ≡ scope.old) }
 {
     match statement {
         Statement::Declare { kind, name, .. } => scope.declare(*name, *kind),
@@ -73,7 +76,8 @@ fn declare(scope: &mut Scope, statement: &Statement) -> Result<(), AllocError>
 
 /// Declares the variable of a part of a `for`.
 pub fn declare_part(scope: &mut Scope, part: Option<&Statement>) -> Result<(), AllocError>
-    ensures { OnOk result (scope.new ≡ spec.scope_after_part scope.old (part_of part.entry)) }
+    ensures declared { OnOk result (scope.new ≡ spec.scope_after_part scope.old (part_of part.entry)) }
+    ensures err { OnErr result (scope.new ≡ scope.old) }
 {
     match part {
         None => Ok(()),
@@ -82,8 +86,10 @@ pub fn declare_part(scope: &mut Scope, part: Option<&Statement>) -> Result<(), A
 }
 
 /// Declares the variables of statements.
+#[tactic(auto, using(crate::proofs::Growth::after_statements))]
 pub fn declare_all(scope: &mut Scope, statements: &[Statement]) -> Result<(), AllocError>
-    ensures { OnOk result (scope.new ≡ spec.scope_after_all scope.old (all_of statements.now)) }
+    ensures declared { OnOk result (scope.new ≡ spec.scope_after_all scope.old (all_of statements.now)) }
+    ensures kept { OnErr result (KeepsOuter scope.old scope.new) }
 {
     for i in 0..statements.len() {
         declare(scope, &statements[i])?;
@@ -113,8 +119,10 @@ pub fn leave_part(scope: &mut Scope, part: Option<&Statement>)
 }
 
 /// Declares the parameters of a function.
+#[tactic(auto, using(crate::proofs::Growth::same_scope, crate::proofs::Growth::inner_scope))]
 pub fn declare_parameters(scope: &mut Scope, parameters: &[Parameter]) -> Result<(), AllocError>
-    ensures { OnOk result (scope.new ≡ record scope.old { variables = spec.parameter_variables parameters.now scope.old.variables }) }
+    ensures declared { OnOk result (scope.new ≡ record scope.old { variables = spec.parameter_variables parameters.now scope.old.variables }) }
+    ensures kept { OnErr result (KeepsOuter scope.old scope.new) }
 {
     for i in 0..parameters.len() {
         let parameter = parameters[i];
@@ -148,7 +156,8 @@ pub fn put_passed(
     level: u32,
     code: &mut Draft<'_>,
 ) -> Result<(), AllocError>
-    ensures { OnOk result (code.new ≡ spec.pass_code parameters.now arguments.now level ++ code.old) }
+    ensures code { OnOk result (code.new ≡ spec.pass_code parameters.now arguments.now level ++ code.old) }
+    ensures longer { OnErr result (GrowsBefore code.old code.new) }
 {
     for i in 0..parameters.len() {
         let place = parameters.len() - 1 - i;
@@ -160,7 +169,8 @@ pub fn put_passed(
 
 /// Puts before the code what gives the parameters of a kernel the arguments of the launch.
 pub fn put_arguments(parameters: &[Parameter], code: &mut Draft<'_>) -> Result<(), AllocError>
-    ensures { OnOk result (code.new ≡ spec.arguments_code parameters.now 0 ++ code.old) }
+    ensures code { OnOk result (code.new ≡ spec.arguments_code parameters.now 0 ++ code.old) }
+    ensures longer { OnErr result (GrowsBefore code.old code.new) }
 {
     for i in 0..parameters.len() {
         let place = parameters.len() - 1 - i;
@@ -174,7 +184,8 @@ pub fn put_arguments(parameters: &[Parameter], code: &mut Draft<'_>) -> Result<(
 
 /// Puts a declaration without an initialiser before the code.
 pub fn put_unset(scope: &Scope, kind: VariableType, code: &mut Draft<'_>) -> Result<(), AllocError>
-    ensures { OnOk result (code.new ≡ instruction.Unset (register_at (free_level scope.now) kind) ∷ code.old) }
+    ensures code { OnOk result (code.new ≡ instruction.Unset (register_at (free_level scope.now) kind) ∷ code.old) }
+    ensures longer { OnErr result (GrowsBefore code.old code.new) }
 {
     let level = scope.free_level()?;
     let to = register_at(level, kind)?;
@@ -189,7 +200,8 @@ pub fn put_array(
     size: Value,
     code: &mut Draft<'_>,
 ) -> Result<(), AllocError>
-    ensures { OnOk result (code.new ≡ spec.array_code is_local element (tree.array_length size) (length scope.now.variables) (free_level scope.now) ++ code.old) }
+    ensures code { OnOk result (code.new ≡ spec.array_code is_local element (tree.array_length size) (length scope.now.variables) (free_level scope.now) ++ code.old) }
+    ensures longer { OnErr result (GrowsBefore code.old code.new) }
 {
     let array = scope.free_level()?;
     if is_local {

@@ -5,3 +5,4 @@ pub mod Arguments
 pub mod Expressions
 pub mod Lengths
 pub mod Targets
+pub mod Growth

@@ -3,3 +3,4 @@ pub mod Expressions
 pub mod Agreement
 pub mod Index
 pub mod Places
+pub mod Growth

@@ -1,16 +1,17 @@
 //! The targets of assignments (C99 6.5.16).
-#![tactic(auto)]
+#![tactic(auto, using(crate::proofs::Growth::unchanged, crate::proofs::Growth::behind))]
 
-ghost use Rattle.std.specs.Prelude.{◌≡◌, ℕ, ◌+◌, ◌++◌, IfOk, OnOk};
+ghost use Rattle.std.specs.Prelude.{◌≡◌, ℕ, ◌+◌, ◌++◌, IfOk, OnOk, OnErr};
 ghost use Rattle.clmodel.specs.Tree.{Place, place};
 ghost use Rattle.lower_expr.specs.Scope.{register_of};
 ghost use Rattle.lower_expr.specs.Expressions.{kind_named, variable_code, place_code, place_register};
+ghost use Rattle.lower_expr.specs.Growth.{IsLonger};
 ghost use Rattle.lower_expr.specs.Places as spec;
 ghost use Rattle.lower_expr.specs.Places.{place_name, destination_of};
 
 use crate::emission::{TargetKind, emit_target};
+use crate::instructions::{add, private_load, private_store};
 use crate::scope::{Scope, level_above, register_at};
-use crate::tails::{add, private_load, private_store};
 use crate::types::{base_type, infix_type};
 use clmodel::tree::{InfixOperator, Target, VariableType};
 use clnum::BinaryOperator;
@@ -44,6 +45,7 @@ pub fn reach(
 ) -> Result<Destination, AllocError>
     ensures code { IfOk result (λ _. code.new.items ≡ code.old.items ++ place_code scope.now level (place target.now)) }
     ensures found { IfOk result (λ destination. destination ≡ destination_of scope.now (place target.now)) }
+    ensures longer { OnErr result (IsLonger code.old.items code.new.items) }
 {
     let kind = emit_target(scope, level, target, code)?;
     Ok(Destination {
@@ -71,8 +73,9 @@ pub fn fetch(
     to: u32,
     code: &mut Vec<Instruction>,
 ) -> Result<(), AllocError>
-    ensures { OnOk result ((place : Place) → destination ≡ destination_of scope.now place
+    ensures code { OnOk result ((place : Place) → destination ≡ destination_of scope.now place
         → code.new.items ≡ code.old.items ++ spec.fetch_code scope.now place (place_register scope.now level place) to) }
+    ensures longer { OnErr result (IsLonger code.old.items code.new.items) }
 {
     match destination.kind {
         TargetKind::Variable => fetch_variable(scope, destination.name, to, code),
@@ -94,7 +97,8 @@ fn fetch_variable(
     to: u32,
     code: &mut Vec<Instruction>,
 ) -> Result<(), AllocError>
-    ensures { OnOk result (code.new.items ≡ code.old.items ++ variable_code to (register_of scope.now name) name) }
+    ensures code { OnOk result (code.new.items ≡ code.old.items ++ variable_code to (register_of scope.now name) name) }
+    ensures longer { OnErr result (IsLonger code.old.items code.new.items) }
 {
     match scope.register(name)? {
         Some(from) => add(code, Instruction::Move { to, from, name }),
@@ -113,8 +117,9 @@ pub fn put(
     from: u32,
     code: &mut Vec<Instruction>,
 ) -> Result<(), AllocError>
-    ensures { OnOk result ((place : Place) → destination ≡ destination_of scope.now place
+    ensures code { OnOk result ((place : Place) → destination ≡ destination_of scope.now place
         → code.new.items ≡ code.old.items ++ spec.put_code scope.now place (place_register scope.now level place) from) }
+    ensures longer { OnErr result (IsLonger code.old.items code.new.items) }
 {
     match destination.kind {
         TargetKind::Variable => hold(scope, destination.name, from, code),
@@ -137,7 +142,8 @@ pub fn put(
 
 /// Adds the code that gives a variable a register's value.
 fn hold(scope: &Scope, name: u32, from: u32, code: &mut Vec<Instruction>) -> Result<(), AllocError>
-    ensures { OnOk result (code.new.items ≡ code.old.items ++ spec.hold_code (register_of scope.now name) from (kind_named scope.now name)) }
+    ensures code { OnOk result (code.new.items ≡ code.old.items ++ spec.hold_code (register_of scope.now name) from (kind_named scope.now name)) }
+    ensures longer { OnErr result (IsLonger code.old.items code.new.items) }
 {
     let kind = scope.kind(name);
     let to = match scope.register(name)? {
@@ -158,8 +164,9 @@ pub fn combine(
     right: u32,
     code: &mut Vec<Instruction>,
 ) -> Result<(), AllocError>
-    ensures { OnOk result ((place : Place) → destination ≡ destination_of scope.now place
+    ensures code { OnOk result ((place : Place) → destination ≡ destination_of scope.now place
         → code.new.items ≡ code.old.items ++ spec.combine_code scope.now place level operator kind old right) }
+    ensures longer { OnErr result (IsLonger code.old.items code.new.items) }
 {
     let first = destination_type(scope, destination);
     let above = level_above(level)?;

@@ -1,16 +1,17 @@
 //! The emission of the code of expressions.
-#![tactic(auto)]
+#![tactic(auto, using(crate::proofs::Growth::unchanged, crate::proofs::Growth::behind))]
 
-ghost use Rattle.std.specs.Prelude.{◌≡◌, ◌++◌, IfOk};
+ghost use Rattle.std.specs.Prelude.{◌≡◌, ◌++◌, IfOk, OnErr};
 ghost use Rattle.clmodel.specs.Next.{argument_type};
 ghost use Rattle.clmodel.specs.Tree.{term, terms, place};
 ghost use Rattle.lower_expr.specs.Expressions.{kind_of, kind_named, expr_code, address_code, terms_code, registers_for, place_code, place_kind};
+ghost use Rattle.lower_expr.specs.Growth.{IsLonger};
 
-use crate::jumps::{begin_choice, begin_infix, between_branches, end_choice, end_infix};
-use crate::scope::{Scope, level_above, level_at, register_at};
-use crate::tails::{
+use crate::instructions::{
     Arguments, array_element, call, cast, load, number, offset, point, unary, variable,
 };
+use crate::jumps::{begin_choice, begin_infix, between_branches, end_choice, end_infix};
+use crate::scope::{Scope, level_above, level_at, register_at};
 use crate::types::base_type;
 use clmodel::setup::built_in_named;
 use clmodel::tree::{Expression, Target, VariableType};
@@ -30,6 +31,7 @@ pub fn emit_expression(
 ) -> Result<VariableType, AllocError>
     ensures code { IfOk result (λ kind. code.new.items ≡ code.old.items ++ expr_code scope.now level (term expression.now)) }
     ensures kind { IfOk result (λ kind. kind ≡ kind_of scope.now (term expression.now)) }
+    ensures longer { OnErr result (IsLonger code.old.items code.new.items) }
 {
     match expression {
         Expression::Number { value, .. } => number(level, *value, code),
@@ -114,6 +116,7 @@ fn emit_address(
 ) -> Result<VariableType, AllocError>
     ensures code { IfOk result (λ pointer. code.new.items ≡ code.old.items ++ address_code scope.now level name (term index.now)) }
     ensures kind { IfOk result (λ pointer. pointer ≡ kind_named scope.now name) }
+    ensures longer { OnErr result (IsLonger code.old.items code.new.items) }
 {
     let pointer = variable(scope, level, name, code)?;
     let index = emit_expression(scope, level_above(level)?, index, code)?;
@@ -133,6 +136,7 @@ pub fn emit_arguments(
     ensures code { IfOk result (λ found. code.new.items ≡ code.old.items ++ terms_code scope.now level (terms arguments.now)) }
     ensures registers { IfOk result (λ found. found.registers.items ≡ registers_for scope.now level (terms arguments.now)) }
     ensures kind { IfOk result (λ found. found.kind ≡ argument_type scope.now.variables (terms arguments.now)) }
+    ensures longer { OnErr result (IsLonger code.old.items code.new.items) }
 {
     let mut registers = SmallVec::new(scope.allocator());
     let mut kind = IntType::Int;
@@ -166,6 +170,7 @@ pub fn emit_target(
 ) -> Result<TargetKind, AllocError>
     ensures code { IfOk result (λ found. code.new.items ≡ code.old.items ++ place_code scope.now level (place target.now)) }
     ensures kind { IfOk result (λ found. found ≡ place_kind scope.now (place target.now)) }
+    ensures longer { OnErr result (IsLonger code.old.items code.new.items) }
 {
     match target {
         Target::Variable { .. } => Ok(TargetKind::Variable),

@@ -1,7 +1,7 @@
 //! The jumps of the operators that evaluate only what they choose (OpenCL 1.2, sections 6.3.g and 6.3.i).
-#![tactic(auto)]
+#![tactic(auto, using(crate::proofs::Growth::unchanged, crate::proofs::Growth::behind))]
 
-ghost use Rattle.std.specs.Prelude.{◌≡◌, ℕ, ◌+◌, ◌<◌, ◌≤◌, [], ◌∷◌, ◌++◌, List, length, IfOk, OnOk, slice_set};
+ghost use Rattle.std.specs.Prelude.{◌≡◌, ℕ, ◌+◌, ◌<◌, ◌≤◌, [], ◌∷◌, ◌++◌, List, length, IfOk, OnOk, OnErr, slice_set};
 ghost use Rattle.clnum.specs.Conversions.{common};
 ghost use Rattle.clnum.specs.declared.int_type.IntType.TheVariants as integer;
 ghost use Rattle.clmodel.specs.Next.{infix_type, base_type};
@@ -10,9 +10,10 @@ ghost use Rattle.regcode.specs.declared.instruction.Instruction.{Instruction};
 ghost use Rattle.regcode.specs.declared.instruction.Instruction.TheVariants as instruction;
 ghost use Rattle.lower_expr.specs.Scope.{register_at};
 ghost use Rattle.lower_expr.specs.Expressions.{truth_code, infix_begun, infix_code, branch_code, choice_code};
+ghost use Rattle.lower_expr.specs.Growth.{IsLonger};
 
+use crate::instructions::add;
 use crate::scope::{level_above, register_at, word};
-use crate::tails::add;
 use crate::types::{base_type, infix_type};
 use clmodel::tree::{InfixOperator, VariableType};
 use clnum::{BinaryOperator, IntType, Value};
@@ -28,6 +29,7 @@ pub fn begin_infix(
 ) -> Result<usize, AllocError>
     ensures code { OnOk result (code.new.items ≡ code.old.items ++ infix_begun operator (register_at level first)) }
     ensures place { IfOk result (λ place. place ≡ length code.new.items) }
+    ensures longer { OnErr result (IsLonger code.old.items code.new.items) }
 {
     let test = register_at(level, first)?;
     match operator {
@@ -43,7 +45,8 @@ pub fn begin_infix(
 
 /// Adds the int 1, or the int 0 where it is jumped to the last instruction.
 fn truth(to: u32, code: &mut Vec<Instruction>) -> Result<(), AllocError>
-    ensures { OnOk result (code.new.items ≡ code.old.items ++ truth_code to) }
+    ensures code { OnOk result (code.new.items ≡ code.old.items ++ truth_code to) }
+    ensures longer { OnErr result (IsLonger code.old.items code.new.items) }
 {
     add(
         code,
@@ -70,7 +73,8 @@ fn arithmetic(
     right: u32,
     code: &mut Vec<Instruction>,
 ) -> Result<(), AllocError>
-    ensures { OnOk result (code.new.items ≡ code.old.items ++ instruction.Binary to operator left right ∷ []) }
+    ensures code { OnOk result (code.new.items ≡ code.old.items ++ instruction.Binary to operator left right ∷ []) }
+    ensures longer { OnErr result (IsLonger code.old.items code.new.items) }
 {
     add(
         code,
@@ -93,8 +97,9 @@ fn logical_and(
 ) -> Result<(), AllocError>
     requires begun { 0 < place }
     requires inside { place ≤ length code.old.items }
-    ensures { OnOk result ((before right : List Instruction) → code.old.items ≡ before ++ (instruction.JumpIfZero first 0 ∷ right) → place ≡ length before + 1
+    ensures code { OnOk result ((before right : List Instruction) → code.old.items ≡ before ++ (instruction.JumpIfZero first 0 ∷ right) → place ≡ length before + 1
         → code.new.items ≡ before ++ (instruction.JumpIfZero first (length right + 3) ∷ (right ++ instruction.JumpIfZero second 2 ∷ truth_code to))) }
+    ensures longer { OnErr result (IsLonger code.old.items code.new.items) }
 {
     let by = word(code.len() - place + 3)?;
     add(
@@ -118,8 +123,9 @@ fn logical_or(
 ) -> Result<(), AllocError>
     requires begun { 0 < place }
     requires inside { place ≤ length code.old.items }
-    ensures { OnOk result ((before right : List Instruction) → code.old.items ≡ before ++ (instruction.Jump 0 ∷ right) → place ≡ length before + 1
+    ensures code { OnOk result ((before right : List Instruction) → code.old.items ≡ before ++ (instruction.Jump 0 ∷ right) → place ≡ length before + 1
         → code.new.items ≡ before ++ (instruction.Jump (length right + 1) ∷ (right ++ instruction.JumpIfZero second 2 ∷ truth_code to))) }
+    ensures longer { OnErr result (IsLonger code.old.items code.new.items) }
 {
     let by = word(code.len() - place + 1)?;
     add(
@@ -149,6 +155,7 @@ pub fn end_infix(
         → place ≡ length before + length (infix_begun operator 0)
         → code.new.items ≡ before ++ infix_code operator (register_at level (infix_type operator first second)) (register_at level first) (register_at (level + 1) second) right) }
     ensures kind { IfOk result (λ kind. kind ≡ infix_type operator first second) }
+    ensures longer { OnErr result (IsLonger code.old.items code.new.items) }
 {
     let kind = infix_type(operator, first, second);
     let to = register_at(level, kind)?;
@@ -170,6 +177,7 @@ pub fn begin_choice(
 ) -> Result<usize, AllocError>
     ensures code { OnOk result (code.new.items ≡ code.old.items ++ instruction.JumpIfZero (register_at level condition) 0 ∷ []) }
     ensures place { IfOk result (λ place. place ≡ length code.new.items) }
+    ensures longer { OnErr result (IsLonger code.old.items code.new.items) }
 {
     let test = register_at(level, condition)?;
     add(code, Instruction::JumpIfZero { test, by: 0 })?;
@@ -180,6 +188,7 @@ pub fn begin_choice(
 pub fn between_branches(code: &mut Vec<Instruction>) -> Result<usize, AllocError>
     ensures code { OnOk result (code.new.items ≡ code.old.items ++ instruction.Common 0 0 integer.Int ∷ instruction.Jump 0 ∷ []) }
     ensures place { IfOk result (λ place. place ≡ length code.new.items) }
+    ensures longer { OnErr result (IsLonger code.old.items code.new.items) }
 {
     add(
         code,
@@ -213,6 +222,7 @@ pub fn end_choice(
         (branch_code (register_at level (kinds.Integer (common (base_type chosen) (base_type otherwise)))) one (register_at level chosen) otherwise)
         (branch_code (register_at level (kinds.Integer (common (base_type chosen) (base_type otherwise)))) other (register_at level otherwise) chosen)) }
     ensures kind { IfOk result (λ kind. kind ≡ kinds.Integer (common (base_type chosen) (base_type otherwise))) }
+    ensures longer { OnErr result (IsLonger code.old.items code.new.items) }
 {
     let kind = VariableType::Integer(base_type(chosen).common(base_type(otherwise)));
     let to = register_at(level, kind)?;

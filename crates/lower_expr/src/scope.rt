@@ -41,7 +41,7 @@ fn kind_number(kind: VariableType) -> u32
     }
 }
 
-/// The register of a type at a level. Err where there are too few registers.
+/// The register of a type at a level. Err where the level is 2^28 or above, which has no registers.
 pub fn register_at(level: u32, kind: VariableType) -> Result<u32, AllocError>
     ensures { IfOk result (λ register. register ≡ spec.register_at level kind) }
 {
@@ -49,14 +49,14 @@ pub fn register_at(level: u32, kind: VariableType) -> Result<u32, AllocError>
     first.checked_add(kind_number(kind)).ok_or(AllocError)
 }
 
-/// The level above another. Err where there is none.
+/// The level above another. Err where it is 2^32.
 pub fn level_above(level: u32) -> Result<u32, AllocError>
     ensures { IfOk result (λ above. above ≡ level + 1) }
 {
     level.checked_add(1).ok_or(AllocError)
 }
 
-/// A count as a number of 32 bits. Err where it is too large.
+/// A count as a number of 32 bits. Err where it is 2^32 or above.
 pub fn word(count: usize) -> Result<u32, AllocError>
     ensures { IfOk result (λ word. word ≡ count) }
 {
@@ -66,7 +66,7 @@ pub fn word(count: usize) -> Result<u32, AllocError>
     Ok(count as u32)
 }
 
-/// The level `count` above another. Err where there is none.
+/// The level `count` above another. Err where it is 2^32 or above.
 pub fn level_at(base: u32, count: usize) -> Result<u32, AllocError>
     ensures { IfOk result (λ level. level ≡ base + count) }
 {
@@ -122,6 +122,13 @@ impl Scope {
             entries: Vec::new(alloc),
             latest: IndexMap::new(alloc),
         }
+    }
+
+    /// The level of the outermost variable.
+    pub fn base(&self) -> u32
+        ensures { result ≡ self.now.base }
+    {
+        self.base
     }
 
     /// Where its memory comes from.
@@ -240,7 +247,7 @@ impl Scope {
     }
 
     /// The level of the innermost variable of a name, which is the number of its private array; the lowest where there is none. Err
-    /// where there are too few levels.
+    /// where the level is 2^32 or above.
     pub(crate) fn level(&self, name: u32) -> Result<u32, AllocError>
         ensures { IfOk result (λ level. level ≡ spec.level_of self.now name) }
     {
@@ -250,7 +257,7 @@ impl Scope {
         }
     }
 
-    /// The register of the innermost variable of a name. Err where there are too few registers.
+    /// The register of the innermost variable of a name. Err where its level is 2^28 or above.
     pub fn register(&self, name: u32) -> Result<Option<u32>, AllocError>
         ensures { IfOk result (λ register. register ≡ spec.register_of self.now name) }
     {
@@ -262,7 +269,7 @@ impl Scope {
         Ok(Some(register))
     }
 
-    /// The first level that is free. Err where there is none.
+    /// The first level that is free. Err where it is 2^32 or above.
     pub fn free_level(&self) -> Result<u32, AllocError>
         ensures { IfOk result (λ level. level ≡ spec.free_level self.now) }
     {

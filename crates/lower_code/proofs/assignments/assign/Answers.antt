@@ -18,4 +18,4 @@ returns c calls inside kind depth site =
     assign_laid calls results inside kind scope to (helper_call value) value depth site level c.in_ok-above.above c.in_ok-from.from right.kind c.reach.new.code.items _
     c.in_ok-level.ensures c.in_ok-above.ensures (c.in_ok-destination.ensures.code ∙ ap (λ xs. xs ++ place_code scope level to) c.new-front.ensures.items)
     c.in_ok-from.ensures (c.in_ok-right.ensures.kind calls inside kind)
-    (split_tail calls right.split c.put.new.code _ _ depth site (c.in_ok-put.ensures to c.in_ok-destination.ensures.found) (c.in_ok-right.ensures.code calls inside kind depth site))
+    (split_tail calls right.split c.put.new.code _ _ depth site (c.in_ok-put.ensures.code to c.in_ok-destination.ensures.found) (c.in_ok-right.ensures.code calls inside kind depth site))

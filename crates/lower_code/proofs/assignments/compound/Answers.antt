@@ -21,6 +21,6 @@ returns c calls inside kind depth site =
     compound_laid calls results inside kind scope to (helper_call value) value depth site c.args.operator level c.in_ok-above.above c.in_ok-top.top c.in_ok-old.old c.in_ok-operand.operand
     right.kind c.destination_type.result c.fetch.new.code.items _
     c.in_ok-level.ensures c.in_ok-above.ensures c.in_ok-top.ensures c.in_ok-old.ensures (c.destination_type.ensures to found)
-    (c.in_ok-fetch.ensures to found ∙ ap (λ xs. xs ++ fetch_code scope to (place_register scope level to) c.in_ok-old.old) reached)
+    (c.in_ok-fetch.ensures.code to found ∙ ap (λ xs. xs ++ fetch_code scope to (place_register scope level to) c.in_ok-old.old) reached)
     c.in_ok-operand.ensures (c.in_ok-right.ensures.kind calls inside kind)
-    (split_tail calls right.split c.combine.new.code _ _ depth site (c.in_ok-combine.ensures to found) (c.in_ok-right.ensures.code calls inside kind depth site))
+    (split_tail calls right.split c.combine.new.code _ _ depth site (c.in_ok-combine.ensures.code to found) (c.in_ok-right.ensures.code calls inside kind depth site))

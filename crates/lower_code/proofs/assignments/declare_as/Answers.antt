@@ -18,7 +18,7 @@ returns-clause-code c calls inside result depth site exits =
     let inner = with_variable scope c.args.name c.args.kind in
     let declared : c.declare.new.self ≡ inner = c.in_ok-declare.ensures.declared in
     declare_laid calls results inside result scope inner (helper_call value) value depth site c.args.kind right.kind c.in_ok-level.level c.in_ok-above.above c.in_ok-to.to c.in_ok-from.from c.add.new.code.items _
-    c.in_ok-level.ensures c.in_ok-above.ensures c.in_ok-to.ensures (c.in_ok-add.ensures ∙ ap (λ xs. xs ++ instruction.Unset c.in_ok-to.to ∷ []) c.new-front.ensures.items)
+    c.in_ok-level.ensures c.in_ok-above.ensures c.in_ok-to.ensures (c.in_ok-add.ensures.code ∙ ap (λ xs. xs ++ instruction.Unset c.in_ok-to.to ∷ []) c.new-front.ensures.items)
     c.in_ok-from.ensures (c.in_ok-right.ensures.kind calls inside result ∙ ap (λ (s : Scope). right_type calls results inside result s (helper_call value) value) declared)
-    (split_tail calls right.split c.add-2.new.code _ _ depth site c.in_ok-add-2.ensures
+    (split_tail calls right.split c.add-2.new.code _ _ depth site c.in_ok-add-2.ensures.code
     (c.in_ok-right.ensures.code calls inside result depth site ∙ ap (λ (s : Scope). c.add.new.code.items ++ right_code calls results inside result s c.in_ok-above.above (helper_call value) value depth site) declared))

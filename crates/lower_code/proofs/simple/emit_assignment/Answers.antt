@@ -10,8 +10,8 @@ use Rattle.lower_code.proofs.Calling.{assign_is, step_is, call_is}
 use Rattle.lower_code.proofs.Rows.{placed}
 use Rattle.lower_code.proofs.simple.emit_assignment.Goals as goal
 
-pub returns-in_ok-split-in-None : goal.returns-in_ok-split-in-None
-returns-in_ok-split-in-None c =
+pub returns-in_ok-split-in-None-clause-code : goal.returns-in_ok-split-in-None-clause-code
+returns-in_ok-split-in-None-clause-code c =
     let s = c.args.setting.now in
     let p = c.args.position in
     let fs = functions_of s.helpers.functions.now in
@@ -19,10 +19,10 @@ returns-in_ok-split-in-None c =
     let same : split_code (call_code fs) split p.depth p.site ≡ statement_code s c.args.scope.now (stmt c.args.statement.now) p =
     c.in_ok-split-in-None.ensures (call_code fs) (inside s.helpers.functions.now) s.result p.depth p.site
     ∙ ap (λ x. statement_code s c.args.scope.now x p) (assign_is c.args.statement.now c.in-Assign.at c.in-Assign.target c.in-Assign.operator c.in-Assign.value None c.deref.result.now c.deref-in-None.result.now c.in-Assign.is c.in-None.is c.deref.ensures c.deref-in-None.ensures) in
-    placed c.emit_split.result c.emit_split.new.code c.args.code.now (split_code (call_code fs) split p.depth p.site) (statement_code s c.args.scope.now (stmt c.args.statement.now) p) same c.emit_split.ensures
+    placed c.emit_split.result c.emit_split.new.code c.args.code.now (split_code (call_code fs) split p.depth p.site) (statement_code s c.args.scope.now (stmt c.args.statement.now) p) same c.emit_split.ensures.code
 
-pub returns-in_ok-split-in-Some : goal.returns-in_ok-split-in-Some
-returns-in_ok-split-in-Some c =
+pub returns-in_ok-split-in-Some-clause-code : goal.returns-in_ok-split-in-Some-clause-code
+returns-in_ok-split-in-Some-clause-code c =
     let s = c.args.setting.now in
     let p = c.args.position in
     let fs = functions_of s.helpers.functions.now in
@@ -30,10 +30,10 @@ returns-in_ok-split-in-Some c =
     let same : split_code (call_code fs) split p.depth p.site ≡ statement_code s c.args.scope.now (stmt c.args.statement.now) p =
     c.in_ok-split-in-Some.ensures (call_code fs) (inside s.helpers.functions.now) s.result p.depth p.site
     ∙ ap (λ x. statement_code s c.args.scope.now x p) (assign_is c.args.statement.now c.in-Assign.at c.in-Assign.target c.in-Assign.operator c.in-Assign.value (Some c.in-Some.operator) c.deref-in-Some.result.now c.deref-in-Some-2.result.now c.in-Assign.is c.in-Some.is c.deref-in-Some.ensures c.deref-in-Some-2.ensures) in
-    placed c.emit_split-in-Some.result c.emit_split-in-Some.new.code c.args.code.now (split_code (call_code fs) split p.depth p.site) (statement_code s c.args.scope.now (stmt c.args.statement.now) p) same c.emit_split-in-Some.ensures
+    placed c.emit_split-in-Some.result c.emit_split-in-Some.new.code c.args.code.now (split_code (call_code fs) split p.depth p.site) (statement_code s c.args.scope.now (stmt c.args.statement.now) p) same c.emit_split-in-Some.ensures.code
 
-pub returns-in_ok-split-in-Call : goal.returns-in_ok-split-in-Call
-returns-in_ok-split-in-Call c =
+pub returns-in_ok-split-in-Call-clause-code : goal.returns-in_ok-split-in-Call-clause-code
+returns-in_ok-split-in-Call-clause-code c =
     let s = c.args.setting.now in
     let p = c.args.position in
     let fs = functions_of s.helpers.functions.now in
@@ -41,10 +41,10 @@ returns-in_ok-split-in-Call c =
     let same : split_code (call_code fs) split p.depth p.site ≡ statement_code s c.args.scope.now (stmt c.args.statement.now) p =
     c.in_ok-split-in-Call.ensures (call_code fs) (result_in fs) (inside s.helpers.functions.now) s.result
     ∙ ap (λ x. statement_code s c.args.scope.now x p) (sym (call_is c.args.statement.now c.in-Call.at c.in-Call.name c.in-Call.arguments c.deref-in-Call.result.now c.in-Call.is c.deref-in-Call.ensures.value)) in
-    placed c.emit_split-in-Call.result c.emit_split-in-Call.new.code c.args.code.now (split_code (call_code fs) split p.depth p.site) (statement_code s c.args.scope.now (stmt c.args.statement.now) p) same c.emit_split-in-Call.ensures
+    placed c.emit_split-in-Call.result c.emit_split-in-Call.new.code c.args.code.now (split_code (call_code fs) split p.depth p.site) (statement_code s c.args.scope.now (stmt c.args.statement.now) p) same c.emit_split-in-Call.ensures.code
 
-pub returns-in-Step : goal.returns-in-Step
-returns-in-Step c =
+pub returns-in-Step-clause-code : goal.returns-in-Step-clause-code
+returns-in-Step-clause-code c =
     let s = c.args.setting.now in
     let p = c.args.position in
     let fs = functions_of s.helpers.functions.now in
@@ -53,4 +53,4 @@ returns-in-Step c =
     let same : stepped ≡ statement_code s c.args.scope.now (stmt c.args.statement.now) p =
     ap (λ x. statement_code s c.args.scope.now x p) (step_is c.args.statement.now c.in-Step.at c.in-Step.target c.in-Step.is_increment c.deref-in-Step.result.now c.in-Step.is c.deref-in-Step.ensures) in
     placed c.put_step.result c.put_step.new.code c.args.code.now stepped (statement_code s c.args.scope.now (stmt c.args.statement.now) p) same
-    (on_ok_weaker {Q = c.put_step.new.code ≡ stepped ++ c.args.code.now} c.put_step.result (λ h. h (call_code fs) (result_in fs) (inside s.helpers.functions.now) s.result) c.put_step.ensures)
+    (on_ok_weaker {Q = c.put_step.new.code ≡ stepped ++ c.args.code.now} c.put_step.result (λ h. h (call_code fs) (result_in fs) (inside s.helpers.functions.now) s.result) c.put_step.ensures.code)

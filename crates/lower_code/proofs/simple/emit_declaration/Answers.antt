@@ -15,4 +15,4 @@ returns-in_ok-split-in-Some-clause-code c =
     let same : split_code (call_code fs) split p.depth p.site ≡ statement_code s c.args.scope.now (stmt c.args.statement.now) p =
     c.in_ok-split-in-Some.ensures.code (call_code fs) (inside s.helpers.functions.now) s.result p.depth p.site (exits_of p.exits)
     ∙ ap (λ x. statement_code s c.args.scope.now x p) (declare_is c.args.statement.now c.in-Declare.at c.in-Declare.kind c.in-Declare.name_at c.in-Declare.name c.in-Declare.value c.in-Some.value c.deref.result.now c.in-Declare.is c.in-Some.is c.deref.ensures) in
-    placed c.emit_split.result c.emit_split.new.code c.args.code.now (split_code (call_code fs) split p.depth p.site) (statement_code s c.args.scope.now (stmt c.args.statement.now) p) same c.emit_split.ensures
+    placed c.emit_split.result c.emit_split.new.code c.args.code.now (split_code (call_code fs) split p.depth p.site) (statement_code s c.args.scope.now (stmt c.args.statement.now) p) same c.emit_split.ensures.code

@@ -7,6 +7,6 @@ use Rattle.lower_code.proofs.variables.declare_all.Goals as goal
 
 pub loop-i-preserved : goal.loop-i-preserved
 loop-i-preserved c =
-    c.in_ok-declare.ensures
+    c.in_ok-declare.ensures.declared
     ∙ ap (λ (s : Scope). scope_after s (stmt c.index-statements-i.result)) c.loop-i.invariant
     ∙ ap (λ ss. scope_after_all c.args.scope.now ss) (sym (row_more c.args.statements.now c.loop-i.i c.index-statements-i.result c.loop-i-test.true c.index-statements-i.is))

@@ -13,12 +13,12 @@ pub loop-i-preserved : goal.loop-i-preserved
 loop-i-preserved c =
     let ps = c.args.parameters.now in
     let n = length ps - 1 - c.loop-i.i in
-    c.in_ok-put.ensures
+    c.in_ok-put.ensures.code
     ∙ arguments_more ps _ c.in_ok-to.to c.in_ok-number.number n (length ps - c.loop-i.i) (length ps - (c.loop-i.i + 1)) c.loop-i.code c.args.code.now
     (omega (arith, c.loop-i-test.true)) (omega (arith, c.loop-i-test.true)) (omega arith) (omega (arith, c.in_ok-number.ensures)) c.in_ok-to.ensures c.loop-i.invariant
 
-pub returns : goal.returns
-returns c =
+pub returns-clause-code : goal.returns-clause-code
+returns-clause-code c =
     let ps = c.args.parameters.now in
     let none : length ps - c.loop-i.i ≡ 0 = omega (arith, c.loop-i-test.false) in
     c.loop-i.invariant ∙ ap (λ n. arguments_code (drop n ps) n ++ c.args.code.now) none

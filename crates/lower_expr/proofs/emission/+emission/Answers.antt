@@ -1,4 +1,4 @@
-use Rattle.std.proofs.Common.{◌≡◌, ℕ, ◌+◌, ◌++◌, ◌∷◌, [], List, take, sym, ap, ap₂, ◌∙◌, arith, Option}
+use Rattle.std.proofs.Common.{◌≡◌, ℕ, ◌+◌, ◌++◌, ◌∷◌, [], List, take, refl, sym, ap, ap₂, ◌∙◌, arith, Option}
 use Rattle.std.proofs.lemmas.List.{append_assoc}
 use Rattle.clmodel.specs.BuiltIns.{built_in}
 use Rattle.clmodel.specs.Next.{argument_type, call_type, base_type}
@@ -12,6 +12,7 @@ use Rattle.regcode.specs.declared.instruction.Instruction.{Instruction}
 use Rattle.lower_expr.specs.Scope.{register_at}
 use Rattle.lower_expr.specs.Expressions.{kind_of, expr_code, terms_code, registers_for, call_code, count}
 use Rattle.lower_expr.proofs.Arguments.{calls, terms_more, terms_count, binary_laid, call_laid}
+use Rattle.lower_expr.proofs.Growth.{unchanged, behind, on_err}
 use Rattle.lower_expr.proofs.emission.+emission.Goals as goal
 
 pub emit_arguments-loop-i-preserved : goal.emit_arguments-loop-i-preserved
@@ -83,3 +84,6 @@ emit_expression-returns-in_ok-kind-in-Binary-clause-code t c =
     (second.ensures.kind ∙ ap (λ (x : Expression). kind_of scope (term x)) c.deref-in-Binary-2.ensures)
     c.in_ok-kind-in-Binary.ensures.code
     ∙ sym (ap (λ (x : Expression). old ++ expr_code scope level (term x)) node.is)
+
+pub emit_arguments-returns-in_err-above-clause-longer : goal.emit_arguments-returns-in_err-above-clause-longer
+emit_arguments-returns-in_err-above-clause-longer t c = on_err c.from_residual.result (behind _ _ _ _ c.loop-i.invariant.0 (unchanged _ _ refl))

@@ -22,10 +22,10 @@ returns-clause-code c before one other e p q =
     let last_is : instruction.Common c.in_ok-to.to c.in_ok-from.from c.base_type-3.result ≡ last = rw (to_is, c.in_ok-from.ensures, c.base_type-3.ensures) refl in
     let size : length a.code.now.items ≡ length before + length one + length other + 3 =
     omega (arith, ap length e ∙ length-append before _, length-append one (instruction.Common 0 0 integer.Int ∷ instruction.Jump 0 ∷ other)) in
-    let added : length c.add.new.code.items ≡ length a.code.now.items + 1 = omega (arith, ap length c.in_ok-add.ensures ∙ length-append a.code.now.items _) in
+    let added : length c.add.new.code.items ≡ length a.code.now.items + 1 = omega (arith, ap length c.in_ok-add.ensures.code ∙ length-append a.code.now.items _) in
     let past : c.in_ok-past.past ≡ length (other ++ last ∷ []) = omega (arith, c.in_ok-past.ensures, c.len.ensures, c.add.new.code.ok.0, size, added, p, q, length-append other (last ∷ [])) in
     let by : c.in_ok-by.by ≡ length (one ++ first ∷ []) + 1 = omega (arith, c.in_ok-by.ensures, q, length-append one (first ∷ [])) in
     let jump_is : instruction.Jump c.in_ok-past.past ≡ instruction.Jump (length (other ++ last ∷ [])) = ap (λ n. instruction.Jump n) past in
     let test_is : instruction.JumpIfZero c.in_ok-test.test c.in_ok-by.by ≡ instruction.JumpIfZero (register_at a.level a.condition) (length (one ++ first ∷ []) + 1) = rw (c.in_ok-test.ensures, by) refl in
-    rw (c.in_ok-add.ensures, first_is, last_is, jump_is, test_is)
+    rw (c.in_ok-add.ensures.code, first_is, last_is, jump_is, test_is)
     (choice_laid a.code.now.items before one other test0 _ (instruction.Common 0 0 integer.Int) first (instruction.Jump 0) _ last a.first a.second e p q)

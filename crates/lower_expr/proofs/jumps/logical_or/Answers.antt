@@ -5,12 +5,12 @@ use Rattle.lower_expr.specs.Expressions.{truth_code}
 use Rattle.lower_expr.proofs.Patches.{patched, twice}
 use Rattle.lower_expr.proofs.jumps.logical_or.Goals as goal
 
-pub returns : goal.returns
-returns c before right e p =
+pub returns-clause-code : goal.returns-clause-code
+returns-clause-code c before right e p =
     let a = c.args in
     let tail = instruction.JumpIfZero a.second 2 ∷ truth_code a.to in
     let count = ap length e ∙ length-append before (instruction.Jump 0 ∷ right) in
     let by : c.in_ok-by.by ≡ length right + 1 = omega (arith, c.in_ok-by.ensures, c.len.ensures, a.code.now.ok.0, count, p) in
-    ap (λ xs. slice_set xs (a.place - 1) (instruction.Jump c.in_ok-by.by)) (twice _ _ _ _ _ c.in_ok-add.ensures c.in_ok-truth.ensures)
+    ap (λ xs. slice_set xs (a.place - 1) (instruction.Jump c.in_ok-by.by)) (twice _ _ _ _ _ c.in_ok-add.ensures.code c.in_ok-truth.ensures.code)
     ∙ patched a.code.now.items before right tail (instruction.Jump 0) (instruction.Jump c.in_ok-by.by) a.place e p
     ∙ ap (λ n. before ++ instruction.Jump n ∷ (right ++ tail)) by

@@ -1,4 +1,4 @@
-use Rattle.std.proofs.Common.{None, sym, ap, ◌∙◌, arith, nat_lt, replicate}
+use Rattle.std.proofs.Common.{sym, ap, ◌∙◌, arith, nat_lt}
 use Rattle.clmodel.specs.Next.{has_elements, is_private_array}
 use Rattle.lower_expr.specs.Scope.{Scope, last_place}
 use Rattle.lower_expr.specs.declared.scope.Entry.{Entry}

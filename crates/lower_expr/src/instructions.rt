@@ -1,7 +1,7 @@
 //! The instructions of an expression behind those of its operands (OpenCL 1.2, section 6.3).
-#![tactic(auto)]
+#![tactic(auto, using(crate::proofs::Growth::unchanged, crate::proofs::Growth::behind))]
 
-ghost use Rattle.std.specs.Prelude.{◌≡◌, ℕ, ◌+◌, ◌<◌, ◌≤◌, [], ◌∷◌, ◌++◌, List, Some, length, IfOk, OnOk};
+ghost use Rattle.std.specs.Prelude.{◌≡◌, ℕ, ◌+◌, ◌<◌, ◌≤◌, [], ◌∷◌, ◌++◌, List, Some, length, IfOk, OnOk, OnErr};
 ghost use Rattle.clnum.specs.Operations as operations;
 ghost use Rattle.clmodel.specs.Next as next;
 ghost use Rattle.clmodel.specs.declared.setup.BuiltIn.TheVariants as built_in_function;
@@ -10,6 +10,7 @@ ghost use Rattle.regcode.specs.declared.instruction.Instruction.{Instruction};
 ghost use Rattle.regcode.specs.declared.instruction.Instruction.TheVariants as instruction;
 ghost use Rattle.lower_expr.specs.Scope.{register_at, register_of};
 ghost use Rattle.lower_expr.specs.Expressions as expressions;
+ghost use Rattle.lower_expr.specs.Growth.{IsLonger};
 
 use crate::scope::{Scope, level_above, register_at, word};
 use crate::types::{base_type, call_type, infix_type};
@@ -22,7 +23,8 @@ use std::alloc::AllocError;
 
 /// Adds an instruction.
 pub fn add(code: &mut Vec<Instruction>, instruction: Instruction) -> Result<(), AllocError>
-    ensures { OnOk result (code.new.items ≡ code.old.items ++ instruction ∷ []) }
+    ensures code { OnOk result (code.new.items ≡ code.old.items ++ instruction ∷ []) }
+    ensures longer { OnErr result (IsLonger code.old.items code.new.items) }
 {
     code.push(instruction)?;
     Ok(())
@@ -36,6 +38,7 @@ pub(crate) fn number(
 ) -> Result<VariableType, AllocError>
     ensures code { IfOk result (λ kind. code.new.items ≡ code.old.items ++ instruction.Constant (register_at level (kinds.Integer value.kind)) value ∷ []) }
     ensures kind { IfOk result (λ kind. kind ≡ kinds.Integer value.kind) }
+    ensures longer { OnErr result (IsLonger code.old.items code.new.items) }
 {
     let kind = VariableType::Integer(value.kind());
     let to = register_at(level, kind)?;
@@ -53,6 +56,7 @@ pub(crate) fn variable(
     ensures code { IfOk result (λ kind. code.new.items
         ≡ code.old.items ++ expressions.variable_code (register_at level (expressions.kind_named scope.now name)) (register_of scope.now name) name) }
     ensures kind { IfOk result (λ kind. kind ≡ expressions.kind_named scope.now name) }
+    ensures longer { OnErr result (IsLonger code.old.items code.new.items) }
 {
     let kind = scope.kind(name);
     let to = register_at(level, kind)?;
@@ -73,8 +77,9 @@ pub(crate) fn offset(
     index: VariableType,
     code: &mut Vec<Instruction>,
 ) -> Result<(), AllocError>
-    ensures { OnOk result (code.new.items
+    ensures code { OnOk result (code.new.items
         ≡ code.old.items ++ instruction.Offset (register_at level pointer) (register_at level pointer) (register_at (level + 1) index) ∷ []) }
+    ensures longer { OnErr result (IsLonger code.old.items code.new.items) }
 {
     let pointer = register_at(level, pointer)?;
     let index = register_at(level_above(level)?, index)?;
@@ -97,6 +102,7 @@ pub(crate) fn load(
     ensures code { IfOk result (λ kind. code.new.items
         ≡ code.old.items ++ instruction.Load (register_at level (kinds.Integer (next.base_type pointer))) (register_at level pointer) ∷ []) }
     ensures kind { IfOk result (λ kind. kind ≡ kinds.Integer (next.base_type pointer)) }
+    ensures longer { OnErr result (IsLonger code.old.items code.new.items) }
 {
     let kind = VariableType::Integer(base_type(pointer));
     let to = register_at(level, kind)?;
@@ -113,7 +119,8 @@ pub fn private_load(
     index: u32,
     code: &mut Vec<Instruction>,
 ) -> Result<(), AllocError>
-    ensures { OnOk result (code.new.items ≡ code.old.items ++ expressions.private_load scope.now to name index ∷ []) }
+    ensures code { OnOk result (code.new.items ≡ code.old.items ++ expressions.private_load scope.now to name index ∷ []) }
+    ensures longer { OnErr result (IsLonger code.old.items code.new.items) }
 {
     let array = scope.level(name)?;
     let element = base_type(scope.kind(name));
@@ -140,6 +147,7 @@ pub(crate) fn array_element(
     ensures code { IfOk result (λ kind. code.new.items ≡ code.old.items
         ++ expressions.private_load scope.now (register_at level (kinds.Integer (expressions.type_of_elements scope.now name))) name (register_at level index) ∷ []) }
     ensures kind { IfOk result (λ kind. kind ≡ kinds.Integer (expressions.type_of_elements scope.now name)) }
+    ensures longer { OnErr result (IsLonger code.old.items code.new.items) }
 {
     let kind = VariableType::Integer(base_type(scope.kind(name)));
     let to = register_at(level, kind)?;
@@ -156,7 +164,8 @@ pub fn private_store(
     value: u32,
     code: &mut Vec<Instruction>,
 ) -> Result<(), AllocError>
-    ensures { OnOk result (code.new.items ≡ code.old.items ++ expressions.private_store scope.now name index value ∷ []) }
+    ensures code { OnOk result (code.new.items ≡ code.old.items ++ expressions.private_store scope.now name index value ∷ []) }
+    ensures longer { OnErr result (IsLonger code.old.items code.new.items) }
 {
     let array = scope.level(name)?;
     let kind = scope.kind(name);
@@ -179,7 +188,8 @@ pub(crate) fn point(
     pointer: VariableType,
     code: &mut Vec<Instruction>,
 ) -> Result<(), AllocError>
-    ensures { OnOk result (code.new.items ≡ code.old.items ++ instruction.Point (register_at level pointer) (register_at level pointer) ∷ []) }
+    ensures code { OnOk result (code.new.items ≡ code.old.items ++ instruction.Point (register_at level pointer) (register_at level pointer) ∷ []) }
+    ensures longer { OnErr result (IsLonger code.old.items code.new.items) }
 {
     let from = register_at(level, pointer)?;
     add(code, Instruction::Point { to: from, from })
@@ -195,6 +205,7 @@ pub(crate) fn unary(
     ensures code { IfOk result (λ kind. code.new.items
         ≡ code.old.items ++ instruction.Unary (register_at level (kinds.Integer (operations.unary_kind operator (next.base_type operand)))) operator (register_at level operand) ∷ []) }
     ensures kind { IfOk result (λ kind. kind ≡ kinds.Integer (operations.unary_kind operator (next.base_type operand))) }
+    ensures longer { OnErr result (IsLonger code.old.items code.new.items) }
 {
     let kind = VariableType::Integer(unary_kind(operator, base_type(operand)));
     let to = register_at(level, kind)?;
@@ -220,6 +231,7 @@ pub(crate) fn cast(
     ensures code { IfOk result (λ kind. code.new.items
         ≡ code.old.items ++ instruction.Convert (register_at level (kinds.Integer target)) (register_at level operand) target ∷ []) }
     ensures kind { IfOk result (λ kind. kind ≡ kinds.Integer target) }
+    ensures longer { OnErr result (IsLonger code.old.items code.new.items) }
 {
     let kind = VariableType::Integer(target);
     let to = register_at(level, kind)?;
@@ -253,6 +265,7 @@ pub(crate) fn call(
     ensures code { IfOk result (λ kind. code.new.items
         ≡ code.old.items ++ expressions.call_code function (register_at level (kinds.Integer (next.call_type function arguments.now.kind))) arguments.now.registers.items) }
     ensures kind { IfOk result (λ kind. kind ≡ kinds.Integer (next.call_type function arguments.now.kind)) }
+    ensures longer { OnErr result (IsLonger code.old.items code.new.items) }
 {
     let kind = VariableType::Integer(call_type(function, arguments.kind));
     let to = register_at(level, kind)?;
@@ -271,7 +284,8 @@ pub fn call_only(
     arguments: &[u32],
     code: &mut Vec<Instruction>,
 ) -> Result<(), AllocError>
-    ensures { OnOk result (code.new.items ≡ code.old.items ++ expressions.call_only_code (Some function) to arguments.now) }
+    ensures code { OnOk result (code.new.items ≡ code.old.items ++ expressions.call_only_code (Some function) to arguments.now) }
+    ensures longer { OnErr result (IsLonger code.old.items code.new.items) }
 {
     let instruction = match function {
         BuiltIn::Atomic(function) => atomic(to, function, arguments),
