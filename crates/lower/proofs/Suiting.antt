@@ -1,7 +1,6 @@
 -- Instructions whose registers are of the kinds that they want, in tables that give each register its kind.
 use Rattle.std.proofs.Common.{◌≡◌, ℕ, ◌+◌, ◌*◌, ◌%◌, IsTrue, if◌then◌else◌, Option, None, Some, List, [], ◌∷◌, ◌++◌, slice_get, get_or, refl, ap, ap₂, sym, subst, ◌∙◌, arith}
 use Rattle.std.proofs.lemmas.Nat.{mod-mul-add}
-use Rattle.std.proofs.lemmas.Option.{slice_get_within}
 use Rattle.clnum.specs.Builtins.{is_same}
 use Rattle.clnum.specs.Conversions.{common}
 use Rattle.clnum.specs.Operations.{unary_kind}

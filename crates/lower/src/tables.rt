@@ -1,7 +1,7 @@
 //! The tables of code, by its instructions.
 #![tactic(auto)]
 
-ghost use Rattle.std.specs.Prelude.{◌≡◌, ℕ, ◌≤◌, max, [], ◌∷◌, length, get_or, IfOk};
+ghost use Rattle.std.specs.Prelude.{◌≡◌, ℕ, ◌+◌, ◌≤◌, max, [], ◌∷◌, length, get_or, IfOk};
 ghost use Rattle.regcode.specs.Listed.{listing};
 ghost use Rattle.lower.specs.Tables as spec;
 
