@@ -3,7 +3,7 @@ use Rattle.std.proofs.Common.{◌≡◌, ℕ, zero, suc, ◌+◌, ◌<◌, ◌�
 use Rattle.std.specs.Option.{option_map}
 use Rattle.std.proofs.lemmas.Bool.{and_parts, and_from, false≢true, cases_eq}
 use Rattle.clmodel.specs.Cells.{byte_count, covers}
-use Rattle.clmodel.specs.Launch.{Launch, same_region, kind_of, class_number, clash, group_of, unordered, share, conflict_between, conflict}
+use Rattle.clmodel.specs.Launch.{Launch, same_region, kind_of, class_number, clash, group_of, rule_of, unordered, share, conflict_between, conflict}
 use Rattle.clmodel.specs.Run.{State, interval_of, access_of}
 use Rattle.clmodel.specs.Law.{Logged, conflict_on, conflict_from}
 use Rattle.clmodel.specs.declared.access.Access.{Access}
@@ -16,6 +16,7 @@ use Rattle.clmodel.specs.declared.access.Class.TheVariants as class
 use Rattle.clmodel.specs.declared.access.Conflict as conflict_type
 use Rattle.clmodel.specs.declared.access.Operation.{Operation}
 use Rattle.clmodel.specs.declared.access.Region.{Region}
+use Rattle.clmodel.specs.declared.access.Rule.{Rule}
 use Rattle.clmodel.specs.declared.access.Operation.TheVariants.{Load, Store, Update}
 use Rattle.clmodel.proofs.Steps.{none_some, if_true, or_else_none, region_for, ItemStep}
 use Rattle.clmodel.proofs.CellLaws.{covers_parts, Agree, Compatible}
@@ -31,10 +32,10 @@ if_none false o h = refl
 
 -- ---- the test of a conflict, part by part
 
--- two accesses, of one group or of two, that no barrier orders, and that are both at this byte
-pub record Meet (one_group : Bool) (x y : Access) (byte : ℕ) : Type 0 where
+-- two accesses that by their rule no barrier orders, and that are both at this byte
+pub record Meet (rule : Rule) (x y : Access) (byte : ℕ) : Type 0 where
   pub items : x.item ≡ y.item → ⊥
-  pub intervals : one_group ≡ true → x.interval ≡ y.interval
+  pub intervals : rule.one_group ≡ true → x.interval ≡ y.interval
   pub regions : x.region ≡ y.region
   pub first_covers : covers x.first (byte_count x.width) byte ≡ true
   pub second_covers : covers y.first (byte_count y.width) byte ≡ true
@@ -67,41 +68,38 @@ and_three_from true true false p q r = absurd (false≢true r)
 and_three_from true false c p q r = absurd (false≢true q)
 and_three_from false b c p q r = absurd (false≢true p)
 
-meet_parts : (og : Bool) (x y : Access) (byte : ℕ) → (unordered og x y && share x y byte) ≡ true → Meet og x y byte
-meet_parts og x y byte h =
-    let r : (unordered og x y ≡ true) × (share x y byte ≡ true) = and_parts (unordered og x y) (share x y byte) h in
-    let u : (not (x.item == y.item) ≡ true) × ((not og || (x.interval == y.interval)) ≡ true)
-    = and_parts (not (x.item == y.item)) (not og || (x.interval == y.interval)) r.0 in
+meet_parts : (rule : Rule) (x y : Access) (byte : ℕ) → (unordered rule x y && share x y byte) ≡ true → Meet rule x y byte
+meet_parts rule x y byte h =
+    let r : (unordered rule x y ≡ true) × (share x y byte ≡ true) = and_parts (unordered rule x y) (share x y byte) h in
+    let u : (not (x.item == y.item) ≡ true) × ((not rule.one_group || (x.interval == y.interval)) ≡ true)
+    = and_parts (not (x.item == y.item)) (not rule.one_group || (x.interval == y.interval)) r.0 in
     let s : (same_region x.region y.region ≡ true) × (covers x.first (byte_count x.width) byte ≡ true) × (covers y.first (byte_count y.width) byte ≡ true)
     = and_three (same_region x.region y.region) (covers x.first (byte_count x.width) byte) (covers y.first (byte_count y.width) byte) r.1 in
     record {
       items = λ e. not_parts (x.item == y.item) true u.0 (eq-eqb x.item y.item e);
-      intervals = λ e. eqb-true x.interval y.interval (or_at og (x.interval == y.interval) u.1 e);
+      intervals = λ e. eqb-true x.interval y.interval (or_at rule.one_group (x.interval == y.interval) u.1 e);
       regions = same_region-true x.region y.region s.0;
       first_covers = s.1;
       second_covers = s.2;
     }
 
-meet_from : (og : Bool) (x y : Access) (byte : ℕ) → Meet og x y byte → (unordered og x y && share x y byte) ≡ true
-meet_from og x y byte m =
-    and_from (unordered og x y) (share x y byte)
-    (and_from (not (x.item == y.item)) (not og || (x.interval == y.interval)) (not_made (x.item == y.item) (λ e. m.items (eqb-true x.item y.item e)))
-    (or_made og (x.interval == y.interval) (λ e. eq-eqb x.interval y.interval (m.intervals e))))
+meet_from : (rule : Rule) (x y : Access) (byte : ℕ) → Meet rule x y byte → (unordered rule x y && share x y byte) ≡ true
+meet_from rule x y byte m =
+    and_from (unordered rule x y) (share x y byte)
+    (and_from (not (x.item == y.item)) (not rule.one_group || (x.interval == y.interval)) (not_made (x.item == y.item) (λ e. m.items (eqb-true x.item y.item e)))
+    (or_made rule.one_group (x.interval == y.interval) (λ e. eq-eqb x.interval y.interval (m.intervals e))))
     (and_three_from (same_region x.region y.region) (covers x.first (byte_count x.width) byte) (covers y.first (byte_count y.width) byte)
     (ap (same_region x.region) (sym m.regions) ∙ same_region_self x.region) m.first_covers m.second_covers)
 
-abbrev pub one_group : Launch → Access → Access → Bool
-one_group l x y = group_of l x.item == group_of l y.item
-
 -- two accesses that meet without a conflict don't clash
-pub no_clash : (l : Launch) (x y : Access) (byte : ℕ) → conflict l x y byte ≡ None → Meet (one_group l x y) x y byte → clash x.kind y.kind ≡ None
+pub no_clash : (l : Launch) (x y : Access) (byte : ℕ) → conflict l x y byte ≡ None → Meet (rule_of l x y) x y byte → clash x.kind y.kind ≡ None
 unfolding conflict conflict_between
-no_clash l x y byte h m = none_if (unordered (one_group l x y) x y && share x y byte) (clash x.kind y.kind) h (meet_from (one_group l x y) x y byte m)
+no_clash l x y byte h m = none_if (unordered (rule_of l x y) x y && share x y byte) (clash x.kind y.kind) h (meet_from (rule_of l x y) x y byte m)
 
 -- two accesses have no conflict if they don't clash where they meet
-pub no_conflict : (l : Launch) (x y : Access) (byte : ℕ) → (Meet (one_group l x y) x y byte → clash x.kind y.kind ≡ None) → conflict l x y byte ≡ None
+pub no_conflict : (l : Launch) (x y : Access) (byte : ℕ) → (Meet (rule_of l x y) x y byte → clash x.kind y.kind ≡ None) → conflict l x y byte ≡ None
 unfolding conflict conflict_between
-no_conflict l x y byte h = if_none (unordered (one_group l x y) x y && share x y byte) (clash x.kind y.kind) (λ e. h (meet_parts (one_group l x y) x y byte e))
+no_conflict l x y byte h = if_none (unordered (rule_of l x y) x y && share x y byte) (clash x.kind y.kind) (λ e. h (meet_parts (rule_of l x y) x y byte e))
 
 -- ---- both ways round
 
@@ -143,7 +141,7 @@ clash_sym (kind.Update c) kind.Store h = absurd (none_some Race (sym h))
 clash_sym (kind.Update c) (kind.Update d) h =
     if_true (class_number d == class_number c) None (Some Order) (eq-eqb (class_number d) (class_number c) (sym (same_class c d h)))
 
-meet_sym : (l : Launch) (x y : Access) (byte : ℕ) → Meet (one_group l x y) x y byte → Meet (one_group l y x) y x byte
+meet_sym : (l : Launch) (x y : Access) (byte : ℕ) → Meet (rule_of l x y) x y byte → Meet (rule_of l y x) y x byte
 meet_sym l x y byte m =
     record {
       items = λ e. m.items (sym e);

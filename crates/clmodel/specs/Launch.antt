@@ -1,7 +1,7 @@
 -- A launch: what its items do next, which places there are, and what is kept of an access.
 -- Numbers of sections are those of OpenCL 1.2, or of C99 where that is said; "own" is what this project decided.
-use Rattle.std.specs.Prelude.{ℕ, ◌+◌, ◌*◌, ◌/◌, ◌==◌, ℤ, pos, negsuc, Bool, false, not, ◌&&◌, ◌||◌, nat_le, if◌then◌else◌, Option, None, Some, List, [], length, slice_index, slice_index_or}
-use Rattle.clmodel.specs.Cells.{byte_count, covers}
+use Rattle.std.specs.Prelude.{ℕ, ◌+◌, ◌*◌, ◌/◌, ◌==◌, ℤ, pos, negsuc, Bool, true, false, not, ◌&&◌, ◌||◌, nat_le, if◌then◌else◌, Option, None, Some, List, [], length, slice_index, slice_index_or}
+use Rattle.clmodel.specs.Cells.{byte_count, covers, width_of}
 use Rattle.clmodel.specs.declared.access.Class.{Class}
 use Rattle.clmodel.specs.declared.access.Class.TheVariants as class
 use Rattle.clmodel.specs.declared.access.AccessKind.{AccessKind}
@@ -13,6 +13,7 @@ use Rattle.clmodel.specs.declared.access.Region.TheVariants as region
 use Rattle.clmodel.specs.declared.access.Operation.{Operation}
 use Rattle.clmodel.specs.declared.access.Operation.TheVariants as operation
 use Rattle.clmodel.specs.declared.access.Access.{Access}
+use Rattle.clmodel.specs.declared.access.Rule.{Rule}
 use Rattle.clmodel.specs.declared.access.Clash.{Clash}
 use Rattle.clmodel.specs.declared.access.Clash.TheVariants.{Race, Order}
 use Rattle.clmodel.specs.declared.action.Action.{Action}
@@ -65,6 +66,11 @@ kind_of (operation.Load _) = kind.Load
 kind_of (operation.Store _ _) = kind.Store
 kind_of (operation.Update class _) = kind.Update class
 
+-- what is kept of an item's operation at the bytes from `first` on, made in an interval of its group (own)
+abbrev pub access_in : ℕ → Region → ℕ → Operation → ℕ → Access
+access_in item region first operation interval =
+    record { item = item; region = region; first = first; width = width_of operation; kind = kind_of operation; interval = interval }
+
 -- a number for each class of updates (own)
 abbrev pub class_number : Class → ℕ
 class_number class.Add = 0
@@ -87,18 +93,30 @@ clash _ _ = Some Race
 abbrev pub group_of : Launch → ℕ → ℕ
 group_of launch item = item / launch.group_size
 
--- two accesses of different items that no barrier orders, of one group or of two (3.3.1, 6.12.8)
-abbrev pub unordered : Bool → Access → Access → Bool
-unordered one_group x y = not (x.item == y.item) && (not one_group || (x.interval == y.interval))
+-- the rule for two accesses of one group: its barriers order those of two intervals (6.12.8)
+abbrev pub within_group : Rule
+within_group = record { one_group = true }
+
+-- the rule for accesses of two groups: no barrier orders them (3.3.1, 6.12.8)
+abbrev pub across_groups : Rule
+across_groups = record { one_group = false }
+
+-- by which rule two accesses of a launch are judged: by whether their items are of one group (3.2)
+abbrev pub rule_of : Launch → Access → Access → Rule
+rule_of launch x y = record { one_group = group_of launch x.item == group_of launch y.item }
+
+-- two accesses of different items that no barrier orders, by their rule (3.3.1, 6.12.8)
+abbrev pub unordered : Rule → Access → Access → Bool
+unordered rule x y = not (x.item == y.item) && (not rule.one_group || (x.interval == y.interval))
 
 -- both are at this byte (3.3)
 abbrev pub share : Access → Access → ℕ → Bool
 share x y byte = same_region x.region y.region && covers x.first (byte_count x.width) byte && covers y.first (byte_count y.width) byte
 
--- how two accesses of one group, or of two, conflict on a byte, if they do (3.3.1, own)
-unfoldable pub conflict_between : Bool → Access → Access → ℕ → Option Clash
-conflict_between one_group x y byte = if unordered one_group x y && share x y byte then clash x.kind y.kind else None
+-- how two accesses conflict on a byte by their rule, if they do (3.3.1, own)
+unfoldable pub conflict_between : Rule → Access → Access → ℕ → Option Clash
+conflict_between rule x y byte = if unordered rule x y && share x y byte then clash x.kind y.kind else None
 
 -- how two accesses of a launch conflict on a byte, if they do (3.3.1, own)
 unfoldable pub conflict : Launch → Access → Access → ℕ → Option Clash
-conflict launch x y = conflict_between (group_of launch x.item == group_of launch y.item) x y
+conflict launch x y = conflict_between (rule_of launch x y) x y

@@ -2,8 +2,8 @@
 -- Numbers of sections are those of OpenCL 1.2, or of C99 where that is said; "own" is what this project decided.
 use Rattle.std.specs.Prelude.{◌≡◌, ℕ, zero, suc, ◌+◌, ◌<◌, ◌==◌, ℤ, Bool, true, false, not, ◌&&◌, nat_lt, if◌then◌else◌, Option, None, Some, List, [], ◌∷◌, ◌++◌, length, slice_get, slice_index_or}
 use Rattle.std.specs.Option.{option_map, option_and_then}
-use Rattle.clmodel.specs.Cells.{Cells, Outcome, perform, size_of, width_of}
-use Rattle.clmodel.specs.Launch.{Launch, same_region, region_of, bytes_of, first_byte, kind_of, group_of}
+use Rattle.clmodel.specs.Cells.{Cells, Outcome, perform, size_of}
+use Rattle.clmodel.specs.Launch.{Launch, same_region, region_of, bytes_of, first_byte, group_of, access_in}
 use Rattle.clmodel.specs.declared.access.Object.{Object}
 use Rattle.clmodel.specs.declared.access.Operation.{Operation}
 use Rattle.clmodel.specs.declared.access.Region.{Region}
@@ -68,14 +68,7 @@ byte_at launch item object element operation = first_byte (bytes_of launch (regi
 -- what the log gets of an access (own)
 abbrev pub access_of : Launch → State → ℕ → Region → ℕ → Operation → Access
 access_of launch state item region first operation =
-    record {
-      item = item;
-      region = region;
-      first = first;
-      width = width_of operation;
-      kind = kind_of operation;
-      interval = interval_of state (group_of launch item) region;
-    }
+    access_in item region first operation (interval_of state (group_of launch item) region)
 
 -- the state once an item's access had this outcome: it is done whole, answered and logged (3.3, own)
 abbrev pub accessed : Launch → State → ℕ → Region → ℕ → Operation → Outcome → State

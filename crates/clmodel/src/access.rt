@@ -1,6 +1,10 @@
 //! Accesses to memory, and how two of them conflict.
 #![tactic(auto)]
 
+ghost use Rattle.std.specs.Prelude.{◌≡◌, ◌<◌, ◌≤◌};
+ghost use Rattle.clmodel.specs.Cells.{byte_count, width_of};
+ghost use Rattle.clmodel.specs.Launch.{kind_of, region_of};
+
 /// How many bytes an element has.
 #[derive(Clone, Copy, PartialEq, Eq)]
 pub enum Width {
@@ -8,6 +12,22 @@ pub enum Width {
     Two,
     Four,
     Eight,
+}
+
+impl Width {
+    /// How many bytes an element of this width has (OpenCL 1.2, section 6.1.1).
+    pub fn bytes(self) -> u64
+        ensures value { result ≡ byte_count self }
+        ensures some { 0 < result }
+        ensures short { result ≤ 8 }
+    {
+        match self {
+            Width::One => 1,
+            Width::Two => 2,
+            Width::Four => 4,
+            Width::Eight => 8,
+        }
+    }
 }
 
 /// A class of atomic updates (OpenCL 1.2, section 6.12.11). Add stands for add, sub, inc and dec; the least and the greatest
@@ -40,6 +60,18 @@ pub enum Object {
     Local(u32),
 }
 
+impl Object {
+    /// The region that the object is for the items of a group (OpenCL 1.2, sections 3.3, 6.5.1 and 6.5.2).
+    pub fn region(self, group: u32) -> Region
+        ensures { result ≡ region_of group self }
+    {
+        match self {
+            Object::Buffer(number) => Region::Buffer(number),
+            Object::Local(number) => Region::Local { group, number },
+        }
+    }
+}
+
 /// A region of memory: a buffer, which all items of a launch share, or a local object of one group.
 #[derive(Clone, Copy, PartialEq, Eq)]
 pub enum Region {
@@ -55,6 +87,30 @@ pub enum Operation {
     Update(Class, u32),
 }
 
+impl Operation {
+    /// The width of what the operation acts on (OpenCL 1.2, section 6.12.11).
+    pub fn width(self) -> Width
+        ensures { result ≡ width_of self }
+    {
+        match self {
+            Operation::Load(width) => width,
+            Operation::Store(width, _) => width,
+            Operation::Update(_, _) => Width::Four,
+        }
+    }
+
+    /// The kind of the operation, by which its access conflicts.
+    pub fn kind(self) -> AccessKind
+        ensures { result ≡ kind_of self }
+    {
+        match self {
+            Operation::Load(_) => AccessKind::Load,
+            Operation::Store(_, _) => AccessKind::Store,
+            Operation::Update(class, _) => AccessKind::Update(class),
+        }
+    }
+}
+
 /// What is kept of an access: the item, the bytes that it touched, its kind, and the interval of its group in which it was made.
 #[derive(Clone, Copy, PartialEq, Eq)]
 pub struct Access {
@@ -64,6 +120,22 @@ pub struct Access {
     pub width: Width,
     pub kind: AccessKind,
     pub interval: u32,
+}
+
+/// The rule by which two accesses of different items are judged: whether a barrier can order them (OpenCL 1.2, sections 3.3.1
+/// and 6.12.8).
+#[derive(Clone, Copy, PartialEq, Eq)]
+pub struct Rule {
+    /// Whether both items are of one group, whose barriers order accesses of two intervals.
+    pub one_group: bool,
+}
+
+impl Rule {
+    /// The rule for two accesses of one group.
+    pub const WITHIN_GROUP: Rule = Rule { one_group: true };
+
+    /// The rule for accesses of two groups.
+    pub const ACROSS_GROUPS: Rule = Rule { one_group: false };
 }
 
 /// How two accesses conflict.

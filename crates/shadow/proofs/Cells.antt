@@ -6,7 +6,7 @@ use Rattle.std.proofs.lemmas.Bool.{cases_eq, cases_lt, ne_eqb, false≢true}
 use Rattle.std.proofs.lemmas.List.{map-set, get_or-set_same, get_or-set_other, get_or-map, get_or_past, length-map}
 use Rattle.clmodel.specs.Cells.{covers}
 use Rattle.clmodel.proofs.CellLaws.{covers_parts, covers_from}
-use Rattle.shadow.specs.Seen.{seen_with, row_of, cell_in, IsPage, cell, cells_of}
+use Rattle.shadow.specs.Seen.{seen_with, row_of, cell_in, IsPage, cell, buffer_cells}
 use Rattle.shadow.specs.declared.pages.Pages.{Pages}
 use Rattle.shadow.specs.declared.seen.Mark.{Mark}
 use Rattle.shadow.specs.declared.seen.Seen.{Seen}
@@ -169,7 +169,7 @@ either_page P first count byte few low high p q = go (cases_eq (byte / 256) (fir
 -- ---- buffers
 
 -- a buffer more of which nothing is kept
-pub one_more : (buffers : List Pages) (b : Pages) → b.pages.items ≡ [] → (n byte : ℕ) → cell (cells_of (buffers ++ b ∷ [])) n byte ≡ cell (cells_of buffers) n byte
+pub one_more : (buffers : List Pages) (b : Pages) → b.pages.items ≡ [] → (n byte : ℕ) → cell (buffer_cells (buffers ++ b ∷ [])) n byte ≡ cell (buffer_cells buffers) n byte
 one_more [] b e zero byte = ap (λ z. cell_in z byte) e ∙ nothing_in byte
   where
     nothing_in : (byte : ℕ) → cell_in [] byte ≡ Untouched
@@ -179,30 +179,30 @@ one_more (x ∷ buffers) b e zero byte = refl
 one_more (x ∷ buffers) b e (suc n) byte = one_more buffers b e n byte
 
 -- the buffer that is changed, and another
-changed_here : (buffers : List Pages) (n : ℕ) (v : Pages) (byte : ℕ) → n < length buffers → cell (cells_of (set buffers n v)) n byte ≡ cell_in v.pages.items byte
+changed_here : (buffers : List Pages) (n : ℕ) (v : Pages) (byte : ℕ) → n < length buffers → cell (buffer_cells (set buffers n v)) n byte ≡ cell_in v.pages.items byte
 changed_here buffers n v byte b =
     ap (λ z. cell z n byte) (map-set (λ (p : Pages). cell_in p.pages.items) buffers n v)
     ∙ ap (λ (f : ℕ → Seen). f byte)
-    (get_or-set_same (cells_of buffers) n (cell_in v.pages.items) (λ _. Untouched) (subst (λ z. n < z) (sym (length-map buffers (λ (p : Pages). cell_in p.pages.items))) b))
+    (get_or-set_same (buffer_cells buffers) n (cell_in v.pages.items) (λ _. Untouched) (subst (λ z. n < z) (sym (length-map buffers (λ (p : Pages). cell_in p.pages.items))) b))
 
-unchanged_there : (buffers : List Pages) (n : ℕ) (v : Pages) (m byte : ℕ) → (m ≡ n → ⊥) → cell (cells_of (set buffers n v)) m byte ≡ cell (cells_of buffers) m byte
+unchanged_there : (buffers : List Pages) (n : ℕ) (v : Pages) (m byte : ℕ) → (m ≡ n → ⊥) → cell (buffer_cells (set buffers n v)) m byte ≡ cell (buffer_cells buffers) m byte
 unchanged_there buffers n v m byte ne =
     ap (λ z. cell z m byte) (map-set (λ (p : Pages). cell_in p.pages.items) buffers n v)
-    ∙ ap (λ (f : ℕ → Seen). f byte) (get_or-set_other (cells_of buffers) n m (cell_in v.pages.items) (λ _. Untouched) ne)
+    ∙ ap (λ (f : ℕ → Seen). f byte) (get_or-set_other (buffer_cells buffers) n m (cell_in v.pages.items) (λ _. Untouched) ne)
 
-was_here : (buffers : List Pages) (n : ℕ) (w : Pages) (byte : ℕ) → n < length buffers → w ≡ get_or buffers n w → cell (cells_of buffers) n byte ≡ cell_in w.pages.items byte
+was_here : (buffers : List Pages) (n : ℕ) (w : Pages) (byte : ℕ) → n < length buffers → w ≡ get_or buffers n w → cell (buffer_cells buffers) n byte ≡ cell_in w.pages.items byte
 was_here buffers n w byte b e =
     ap (λ (f : ℕ → Seen). f byte) (get_or-map (λ (p : Pages). cell_in p.pages.items) buffers n w (λ _. Untouched) b ∙ sym (ap (λ (p : Pages). cell_in p.pages.items) e))
 
 -- a change that isn't seen
 pub same_cells :
     (buffers : List Pages) (n : ℕ) (v w : Pages) → n < length buffers → w ≡ get_or buffers n w
-    → ((byte : ℕ) → cell_in v.pages.items byte ≡ cell_in w.pages.items byte) → (m byte : ℕ) → cell (cells_of (set buffers n v)) m byte ≡ cell (cells_of buffers) m byte
+    → ((byte : ℕ) → cell_in v.pages.items byte ≡ cell_in w.pages.items byte) → (m byte : ℕ) → cell (buffer_cells (set buffers n v)) m byte ≡ cell (buffer_cells buffers) m byte
 same_cells buffers n v w b e same m byte = go (cases_eq m n)
   where
-    go : (m ≡ n) ⊎ (m ≡ n → ⊥) → cell (cells_of (set buffers n v)) m byte ≡ cell (cells_of buffers) m byte
+    go : (m ≡ n) ⊎ (m ≡ n → ⊥) → cell (buffer_cells (set buffers n v)) m byte ≡ cell (buffer_cells buffers) m byte
     go (inl h) =
-        subst (λ k. cell (cells_of (set buffers n v)) k byte ≡ cell (cells_of buffers) k byte) (sym h)
+        subst (λ k. cell (buffer_cells (set buffers n v)) k byte ≡ cell (buffer_cells buffers) k byte) (sym h)
         (changed_here buffers n v byte b ∙ same byte ∙ sym (was_here buffers n w byte b e))
     go (inr h) = unchanged_there buffers n v m byte h
 
@@ -210,18 +210,18 @@ same_cells buffers n v w b e same m byte = go (cases_eq m n)
 pub marked_cells :
     (buffers : List Pages) (n : ℕ) (v w : Pages) (mark : Mark) (first count : ℕ) → n < length buffers → w ≡ get_or buffers n w
     → ((byte : ℕ) → cell_in v.pages.items byte ≡ (if covers first count byte then seen_with (cell_in w.pages.items byte) mark else cell_in w.pages.items byte))
-    → (m byte : ℕ) → cell (cells_of (set buffers n v)) m byte ≡ (if (m == n) && covers first count byte then seen_with (cell (cells_of buffers) m byte) mark else cell (cells_of buffers) m byte)
+    → (m byte : ℕ) → cell (buffer_cells (set buffers n v)) m byte ≡ (if (m == n) && covers first count byte then seen_with (cell (buffer_cells buffers) m byte) mark else cell (buffer_cells buffers) m byte)
 marked_cells buffers n v w mark first count b e marked m byte = go (cases_eq m n)
   where
     go : (m ≡ n) ⊎ (m ≡ n → ⊥)
-        → cell (cells_of (set buffers n v)) m byte ≡ (if (m == n) && covers first count byte then seen_with (cell (cells_of buffers) m byte) mark else cell (cells_of buffers) m byte)
+        → cell (buffer_cells (set buffers n v)) m byte ≡ (if (m == n) && covers first count byte then seen_with (cell (buffer_cells buffers) m byte) mark else cell (buffer_cells buffers) m byte)
     go (inl h) =
-        subst (λ k. cell (cells_of (set buffers n v)) k byte ≡ (if (k == n) && covers first count byte then seen_with (cell (cells_of buffers) k byte) mark else cell (cells_of buffers) k byte)) (sym h)
+        subst (λ k. cell (buffer_cells (set buffers n v)) k byte ≡ (if (k == n) && covers first count byte then seen_with (cell (buffer_cells buffers) k byte) mark else cell (buffer_cells buffers) k byte)) (sym h)
         (changed_here buffers n v byte b ∙ marked byte
         ∙ sym (ap₂ (λ (z : Bool) c. if z && covers first count byte then seen_with c mark else c) (eq-eqb n n refl) (was_here buffers n w byte b e)))
     go (inr h) =
         unchanged_there buffers n v m byte h
-        ∙ sym (ap (λ (z : Bool). if z && covers first count byte then seen_with (cell (cells_of buffers) m byte) mark else cell (cells_of buffers) m byte) (ne_eqb m n h))
+        ∙ sym (ap (λ (z : Bool). if z && covers first count byte then seen_with (cell (buffer_cells buffers) m byte) mark else cell (buffer_cells buffers) m byte) (ne_eqb m n h))
 
 pub on_err : {T E P : Type 0} (r : Result T E) → P → OnErr r P
 on_err (Ok t) p = tt

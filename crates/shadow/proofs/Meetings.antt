@@ -6,7 +6,7 @@ use Rattle.std.specs.Option.{option_map}
 use Rattle.std.proofs.lemmas.Bool.{and_from, or_left, or_right, cases_eq, false≢true, ne_eqb}
 use Rattle.std.proofs.Math.Bool.{or_comm, or_self}
 use Rattle.clmodel.specs.Cells.{byte_count, covers}
-use Rattle.clmodel.specs.Launch.{same_region, class_number, clash, share, conflict_between}
+use Rattle.clmodel.specs.Launch.{same_region, class_number, clash, share, across_groups, conflict_between}
 use Rattle.clmodel.specs.Run.{or_else}
 use Rattle.clmodel.specs.Law.{conflict_on, conflict_from}
 use Rattle.clmodel.specs.declared.access.Access.{Access}
@@ -21,7 +21,7 @@ use Rattle.clmodel.specs.declared.access.Conflict as conflict_type
 use Rattle.joining.specs.Memory.{writes, at_byte, wrote}
 use Rattle.shadow_list.specs.Kinds.{kind_number}
 use Rattle.shadow_list.proofs.Agreeing.{class_small, agree_number, not_eight, number_agrees}
-use Rattle.shadow.specs.Seen.{seen_with, is_written, mark_of, seen, met, against, against_from, meeting_of, meeting, Remembers, OfOthers, cell, cell_in, cells_of}
+use Rattle.shadow.specs.Seen.{seen_with, is_written, mark_of, seen, met, against, against_from, meeting_of, meeting, Remembers, OfOthers, cell, cell_in, buffer_cells}
 use Rattle.shadow.specs.declared.pages.Pages.{Pages}
 use Rattle.shadow.specs.declared.seen.Mark.{Mark}
 use Rattle.shadow.specs.declared.seen.Meeting.{Meeting}
@@ -178,7 +178,7 @@ judged_bits true mine false o e = refl
 judged_bits false mine there o e = refl
 
 judged : (x y : Access) (byte : ℕ) → (y.item ≡ x.item → ⊥) → covers x.first (byte_count x.width) byte ≡ true
-    → conflict_between false y x byte ≡ (if at_byte x.region byte y then clash y.kind x.kind else None)
+    → conflict_between across_groups y x byte ≡ (if at_byte x.region byte y then clash y.kind x.kind else None)
 unfolding conflict_between
 judged x y byte ne here =
     ap (λ (z : Bool). if (not z && true) && share y x byte then clash y.kind x.kind else None) (ne_eqb y.item x.item ne)
@@ -198,29 +198,29 @@ told x y byte None = refl
 told x y byte (Some c) = refl
 
 pub on_byte : (x : Access) (byte : ℕ) (log : List Access) → OfOthers x.item log → covers x.first (byte_count x.width) byte ≡ true
-    → against x.kind byte (seen x.region byte log) ≡ option_map meeting_of (conflict_on (conflict_between false) x byte log)
+    → against x.kind byte (seen x.region byte log) ≡ option_map meeting_of (conflict_on (conflict_between across_groups) x byte log)
 on_byte x byte [] others here = refl
 on_byte x byte (y ∷ log) others here =
     go (on_byte x byte log (λ z m. others z (inr m)) here) (at_byte x.region byte y) refl
-    ∙ sym (map_or meeting_of (conflict_on (conflict_between false) x byte log) (option_map (λ c. record { earlier = y; later = x; byte = byte; clash = c }) (conflict_between false y x byte))
-    ∙ ap (or_else (option_map meeting_of (conflict_on (conflict_between false) x byte log)))
-    (told x y byte (conflict_between false y x byte) ∙ ap (option_map (λ c. record { clash = c; mark = mark_of y; byte = byte })) (judged x y byte (others y (inl refl)) here)))
+    ∙ sym (map_or meeting_of (conflict_on (conflict_between across_groups) x byte log) (option_map (λ c. record { earlier = y; later = x; byte = byte; clash = c }) (conflict_between across_groups y x byte))
+    ∙ ap (or_else (option_map meeting_of (conflict_on (conflict_between across_groups) x byte log)))
+    (told x y byte (conflict_between across_groups y x byte) ∙ ap (option_map (λ c. record { clash = c; mark = mark_of y; byte = byte })) (judged x y byte (others y (inl refl)) here)))
   where
-    go : against x.kind byte (seen x.region byte log) ≡ option_map meeting_of (conflict_on (conflict_between false) x byte log) → (b : Bool) → at_byte x.region byte y ≡ b
+    go : against x.kind byte (seen x.region byte log) ≡ option_map meeting_of (conflict_on (conflict_between across_groups) x byte log) → (b : Bool) → at_byte x.region byte y ≡ b
         → against x.kind byte (if at_byte x.region byte y then seen_with (seen x.region byte log) (mark_of y) else seen x.region byte log)
-        ≡ or_else (option_map meeting_of (conflict_on (conflict_between false) x byte log))
+        ≡ or_else (option_map meeting_of (conflict_on (conflict_between across_groups) x byte log))
         (option_map (λ c. record { clash = c; mark = mark_of y; byte = byte }) (if at_byte x.region byte y then clash y.kind x.kind else None))
     go older true e =
         ap (λ (z : Bool). against x.kind byte (if z then seen_with (seen x.region byte log) (mark_of y) else seen x.region byte log)) e
         ∙ against_more x.kind byte (seen x.region byte log) (mark_of y) (seen_apart x.region byte log)
         ∙ ap (λ o. or_else o (met x.kind byte (mark_of y))) older
-        ∙ sym (ap (λ (z : Bool). or_else (option_map meeting_of (conflict_on (conflict_between false) x byte log))
+        ∙ sym (ap (λ (z : Bool). or_else (option_map meeting_of (conflict_on (conflict_between across_groups) x byte log))
         (option_map (λ c. record { clash = c; mark = mark_of y; byte = byte }) (if z then clash y.kind x.kind else None))) e)
     go older false e =
         ap (λ (z : Bool). against x.kind byte (if z then seen_with (seen x.region byte log) (mark_of y) else seen x.region byte log)) e
         ∙ older
-        ∙ sym (or_none (option_map meeting_of (conflict_on (conflict_between false) x byte log)))
-        ∙ sym (ap (λ (z : Bool). or_else (option_map meeting_of (conflict_on (conflict_between false) x byte log))
+        ∙ sym (or_none (option_map meeting_of (conflict_on (conflict_between across_groups) x byte log)))
+        ∙ sym (ap (λ (z : Bool). or_else (option_map meeting_of (conflict_on (conflict_between across_groups) x byte log))
         (option_map (λ c. record { clash = c; mark = mark_of y; byte = byte }) (if z then clash y.kind x.kind else None))) e)
 
 covered : (first count byte : ℕ) → first ≤ byte → byte < first + count → covers first count byte ≡ true
@@ -228,28 +228,28 @@ covered first count byte a b = and_from _ _ (le-leb first byte a) (lt-ltb byte (
 
 pub on_bytes : (x : Access) (log : List Access) (cells : ℕ → Seen) → OfOthers x.item log → ((byte : ℕ) → cells byte ≡ seen x.region byte log)
     → (first count : ℕ) → x.first ≤ first → first + count ≤ x.first + byte_count x.width
-    → against_from x.kind cells first count ≡ option_map meeting_of (conflict_from (conflict_between false) x log first count)
+    → against_from x.kind cells first count ≡ option_map meeting_of (conflict_from (conflict_between across_groups) x log first count)
 on_bytes x log cells others kept first zero a b = refl
 on_bytes x log cells others kept first (suc count) a b =
     ap₂ or_else
     (ap (against x.kind first) (kept first) ∙ on_byte x first log others (covered x.first (byte_count x.width) first a (omega (arith, b))))
     (on_bytes x log cells others kept (suc first) count (omega (arith, a)) (omega (arith, b)))
-    ∙ sym (map_or meeting_of (conflict_on (conflict_between false) x first log) (conflict_from (conflict_between false) x log (suc first) count))
+    ∙ sym (map_or meeting_of (conflict_on (conflict_between across_groups) x first log) (conflict_from (conflict_between across_groups) x log (suc first) count))
 
 -- ---- cells in lists
 
 -- a buffer's cells, and a buffer that has none
-pub cells_there : (buffers : List Pages) (n : ℕ) (p : Pages) → n < length buffers → p ≡ get_or buffers n p → cell (cells_of buffers) n ≡ cell_in p.pages.items
+pub cells_there : (buffers : List Pages) (n : ℕ) (p : Pages) → n < length buffers → p ≡ get_or buffers n p → cell (buffer_cells buffers) n ≡ cell_in p.pages.items
 cells_there buffers n p b e =
     get_or-map (λ (q : Pages). cell_in q.pages.items) buffers n p (λ _. Untouched) b ∙ sym (ap (λ (q : Pages). cell_in q.pages.items) e)
 
-shorter : (buffers : List Pages) (n : ℕ) → length buffers ≤ n → length (cells_of buffers) ≤ n
+shorter : (buffers : List Pages) (n : ℕ) → length buffers ≤ n → length (buffer_cells buffers) ≤ n
 shorter [] n b = b
 shorter (v ∷ buffers) zero b = absurd (omega (arith, b))
-shorter (v ∷ buffers) (suc n) b = let r : length (cells_of buffers) ≤ n = shorter buffers n (omega (arith, b)) in omega (arith, r)
+shorter (v ∷ buffers) (suc n) b = let r : length (buffer_cells buffers) ≤ n = shorter buffers n (omega (arith, b)) in omega (arith, r)
 
-pub cells_gone : (buffers : List Pages) (n : ℕ) → length buffers ≤ n → cell (cells_of buffers) n ≡ (λ _. Untouched)
-cells_gone buffers n b = get_or_past (cells_of buffers) n (λ _. Untouched) (shorter buffers n b)
+pub cells_gone : (buffers : List Pages) (n : ℕ) → length buffers ≤ n → cell (buffer_cells buffers) n ≡ (λ _. Untouched)
+cells_gone buffers n b = get_or_past (buffer_cells buffers) n (λ _. Untouched) (shorter buffers n b)
 
 pub nothing_met : (k : AccessKind) (cells : ℕ → Seen) → ((byte : ℕ) → cells byte ≡ Untouched) → (first count : ℕ) → against_from k cells first count ≡ None
 nothing_met k cells none first zero = refl
@@ -259,7 +259,7 @@ nothing_met k cells none first (suc count) = ap₂ or_else (ap (against k first)
 abbrev pub KeepsAt : (ℕ → Seen) → Region → List Access → Type 0
 KeepsAt cells at log = (byte : ℕ) → cells byte ≡ seen at byte log
 
-pub keeps_at : (buffers : List Pages) (log : List Access) (n : ℕ) (at : Region) (cells : ℕ → Seen) → Remembers (cells_of buffers) log → at ≡ region.Buffer n → cell (cells_of buffers) n ≡ cells
+pub keeps_at : (buffers : List Pages) (log : List Access) (n : ℕ) (at : Region) (cells : ℕ → Seen) → Remembers (buffer_cells buffers) log → at ≡ region.Buffer n → cell (buffer_cells buffers) n ≡ cells
     → KeepsAt cells at log
 keeps_at buffers log n at cells h e f byte = ap (λ (c : ℕ → Seen). c byte) (sym f) ∙ h n byte ∙ ap (λ z. seen z byte log) (sym e)
 

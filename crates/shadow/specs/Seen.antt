@@ -3,7 +3,7 @@ use Rattle.std.specs.Prelude.{◌≡◌, ℕ, zero, suc, ◌/◌, ◌%◌, ◌<�
 use Rattle.std.specs.declared.alloc.Global.{Global}
 use Rattle.std.specs.Option.{option_map}
 use Rattle.clmodel.specs.Cells.{byte_count}
-use Rattle.clmodel.specs.Launch.{clash, conflict_between}
+use Rattle.clmodel.specs.Launch.{clash, across_groups, conflict_between}
 use Rattle.clmodel.specs.Run.{or_else}
 use Rattle.clmodel.specs.Law.{Logged, conflict_from}
 use Rattle.clmodel.specs.declared.access.Access.{Access}
@@ -77,8 +77,8 @@ abbrev pub cell : List (ℕ → Seen) → ℕ → ℕ → Seen
 cell buffers number = slice_index_or buffers number (λ _. Untouched)
 
 -- buffers as what is kept of each byte
-abbrev pub cells_of : List Pages → List (ℕ → Seen)
-cells_of buffers = map (λ b. cell_in b.pages.items) buffers
+abbrev pub buffer_cells : List Pages → List (ℕ → Seen)
+buffer_cells buffers = map (λ b. cell_in b.pages.items) buffers
 
 -- the cells keep what these accesses did to buffers, the newest first
 abbrev pub Remembers : List (ℕ → Seen) → List Access → Type 0
@@ -88,14 +88,20 @@ Remembers buffers log = (number byte : ℕ) → cell buffers number byte ≡ see
 abbrev pub OfOthers : ℕ → List Access → Type 0
 OfOthers item log = (y : Access) → Logged log y → y.item ≡ item → ⊥
 
--- the conflict of an access of another group's item with these, on its lowest byte that has one, with the earliest access there: only buffers are shared
+-- the conflict of an access of another group's item with these, on its lowest byte that has one, with the earliest access there (3.3.1)
 abbrev pub meeting : Access → List Access → Option Meeting
-meeting x log = option_map meeting_of (conflict_from (conflict_between false) x log x.first (byte_count x.width))
+meeting x log = option_map meeting_of (conflict_from (conflict_between across_groups) x log x.first (byte_count x.width))
 
--- whether an access is of a buffer
-abbrev pub InBuffer : Access → Type 0
-InBuffer x = (number : ℕ) × (x.region ≡ region.Buffer number)
+-- the same by the region of the access: groups share buffers alone, and a local object is of one group (3.3, 6.5.2)
+abbrev pub met_at : Region → Access → List Access → Option Meeting
+met_at (region.Buffer number) x log = meeting x log
+met_at (region.Local group number) x log = None
+
+-- a meeting of an access as a conflict with it: of the earlier access item and kind are kept, and it is told at the bytes of the later (own)
+abbrev pub conflict_with : Meeting → Access → conflict_type.Conflict
+conflict_with m x =
+    record { earlier = record x { item = m.mark.item; kind = m.mark.kind }; later = x; byte = m.byte; clash = m.clash }
 
 -- a footprint keeps what these accesses did to buffers, the newest first
-abbrev pub Keeps : Footprint → List Access → Type 0
-Keeps footprint log = Remembers (cells_of footprint.buffers.items) log
+abbrev pub IsFootprint : Footprint → List Access → Type 0
+IsFootprint footprint log = Remembers (buffer_cells footprint.buffers.items) log

@@ -5,12 +5,11 @@ ghost use Rattle.clmodel.specs.Cells.{byte_count};
 ghost use Rattle.clmodel.specs.declared.access.Access.{Access as TheAccess};
 ghost use Rattle.clmodel.specs.declared.access.Region.TheVariants as region;
 ghost use Rattle.joining.specs.Memory.{wrote};
-ghost use Rattle.shadow.specs.Seen.{cell, cells_of, OfOthers, InBuffer, meeting};
+ghost use Rattle.shadow.specs.Seen.{cell, buffer_cells, OfOthers, met_at};
 
 use crate::pages::{Pages, mark_all};
 use crate::seen::{Mark, Meeting, is_written};
 use clmodel::access::{Access, Region};
-use shadow_list::byte_count;
 use std::alloc::{AllocError, Global};
 
 /// What is kept of the accesses of work-groups so far to each byte of the launch's buffers: the first access, and the first of another kind.
@@ -25,7 +24,7 @@ pub struct Footprint {
 fn make_room(alloc: Global, buffers: &mut Vec<Pages>, number: usize) -> Result<(), AllocError>
     requires { number < 2 ^ 32 }
     ensures long { OnOk result (number < length buffers.new.items) }
-    ensures same { (n byte : ℕ) → cell (cells_of buffers.new.items) n byte ≡ cell (cells_of buffers.old.items) n byte }
+    ensures same { (n byte : ℕ) → cell (buffer_cells buffers.new.items) n byte ≡ cell (buffer_cells buffers.old.items) n byte }
 {
     while buffers.len() <= number {
         buffers.push(Pages::new(alloc))?;
@@ -34,11 +33,11 @@ fn make_room(alloc: Global, buffers: &mut Vec<Pages>, number: usize) -> Result<(
 }
 
 impl Footprint {
-    ghost use Rattle.shadow.specs.Seen.{Keeps};
+    ghost use Rattle.shadow.specs.Seen.{IsFootprint};
 
     /// No accesses yet. It takes no memory.
     pub fn new(alloc: Global) -> Self
-        ensures { Keeps result [] }
+        ensures { IsFootprint result [] }
     {
         Footprint {
             buffers: Vec::new(alloc),
@@ -46,23 +45,24 @@ impl Footprint {
     }
 
     /// The conflict of an access of another group's item with these, on its lowest byte that has one, with the earliest access there
-    /// (OpenCL 1.2, section 3.3.1).
+    /// (OpenCL 1.2, section 3.3.1). `None` where it has none, and for each access of a local object, which no other group shares
+    /// (section 6.5.2).
     pub fn meeting(&self, x: &Access) -> Option<Meeting>
         requires { x.now.first + byte_count x.now.width < 2 ^ 64 }
-        ensures { (log : List TheAccess) → Keeps self.now log → OfOthers x.now.item log → InBuffer x.now → result ≡ meeting x.now log }
+        ensures { (log : List TheAccess) → IsFootprint self.now log → OfOthers x.now.item log → result ≡ met_at x.now.region x.now log }
     {
         let Region::Buffer(number) = x.region else {
             return None;
         };
         match self.buffers.get(number as usize) {
             None => None,
-            Some(pages) => pages.against(x.kind, x.first as usize, byte_count(x.width) as usize),
+            Some(pages) => pages.against(x.kind, x.first as usize, x.width.bytes() as usize),
         }
     }
 
     /// Whether an access wrote a byte of a buffer.
     pub fn is_written(&self, number: u32, byte: u64) -> bool
-        ensures { (log : List TheAccess) → Keeps self.now log → result ≡ wrote log (region.Buffer number) byte }
+        ensures { (log : List TheAccess) → IsFootprint self.now log → result ≡ wrote log (region.Buffer number) byte }
     {
         match self.buffers.get(number as usize) {
             None => false,
@@ -73,14 +73,14 @@ impl Footprint {
     /// Adds an access. Where memory is refused nothing is added.
     pub fn add(&mut self, alloc: Global, x: &Access) -> Result<(), AllocError>
         requires { x.now.first + byte_count x.now.width < 2 ^ 64 }
-        ensures added { OnOk result ((log : List TheAccess) → Keeps self.old log → Keeps self.new (x.now ∷ log)) }
-        ensures same { OnErr result ((log : List TheAccess) → Keeps self.old log → Keeps self.new log) }
+        ensures added { OnOk result ((log : List TheAccess) → IsFootprint self.old log → IsFootprint self.new (x.now ∷ log)) }
+        ensures same { OnErr result ((log : List TheAccess) → IsFootprint self.old log → IsFootprint self.new log) }
     {
         let Region::Buffer(number) = x.region else {
             return Ok(());
         };
         let first = x.first as usize;
-        let count = byte_count(x.width) as usize;
+        let count = x.width.bytes() as usize;
         make_room(alloc, &mut self.buffers, number as usize)?;
         let touched = &mut self.buffers[number as usize];
         touched.make(alloc, first / 256)?;

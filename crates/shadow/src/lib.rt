@@ -7,4 +7,4 @@ mod pages;
 mod seen;
 
 pub use footprint::Footprint;
-pub use seen::{Mark, Meeting, Seen};
+pub use seen::{Mark, Meeting};

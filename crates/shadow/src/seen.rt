@@ -2,9 +2,9 @@
 
 ghost use Rattle.std.specs.Prelude.{◌≡◌};
 ghost use Rattle.joining.specs.Memory.{writes};
-ghost use Rattle.shadow.specs.Seen.{seen_with, is_written, met, against};
+ghost use Rattle.shadow.specs.Seen.{seen_with, is_written, met, against, conflict_with};
 
-use clmodel::access::{AccessKind, Clash};
+use clmodel::access::{Access, AccessKind, Clash, Conflict};
 use shadow_list::{clash, kind_number};
 
 /// Who accessed a byte, and how.
@@ -28,6 +28,25 @@ pub struct Meeting {
     pub clash: Clash,
     pub mark: Mark,
     pub byte: u64,
+}
+
+impl Meeting {
+    /// The conflict with the later access that met it. Of the earlier access item and kind are kept; what else a conflict says of one is
+    /// that of the later.
+    pub fn conflict(self, later: Access) -> Conflict
+        ensures { result ≡ conflict_with self later }
+    {
+        Conflict {
+            earlier: Access {
+                item: self.mark.item,
+                kind: self.mark.kind,
+                ..later
+            },
+            later,
+            byte: self.byte,
+            clash: self.clash,
+        }
+    }
 }
 
 /// A byte with one access more.

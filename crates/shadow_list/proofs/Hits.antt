@@ -7,6 +7,7 @@ use Rattle.clmodel.specs.Cells.{byte_count, covers}
 use Rattle.clmodel.specs.Launch.{unordered, same_region, share, clash, conflict_between}
 use Rattle.clmodel.specs.Run.{or_else}
 use Rattle.clmodel.specs.declared.access.Access.{Access}
+use Rattle.clmodel.specs.declared.access.Rule.{Rule}
 use Rattle.shadow_list.specs.Log.{hit_between, hit_on, hit_from, hit, IsThere}
 use Rattle.shadow_list.specs.declared.log.Entry.{Entry}
 use Rattle.shadow_list.specs.declared.log.Hit.{Hit}
@@ -26,17 +27,17 @@ and_left false b h = refl
 
 -- ---- accesses that don't conflict
 
-unless_both : (g : Bool) (x y : Access) (byte : ℕ) → (unordered g x y && share x y byte) ≡ false → conflict_between g x y byte ≡ None
+unless_both : (g : Rule) (x y : Access) (byte : ℕ) → (unordered g x y && share x y byte) ≡ false → conflict_between g x y byte ≡ None
 unfolding conflict_between
 unless_both g x y byte h = ap (λ z. if z then clash x.kind y.kind else None) h
 
-pub ordered : (g : Bool) (x y : Access) (byte : ℕ) → unordered g x y ≡ false → conflict_between g x y byte ≡ None
+pub ordered : (g : Rule) (x y : Access) (byte : ℕ) → unordered g x y ≡ false → conflict_between g x y byte ≡ None
 ordered g x y byte h = unless_both g x y byte (and_left (unordered g x y) (share x y byte) h)
 
-pub not_shared : (g : Bool) (x y : Access) (byte : ℕ) → share x y byte ≡ false → conflict_between g x y byte ≡ None
+pub not_shared : (g : Rule) (x y : Access) (byte : ℕ) → share x y byte ≡ false → conflict_between g x y byte ≡ None
 not_shared g x y byte h = unless_both g x y byte (and_right (unordered g x y) (share x y byte) h)
 
-pub other_region : (g : Bool) (x y : Access) (byte : ℕ) → same_region x.region y.region ≡ false → conflict_between g x y byte ≡ None
+pub other_region : (g : Rule) (x y : Access) (byte : ℕ) → same_region x.region y.region ≡ false → conflict_between g x y byte ≡ None
 other_region g x y byte h =
     not_shared g x y byte
     (and_left (same_region x.region y.region && covers x.first (byte_count x.width) byte) (covers y.first (byte_count y.width) byte)
@@ -47,7 +48,7 @@ covered first count byte h =
     let r : (nat_le first byte ≡ true) × (nat_lt byte (first + count) ≡ true) = and_parts (nat_le first byte) (nat_lt byte (first + count)) h in
     (leb-true first byte r.0, ltb-true byte (first + count) r.1)
 
-pub apart : (g : Bool) (x y : Access) (byte : ℕ) → (y.first + byte_count y.width ≤ x.first) ⊎ (x.first + byte_count x.width ≤ y.first) → conflict_between g x y byte ≡ None
+pub apart : (g : Rule) (x y : Access) (byte : ℕ) → (y.first + byte_count y.width ≤ x.first) ⊎ (x.first + byte_count x.width ≤ y.first) → conflict_between g x y byte ≡ None
 apart g x y byte h = decided (share x y byte) (λ p. absurd (never p h)) (not_shared g x y byte)
   where
     never : share x y byte ≡ true → (y.first + byte_count y.width ≤ x.first) ⊎ (x.first + byte_count x.width ≤ y.first) → ⊥
@@ -61,7 +62,7 @@ apart g x y byte h = decided (share x y byte) (λ p. absurd (never p h)) (not_sh
         both a b (inl h) = omega (arith, a.0, b.1, h)
         both a b (inr h) = omega (arith, a.1, b.0, h)
 
-pub no_clash : (g : Bool) (x y : Access) (byte : ℕ) → clash x.kind y.kind ≡ None → conflict_between g x y byte ≡ None
+pub no_clash : (g : Rule) (x y : Access) (byte : ℕ) → clash x.kind y.kind ≡ None → conflict_between g x y byte ≡ None
 unfolding conflict_between
 no_clash g x y byte h = go (unordered g x y && share x y byte)
   where
@@ -72,38 +73,38 @@ no_clash g x y byte h = go (unordered g x y && share x y byte)
 -- ---- searches
 
 -- the first of the rest of a log
-entry_first : (g : Bool) (x : Entry) (byte : ℕ) (log : List Entry) (i : ℕ) (d : Entry) → i < length log
+entry_first : (g : Rule) (x : Entry) (byte : ℕ) (log : List Entry) (i : ℕ) (d : Entry) → i < length log
     → hit_on g x byte (drop i log) ≡ or_else (hit_between g (get_or log i d) x byte) (hit_on g x byte (drop (suc i) log))
 entry_first g x byte [] i d h = absurd (omega (arith, h))
 entry_first g x byte (y ∷ log) zero d h = refl
 entry_first g x byte (y ∷ log) (suc i) d h = entry_first g x byte log i d (omega (arith, h))
 
-pub at_entry : (g : Bool) (x : Entry) (byte : ℕ) (log : List Entry) (i : ℕ) (d : Entry) → i < length log
+pub at_entry : (g : Rule) (x : Entry) (byte : ℕ) (log : List Entry) (i : ℕ) (d : Entry) → i < length log
     → hit_on g x byte (drop i log) ≡ or_else (hit_between g (get_or log i d) x byte) (hit_on g x byte (drop (i + 1) log))
 at_entry g x byte log i d h =
     entry_first g x byte log i d h
     ∙ ap (λ n. or_else (hit_between g (get_or log i d) x byte) (hit_on g x byte (drop n log))) {x = suc i} {y = i + 1} (omega arith)
 
 -- an access that doesn't conflict is passed over
-pub past_over : (g : Bool) (x : Entry) (byte : ℕ) (y : Entry) (log : List Entry) → conflict_between g y.access x.access byte ≡ None
+pub past_over : (g : Rule) (x : Entry) (byte : ℕ) (y : Entry) (log : List Entry) → conflict_between g y.access x.access byte ≡ None
     → hit_on g x byte (y ∷ log) ≡ hit_on g x byte log
 past_over g x byte y log a = ap (λ o. or_else (option_map (λ clash. record { clash = clash; earlier = y; later = x; byte = byte }) o) (hit_on g x byte log)) a
 
-pub past_entry : (g : Bool) (x : Entry) (byte : ℕ) (log : List Entry) (i : ℕ) (d : Entry) → i < length log
+pub past_entry : (g : Rule) (x : Entry) (byte : ℕ) (log : List Entry) (i : ℕ) (d : Entry) → i < length log
     → conflict_between g (get_or log i d).access x.access byte ≡ None → hit_on g x byte (drop i log) ≡ hit_on g x byte (drop (i + 1) log)
 past_entry g x byte log i d h a =
     at_entry g x byte log i d h
     ∙ past_over g x byte (get_or log i d) (drop (i + 1) log) a
 
-pub from_here : (g : Bool) (x : Entry) (log : List Entry) (byte count : ℕ) (found : Hit) → 0 < count
+pub from_here : (g : Rule) (x : Entry) (log : List Entry) (byte count : ℕ) (found : Hit) → 0 < count
     → hit_on g x byte log ≡ Some found → hit_from g x log byte count ≡ Some found
 from_here g x log byte zero found h a = absurd (omega (arith, h))
 from_here g x log byte (suc count) found h a = ap (λ o. or_else o (hit_from g x log (suc byte) count)) a
 
-from_at : (g : Bool) (x : Entry) (log : List Entry) (a b n m : ℕ) → a ≡ b → n ≡ m → hit_from g x log a n ≡ hit_from g x log b m
+from_at : (g : Rule) (x : Entry) (log : List Entry) (a b n m : ℕ) → a ≡ b → n ≡ m → hit_from g x log a n ≡ hit_from g x log b m
 from_at g x log a b n m p q = ap (λ z. hit_from g x log z n) p ∙ ap (hit_from g x log b) q
 
-pub from_later : (g : Bool) (x : Entry) (log : List Entry) (byte end : ℕ) → byte < end → hit_on g x byte log ≡ None
+pub from_later : (g : Rule) (x : Entry) (log : List Entry) (byte end : ℕ) → byte < end → hit_on g x byte log ≡ None
     → hit_from g x log byte (end - byte) ≡ hit_from g x log (byte + 1) (end - (byte + 1))
 from_later g x log byte end h a = go (end - byte) (omega (arith, h)) refl
   where
@@ -112,7 +113,7 @@ from_later g x log byte end h a = go (end - byte) (omega (arith, h)) refl
     go (suc count) p e = ap (λ o. or_else o (hit_from g x log (suc byte) count)) a ∙ from_at g x log (suc byte) (byte + 1) count (end - (byte + 1)) (omega arith) (omega (arith, e))
 
 -- a log without a conflict on any byte
-pub clear : (g : Bool) (x : Entry) (log : List Entry) → ((byte : ℕ) → hit_on g x byte log ≡ None) → hit g x log ≡ None
+pub clear : (g : Rule) (x : Entry) (log : List Entry) → ((byte : ℕ) → hit_on g x byte log ≡ None) → hit g x log ≡ None
 unfolding hit
 clear g x log h = from_clear x.access.first (byte_count x.access.width)
   where

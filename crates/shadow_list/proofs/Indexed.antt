@@ -9,7 +9,7 @@ use Rattle.std.proofs.lemmas.Bool.{false≢true, and_parts, cases_eq, cases_lt}
 use Rattle.std.proofs.lemmas.List.Elements.{All-head, All-tail}
 use Rattle.std.proofs.lemmas.Option.{none-some, same_Some, slice_get_within}
 use Rattle.clmodel.specs.Cells.{byte_count, covers}
-use Rattle.clmodel.specs.Launch.{same_region, share, clash, conflict_between}
+use Rattle.clmodel.specs.Launch.{same_region, share, clash, within_group, conflict_between}
 use Rattle.clmodel.specs.declared.access.Access.{Access}
 use Rattle.clmodel.specs.declared.access.AccessKind.{AccessKind}
 use Rattle.clmodel.specs.declared.access.Region.{Region}
@@ -28,20 +28,20 @@ use Rattle.shadow_list.proofs.Past.{other_interval}
 -- ---- accesses that pass
 
 -- an access of the same item doesn't conflict
-own_item : (x y : Access) (byte : ℕ) → y.item ≡ x.item → conflict_between true y x byte ≡ None
+own_item : (x y : Access) (byte : ℕ) → y.item ≡ x.item → conflict_between within_group y x byte ≡ None
 own_item x y byte e =
-    ordered true y x byte (and_left (not (nat_eq y.item x.item)) (not true || nat_eq y.interval x.interval) (ap not (eq-eqb y.item x.item e)))
+    ordered within_group y x byte (and_left (not (nat_eq y.item x.item)) (not true || nat_eq y.interval x.interval) (ap not (eq-eqb y.item x.item e)))
 
 -- an access that agrees with those of its interval passes
 pub passed : (r : Recent) (x : Access) → r.interval ≡ x.interval
     → ((y : Access) → is_item r.who y.item ≡ true → is_kind r.how y.kind ≡ true → (y.item ≡ x.item) ⊎ (clash y.kind x.kind ≡ None)) → Passes r x
 passed r x e f y byte d = go (cases_eq y.interval x.interval)
   where
-    either : (y.item ≡ x.item) ⊎ (clash y.kind x.kind ≡ None) → conflict_between true y x byte ≡ None
+    either : (y.item ≡ x.item) ⊎ (clash y.kind x.kind ≡ None) → conflict_between within_group y x byte ≡ None
     either (inl i) = own_item x y byte i
-    either (inr k) = no_clash true y x byte k
+    either (inr k) = no_clash within_group y x byte k
 
-    go : (y.interval ≡ x.interval) ⊎ (y.interval ≡ x.interval → ⊥) → conflict_between true y x byte ≡ None
+    go : (y.interval ≡ x.interval) ⊎ (y.interval ≡ x.interval → ⊥) → conflict_between within_group y x byte ≡ None
     go (inl s) = let p : (is_item r.who y.item ≡ true) × (is_kind r.how y.kind ≡ true) = d.1 (s ∙ sym e) in either (f y p.0 p.1)
     go (inr n) = other_interval x y byte n
 
@@ -64,10 +64,10 @@ one_object (region.Local g a) (region.Local h b) e =
 
 -- an access that passes at each of its bytes conflicts with none that is kept
 pub marked_clear : (x y : Access) (f : ℕ → ℕ → Recent) → ((byte : ℕ) → covers x.first (byte_count x.width) byte ≡ true → Passes (f (cell_key x.region byte) byte) x)
-    → ((byte : ℕ) → covers y.first (byte_count y.width) byte ≡ true → Describes (f (cell_key y.region byte) byte) y) → (byte : ℕ) → conflict_between true y x byte ≡ None
-marked_clear x y f passes kept byte = decided (share y x byte) shared (not_shared true y x byte)
+    → ((byte : ℕ) → covers y.first (byte_count y.width) byte ≡ true → Describes (f (cell_key y.region byte) byte) y) → (byte : ℕ) → conflict_between within_group y x byte ≡ None
+marked_clear x y f passes kept byte = decided (share y x byte) shared (not_shared within_group y x byte)
   where
-    shared : share y x byte ≡ true → conflict_between true y x byte ≡ None
+    shared : share y x byte ≡ true → conflict_between within_group y x byte ≡ None
     shared p =
         let r : ((same_region y.region x.region && covers y.first (byte_count y.width) byte) ≡ true) × (covers x.first (byte_count x.width) byte ≡ true) = and_parts _ _ p in
         let s : (same_region y.region x.region ≡ true) × (covers y.first (byte_count y.width) byte ≡ true) = and_parts _ _ r.0 in
@@ -76,12 +76,12 @@ marked_clear x y f passes kept byte = decided (share y x byte) shared (not_share
 
 -- an entry that doesn't conflict with one on a byte
 abbrev pub Misses : Entry → ℕ → Entry → Type 0
-Misses x byte y = conflict_between true y.access x.access byte ≡ None
+Misses x byte y = conflict_between within_group y.access x.access byte ≡ None
 
-all_clear : (x : Entry) (byte : ℕ) (log : List Entry) → All (Misses x byte) log → (n : ℕ) → hit_on true x byte (drop n log) ≡ None
+all_clear : (x : Entry) (byte : ℕ) (log : List Entry) → All (Misses x byte) log → (n : ℕ) → hit_on within_group x byte (drop n log) ≡ None
 all_clear x byte [] h zero = refl
 all_clear x byte [] h (suc n) = refl
-all_clear x byte (y ∷ log) h zero = past_over true x byte y log (All-head (Misses x byte) y log h) ∙ all_clear x byte log (All-tail (Misses x byte) y log h) zero
+all_clear x byte (y ∷ log) h zero = past_over within_group x byte y log (All-head (Misses x byte) y log h) ∙ all_clear x byte log (All-tail (Misses x byte) y log h) zero
 all_clear x byte (y ∷ log) h (suc n) = all_clear x byte log (All-tail (Misses x byte) y log h) n
 
 -- P of each is Q of each
@@ -89,8 +89,8 @@ pub all_as : (P Q : Entry → Type 0) → ((y : Entry) → P y → Q y) → (log
 all_as P Q f log h k d lt = f _ (h k d lt)
 
 -- a log none of whose accesses conflicts has no conflict
-pub none_hit : (x : Entry) (log : List Entry) (n : ℕ) → ((byte : ℕ) → All (Misses x byte) log) → hit true x (drop n log) ≡ None
-none_hit x log n h = clear true x (drop n log) (λ byte. all_clear x byte log (h byte) n)
+pub none_hit : (x : Entry) (log : List Entry) (n : ℕ) → ((byte : ℕ) → All (Misses x byte) log) → hit within_group x (drop n log) ≡ None
+none_hit x log n h = clear within_group x (drop n log) (λ byte. all_clear x byte log (h byte) n)
 
 -- ---- what is kept stays
 

@@ -2,7 +2,7 @@
 use Rattle.std.specs.Prelude.{◌≡◌, ℕ, ◌+◌, ◌*◌, ◌/◌, ◌%◌, ◌^◌, ◌<◌, true, nat_eq, Option, None, Some, List, slice_index_or}
 use Rattle.std.specs.HashMap.{get}
 use Rattle.clmodel.specs.Cells.{byte_count, covers}
-use Rattle.clmodel.specs.Launch.{conflict_between}
+use Rattle.clmodel.specs.Launch.{within_group, conflict_between}
 use Rattle.clmodel.specs.declared.access.Access.{Access}
 use Rattle.clmodel.specs.declared.access.Region.{Region}
 use Rattle.clmodel.specs.declared.access.Region.TheVariants as region
@@ -38,7 +38,7 @@ IsMarked cells y = (byte : ℕ) → covers y.first (byte_count y.width) byte ≡
 
 -- an access conflicts with none of those of which this is kept
 abbrev pub Passes : Recent → Access → Type 0
-Passes r x = (y : Access) (byte : ℕ) → Describes r y → conflict_between true y x byte ≡ None
+Passes r x = (y : Access) (byte : ℕ) → Describes r y → conflict_between within_group y x byte ≡ None
 
 -- what is kept before is kept after
 abbrev pub KeepsAll : Cells → Cells → Type 0

@@ -9,10 +9,11 @@ use Rattle.shadow_list.specs.Kinds.{kind_number}
 use Rattle.shadow_list.specs.declared.index.Index.{Index}
 use Rattle.shadow_list.specs.declared.log.Entry.{Entry}
 
--- the key of an access
+-- the key of an access: another of its group and its interval has another, as long as objects have at most 2^24 bytes, groups at most 2^16
+-- items, and a launch at most 2^15 buffers and 2^15 local objects (own)
 abbrev pub access_key : Access → ℕ
 access_key x =
-    (x.first % 2 ^ 28 * 2 ^ 16 + x.item % 2 ^ 16) * 2 ^ 20 + object x.region % 2 ^ 12 * 2 ^ 8 + (kind_number x.kind * 16 + byte_count x.width)
+    (x.first % 2 ^ 24 * 2 ^ 16 + x.item % 2 ^ 16) * 2 ^ 24 + object x.region * 2 ^ 8 + (kind_number x.kind * 16 + byte_count x.width)
 
 -- what a map has at a key, and 0 where it has nothing
 abbrev pub newest_of : {S : Type 0} → HashMap ℕ ℕ S → ℕ → ℕ

@@ -3,11 +3,13 @@ use Rattle.std.specs.Prelude.{◌≡◌, ℕ, zero, suc, ◌+◌, ◌<◌, ◌^�
 use Rattle.std.specs.Option.{option_map}
 use Rattle.std.specs.declared.alloc.AllocError.{AllocError}
 use Rattle.clmodel.specs.Cells.{byte_count}
-use Rattle.clmodel.specs.Launch.{conflict_between}
+use Rattle.clmodel.specs.Launch.{access_in, within_group, across_groups, conflict_between}
 use Rattle.clmodel.specs.Run.{or_else, by_region}
 use Rattle.clmodel.specs.declared.access.Access.{Access}
 use Rattle.clmodel.specs.declared.access.Region.{Region}
 use Rattle.clmodel.specs.declared.access.Region.TheVariants as region
+use Rattle.clmodel.specs.declared.access.Operation.{Operation}
+use Rattle.clmodel.specs.declared.access.Rule.{Rule}
 use Rattle.shadow_list.specs.declared.log.Entry.{Entry}
 use Rattle.shadow_list.specs.declared.log.Hit.{Hit}
 use Rattle.shadow_list.specs.declared.log.Fenced.{Fenced}
@@ -19,28 +21,32 @@ pub record Log : Type 0 where
   pub local_interval : ℕ
   pub global_interval : ℕ
 
+-- what a log is given of an item's operation at the bytes from `first` on: it gives the access its interval itself
+abbrev pub entry_of : ℕ → Region → ℕ → Operation → ℕ → Entry
+entry_of item region first operation event = record { access = access_in item region first operation 0; event = event }
+
 -- an access as it is kept: with the running interval of its address space
 abbrev pub stamped : Log → Entry → Entry
 stamped log x = record x { access = record x.access { interval = by_region x.access.region log.global_interval log.local_interval } }
 
--- how the earlier of two accesses conflicts with the later on a byte, if they do, and whether they are of one group
-abbrev pub hit_between : Bool → Entry → Entry → ℕ → Option Hit
-hit_between one_group y x byte =
-    option_map (λ clash. record { clash = clash; earlier = y; later = x; byte = byte }) (conflict_between one_group y.access x.access byte)
+-- how the earlier of two accesses conflicts with the later on a byte by their rule, if they do
+abbrev pub hit_between : Rule → Entry → Entry → ℕ → Option Hit
+hit_between rule y x byte =
+    option_map (λ clash. record { clash = clash; earlier = y; later = x; byte = byte }) (conflict_between rule y.access x.access byte)
 
 -- the conflict of an access on a byte with the earliest that has one
-abbrev pub hit_on : Bool → Entry → ℕ → List Entry → Option Hit
-hit_on one_group x byte [] = None
-hit_on one_group x byte (y ∷ log) = or_else (hit_between one_group y x byte) (hit_on one_group x byte log)
+abbrev pub hit_on : Rule → Entry → ℕ → List Entry → Option Hit
+hit_on rule x byte [] = None
+hit_on rule x byte (y ∷ log) = or_else (hit_between rule y x byte) (hit_on rule x byte log)
 
 -- the same on the lowest of n bytes
-abbrev pub hit_from : Bool → Entry → List Entry → ℕ → ℕ → Option Hit
-hit_from one_group x log byte zero = None
-hit_from one_group x log byte (suc count) = or_else (hit_on one_group x byte log) (hit_from one_group x log (suc byte) count)
+abbrev pub hit_from : Rule → Entry → List Entry → ℕ → ℕ → Option Hit
+hit_from rule x log byte zero = None
+hit_from rule x log byte (suc count) = or_else (hit_on rule x byte log) (hit_from rule x log (suc byte) count)
 
 -- the conflict of an access with a log: on its lowest byte that has one, there with the earliest access
-unfoldable pub hit : Bool → Entry → List Entry → Option Hit
-hit one_group x log = hit_from one_group x log x.access.first (byte_count x.access.width)
+unfoldable pub hit : Rule → Entry → List Entry → Option Hit
+hit rule x log = hit_from rule x log x.access.first (byte_count x.access.width)
 
 -- an access is in a log, whatever the number of its event
 abbrev pub IsThere : List Entry → Access → Type 0
@@ -54,7 +60,7 @@ IsKept log x new = (IsThere log x.access × (new ≡ log)) ⊎ ((IsThere log x.a
 -- what `note` leaves and answers
 abbrev pub IsNoted : Log → Entry → Log → Result (Option Hit) AllocError → Type 0
 IsNoted old x new (Ok found) =
-    (found ≡ hit true (stamped old x) old.accesses) × IsKept old.accesses (stamped old x) new.accesses
+    (found ≡ hit within_group (stamped old x) old.accesses) × IsKept old.accesses (stamped old x) new.accesses
     × (new.local_interval ≡ old.local_interval) × (new.global_interval ≡ old.global_interval)
 IsNoted old x new (Err _) = new ≡ old
 
@@ -76,7 +82,7 @@ in_buffer (region.Local group number) = false
 -- the conflict of the first access of another group's log that has one with a log: only buffers are shared between groups (6.5.2)
 abbrev pub across : List Entry → List Entry → Option Hit
 across log [] = None
-across log (x ∷ later) = or_else (if in_buffer x.access.region then hit false x log else None) (across log later)
+across log (x ∷ later) = or_else (if in_buffer x.access.region then hit across_groups x log else None) (across log later)
 
 -- its bytes are numbers of 64 bits
 abbrev pub IsPlaced : Entry → Type 0
@@ -85,3 +91,7 @@ IsPlaced x = x.access.first + byte_count x.access.width < 2 ^ 64
 -- a log by its parts
 abbrev pub logged : List Entry → ℕ → ℕ → Log
 logged accesses local_interval global_interval = record { accesses = accesses; local_interval = local_interval; global_interval = global_interval }
+
+-- the log of a group that has made no access and passed no barrier
+abbrev pub fresh_log : Log
+fresh_log = logged [] 0 0

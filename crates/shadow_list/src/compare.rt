@@ -5,9 +5,9 @@ ghost use Rattle.clmodel.specs.Cells.{byte_count, covers};
 ghost use Rattle.clmodel.specs.Launch.{unordered, share, same_region, conflict_between};
 ghost use Rattle.shadow_list.specs.Log.{IsPlaced, hit_between};
 
-use crate::kinds::{byte_count, clash};
+use crate::kinds::clash;
 use crate::log::{Entry, Hit};
-use clmodel::access::{Access, Clash, Region};
+use clmodel::access::{Access, Clash, Region, Rule};
 
 /// Whether two regions are one.
 fn same_region(a: Region, b: Region) -> bool
@@ -28,11 +28,11 @@ fn same_region(a: Region, b: Region) -> bool
     }
 }
 
-/// Whether no barrier orders two accesses of different items, of one group or of two.
-fn unordered(one_group: bool, x: &Access, y: &Access) -> bool
-    ensures { result ≡ unordered one_group x.now y.now }
+/// Whether by their rule no barrier orders two accesses of different items.
+fn unordered(rule: Rule, x: &Access, y: &Access) -> bool
+    ensures { result ≡ unordered rule x.now y.now }
 {
-    x.item != y.item && (!one_group || x.interval == y.interval)
+    x.item != y.item && (!rule.one_group || x.interval == y.interval)
 }
 
 /// Whether a byte is one of `count` from the first on.
@@ -47,27 +47,27 @@ fn share(x: &Access, y: &Access, byte: u64) -> bool
     ensures { result ≡ share x.now y.now byte }
 {
     same_region(x.region, y.region)
-        && covers(x.first, byte_count(x.width), byte)
-        && covers(y.first, byte_count(y.width), byte)
+        && covers(x.first, x.width.bytes(), byte)
+        && covers(y.first, y.width.bytes(), byte)
 }
 
-/// How two accesses conflict on a byte, if they do.
+/// How two accesses conflict on a byte by their rule, if they do.
 #[tactic(auto, unfolding(clmodel::specs::Launch::conflict_between))]
-fn conflict_between(one_group: bool, x: &Access, y: &Access, byte: u64) -> Option<Clash>
-    ensures { result ≡ conflict_between one_group x.now y.now byte }
+fn conflict_between(rule: Rule, x: &Access, y: &Access, byte: u64) -> Option<Clash>
+    ensures { result ≡ conflict_between rule x.now y.now byte }
 {
-    if unordered(one_group, x, y) && share(x, y, byte) {
+    if unordered(rule, x, y) && share(x, y, byte) {
         clash(x.kind, y.kind)
     } else {
         None
     }
 }
 
-/// The conflict of an earlier access with a later one on a byte, if they have one.
-pub fn hit_between(one_group: bool, earlier: &Entry, later: &Entry, byte: u64) -> Option<Hit>
-    ensures { result ≡ hit_between one_group earlier.now later.now byte }
+/// The conflict of an earlier access with a later one on a byte by their rule, if they have one.
+pub fn hit_between(rule: Rule, earlier: &Entry, later: &Entry, byte: u64) -> Option<Hit>
+    ensures { result ≡ hit_between rule earlier.now later.now byte }
 {
-    let clash = conflict_between(one_group, &earlier.access, &later.access, byte)?;
+    let clash = conflict_between(rule, &earlier.access, &later.access, byte)?;
     Some(Hit {
         clash,
         earlier: *earlier,
@@ -77,21 +77,21 @@ pub fn hit_between(one_group: bool, earlier: &Entry, later: &Entry, byte: u64) -
 }
 
 /// Whether two accesses may conflict: a test in one go, which rules out most of them.
-pub fn may_conflict(one_group: bool, x: &Access, y: &Access) -> bool
+pub fn may_conflict(rule: Rule, x: &Access, y: &Access) -> bool
     requires placed { x.now.first + byte_count x.now.width < 2 ^ 64 }
     requires other_placed { y.now.first + byte_count y.now.width < 2 ^ 64 }
-    ensures { result ≡ false → (byte : ℕ) → conflict_between one_group x.now y.now byte ≡ None }
+    ensures { result ≡ false → (byte : ℕ) → conflict_between rule x.now y.now byte ≡ None }
 {
-    if !unordered(one_group, x, y) {
+    if !unordered(rule, x, y) {
         return false;
     }
     if !same_region(x.region, y.region) {
         return false;
     }
-    if y.first + byte_count(y.width) <= x.first {
+    if y.first + y.width.bytes() <= x.first {
         return false;
     }
-    if x.first + byte_count(x.width) <= y.first {
+    if x.first + x.width.bytes() <= y.first {
         return false;
     }
     clash(x.kind, y.kind).is_some()

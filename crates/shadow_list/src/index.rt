@@ -3,15 +3,16 @@
 ghost use Rattle.std.specs.Prelude.{◌≡◌, ◌+◌, ◌*◌, ◌<◌, ◌≤◌, ◌^◌, ℕ, length, [], ◌∷◌, ◌++◌, if◌then◌else◌, All, IsTrue, is_ok, false, true, drop};
 ghost use Rattle.std.specs.HashMap.{IsEmpty};
 ghost use Rattle.clmodel.specs.Cells.{byte_count};
+ghost use Rattle.clmodel.specs.Launch.{within_group};
 ghost use Rattle.shadow_list.specs.Index.{access_key, newest_of, IsIndexed};
 ghost use Rattle.shadow_list.specs.Log.{IsPlaced, IsThere, hit};
 
 use crate::cells::Cells;
-use crate::kinds::{byte_count, kind_number};
+use crate::kinds::kind_number;
 use crate::log::{Entry, Hit};
 use crate::marks::object;
 use crate::search::{hit, is_among, is_same};
-use clmodel::access::Access;
+use clmodel::access::{Access, Rule};
 use std::alloc::{AllocError, Global};
 use std::collections::HashMap;
 
@@ -23,14 +24,14 @@ pub(crate) struct Index {
     pub(crate) cells: Cells,
 }
 
-/// The key of an access, which no other has of its group and its interval: as long as buffers have at most 2^28 bytes, groups at most
-/// 2^16 items, and a launch at most 2^11 buffers.
+/// The key of an access, which no other has of its group and its interval: as long as buffers and local objects have at most 2^24 bytes,
+/// groups at most 2^16 items, and a launch at most 2^15 buffers and 2^15 local objects.
 fn access_key(x: &Access) -> u64
     ensures { result ≡ access_key x.now }
 {
-    let start = x.first % 268435456 * 65536 + (x.item % 65536) as u64;
-    let kind = kind_number(x.kind) as u64 * 16 + byte_count(x.width);
-    start * 1048576 + object(x.region) % 4096 * 256 + kind
+    let start = x.first % 16777216 * 65536 + (x.item % 65536) as u64;
+    let kind = kind_number(x.kind) as u64 * 16 + x.width.bytes();
+    start * 16777216 + object(x.region) * 256 + kind
 }
 
 impl Index {
@@ -72,12 +73,12 @@ pub(crate) fn hit_from(x: &Entry, log: &[Entry], index: &Index, from: usize) -> 
     requires all_placed { All IsPlaced log.now }
     requires indexed { IsIndexed log.now index.now }
     requires within { from ≤ length log.now }
-    ensures { result ≡ hit true x.now (drop from log.now) }
+    ensures { result ≡ hit within_group x.now (drop from log.now) }
 {
     if index.cells.is_clear(&x.access) {
         None
     } else {
-        hit(true, x, &log[from..])
+        hit(Rule::WITHIN_GROUP, x, &log[from..])
     }
 }
 

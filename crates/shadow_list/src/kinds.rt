@@ -1,25 +1,10 @@
-//! Widths and kinds of accesses.
+//! Kinds of accesses.
 
-ghost use Rattle.std.specs.Prelude.{◌≡◌, ◌<◌, ◌≤◌};
-ghost use Rattle.clmodel.specs.Cells.{byte_count};
+ghost use Rattle.std.specs.Prelude.{◌≡◌, ◌<◌};
 ghost use Rattle.clmodel.specs.Launch.{class_number, clash};
 ghost use Rattle.shadow_list.specs.Kinds.{kind_number};
 
-use clmodel::access::{AccessKind, Clash, Class, Width};
-
-/// How many bytes an element of a width has.
-pub fn byte_count(width: Width) -> u64
-    ensures value { result ≡ byte_count width }
-    ensures some { 0 < result }
-    ensures short { result ≤ 8 }
-{
-    match width {
-        Width::One => 1,
-        Width::Two => 2,
-        Width::Four => 4,
-        Width::Eight => 8,
-    }
-}
+use clmodel::access::{AccessKind, Clash, Class};
 
 /// The number of a class.
 fn class_number(class: Class) -> u8

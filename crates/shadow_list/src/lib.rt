@@ -11,6 +11,6 @@ mod marks;
 mod recent;
 mod search;
 
-pub use kinds::{byte_count, clash, kind_number};
+pub use kinds::{clash, kind_number};
 pub use list::ListLog;
 pub use log::{AccessLog, Accesses, Entry, Fenced, Hit};

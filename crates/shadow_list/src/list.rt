@@ -1,15 +1,15 @@
 //! A log that is a list.
 
-ghost use Rattle.std.specs.Prelude.{◌≡◌, ◌≤◌, ◌+◌, [], All, false, true, length, take};
+ghost use Rattle.std.specs.Prelude.{◌≡◌, ◌≤◌, ◌+◌, All, false, true, length, take};
 ghost use Rattle.clmodel.specs.Run.{by_region};
 ghost use Rattle.shadow_list.specs.Index.{IsIndexed};
-ghost use Rattle.shadow_list.specs.Log.{IsPlaced, stamped, logged, in_buffer};
+ghost use Rattle.shadow_list.specs.Log.{IsPlaced, stamped, logged, fresh_log, in_buffer};
 ghost use Rattle.shadow_list.specs.Past.{IsBefore};
 
 use crate::index::{Index, hit_from, is_there, keep};
 use crate::log::{AccessLog, Accesses, Entry, Fenced, Hit};
 use crate::search::hit;
-use clmodel::access::{Access, Region};
+use clmodel::access::{Access, Region, Rule};
 use std::alloc::{AllocError, Global};
 
 /// A log with an index: for each byte, whose its accesses were in its newest interval and of which kind, and for each access where the
@@ -40,7 +40,7 @@ pub struct ListLog {
 impl ListLog {
     /// A log without accesses, in the first interval of both address spaces. It takes no memory.
     pub fn new(alloc: Global) -> Self
-        ensures { logged result.entries.items result.local_interval result.global_interval ≡ logged [] 0 0 }
+        ensures { logged result.entries.items result.local_interval result.global_interval ≡ fresh_log }
     {
         ListLog {
             entries: Vec::new(alloc),
@@ -54,7 +54,7 @@ impl ListLog {
 
     /// Forgets all accesses, as `new` begins, and keeps the memory.
     pub fn clear(&mut self)
-        ensures { logged self.new.entries.items self.new.local_interval self.new.global_interval ≡ logged [] 0 0 }
+        ensures { logged self.new.entries.items self.new.local_interval self.new.global_interval ≡ fresh_log }
     {
         self.entries.clear();
         self.local_interval = 0;
@@ -135,7 +135,7 @@ impl AccessLog for ListLog {
         for i in 0..later.len() {
             let entry = later.get(i);
             if let Region::Buffer(_) = entry.access.region {
-                if let Some(found) = hit(false, &entry, self.entries.as_slice()) {
+                if let Some(found) = hit(Rule::ACROSS_GROUPS, &entry, self.entries.as_slice()) {
                     return Some(found);
                 }
             }

@@ -1,9 +1,9 @@
 //! What an access log is.
 
 ghost use Rattle.std.specs.Prelude.{◌≡◌, ◌<◌, ◌+◌, ◌-◌, ◌^◌, ℕ, length, slice_index_or};
-ghost use Rattle.shadow_list.specs.Log.{Log, IsNoted, IsPlaced, running, after_fence, across};
+ghost use Rattle.shadow_list.specs.Log.{Log, IsNoted, IsPlaced, entry_of, running, after_fence, across};
 
-use clmodel::access::{Access, Clash};
+use clmodel::access::{Access, Clash, Operation, Region};
 use std::alloc::AllocError;
 
 /// An access with the number of its event in the run of its group.
@@ -11,6 +11,24 @@ use std::alloc::AllocError;
 pub struct Entry {
     pub access: Access,
     pub event: u32,
+}
+
+impl Entry {
+    /// What a log is given of an item's operation at the bytes of a region from `first` on. Its interval is 0, in place of which the
+    /// log puts the running one.
+    pub fn of(item: u32, region: Region, first: u64, operation: Operation, event: u32) -> Self
+        ensures { result ≡ entry_of item region first operation event }
+    {
+        let access = Access {
+            item,
+            region,
+            first,
+            width: operation.width(),
+            kind: operation.kind(),
+            interval: 0,
+        };
+        Entry { access, event }
+    }
 }
 
 /// A conflict of two accesses on a byte.

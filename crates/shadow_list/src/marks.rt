@@ -3,13 +3,12 @@
 ghost use Rattle.std.specs.Prelude.{◌≡◌, ◌+◌, ◌*◌, ◌/◌, ◌%◌, ◌<◌, ◌≤◌, ◌^◌, ℕ, true, length, Some, nat_eq, slice_index_or, IsTrue, OnOk, IfOk, IfSome};
 ghost use Rattle.std.specs.HashMap.{get};
 ghost use Rattle.clmodel.specs.Cells.{byte_count};
-ghost use Rattle.clmodel.specs.Launch.{conflict_between};
+ghost use Rattle.clmodel.specs.Launch.{within_group, conflict_between};
 ghost use Rattle.clmodel.specs.declared.access.Access.{Access as TheAccess};
 ghost use Rattle.shadow_list.specs.Recent.{Describes, nothing};
 ghost use Rattle.shadow_list.specs.Cells.{object, cell_key, cell_of, IsMarked, Passes, KeepsAll};
 
 use crate::cells::Cells;
-use crate::kinds::byte_count;
 use crate::recent::Recent;
 use clmodel::access::{Access, Region};
 use std::alloc::AllocError;
@@ -76,9 +75,9 @@ impl Cells {
     /// Whether an access conflicts with none of those that are kept.
     pub(crate) fn is_clear(&self, x: &Access) -> bool
         requires { x.now.first + byte_count x.now.width < 2 ^ 64 }
-        ensures { IsTrue result → (y : TheAccess) (byte : ℕ) → IsMarked self.now y → conflict_between true y x.now byte ≡ None }
+        ensures { IsTrue result → (y : TheAccess) (byte : ℕ) → IsMarked self.now y → conflict_between within_group y x.now byte ≡ None }
     {
-        let count = byte_count(x.width);
+        let count = x.width.bytes();
         let here = count.min(8 - x.first % 8);
         self.passes(x, x.first, here)
             && (here == count || self.passes(x, x.first + here, count - here))
@@ -116,7 +115,7 @@ impl Cells {
         ensures kept { (y : TheAccess) → IsMarked self.old y → IsMarked self.new y }
         ensures added { OnOk result (IsMarked self.new x.now) }
     {
-        let count = byte_count(x.width);
+        let count = x.width.bytes();
         let here = count.min(8 - x.first % 8);
         self.mark_part(x, x.first, here)?;
         if here < count {

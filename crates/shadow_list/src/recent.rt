@@ -1,7 +1,7 @@
 //! What is kept of the accesses to a byte.
 
 ghost use Rattle.std.specs.Prelude.{◌≡◌, ℕ, IsTrue, None, true};
-ghost use Rattle.clmodel.specs.Launch.{clash, conflict_between};
+ghost use Rattle.clmodel.specs.Launch.{clash, within_group, conflict_between};
 ghost use Rattle.clmodel.specs.declared.access.Access.{Access as TheAccess};
 ghost use Rattle.clmodel.specs.declared.access.AccessKind.{AccessKind as TheKind};
 ghost use Rattle.shadow_list.specs.Recent.{is_kind, Describes, nothing};
@@ -98,7 +98,7 @@ impl Recent {
     /// Whether an access conflicts with none of them: it is of a later interval, all are of its own item, or all are of one kind that agrees
     /// with its own.
     pub(crate) fn passes(self, x: &Access) -> bool
-        ensures { IsTrue result → (y : TheAccess) (byte : ℕ) → Describes self y → conflict_between true y x.now byte ≡ None }
+        ensures { IsTrue result → (y : TheAccess) (byte : ℕ) → Describes self y → conflict_between within_group y x.now byte ≡ None }
     {
         if self.interval != x.interval {
             return self.interval < x.interval;

@@ -5,16 +5,15 @@ ghost use Rattle.clmodel.specs.Cells.{byte_count};
 ghost use Rattle.shadow_list.specs.Log.{IsPlaced, IsThere, hit_on, hit_from, hit};
 
 use crate::compare::{hit_between, may_conflict};
-use crate::kinds::byte_count;
 use crate::log::{Entry, Hit};
-use clmodel::access::Access;
+use clmodel::access::{Access, Rule};
 
 /// The conflict of an access on a byte with the earliest that has one.
-fn hit_on(one_group: bool, x: &Entry, byte: u64, log: &[Entry]) -> Option<Hit>
-    ensures { result ≡ hit_on one_group x.now byte log.now }
+fn hit_on(rule: Rule, x: &Entry, byte: u64, log: &[Entry]) -> Option<Hit>
+    ensures { result ≡ hit_on rule x.now byte log.now }
 {
     for y in log {
-        if let Some(hit) = hit_between(one_group, y, x, byte) {
+        if let Some(hit) = hit_between(rule, y, x, byte) {
             return Some(hit);
         }
     }
@@ -22,31 +21,31 @@ fn hit_on(one_group: bool, x: &Entry, byte: u64, log: &[Entry]) -> Option<Hit>
 }
 
 /// Whether no access of a log conflicts with this one: one pass, however wide it is.
-fn is_clear(one_group: bool, x: &Entry, log: &[Entry]) -> bool
+fn is_clear(rule: Rule, x: &Entry, log: &[Entry]) -> bool
     requires placed { IsPlaced x.now }
     requires all_placed { All IsPlaced log.now }
-    ensures { IsTrue result → (byte : ℕ) → hit_on one_group x.now byte log.now ≡ None }
+    ensures { IsTrue result → (byte : ℕ) → hit_on rule x.now byte log.now ≡ None }
 {
     for y in log {
-        if may_conflict(one_group, &y.access, &x.access) {
+        if may_conflict(rule, &y.access, &x.access) {
             return false;
         }
     }
     true
 }
 
-/// The conflict of an access with a log: on its lowest byte that has one, there with the earliest access.
-pub fn hit(one_group: bool, x: &Entry, log: &[Entry]) -> Option<Hit>
+/// The conflict of an access with a log by their rule: on its lowest byte that has one, there with the earliest access.
+pub fn hit(rule: Rule, x: &Entry, log: &[Entry]) -> Option<Hit>
     requires placed { IsPlaced x.now }
     requires all_placed { All IsPlaced log.now }
-    ensures { result ≡ hit one_group x.now log.now }
+    ensures { result ≡ hit rule x.now log.now }
 {
-    if is_clear(one_group, x, log) {
+    if is_clear(rule, x, log) {
         return None;
     }
     let first = x.access.first;
-    for byte in first..first + byte_count(x.access.width) {
-        if let Some(hit) = hit_on(one_group, x, byte, log) {
+    for byte in first..first + x.access.width.bytes() {
+        if let Some(hit) = hit_on(rule, x, byte, log) {
             return Some(hit);
         }
     }

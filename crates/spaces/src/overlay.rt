@@ -7,7 +7,6 @@ ghost use Rattle.spaces_base.specs.Space.{Becomes, IsStored, IsUpdated};
 use crate::pages::Pages;
 use clmodel::access::{Class, Width};
 use spaces_base::cells::{combined, is_inside};
-use spaces_base::width::byte_count;
 use spaces_base::{Space, SpaceFault};
 use std::alloc::{AllocError, Global};
 use std::marker::Model;
@@ -89,7 +88,7 @@ impl<'a> Space for Overlay<'a> {
     }
 
     fn load(&self, at: u64, width: Width) -> Result<u64, SpaceFault> {
-        let count = byte_count(width);
+        let count = width.bytes();
         if !self.is_inside(at, count) {
             return Err(SpaceFault::Bounds);
         }
@@ -100,7 +99,7 @@ impl<'a> Space for Overlay<'a> {
         ensures stored { IsStored false true self.old.bytes at width value self.new.bytes result }
         ensures lent { self.new.base ≡ self.old.base }
     {
-        let count = byte_count(width);
+        let count = width.bytes();
         if !self.is_inside(at, count) {
             return Err(SpaceFault::Bounds);
         }

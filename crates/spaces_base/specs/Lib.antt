@@ -1,3 +1,4 @@
 pub mod Space
 pub mod Tables
 pub mod Buffers
+pub mod Operations

@@ -4,13 +4,14 @@
 mod buffers;
 pub mod cells;
 mod constant;
+mod operations;
 mod row;
 pub mod space;
 mod table;
-pub mod width;
 
 pub use buffers::Buffers;
 pub use constant::ConstView;
+pub use operations::{first_byte, perform};
 pub use row::{LocalMem, Plain, PrivateArray};
 pub use space::{Space, SpaceFault};
 pub use table::Table;

@@ -4,7 +4,6 @@ ghost use Rattle.std.specs.Prelude.{◌≡◌, Some, None, map, length, replicat
 
 use crate::cells::{Cell, combined, is_inside, put, read};
 use crate::space::{Space, SpaceFault};
-use crate::width::byte_count;
 use clmodel::access::{Class, Width};
 use std::alloc::{AllocError, Global};
 use std::marker::Model;
@@ -79,7 +78,7 @@ impl<C: Cell> Space for Row<C> {
     }
 
     fn load(&self, at: u64, width: Width) -> Result<u64, SpaceFault> {
-        let count = byte_count(width);
+        let count = width.bytes();
         if !is_inside(self.cells.len(), at, count) {
             return Err(SpaceFault::Bounds);
         }
@@ -90,7 +89,7 @@ impl<C: Cell> Space for Row<C> {
     }
 
     fn store(&mut self, at: u64, width: Width, value: u64) -> Result<(), SpaceFault> {
-        let count = byte_count(width);
+        let count = width.bytes();
         if !is_inside(self.cells.len(), at, count) {
             return Err(SpaceFault::Bounds);
         }

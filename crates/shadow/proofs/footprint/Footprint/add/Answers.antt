@@ -10,7 +10,7 @@ use Rattle.shadow.proofs.footprint.Footprint.add.Goals as goal
 pub mark_all-requires-clause-there : goal.mark_all-requires-clause-there
 mark_all-requires-clause-there c byte low high =
     let first = c.args.x.now.first in
-    either_page (IsPage c.make-2.new.self.pages.items) first c.byte_count-count.result byte c.byte_count-count.ensures.short low high
+    either_page (IsPage c.make-2.new.self.pages.items) first c.bytes-count.result byte c.bytes-count.ensures.short low high
     (c.make-2.ensures.kept (first / 256) c.in_ok-make.ensures.there) c.in_ok-make-2.ensures.there
 
 pub returns-in_err-make-clause-same : goal.returns-in_err-make-clause-same
@@ -33,9 +33,9 @@ returns-clause-added c log keeps m byte =
     let x = c.args.x.now in
     let old = c.make_room.new.buffers.items in
     let n = c.in-Buffer.number in
-    let test : at_byte (region.Buffer m) byte x ≡ ((m == n) && covers x.first c.byte_count-count.result byte) =
-    ap₂ (λ a k. same_region (region.Buffer m) a && covers x.first k byte) c.in-Buffer.is (sym c.byte_count-count.ensures.value) in
-    marked_cells old n (record { pages = c.mark_all.new.pages }) c.index_mut-touched.result.now (mark_of x) x.first c.byte_count-count.result c.in_ok-make_room.ensures.long c.index_mut-touched.ensures.value
+    let test : at_byte (region.Buffer m) byte x ≡ ((m == n) && covers x.first c.bytes-count.result byte) =
+    ap₂ (λ a k. same_region (region.Buffer m) a && covers x.first k byte) c.in-Buffer.is (sym c.bytes-count.ensures.value) in
+    marked_cells old n (record { pages = c.mark_all.new.pages }) c.index_mut-touched.result.now (mark_of x) x.first c.bytes-count.result c.in_ok-make_room.ensures.long c.index_mut-touched.ensures.value
     (λ k. c.mark_all.ensures k
-    ∙ ap (λ z. if covers x.first c.byte_count-count.result k then seen_with z (mark_of x) else z) (c.make-2.ensures.same k ∙ c.make.ensures.same k)) m byte
+    ∙ ap (λ z. if covers x.first c.bytes-count.result k then seen_with z (mark_of x) else z) (c.make-2.ensures.same k ∙ c.make.ensures.same k)) m byte
     ∙ ap₂ (λ (z : Bool) a. if z then seen_with a (mark_of x) else a) (sym test) (c.make_room.ensures.same m byte ∙ keeps m byte)

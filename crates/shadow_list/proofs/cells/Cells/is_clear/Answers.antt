@@ -11,7 +11,7 @@ returns-then-here-count c h y byte kept =
     marked_clear x y (λ key b. at_key c.args.self.now key (b % 8))
     (λ b on.
     let r = covered x.first (byte_count x.width) b on in
-    c.passes.ensures c.if-passes.true b r.0 (omega (arith, r.1, eqb-true c.min-here.result c.byte_count-count.result h, c.byte_count-count.ensures.value)))
+    c.passes.ensures c.if-passes.true b r.0 (omega (arith, r.1, eqb-true c.min-here.result c.bytes-count.result h, c.bytes-count.ensures.value)))
     kept byte
 
 pub returns-else-here-count : goal.returns-else-here-count
@@ -21,5 +21,5 @@ returns-else-here-count c h y byte kept =
     (λ b on.
     let r = covered x.first (byte_count x.width) b on in
     decided (nat_lt b (x.first + c.min-here.result)) (λ t. c.passes.ensures c.if-passes.true b r.0 (ltb-true b (x.first + c.min-here.result) t))
-    (λ t. c.passes-else-here-count.ensures h b (ltb-false b (x.first + c.min-here.result) t) (omega (arith, r.1, c.byte_count-count.ensures.value, c.min-here.ensures))))
+    (λ t. c.passes-else-here-count.ensures h b (ltb-false b (x.first + c.min-here.result) t) (omega (arith, r.1, c.bytes-count.ensures.value, c.min-here.ensures))))
     kept byte

@@ -24,4 +24,4 @@ returns-in_ok-mark_part-2-clause-added c byte on =
     (c.in_ok-mark_part.ensures.added byte r.0 (ltb-true byte (x.first + c.min-here.result) t)))
     (λ t.
     c.in_ok-mark_part-2.ensures.added byte (ltb-false byte (x.first + c.min-here.result) t)
-    (omega (arith, r.1, c.byte_count-count.ensures.value, c.min-here.ensures)))
+    (omega (arith, r.1, c.bytes-count.ensures.value, c.min-here.ensures)))
