@@ -1,5 +1,5 @@
 -- Conflicts of an access with what is kept of a log.
-use Rattle.std.proofs.Common.{◌≡◌, ◌≢◌, ℕ, zero, suc, false, Option, Some, None, refl, sym, ap, ap₂, ◌∙◌, subst, inl, inr, List, [], ◌∷◌, ◌++◌, ne_eqb}
+use Rattle.std.proofs.Common.{◌≡◌, ◌≢◌, ℕ, zero, suc, Option, Some, None, refl, sym, ap, ap₂, ◌∙◌, subst, inl, inr, List, [], ◌∷◌, ◌++◌, ne_eqb}
 use Rattle.std.specs.Option.{option_map}
 use Rattle.clmodel.specs.Launch.{Launch, group_of, across_groups, conflict, conflict_between}
 use Rattle.clmodel.specs.Run.{or_else}
