@@ -318,7 +318,7 @@ pub done_last :
     → (HasGroup l (suc g) → ⊥) → HoldsGroups l (suc g) mid
 done_last l g so_far log more spaces c run finds mid changes first last = done_joined l g so_far log more spaces c run finds mid changes first (λ h. absurd (last h))
 
--- a buffer_at that another is put in place of, as long as it
+-- a buffer that another is put in place of, as long as it
 pub front : {A : Type 0} (n : ℕ) (xs rest : List A) → length xs ≡ n → take n (xs ++ rest) ≡ xs
 front zero [] rest e = refl
 front zero (x ∷ xs) rest e = absurd (omega (arith, e))
