@@ -1,16 +1,13 @@
 -- Results of groups, one after another.
-use Rattle.std.proofs.Common.{◌≡◌, ℕ, suc, ◌*◌, ◌%◌, ◌<◌, ◌≤◌, ◌^◌, Bool, true, false, Option, List, [], ◌∷◌, ◌++◌, refl, sym, subst, arith}
-use Rattle.std.proofs.Math.Nat.{mul-le-mul_left, mul-le-mul_right}
+use Rattle.std.proofs.Common.{◌≡◌, ℕ, suc, ◌*◌, ◌≤◌, Bool, true, false, Option, List, [], ◌∷◌, ◌++◌, refl, sym, subst}
 use Rattle.std.proofs.lemmas.Bool.{false≢true}
 use Rattle.std.proofs.lemmas.List.{append_assoc, append-nil}
 use Rattle.clmodel.specs.Launch.{Launch}
-use Rattle.clmodel.specs.Setup.{Setup, item_count, group_items}
 use Rattle.group_run.specs.Results.{IsResult}
 use Rattle.group_run.specs.declared.result.GroupResult.{GroupResult}
 use Rattle.group_run.specs.declared.result.GroupResult.TheVariants.{Done, Stopped}
 use Rattle.joining.specs.Steps.{HasGroup}
 use Rattle.shadow_list.specs.Log.{Log}
-use Rattle.snapshot_run.specs.Launches.{HasGroups}
 use Rattle.snapshot_merge.specs.Launches.{AreResults}
 use Rattle.tests.specs.Merges.{is_stopped}
 
@@ -42,17 +39,3 @@ lead_stopped bytes log_of l group results came lead e there is = lead (came ∷ 
 pub lead_all : {G L : Type 0} (bytes : G → List (Option ℕ)) (log_of : L → Log) (l : Launch) (group : ℕ) (results : List (GroupResult G L))
     → Lead bytes log_of l group results → l.items ≤ group * l.group_size → AreResults bytes log_of l 0 results
 lead_all bytes log_of l group results lead all = subst (AreResults bytes log_of l 0) (append-nil results) (lead [] all)
-
--- a launch of at most 65,536 items in whole groups of at most 256, within a small budget
-pub has_groups : (setup other : Setup) (size : ℕ) → setup ≡ other → size ≡ group_items other.range → size ≤ 256 → item_count other.range % size ≡ 0
-    → item_count other.range ≤ 65536 → other.budget ≤ 100 → HasGroups setup
-has_groups setup other size same grouped few whole few_items limited =
-    subst (λ (s : Setup). HasGroups s) (sym same)
-    (record {
-      whole = subst (λ n. item_count other.range % n ≡ 0) grouped whole;
-      numbered = omega (arith, few_items);
-      short = subst (λ n. n * other.budget < 2 ^ 32) grouped (short size other.budget few limited);
-    })
-  where
-    short : (n b : ℕ) → n ≤ 256 → b ≤ 100 → n * b < 2 ^ 32
-    short n b few limited = omega (arith, mul-le-mul_right b few, mul-le-mul_left 256 limited)
