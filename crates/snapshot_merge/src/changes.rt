@@ -118,12 +118,11 @@ impl Before<'_, '_, '_, '_> {
     fn joined_byte(&self, number: u32, x: &Access, byte: u64) -> u8
         ensures { (log : List TheAccess) → IsFootprint self.now.footprint.now log → result ≡ value_of (map (λ row. row.now) self.now.first.now) self.now.lower.now (λ n b. joining.wrote log (region.Buffer n) b) (map (λ space. space.bytes) self.now.own.now) number x.now byte }
     {
-        let both = self.footprint.is_written(number, byte);
         match x.kind {
             AccessKind::Load => self.own_byte(number, byte),
             AccessKind::Store => self.own_byte(number, byte),
             AccessKind::Update(class) => {
-                if both {
+                if self.footprint.is_written(number, byte) {
                     byte_of(self.joined_word(class, number, byte / 4 * 4), byte % 4)
                 } else {
                     self.own_byte(number, byte)
