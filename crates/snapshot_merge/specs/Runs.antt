@@ -5,13 +5,6 @@ use Rattle.clmodel.specs.declared.schedule.Event.{Event}
 use Rattle.clmodel.specs.declared.schedule.Run.{Run}
 use Rattle.clmodel.specs.declared.schedule.Run.TheVariants as run
 
--- the last run is of this item (own)
-abbrev pub EndsWith : ℕ → List Run → Type 0
-EndsWith item [] = ⊥
-EndsWith item (run.Item other count ∷ []) = item ≡ other
-EndsWith item (run.Release group ∷ []) = ⊥
-EndsWith item (first ∷ second ∷ runs) = EndsWith item (second ∷ runs)
-
 -- runs with the events of further runs: they stay merged where both were (own)
 pub record Adds (old new more : List Run) (added : List Event) : Type 0 where
   pub events : events_of new ≡ events_of old ++ added
