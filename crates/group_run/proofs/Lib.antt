@@ -2,7 +2,6 @@ pub mod Merging
 pub mod Turns
 pub mod Logs
 pub mod Lists
-pub mod Performed
 pub mod Memory
 pub mod Stepping
 pub mod Items

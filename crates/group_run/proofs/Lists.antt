@@ -1,5 +1,5 @@
 -- Lists with one element changed.
-use Rattle.std.proofs.Common.{◌≡◌, ℕ, zero, suc, ◌⊎◌, Option, None, Some, List, [], ◌∷◌, set, refl, sym, ap, ◌∙◌, inl, inr}
+use Rattle.std.proofs.Common.{◌≡◌, ℕ, zero, suc, ◌⊎◌, None, Some, List, [], ◌∷◌, set, refl, sym, ap, inl, inr}
 use Rattle.std.specs.Prelude.{slice_get}
 use Rattle.clmodel.proofs.Steps.{none_some, some_inj}
 

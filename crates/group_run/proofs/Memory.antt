@@ -1,5 +1,5 @@
 -- Operations on one of a program's spaces, seen in the memory that the spaces hold.
-use Rattle.std.proofs.Common.{◌≡◌, ℕ, ◌+◌, ◌<◌, ◌≤◌, ◌⊎◌, Bool, true, ◌&&◌, ◌==◌, Option, None, Some, List, length, set, refl, sym, ap, ◌∙◌, subst, inl, inr, arith, eq-eqb, ne_eqb}
+use Rattle.std.proofs.Common.{◌≡◌, ℕ, ◌+◌, ◌<◌, ◌≤◌, ◌⊎◌, Bool, ◌&&◌, ◌==◌, Option, None, Some, List, length, set, refl, sym, ap, ◌∙◌, subst, inl, inr, arith, eq-eqb, ne_eqb}
 use Rattle.std.specs.Prelude.{slice_get, Result, Ok, Err}
 use Rattle.std.proofs.lemmas.List.{length-set}
 use Rattle.std.proofs.lemmas.Option.{slice_get_within}
@@ -18,7 +18,8 @@ use Rattle.clmodel.specs.declared.action.Answer.{Answer}
 use Rattle.clmodel.proofs.Steps.{if_true, if_false}
 use Rattle.spaces_base.specs.declared.space.SpaceFault.{SpaceFault}
 use Rattle.spaces_base.specs.declared.space.SpaceFault.TheVariants as space_fault
-use Rattle.group_run.specs.Fits.{Holds, HoldsMemory, IsPerformed, IsMoved, bytes_or, space_of}
+use Rattle.spaces_base.specs.Operations.{IsPerformed}
+use Rattle.group_run.specs.Fits.{SpacesHold, ObjectsHold, IsMoved, bytes_or, space_of}
 use Rattle.group_run.proofs.Lists.{get_set, none_set}
 
 -- ---- the space of an object
@@ -57,7 +58,7 @@ local_there bytes buffers locals o n first operation e h =
     there (λ cells. cells) locals n (omega (arith, m, size_some operation))
 
 -- it has as many bytes as its region
-sized_as : {S : Type 0} (bytes : S → List (Option ℕ)) (l : Launch) (count : ℕ) (at : ℕ → Region) (xs : List S) (m : Memory) (n : ℕ) → Holds bytes l count at xs m → length (bytes_or bytes (slice_get xs n)) ≡ bytes_of l (at n)
+sized_as : {S : Type 0} (bytes : S → List (Option ℕ)) (l : Launch) (count : ℕ) (at : ℕ → Region) (xs : List S) (m : Memory) (n : ℕ) → SpacesHold bytes l count at xs m → length (bytes_or bytes (slice_get xs n)) ≡ bytes_of l (at n)
 sized_as {S} bytes l count at xs m n h = go (slice_get xs n) refl
   where
     go : (o : Option S) → slice_get xs n ≡ o → length (bytes_or bytes o) ≡ bytes_of l (at n)
@@ -66,7 +67,7 @@ sized_as {S} bytes l count at xs m n h = go (slice_get xs n) refl
 
 pub space_sized :
     {G : Type 0} (bytes : G → List (Option ℕ)) (l : Launch) (group : ℕ) (buffers : List G) (locals : List (List (Option ℕ))) (m : Memory) (o : Object)
-    → HoldsMemory bytes l group buffers locals m → length (space_of bytes buffers locals o) ≡ bytes_of l (region_of group o)
+    → ObjectsHold bytes l group buffers locals m → length (space_of bytes buffers locals o) ≡ bytes_of l (region_of group o)
 space_sized bytes l group buffers locals m (object.Buffer n) h = sized_as bytes l (length l.buffers) region.Buffer buffers m n h.0
 space_sized bytes l group buffers locals m (object.Local n) h = sized_as (λ cells. cells) l (length l.local_sizes) (region.Local group) locals m n h.1
 
@@ -74,8 +75,8 @@ space_sized bytes l group buffers locals m (object.Local n) h = sized_as (λ cel
 
 holds_set :
     {S : Type 0} (bytes : S → List (Option ℕ)) (l : Launch) (count : ℕ) (at : ℕ → Region) (xs : List S) (n : ℕ) (x y : S) (old new : Memory) → slice_get xs n ≡ Some x
-    → length (bytes y) ≡ length (bytes x) → cells_of (bytes y) ≡ new (at n) → ((j : ℕ) → (j ≡ n → ⊥) → new (at j) ≡ old (at j)) → Holds bytes l count at xs old
-    → Holds bytes l count at (set xs n y) new
+    → length (bytes y) ≡ length (bytes x) → cells_of (bytes y) ≡ new (at n) → ((j : ℕ) → (j ≡ n → ⊥) → new (at j) ≡ old (at j)) → SpacesHold bytes l count at xs old
+    → SpacesHold bytes l count at (set xs n y) new
 holds_set {S} bytes l count at xs n x y old new e s c other h =
     record {
       many = length-set xs n y ∙ h.many;
@@ -108,7 +109,7 @@ in_buffer :
     {G : Type 0} (bytes : G → List (Option ℕ)) (l : Launch) (group : ℕ) (buffers : List G) (locals : List (List (Option ℕ))) (n : ℕ) (x y : G) (may_want : Bool)
     (first : ℕ) (operation : Operation) (result : Result Answer SpaceFault) → slice_get buffers n ≡ Some x → first + size_of operation ≤ length (bytes x)
     → IsPerformed may_want (bytes x) first operation (bytes y) result
-    → IsMoved (HoldsMemory bytes l group buffers locals) (HoldsMemory bytes l group (set buffers n y) locals) (region.Buffer n) first operation result
+    → IsMoved (ObjectsHold bytes l group buffers locals) (ObjectsHold bytes l group (set buffers n y) locals) (region.Buffer n) first operation result
 in_buffer bytes l group buffers locals n x y may_want first operation (Ok answer) e b h = λ m held.
     let at = region.Buffer n in
     let c : cells_of (bytes x) ≡ m at = held.0.cells n x e in
@@ -140,7 +141,7 @@ in_local :
     {G : Type 0} (bytes : G → List (Option ℕ)) (l : Launch) (group : ℕ) (buffers : List G) (locals : List (List (Option ℕ))) (n : ℕ) (x y : List (Option ℕ)) (may_want : Bool)
     (first : ℕ) (operation : Operation) (result : Result Answer SpaceFault) → slice_get locals n ≡ Some x → first + size_of operation ≤ length x
     → IsPerformed may_want x first operation y result
-    → IsMoved (HoldsMemory bytes l group buffers locals) (HoldsMemory bytes l group buffers (set locals n y)) (region.Local group n) first operation result
+    → IsMoved (ObjectsHold bytes l group buffers locals) (ObjectsHold bytes l group buffers (set locals n y)) (region.Local group n) first operation result
 in_local bytes l group buffers locals n x y may_want first operation (Ok answer) e b h = λ m held.
     let at = region.Local group n in
     let c : cells_of x ≡ m at = held.1.cells n x e in
@@ -172,18 +173,18 @@ pub on_buffer :
     {G : Type 0} (bytes : G → List (Option ℕ)) (l : Launch) (group : ℕ) (buffers : List G) (locals : List (List (Option ℕ))) (n : ℕ) (x y : G) (may_want : Bool)
     (first : ℕ) (operation : Operation) (result : Result Answer SpaceFault) (o : Object) → o ≡ object.Buffer n → slice_get buffers n ≡ Some x
     → first + size_of operation ≤ length (space_of bytes buffers locals o) → IsPerformed may_want (bytes x) first operation (bytes y) result
-    → IsMoved (HoldsMemory bytes l group buffers locals) (HoldsMemory bytes l group (set buffers n y) locals) (region_of group o) first operation result
+    → IsMoved (ObjectsHold bytes l group buffers locals) (ObjectsHold bytes l group (set buffers n y) locals) (region_of group o) first operation result
 on_buffer bytes l group buffers locals n x y may_want first operation result o is e b h =
     let m = subst (λ z. first + size_of operation ≤ length (space_of bytes buffers locals z)) is b in
-    subst (λ z. IsMoved (HoldsMemory bytes l group buffers locals) (HoldsMemory bytes l group (set buffers n y) locals) (region_of group z) first operation result) (sym is)
+    subst (λ z. IsMoved (ObjectsHold bytes l group buffers locals) (ObjectsHold bytes l group (set buffers n y) locals) (region_of group z) first operation result) (sym is)
     (in_buffer bytes l group buffers locals n x y may_want first operation result e (subst (λ z. first + size_of operation ≤ length (bytes_or bytes z)) e m) h)
 
 pub on_local :
     {G : Type 0} (bytes : G → List (Option ℕ)) (l : Launch) (group : ℕ) (buffers : List G) (locals : List (List (Option ℕ))) (n : ℕ) (x y : List (Option ℕ)) (may_want : Bool)
     (first : ℕ) (operation : Operation) (result : Result Answer SpaceFault) (o : Object) → o ≡ object.Local n → slice_get locals n ≡ Some x
     → first + size_of operation ≤ length (space_of bytes buffers locals o) → IsPerformed may_want x first operation y result
-    → IsMoved (HoldsMemory bytes l group buffers locals) (HoldsMemory bytes l group buffers (set locals n y)) (region_of group o) first operation result
+    → IsMoved (ObjectsHold bytes l group buffers locals) (ObjectsHold bytes l group buffers (set locals n y)) (region_of group o) first operation result
 on_local bytes l group buffers locals n x y may_want first operation result o is e b h =
     let m = subst (λ z. first + size_of operation ≤ length (space_of bytes buffers locals z)) is b in
-    subst (λ z. IsMoved (HoldsMemory bytes l group buffers locals) (HoldsMemory bytes l group buffers (set locals n y)) (region_of group z) first operation result) (sym is)
+    subst (λ z. IsMoved (ObjectsHold bytes l group buffers locals) (ObjectsHold bytes l group buffers (set locals n y)) (region_of group z) first operation result) (sym is)
     (in_local bytes l group buffers locals n x y may_want first operation result e (subst (λ z. first + size_of operation ≤ length (bytes_or (λ cells. cells) z)) e m) h)

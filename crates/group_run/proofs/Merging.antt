@@ -7,7 +7,7 @@ use Rattle.clmodel.specs.declared.schedule.Event.TheVariants as event
 use Rattle.clmodel.specs.declared.schedule.Run.{Run}
 use Rattle.clmodel.specs.declared.schedule.Run.TheVariants as run
 
-events_of-append : (xs ys : List Run) → events_of (xs ++ ys) ≡ events_of xs ++ events_of ys
+pub events_of-append : (xs ys : List Run) → events_of (xs ++ ys) ≡ events_of xs ++ events_of ys
 events_of-append [] ys = refl
 events_of-append (run.Item item count ∷ xs) ys =
     ap (λ z. replicate count (event.Item item) ++ z) (events_of-append xs ys)
@@ -15,11 +15,11 @@ events_of-append (run.Item item count ∷ xs) ys =
 events_of-append (run.Release group ∷ xs) ys = ap (λ z. event.Release group ∷ z) (events_of-append xs ys)
 
 -- a run's first event stays where more runs follow
-begins_before : (item : ℕ) (r : Run) (xs ys : List Run) → BeginsApart item (r ∷ xs) → BeginsApart item (r ∷ ys)
+pub begins_before : (item : ℕ) (r : Run) (xs ys : List Run) → BeginsApart item (r ∷ xs) → BeginsApart item (r ∷ ys)
 begins_before item (run.Item other count) xs ys h = h
 begins_before item (run.Release group) xs ys h = h
 
-merged_append :
+pub merged_append :
     (runs : List Run) (r : Run) → IsMerged runs → IsMerged (r ∷ []) → ((item : ℕ) → EndsWith item runs → BeginsApart item (r ∷ [])) → IsMerged (runs ++ r ∷ [])
 merged_append [] r m n f = n
 merged_append (run.Item item count ∷ []) r m n f = (m.0, f item refl, n)
@@ -27,7 +27,7 @@ merged_append (run.Item item count ∷ (x ∷ runs)) r m n f = (m.0, begins_befo
 merged_append (run.Release group ∷ []) r m n f = n
 merged_append (run.Release group ∷ (x ∷ runs)) r m n f = merged_append (x ∷ runs) r m n f
 
-merged_grow : (runs : List Run) (item n m : ℕ) → 0 < m → IsMerged (runs ++ run.Item item n ∷ []) → IsMerged (runs ++ run.Item item m ∷ [])
+pub merged_grow : (runs : List Run) (item n m : ℕ) → 0 < m → IsMerged (runs ++ run.Item item n ∷ []) → IsMerged (runs ++ run.Item item m ∷ [])
 merged_grow [] item n m p h = (p, tt, tt)
 merged_grow (run.Item other count ∷ []) item n m p h = (h.0, h.1, (p, tt, tt))
 merged_grow (run.Item other count ∷ (x ∷ runs)) item n m p h =

@@ -1,23 +1,21 @@
 -- What a program holds of a group at the start of its run, and at its end.
-use Rattle.std.proofs.Common.{◌≡◌, ℕ, zero, suc, ◌+◌, ◌-◌, ◌*◌, ◌/◌, ◌%◌, ◌<◌, ◌≤◌, ◌^◌, Bool, false, ◌==◌, Option, None, Some, List, [], ◌∷◌, ◌++◌, length, map, replicate, refl, sym, ap, ap₂, ◌∙◌, subst, arith, eq-eqb, ne_eqb}
+use Rattle.std.proofs.Common.{◌≡◌, ℕ, zero, suc, ◌+◌, ◌-◌, ◌*◌, ◌<◌, ◌≤◌, ◌^◌, Bool, false, Option, None, Some, List, [], ◌∷◌, length, map, replicate, refl, sym, ap, ap₂, ◌∙◌, subst, arith}
 use Rattle.std.specs.Prelude.{slice_get, slice_index, slice_index_or}
 use Rattle.std.proofs.Math.Path.{fun_ext}
-use Rattle.std.proofs.Math.Nat.{mod-lt, suc-mul, mul_comm, lt_of_mul-lt-mul_right, mul-le-mul_right, mul-le-mul_left, le-mul_of_pos_right}
+use Rattle.std.proofs.Math.Nat.{suc-mul, mul_comm, mul-le-mul_right, mul-le-mul_left, le-mul_of_pos_right}
 use Rattle.std.proofs.lemmas.List.{length-replicate, length-map}
-use Rattle.std.proofs.lemmas.Nat.{div-add-mod', div-mul-add}
-use Rattle.std.proofs.lemmas.Option.{slice_get_within}
-use Rattle.clmodel.specs.Cells.{Cells, cells_of}
-use Rattle.clmodel.specs.Launch.{Launch, group_of, bytes_of}
-use Rattle.clmodel.specs.Law.{IsBounded, sum_below, answers_left, newest_conflict}
-use Rattle.clmodel.specs.Run.{State, Events, Memory, start, initial, first_item, cells_from, contents, left}
+use Rattle.clmodel.specs.Cells.{cells_of}
+use Rattle.clmodel.specs.Launch.{Launch}
+use Rattle.clmodel.specs.Law.{sum_below}
+use Rattle.clmodel.specs.Run.{State, Events, Memory, start, initial, cells_from, contents}
 use Rattle.clmodel.specs.declared.action.Action.{Action}
 use Rattle.clmodel.specs.declared.action.Answer.{Answer}
 use Rattle.clmodel.specs.declared.access.Region.TheVariants as region
 use Rattle.clmodel.specs.declared.fault.Fault.{Fault}
 use Rattle.clmodel.proofs.Steps.{none_some, some_inj}
 use Rattle.item_run.specs.Running.{Running, action_of}
-use Rattle.shadow_list.specs.Log.{Log, logged}
-use Rattle.group_run.specs.Fits.{Holds, HoldsMemory, Fits, Counts, AreStarted, group_left}
+use Rattle.shadow_list.specs.Log.{Log, fresh_log}
+use Rattle.group_run.specs.Fits.{SpacesHold, Fits, AreStarted}
 use Rattle.joining.specs.Parts.{IsGrouped}
 use Rattle.joining.specs.Group.{Plan, IsGroup, Reached, Reported, IsRun, plan_of}
 use Rattle.group_run.specs.Logs.{IsLogged}
@@ -82,7 +80,7 @@ local_past (s ∷ sizes) (suc n) e = local_past sizes n e
 many_filled : {G : Type 0} (bytes : G → List (Option ℕ)) (xs : List G) (bs : List (List ℕ)) → map bytes xs ≡ map (λ b. map Some b) bs → length xs ≡ length bs
 many_filled bytes xs bs h = sym (length-map xs bytes) ∙ ap length h ∙ length-map bs (λ b. map Some b)
 
-buffers_hold : {G : Type 0} (bytes : G → List (Option ℕ)) (l : Launch) (xs : List G) → map bytes xs ≡ filled l → Holds bytes l (length l.buffers) region.Buffer xs (initial l)
+buffers_hold : {G : Type 0} (bytes : G → List (Option ℕ)) (l : Launch) (xs : List G) → map bytes xs ≡ filled l → SpacesHold bytes l (length l.buffers) region.Buffer xs (initial l)
 buffers_hold bytes l xs h =
     record {
       many = many_filled bytes xs l.buffers h;
@@ -91,7 +89,7 @@ buffers_hold bytes l xs h =
       cells = λ n x e. fun_ext (λ byte. ap (λ z. cells_of z byte) (filled_at bytes xs l.buffers h n x e) ∙ cells_some (slice_index_or l.buffers n []) byte);
     }
 
-locals_hold : (l : Launch) (group : ℕ) → Holds (λ cells. cells) l (length l.local_sizes) (region.Local group) (map (λ size. replicate size None) l.local_sizes) (initial l)
+locals_hold : (l : Launch) (group : ℕ) → SpacesHold (λ cells. cells) l (length l.local_sizes) (region.Local group) (map (λ size. replicate size None) l.local_sizes) (initial l)
 locals_hold l group =
     record {
       many = length-map l.local_sizes (λ size. replicate size None);
@@ -134,12 +132,12 @@ from_none a b h = omega (arith, h)
 pub start_fits :
     {G : Type 0} (bytes : G → List (Option ℕ)) (ro : Bool) (l : Launch) (group : ℕ) (items : List Running) (globals : List G) (locals : List (List (Option ℕ))) (log : Log)
     → IsRunnable l → group * l.group_size < l.items → ro ≡ false → map bytes globals ≡ filled l → locals ≡ map (λ size. replicate size None) l.local_sizes
-    → log ≡ logged [] 0 0 → AreStarted l (group * l.group_size) l.group_size items
+    → log ≡ fresh_log → AreStarted l (group * l.group_size) l.group_size items
     → Fits action_of bytes ro (plan_of l group) items 0 globals locals log [] (start l)
 start_fits bytes ro l group items globals locals log ready there writable full unset fresh started =
     let bound = ready.bounded.0 in
     subst (λ z. Fits action_of bytes ro (plan_of l group) items 0 globals locals z [] (start l)) (sym fresh)
-    (subst (λ z. Fits action_of bytes ro (plan_of l group) items 0 globals z (logged [] 0 0) [] (start l)) (sym unset)
+    (subst (λ z. Fits action_of bytes ro (plan_of l group) items 0 globals z (fresh_log) [] (start l)) (sym unset)
     (record {
       whole = group_is l group (groups_whole l ready) there;
       writable = writable;
@@ -177,7 +175,7 @@ pub record Begins (p : Plan) (fits : Events → State → Type 0) (origin : Stat
 pub begins :
     {G : Type 0} (bytes : G → List (Option ℕ)) (ro : Bool) (l : Launch) (group first count : ℕ) (items : List Running) (globals : List G) (locals : List (List (Option ℕ))) (log : Log)
     → IsRunnable l → group * l.group_size < l.items → ro ≡ false → map bytes globals ≡ filled l → locals ≡ map (λ size. replicate size None) l.local_sizes
-    → log ≡ logged [] 0 0 → first ≡ group * l.group_size → count ≡ l.group_size → AreStarted l first count items
+    → log ≡ fresh_log → first ≡ group * l.group_size → count ≡ l.group_size → AreStarted l first count items
     → Begins (record { launch = l; group = group; first = first; count = length items })
     (Fits action_of bytes ro (record { launch = l; group = group; first = first; count = length items }) items 0 globals locals log) (start l)
 begins bytes ro l group first count items globals locals log ready there writable full unset fresh e h started =

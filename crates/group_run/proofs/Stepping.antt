@@ -1,16 +1,15 @@
 -- What an access and a release leave of what a program holds of a group.
-use Rattle.std.proofs.Common.{◌≡◌, ℕ, zero, suc, ◌+◌, ◌-◌, ◌*◌, ◌<◌, ◌≤◌, ◌^◌, ◌⊎◌, ℤ, Bool, true, false, ◌==◌, if◌then◌else◌, Option, None, Some, List, [], ◌∷◌, ◌++◌, length, set, refl, sym, ap, ap₂, ◌∙◌, subst, inl, inr, arith, eq-eqb, ne_eqb, length-append}
+use Rattle.std.proofs.Common.{◌≡◌, ℕ, ◌+◌, ◌-◌, ◌<◌, ◌≤◌, ◌^◌, ◌⊎◌, ℤ, Bool, true, false, ◌==◌, if◌then◌else◌, Option, None, Some, List, [], ◌∷◌, ◌++◌, length, set, refl, sym, ap, ap₂, ◌∙◌, subst, inl, inr, arith, eq-eqb, ne_eqb, length-append}
 use Rattle.std.specs.Prelude.{reverse, slice_get, Ok, Err}
 use Rattle.std.specs.Option.{option_map}
-use Rattle.std.proofs.lemmas.Bool.{false≢true, cases_eq, cases_lt}
+use Rattle.std.proofs.lemmas.Bool.{cases_eq}
 use Rattle.std.proofs.lemmas.List.{append_assoc, append-nil, reverse-append, length-reverse}
 use Rattle.std.proofs.lemmas.Option.{slice_get_within}
-use Rattle.clmodel.specs.Cells.{byte_count, width_of, size_of, reads, found, answer_to, effect, lowest_unset}
-use Rattle.clmodel.specs.Launch.{Launch, region_of, location_of, kind_of, group_of, bytes_of, first_byte}
+use Rattle.clmodel.specs.Cells.{size_of, reads, found, answer_to, effect, lowest_unset}
+use Rattle.clmodel.specs.Launch.{Launch, within_group, access_in, region_of, location_of, kind_of, group_of, bytes_of, first_byte}
 use Rattle.clmodel.specs.Run.{State, Events, Memory, step, next_action, straggler, byte_at, by_region, access_of, with_cells, released, changed}
-use Rattle.clmodel.specs.Law.{Makes, Reports, Keeps, newest_conflict, conflict_fault, unset_turn, access_turn, item_turn, is_over, IsBounded, sum_below}
+use Rattle.clmodel.specs.Law.{Makes, Reports, newest_conflict, conflict_fault, unset_turn, access_turn, item_turn, is_over, sum_below}
 use Rattle.clmodel.specs.declared.access.Access.{Access}
-use Rattle.clmodel.specs.declared.access.Conflict as conflict_type
 use Rattle.clmodel.specs.declared.access.Object.{Object}
 use Rattle.clmodel.specs.declared.access.Operation.{Operation}
 use Rattle.clmodel.specs.declared.access.Region.{Region}
@@ -27,13 +26,14 @@ use Rattle.clmodel.specs.declared.schedule.Event.TheVariants.{Item, Release}
 use Rattle.clmodel.proofs.CellLaws.{found_unset}
 use Rattle.clmodel.proofs.Ending.{sum_below_less, not_over}
 use Rattle.clmodel.proofs.Steps.{none_some, some_inj, if_true, if_false, made, region_for, item_at, release_at}
-use Rattle.shadow_list.specs.Log.{Log, stamped, hit, IsKept, IsNoted}
+use Rattle.shadow_list.specs.Log.{Log, stamped, entry_of, hit, IsKept, IsNoted}
 use Rattle.shadow_list.specs.declared.log.Entry.{Entry}
 use Rattle.shadow_list.specs.declared.log.Hit.{Hit}
-use Rattle.group_run.specs.Fits.{Holds, HoldsMemory, IsMoved, Fits, Counts, AreAnswered, group_left, space_of}
+use Rattle.group_run.specs.Fits.{ObjectsHold, IsMoved, Fits, Counts, AreAnswered, group_left, space_of}
 use Rattle.joining.specs.Group.{Plan, IsGroup}
-use Rattle.group_run.specs.Logs.{accesses_of, conflict_of, AreMine, numbered, Notes, IsLogged, IsJudged, entry_of, after_fences}
-use Rattle.group_run.specs.Loops.{Steps, IsMade}
+use Rattle.group_run.specs.Logs.{conflict_of, numbered, Notes, IsLogged, IsJudged, after_fences}
+use Rattle.group_run.specs.Loops.{Steps, IsMade, judged_as}
+use Rattle.group_run.specs.declared.machine.Made.{Made}
 use Rattle.group_run.specs.declared.machine.Made.TheVariants as made_as
 use Rattle.spaces_base.specs.declared.space.SpaceFault.TheVariants as space_fault
 use Rattle.group_run.proofs.Lists.{get_set}
@@ -129,7 +129,7 @@ stamped_is :
     (p : Plan) (log : Log) (events : Events) (s : State) (item : ℕ) (at : Region) (first : ℕ) (op : Operation) (number : ℕ) → IsLogged p log events s → group_of p.launch item ≡ p.group
     → stamped log (entry_of item at first op number) ≡ record { access = access_of p.launch s item at first op; event = number }
 stamped_is p log events s item at first op number h e =
-    ap (λ i. record { access = record { item = item; region = at; first = first; width = width_of op; kind = kind_of op; interval = i }; event = number })
+    ap (λ i. record { access = access_in item at first op i; event = number })
     (ap₂ (by_region at) (h.global_interval ∙ ap s.global_interval (sym e)) (h.local_interval ∙ ap s.local_interval (sym e)))
 
 -- the numbered accesses with one more
@@ -164,7 +164,7 @@ pub record Moves {G : Type 0} (bytes : G → List (Option ℕ)) (p : Plan) (glob
   pub value : ℕ
   pub finds : found op (s.memory at) first ≡ Some value
   pub answers : answer ≡ answer_to op value
-  pub holds : HoldsMemory bytes p.launch p.group globals locals (with_cells s.memory at (effect op value (s.memory at) first))
+  pub holds : ObjectsHold bytes p.launch p.group globals locals (with_cells s.memory at (effect op value (s.memory at) first))
 
 -- after an access that is done
 pub record Accessed
@@ -244,7 +244,7 @@ accessed_fits acts bytes ro p items number globals globals2 locals locals2 log l
           };
       conflict =
           newest_is_hit l p.group s.log y log.accesses mine f.logged.mine f.logged.keeps
-          ∙ ap (λ z. option_map conflict_of (hit true z log.accesses)) (sym is)
+          ∙ ap (λ z. option_map conflict_of (hit within_group z log.accesses)) (sym is)
           ∙ ap (option_map conflict_of) (sym kept.0);
     }
 
@@ -319,34 +319,6 @@ released_fits acts bytes ro p items items2 number globals locals log log2 events
 
 -- ---- an item's access, as the code makes it
 
--- what the code knows of an access: `p` is the plan at the start, `q` once the item was asked, `r` once it is answered
-pub record Doing
-    {I G : Type 0} (acts : I → List Answer → Action) (bytes : G → List (Option ℕ)) (ro : Bool) (p q : Plan) (items : List I) (number : ℕ) (globals : List G)
-    (locals : List (List (Option ℕ))) (log : Log) (old : Events → State → Type 0) (k : ℕ) (o : Object) (element : ℤ) (op : Operation) : Type 0 where
-  pub same : q ≡ p
-  pub between : (events : Events) (s : State) → old events s → Fits acts bytes ro q items number globals locals log events s
-  pub acting : (events : Events) (s : State) → old events s → next_action p.launch s (p.first + k) ≡ action.Access o element op
-  pub inside : k < q.count
-
-acting_now :
-    {I G : Type 0} (acts : I → List Answer → Action) (bytes : G → List (Option ℕ)) (ro : Bool) (p q : Plan) (items : List I) (number : ℕ) (globals : List G)
-    (locals : List (List (Option ℕ))) (log : Log) (old : Events → State → Type 0) (k : ℕ) (o : Object) (element : ℤ) (op : Operation)
-    → Doing acts bytes ro p q items number globals locals log old k o element op → (events : Events) (s : State) → old events s
-    → next_action q.launch s (q.first + k) ≡ action.Access o element op
-acting_now acts bytes ro p q items number globals locals log old k o element op d events s h =
-    subst (λ z. next_action z.launch s (z.first + k) ≡ action.Access o element op) (sym d.same) (d.acting events s h)
-
--- where the access lies, by the launch
-placed_at :
-    {I G : Type 0} (acts : I → List Answer → Action) (bytes : G → List (Option ℕ)) (ro : Bool) (q : Plan) (items : List I) (number : ℕ) (globals : List G)
-    (locals : List (List (Option ℕ))) (log : Log) (events : Events) (s : State) (k : ℕ) (o : Object) (element : ℤ) (op : Operation) (place : Option ℕ)
-    → Fits acts bytes ro q items number globals locals log events s → k < q.count → place ≡ first_byte (length (space_of bytes globals locals o)) element (size_of op)
-    → byte_at q.launch (q.first + k) o element op ≡ place
-placed_at acts bytes ro q items number globals locals log events s k o element op place f b e =
-    ap (λ g. first_byte (bytes_of q.launch (region_of g o)) element (size_of op)) (f.whole.mine k b)
-    ∙ ap (λ n. first_byte n element (size_of op)) (sym (space_sized bytes q.launch q.group globals locals s.memory o f.holds))
-    ∙ sym e
-
 nothing_mapped : {A B : Type 0} (f : A → B) (o : Option A) → option_map f o ≡ None → o ≡ None
 nothing_mapped f None h = refl
 nothing_mapped f (Some a) h = absurd (none_some (f a) (sym h))
@@ -355,109 +327,108 @@ some_mapped : {A B : Type 0} (f : A → B) (o : Option A) (b : B) → option_map
 some_mapped f None b h = absurd (none_some b h)
 some_mapped f (Some a) b h = (a, refl, some_inj (f a) b h)
 
-pub done_made :
-    {I G : Type 0} (acts : I → List Answer → Action) (bytes : G → List (Option ℕ)) (ro : Bool) (p q r : Plan) (items : List I) (number : ℕ) (globals globals2 : List G)
-    (locals locals2 : List (List (Option ℕ))) (log log2 : Log) (old : Events → State → Type 0) (k : ℕ) (i j : I) (o : Object) (element : ℤ) (op : Operation) (first : ℕ)
-    (answer : Answer) (told : Option Fault) → Doing acts bytes ro p q items number globals locals log old k o element op → r ≡ q → slice_get items k ≡ Some i
-    → Some first ≡ first_byte (length (space_of bytes globals locals o)) element (size_of op)
-    → IsMoved (HoldsMemory bytes q.launch q.group globals locals) (HoldsMemory bytes q.launch q.group globals2 locals2) (region_of q.group o) first op (Ok answer)
-    → ((answers : List Answer) → acts j answers ≡ acts i (answer ∷ answers))
-    → IsJudged q.launch log (entry_of (q.first + k) (region_of q.group o) first op number) log2 told → told ≡ None
-    → IsMade p old (Fits acts bytes ro r (set items k j) (number + 1) globals2 locals2 log2) (p.first + k) made_as.Done
-done_made acts bytes ro p q r items number globals globals2 locals locals2 log log2 old k i j o element op first answer told d last e place moved answered judged none =
-    subst (λ z. IsMade z old (Fits acts bytes ro r (set items k j) (number + 1) globals2 locals2 log2) (z.first + k) made_as.Done) d.same
-    (subst (λ z. IsMade q old (Fits acts bytes ro z (set items k j) (number + 1) globals2 locals2 log2) (q.first + k) made_as.Done) (sym last)
-    (λ events s h asked.
-    let f = d.between events s h in
-    let w = moved s.memory f.holds in
-    let a =
-    accessed_fits acts bytes ro q items number globals globals2 locals locals2 log log2 events s k i j o element op first answer judged.0 f d.inside e
-    (acting_now acts bytes ro p q items number globals locals log old k o element op d events s h)
-    (placed_at acts bytes ro q items number globals locals log events s k o element op (Some first) f d.inside place)
-    (record { value = w.0; finds = w.1; answers = w.2; holds = w.3 }) answered judged.1 in
-    let quiet = nothing_mapped (λ hit. conflict_fault q.launch (conflict_of hit)) judged.0 (sym judged.2 ∙ none) in
-    (a.next, a.steps, a.fits, a.conflict ∙ ap (option_map conflict_of) quiet)))
+module _
+    {I G : Type 0} (acts : I → List Answer → Action) (bytes : G → List (Option ℕ)) (ro : Bool) (p : Plan) (items : List I) (number : ℕ) (globals : List G)
+    (locals : List (List (Option ℕ))) (log : Log) (k : ℕ) (o : Object) (element : ℤ) (op : Operation) (inside : k < p.count) where
+  abbrev before : Events → State → Type 0
+  before = Fits acts bytes ro p items number globals locals log
 
-pub conflict_made :
-    {I G : Type 0} (acts : I → List Answer → Action) (bytes : G → List (Option ℕ)) (ro : Bool) (p q r : Plan) (items : List I) (number : ℕ) (globals globals2 : List G)
-    (locals locals2 : List (List (Option ℕ))) (log log2 : Log) (old : Events → State → Type 0) (k : ℕ) (i j : I) (o : Object) (element : ℤ) (op : Operation) (first : ℕ)
-    (answer : Answer) (told : Option Fault) (report : Fault) → Doing acts bytes ro p q items number globals locals log old k o element op → r ≡ q → slice_get items k ≡ Some i
-    → Some first ≡ first_byte (length (space_of bytes globals locals o)) element (size_of op)
-    → IsMoved (HoldsMemory bytes q.launch q.group globals locals) (HoldsMemory bytes q.launch q.group globals2 locals2) (region_of q.group o) first op (Ok answer)
-    → ((answers : List Answer) → acts j answers ≡ acts i (answer ∷ answers))
-    → IsJudged q.launch log (entry_of (q.first + k) (region_of q.group o) first op number) log2 told → told ≡ Some report
-    → IsMade p old (Fits acts bytes ro r (set items k j) (number + 1) globals2 locals2 log2) (p.first + k) (made_as.Conflicts report)
-conflict_made acts bytes ro p q r items number globals globals2 locals locals2 log log2 old k i j o element op first answer told report d last e place moved answered judged some =
-    subst (λ z. IsMade z old (Fits acts bytes ro r (set items k j) (number + 1) globals2 locals2 log2) (z.first + k) (made_as.Conflicts report)) d.same
-    (subst (λ z. IsMade q old (Fits acts bytes ro z (set items k j) (number + 1) globals2 locals2 log2) (q.first + k) (made_as.Conflicts report)) (sym last)
-    (λ events s h asked.
-    let f = d.between events s h in
-    let w = moved s.memory f.holds in
-    let a =
-    accessed_fits acts bytes ro q items number globals globals2 locals locals2 log log2 events s k i j o element op first answer judged.0 f d.inside e
-    (acting_now acts bytes ro p q items number globals locals log old k o element op d events s h)
-    (placed_at acts bytes ro q items number globals locals log events s k o element op (Some first) f d.inside place)
-    (record { value = w.0; finds = w.1; answers = w.2; holds = w.3 }) answered judged.1 in
-    let found = some_mapped (λ hit. conflict_fault q.launch (conflict_of hit)) judged.0 report (sym judged.2 ∙ some) in
-    (a.next, conflict_of found.0, a.steps, a.fits, a.conflict ∙ ap (option_map conflict_of) found.1, found.2)))
+  -- where the access lies, by the launch
+  placed_at :
+      (events : Events) (s : State) (place : Option ℕ) → before events s → place ≡ first_byte (length (space_of bytes globals locals o)) element (size_of op)
+      → byte_at p.launch (p.first + k) o element op ≡ place
+  placed_at events s place f e =
+      ap (λ g. first_byte (bytes_of p.launch (region_of g o)) element (size_of op)) (f.whole.mine k inside)
+      ∙ ap (λ n. first_byte n element (size_of op)) (sym (space_sized bytes p.launch p.group globals locals s.memory o f.holds))
+      ∙ sym e
 
-pub bounds_made :
-    {I G : Type 0} (acts : I → List Answer → Action) (bytes : G → List (Option ℕ)) (ro : Bool) (p q : Plan) (items : List I) (number : ℕ) (globals : List G)
-    (locals : List (List (Option ℕ))) (log : Log) (old : Events → State → Type 0) (k : ℕ) (o : Object) (element : ℤ) (op : Operation) (told : Fault)
-    → Doing acts bytes ro p q items number globals locals log old k o element op → None ≡ first_byte (length (space_of bytes globals locals o)) element (size_of op)
-    → told ≡ fault.Bounds (q.first + k) (kind_of op) (location_of q.launch (region_of q.group o)) element
-    → IsMade p old (Fits acts bytes ro q items number globals locals log) (p.first + k) (made_as.Refused told)
-bounds_made acts bytes ro p q items number globals locals log old k o element op told d place is =
-    subst (λ z. IsMade z old (Fits acts bytes ro q items number globals locals log) (z.first + k) (made_as.Refused told)) d.same
-    (λ events s h asked.
-    let f = d.between events s h in
-    let acting = acting_now acts bytes ro p q items number globals locals log old k o element op d events s h in (
-      bounds_turn q.launch s q.first (q.first + k) o element op acting
-          (placed_at acts bytes ro q items number globals locals log events s k o element op None f d.inside place)
-          ∙ ap (λ g. Reports (fault.Bounds (q.first + k) (kind_of op) (location_of q.launch (region_of g o)) element)) (f.whole.mine k d.inside)
-          ∙ ap Reports (sym is),
-      f,
-    ))
+  -- room for one event more
+  pub access_room : (events : Events) (s : State) → before events s → next_action p.launch s (p.first + k) ≡ action.Access o element op → number + 1 < 2 ^ 32
+  access_room events s f asked = roomy p number events s k f.whole f.counts inside (ap is_over asked)
 
-pub unset_made :
-    {I G : Type 0} (acts : I → List Answer → Action) (bytes : G → List (Option ℕ)) (ro : Bool) (p q : Plan) (items : List I) (number : ℕ) (globals globals2 : List G)
-    (locals locals2 : List (List (Option ℕ))) (log : Log) (old : Events → State → Type 0) (k : ℕ) (o : Object) (element : ℤ) (op : Operation) (first byte : ℕ) (told : Fault)
-    → Doing acts bytes ro p q items number globals locals log old k o element op → Some first ≡ first_byte (length (space_of bytes globals locals o)) element (size_of op)
-    → IsMoved (HoldsMemory bytes q.launch q.group globals locals) (HoldsMemory bytes q.launch q.group globals2 locals2) (region_of q.group o) first op (Err (space_fault.Unset byte))
-    → told ≡ fault.Unset (q.first + k) (kind_of op) (location_of q.launch (region_of q.group o)) byte
-    → IsMade p old (Fits acts bytes ro q items number globals2 locals2 log) (p.first + k) (made_as.Refused told)
-unset_made acts bytes ro p q items number globals globals2 locals locals2 log old k o element op first byte told d place moved is =
-    subst (λ z. IsMade z old (Fits acts bytes ro q items number globals2 locals2 log) (z.first + k) (made_as.Refused told)) d.same
-    (λ events s h asked.
-    let f = d.between events s h in
-    let acting = acting_now acts bytes ro p q items number globals locals log old k o element op d events s h in
-    let w = moved s.memory f.holds in
-    let mine = f.whole.mine k d.inside in (
-      unset_item_turn q.launch s q.first (q.first + k) o element op first byte acting
-          (placed_at acts bytes ro q items number globals locals log events s k o element op (Some first) f d.inside place) w.0
-          (subst (λ g. lowest_unset (s.memory (region_of g o)) first (size_of op) ≡ Some byte) (sym mine) w.1)
-          ∙ ap (λ g. Reports (fault.Unset (q.first + k) (kind_of op) (location_of q.launch (region_of g o)) byte)) mine
-          ∙ ap Reports (sym is),
-      record {
-        whole = f.whole;
-        writable = f.writable;
-        acting = f.acting;
-        holds = w.2;
-        logged = f.logged;
-        counts = f.counts;
-        few = f.few;
-      },
-    ))
+  -- the element is out of range
+  pub bounds_made :
+      (told : Fault) → None ≡ first_byte (length (space_of bytes globals locals o)) element (size_of op)
+      → told ≡ fault.Bounds (p.first + k) (kind_of op) (location_of p.launch (region_of p.group o)) element
+      → IsMade p before before (p.first + k) (action.Access o element op) (made_as.Refused told)
+  bounds_made told place is events s f asked = (
+    bounds_turn p.launch s p.first (p.first + k) o element op asked (placed_at events s None f place)
+        ∙ ap (λ g. Reports (fault.Bounds (p.first + k) (kind_of op) (location_of p.launch (region_of g o)) element)) (f.whole.mine k inside)
+        ∙ ap Reports (sym is),
+    f,
+  )
 
--- room for one event more
-pub access_room :
-    {I G : Type 0} (acts : I → List Answer → Action) (bytes : G → List (Option ℕ)) (ro : Bool) (p q : Plan) (items : List I) (number : ℕ) (globals : List G)
-    (locals : List (List (Option ℕ))) (log : Log) (old : Events → State → Type 0) (k : ℕ) (o : Object) (element : ℤ) (op : Operation)
-    → Doing acts bytes ro p q items number globals locals log old k o element op → (events : Events) (s : State) → old events s → number + 1 < 2 ^ 32
-access_room acts bytes ro p q items number globals locals log old k o element op d events s h =
-    let f = d.between events s h in
-    roomy q number events s k f.whole f.counts d.inside (ap is_over (acting_now acts bytes ro p q items number globals locals log old k o element op d events s h))
+  -- it reads a byte that is unset
+  pub unset_made :
+      (globals2 : List G) (locals2 : List (List (Option ℕ))) (first byte : ℕ) (told : Fault) → Some first ≡ first_byte (length (space_of bytes globals locals o)) element (size_of op)
+      → IsMoved (ObjectsHold bytes p.launch p.group globals locals) (ObjectsHold bytes p.launch p.group globals2 locals2) (region_of p.group o) first op (Err (space_fault.Unset byte))
+      → told ≡ fault.Unset (p.first + k) (kind_of op) (location_of p.launch (region_of p.group o)) byte
+      → IsMade p before (Fits acts bytes ro p items number globals2 locals2 log) (p.first + k) (action.Access o element op) (made_as.Refused told)
+  unset_made globals2 locals2 first byte told place moved is events s f asked =
+      let w = moved s.memory f.holds in
+      let mine = f.whole.mine k inside in (
+        unset_item_turn p.launch s p.first (p.first + k) o element op first byte asked (placed_at events s (Some first) f place) w.0
+            (subst (λ g. lowest_unset (s.memory (region_of g o)) first (size_of op) ≡ Some byte) (sym mine) w.1)
+            ∙ ap (λ g. Reports (fault.Unset (p.first + k) (kind_of op) (location_of p.launch (region_of g o)) byte)) mine
+            ∙ ap Reports (sym is),
+        record {
+          whole = f.whole;
+          writable = f.writable;
+          acting = f.acting;
+          holds = w.2;
+          logged = f.logged;
+          counts = f.counts;
+          few = f.few;
+        },
+      )
 
+  -- it is done; `r` is the plan as the code has it once the item is answered
+  module _
+      (r : Plan) (globals2 : List G) (locals2 : List (List (Option ℕ))) (log2 : Log) (i j : I) (first : ℕ) (answer : Answer) (told : Option Fault) (last : r ≡ p)
+      (there : slice_get items k ≡ Some i) (place : Some first ≡ first_byte (length (space_of bytes globals locals o)) element (size_of op))
+      (moved : IsMoved (ObjectsHold bytes p.launch p.group globals locals) (ObjectsHold bytes p.launch p.group globals2 locals2) (region_of p.group o) first op (Ok answer))
+      (answered : (answers : List Answer) → acts j answers ≡ acts i (answer ∷ answers))
+      (judged : IsJudged p.launch log (entry_of (p.first + k) (region_of p.group o) first op number) log2 told) where
+    after :
+        (events : Events) (s : State) → before events s → next_action p.launch s (p.first + k) ≡ action.Access o element op
+        → Accessed acts bytes ro p (set items k j) (number + 1) globals2 locals2 log2 events s (p.first + k) judged.0
+    after events s f asked =
+        let w = moved s.memory f.holds in
+        accessed_fits acts bytes ro p items number globals globals2 locals locals2 log log2 events s k i j o element op first answer judged.0 f inside there asked
+        (placed_at events s (Some first) f place) (record { value = w.0; finds = w.1; answers = w.2; holds = w.3 }) answered judged.1
+
+    done_made :
+        told ≡ None → IsMade p before (Fits acts bytes ro r (set items k j) (number + 1) globals2 locals2 log2) (p.first + k) (action.Access o element op) made_as.Done
+    done_made none =
+        subst (λ z. IsMade p before (Fits acts bytes ro z (set items k j) (number + 1) globals2 locals2 log2) (p.first + k) (action.Access o element op) made_as.Done) (sym last)
+        (λ events s f asked.
+        let a = after events s f asked in
+        let quiet = nothing_mapped (λ hit. conflict_fault p.launch (conflict_of hit)) judged.0 (sym judged.2 ∙ none) in
+        (a.next, a.steps, a.fits, a.conflict ∙ ap (option_map conflict_of) quiet))
+
+    conflict_made :
+        (report : Fault) → told ≡ Some report
+        → IsMade p before (Fits acts bytes ro r (set items k j) (number + 1) globals2 locals2 log2) (p.first + k) (action.Access o element op) (made_as.Conflicts report)
+    conflict_made report some =
+        subst (λ z. IsMade p before (Fits acts bytes ro z (set items k j) (number + 1) globals2 locals2 log2) (p.first + k) (action.Access o element op) (made_as.Conflicts report)) (sym last)
+        (λ events s f asked.
+        let a = after events s f asked in
+        let found = some_mapped (λ hit. conflict_fault p.launch (conflict_of hit)) judged.0 report (sym judged.2 ∙ some) in
+        (a.next, conflict_of found.0, a.steps, a.fits, a.conflict ∙ ap (option_map conflict_of) found.1, found.2))
+
+    by_report :
+        (report : Option Fault) → told ≡ report
+        → IsMade p before (Fits acts bytes ro r (set items k j) (number + 1) globals2 locals2 log2) (p.first + k) (action.Access o element op) (judged_as report)
+    by_report None e = done_made e
+    by_report (Some report) e = conflict_made report e
+
+    pub access_made :
+        (became : Made) → became ≡ judged_as told
+        → IsMade p before (Fits acts bytes ro r (set items k j) (number + 1) globals2 locals2 log2) (p.first + k) (action.Access o element op) became
+    access_made became is =
+        subst (λ z. IsMade p before (Fits acts bytes ro r (set items k j) (number + 1) globals2 locals2 log2) (p.first + k) (action.Access o element op) z) (sym is) (by_report told refl)
+
+-- room for a release
 pub record Room (number : ℕ) (log : Log) : Type 0 where
   pub events : number + 1 < 2 ^ 32
   pub local : log.local_interval < 2 ^ 32 - 1
@@ -477,19 +448,15 @@ release_room acts bytes ro q items number globals locals log events s instance f
     }
 
 pub release_made :
-    {I G : Type 0} (acts : I → List Answer → Action) (bytes : G → List (Option ℕ)) (ro : Bool) (p q r : Plan) (items items2 : List I) (number : ℕ) (globals : List G)
-    (locals : List (List (Option ℕ))) (log log2 : Log) (events : Events) (s : State) (instance : Instance) (fences : Fences) → q ≡ p → r ≡ q
-    → Fits acts bytes ro q items number globals locals log events s → q.count ≡ length items → straggler p.launch s p.group p.first ≡ None
+    {I G : Type 0} (acts : I → List Answer → Action) (bytes : G → List (Option ℕ)) (ro : Bool) (p r : Plan) (items items2 : List I) (number : ℕ) (globals : List G)
+    (locals : List (List (Option ℕ))) (log log2 : Log) (events : Events) (s : State) (instance : Instance) (fences : Fences) → r ≡ p
+    → Fits acts bytes ro p items number globals locals log events s → p.count ≡ length items → straggler p.launch s p.group p.first ≡ None
     → next_action p.launch s p.first ≡ action.Barrier instance fences → AreAnswered acts Done items items2 → log2 ≡ after_fences log fences
     → (n : State) × (step p.launch s (Release p.group) ≡ Some n) × Fits acts bytes ro r items2 (number + 1) globals locals log2 (events ++ Release p.group ∷ []) n
-release_made acts bytes ro p q r items items2 number globals locals log log2 events s instance fences same last f many gathered waiting answered passes =
-    let a =
-    released_fits acts bytes ro q items items2 number globals locals log log2 events s instance fences f many
-    (subst (λ z. straggler z.launch s z.group z.first ≡ None) (sym same) gathered) (subst (λ z. next_action z.launch s z.first ≡ action.Barrier instance fences) (sym same) waiting)
-    answered passes in
-    subst (λ z. (n : State) × (step z.launch s (Release z.group) ≡ Some n) × Fits acts bytes ro r items2 (number + 1) globals locals log2 (events ++ Release z.group ∷ []) n) same
-    (subst (λ z. (n : State) × (step q.launch s (Release q.group) ≡ Some n) × Fits acts bytes ro z items2 (number + 1) globals locals log2 (events ++ Release q.group ∷ []) n) (sym last)
-    (a.next, a.steps, a.fits))
+release_made acts bytes ro p r items items2 number globals locals log log2 events s instance fences last f many gathered waiting answered passes =
+    let a = released_fits acts bytes ro p items items2 number globals locals log log2 events s instance fences f many gathered waiting answered passes in
+    subst (λ z. (n : State) × (step p.launch s (Release p.group) ≡ Some n) × Fits acts bytes ro z items2 (number + 1) globals locals log2 (events ++ Release p.group ∷ []) n) (sym last)
+    (a.next, a.steps, a.fits)
 
 -- ---- an item's next action
 

@@ -1,9 +1,11 @@
 -- The turns of a group, and what its events leave as it was.
-use Rattle.std.proofs.Common.{◌≡◌, ℕ, zero, suc, ◌+◌, ◌<◌, ◌≤◌, ◌^◌, ◌⊎◌, Bool, true, false, not, ◌&&◌, ◌==◌, if◌then◌else◌, Option, None, Some, [], ◌∷◌, ◌++◌, length, refl, sym, ap, ◌∙◌, subst, inl, inr, arith, eqb-true, eq-eqb}
+use Rattle.std.proofs.Common.{◌≡◌, ℕ, zero, suc, ◌+◌, ◌<◌, ◌≤◌, ◌^◌, ◌⊎◌, Bool, true, false, not, ◌&&◌, ◌==◌, if◌then◌else◌, ℤ, Option, None, Some, [], ◌∷◌, ◌++◌, length, refl, sym, ap, ◌∙◌, subst, inl, inr, arith, eqb-true, eq-eqb}
 use Rattle.std.proofs.lemmas.Bool.{false≢true, cases_lt}
 use Rattle.clmodel.specs.Launch.{Launch, group_of}
-use Rattle.clmodel.specs.Run.{State, Events, step, next_action, lowest, straggler, stop_of, both_stop, same_stop}
+use Rattle.clmodel.specs.Run.{State, Events, step, next_action, straggler, stop_of, both_stop, same_stop}
 use Rattle.clmodel.specs.Law.{Makes, Reports, Finishes, newest_conflict, conflict_turn, item_turn, divergence, has_ended, fault_of, IsBounded, answers_left}
+use Rattle.clmodel.specs.declared.access.Object.{Object}
+use Rattle.clmodel.specs.declared.access.Operation.{Operation}
 use Rattle.clmodel.specs.declared.action.Action.{Action}
 use Rattle.clmodel.specs.declared.action.Action.TheVariants as action
 use Rattle.clmodel.specs.declared.action.Cause.{Cause}
@@ -15,15 +17,15 @@ use Rattle.clmodel.specs.declared.fault.Fault.{Fault}
 use Rattle.clmodel.specs.declared.fault.Fault.TheVariants as fault
 use Rattle.clmodel.specs.declared.schedule.Event.{Event}
 use Rattle.clmodel.specs.declared.schedule.Event.TheVariants.{Item, Release}
-use Rattle.clmodel.proofs.Steps.{none_some, some_inj, lowest_some, lowest_is_none, lowest_least, lowest_finds, item_inverse, ReleaseStep, release_inverse, answers_other, same_action}
+use Rattle.clmodel.proofs.Steps.{none_some, some_inj, lowest_is_none, item_inverse, ReleaseStep, release_inverse, answers_other, same_action}
 use Rattle.clmodel.proofs.Ending.{step_less}
 use Rattle.joining.specs.Group.{Plan, IsGroup, going, turn_of, RunsIn, Reached, Reported}
 use Rattle.joining.proofs.Grouped.{found_first}
-use Rattle.group_run.specs.Loops.{Accesses, Steps, IsMade, AtOneStop, Gathers, IsBrief, IsAdvanced, IsHalted, IsGathered}
-use Rattle.group_run.specs.declared.loops.Halt.{Halt}
-use Rattle.group_run.specs.declared.loops.Halt.TheVariants as halt
+use Rattle.group_run.specs.Loops.{Accesses, Steps, IsMade, AtOneStop, Gathers, IsBrief, IsAdvanced, IsItemRun, IsGathered}
+use Rattle.group_run.specs.declared.loops.ItemRun.{ItemRun}
+use Rattle.group_run.specs.declared.loops.ItemRun.TheVariants as item_run
 use Rattle.group_run.specs.declared.machine.Made.{Made}
-use Rattle.group_run.specs.declared.machine.Made.TheVariants as made
+use Rattle.group_run.specs.declared.machine.Made.TheVariants as made_as
 
 -- ---- runs with one event more
 
@@ -114,9 +116,6 @@ unstopped :
 unstopped p whole s k b gathered calm e =
     turn_is p s (Some (p.first + k)) calm (straggler_at p whole s k b gathered (ap (both_stop (first_stop p s)) e ∙ not_stopped (first_stop p s)))
 
-accessing : (p : Plan) (s : State) (item : ℕ) → Accesses p s item → stop_of (next_action p.launch s item) ≡ None
-accessing p s item a = ap stop_of a.3
-
 -- an access leaves the actions of other items
 action_other : (p : Plan) (s t : State) (i j : ℕ) → step p.launch s (Item i) ≡ Some t → (j ≡ i → ⊥) → next_action p.launch t j ≡ next_action p.launch s j
 action_other p s t i j h ne = same_action p.launch s t j (answers_other p.launch s i t (item_inverse p.launch s i t h) j ne)
@@ -133,66 +132,58 @@ abbrev pub made_room :
     (p : Plan) (origin s t : State) (events : Events) (item : ℕ) → IsBrief p origin → RunsIn p origin events s → Steps p s t item → length events + 1 < 2 ^ 64
 made_room p origin s t events item brief runs made = room p origin s t events (Item item) brief runs made.steps
 
-more :
-    (p : Plan) → IsGroup p → (origin s t : State) (events : Events) (k : ℕ) → k < p.count → RunsIn p origin events s → newest_conflict p.launch s.log ≡ None
-    → AtOneStop p s k → Accesses p s (p.first + k) → Steps p s t (p.first + k) → RunsIn p origin (events ++ Item (p.first + k) ∷ []) t
-more p whole origin s t events k b runs calm gathered a made =
-    runs_more p origin events s (Item (p.first + k)) t runs (unstopped p whole s k b gathered calm (accessing p s (p.first + k) a) ∙ made.makes) made.steps
+module _
+    (p : Plan) (old new : Events → State → Type 0) (origin : State) (events : Events) (k : ℕ) (o : Object) (element : ℤ) (op : Operation) (m : Made) (g : Gathers p old origin events k)
+    (asked : Accesses p g.0.state (p.first + k) o element op) (told : ℤ) (same : told ≡ element) (made : IsMade p old new (p.first + k) (action.Access o told op) m) where
+  as_made : (x : Made) → m ≡ x → IsMade p old new (p.first + k) (action.Access o element op) x
+  as_made x e = subst (λ z. IsMade p old new (p.first + k) (action.Access o element op) z) e (subst (λ z. IsMade p old new (p.first + k) (action.Access o z op) m) same made)
 
-pub made_done :
-    (p : Plan) (old new : Events → State → Type 0) (origin : State) (events : Events) (k : ℕ) (m : Made) → m ≡ made.Done → IsGroup p → k < p.count
-    → (g : Gathers p old origin events k) → Accesses p g.0.state (p.first + k) → IsMade p old new (p.first + k) m
-    → Gathers p new origin (events ++ Item (p.first + k) ∷ []) k
-made_done p old new origin events k m e whole b g a h =
-    let w = subst (λ z. IsMade p old new (p.first + k) z) e h events g.0.state g.0.holds a in (
+  more : IsGroup p → k < p.count → (t : State) → Steps p g.0.state t (p.first + k) → RunsIn p origin (events ++ Item (p.first + k) ∷ []) t
+  more whole b t steps =
+      runs_more p origin events g.0.state (Item (p.first + k)) t g.0.runs (unstopped p whole g.0.state k b g.1 g.0.calm (ap stop_of asked) ∙ steps.makes) steps.steps
+
+  pub made_done : m ≡ made_as.Done → IsGroup p → k < p.count → Gathers p new origin (events ++ Item (p.first + k) ∷ []) k
+  made_done e whole b =
+      let w = as_made made_as.Done e events g.0.state g.0.holds asked in (
+        record {
+          state = w.0;
+          runs = more whole b w.0 w.1;
+          holds = w.2;
+          calm = w.3;
+        },
+        still p g.0.state w.0 k g.1 w.1.steps,
+      )
+
+  pub made_conflict : (f : Fault) → m ≡ made_as.Conflicts f → IsGroup p → k < p.count → Reported p new origin (events ++ Item (p.first + k) ∷ []) f
+  made_conflict f e whole b =
+      let w = as_made (made_as.Conflicts f) e events g.0.state g.0.holds asked in
       record {
         state = w.0;
-        runs = more p whole origin g.0.state w.0 events k b g.0.runs g.0.calm g.1 a w.1;
-        holds = w.2;
-        calm = w.3;
-      },
-      still p g.0.state w.0 k g.1 w.1.steps,
-    )
+        runs = more whole b w.0 w.2;
+        holds = w.3;
+        reports = ap (λ c. conflict_turn p.launch c (going p w.0 (straggler p.launch w.0 p.group p.first))) w.4 ∙ ap Reports w.5;
+      }
 
-pub made_conflict :
-    (p : Plan) (old new : Events → State → Type 0) (origin : State) (events : Events) (k : ℕ) (m : Made) (f : Fault) → m ≡ made.Conflicts f → IsGroup p → k < p.count
-    → (g : Gathers p old origin events k) → Accesses p g.0.state (p.first + k) → IsMade p old new (p.first + k) m
-    → Reported p new origin (events ++ Item (p.first + k) ∷ []) f
-made_conflict p old new origin events k m f e whole b g a h =
-    let w = subst (λ z. IsMade p old new (p.first + k) z) e h events g.0.state g.0.holds a in
-    record {
-      state = w.0;
-      runs = more p whole origin g.0.state w.0 events k b g.0.runs g.0.calm g.1 a w.2;
-      holds = w.3;
-      reports = ap (λ c. conflict_turn p.launch c (going p w.0 (straggler p.launch w.0 p.group p.first))) w.4 ∙ ap Reports w.5;
-    }
+  pub made_refused : (f : Fault) → m ≡ made_as.Refused f → IsGroup p → k < p.count → Reported p new origin events f
+  made_refused f e whole b =
+      let w = as_made (made_as.Refused f) e events g.0.state g.0.holds asked in
+      record {
+        state = g.0.state;
+        runs = g.0.runs;
+        holds = w.1;
+        reports = unstopped p whole g.0.state k b g.1 g.0.calm (ap stop_of asked) ∙ w.0;
+      }
 
-pub made_refused :
-    (p : Plan) (old new : Events → State → Type 0) (origin : State) (events : Events) (k : ℕ) (m : Made) (f : Fault) → m ≡ made.Refused f → IsGroup p → k < p.count
-    → (g : Gathers p old origin events k) → Accesses p g.0.state (p.first + k) → IsMade p old new (p.first + k) m → Reported p new origin events f
-made_refused p old new origin events k m f e whole b g a h =
-    let w = subst (λ z. IsMade p old new (p.first + k) z) e h events g.0.state g.0.holds a in
-    record {
-      state = g.0.state;
-      runs = g.0.runs;
-      holds = w.1;
-      reports = unstopped p whole g.0.state k b g.1 g.0.calm (accessing p g.0.state (p.first + k) a) ∙ w.0;
-    }
+  -- the events stay countable
+  pub room_done : m ≡ made_as.Done → IsBrief p origin → length events + 1 < 2 ^ 64
+  room_done e brief =
+      let w = as_made made_as.Done e events g.0.state g.0.holds asked in
+      made_room p origin g.0.state w.0 events (p.first + k) brief g.0.runs w.1
 
--- the events stay countable
-pub room_done :
-    (p : Plan) (old new : Events → State → Type 0) (origin : State) (events : Events) (k : ℕ) (m : Made) → m ≡ made.Done → IsBrief p origin
-    → (g : Gathers p old origin events k) → Accesses p g.0.state (p.first + k) → IsMade p old new (p.first + k) m → length events + 1 < 2 ^ 64
-room_done p old new origin events k m e brief g a h =
-    let w = subst (λ z. IsMade p old new (p.first + k) z) e h events g.0.state g.0.holds a in
-    made_room p origin g.0.state w.0 events (p.first + k) brief g.0.runs w.1
-
-pub room_conflict :
-    (p : Plan) (old new : Events → State → Type 0) (origin : State) (events : Events) (k : ℕ) (m : Made) (f : Fault) → m ≡ made.Conflicts f → IsBrief p origin
-    → (g : Gathers p old origin events k) → Accesses p g.0.state (p.first + k) → IsMade p old new (p.first + k) m → length events + 1 < 2 ^ 64
-room_conflict p old new origin events k m f e brief g a h =
-    let w = subst (λ z. IsMade p old new (p.first + k) z) e h events g.0.state g.0.holds a in
-    made_room p origin g.0.state w.0 events (p.first + k) brief g.0.runs w.2
+  pub room_conflict : (f : Fault) → m ≡ made_as.Conflicts f → IsBrief p origin → length events + 1 < 2 ^ 64
+  room_conflict f e brief =
+      let w = as_made (made_as.Conflicts f) e events g.0.state g.0.holds asked in
+      made_room p origin g.0.state w.0 events (p.first + k) brief g.0.runs w.2
 
 -- ---- a stop
 
@@ -308,11 +299,11 @@ moved p old new origin events f r =
     }
 
 pub advance_asks :
-    (p q : Plan) (old new : Events → State → Type 0) (origin : State) (events : Events) (k : ℕ) → q ≡ p → IsGroup p → k < p.count → IsBrief p origin
-    → (g : Gathers p old origin events k) → ((es : Events) (s : State) → old es s → new es s) → Accesses p g.0.state (p.first + k)
-    → IsGroup q × ((k < q.count) × (IsBrief q origin × ((g : Gathers q new origin events k) × Accesses q g.0.state (q.first + k))))
-advance_asks p q old new origin events k e whole b brief g f a =
-    subst (λ z. IsGroup z × ((k < z.count) × (IsBrief z origin × ((g : Gathers z new origin events k) × Accesses z g.0.state (z.first + k))))) (sym e)
+    (p q : Plan) (old new : Events → State → Type 0) (origin : State) (events : Events) (k : ℕ) (o : Object) (element : ℤ) (op : Operation) → q ≡ p → IsGroup p → k < p.count
+    → IsBrief p origin → (g : Gathers p old origin events k) → ((es : Events) (s : State) → old es s → new es s) → Accesses p g.0.state (p.first + k) o element op
+    → IsGroup q × ((k < q.count) × (IsBrief q origin × ((g : Gathers q new origin events k) × Accesses q g.0.state (q.first + k) o element op)))
+advance_asks p q old new origin events k o element op e whole b brief g f a =
+    subst (λ z. IsGroup z × ((k < z.count) × (IsBrief z origin × ((g : Gathers z new origin events k) × Accesses z g.0.state (z.first + k) o element op)))) (sym e)
     (whole, (b, (brief, ((moved p old new origin events f g.0, g.1), a))))
 
 pub stop_asks :
@@ -348,21 +339,20 @@ leader_asks p q fits origin events e whole g =
     let w = gathered_stop p whole g.0.state g.1 in
     (events, g.0.state, w.0, g.0.holds, subst (λ z. first_stop z g.0.state ≡ Some w.0) (sym e) w.1)
 
-abbrev pub IsWaiting : Plan → (Events → State → Type 0) → Type 0
-IsWaiting p fits =
-    (events : Events) × (s : State) × (instance : Instance) × (fences : Fences) × (fits events s) × (straggler p.launch s p.group p.first ≡ None) × (next_action p.launch s p.first ≡ action.Barrier instance fences)
+abbrev pub IsWaiting : Plan → (Events → State → Type 0) → Fences → Type 0
+IsWaiting p fits fences =
+    (events : Events) × (s : State) × (instance : Instance) × (fits events s) × (straggler p.launch s p.group p.first ≡ None) × (next_action p.launch s p.first ≡ action.Barrier instance fences)
 
 pub release_asks :
-    (p q : Plan) (old new : Events → State → Type 0) (origin : State) (events : Events) (i : Instance) → q ≡ p → IsGroup p → (g : Gathers p old origin events p.count)
-    → ((es : Events) (s : State) → old es s → new es s) → first_stop p g.0.state ≡ Some (At i) → IsWaiting q new
-release_asks p q old new origin events i e whole g f h =
-    let w = waits (next_action p.launch g.0.state p.first) i h in
-    subst (λ z. IsWaiting z new) (sym e) (events, g.0.state, i, w.0, f events g.0.state g.0.holds, no_straggler p whole g.0.state g.1, w.1)
+    (p q : Plan) (old new : Events → State → Type 0) (origin : State) (events : Events) (i : Instance) (fences : Fences) → q ≡ p → IsGroup p → (g : Gathers p old origin events p.count)
+    → ((es : Events) (s : State) → old es s → new es s) → next_action p.launch g.0.state p.first ≡ action.Barrier i fences → IsWaiting q new fences
+release_asks p q old new origin events i fences e whole g f h =
+    subst (λ z. IsWaiting z new fences) (sym e) (events, g.0.state, i, f events g.0.state g.0.holds, no_straggler p whole g.0.state g.1, h)
 
 -- what a release leads to, as the code is told
-abbrev pub Releases : Plan → (Events → State → Type 0) → (Events → State → Type 0) → Type 0
-Releases p old new =
-    (events : Events) (s : State) → old events s → straggler p.launch s p.group p.first ≡ None → (instance : Instance) (fences : Fences) → next_action p.launch s p.first ≡ action.Barrier instance fences
+abbrev pub Releases : Plan → (Events → State → Type 0) → (Events → State → Type 0) → Fences → Type 0
+Releases p old new fences =
+    (events : Events) (s : State) → old events s → straggler p.launch s p.group p.first ≡ None → (instance : Instance) → next_action p.launch s p.first ≡ action.Barrier instance fences
     → (n : State) × (step p.launch s (Release p.group) ≡ Some n) × new (events ++ Release p.group ∷ []) n
 
 -- once the items were released: there is room for the event, and the run has gone on
@@ -371,15 +361,15 @@ pub record Released (p : Plan) (new : Events → State → Type 0) (origin : Sta
   pub reached : Reached p new origin (events ++ Release p.group ∷ [])
 
 pub after_release :
-    (p q : Plan) (old between new : Events → State → Type 0) (origin : State) (events : Events) (i : Instance) → q ≡ p → IsGroup p → IsBrief p origin → (g : Gathers p old origin events p.count)
-    → ((es : Events) (s : State) → old es s → between es s) → first_stop p g.0.state ≡ Some (At i) → Releases q between new → Released p new origin events
-after_release p q old between new origin events i e whole brief g f h made =
+    (p q : Plan) (old between new : Events → State → Type 0) (origin : State) (events : Events) (i : Instance) (fences : Fences) → q ≡ p → IsGroup p → IsBrief p origin
+    → (g : Gathers p old origin events p.count) → ((es : Events) (s : State) → old es s → between es s) → next_action p.launch g.0.state p.first ≡ action.Barrier i fences
+    → Releases q between new fences → Released p new origin events
+after_release p q old between new origin events i fences e whole brief g f waiting made =
     let s = g.0.state in
-    let w = waits (next_action p.launch s p.first) i h in
-    let m = subst (λ z. Releases z between new) e made events s (f events s g.0.holds) (no_straggler p whole s g.1) i w.0 w.1 in
+    let m = subst (λ z. Releases z between new fences) e made events s (f events s g.0.holds) (no_straggler p whole s g.1) i waiting in
     record {
       roomy = room p origin s m.0 events (Release p.group) brief g.0.runs m.1;
-      reached = released_on p new origin events s m.0 i w.0 whole g.0.runs g.0.calm g.1 w.1 m.1 m.2;
+      reached = released_on p new origin events s m.0 i fences whole g.0.runs g.0.calm g.1 waiting m.1 m.2;
     }
 
 -- the fault of an item, by the code's plan
@@ -393,11 +383,11 @@ pub advanced_on :
 advanced_on p q fits origin events k o e is h =
     subst (λ z. Gathers z fits origin events k) e (subst (λ z. IsAdvanced q fits origin events k z) is h)
 
-pub halted_on :
-    (p q : Plan) (fits : Events → State → Type 0) (origin : State) (events : Events) (k : ℕ) (o : Halt) → q ≡ p → o ≡ halt.Stops → IsHalted q fits origin events k o
+pub item_ran_on :
+    (p q : Plan) (fits : Events → State → Type 0) (origin : State) (events : Events) (k : ℕ) (o : ItemRun) → q ≡ p → o ≡ item_run.Stops → IsItemRun q fits origin events k o
     → Gathers p fits origin events (k + 1)
-halted_on p q fits origin events k o e is h =
-    subst (λ z. Gathers z fits origin events (k + 1)) e (subst (λ z. IsHalted q fits origin events k z) is h)
+item_ran_on p q fits origin events k o e is h =
+    subst (λ z. Gathers z fits origin events (k + 1)) e (subst (λ z. IsItemRun q fits origin events k z) is h)
 
 pub gathered_on :
     (p q : Plan) (fits : Events → State → Type 0) (origin : State) (events : Events) (o : Option Fault) → q ≡ p → o ≡ None → IsGathered q fits origin events o
@@ -405,5 +395,14 @@ pub gathered_on :
 gathered_on p q fits origin events o e is h =
     subst (λ z. Gathers z fits origin events z.count) e (subst (λ z. IsGathered q fits origin events z) is h)
 
-pub leading : (p q : Plan) (s : State) (x y : Stop) → q ≡ p → first_stop q s ≡ Some x → x ≡ y → first_stop p s ≡ Some y
-leading p q s x y e h i = subst (λ z. first_stop z s ≡ Some x) e h ∙ ap Some i
+-- the first item's action, by the first plan
+pub leading : (p q : Plan) (s : State) (x y : Action) → q ≡ p → next_action q.launch s (q.first + 0) ≡ x → x ≡ y → next_action p.launch s p.first ≡ y
+leading p q s x y e h i =
+    let first_is : p.first ≡ p.first + 0 = omega arith in ap (next_action p.launch s) first_is ∙ subst (λ z. next_action z.launch s (z.first + 0) ≡ x) e h ∙ i
+
+-- an action at which all items are, and which is no barrier, is the end
+pub over : (a : Action) → (x : Stop) → stop_of a ≡ Some x → ((i : Instance) (fences : Fences) → a ≡ action.Barrier i fences → ⊥) → stop_of a ≡ Some Ended
+over (action.Access o element op) x h other = absurd (none_some x h)
+over (action.Barrier i fences) x h other = absurd (other i fences refl)
+over action.End x h other = refl
+over (action.Fault c) x h other = absurd (none_some x h)

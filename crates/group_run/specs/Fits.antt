@@ -19,24 +19,24 @@ use Rattle.joining.specs.Group.{Plan, IsGroup}
 use Rattle.group_run.specs.Logs.{IsLogged}
 
 -- a program's spaces, one for each of `count` regions of a kind, hold what a memory has there
-pub record Holds {S : Type 0} (bytes : S → List (Option ℕ)) (launch : Launch) (count : ℕ) (region_at : ℕ → Region) (spaces : List S) (memory : Memory) : Type 0 where
+pub record SpacesHold {S : Type 0} (bytes : S → List (Option ℕ)) (launch : Launch) (count : ℕ) (region_at : ℕ → Region) (spaces : List S) (memory : Memory) : Type 0 where
   pub many : length spaces ≡ count
   pub sized : (n : ℕ) (x : S) → slice_get spaces n ≡ Some x → length (bytes x) ≡ bytes_of launch (region_at n)
   pub none : (n : ℕ) → slice_get spaces n ≡ None → bytes_of launch (region_at n) ≡ 0
   pub cells : (n : ℕ) (x : S) → slice_get spaces n ≡ Some x → cells_of (bytes x) ≡ memory (region_at n)
 
--- a program's buffers and local objects of a group hold a memory
-abbrev pub HoldsMemory : {G : Type 0} → (G → List (Option ℕ)) → Launch → ℕ → List G → List (List (Option ℕ)) → Memory → Type 0
-HoldsMemory bytes launch group buffers locals memory =
-    Holds bytes launch (length launch.buffers) region.Buffer buffers memory
-    × Holds (λ cells. cells) launch (length launch.local_sizes) (region.Local group) locals memory
+-- a program's buffers and local objects of a group hold a memory (OpenCL 1.2, 3.3)
+abbrev pub ObjectsHold : {G : Type 0} → (G → List (Option ℕ)) → Launch → ℕ → List G → List (List (Option ℕ)) → Memory → Type 0
+ObjectsHold bytes launch group buffers locals memory =
+    SpacesHold bytes launch (length launch.buffers) region.Buffer buffers memory
+    × SpacesHold (λ cells. cells) launch (length launch.local_sizes) (region.Local group) locals memory
 
 -- the bytes of a space, if there is one
 abbrev pub bytes_or : {S : Type 0} → (S → List (Option ℕ)) → Option S → List (Option ℕ)
 bytes_or bytes None = []
 bytes_or bytes (Some x) = bytes x
 
--- the bytes of the space that stands for an object
+-- the bytes of the space that stands for an object (OpenCL 1.2, 6.5.1, 6.5.2)
 abbrev pub space_of : {G : Type 0} → (G → List (Option ℕ)) → List G → List (List (Option ℕ)) → Object → List (Option ℕ)
 space_of bytes buffers locals (object.Buffer number) = bytes_or bytes (slice_get buffers number)
 space_of bytes buffers locals (object.Local number) = bytes_or (λ cells. cells) (slice_get locals number)
@@ -73,23 +73,12 @@ pub record Fits
   pub writable : read_only ≡ false
   pub acting : (k : ℕ) (i : I) → slice_get items k ≡ Some i
       → (answers : List Answer) → acts i answers ≡ plan.launch.next (plan.first + k) (state.answers (plan.first + k) ++ answers)
-  pub holds : HoldsMemory bytes plan.launch plan.group globals locals state.memory
+  pub holds : ObjectsHold bytes plan.launch plan.group globals locals state.memory
   pub logged : IsLogged plan log events state
   pub counts : Counts plan made events state
   pub few : (log.local_interval ≤ length events) × (log.global_interval ≤ length events)
 
--- what an operation answers and leaves of a space: it is done whole, or nothing is changed and this is why
-abbrev pub IsPerformed : Bool → List (Option ℕ) → ℕ → Operation → List (Option ℕ) → Result Answer SpaceFault → Type 0
-IsPerformed may_want old first operation new (Ok answer) =
-    (x : ℕ) × (found operation (cells_of old) first ≡ Some x) × (answer ≡ answer_to operation x) × (length new ≡ length old)
-    × (cells_of new ≡ effect operation x (cells_of old) first)
-IsPerformed may_want old first operation new (Err space_fault.Bounds) = (length old < first + size_of operation) × (new ≡ old)
-IsPerformed may_want old first operation new (Err (space_fault.Unset byte)) =
-    (reads operation ≡ true) × (lowest_unset (cells_of old) first (size_of operation) ≡ Some byte) × (new ≡ old)
-IsPerformed may_want old first operation new (Err space_fault.ReadOnly) = ⊥
-IsPerformed may_want old first operation new (Err space_fault.OutOfMemory) = (may_want ≡ true) × (new ≡ old)
-
--- what an operation in a region answers and leaves of each memory that is held
+-- what an operation in a region answers and leaves of each memory that is held (OpenCL 1.2, 3.3, 6.12.11; own in the faults)
 abbrev pub IsMoved : (Memory → Type 0) → (Memory → Type 0) → Region → ℕ → Operation → Result Answer SpaceFault → Type 0
 IsMoved old new at first operation (Ok answer) =
     (memory : Memory) → old memory

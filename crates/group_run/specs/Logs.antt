@@ -1,14 +1,11 @@
 -- What a program's log of a group's accesses holds (own, on OpenCL 1.2, 3.3.1).
 use Rattle.std.specs.Prelude.{◌≡◌, ℕ, ◌+◌, Option, List, [], ◌∷◌, length, map, reverse, if◌then◌else◌, Ok}
 use Rattle.std.specs.Option.{option_map}
-use Rattle.clmodel.specs.Cells.{width_of}
-use Rattle.clmodel.specs.Launch.{Launch, group_of, kind_of}
+use Rattle.clmodel.specs.Launch.{Launch, group_of}
 use Rattle.clmodel.specs.Law.{Keeps, conflict_fault}
 use Rattle.clmodel.specs.Run.{State, Events}
 use Rattle.clmodel.specs.declared.access.Access.{Access}
 use Rattle.clmodel.specs.declared.access.Conflict as conflict_type
-use Rattle.clmodel.specs.declared.access.Operation.{Operation}
-use Rattle.clmodel.specs.declared.access.Region.{Region}
 use Rattle.clmodel.specs.declared.action.Fences.{Fences}
 use Rattle.clmodel.specs.declared.fault.Fault.{Fault}
 use Rattle.clmodel.specs.declared.schedule.Event.TheVariants as event
@@ -25,7 +22,7 @@ accesses_of entries = map (λ e. e.access) (reverse entries)
 abbrev pub conflict_of : Hit → conflict_type.Conflict
 conflict_of hit = record { earlier = hit.earlier.access; later = hit.later.access; byte = hit.byte; clash = hit.clash }
 
--- all entries are accesses of this group's items
+-- all entries are accesses of this group's items (OpenCL 1.2, 3.2)
 abbrev pub AreMine : Launch → ℕ → List Entry → Type 0
 AreMine launch group [] = Unit {0}
 AreMine launch group (y ∷ entries) = (group_of launch y.access.item ≡ group) × AreMine launch group entries
@@ -42,17 +39,12 @@ abbrev pub Notes : List Entry → List Entry → Type 0
 Notes [] kept = kept ≡ []
 Notes (x ∷ made) kept = (old : List Entry) × Notes made old × IsKept old x kept
 
--- the entry of an access: the log gives it its interval
-abbrev pub entry_of : ℕ → Region → ℕ → Operation → ℕ → Entry
-entry_of item at first operation event =
-    record { access = record { item = item; region = at; first = first; width = width_of operation; kind = kind_of operation; interval = 0 }; event = event }
-
 -- what a program's log leaves of a new access, and the fault that it reports of it
 abbrev pub IsJudged : Launch → Log → Entry → Log → Option Fault → Type 0
 IsJudged launch old entry new fault =
     (found : Option Hit) × IsNoted old entry new (Ok found) × (fault ≡ option_map (λ hit. conflict_fault launch (conflict_of hit)) found)
 
--- a program's log once a barrier with these fences is passed
+-- a program's log once a barrier with these fences is passed (OpenCL 1.2, 6.12.8)
 abbrev pub after_fences : Log → Fences → Log
 after_fences log fences =
     record {

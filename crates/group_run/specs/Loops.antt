@@ -5,39 +5,44 @@ use Rattle.clmodel.specs.Law.{Makes, Reports, newest_conflict, conflict_fault, i
 use Rattle.clmodel.specs.declared.access.Conflict as conflict_type
 use Rattle.clmodel.specs.declared.access.Object.{Object}
 use Rattle.clmodel.specs.declared.access.Operation.{Operation}
+use Rattle.clmodel.specs.declared.action.Action.{Action}
 use Rattle.clmodel.specs.declared.action.Action.TheVariants as action
 use Rattle.clmodel.specs.declared.fault.Fault.{Fault}
 use Rattle.clmodel.specs.declared.schedule.Event.TheVariants.{Item}
 use Rattle.joining.specs.Group.{Plan, Reached, Reported}
 use Rattle.group_run.specs.declared.machine.Made.{Made}
 use Rattle.group_run.specs.declared.machine.Made.TheVariants as made
-use Rattle.group_run.specs.declared.loops.Halt.{Halt}
-use Rattle.group_run.specs.declared.loops.Halt.TheVariants as halt
+use Rattle.group_run.specs.declared.loops.ItemRun.{ItemRun}
+use Rattle.group_run.specs.declared.loops.ItemRun.TheVariants as item_run
 
--- an item's next action is an access
-abbrev pub Accesses : Plan → State → ℕ → Type 0
-Accesses plan state item =
-    (object : Object) × (element : ℤ) × (operation : Operation) × (next_action plan.launch state item ≡ action.Access object element operation)
+-- an item's next action is this access (OpenCL 1.2, 6.1.5, 6.3, 6.12.11)
+abbrev pub Accesses : Plan → State → ℕ → Object → ℤ → Operation → Type 0
+Accesses plan state item object element operation = next_action plan.launch state item ≡ action.Access object element operation
 
--- an item's access is its turn and leads to a state
+-- an item's access is its turn and leads to a state (own, on 3.2.1)
 pub record Steps (plan : Plan) (old new : State) (item : ℕ) : Type 0 where
   pub makes : item_turn plan.launch old plan.first item (next_action plan.launch old item) ≡ Makes (Item item)
   pub steps : step plan.launch old (Item item) ≡ Some new
 
--- what became of the access that an item does next, in each state that fitted: it is done, with a conflict or without, or it can't be done
-abbrev pub IsMade : Plan → (Events → State → Type 0) → (Events → State → Type 0) → ℕ → Made → Type 0
-IsMade plan old new item made.Done =
-    (events : Events) (state : State) → old events state → Accesses plan state item
+-- what became of an access that was done, by the fault that its log reports (own)
+abbrev pub judged_as : Option Fault → Made
+judged_as None = made.Done
+judged_as (Some fault) = made.Conflicts fault
+
+-- what became of an action that an item does next, in each state that fitted: it is done, with a conflict or without, or it can't be done
+abbrev pub IsMade : Plan → (Events → State → Type 0) → (Events → State → Type 0) → ℕ → Action → Made → Type 0
+IsMade plan old new item act made.Done =
+    (events : Events) (state : State) → old events state → next_action plan.launch state item ≡ act
     → (next : State) × Steps plan state next item × new (events ++ Item item ∷ []) next × (newest_conflict plan.launch next.log ≡ None)
-IsMade plan old new item (made.Conflicts fault) =
-    (events : Events) (state : State) → old events state → Accesses plan state item
+IsMade plan old new item act (made.Conflicts fault) =
+    (events : Events) (state : State) → old events state → next_action plan.launch state item ≡ act
     → (next : State) × (conflict : conflict_type.Conflict) × Steps plan state next item × new (events ++ Item item ∷ []) next × (newest_conflict plan.launch next.log ≡ Some conflict)
     × (conflict_fault plan.launch conflict ≡ fault)
-IsMade plan old new item (made.Refused fault) =
-    (events : Events) (state : State) → old events state → Accesses plan state item
+IsMade plan old new item act (made.Refused fault) =
+    (events : Events) (state : State) → old events state → next_action plan.launch state item ≡ act
     → (item_turn plan.launch state plan.first item (next_action plan.launch state item) ≡ Reports fault) × new events state
 
--- the first k items of the group are at the first one's stop
+-- the first k items of the group are at the first one's stop: the same barrier in the same turns, or the end (OpenCL 1.2, 6.12.8)
 abbrev pub AtOneStop : Plan → State → ℕ → Type 0
 AtOneStop plan state count =
     (k : ℕ) → k < count → both_stop (stop_of (next_action plan.launch state plan.first)) (stop_of (next_action plan.launch state (plan.first + k))) ≡ true
@@ -55,10 +60,10 @@ abbrev pub IsAdvanced : Plan → (Events → State → Type 0) → State → Eve
 IsAdvanced plan fits origin events k None = Gathers plan fits origin events k
 IsAdvanced plan fits origin events k (Some fault) = Reported plan fits origin events fault
 
--- where an item of the group comes to rest
-abbrev pub IsHalted : Plan → (Events → State → Type 0) → State → Events → ℕ → Halt → Type 0
-IsHalted plan fits origin events k halt.Stops = Gathers plan fits origin events (k + 1)
-IsHalted plan fits origin events k (halt.Reports fault) = Reported plan fits origin events fault
+-- what the run of an item of the group comes to
+abbrev pub IsItemRun : Plan → (Events → State → Type 0) → State → Events → ℕ → ItemRun → Type 0
+IsItemRun plan fits origin events k item_run.Stops = Gathers plan fits origin events (k + 1)
+IsItemRun plan fits origin events k (item_run.Reports fault) = Reported plan fits origin events fault
 
 -- after an interval, by the report that it brings: all items are at one stop
 abbrev pub IsGathered : Plan → (Events → State → Type 0) → State → Events → Option Fault → Type 0

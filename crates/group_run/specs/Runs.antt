@@ -5,14 +5,14 @@ use Rattle.clmodel.specs.declared.schedule.Event.{Event}
 use Rattle.clmodel.specs.declared.schedule.Run.{Run}
 use Rattle.clmodel.specs.declared.schedule.Run.TheVariants as run
 
--- the last run is of this item
+-- the last run is of this item (own)
 abbrev pub EndsWith : ℕ → List Run → Type 0
 EndsWith item [] = ⊥
 EndsWith item (run.Item other count ∷ []) = item ≡ other
 EndsWith item (run.Release group ∷ []) = ⊥
 EndsWith item (first ∷ second ∷ runs) = EndsWith item (second ∷ runs)
 
--- runs with one event more
+-- runs with one event more (own)
 pub record AddsEvent (old new : List Run) (event : Event) : Type 0 where
   pub events : events_of new ≡ events_of old ++ event ∷ []
   pub merged : IsMerged old → IsMerged new

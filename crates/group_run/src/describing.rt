@@ -5,7 +5,6 @@ ghost use Rattle.clmodel.specs.Launch.{Launch, location_of, kind_of};
 ghost use Rattle.clmodel.specs.Law.{fault_of, conflict_fault};
 ghost use Rattle.clmodel.specs.declared.fault.Fault.TheVariants as fault;
 
-use crate::words;
 use clmodel::access::{Conflict, Operation, Region};
 use clmodel::action::Cause;
 use clmodel::fault::{Fault, Location};
@@ -102,7 +101,7 @@ pub fn bounds_fault<D: Described>(
     let location = location_of(launch, region)?;
     Ok(Fault::Bounds {
         item,
-        kind: words::kind_of(operation),
+        kind: operation.kind(),
         location,
         element,
     })
@@ -121,7 +120,7 @@ pub fn unset_fault<D: Described>(
     let location = location_of(launch, region)?;
     Ok(Fault::Unset {
         item,
-        kind: words::kind_of(operation),
+        kind: operation.kind(),
         location,
         byte,
     })

@@ -6,19 +6,17 @@ ghost use Rattle.clmodel.specs.Launch.{first_byte};
 ghost use Rattle.clmodel.specs.declared.action.Answer.TheVariants.{Done};
 ghost use Rattle.shadow_list.specs.Log.{Log, IsPlaced};
 ghost use Rattle.group_run.specs.Fits.{Fits, AreAnswered, space_of};
-ghost use Rattle.group_run.specs.Logs.{IsJudged, after_fences, conflict_of, entry_of};
+ghost use Rattle.group_run.specs.Logs.{IsJudged, after_fences, conflict_of};
 
 use crate::describing::{self, Described, bounds_fault, unset_fault};
 use crate::item::RunningItem;
 use crate::machine::{Machine, Made};
 use crate::performing::{perform_on, size_of};
-use crate::words::{first_byte, kind_of, region_of, width_of};
-use clmodel::access::{Access, Conflict, Object, Operation, Region};
+use clmodel::access::{Conflict, Object, Operation};
 use clmodel::action::{Action, Answer, Cause, Fences};
 use clmodel::fault::Fault;
 use shadow_list::{AccessLog, Entry, Fenced, Hit};
-use spaces_base::width::byte_count;
-use spaces_base::{LocalMem, Space, SpaceFault};
+use spaces_base::{LocalMem, Space, SpaceFault, first_byte};
 use std::alloc::AllocError;
 
 /// A work-group that runs: its items, how many events they have made, the launch's buffers and the group's local objects in their
@@ -48,23 +46,8 @@ fn place<G: Space>(
     ensures small { IfSome result (λ first. first + size_of operation < 2 ^ 64) }
     ensures inside { IfSome result (λ first. first + size_of operation ≤ length (space_of G.bytes buffers.now locals.now object)) }
 {
-    let count = byte_count(width_of(operation));
+    let count = operation.width().bytes();
     first_byte(size_of(buffers, locals, object), element, count)
-}
-
-/// The entry of an access for the log, which gives it its interval.
-fn entry_of(item: u32, region: Region, first: u64, operation: Operation, event: u32) -> Entry
-    ensures { result ≡ entry_of item region first operation event }
-{
-    let access = Access {
-        item,
-        region,
-        first,
-        width: width_of(operation),
-        kind: kind_of(operation),
-        interval: 0,
-    };
-    Entry { access, event }
 }
 
 /// A conflict that a log finds, without the numbers of events.
@@ -143,17 +126,15 @@ impl<'a, D: Described, I: RunningItem, G: Space, L: AccessLog> Machine for Group
         self.items[k as usize].next()
     }
 
-    fn access(&mut self, k: u32) -> Result<Made, AllocError> {
-        let Action::Access {
-            object,
-            element,
-            operation,
-        } = self.next(k)
-        else {
-            unreachable!();
-        };
+    fn access(
+        &mut self,
+        k: u32,
+        object: Object,
+        element: i64,
+        operation: Operation,
+    ) -> Result<Made, AllocError> {
         let item = self.first + k;
-        let region = region_of(self.number, object);
+        let region = object.region(self.number);
         let Some(first) = place(
             self.buffers.as_slice(),
             self.locals.as_slice(),
@@ -180,20 +161,14 @@ impl<'a, D: Described, I: RunningItem, G: Space, L: AccessLog> Machine for Group
             Err(SpaceFault::Bounds) => unreachable!(),
             Err(SpaceFault::ReadOnly) => unreachable!(),
         };
-        let entry = entry_of(item, region, first, operation, self.made);
+        let entry = Entry::of(item, region, first, operation, self.made);
         let fault = judge(self.launch, &mut self.log, entry)?;
         self.items[k as usize].answer(answer);
         self.made += 1;
-        match fault {
-            None => Ok(Made::Done),
-            Some(fault) => Ok(Made::Conflicts(fault)),
-        }
+        Ok(Made::judged(fault))
     }
 
-    fn release(&mut self) {
-        let Action::Barrier { fences, .. } = self.next(0) else {
-            unreachable!();
-        };
+    fn release(&mut self, fences: Fences) {
         pass(&mut self.log, fences);
         answer_all(&mut self.items);
         self.made += 1;

@@ -11,7 +11,6 @@ mod result;
 mod runnable;
 mod running;
 mod runs;
-mod words;
 
 pub use describing::{Described, conflict_fault};
 pub use result::GroupResult;

@@ -3,19 +3,20 @@
 ghost use Rattle.std.specs.Prelude.{◌≡◌, ◌<◌, ◌≤◌, ◌+◌, ℕ, None, Some, IfOk};
 ghost use Rattle.clmodel.specs.Run.{State, Events, next_action, stop_of};
 ghost use Rattle.joining.specs.Group.{IsGroup, Reached, IsRun};
-ghost use Rattle.group_run.specs.Loops.{Accesses, AtOneStop, Gathers, IsBrief, IsAdvanced, IsHalted, IsGathered};
+ghost use Rattle.group_run.specs.Loops.{Accesses, AtOneStop, Gathers, IsBrief, IsAdvanced, IsItemRun, IsGathered};
 
 use crate::machine::{Machine, Made};
 use crate::runs::Runs;
+use clmodel::access::{Object, Operation};
 use clmodel::action::{Action, Stop};
 use clmodel::fault::Fault;
 use clmodel::schedule::Event;
 use divergence::same_stop;
 use std::alloc::AllocError;
 
-/// Where an item comes to rest.
+/// What the run of an item to its next stop comes to.
 #[derive(Drop)]
-pub enum Halt {
+pub enum ItemRun {
     /// At the stop of the group's first item.
     Stops,
     /// The run is over with this report.
@@ -39,21 +40,21 @@ fn leader<M: Machine>(m: &mut M) -> Stop
 }
 
 /// Judges an item's stop.
-fn stop_at<M: Machine>(m: &mut M, k: u32, stop: Stop, runs: &Runs) -> Halt
+fn stop_at<M: Machine>(m: &mut M, k: u32, stop: Stop, runs: &Runs) -> ItemRun
     ghost origin: { State }
     requires whole { IsGroup (M.plan m.old) }
     requires inside { k < (M.plan m.old).count }
     requires reached { (g : Gathers (M.plan m.old) (M.fits m.old) origin runs.now k) × (stop_of (next_action (M.plan m.old).launch g.0.state ((M.plan m.old).first + k)) ≡ Some stop) }
     ensures plan_same { M.plan m.new ≡ M.plan m.old }
     ensures ticks_same { (j : ℕ) → M.ticks m.new j ≡ M.ticks m.old j }
-    ensures halted { IsHalted (M.plan m.old) (M.fits m.new) origin runs.now k result }
+    ensures halted { IsItemRun (M.plan m.old) (M.fits m.new) origin runs.now k result }
 {
     let item = m.first() + k;
     let leading = leader(m);
     if same_stop(&leading, &stop) {
-        Halt::Stops
+        ItemRun::Stops
     } else {
-        Halt::Reports(Fault::Divergence {
+        ItemRun::Reports(Fault::Divergence {
             item: m.first(),
             stop: leading,
             other_item: item,
@@ -62,20 +63,27 @@ fn stop_at<M: Machine>(m: &mut M, k: u32, stop: Stop, runs: &Runs) -> Halt
     }
 }
 
-/// Makes the access that an item does next, and keeps its event.
-fn advance<M: Machine>(m: &mut M, k: u32, runs: &mut Runs) -> Result<Option<Fault>, AllocError>
+/// Makes this access, which an item does next, and keeps its event.
+fn advance<M: Machine>(
+    m: &mut M,
+    k: u32,
+    object: Object,
+    element: i64,
+    operation: Operation,
+    runs: &mut Runs,
+) -> Result<Option<Fault>, AllocError>
     ghost origin: { State }
     requires whole { IsGroup (M.plan m.old) }
     requires inside { k < (M.plan m.old).count }
     requires brief { IsBrief (M.plan m.old) origin }
-    requires reached { (g : Gathers (M.plan m.old) (M.fits m.old) origin runs.old k) × Accesses (M.plan m.old) g.0.state ((M.plan m.old).first + k) }
+    requires reached { (g : Gathers (M.plan m.old) (M.fits m.old) origin runs.old k) × Accesses (M.plan m.old) g.0.state ((M.plan m.old).first + k) object element operation }
     ensures plan_same { M.plan m.new ≡ M.plan m.old }
     ensures ticks_kept { (j : ℕ) → M.ticks m.new j ≤ M.ticks m.old j }
     ensures ticks_less { IfOk result (λ report. report ≡ None → M.ticks m.new k < M.ticks m.old k) }
     ensures advanced { IfOk result (IsAdvanced (M.plan m.old) (M.fits m.new) origin runs.new k) }
 {
     let event = Event::Item(m.first() + k);
-    match m.access(k)? {
+    match m.access(k, object, element, operation)? {
         Made::Done => {
             runs.push(event)?;
             Ok(None)
@@ -89,7 +97,7 @@ fn advance<M: Machine>(m: &mut M, k: u32, runs: &mut Runs) -> Result<Option<Faul
 }
 
 /// Runs an item to its stop, or to a report.
-fn run_item<M: Machine>(m: &mut M, k: u32, runs: &mut Runs) -> Result<Halt, AllocError>
+fn run_item<M: Machine>(m: &mut M, k: u32, runs: &mut Runs) -> Result<ItemRun, AllocError>
     ghost origin: { State }
     requires whole { IsGroup (M.plan m.old) }
     requires inside { k < (M.plan m.old).count }
@@ -97,14 +105,18 @@ fn run_item<M: Machine>(m: &mut M, k: u32, runs: &mut Runs) -> Result<Halt, Allo
     requires reached { Gathers (M.plan m.old) (M.fits m.old) origin runs.old k }
     ensures plan_same { M.plan m.new ≡ M.plan m.old }
     ensures ticks_kept { (j : ℕ) → M.ticks m.new j ≤ M.ticks m.old j }
-    ensures halted { IfOk result (IsHalted (M.plan m.old) (M.fits m.new) origin runs.new k) }
+    ensures halted { IfOk result (IsItemRun (M.plan m.old) (M.fits m.new) origin runs.new k) }
 {
     'steps: loop {
         match m.next(k) {
-            Action::Access { .. } => {
-                match advance(m, k, runs)? {
+            Action::Access {
+                object,
+                element,
+                operation,
+            } => {
+                match advance(m, k, object, element, operation, runs)? {
                     None => {}
-                    Some(fault) => return Ok(Halt::Reports(fault)),
+                    Some(fault) => return Ok(ItemRun::Reports(fault)),
                 }
             }
             Action::Barrier { instance, .. } => {
@@ -113,7 +125,7 @@ fn run_item<M: Machine>(m: &mut M, k: u32, runs: &mut Runs) -> Result<Halt, Allo
             Action::End => return Ok(stop_at(m, k, Stop::Ended, runs)),
             Action::Fault(cause) => {
                 let fault = m.fault_of(m.first() + k, cause)?;
-                return Ok(Halt::Reports(fault));
+                return Ok(ItemRun::Reports(fault));
             }
         }
     }
@@ -131,8 +143,8 @@ fn run_interval<M: Machine>(m: &mut M, runs: &mut Runs) -> Result<Option<Fault>,
 {
     for k in 0..m.count() {
         match run_item(m, k, runs)? {
-            Halt::Stops => {}
-            Halt::Reports(fault) => return Ok(Some(fault)),
+            ItemRun::Stops => {}
+            ItemRun::Reports(fault) => return Ok(Some(fault)),
         }
     }
     Ok(None)
@@ -152,12 +164,13 @@ pub fn run_items<M: Machine>(m: &mut M, runs: &mut Runs) -> Result<Option<Fault>
             None => {}
             Some(fault) => return Ok(Some(fault)),
         }
-        match leader(m) {
-            Stop::Ended => return Ok(None),
-            Stop::At(_) => {
-                m.release();
+        match m.next(0) {
+            Action::Barrier { fences, .. } => {
+                m.release(fences);
                 runs.push(Event::Release(m.group()))?;
             }
+            // All items are at one stop, and it is no barrier: they have ended.
+            _ => return Ok(None),
         }
     }
 }

@@ -3,14 +3,14 @@
 ghost use Rattle.std.specs.Prelude.{◌≡◌, ◌<◌, ◌≤◌, ◌+◌, ◌^◌, [], ◌∷◌, ◌++◌, ℕ, None, IfOk};
 ghost use Rattle.clmodel.specs.Run.{State, Events, step, next_action, straggler};
 ghost use Rattle.clmodel.specs.Law.{fault_of};
-ghost use Rattle.clmodel.specs.declared.action.Action.TheVariants.{Barrier};
-ghost use Rattle.clmodel.specs.declared.action.Fences.{Fences};
+ghost use Rattle.clmodel.specs.declared.action.Action.TheVariants.{Access, Barrier};
 ghost use Rattle.clmodel.specs.declared.action.Instance.{Instance};
 ghost use Rattle.clmodel.specs.declared.schedule.Event.TheVariants.{Release};
 ghost use Rattle.joining.specs.Group.{Plan};
-ghost use Rattle.group_run.specs.Loops.{Accesses, IsMade};
+ghost use Rattle.group_run.specs.Loops.{Accesses, IsMade, judged_as};
 
-use clmodel::action::{Action, Cause};
+use clmodel::access::{Object, Operation};
+use clmodel::action::{Action, Cause, Fences};
 use clmodel::fault::Fault;
 use std::alloc::AllocError;
 
@@ -23,6 +23,18 @@ pub enum Made {
     Conflicts(Fault),
     /// It can't be done: it is out of range, or reads an unset byte.
     Refused(Fault),
+}
+
+impl Made {
+    /// What became of an access that was done, by the fault that its log reports.
+    pub(crate) fn judged(fault: Option<Fault>) -> Self
+        ensures { result ≡ judged_as fault }
+    {
+        match fault {
+            None => Made::Done,
+            Some(fault) => Made::Conflicts(fault),
+        }
+    }
 }
 
 /// The items of a group with their memory and the log of their accesses. Items are named by their place in the group.
@@ -54,23 +66,29 @@ pub trait Machine {
         ensures fits_same { (events : Events) (s : State) → fits self.old events s → fits self.new events s }
         ensures value { (events : Events) (s : State) → fits self.old events s → next_action (plan self.old).launch s ((plan self.old).first + k) ≡ result };
 
-    /// Does the access that an item does next. An error is out of memory.
-    fn access(&mut self, k: u32) -> Result<Made, AllocError>
+    /// Does this access, which is what an item does next. An error is out of memory.
+    fn access(
+        &mut self,
+        k: u32,
+        object: Object,
+        element: i64,
+        operation: Operation,
+    ) -> Result<Made, AllocError>
         requires inside { k < (plan self.old).count }
-        requires next { (events : Events) × (s : State) × (fits self.old events s) × Accesses (plan self.old) s ((plan self.old).first + k) }
+        requires next { (events : Events) × (s : State) × (fits self.old events s) × Accesses (plan self.old) s ((plan self.old).first + k) object element operation }
         ensures plan_same { plan self.new ≡ plan self.old }
         ensures ticks_kept { (j : ℕ) → ticks self.new j ≤ ticks self.old j }
         ensures ticks_less { IfOk result (λ made. made ≡ Made.Done → ticks self.new k < ticks self.old k) }
-        ensures made { IfOk result (IsMade (plan self.old) (fits self.old) (fits self.new) ((plan self.old).first + k)) };
+        ensures made { IfOk result (IsMade (plan self.old) (fits self.old) (fits self.new) ((plan self.old).first + k) (Access object element operation)) };
 
-    /// Releases all items from their barrier.
-    fn release(&mut self)
-        requires { (events : Events) × (s : State) × (instance : Instance) × (fences : Fences) × (fits self.old events s) × (straggler (plan self.old).launch s (plan self.old).group (plan self.old).first ≡ None)
+    /// Releases all items from their barrier, which has these fences.
+    fn release(&mut self, fences: Fences)
+        requires { (events : Events) × (s : State) × (instance : Instance) × (fits self.old events s) × (straggler (plan self.old).launch s (plan self.old).group (plan self.old).first ≡ None)
             × (next_action (plan self.old).launch s (plan self.old).first ≡ Barrier instance fences) }
         ensures plan_same { plan self.new ≡ plan self.old }
         ensures ticks_less { ticks self.new 0 < ticks self.old 0 }
         ensures made { (events : Events) (s : State) → fits self.old events s → straggler (plan self.old).launch s (plan self.old).group (plan self.old).first ≡ None
-            → (instance : Instance) (fences : Fences) → next_action (plan self.old).launch s (plan self.old).first ≡ Barrier instance fences
+            → (instance : Instance) → next_action (plan self.old).launch s (plan self.old).first ≡ Barrier instance fences
             → (n : State) × (step (plan self.old).launch s (Release (plan self.old).group) ≡ Some n) × (fits self.new (events ++ Release (plan self.old).group ∷ []) n) };
 
     /// The fault of an item that can do nothing more. An error is out of memory.

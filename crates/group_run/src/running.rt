@@ -6,7 +6,7 @@ ghost use Rattle.clmodel.specs.Outcome.{IsMerged, events_of};
 ghost use Rattle.clmodel.specs.Run.{start};
 ghost use Rattle.clmodel.specs.declared.action.Answer.{Answer};
 ghost use Rattle.item_run.specs.Running.{action_of, Running};
-ghost use Rattle.shadow_list.specs.Log.{logged};
+ghost use Rattle.shadow_list.specs.Log.{fresh_log};
 ghost use Rattle.group_run.specs.Fits.{AreStarted};
 ghost use Rattle.group_run.specs.Results.{IsRunnable, filled, IsResult};
 
@@ -63,7 +63,7 @@ pub fn run_group<D: Runnable, G: Space + Drop, L: AccessLog + Drop>(
     requires there { group * (D.Described.launch launch.now).group_size < (D.Described.launch launch.now).items }
     requires writable { G.read_only ≡ false }
     requires filled { map G.bytes globals.items ≡ filled (D.Described.launch launch.now) }
-    requires fresh { L.Accesses.log log ≡ logged [] 0 0 }
+    requires fresh { L.Accesses.log log ≡ fresh_log }
     ensures { IfOk result (IsResult G.bytes L.Accesses.log (D.Described.launch launch.now) group) }
 {
     let count = launch.group_size();

@@ -1,4 +1,4 @@
-use Rattle.std.proofs.Common.{◌≡◌, sym, ap, ◌∙◌, arith}
+use Rattle.std.proofs.Common.{rules, to_z, of_z, w64, ◌≡◌, sym, ap, ◌∙◌, arith}
 use Rattle.clmodel.specs.Run.{stop_of}
 use Rattle.clmodel.specs.Law.{Reports}
 use Rattle.clmodel.specs.declared.action.Action.TheVariants as action
@@ -12,11 +12,12 @@ advance-requires g c κs within =
     let r = c.steps.invariant.gathers in
     let acts =
     acting p (g.M.Machine.plan c.steps.m) r.0.state c.args.k c.next.result (action.Access c.in-Access.object c.in-Access.element c.in-Access.operation)
-    c.steps.invariant.plan_same (c.next.ensures.value c.steps.runs r.0.state r.0.holds) c.in-Access.is in (
+    c.steps.invariant.plan_same (c.next.ensures.value c.steps.runs r.0.state r.0.holds) c.in-Access.is in
+    let back : to_z w64 (of_z w64 c.in-Access.element) ≡ c.in-Access.element = search rules in (
       assumption within,
       advance_asks p (g.M.Machine.plan c.next.new.self) (g.M.Machine.fits c.steps.m) (g.M.Machine.fits c.next.new.self) g.origin c.steps.runs c.args.k
-          (c.next.ensures.plan_same ∙ c.steps.invariant.plan_same) c.requires.1.0 c.requires.1.1.0 c.requires.1.1.1.0 r c.next.ensures.fits_same
-          (c.in-Access.object, c.in-Access.element, c.in-Access.operation, acts),
+          c.in-Access.object (to_z w64 (of_z w64 c.in-Access.element)) c.in-Access.operation (c.next.ensures.plan_same ∙ c.steps.invariant.plan_same) c.requires.1.0 c.requires.1.1.0 c.requires.1.1.1.0 r
+          c.next.ensures.fits_same (acts ∙ ap (λ z. action.Access c.in-Access.object z c.in-Access.operation) (sym back)),
     )
 
 pub stop_at-requires : goal.stop_at-requires
