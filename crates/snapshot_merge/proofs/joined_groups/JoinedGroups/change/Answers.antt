@@ -13,7 +13,7 @@ pub returns-clause-changed : goal.returns-clause-changed
 returns-clause-changed g c = λ kept h.
     let entries : List Entry = (g.L.Accesses.log c.args.log.now).accesses in
     let put : List (Bor (List ℕ)) → List (List ℕ) → List Change
-    = λ first lower. changes_of (value_of (map (λ (buffer_at : Bor (List ℕ)). row.now) first) lower (λ n b. wrote kept (region.Buffer n) b) (map (λ (space : Overlaid). space.bytes) c.args.spaces.now)) entries in
+    = λ first lower. changes_of (value_of (map (λ (row : Bor (List ℕ)). row.now) first) lower (λ n b. wrote kept (region.Buffer n) b) (map (λ (space : Overlaid). space.bytes) c.args.spaces.now)) entries in
     let new = c.make_changes.new.contents in
     let old = c.args.self.now.contents in
     let long : length new ≡ old.len = omega (arith, c.make_changes.ensures.many, c.as_mut_slice.ensures.len) in
