@@ -1,5 +1,5 @@
 -- One more group joined to the groups so far, as code does it.
-use Rattle.std.proofs.Common.{◌≡◌, ℕ, zero, suc, ◌+◌, ◌==◌, ◌&&◌, false, if◌then◌else◌, Option, None, Some, List, [], ◌∷◌, ◌++◌, length, take, map, refl, sym, ap, ap₂, ◌∙◌, subst, arith}
+use Rattle.std.proofs.Common.{◌≡◌, ℕ, zero, suc, ◌+◌, ◌==◌, ◌&&◌, if◌then◌else◌, Option, None, Some, List, [], ◌∷◌, ◌++◌, length, take, map, refl, sym, ap, ap₂, ◌∙◌, subst, arith}
 use Rattle.std.specs.Prelude.{Vec, Result, Ok, Err, IfOk}
 use Rattle.std.specs.declared.alloc.Global.{Global}
 use denote.Bor.{Bor}
@@ -23,7 +23,7 @@ use Rattle.joining.specs.Join.{Joined, nothing_yet, join, join_at}
 use Rattle.joining.specs.Steps.{HasGroup, IsJoined}
 use Rattle.group_run.specs.Logs.{accesses_of, IsLogged}
 use Rattle.group_run.specs.Results.{Leaves}
-use Rattle.shadow.specs.Seen.{IsFootprint, meeting, meeting_of}
+use Rattle.shadow.specs.Seen.{IsFootprint, meeting, meeting_of, met_at}
 use Rattle.shadow.specs.declared.footprint.Footprint.{Footprint}
 use Rattle.shadow.specs.declared.seen.Meeting.{Meeting}
 use Rattle.clmodel.proofs.Steps.{none_some}

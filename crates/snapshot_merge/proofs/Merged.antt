@@ -1,9 +1,9 @@
 -- Runs with further runs.
-use Rattle.std.proofs.Common.{◌≡◌, ℕ, zero, suc, ◌+◌, ◌-◌, ◌<◌, ◌≤◌, List, [], ◌∷◌, ◌++◌, length, set, replicate, take, drop, min, refl, sym, ap, ap₂, ◌∙◌, subst, arith, length-append, zero-add, suc-add, add-one, Some, ◌⊎◌, inl, inr}
+use Rattle.std.proofs.Common.{◌≡◌, ℕ, zero, suc, ◌+◌, ◌-◌, ◌<◌, ◌≤◌, List, [], ◌∷◌, ◌++◌, length, replicate, take, drop, min, refl, sym, ap, ap₂, ◌∙◌, subst, arith, zero-add, suc-add, add-one, Some, ◌⊎◌, inl, inr}
 use Rattle.std.specs.Prelude.{slice_get}
 use Rattle.clmodel.proofs.Steps.{none_some, some_inj}
 use Rattle.std.proofs.lemmas.List.{append_assoc, append-nil}
-use Rattle.clmodel.specs.Outcome.{events_of, BeginsApart, IsMerged}
+use Rattle.clmodel.specs.Outcome.{events_of, IsMerged}
 use Rattle.group_run.specs.Runs.{EndsWith}
 use Rattle.group_run.proofs.Merging.{events_of-append, merged_append, merged_grow}
 use Rattle.snapshot_merge.specs.Runs.{Adds, IsFirstOf}

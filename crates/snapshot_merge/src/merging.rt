@@ -8,9 +8,9 @@ ghost use Rattle.spaces_base.specs.Buffers.{bytes_in};
 ghost use Rattle.snapshot_run.specs.Launches.{HasGroups};
 ghost use Rattle.snapshot_merge.specs.Launches.{AreResults};
 
+use crate::joined_groups::{GroupPlace, JoinedGroups};
 use crate::laws::laws;
 use crate::run::group_count;
-use crate::joined_groups::{GroupPlace, JoinedGroups};
 use clmodel::outcome::Outcome;
 use group_run::GroupResult;
 use item_step::Launch;
