@@ -84,12 +84,12 @@ goes_on p whole s item b mine goes =
     ∙ ap (group_turn p.launch s p.group) whole.leads
     ∙ straggles p s item b mine goes (straggler p.launch s p.group p.first) refl
 
-not_ended : (x : Bool) → not x ≡ true → x ≡ false
+pub not_ended : (x : Bool) → not x ≡ true → x ≡ false
 not_ended true h = absurd (false≢true h)
 not_ended false h = refl
 
 -- a group whose items have all ended is over
-group_is_over :
+pub group_is_over :
     (p : Plan) → IsGroup p → (s : State) → ((k : ℕ) → k < p.launch.items → group_of p.launch k ≡ p.group → has_ended (next_action p.launch s k) ≡ true)
     → going p s (straggler p.launch s p.group p.first) ≡ Finishes
 group_is_over p whole s all =

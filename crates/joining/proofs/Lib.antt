@@ -8,6 +8,7 @@ pub mod Lifts
 pub mod Ride
 pub mod Joins
 pub mod Parts
+pub mod Runs
 pub mod Lowest
 pub mod Kept
 pub mod Steps

@@ -2,7 +2,7 @@
 use Rattle.std.specs.Prelude.{◌≡◌, ℕ, suc, ◌*◌, ◌%◌, ◌<◌, ◌⊎◌, Option, None, Some, List, [], ◌∷◌}
 use Rattle.clmodel.specs.Launch.{Launch, group_of}
 use Rattle.clmodel.specs.Run.{State, Events, start}
-use Rattle.clmodel.specs.Law.{Turn, Reports, Finishes}
+use Rattle.clmodel.specs.Law.{Turn, Reports, Finishes, IsBounded}
 use Rattle.clmodel.specs.declared.fault.Fault.{Fault}
 use Rattle.joining.specs.Group.{plan_of, turn_of, RunsIn}
 
@@ -37,3 +37,10 @@ abbrev pub OnePart : Type 0
 OnePart =
     (launch : Launch) (group : ℕ) (part other : Part) → IsPart launch group part → IsPart launch group other
     → (part.events ≡ other.events) × (part.end ≡ other.end) × (part.stopped ≡ other.stopped)
+
+-- A group of a launch whose items are bounded has a run of its own, which ends: each group alone comes to its end or to a report, whatever
+-- other groups do (own).
+abbrev pub PartExists : Type 0
+PartExists =
+    (launch : Launch) (bound : ℕ) → IsGrouped launch → IsBounded launch bound → (group : ℕ) → group * launch.group_size < launch.items
+    → (part : Part) × IsPart launch group part

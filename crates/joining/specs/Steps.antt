@@ -1,7 +1,7 @@
 -- The groups of a launch joined one by one, as code joins them (OpenCL 1.2, 3.2; own).
 use Rattle.std.specs.Prelude.{◌≡◌, ◌≢◌, ℕ, zero, suc, ◌*◌, ◌/◌, ◌%◌, ◌<◌, ◌≤◌, true, false, None, Some, List, ◌++◌}
 use Rattle.clmodel.specs.Cells.{byte_of, number}
-use Rattle.clmodel.specs.Launch.{Launch, group_of, region_of, conflict, conflict_between}
+use Rattle.clmodel.specs.Launch.{Launch, group_of, region_of, across_groups, conflict, conflict_between}
 use Rattle.clmodel.specs.Law.{Keeps, Logged, conflict_from, RunsClean, RunsIntoFault}
 use Rattle.clmodel.specs.Run.{State, initial}
 use Rattle.clmodel.specs.declared.access.Access.{Access}
@@ -71,7 +71,7 @@ abbrev pub KeptConflicts : Type 0
 KeptConflicts =
     (launch : Launch) (x : Access) (log kept : List Access) (byte count : ℕ) → Keeps log kept
     → ((y : Access) → Logged log y → group_of launch y.item ≢ group_of launch x.item)
-    → conflict_from (conflict launch) x log byte count ≡ conflict_from (conflict_between false) x kept byte count
+    → conflict_from (conflict launch) x log byte count ≡ conflict_from (conflict_between across_groups) x kept byte count
 
 -- what is kept of two logs, one after the other, keeps both (own)
 abbrev pub KeptBoth : Type 0

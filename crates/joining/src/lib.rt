@@ -4,7 +4,7 @@
 
 ghost use Rattle.joining.specs.Crossings.{LowerFirst};
 ghost use Rattle.joining.specs.Join.{JoinIsCanonical};
-ghost use Rattle.joining.specs.Parts.{OnePart};
+ghost use Rattle.joining.specs.Parts.{OnePart, PartExists};
 ghost use Rattle.joining.specs.Steps.{JoinReports, JoinEnds, AreOwn, AreLower, BytesAreJoined, KeptConflicts, KeptBoth};
 
 /// The groups of a launch run apart and joined, up to the first report, are its canonical run: its events, what it leaves in memory, and its
@@ -16,6 +16,11 @@ pub fn join_is_canonical()
 /// A group has at most one run on the launch's first memory.
 pub fn one_part()
     ensures { OnePart }
+{}
+
+/// Each group of a launch whose items are bounded has a run on the launch's first memory, which ends.
+pub fn part_exists()
+    ensures { PartExists }
 {}
 
 /// Of the conflicts of one access the report names the one on the lower byte, and on one byte that with the lower groups.

@@ -16,7 +16,7 @@ use Rattle.clmodel.proofs.CellLaws.{covers_parts, covers_from}
 use Rattle.joining.specs.Memory.{writes, at_byte}
 use Rattle.shadow_list.specs.declared.log.Entry.{Entry}
 use Rattle.snapshot_merge.specs.declared.changes.Change.{Change}
-use Rattle.snapshot_merge.specs.Changes.{is_of, changed_byte, row, AreChanged, changes_at, access_changes, changes_of}
+use Rattle.snapshot_merge.specs.Changes.{is_of, changed_byte, buffer_at, AreChanged, changes_at, access_changes, changes_of}
 
 -- ---- lists of changes
 
@@ -25,7 +25,7 @@ changed_append [] ys n b old = refl
 changed_append (x ∷ xs) ys n b old = changed_append xs ys n b (if is_of n b x then x.value else old)
 
 pub changed_none : (contents : List (List ℕ)) → AreChanged contents contents []
-changed_none contents = record { many = refl; sized = λ n. refl; bytes = λ n b. same (slice_get (row contents n) b) }
+changed_none contents = record { many = refl; sized = λ n. refl; bytes = λ n b. same (slice_get (buffer_at contents n) b) }
   where
     same : (o : Option ℕ) → o ≡ option_map (λ old. old) o
     same None = refl
@@ -36,7 +36,7 @@ changed_more first mid last xs y h k =
     record {
       many = k.many ∙ h.many;
       sized = λ n. k.sized n ∙ h.sized n;
-      bytes = λ n b. k.bytes n b ∙ ap (option_map (changed_byte (y ∷ []) n b)) (h.bytes n b) ∙ twice n b (slice_get (row first n) b);
+      bytes = λ n b. k.bytes n b ∙ ap (option_map (changed_byte (y ∷ []) n b)) (h.bytes n b) ∙ twice n b (slice_get (buffer_at first n) b);
     }
   where
     twice : (n b : ℕ) (o : Option ℕ) → option_map (changed_byte (y ∷ []) n b) (option_map (changed_byte xs n b) o) ≡ option_map (changed_byte (xs ++ y ∷ []) n b) o
@@ -62,12 +62,12 @@ length_put [] at v h = absurd (omega (arith, h))
 length_put (x ∷ xs) zero v h = refl
 length_put (x ∷ xs) (suc at) v h = ap suc (length_put xs at v (omega (arith, h)))
 
-row_set : (xs : List (List ℕ)) (n : ℕ) (r : List ℕ) → n < length xs → row (set xs n r) n ≡ r
+row_set : (xs : List (List ℕ)) (n : ℕ) (r : List ℕ) → n < length xs → buffer_at (set xs n r) n ≡ r
 row_set [] n r h = absurd (omega (arith, h))
 row_set (x ∷ xs) zero r h = refl
 row_set (x ∷ xs) (suc n) r h = row_set xs n r (omega (arith, h))
 
-row_kept : (xs : List (List ℕ)) (n : ℕ) (r : List ℕ) (m : ℕ) → (m ≡ n → ⊥) → row (set xs n r) m ≡ row xs m
+row_kept : (xs : List (List ℕ)) (n : ℕ) (r : List ℕ) (m : ℕ) → (m ≡ n → ⊥) → buffer_at (set xs n r) m ≡ buffer_at xs m
 row_kept [] n r m ne = refl
 row_kept (x ∷ xs) zero r zero ne = absurd (ne refl)
 row_kept (x ∷ xs) zero r (suc m) ne = refl
@@ -87,17 +87,17 @@ is_there n b c ne = go (is_of n b c) refl
 
 -- a byte of a buffer is put in place of another
 pub changed_put :
-    (old : List (List ℕ)) (c : Change) → c.buffer < length old → c.byte < length (row old c.buffer)
-    → AreChanged old (set old c.buffer (take c.byte (row old c.buffer) ++ c.value ∷ drop (suc c.byte) (row old c.buffer))) (c ∷ [])
+    (old : List (List ℕ)) (c : Change) → c.buffer < length old → c.byte < length (buffer_at old c.buffer)
+    → AreChanged old (set old c.buffer (take c.byte (buffer_at old c.buffer) ++ c.value ∷ drop (suc c.byte) (buffer_at old c.buffer))) (c ∷ [])
 changed_put old c there inside =
     record { many = length-set old c.buffer put; sized = λ n. sized n (eqb_tells n c.buffer); bytes = λ n b. bytes n b (eqb_tells n c.buffer) (eqb_tells b c.byte) }
   where
     put : List ℕ
-    put = take c.byte (row old c.buffer) ++ c.value ∷ drop (suc c.byte) (row old c.buffer)
+    put = take c.byte (buffer_at old c.buffer) ++ c.value ∷ drop (suc c.byte) (buffer_at old c.buffer)
 
-    sized : (n : ℕ) → (((n == c.buffer) ≡ true) × (n ≡ c.buffer)) ⊎ (((n == c.buffer) ≡ false) × (n ≡ c.buffer → ⊥)) → length (row (set old c.buffer put) n) ≡ length (row old n)
+    sized : (n : ℕ) → (((n == c.buffer) ≡ true) × (n ≡ c.buffer)) ⊎ (((n == c.buffer) ≡ false) × (n ≡ c.buffer → ⊥)) → length (buffer_at (set old c.buffer put) n) ≡ length (buffer_at old n)
     sized n (inl h) =
-        subst (λ m. length (row (set old c.buffer put) m) ≡ length (row old m)) (sym h.1) (ap length (row_set old c.buffer put there) ∙ length_put (row old c.buffer) c.byte c.value inside)
+        subst (λ m. length (buffer_at (set old c.buffer put) m) ≡ length (buffer_at old m)) (sym h.1) (ap length (row_set old c.buffer put there) ∙ length_put (buffer_at old c.buffer) c.byte c.value inside)
     sized n (inr h) = ap length (row_kept old c.buffer put n h.1)
 
     id_map : (o : Option ℕ) → o ≡ option_map (λ v. v) o
@@ -111,36 +111,36 @@ changed_put old c there inside =
     bytes :
         (n b : ℕ) → (((n == c.buffer) ≡ true) × (n ≡ c.buffer)) ⊎ (((n == c.buffer) ≡ false) × (n ≡ c.buffer → ⊥))
         → (((b == c.byte) ≡ true) × (b ≡ c.byte)) ⊎ (((b == c.byte) ≡ false) × (b ≡ c.byte → ⊥))
-        → slice_get (row (set old c.buffer put) n) b ≡ option_map (changed_byte (c ∷ []) n b) (slice_get (row old n) b)
+        → slice_get (buffer_at (set old c.buffer put) n) b ≡ option_map (changed_byte (c ∷ []) n b) (slice_get (buffer_at old n) b)
     bytes n b (inl h) (inl k) =
-        ap₂ (λ m j. slice_get (row (set old c.buffer put) m) j) h.1 k.1
+        ap₂ (λ m j. slice_get (buffer_at (set old c.buffer put) m) j) h.1 k.1
         ∙ ap (λ r. slice_get r c.byte) (row_set old c.buffer put there)
-        ∙ get_put (row old c.buffer) c.byte c.value inside
-        ∙ ap Some (sym (if_true (is_of n b c) c.value (slice_index_or (row old c.buffer) c.byte 0) (is_here n b c (sym h.1) (sym k.1))))
-        ∙ ap (option_map (changed_byte (c ∷ []) n b)) (sym (slice_get-get_or (row old c.buffer) c.byte 0 inside) ∙ ap₂ (λ m j. slice_get (row old m) j) (sym h.1) (sym k.1))
+        ∙ get_put (buffer_at old c.buffer) c.byte c.value inside
+        ∙ ap Some (sym (if_true (is_of n b c) c.value (slice_index_or (buffer_at old c.buffer) c.byte 0) (is_here n b c (sym h.1) (sym k.1))))
+        ∙ ap (option_map (changed_byte (c ∷ []) n b)) (sym (slice_get-get_or (buffer_at old c.buffer) c.byte 0 inside) ∙ ap₂ (λ m j. slice_get (buffer_at old m) j) (sym h.1) (sym k.1))
     bytes n b (inl h) (inr k) =
-        ap (λ m. slice_get (row (set old c.buffer put) m) b) h.1
+        ap (λ m. slice_get (buffer_at (set old c.buffer put) m) b) h.1
         ∙ ap (λ r. slice_get r b) (row_set old c.buffer put there)
-        ∙ get_kept (row old c.buffer) c.byte c.value b inside k.1
-        ∙ ap (λ m. slice_get (row old m) b) (sym h.1)
-        ∙ missed n b (is_there n b c (λ e f. k.1 (sym f))) (slice_get (row old n) b)
+        ∙ get_kept (buffer_at old c.buffer) c.byte c.value b inside k.1
+        ∙ ap (λ m. slice_get (buffer_at old m) b) (sym h.1)
+        ∙ missed n b (is_there n b c (λ e f. k.1 (sym f))) (slice_get (buffer_at old n) b)
     bytes n b (inr h) k =
-        ap (λ r. slice_get r b) (row_kept old c.buffer put n h.1) ∙ missed n b (is_there n b c (λ e f. h.1 (sym e))) (slice_get (row old n) b)
+        ap (λ r. slice_get r b) (row_kept old c.buffer put n h.1) ∙ missed n b (is_there n b c (λ e f. h.1 (sym e))) (slice_get (buffer_at old n) b)
 
 -- a change of what isn't there
-pub changed_nothing : (old : List (List ℕ)) (c : Change) → length (row old c.buffer) ≤ c.byte → AreChanged old old (c ∷ [])
+pub changed_nothing : (old : List (List ℕ)) (c : Change) → length (buffer_at old c.buffer) ≤ c.byte → AreChanged old old (c ∷ [])
 changed_nothing old c out =
-    record { many = refl; sized = λ n. refl; bytes = λ n b. same n b (slice_get (row old n) b) refl }
+    record { many = refl; sized = λ n. refl; bytes = λ n b. same n b (slice_get (buffer_at old n) b) refl }
   where
-    same : (n b : ℕ) (o : Option ℕ) → slice_get (row old n) b ≡ o → o ≡ option_map (changed_byte (c ∷ []) n b) o
+    same : (n b : ℕ) (o : Option ℕ) → slice_get (buffer_at old n) b ≡ o → o ≡ option_map (changed_byte (c ∷ []) n b) o
     same n b None e = refl
     same n b (Some v) e =
         ap Some (sym (if_false (is_of n b c) c.value v (is_there n b c (λ p q.
-        let w : b < length (row old n) = slice_get_within (row old n) b v e in
-        let s : length (row old n) ≤ b = subst (λ m. length (row old m) ≤ b) p (subst (λ j. length (row old c.buffer) ≤ j) q out) in
+        let w : b < length (buffer_at old n) = slice_get_within (buffer_at old n) b v e in
+        let s : length (buffer_at old n) ≤ b = subst (λ m. length (buffer_at old m) ≤ b) p (subst (λ j. length (buffer_at old c.buffer) ≤ j) q out) in
         absurd (omega (arith, w, s))))))
 
-pub row_past : (xs : List (List ℕ)) (n : ℕ) → length xs ≤ n → row xs n ≡ []
+pub row_past : (xs : List (List ℕ)) (n : ℕ) → length xs ≤ n → buffer_at xs n ≡ []
 row_past [] n h = refl
 row_past (x ∷ xs) zero h = absurd (omega (arith, h))
 row_past (x ∷ xs) (suc n) h = row_past xs n (omega (arith, h))

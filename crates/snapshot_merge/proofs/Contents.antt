@@ -25,8 +25,8 @@ use Rattle.joining.specs.Steps.{HasGroup, IsJoined, IsJoinedByte, BytesAreJoined
 use Rattle.joining.proofs.Over.{wrote_some, wrote_from}
 use Rattle.group_run.specs.Logs.{accesses_of}
 use Rattle.shadow_list.specs.declared.log.Entry.{Entry}
-use Rattle.snapshot_merge.specs.Changes.{row, number_or_0, joined_value, value_of, changed_byte, changes_of, AreChanged, cells_at, filled_at}
-use Rattle.snapshot_merge.specs.Memory.{HoldsMemory}
+use Rattle.snapshot_merge.specs.Changes.{buffer_at, number_or_0, joined_value, value_of, changed_byte, changes_of, AreChanged, cells_at, filled_at}
+use Rattle.snapshot_merge.specs.Memory.{HoldsBytes}
 use Rattle.snapshot_merge.proofs.Numbers.{number_none, cells_filled}
 use Rattle.snapshot_merge.proofs.Changing.{wrote_by, entries_put, entries_kept}
 use Rattle.snapshot_merge.proofs.Filled.{own_set}
@@ -99,9 +99,9 @@ logged_entry (y ∷ es) x h =
 
 -- ---- buffers and a memory
 
-pub contents_start : (l : Launch) (rows : List (List ℕ)) → rows ≡ l.buffers → HoldsMemory l (initial l) rows
+pub contents_start : (l : Launch) (rows : List (List ℕ)) → rows ≡ l.buffers → HoldsBytes l (initial l) rows
 contents_start l rows e =
-    subst (HoldsMemory l (initial l)) (sym e) (record { many = refl; sized = λ n. refl; bytes = λ n b h. refl })
+    subst (HoldsBytes l (initial l)) (sym e) (record { many = refl; sized = λ n. refl; bytes = λ n b h. refl })
 
 cells_row : (cells : Cells) (first : ℕ) (c : List ℕ) (count : ℕ) → length c ≡ count → ((i : ℕ) → i < count → slice_get c i ≡ cells (first + i)) → cells_from cells first count ≡ map Some c
 cells_row cells first [] zero e h = refl
@@ -112,8 +112,8 @@ cells_row cells first (x ∷ c) (suc count) e h =
     (cells_row cells (suc first) c count (omega (arith, e)) (λ i b. let z : first + suc i ≡ suc first + i = omega arith in h (suc i) (omega (arith, b)) ∙ ap cells z))
 
 ends_from :
-    (m : Memory) (k : ℕ) (bs cs : List (List ℕ)) → length cs ≡ length bs → ((n : ℕ) → length (row cs n) ≡ length (row bs n))
-    → ((n b : ℕ) → b < length (row bs n) → slice_get (row cs n) b ≡ m (region.Buffer (k + n)) b) → contents m k bs ≡ map (λ bytes. map Some bytes) cs
+    (m : Memory) (k : ℕ) (bs cs : List (List ℕ)) → length cs ≡ length bs → ((n : ℕ) → length (buffer_at cs n) ≡ length (buffer_at bs n))
+    → ((n b : ℕ) → b < length (buffer_at bs n) → slice_get (buffer_at cs n) b ≡ m (region.Buffer (k + n)) b) → contents m k bs ≡ map (λ bytes. map Some bytes) cs
 ends_from m k [] [] e s h = refl
 ends_from m k [] (c ∷ cs) e s h = absurd (omega (arith, e))
 ends_from m k (b ∷ bs) [] e s h = absurd (omega (arith, e))
@@ -124,7 +124,7 @@ ends_from m k (b ∷ bs) (c ∷ cs) e s h =
     (ends_from m (suc k) bs cs (omega (arith, e)) (λ n. s (suc n)) (λ n i w. let z : k + suc n ≡ suc k + n = omega arith in h (suc n) i w ∙ ap (λ j. m (region.Buffer j) i) z))
 
 -- what a state leaves in the buffers is what they hold
-pub contents_end : (l : Launch) (m : Memory) (cs : List (List ℕ)) → HoldsMemory l m cs → contents m 0 l.buffers ≡ map (λ bytes. map Some bytes) cs
+pub contents_end : (l : Launch) (m : Memory) (cs : List (List ℕ)) → HoldsBytes l m cs → contents m 0 l.buffers ≡ map (λ bytes. map Some bytes) cs
 contents_end l m cs h =
     ends_from m 0 l.buffers cs h.many h.sized (λ n b w. let z : n ≡ 0 + n = omega arith in h.bytes n b w ∙ ap (λ j. m (region.Buffer j) b) z)
 
@@ -134,14 +134,14 @@ cells_from_at cells first (suc count) zero h = let z : first ≡ first + 0 = ome
 cells_from_at cells first (suc count) (suc i) h =
     let z : suc first + i ≡ first + suc i = omega arith in cells_from_at cells (suc first) count i (omega (arith, h)) ∙ ap cells z
 
-own_from : (m : Memory) (k : ℕ) (bs : List (List ℕ)) (n b : ℕ) → b < length (row bs n) → cells_at (contents m k bs) n b ≡ m (region.Buffer (k + n)) b
+own_from : (m : Memory) (k : ℕ) (bs : List (List ℕ)) (n b : ℕ) → b < length (buffer_at bs n) → cells_at (contents m k bs) n b ≡ m (region.Buffer (k + n)) b
 own_from m k [] n b h = absurd (omega (arith, h))
 own_from m k (x ∷ bs) zero b h =
     let z : k ≡ k + 0 = omega arith in
     let y : 0 + b ≡ b = omega arith in cells_from_at (m (region.Buffer k)) 0 (length x) b h ∙ ap (m (region.Buffer k)) y ∙ ap (λ j. m (region.Buffer j) b) z
 own_from m k (x ∷ bs) (suc n) b h = let z : suc k + n ≡ k + suc n = omega arith in own_from m (suc k) bs n b h ∙ ap (λ j. m (region.Buffer j) b) z
 
-pub own_cells : (l : Launch) (m : Memory) (spaces : List (List (Option ℕ))) → contents m 0 l.buffers ≡ spaces → (n b : ℕ) → b < length (row l.buffers n) → cells_at spaces n b ≡ m (region.Buffer n) b
+pub own_cells : (l : Launch) (m : Memory) (spaces : List (List (Option ℕ))) → contents m 0 l.buffers ≡ spaces → (n b : ℕ) → b < length (buffer_at l.buffers n) → cells_at spaces n b ≡ m (region.Buffer n) b
 own_cells l m spaces e n b h =
     let z : 0 + n ≡ n = omega arith in ap (λ s. cells_at s n b) (sym e) ∙ own_from m 0 l.buffers n b h ∙ ap (λ j. m (region.Buffer j) b) z
 
@@ -180,7 +180,7 @@ pub record IsClear (l : Launch) (g : ℕ) (lower : Joined) (part : Part) (old : 
   pub there : HasGroup l g
   pub runs : IsPart l g part
   pub none : crossing l lower.log part.end.log ≡ None
-  pub holds : HoldsMemory l lower.memory old
+  pub holds : HoldsBytes l lower.memory old
   pub logged : Keeps part.end.log (accesses_of entries)
   pub keeps : Keeps lower.log kept
   pub opening : first ≡ l.buffers
@@ -196,16 +196,16 @@ put_of first old kept spaces = value_of first old (λ n b. wrote kept (region.Bu
 
 -- the number of a word that is in range, in each of the three
 word_first : (l : Launch) (first : List (List ℕ)) (n word s : ℕ) → first ≡ l.buffers → number (initial l (region.Buffer n)) word 4 ≡ Some s → number_or_0 (filled_at first n) word 4 ≡ s
-word_first l first n word s e h = number_as (filled_at first n) (initial l (region.Buffer n)) word 4 s (λ i c. cells_filled (row first n) i ∙ ap (λ (z : List (List ℕ)). slice_get (row z n) i) e) h
+word_first l first n word s e h = number_as (filled_at first n) (initial l (region.Buffer n)) word 4 s (λ i c. cells_filled (buffer_at first n) i ∙ ap (λ (z : List (List ℕ)). slice_get (buffer_at z n) i) e) h
 
 -- a byte of a word that has a first number is in range
-in_word : (l : Launch) (n word s i : ℕ) → number (initial l (region.Buffer n)) word 4 ≡ Some s → covers word 4 i ≡ true → i < length (row l.buffers n)
-in_word l n word s i h c = let v = number_each (initial l (region.Buffer n)) word 4 s i h c in slice_get_within (row l.buffers n) i v.0 v.1
+in_word : (l : Launch) (n word s i : ℕ) → number (initial l (region.Buffer n)) word 4 ≡ Some s → covers word 4 i ≡ true → i < length (buffer_at l.buffers n)
+in_word l n word s i h c = let v = number_each (initial l (region.Buffer n)) word 4 s i h c in slice_get_within (buffer_at l.buffers n) i v.0 v.1
 
-word_lower : (l : Launch) (m : Memory) (old : List (List ℕ)) (n word s a : ℕ) → HoldsMemory l m old → number (initial l (region.Buffer n)) word 4 ≡ Some s → number (m (region.Buffer n)) word 4 ≡ Some a
+word_lower : (l : Launch) (m : Memory) (old : List (List ℕ)) (n word s a : ℕ) → HoldsBytes l m old → number (initial l (region.Buffer n)) word 4 ≡ Some s → number (m (region.Buffer n)) word 4 ≡ Some a
     → number_or_0 (filled_at old n) word 4 ≡ a
 word_lower l m old n word s a holds h k =
-    number_as (filled_at old n) (m (region.Buffer n)) word 4 a (λ i c. cells_filled (row old n) i ∙ holds.bytes n i (in_word l n word s i h c)) k
+    number_as (filled_at old n) (m (region.Buffer n)) word 4 a (λ i c. cells_filled (buffer_at old n) i ∙ holds.bytes n i (in_word l n word s i h c)) k
 
 word_own : (l : Launch) (m : Memory) (spaces : List (List (Option ℕ))) (n word s b : ℕ) → contents m 0 l.buffers ≡ spaces → number (initial l (region.Buffer n)) word 4 ≡ Some s
     → number (m (region.Buffer n)) word 4 ≡ Some b → number_or_0 (cells_at spaces n) word 4 ≡ b
@@ -220,7 +220,7 @@ own_put (kind.Update class) first lower own byte = refl
 -- a byte that an entry wrote
 put_joined :
     (l : Launch) (g : ℕ) (lower : Joined) (part : Part) (old : List (List ℕ)) (entries : List Entry) (kept : List Access) (first : List (List ℕ)) (spaces : List (List (Option ℕ)))
-    → IsClear l g lower part old entries kept first spaces → (x : Access) (n byte : ℕ) → Logged part.end.log x → wrote_by n byte x ≡ true → byte < length (row l.buffers n)
+    → IsClear l g lower part old entries kept first spaces → (x : Access) (n byte : ℕ) → Logged part.end.log x → wrote_by n byte x ≡ true → byte < length (buffer_at l.buffers n)
     → joined_of l lower part (region.Buffer n) byte ≡ Some (put_of first old kept spaces n x byte)
 put_joined l g lower part old entries kept first spaces c x n byte logged w inside = go (wrote lower.log (region.Buffer n) byte) refl
   where
@@ -267,7 +267,7 @@ put_joined l g lower part old entries kept first spaces c x n byte logged w insi
 pub joined_contents :
     (l : Launch) (g : ℕ) (lower : Joined) (part : Part) (old : List (List ℕ)) (entries : List Entry) (kept : List Access) (first : List (List ℕ)) (spaces : List (List (Option ℕ)))
     → IsClear l g lower part old entries kept first spaces → (new : List (List ℕ)) → AreChanged old new (changes_of (put_of first old kept spaces) entries)
-    → HoldsMemory l (joined_of l lower part) new
+    → HoldsBytes l (joined_of l lower part) new
 joined_contents l g lower part old entries kept first spaces c new h =
     record { many = h.many ∙ c.holds.many; sized = λ n. h.sized n ∙ c.holds.sized n; bytes = bytes }
   where
@@ -277,7 +277,7 @@ joined_contents l g lower part old entries kept first spaces c new h =
     entry_in : (k : ℕ) (e : Entry) → slice_get entries k ≡ Some e → Logged part.end.log e.access
     entry_in k e q = in_log part.end.log (accesses_of entries) e.access c.logged (entry_logged entries k e q)
 
-    changed : (n byte v : ℕ) → slice_get (row old n) byte ≡ Some v → slice_get (row new n) byte ≡ Some (changed_byte (changes_of value entries) n byte v)
+    changed : (n byte v : ℕ) → slice_get (buffer_at old n) byte ≡ Some v → slice_get (buffer_at new n) byte ≡ Some (changed_byte (changes_of value entries) n byte v)
     changed n byte v e = h.bytes n byte ∙ ap (option_map (changed_byte (changes_of value entries) n byte)) e
 
     untouched : (n byte : ℕ) → wrote part.end.log (region.Buffer n) byte ≡ false → (k : ℕ) (e : Entry) → slice_get entries k ≡ Some e → wrote_by n byte e.access ≡ false
@@ -285,8 +285,8 @@ joined_contents l g lower part old entries kept first spaces c new h =
         let p = and_parts (writes e.access.kind) (at_byte (region.Buffer n) byte e.access) w in
         true≢false (sym (wrote_from part.end.log (region.Buffer n) byte e.access (entry_in k e q) p.0 p.1) ∙ none))
 
-    at : (n byte v : ℕ) → byte < length (row l.buffers n) → slice_get (row old n) byte ≡ Some v → (b : Bool) → wrote part.end.log (region.Buffer n) byte ≡ b
-        → slice_get (row new n) byte ≡ joined_of l lower part (region.Buffer n) byte
+    at : (n byte v : ℕ) → byte < length (buffer_at l.buffers n) → slice_get (buffer_at old n) byte ≡ Some v → (b : Bool) → wrote part.end.log (region.Buffer n) byte ≡ b
+        → slice_get (buffer_at new n) byte ≡ joined_of l lower part (region.Buffer n) byte
     at n byte v inside e false w =
         changed n byte v e
         ∙ ap Some (entries_kept value entries n byte v (untouched n byte w))
@@ -305,7 +305,7 @@ joined_contents l g lower part old entries kept first spaces c new h =
         (inl (y.0, y.1, y.2, ap (wrote_by n byte) y.3 ∙ zw)))
         ∙ sym put
 
-    bytes : (n byte : ℕ) → byte < length (row l.buffers n) → slice_get (row new n) byte ≡ joined_of l lower part (region.Buffer n) byte
+    bytes : (n byte : ℕ) → byte < length (buffer_at l.buffers n) → slice_get (buffer_at new n) byte ≡ joined_of l lower part (region.Buffer n) byte
     bytes n byte inside =
-        let there : byte < length (row old n) = omega (arith, inside, c.holds.sized n) in
-        at n byte _ inside (slice_get-get_or (row old n) byte 0 there) (wrote part.end.log (region.Buffer n) byte) refl
+        let there : byte < length (buffer_at old n) = omega (arith, inside, c.holds.sized n) in
+        at n byte _ inside (slice_get-get_or (buffer_at old n) byte 0 there) (wrote part.end.log (region.Buffer n) byte) refl

@@ -5,7 +5,7 @@ use Rattle.std.specs.Option.{option_map}
 use Rattle.std.proofs.lemmas.Bool.{cases_lt, lt-ltb, le-ltb, le-leb, lt-leb}
 use Rattle.std.proofs.lemmas.List.{map-append}
 use Rattle.clmodel.specs.Cells.{byte_count}
-use Rattle.clmodel.specs.Launch.{Launch, group_of, region_of, location_of, kind_of, conflict, conflict_between}
+use Rattle.clmodel.specs.Launch.{Launch, group_of, region_of, location_of, kind_of, across_groups, conflict, conflict_between}
 use Rattle.clmodel.specs.Run.{State, Events, start, next_action, straggler, stop_of}
 use Rattle.clmodel.specs.Law.{Logged, Keeps, Turn, Makes, Reports, Finishes, fault_of, conflict_from, newest_conflict, conflict_fault, unset_turn, access_turn, divergence, item_turn, has_ended, conflict_turn}
 use Rattle.clmodel.specs.declared.access.Access.{Access}
@@ -259,14 +259,14 @@ lower_than laws launch group lower part log kept h x y a b e =
 -- an access of the run conflicts with the lower groups as with what is kept of them
 kept_conflict : (laws : Laws) (launch : Launch) (group : ℕ) (lower : Joined) (part : Part) (log : Log) (kept : List Access) → IsFurther launch group lower part log kept
     → (x : Access) → Logged part.end.log x
-    → conflict_from (conflict launch) x lower.log x.first (byte_count x.width) ≡ conflict_from (conflict_between false) x kept x.first (byte_count x.width)
+    → conflict_from (conflict launch) x lower.log x.first (byte_count x.width) ≡ conflict_from (conflict_between across_groups) x kept x.first (byte_count x.width)
 kept_conflict laws launch group lower part log kept h x a =
     laws.kept launch x lower.log kept x.first (byte_count x.width) h.keeps (λ y b e. lower_than laws launch group lower part log kept h x y a b e)
 
 missed : (laws : Laws) (launch : Launch) (group : ℕ) (lower : Joined) (part : Part) (log : Log) (kept : List Access) → IsFurther launch group lower part log kept
     → (x : Access) → Logged part.end.log x → meeting x kept ≡ None → conflict_from (conflict launch) x lower.log x.first (byte_count x.width) ≡ None
 missed laws launch group lower part log kept h x a none =
-    kept_conflict laws launch group lower part log kept h x a ∙ map_none meeting_of (conflict_from (conflict_between false) x kept x.first (byte_count x.width)) none
+    kept_conflict laws launch group lower part log kept h x a ∙ map_none meeting_of (conflict_from (conflict_between across_groups) x kept x.first (byte_count x.width)) none
 
 pub entries_of_others : EntriesOfOthers
 entries_of_others laws launch group lower part log kept h k e at y b same =
@@ -276,7 +276,7 @@ entries_of_others laws launch group lower part log kept h k e at y b same =
 pub locals_miss : LocalsMiss
 locals_miss laws launch group lower part log kept h k e owner number at mine =
     ap (option_map meeting_of)
-    (none_from (conflict_between false) e.access kept (λ y b byte. apart_between false y e.access byte (λ same. apart y (logged_kept lower.log kept y h.keeps b) same)) e.access.first (byte_count e.access.width))
+    (none_from (conflict_between across_groups) e.access kept (λ y b byte. apart_between across_groups y e.access byte (λ same. apart y (logged_kept lower.log kept y h.keeps b) same)) e.access.first (byte_count e.access.width))
   where
     own : (object : Object) × (e.access.region ≡ region_of group object)
     own = let r = laws.own launch group part h.grouped h.there h.runs e.access (entry_logged launch group lower part log kept h k e at) in (r.1, r.2)

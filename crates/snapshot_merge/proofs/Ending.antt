@@ -19,8 +19,8 @@ use Rattle.shadow_list.specs.Log.{Log}
 use Rattle.snapshot_run.specs.Launches.{HasGroups}
 use Rattle.snapshot_merge.specs.Launches.{AreResults}
 use Rattle.snapshot_merge.specs.Laws.{JoiningLaws}
-use Rattle.snapshot_merge.specs.Sofar.{Holds, IsStopped, IsNext}
-use Rattle.snapshot_merge.specs.declared.sofar.Sofar.{Sofar}
+use Rattle.snapshot_merge.specs.JoinedGroups.{HoldsGroups, IsStopped, CameOfNext}
+use Rattle.snapshot_merge.specs.declared.joined_groups.JoinedGroups.{JoinedGroups}
 use Rattle.snapshot_merge.proofs.Contents.{contents_end}
 
 -- ---- how many groups there are
@@ -47,21 +47,21 @@ further_there group groups size items e b =
 
 -- ---- what a join came to
 
-pub next_stopped : {G L : Type 0} (l : Launch) (g : ℕ) (came : GroupResult G L) (fault : Fault) (sofar : Sofar) → IsNext l g came (Some fault) sofar → IsStopped l fault sofar.runs.items
-next_stopped l g (Done number spaces log runs) fault sofar h = h
-next_stopped l g (Stopped number stop log runs) fault sofar h = h
+pub next_stopped : {G L : Type 0} (l : Launch) (g : ℕ) (came : GroupResult G L) (fault : Fault) (so_far : JoinedGroups) → CameOfNext l g came (Some fault) so_far → IsStopped l fault so_far.runs.items
+next_stopped l g (Done number spaces log runs) fault so_far h = h
+next_stopped l g (Stopped number stop log runs) fault so_far h = h
 
-pub next_held : {G L : Type 0} (l : Launch) (g : ℕ) (came : GroupResult G L) (sofar : Sofar) → IsNext l g came None sofar → Holds l (suc g) sofar
-next_held l g (Done number spaces log runs) sofar h = h
-next_held l g (Stopped number stop log runs) sofar h = absurd h
+pub next_held : {G L : Type 0} (l : Launch) (g : ℕ) (came : GroupResult G L) (so_far : JoinedGroups) → CameOfNext l g came None so_far → HoldsGroups l (suc g) so_far
+next_held l g (Done number spaces log runs) so_far h = h
+next_held l g (Stopped number stop log runs) so_far h = absurd h
 
 pub concludes_fault : (l : Launch) (fault : Fault) (runs : List Run) → IsStopped l fault runs → Concludes l (Faulted fault runs)
 concludes_fault l fault runs h = (events_of runs, h.0.0, h.0.1, refl, h.1)
 
-pub concludes_clean : (l : Launch) (g : ℕ) (sofar : Sofar) → JoiningLaws → IsGrouped l → Holds l g sofar → l.items ≤ g * l.group_size → Concludes l (Clean sofar.contents)
-concludes_clean l g sofar laws grouped holds all =
+pub concludes_clean : (l : Launch) (g : ℕ) (so_far : JoinedGroups) → JoiningLaws → IsGrouped l → HoldsGroups l g so_far → l.items ≤ g * l.group_size → Concludes l (Clean so_far.contents)
+concludes_clean l g so_far laws grouped holds all =
     let end = laws.ends l g holds.joined grouped holds.is_joined all in
-    (holds.joined.events, end.0, end.1, ap (λ m. contents m 0 l.buffers) end.2 ∙ contents_end l holds.joined.memory sofar.contents.items holds.contents)
+    (holds.joined.events, end.0, end.1, ap (λ m. contents m 0 l.buffers) end.2 ∙ contents_end l holds.joined.memory so_far.contents.items holds.contents)
 
 -- ---- results that are handed in
 
@@ -77,10 +77,10 @@ first_result bytes log_of l g (Done number spaces log runs) rs h = h.1
 first_result bytes log_of l g (Stopped number fault log runs) rs h = h.1
 
 pub rest_results :
-    {G L : Type 0} (bytes : G → List (Option ℕ)) (log_of : L → Log) (l : Launch) (g : ℕ) (r : GroupResult G L) (rs : List (GroupResult G L)) (sofar : Sofar) → AreResults bytes log_of l g (r ∷ rs)
-    → IsNext l g r None sofar → AreResults bytes log_of l (suc g) rs
-rest_results bytes log_of l g (Done number spaces log runs) rs sofar h n = h.2
-rest_results bytes log_of l g (Stopped number fault log runs) rs sofar h n = absurd n
+    {G L : Type 0} (bytes : G → List (Option ℕ)) (log_of : L → Log) (l : Launch) (g : ℕ) (r : GroupResult G L) (rs : List (GroupResult G L)) (so_far : JoinedGroups) → AreResults bytes log_of l g (r ∷ rs)
+    → CameOfNext l g r None so_far → AreResults bytes log_of l (suc g) rs
+rest_results bytes log_of l g (Done number spaces log runs) rs so_far h n = h.2
+rest_results bytes log_of l g (Stopped number fault log runs) rs so_far h n = absurd n
 
 pub none_left : {A : Type 0} (xs : List A) → length xs ≡ 0 → xs ≡ []
 none_left [] e = refl

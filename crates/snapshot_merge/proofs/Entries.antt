@@ -12,7 +12,8 @@ use Rattle.group_run.specs.Logs.{accesses_of}
 use Rattle.shadow_list.specs.declared.log.Entry.{Entry}
 use Rattle.snapshot_merge.specs.declared.changes.Change.{Change}
 use Rattle.snapshot_merge.specs.Changes.{access_changes, changes_of}
-use Rattle.snapshot_merge.specs.Meetings.{MissUpTo, met_at}
+use Rattle.shadow.specs.Seen.{met_at}
+use Rattle.snapshot_merge.specs.Meetings.{MissUpTo}
 
 pub entry_at : (xs : List Entry) (i : ℕ) (x : Entry) → i < length xs → x ≡ get_or xs i x → slice_get xs i ≡ Some x
 entry_at xs i x h e = slice_get-get_or xs i x h ∙ ap Some (sym e)

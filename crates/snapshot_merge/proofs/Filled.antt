@@ -13,7 +13,7 @@ use Rattle.clmodel.proofs.Steps.{region_for, item_inverse, release_inverse}
 use Rattle.joining.specs.Group.{Plan, RunsIn, plan_of}
 use Rattle.joining.specs.Parts.{Part, IsPart}
 use Rattle.joining.proofs.Over.{is_set, set_keeps}
-use Rattle.snapshot_merge.specs.Changes.{row}
+use Rattle.snapshot_merge.specs.Changes.{buffer_at}
 
 -- a byte that is set stays so
 step_set : (l : Launch) (s t : State) (e : Event) (q : Region) (byte : ℕ) → step l s e ≡ Some t → is_set (s.memory q byte) ≡ true → is_set (t.memory q byte) ≡ true
@@ -32,7 +32,7 @@ set_some None h = absurd (true≢false (cc))
 set_some (Some v) h = (v, refl)
 
 -- a group leaves each byte of a buffer set
-pub own_set : (l : Launch) (g : ℕ) (part : Part) → IsPart l g part → (n byte : ℕ) → byte < length (row l.buffers n) → (v : ℕ) × (part.end.memory (region.Buffer n) byte ≡ Some v)
+pub own_set : (l : Launch) (g : ℕ) (part : Part) → IsPart l g part → (n byte : ℕ) → byte < length (buffer_at l.buffers n) → (v : ℕ) × (part.end.memory (region.Buffer n) byte ≡ Some v)
 own_set l g part p n byte b =
     set_some (part.end.memory (region.Buffer n) byte)
-    (run_set (plan_of l g) (start l) part.end part.events (region.Buffer n) byte p.0 (ap is_set (slice_get-get_or (row l.buffers n) byte 0 b)))
+    (run_set (plan_of l g) (start l) part.end part.events (region.Buffer n) byte p.0 (ap is_set (slice_get-get_or (buffer_at l.buffers n) byte 0 b)))

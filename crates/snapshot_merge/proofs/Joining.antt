@@ -1,12 +1,12 @@
 -- One more group joined to the groups so far, as code does it.
-use Rattle.std.proofs.Common.{◌≡◌, ℕ, zero, suc, ◌+◌, ◌==◌, ◌&&◌, false, if◌then◌else◌, Option, None, Some, List, [], ◌∷◌, ◌++◌, length, take, map, refl, sym, ap, ap₂, ◌∙◌, subst, arith}
+use Rattle.std.proofs.Common.{◌≡◌, ℕ, zero, suc, ◌+◌, ◌==◌, ◌&&◌, if◌then◌else◌, Option, None, Some, List, [], ◌∷◌, ◌++◌, length, take, map, refl, sym, ap, ap₂, ◌∙◌, subst, arith}
 use Rattle.std.specs.Prelude.{Vec, Result, Ok, Err, IfOk}
 use Rattle.std.specs.declared.alloc.Global.{Global}
 use denote.Bor.{Bor}
 use Rattle.spaces.specs.Overlay.{Overlaid}
 use Rattle.std.specs.Option.{option_map}
 use Rattle.clmodel.specs.Cells.{byte_count}
-use Rattle.clmodel.specs.Launch.{Launch, conflict_between}
+use Rattle.clmodel.specs.Launch.{Launch, across_groups, conflict_between}
 use Rattle.clmodel.specs.Law.{Keeps, RunsIntoFault}
 use Rattle.clmodel.specs.Outcome.{events_of, IsMerged}
 use Rattle.clmodel.specs.Run.{State, Events, start}
@@ -23,8 +23,7 @@ use Rattle.joining.specs.Join.{Joined, nothing_yet, join, join_at}
 use Rattle.joining.specs.Steps.{HasGroup, IsJoined}
 use Rattle.group_run.specs.Logs.{accesses_of, IsLogged}
 use Rattle.group_run.specs.Results.{Leaves}
-use Rattle.shadow.specs.Seen as shadow
-use Rattle.shadow.specs.Seen.{meeting, meeting_of}
+use Rattle.shadow.specs.Seen.{IsFootprint, meeting, meeting_of, met_at}
 use Rattle.shadow.specs.declared.footprint.Footprint.{Footprint}
 use Rattle.shadow.specs.declared.seen.Meeting.{Meeting}
 use Rattle.clmodel.proofs.Steps.{none_some}
@@ -32,11 +31,11 @@ use Rattle.shadow_list.specs.Log.{Log}
 use Rattle.shadow_list.specs.declared.log.Entry.{Entry}
 use Rattle.snapshot_merge.specs.Runs.{Adds}
 use Rattle.snapshot_merge.specs.Laws.{JoiningLaws}
-use Rattle.snapshot_merge.specs.Meetings.{met_at, AreOthers, MissUpTo, IsFirstMet, report_at, is_below, meeting_fault}
+use Rattle.snapshot_merge.specs.Meetings.{AreOthers, MissUpTo, IsFirstMet, report_at, is_below, meeting_fault}
 use Rattle.snapshot_merge.specs.Changes.{AreChanged, changes_of, value_of}
-use Rattle.snapshot_merge.specs.Memory.{HoldsMemory}
-use Rattle.snapshot_merge.specs.Sofar.{HoldsLog, Holds, IsStopped}
-use Rattle.snapshot_merge.specs.declared.sofar.Sofar.{Sofar}
+use Rattle.snapshot_merge.specs.Memory.{HoldsBytes}
+use Rattle.snapshot_merge.specs.JoinedGroups.{HoldsLog, HoldsGroups, IsStopped}
+use Rattle.snapshot_merge.specs.declared.joined_groups.JoinedGroups.{JoinedGroups}
 use Rattle.snapshot_merge.proofs.Contents.{IsClear, joined_contents}
 use Rattle.snapshot_merge.specs.declared.meetings.Met.{Met}
 use Rattle.snapshot_merge.proofs.Crossed.{Laws, IsFurther, Misses, Crosses, not_crossed, crossed, entries_of_others, locals_miss}
@@ -89,7 +88,7 @@ pub none_met : (entries : List Entry) (kept : List Access) → kept ≡ [] → I
 none_met entries kept z k e b q = subst (λ w. met_at e.access.region e.access w ≡ None) (sym z) (go e.access.region)
   where
     go : (r : Region) → met_at r e.access [] ≡ None
-    go (region.Buffer n) = ap (option_map meeting_of) (none_from (conflict_between false) e.access [] (λ y m. absurd m) e.access.first (byte_count e.access.width))
+    go (region.Buffer n) = ap (option_map meeting_of) (none_from (conflict_between across_groups) e.access [] (λ y m. absurd m) e.access.first (byte_count e.access.width))
     go (region.Local h n) = refl
 
 misses : (l : Launch) (g : ℕ) (lower : Joined) (part : Part) (log : Log) (kept : List Access) (n : ℕ) → Laws → IsFurther l g lower part log kept → MissUpTo log.accesses kept n → Misses log.accesses kept n
@@ -154,7 +153,7 @@ is_joined l g lower part log footprint old more r first told =
 -- and its accesses and events
 pub log_joined :
     (l : Launch) (g : ℕ) (lower : Joined) (part : Part) (log : Log) (footprint : Footprint) (old more : List Run) (r : IsRunning l g lower part log footprint old more)
-    (next : Footprint) (new : List Run) → IsFirstMet log.accesses r.held.kept None → shadow.Keeps next (accesses_of log.accesses ++ r.held.kept) → Adds old new more (events_of more)
+    (next : Footprint) (new : List Run) → IsFirstMet log.accesses r.held.kept None → IsFootprint next (accesses_of log.accesses ++ r.held.kept) → Adds old new more (events_of more)
     → HoldsLog (join l lower part) next new
 log_joined l g lower part log footprint old more r next new first remembers adds =
     let whole = joined_whole l lower part (none_crosses l g lower part log footprint old more r first) in
@@ -169,22 +168,22 @@ log_joined l g lower part log footprint old more r next new first remembers adds
 -- ---- from what a call is given
 
 -- what a call that joins one more group is given
-pub record IsGiven (l : Launch) (g : ℕ) (sofar : Sofar) (more : List Run) : Type 0 where
+pub record IsGiven (l : Launch) (g : ℕ) (so_far : JoinedGroups) (more : List Run) : Type 0 where
   pub laws : JoiningLaws
   pub grouped : IsGrouped l
   pub there : HasGroup l g
-  pub holds : Holds l g sofar
+  pub holds : HoldsGroups l g so_far
   pub merged : IsMerged more
 
 -- what it finds to be met first, whatever is kept
-abbrev pub Finds : ℕ → Sofar → Log → Option Met → Type 0
-Finds g sofar log found =
-    (kept : List Access) → shadow.Keeps sofar.footprint kept → (g ≡ 0 → kept ≡ []) → AreOthers log.accesses kept → IsFirstMet log.accesses kept found
+abbrev pub Finds : ℕ → JoinedGroups → Log → Option Met → Type 0
+Finds g so_far log found =
+    (kept : List Access) → IsFootprint so_far.footprint kept → (g ≡ 0 → kept ≡ []) → AreOthers log.accesses kept → IsFirstMet log.accesses kept found
 
 stopped_running :
-    (l : Launch) (g : ℕ) (sofar : Sofar) (log : Log) (more : List Run) (fault : Fault) (c : IsGiven l g sofar more) (run : IsRun (plan_of l g) (IsLogged (plan_of l g) log) (start l) (events_of more) (Some fault))
-    → IsRunning l g c.holds.joined (stopped_part l g (IsLogged (plan_of l g) log) (events_of more) fault run) log sofar.footprint sofar.runs.items more
-stopped_running l g sofar log more fault c run =
+    (l : Launch) (g : ℕ) (so_far : JoinedGroups) (log : Log) (more : List Run) (fault : Fault) (c : IsGiven l g so_far more) (run : IsRun (plan_of l g) (IsLogged (plan_of l g) log) (start l) (events_of more) (Some fault))
+    → IsRunning l g c.holds.joined (stopped_part l g (IsLogged (plan_of l g) log) (events_of more) fault run) log so_far.footprint so_far.runs.items more
+stopped_running l g so_far log more fault c run =
     record {
       laws = c.laws;
       grouped = c.grouped;
@@ -202,9 +201,9 @@ abbrev pub Left : Launch → ℕ → List Overlaid → Log → Events → State 
 Left l g spaces log = Leaves (λ (space : Overlaid). space.bytes) (plan_of l g) spaces log
 
 done_running :
-    (l : Launch) (g : ℕ) (sofar : Sofar) (log : Log) (more : List Run) (spaces : List Overlaid) (c : IsGiven l g sofar more) (run : IsRun (plan_of l g) (Left l g spaces log) (start l) (events_of more) None)
-    → IsRunning l g c.holds.joined (done_part l g (Left l g spaces log) (events_of more) run) log sofar.footprint sofar.runs.items more
-done_running l g sofar log more spaces c run =
+    (l : Launch) (g : ℕ) (so_far : JoinedGroups) (log : Log) (more : List Run) (spaces : List Overlaid) (c : IsGiven l g so_far more) (run : IsRun (plan_of l g) (Left l g spaces log) (start l) (events_of more) None)
+    → IsRunning l g c.holds.joined (done_part l g (Left l g spaces log) (events_of more) run) log so_far.footprint so_far.runs.items more
+done_running l g so_far log more spaces c run =
     record {
       laws = c.laws;
       grouped = c.grouped;
@@ -218,59 +217,59 @@ done_running l g sofar log more spaces c run =
     }
 
 found_first :
-    (l : Launch) (g : ℕ) (lower : Joined) (part : Part) (log : Log) (sofar : Sofar) (more : List Run) (r : IsRunning l g lower part log sofar.footprint sofar.runs.items more) (found : Option Met)
-    → Finds g sofar log found → IsFirstMet log.accesses r.held.kept found
-found_first l g lower part log sofar more r found finds =
-    finds r.held.kept r.held.remembers (first_none l g lower part log sofar.footprint sofar.runs.items more r) (others l g lower part log sofar.footprint sofar.runs.items more r)
+    (l : Launch) (g : ℕ) (lower : Joined) (part : Part) (log : Log) (so_far : JoinedGroups) (more : List Run) (r : IsRunning l g lower part log so_far.footprint so_far.runs.items more) (found : Option Met)
+    → Finds g so_far log found → IsFirstMet log.accesses r.held.kept found
+found_first l g lower part log so_far more r found finds =
+    finds r.held.kept r.held.remembers (first_none l g lower part log so_far.footprint so_far.runs.items more r) (others l g lower part log so_far.footprint so_far.runs.items more r)
 
 -- a group that stopped meets the lower groups
 pub stop_meets :
-    (l : Launch) (g : ℕ) (sofar : Sofar) (log : Log) (more new : List Run) (fault : Fault) (c : IsGiven l g sofar more)
-    → IsRun (plan_of l g) (IsLogged (plan_of l g) log) (start l) (events_of more) (Some fault) → (met : Met) (report : Fault) → Finds g sofar log (Some met)
-    → Adds sofar.runs.items new more (take (met.entry.event + 1) (events_of more)) → Some report ≡ report_at l met (Some fault) → IsStopped l report new
-stop_meets l g sofar log more new fault c run met report finds adds told =
+    (l : Launch) (g : ℕ) (so_far : JoinedGroups) (log : Log) (more new : List Run) (fault : Fault) (c : IsGiven l g so_far more)
+    → IsRun (plan_of l g) (IsLogged (plan_of l g) log) (start l) (events_of more) (Some fault) → (met : Met) (report : Fault) → Finds g so_far log (Some met)
+    → Adds so_far.runs.items new more (take (met.entry.event + 1) (events_of more)) → Some report ≡ report_at l met (Some fault) → IsStopped l report new
+stop_meets l g so_far log more new fault c run met report finds adds told =
     let part : Part = stopped_part l g (IsLogged (plan_of l g) log) (events_of more) fault run in
-    let r : IsRunning l g c.holds.joined part log sofar.footprint sofar.runs.items more = stopped_running l g sofar log more fault c run in
-    meets_stopped l g c.holds.joined part log sofar.footprint sofar.runs.items more new r met report (found_first l g c.holds.joined part log sofar more r (Some met) finds) adds told
+    let r : IsRunning l g c.holds.joined part log so_far.footprint so_far.runs.items more = stopped_running l g so_far log more fault c run in
+    meets_stopped l g c.holds.joined part log so_far.footprint so_far.runs.items more new r met report (found_first l g c.holds.joined part log so_far more r (Some met) finds) adds told
 
 -- a group that stopped meets none of them
 pub stop_alone :
-    (l : Launch) (g : ℕ) (sofar : Sofar) (log : Log) (more new : List Run) (fault : Fault) (c : IsGiven l g sofar more)
-    → IsRun (plan_of l g) (IsLogged (plan_of l g) log) (start l) (events_of more) (Some fault) → Finds g sofar log None → Adds sofar.runs.items new more (events_of more) → IsStopped l fault new
-stop_alone l g sofar log more new fault c run finds adds =
+    (l : Launch) (g : ℕ) (so_far : JoinedGroups) (log : Log) (more new : List Run) (fault : Fault) (c : IsGiven l g so_far more)
+    → IsRun (plan_of l g) (IsLogged (plan_of l g) log) (start l) (events_of more) (Some fault) → Finds g so_far log None → Adds so_far.runs.items new more (events_of more) → IsStopped l fault new
+stop_alone l g so_far log more new fault c run finds adds =
     let part : Part = stopped_part l g (IsLogged (plan_of l g) log) (events_of more) fault run in
-    let r : IsRunning l g c.holds.joined part log sofar.footprint sofar.runs.items more = stopped_running l g sofar log more fault c run in
-    own_stopped l g c.holds.joined part log sofar.footprint sofar.runs.items more new r fault (found_first l g c.holds.joined part log sofar more r None finds) adds refl
+    let r : IsRunning l g c.holds.joined part log so_far.footprint so_far.runs.items more = stopped_running l g so_far log more fault c run in
+    own_stopped l g c.holds.joined part log so_far.footprint so_far.runs.items more new r fault (found_first l g c.holds.joined part log so_far more r None finds) adds refl
 
 -- a group that has ended meets the lower groups
 pub done_meets :
-    (l : Launch) (g : ℕ) (sofar : Sofar) (log : Log) (more new : List Run) (spaces : List Overlaid) (c : IsGiven l g sofar more)
-    → IsRun (plan_of l g) (Left l g spaces log) (start l) (events_of more) None → (met : Met) (report : Fault) → Finds g sofar log (Some met)
-    → Adds sofar.runs.items new more (take (met.entry.event + 1) (events_of more)) → Some report ≡ report_at l met None → IsStopped l report new
-done_meets l g sofar log more new spaces c run met report finds adds told =
+    (l : Launch) (g : ℕ) (so_far : JoinedGroups) (log : Log) (more new : List Run) (spaces : List Overlaid) (c : IsGiven l g so_far more)
+    → IsRun (plan_of l g) (Left l g spaces log) (start l) (events_of more) None → (met : Met) (report : Fault) → Finds g so_far log (Some met)
+    → Adds so_far.runs.items new more (take (met.entry.event + 1) (events_of more)) → Some report ≡ report_at l met None → IsStopped l report new
+done_meets l g so_far log more new spaces c run met report finds adds told =
     let part : Part = done_part l g (Left l g spaces log) (events_of more) run in
-    let r : IsRunning l g c.holds.joined part log sofar.footprint sofar.runs.items more = done_running l g sofar log more spaces c run in
-    meets_stopped l g c.holds.joined part log sofar.footprint sofar.runs.items more new r met report (found_first l g c.holds.joined part log sofar more r (Some met) finds) adds told
+    let r : IsRunning l g c.holds.joined part log so_far.footprint so_far.runs.items more = done_running l g so_far log more spaces c run in
+    meets_stopped l g c.holds.joined part log so_far.footprint so_far.runs.items more new r met report (found_first l g c.holds.joined part log so_far more r (Some met) finds) adds told
 
 -- what its changes come to, whatever is kept
-abbrev pub Changes : Sofar → List Overlaid → Log → List (List ℕ) → Type 0
-Changes sofar spaces log new =
-    (kept : List Access) → shadow.Keeps sofar.footprint kept
-    → AreChanged sofar.contents.items new (changes_of (value_of (map (λ row. row.now) sofar.first.items) sofar.contents.items (λ n b. wrote kept (region.Buffer n) b) (map (λ (space : Overlaid). space.bytes) spaces)) log.accesses)
+abbrev pub Changes : JoinedGroups → List Overlaid → Log → List (List ℕ) → Type 0
+Changes so_far spaces log new =
+    (kept : List Access) → IsFootprint so_far.footprint kept
+    → AreChanged so_far.contents.items new (changes_of (value_of (map (λ row. row.now) so_far.first.items) so_far.contents.items (λ n b. wrote kept (region.Buffer n) b) (map (λ (space : Overlaid). space.bytes) spaces)) log.accesses)
 
 -- a group that has ended is joined, where a further group may follow
 pub done_joined :
-    (l : Launch) (g : ℕ) (sofar : Sofar) (log : Log) (more : List Run) (spaces : List Overlaid) (c : IsGiven l g sofar more)
-    → IsRun (plan_of l g) (Left l g spaces log) (start l) (events_of more) None → Finds g sofar log None → (new : Sofar) → Changes sofar spaces log new.contents.items → new.first ≡ sofar.first
-    → (HasGroup l (suc g) → ((kept : List Access) → shadow.Keeps sofar.footprint kept → shadow.Keeps new.footprint (accesses_of log.accesses ++ kept)) × Adds sofar.runs.items new.runs.items more (events_of more))
-    → Holds l (suc g) new
-done_joined l g sofar log more spaces c run finds new changes first further_held =
+    (l : Launch) (g : ℕ) (so_far : JoinedGroups) (log : Log) (more : List Run) (spaces : List Overlaid) (c : IsGiven l g so_far more)
+    → IsRun (plan_of l g) (Left l g spaces log) (start l) (events_of more) None → Finds g so_far log None → (new : JoinedGroups) → Changes so_far spaces log new.contents.items → new.first ≡ so_far.first
+    → (HasGroup l (suc g) → ((kept : List Access) → IsFootprint so_far.footprint kept → IsFootprint new.footprint (accesses_of log.accesses ++ kept)) × Adds so_far.runs.items new.runs.items more (events_of more))
+    → HoldsGroups l (suc g) new
+done_joined l g so_far log more spaces c run finds new changes first further_held =
     let part : Part = done_part l g (Left l g spaces log) (events_of more) run in
     let lower = c.holds.joined in
-    let r : IsRunning l g lower part log sofar.footprint sofar.runs.items more = done_running l g sofar log more spaces c run in
-    let met : IsFirstMet log.accesses r.held.kept None = found_first l g lower part log sofar more r None finds in
-    let none = none_crosses l g lower part log sofar.footprint sofar.runs.items more r met in
-    let clear : IsClear l g lower part sofar.contents.items log.accesses r.held.kept (map (λ row. row.now) sofar.first.items) (map (λ (space : Overlaid). space.bytes) spaces)
+    let r : IsRunning l g lower part log so_far.footprint so_far.runs.items more = done_running l g so_far log more spaces c run in
+    let met : IsFirstMet log.accesses r.held.kept None = found_first l g lower part log so_far more r None finds in
+    let none = none_crosses l g lower part log so_far.footprint so_far.runs.items more r met in
+    let clear : IsClear l g lower part so_far.contents.items log.accesses r.held.kept (map (λ row. row.now) so_far.first.items) (map (λ (space : Overlaid). space.bytes) spaces)
     = record {
       law = c.laws.bytes;
       grouped = c.grouped;
@@ -286,10 +285,10 @@ done_joined l g sofar log more spaces c run finds new changes first further_held
     } in
     record {
       joined = join l lower part;
-      is_joined = is_joined l g lower part log sofar.footprint sofar.runs.items more r met refl;
+      is_joined = is_joined l g lower part log so_far.footprint so_far.runs.items more r met refl;
       first = ap (λ (z : Vec (Bor (List ℕ)) Global). map (λ row. row.now) z.items) first ∙ c.holds.first;
-      contents = subst (λ (j : Joined). HoldsMemory l j.memory new.contents.items) (sym (joined_whole l lower part none)) (joined_contents l g lower part sofar.contents.items log.accesses r.held.kept (map (λ row. row.now) sofar.first.items) (map (λ (space : Overlaid). space.bytes) spaces) clear new.contents.items (changes r.held.kept r.held.remembers));
-      log = λ h. let held = further_held h in log_joined l g lower part log sofar.footprint sofar.runs.items more r new.footprint new.runs.items met (held.0 r.held.kept r.held.remembers) held.1;
+      contents = subst (λ (j : Joined). HoldsBytes l j.memory new.contents.items) (sym (joined_whole l lower part none)) (joined_contents l g lower part so_far.contents.items log.accesses r.held.kept (map (λ row. row.now) so_far.first.items) (map (λ (space : Overlaid). space.bytes) spaces) clear new.contents.items (changes r.held.kept r.held.remembers));
+      log = λ h. let held = further_held h in log_joined l g lower part log so_far.footprint so_far.runs.items more r new.footprint new.runs.items met (held.0 r.held.kept r.held.remembers) held.1;
     }
 
 -- two facts of a result that is there
@@ -299,27 +298,27 @@ both_ok P Q R (Err e) p q f = tt
 
 -- a group that has ended is joined and its accesses and events added
 pub done_added :
-    (l : Launch) (g : ℕ) (sofar : Sofar) (log : Log) (more : List Run) (spaces : List Overlaid) (c : IsGiven l g sofar more)
-    → IsRun (plan_of l g) (Left l g spaces log) (start l) (events_of more) None → Finds g sofar log None → (mid new : Sofar) → Changes sofar spaces log mid.contents.items → mid.first ≡ sofar.first
-    → mid.footprint ≡ sofar.footprint → mid.runs ≡ sofar.runs → new.first ≡ mid.first → new.contents ≡ mid.contents
-    → ((kept : List Access) → shadow.Keeps mid.footprint kept → shadow.Keeps new.footprint (accesses_of log.accesses ++ kept)) → Adds mid.runs.items new.runs.items more (events_of more)
-    → Holds l (suc g) new
-done_added l g sofar log more spaces c run finds mid new changes first footprint runs first2 contents2 remembers adds =
-    done_joined l g sofar log more spaces c run finds new
-    (λ kept k. subst (λ (z : Vec (List ℕ) Global). AreChanged sofar.contents.items z.items (changes_of (value_of (map (λ row. row.now) sofar.first.items) sofar.contents.items (λ n b. wrote kept (region.Buffer n) b) (map (λ (space : Overlaid). space.bytes) spaces)) log.accesses)) (sym contents2) (changes kept k))
+    (l : Launch) (g : ℕ) (so_far : JoinedGroups) (log : Log) (more : List Run) (spaces : List Overlaid) (c : IsGiven l g so_far more)
+    → IsRun (plan_of l g) (Left l g spaces log) (start l) (events_of more) None → Finds g so_far log None → (mid new : JoinedGroups) → Changes so_far spaces log mid.contents.items → mid.first ≡ so_far.first
+    → mid.footprint ≡ so_far.footprint → mid.runs ≡ so_far.runs → new.first ≡ mid.first → new.contents ≡ mid.contents
+    → ((kept : List Access) → IsFootprint mid.footprint kept → IsFootprint new.footprint (accesses_of log.accesses ++ kept)) → Adds mid.runs.items new.runs.items more (events_of more)
+    → HoldsGroups l (suc g) new
+done_added l g so_far log more spaces c run finds mid new changes first footprint runs first2 contents2 remembers adds =
+    done_joined l g so_far log more spaces c run finds new
+    (λ kept k. subst (λ (z : Vec (List ℕ) Global). AreChanged so_far.contents.items z.items (changes_of (value_of (map (λ row. row.now) so_far.first.items) so_far.contents.items (λ n b. wrote kept (region.Buffer n) b) (map (λ (space : Overlaid). space.bytes) spaces)) log.accesses)) (sym contents2) (changes kept k))
     (first2 ∙ first) (λ h. (
-      λ kept k. remembers kept (subst (λ f. shadow.Keeps f kept) (sym footprint) k),
+      λ kept k. remembers kept (subst (λ f. IsFootprint f kept) (sym footprint) k),
       subst (λ (z : Vec Run Global). Adds z.items new.runs.items more (events_of more)) runs adds,
     ))
 
 -- the last group is joined
 pub done_last :
-    (l : Launch) (g : ℕ) (sofar : Sofar) (log : Log) (more : List Run) (spaces : List Overlaid) (c : IsGiven l g sofar more)
-    → IsRun (plan_of l g) (Left l g spaces log) (start l) (events_of more) None → Finds g sofar log None → (mid : Sofar) → Changes sofar spaces log mid.contents.items → mid.first ≡ sofar.first
-    → (HasGroup l (suc g) → ⊥) → Holds l (suc g) mid
-done_last l g sofar log more spaces c run finds mid changes first last = done_joined l g sofar log more spaces c run finds mid changes first (λ h. absurd (last h))
+    (l : Launch) (g : ℕ) (so_far : JoinedGroups) (log : Log) (more : List Run) (spaces : List Overlaid) (c : IsGiven l g so_far more)
+    → IsRun (plan_of l g) (Left l g spaces log) (start l) (events_of more) None → Finds g so_far log None → (mid : JoinedGroups) → Changes so_far spaces log mid.contents.items → mid.first ≡ so_far.first
+    → (HasGroup l (suc g) → ⊥) → HoldsGroups l (suc g) mid
+done_last l g so_far log more spaces c run finds mid changes first last = done_joined l g so_far log more spaces c run finds mid changes first (λ h. absurd (last h))
 
--- a row that another is put in place of, as long as it
+-- a buffer that another is put in place of, as long as it
 pub front : {A : Type 0} (n : ℕ) (xs rest : List A) → length xs ≡ n → take n (xs ++ rest) ≡ xs
 front zero [] rest e = refl
 front zero (x ∷ xs) rest e = absurd (omega (arith, e))

@@ -1,42 +1,16 @@
 -- Runs with further runs.
-use Rattle.std.proofs.Common.{◌≡◌, ℕ, zero, suc, ◌+◌, ◌-◌, ◌<◌, ◌≤◌, List, [], ◌∷◌, ◌++◌, length, set, replicate, take, drop, min, refl, sym, ap, ap₂, ◌∙◌, subst, arith, length-append, zero-add, suc-add, add-one, Some, ◌⊎◌, inl, inr}
+use Rattle.std.proofs.Common.{◌≡◌, ℕ, zero, suc, ◌+◌, ◌-◌, ◌<◌, ◌≤◌, List, [], ◌∷◌, ◌++◌, length, replicate, take, drop, min, refl, sym, ap, ap₂, ◌∙◌, subst, arith, zero-add, suc-add, add-one, Some, ◌⊎◌, inl, inr}
 use Rattle.std.specs.Prelude.{slice_get}
 use Rattle.clmodel.proofs.Steps.{none_some, some_inj}
 use Rattle.std.proofs.lemmas.List.{append_assoc, append-nil}
-use Rattle.clmodel.specs.Outcome.{events_of, BeginsApart, IsMerged}
-use Rattle.snapshot_merge.specs.Runs.{EndsWith, Adds, IsFirstOf}
+use Rattle.clmodel.specs.Outcome.{events_of, IsMerged}
+use Rattle.group_run.specs.Runs.{EndsWith}
+use Rattle.group_run.proofs.Merging.{events_of-append, merged_append, merged_grow}
+use Rattle.snapshot_merge.specs.Runs.{Adds, IsFirstOf}
 use Rattle.clmodel.specs.declared.schedule.Event.{Event}
 use Rattle.clmodel.specs.declared.schedule.Event.TheVariants as event
 use Rattle.clmodel.specs.declared.schedule.Run.{Run}
 use Rattle.clmodel.specs.declared.schedule.Run.TheVariants as run
-
-events_of-append : (xs ys : List Run) → events_of (xs ++ ys) ≡ events_of xs ++ events_of ys
-events_of-append [] ys = refl
-events_of-append (run.Item item count ∷ xs) ys =
-    ap (λ z. replicate count (event.Item item) ++ z) (events_of-append xs ys)
-    ∙ sym (append_assoc (replicate count (event.Item item)) (events_of xs) (events_of ys))
-events_of-append (run.Release group ∷ xs) ys = ap (λ z. event.Release group ∷ z) (events_of-append xs ys)
-
--- a run's first event stays where more runs follow
-begins_before : (item : ℕ) (r : Run) (xs ys : List Run) → BeginsApart item (r ∷ xs) → BeginsApart item (r ∷ ys)
-begins_before item (run.Item other count) xs ys h = h
-begins_before item (run.Release group) xs ys h = h
-
-merged_append :
-    (runs : List Run) (r : Run) → IsMerged runs → IsMerged (r ∷ []) → ((item : ℕ) → EndsWith item runs → BeginsApart item (r ∷ [])) → IsMerged (runs ++ r ∷ [])
-merged_append [] r m n f = n
-merged_append (run.Item item count ∷ []) r m n f = (m.0, f item refl, n)
-merged_append (run.Item item count ∷ (x ∷ runs)) r m n f = (m.0, begins_before item x runs (runs ++ r ∷ []) m.1, merged_append (x ∷ runs) r m.2 n f)
-merged_append (run.Release group ∷ []) r m n f = n
-merged_append (run.Release group ∷ (x ∷ runs)) r m n f = merged_append (x ∷ runs) r m n f
-
-merged_grow : (runs : List Run) (item n m : ℕ) → 0 < m → IsMerged (runs ++ run.Item item n ∷ []) → IsMerged (runs ++ run.Item item m ∷ [])
-merged_grow [] item n m p h = (p, tt, tt)
-merged_grow (run.Item other count ∷ []) item n m p h = (h.0, h.1, (p, tt, tt))
-merged_grow (run.Item other count ∷ (x ∷ runs)) item n m p h =
-    (h.0, begins_before other x (runs ++ run.Item item n ∷ []) (runs ++ run.Item item m ∷ []) h.1, merged_grow (x ∷ runs) item n m p h.2)
-merged_grow (run.Release group ∷ []) item n m p h = (p, tt, tt)
-merged_grow (run.Release group ∷ (x ∷ runs)) item n m p h = merged_grow (x ∷ runs) item n m p h
 
 -- a run of its own
 pub adds_item : (runs : List Run) (item count : ℕ) → (EndsWith item runs → ⊥) → Adds runs (runs ++ run.Item item count ∷ []) (run.Item item count ∷ []) (events_of (run.Item item count ∷ []))
@@ -71,21 +45,6 @@ adds_release runs r group e =
       events = events_of-append runs (run.Release group ∷ []);
       merged = λ m n. merged_append runs (run.Release group) m tt (λ other q. tt);
     })
-
--- the last of a list of runs
-pub ends_with : (runs : List Run) (r : Run) (item : ℕ) → EndsWith item (runs ++ r ∷ []) → EndsWith item (r ∷ [])
-ends_with [] r item h = h
-ends_with (run.Item other count ∷ []) r item h = h
-ends_with (run.Item other count ∷ (x ∷ runs)) r item h = ends_with (x ∷ runs) r item h
-ends_with (run.Release group ∷ []) r item h = h
-ends_with (run.Release group ∷ (x ∷ runs)) r item h = ends_with (x ∷ runs) r item h
-
--- the last of a list in place of another
-pub set_last : (runs : List Run) (r q : Run) (n : ℕ) → n + 1 ≡ length (runs ++ r ∷ []) → set (runs ++ r ∷ []) n q ≡ runs ++ q ∷ []
-set_last [] r q zero e = refl
-set_last [] r q (suc n) e = absurd (omega (arith, e))
-set_last (x ∷ runs) r q zero e = absurd (omega (arith, e, length-append runs (r ∷ [])))
-set_last (x ∷ runs) r q (suc n) e = ap (λ z. x ∷ z) (set_last runs r q n (omega (arith, e)))
 
 -- runs that follow one another
 pub merged_tail : (r : Run) (more : List Run) → IsMerged (r ∷ more) → IsMerged (r ∷ []) × IsMerged more

@@ -12,26 +12,26 @@ use Rattle.joining.specs.Memory.{joined_number, writes}
 use Rattle.shadow_list.specs.declared.log.Entry.{Entry}
 use Rattle.snapshot_merge.specs.declared.changes.Change.{Change}
 
--- a change is of this byte of this buffer
+-- a change is of this byte of this buffer (own)
 abbrev pub is_of : ℕ → ℕ → Change → Bool
 is_of number byte change = (change.buffer == number) && (change.byte == byte)
 
--- a byte of a buffer after changes, of which the last counts
+-- a byte of a buffer after changes, of which the last counts (own)
 abbrev pub changed_byte : List Change → ℕ → ℕ → ℕ → ℕ
 changed_byte [] number byte old = old
 changed_byte (change ∷ changes) number byte old = changed_byte changes number byte (if is_of number byte change then change.value else old)
 
--- the bytes of a buffer among others, none where there is no such buffer
-abbrev pub row : List (List ℕ) → ℕ → List ℕ
-row buffers number = slice_index_or buffers number []
+-- the bytes of a buffer among others, none where there is no such buffer (5.2.1)
+abbrev pub buffer_at : List (List ℕ) → ℕ → List ℕ
+buffer_at buffers number = slice_index_or buffers number []
 
--- buffers after changes
+-- buffers after changes: each as long as before, and each byte by the changes of it (own)
 pub record AreChanged (old new : List (List ℕ)) (changes : List Change) : Type 0 where
   pub many : length new ≡ length old
-  pub sized : (number : ℕ) → length (row new number) ≡ length (row old number)
-  pub bytes : (number byte : ℕ) → slice_get (row new number) byte ≡ option_map (changed_byte changes number byte) (slice_get (row old number) byte)
+  pub sized : (number : ℕ) → length (buffer_at new number) ≡ length (buffer_at old number)
+  pub bytes : (number byte : ℕ) → slice_get (buffer_at new number) byte ≡ option_map (changed_byte changes number byte) (slice_get (buffer_at old number) byte)
 
--- the number of bytes, 0 where one of them is unset or there is none
+-- the number of bytes, the lowest first, 0 where one of them is unset or there is none (6.2.4, own)
 abbrev pub number_or_0 : Cells → ℕ → ℕ → ℕ
 number_or_0 cells first count = unwrap_or (number cells first count) 0
 
@@ -44,29 +44,29 @@ joined_value kind.Store true first lower own byte = number_or_0 own byte 1
 joined_value (kind.Update class) true first lower own byte =
     let word = byte / 4 * 4 in byte_of (byte % 4) (joined_number class (number_or_0 first word 4) (number_or_0 lower word 4) (number_or_0 own word 4))
 
--- the changes of a further group's access to bytes of a buffer, where `value` says what each becomes
+-- the changes of a further group's access to bytes of a buffer, where `value` says what each becomes (own)
 abbrev pub changes_at : (ℕ → Access → ℕ → ℕ) → Access → Region → List Change
 changes_at value x (region.Buffer number) =
     map (λ byte. record { buffer = number; byte = byte; value = value number x byte }) (range_with_len x.first (byte_count x.width))
 changes_at value x (region.Local group number) = []
 
--- the changes of one access: those of a write
+-- the changes of one access: those of a write (own)
 abbrev pub access_changes : (ℕ → Access → ℕ → ℕ) → Access → List Change
 access_changes value x = if writes x.kind then changes_at value x x.region else []
 
--- the changes of all accesses, the oldest first
+-- the changes of all accesses, the oldest first (own)
 abbrev pub changes_of : (ℕ → Access → ℕ → ℕ) → List Entry → List Change
 changes_of value entries = flat_map (λ e. access_changes value e.access) entries
 
--- a space's bytes among others, none where there is no such space
+-- a space's bytes among others, none where there is no such space (own)
 abbrev pub cells_at : List (List (Option ℕ)) → ℕ → Cells
 cells_at spaces number = cells_of (slice_index_or spaces number [])
 
--- a buffer's bytes as cells
+-- a buffer's bytes as cells (5.2.1)
 abbrev pub filled_at : List (List ℕ) → ℕ → Cells
-filled_at buffers number = cells_of (map Some (row buffers number))
+filled_at buffers number = cells_of (map Some (buffer_at buffers number))
 
--- what a byte becomes that a further group's access wrote, by the first bytes, what the lower groups left and wrote, and the group's own bytes
+-- what a byte becomes that a further group's access wrote, by the first bytes, what the lower groups left and wrote, and the group's own bytes (own)
 abbrev pub value_of : List (List ℕ) → List (List ℕ) → (ℕ → ℕ → Bool) → List (List (Option ℕ)) → ℕ → Access → ℕ → ℕ
 value_of first lower wrote own number x byte =
     joined_value x.kind (wrote number byte) (filled_at first number) (filled_at lower number) (cells_at own number) byte

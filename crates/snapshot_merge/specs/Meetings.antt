@@ -2,38 +2,31 @@
 use Rattle.std.specs.Prelude.{◌≡◌, ℕ, ◌+◌, ◌<◌, ◌==◌, Bool, false, ◌&&◌, nat_lt, Option, None, Some, List, length, slice_get, if◌then◌else◌}
 use Rattle.clmodel.specs.Launch.{Launch, location_of}
 use Rattle.clmodel.specs.declared.access.Access.{Access}
-use Rattle.clmodel.specs.declared.access.Region.{Region}
-use Rattle.clmodel.specs.declared.access.Region.TheVariants as region
 use Rattle.clmodel.specs.declared.fault.Fault.{Fault}
 use Rattle.clmodel.specs.declared.fault.Fault.TheVariants as fault
-use Rattle.shadow.specs.Seen.{OfOthers, meeting}
+use Rattle.shadow.specs.Seen.{OfOthers, met_at}
 use Rattle.shadow.specs.declared.seen.Meeting.{Meeting}
 use Rattle.shadow_list.specs.declared.log.Entry.{Entry}
 use Rattle.snapshot_merge.specs.declared.meetings.Met.{Met}
 
--- a meeting of an access as a fault
+-- a meeting of an access as a fault (3.3.1, own in what it names)
 abbrev pub meeting_fault : Launch → Access → Meeting → Fault
 meeting_fault launch x met = fault.Conflict met.clash met.mark.item met.mark.kind x.item x.kind (location_of launch x.region) met.byte
 
--- a report of a conflict on a byte below this one
+-- a report of a conflict on a byte below this one (own)
 abbrev pub is_below : Option Fault → ℕ → Bool
 is_below (Some (fault.Conflict clash item kind other other_kind location own)) byte = nat_lt own byte
 is_below _ byte = false
 
--- what an access meets of the lower groups' accesses: only buffers are shared between groups (6.5.2)
-abbrev pub met_at : Region → Access → List Access → Option Meeting
-met_at (region.Buffer number) x kept = meeting x kept
-met_at (region.Local group number) x kept = None
-
--- the entries are of other items than these accesses
+-- the entries are of other items than these accesses (own)
 abbrev pub AreOthers : List Entry → List Access → Type 0
 AreOthers entries kept = (k : ℕ) (e : Entry) → slice_get entries k ≡ Some e → OfOthers e.access.item kept
 
--- none of the first entries meets these accesses
+-- none of the first entries meets these accesses (own)
 abbrev pub MissUpTo : List Entry → List Access → ℕ → Type 0
 MissUpTo entries kept count = (k : ℕ) (e : Entry) → k < count → slice_get entries k ≡ Some e → met_at e.access.region e.access kept ≡ None
 
--- the first of the entries that meets these accesses, if there is one, and whether it is the last of them
+-- the first of the entries that meets these accesses, if there is one, and whether it is the last of them (own)
 abbrev pub IsFirstMet : List Entry → List Access → Option Met → Type 0
 IsFirstMet entries kept None = MissUpTo entries kept (length entries)
 IsFirstMet entries kept (Some met) =
@@ -41,6 +34,6 @@ IsFirstMet entries kept (Some met) =
     × (met.last ≡ (k + 1 == length entries))
 
 -- the report where an access meets those of the lower groups: the group's own, if the access is its last and it stopped with a conflict on
--- a lower byte, else the meeting
+-- a lower byte, else the meeting (own)
 abbrev pub report_at : Launch → Met → Option Fault → Option Fault
 report_at launch met stopped = if met.last && is_below stopped met.meeting.byte then stopped else Some (meeting_fault launch met.entry.access met.meeting)

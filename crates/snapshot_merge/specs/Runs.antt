@@ -3,21 +3,13 @@ use Rattle.std.specs.Prelude.{◌≡◌, ℕ, ◌-◌, ◌≤◌, List, [], ◌�
 use Rattle.clmodel.specs.Outcome.{events_of, IsMerged}
 use Rattle.clmodel.specs.declared.schedule.Event.{Event}
 use Rattle.clmodel.specs.declared.schedule.Run.{Run}
-use Rattle.clmodel.specs.declared.schedule.Run.TheVariants as run
 
--- the last run is of this item
-abbrev pub EndsWith : ℕ → List Run → Type 0
-EndsWith item [] = ⊥
-EndsWith item (run.Item other count ∷ []) = item ≡ other
-EndsWith item (run.Release group ∷ []) = ⊥
-EndsWith item (first ∷ second ∷ runs) = EndsWith item (second ∷ runs)
-
--- runs with the events of further runs: they stay merged where both were
+-- runs with the events of further runs: they stay merged where both were (own)
 pub record Adds (old new more : List Run) (added : List Event) : Type 0 where
   pub events : events_of new ≡ events_of old ++ added
   pub merged : IsMerged old → IsMerged more → IsMerged new
 
--- the first events of a run, `most` of them or all where it has fewer, and how many they are
+-- the first events of a run, `most` of them or all where it has fewer, and how many they are (own)
 pub record IsFirstOf (whole : Run) (most : ℕ) (first : Run) (taken : ℕ) : Type 0 where
   pub some : taken ≤ most
   pub events : (rest : List Event) → take most (events_of (whole ∷ []) ++ rest) ≡ events_of (first ∷ []) ++ take (most - taken) rest

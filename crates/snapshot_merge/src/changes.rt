@@ -5,7 +5,7 @@ ghost use Rattle.clmodel.specs.Cells.{cells_of, byte_count, byte_of};
 ghost use Rattle.clmodel.specs.declared.access.Access.{Access as TheAccess};
 ghost use Rattle.clmodel.specs.declared.access.Region.TheVariants as region;
 ghost use Rattle.joining.specs.Memory as joining;
-ghost use Rattle.shadow.specs.Seen.{Keeps};
+ghost use Rattle.shadow.specs.Seen.{IsFootprint};
 ghost use Rattle.snapshot_merge.specs.Changes.{number_or_0, value_of, changes_at, access_changes, changes_of, cells_at, filled_at, AreChanged};
 
 use crate::words::joined_number;
@@ -15,10 +15,9 @@ use shadow::Footprint;
 use shadow_list::Accesses;
 use spaces::{Overlay, Space};
 use spaces_base::cells::{is_inside, read};
-use spaces_base::width::byte_count;
 use std::alloc::{AllocError, Global};
 
-/// A byte of a buffer that a group leaves otherwise than the lower groups.
+/// A byte of a buffer that an access of a further group wrote, and what it becomes once the group is joined. It may be what it was.
 #[derive(Clone, Copy)]
 pub(crate) struct Change {
     /// The buffer's number
@@ -117,14 +116,13 @@ impl Before<'_, '_, '_, '_> {
 
     /// What a byte of a buffer becomes that an access of the further group wrote.
     fn joined_byte(&self, number: u32, x: &Access, byte: u64) -> u8
-        ensures { (log : List TheAccess) → Keeps self.now.footprint.now log → result ≡ value_of (map (λ row. row.now) self.now.first.now) self.now.lower.now (λ n b. joining.wrote log (region.Buffer n) b) (map (λ space. space.bytes) self.now.own.now) number x.now byte }
+        ensures { (log : List TheAccess) → IsFootprint self.now.footprint.now log → result ≡ value_of (map (λ row. row.now) self.now.first.now) self.now.lower.now (λ n b. joining.wrote log (region.Buffer n) b) (map (λ space. space.bytes) self.now.own.now) number x.now byte }
     {
-        let both = self.footprint.is_written(number, byte);
         match x.kind {
             AccessKind::Load => self.own_byte(number, byte),
             AccessKind::Store => self.own_byte(number, byte),
             AccessKind::Update(class) => {
-                if both {
+                if self.footprint.is_written(number, byte) {
                     byte_of(self.joined_word(class, number, byte / 4 * 4), byte % 4)
                 } else {
                     self.own_byte(number, byte)
@@ -141,9 +139,9 @@ impl Before<'_, '_, '_, '_> {
         x: &Access,
     ) -> Result<(), AllocError>
         requires { x.now.first + byte_count x.now.width < 2 ^ 64 }
-        ensures { OnOk result ((log : List TheAccess) → Keeps self.now.footprint.now log → changes.new.items ≡ changes.old.items ++ changes_at (value_of (map (λ row. row.now) self.now.first.now) self.now.lower.now (λ n b. joining.wrote log (region.Buffer n) b) (map (λ space. space.bytes) self.now.own.now)) x.now (region.Buffer number)) }
+        ensures { OnOk result ((log : List TheAccess) → IsFootprint self.now.footprint.now log → changes.new.items ≡ changes.old.items ++ changes_at (value_of (map (λ row. row.now) self.now.first.now) self.now.lower.now (λ n b. joining.wrote log (region.Buffer n) b) (map (λ space. space.bytes) self.now.own.now)) x.now (region.Buffer number)) }
     {
-        for byte in x.first..x.first + byte_count(x.width) {
+        for byte in x.first..x.first + x.width.bytes() {
             changes.push(Change {
                 buffer: number,
                 byte,
@@ -156,7 +154,7 @@ impl Before<'_, '_, '_, '_> {
     /// Adds the changes of an access: those of the bytes of a buffer that it wrote.
     fn add_access(&self, changes: &mut Vec<Change>, x: &Access) -> Result<(), AllocError>
         requires { x.now.first + byte_count x.now.width < 2 ^ 64 }
-        ensures { OnOk result ((log : List TheAccess) → Keeps self.now.footprint.now log → changes.new.items ≡ changes.old.items ++ access_changes (value_of (map (λ row. row.now) self.now.first.now) self.now.lower.now (λ n b. joining.wrote log (region.Buffer n) b) (map (λ space. space.bytes) self.now.own.now)) x.now) }
+        ensures { OnOk result ((log : List TheAccess) → IsFootprint self.now.footprint.now log → changes.new.items ≡ changes.old.items ++ access_changes (value_of (map (λ row. row.now) self.now.first.now) self.now.lower.now (λ n b. joining.wrote log (region.Buffer n) b) (map (λ space. space.bytes) self.now.own.now)) x.now) }
     {
         if let AccessKind::Load = x.kind {
             return Ok(());
@@ -173,7 +171,7 @@ impl Before<'_, '_, '_, '_> {
         alloc: Global,
         log: &L,
     ) -> Result<Vec<Change>, AllocError>
-        ensures { IfOk result (λ changes. (kept : List TheAccess) → Keeps self.now.footprint.now kept → changes.items ≡ changes_of (value_of (map (λ row. row.now) self.now.first.now) self.now.lower.now (λ n b. joining.wrote kept (region.Buffer n) b) (map (λ space. space.bytes) self.now.own.now)) (L.log log.now).accesses) }
+        ensures { IfOk result (λ changes. (kept : List TheAccess) → IsFootprint self.now.footprint.now kept → changes.items ≡ changes_of (value_of (map (λ row. row.now) self.now.first.now) self.now.lower.now (λ n b. joining.wrote kept (region.Buffer n) b) (map (λ space. space.bytes) self.now.own.now)) (L.log log.now).accesses) }
     {
         let mut changes = Vec::new(alloc);
         for i in 0..log.len() {

@@ -4,7 +4,8 @@ ghost use Rattle.std.specs.Prelude.{◌≡◌, ◌++◌, ◌∷◌, [], List, �
 ghost use Rattle.clmodel.specs.Outcome.{events_of};
 ghost use Rattle.clmodel.specs.declared.schedule.Run.{Run};
 ghost use Rattle.clmodel.specs.declared.schedule.Run.TheVariants as run;
-ghost use Rattle.snapshot_merge.specs.Runs.{EndsWith, Adds, IsFirstOf};
+ghost use Rattle.group_run.specs.Runs.{EndsWith};
+ghost use Rattle.snapshot_merge.specs.Runs.{Adds, IsFirstOf};
 
 use clmodel::schedule::Run;
 use std::alloc::AllocError;

@@ -3,11 +3,11 @@
 
 mod changes;
 mod cutting;
+mod joined_groups;
 mod laws;
 mod meetings;
 mod merging;
 mod run;
-mod sofar;
 mod words;
 
 pub use merging::merge;

@@ -1,13 +1,12 @@
 //! Conflicts of a work-group's accesses with those of the lower groups.
 
-ghost use Rattle.std.specs.Prelude.{◌≡◌, ◌<◌, ◌+◌, ◌++◌, ◌^◌, ◌&&◌, if◌then◌else◌, List, Some, IfOk, OnOk};
+ghost use Rattle.std.specs.Prelude.{◌≡◌, ◌<◌, ◌+◌, ◌++◌, ◌^◌, List, Some, IfOk, OnOk};
 ghost use Rattle.clmodel.specs.Cells.{byte_count};
 ghost use Rattle.clmodel.specs.declared.access.Access.{Access as TheAccess};
 ghost use Rattle.group_run.specs.Logs.{accesses_of};
-ghost use Rattle.shadow.specs.Seen.{Keeps, OfOthers};
-ghost use Rattle.snapshot_merge.specs.Meetings.{met_at, AreOthers, IsFirstMet, is_below, meeting_fault};
+ghost use Rattle.shadow.specs.Seen.{IsFootprint};
+ghost use Rattle.snapshot_merge.specs.Meetings.{AreOthers, IsFirstMet, is_below, meeting_fault, report_at};
 
-use clmodel::access::{Access, Conflict, Region};
 use clmodel::fault::Fault;
 use group_run::{Described, conflict_fault};
 use shadow::{Footprint, Meeting};
@@ -22,25 +21,14 @@ pub(crate) struct Met {
     pub(crate) last: bool,
 }
 
-/// The conflict of an access with those of lower groups.
-fn met_at(footprint: &Footprint, x: &Access) -> Option<Meeting>
-    requires { x.now.first + byte_count x.now.width < 2 ^ 64 }
-    ensures { (kept : List TheAccess) → Keeps footprint.now kept → OfOthers x.now.item kept → result ≡ met_at x.now.region x.now kept }
-{
-    match x.region {
-        Region::Buffer(_) => footprint.meeting(x),
-        Region::Local { .. } => None,
-    }
-}
-
 /// The first access of a log that conflicts with those of lower groups.
 pub(crate) fn first_met<L: Accesses>(footprint: &Footprint, log: &L) -> Option<Met>
-    ensures { (kept : List TheAccess) → Keeps footprint.now kept → AreOthers (L.log log.now).accesses kept → IsFirstMet (L.log log.now).accesses kept result }
+    ensures { (kept : List TheAccess) → IsFootprint footprint.now kept → AreOthers (L.log log.now).accesses kept → IsFirstMet (L.log log.now).accesses kept result }
 {
     let count = log.len();
     for i in 0..count {
         let entry = log.get(i);
-        if let Some(meeting) = met_at(footprint, &entry.access) {
+        if let Some(meeting) = footprint.meeting(&entry.access) {
             return Some(Met {
                 entry,
                 meeting,
@@ -57,7 +45,7 @@ pub(crate) fn add_accesses<L: Accesses>(
     footprint: &mut Footprint,
     log: &L,
 ) -> Result<(), AllocError>
-    ensures { OnOk result ((kept : List TheAccess) → Keeps footprint.old kept → Keeps footprint.new (accesses_of (L.log log.now).accesses ++ kept)) }
+    ensures { OnOk result ((kept : List TheAccess) → IsFootprint footprint.old kept → IsFootprint footprint.new (accesses_of (L.log log.now).accesses ++ kept)) }
 {
     for i in 0..log.len() {
         footprint.add(alloc, &log.get(i).access)?;
@@ -79,29 +67,18 @@ fn is_below(fault: &Fault, byte: u64) -> bool
 fn meeting_fault<D: Described>(launch: &D, met: &Met) -> Result<Fault, AllocError>
     ensures { IfOk result (λ fault. fault ≡ meeting_fault (D.launch launch.now) met.now.entry.access met.now.meeting) }
 {
-    let later = met.entry.access;
-    let mark = met.meeting.mark;
-    let conflict = Conflict {
-        earlier: Access {
-            item: mark.item,
-            kind: mark.kind,
-            ..later
-        },
-        later,
-        byte: met.meeting.byte,
-        clash: met.meeting.clash,
-    };
+    let conflict = met.meeting.conflict(met.entry.access);
     conflict_fault(launch, &conflict)
 }
 
 /// The report where an access conflicts with a lower group's: this conflict, or that with the group's own accesses, if the access is the
 /// last of a group that stopped with a conflict on a lower byte.
-pub(crate) fn report_of<D: Described>(
+pub(crate) fn report_at<D: Described>(
     launch: &D,
     met: &Met,
     stopped: Option<Fault>,
 ) -> Result<Fault, AllocError>
-    ensures { IfOk result (λ fault. Some fault ≡ (if met.now.last && is_below stopped met.now.meeting.byte then stopped else Some (meeting_fault (D.launch launch.now) met.now.entry.access met.now.meeting))) }
+    ensures { IfOk result (λ fault. Some fault ≡ report_at (D.launch launch.now) met.now stopped) }
 {
     match stopped {
         Some(fault) => {

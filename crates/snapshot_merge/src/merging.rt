@@ -8,9 +8,9 @@ ghost use Rattle.spaces_base.specs.Buffers.{bytes_in};
 ghost use Rattle.snapshot_run.specs.Launches.{HasGroups};
 ghost use Rattle.snapshot_merge.specs.Launches.{AreResults};
 
+use crate::joined_groups::{GroupPlace, JoinedGroups};
 use crate::laws::laws;
 use crate::run::group_count;
-use crate::sofar::{GroupNumber, Sofar};
 use clmodel::outcome::Outcome;
 use group_run::GroupResult;
 use item_step::Launch;
@@ -35,17 +35,17 @@ pub fn merge<'a, L: AccessLog + Drop>(
     laws();
     let groups = group_count(launch);
     let loaded = LoadedLaunch::new(alloc, launch, buffers);
-    let mut sofar = Sofar::new(alloc, launch, buffers)?;
+    let mut so_far = JoinedGroups::new(alloc, launch, buffers)?;
     let mut group = 0;
     for result in results {
-        let number = GroupNumber {
+        let number = GroupPlace {
             group,
             further: group + 1 < groups,
         };
-        if let Some(fault) = sofar.join(alloc, &loaded, number, result)? {
-            return Ok(Outcome::Faulted(fault, sofar.into_schedule()));
+        if let Some(fault) = so_far.join(alloc, &loaded, number, result)? {
+            return Ok(Outcome::Faulted(fault, so_far.into_schedule()));
         }
         group += 1;
     }
-    Ok(Outcome::Clean(sofar.into_contents()))
+    Ok(Outcome::Clean(so_far.into_contents()))
 }

@@ -6,6 +6,8 @@ mod footprints;
 #[cfg(test)]
 mod logs;
 #[cfg(test)]
+mod merges;
+#[cfg(test)]
 mod overlays;
 #[cfg(test)]
 mod printing;

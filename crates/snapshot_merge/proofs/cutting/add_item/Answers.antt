@@ -1,9 +1,11 @@
 use Rattle.std.proofs.Common.{◌≡◌, ◌-◌, [], ◌∷◌, ◌++◌, length, set, sym, ap, subst, ◌∙◌, arith, length-append}
 use Rattle.clmodel.specs.Outcome.{events_of}
-use Rattle.snapshot_merge.specs.Runs.{EndsWith, Adds}
+use Rattle.group_run.specs.Runs.{EndsWith}
+use Rattle.snapshot_merge.specs.Runs.{Adds}
 use Rattle.clmodel.specs.declared.schedule.Run.{Run}
 use Rattle.clmodel.specs.declared.schedule.Run.TheVariants as run
-use Rattle.snapshot_merge.proofs.Merged.{adds_item, adds_more, set_last}
+use Rattle.group_run.proofs.Merging.{set_last}
+use Rattle.snapshot_merge.proofs.Merged.{adds_item, adds_more}
 use Rattle.snapshot_merge.proofs.cutting.add_item.Goals as goal
 
 pub returns-in_default : goal.returns-in_default

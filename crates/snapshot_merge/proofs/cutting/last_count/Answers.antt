@@ -1,6 +1,6 @@
 use Rattle.std.proofs.Common.{[], ◌∷◌, sym, subst}
-use Rattle.snapshot_merge.specs.Runs.{EndsWith}
-use Rattle.snapshot_merge.proofs.Merged.{ends_with}
+use Rattle.group_run.specs.Runs.{EndsWith}
+use Rattle.group_run.proofs.Merging.{ends_with}
 use Rattle.snapshot_merge.proofs.cutting.last_count.Goals as goal
 
 pub returns-else-other-item-clause-none : goal.returns-else-other-item-clause-none

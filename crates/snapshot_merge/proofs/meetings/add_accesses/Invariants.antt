@@ -1,8 +1,8 @@
 use Rattle.std.proofs.Common.{List, ◌++◌, take}
 use Rattle.clmodel.specs.declared.access.Access.{Access}
 use Rattle.group_run.specs.Logs.{accesses_of}
-use Rattle.shadow.specs.Seen.{Keeps}
+use Rattle.shadow.specs.Seen.{IsFootprint}
 use Rattle.snapshot_merge.proofs.meetings.add_accesses.Given as goal
 
 abbrev pub invariant-loop-i : goal.invariant-loop-i
-invariant-loop-i g l = (kept : List Access) → Keeps l.initial.footprint kept → Keeps l.footprint (accesses_of (take l.i (g.L.Accesses.log l.log).accesses) ++ kept)
+invariant-loop-i g l = (kept : List Access) → IsFootprint l.initial.footprint kept → IsFootprint l.footprint (accesses_of (take l.i (g.L.Accesses.log l.log).accesses) ++ kept)

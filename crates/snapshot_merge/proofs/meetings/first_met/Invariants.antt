@@ -1,9 +1,9 @@
 use Rattle.std.proofs.Common.{List}
 use Rattle.clmodel.specs.declared.access.Access.{Access}
-use Rattle.shadow.specs.Seen.{Keeps}
+use Rattle.shadow.specs.Seen.{IsFootprint}
 use Rattle.snapshot_merge.specs.Meetings.{AreOthers, MissUpTo}
 use Rattle.snapshot_merge.proofs.meetings.first_met.Given as goal
 
 abbrev pub invariant-loop-i : goal.invariant-loop-i
 invariant-loop-i g l =
-    (kept : List Access) → Keeps l.footprint kept → AreOthers (g.L.Accesses.log l.log).accesses kept → MissUpTo (g.L.Accesses.log l.log).accesses kept l.i
+    (kept : List Access) → IsFootprint l.footprint kept → AreOthers (g.L.Accesses.log l.log).accesses kept → MissUpTo (g.L.Accesses.log l.log).accesses kept l.i

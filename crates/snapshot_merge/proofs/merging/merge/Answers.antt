@@ -9,7 +9,7 @@ use Rattle.clmodel.specs.declared.fault.Fault.{Fault}
 use Rattle.item_step.specs.Launches.{setup_of}
 use Rattle.joining.specs.Parts.{IsGrouped}
 use Rattle.spaces_base.specs.Buffers.{bytes_in}
-use Rattle.snapshot_merge.specs.Sofar.{Holds, IsStopped, IsNext}
+use Rattle.snapshot_merge.specs.JoinedGroups.{HoldsGroups, IsStopped, CameOfNext}
 use Rattle.std.specs.Vec.Iter.{into_iter_items}
 use Rattle.spaces.specs.Overlay.{Overlaid}
 use Rattle.group_run.specs.Results.{IsResult}
@@ -26,7 +26,7 @@ loop-result-init g c =
     let l = launch_of (setup_of c.args.launch.now) (bytes_in c.args.buffers.now) in
     let all : into_iter_items c.into_iter-result-iterator.result ≡ c.args.results.items = c.into_iter-result-iterator.ensures.into_iter_gives.0 in
     record {
-      held = c.in_ok-sofar.ensures;
+      held = c.in_ok-so_far.ensures;
       rest = subst (AreResults bytes_of g.L.Accesses.log l 0) (sym all) c.requires.results;
     }
 
@@ -58,7 +58,7 @@ join-requires g c =
       grouped = subst IsGrouped (sym same) (grouped_of (setup_of c.args.launch.now) (bytes_in c.args.buffers.now) c.requires.whole c.group_count-groups.ensures.some);
       there = subst (λ (z : model.Launch). HasGroup z group) (sym same) (first_there bytes_of g.L.Accesses.log l group c.in-Some.result (into_iter_items c.next.new.self) now);
       further = λ h. further_there group c.group_count-groups.result l.group_size l.items c.group_count-groups.ensures.count (subst (λ (z : model.Launch). HasGroup z (suc group)) same h);
-      so_far = subst (λ (z : model.Launch). Holds z group c.loop-result.sofar) (sym same) c.loop-result.invariant.held;
+      so_far = subst (λ (z : model.Launch). HoldsGroups z group c.loop-result.so_far) (sym same) c.loop-result.invariant.held;
       result = subst (λ (z : model.Launch). IsResult bytes_of g.L.Accesses.log z group c.in-Some.result) (sym same) (first_result bytes_of g.L.Accesses.log l group c.in-Some.result (into_iter_items c.next.new.self) now);
     }
 
@@ -68,11 +68,11 @@ loop-result-preserved g c =
     let l = launch_of (setup_of c.args.launch.now) (bytes_in c.args.buffers.now) in
     let group = c.loop-result.group in
     let now = subst (AreResults bytes_of g.L.Accesses.log l group) c.in-Some.ensures.steps.0 c.loop-result.invariant.rest in
-    let next : IsNext l group c.in-Some.result None c.join.new.self
-    = subst (λ (f : Option Fault). IsNext l group c.in-Some.result f c.join.new.self) c.in_default.is
-    (subst (λ (z : model.Launch). IsNext z group c.in-Some.result c.in_ok-fault.field-0 c.join.new.self) same c.in_ok-fault.ensures) in
+    let next : CameOfNext l group c.in-Some.result None c.join.new.self
+    = subst (λ (f : Option Fault). CameOfNext l group c.in-Some.result f c.join.new.self) c.in_default.is
+    (subst (λ (z : model.Launch). CameOfNext z group c.in-Some.result c.in_ok-fault.field-0 c.join.new.self) same c.in_ok-fault.ensures) in
     record {
-      held = subst (λ n. Holds l n c.join.new.self) (sym (add-one group)) (next_held l group c.in-Some.result c.join.new.self next);
+      held = subst (λ n. HoldsGroups l n c.join.new.self) (sym (add-one group)) (next_held l group c.in-Some.result c.join.new.self next);
       rest = subst (λ n. AreResults bytes_of g.L.Accesses.log l n (into_iter_items c.next.new.self)) (sym (add-one group))
           (rest_results bytes_of g.L.Accesses.log l group c.in-Some.result (into_iter_items c.next.new.self) c.join.new.self now next);
     }
@@ -82,9 +82,9 @@ returns-in-Some-2 g c =
     let same = ap₂ (λ x y. launch_of (setup_of x) (bytes_in y)) c.new-loaded.ensures.launch c.new-loaded.ensures.buffers in
     let l = launch_of (setup_of c.args.launch.now) (bytes_in c.args.buffers.now) in
     let group = c.loop-result.group in
-    let next : IsNext l group c.in-Some.result (Some c.in-Some-2.fault) c.join.new.self
-    = subst (λ (f : Option Fault). IsNext l group c.in-Some.result f c.join.new.self) c.in-Some-2.is
-    (subst (λ (z : model.Launch). IsNext z group c.in-Some.result c.in_ok-fault.field-0 c.join.new.self) same c.in_ok-fault.ensures) in
+    let next : CameOfNext l group c.in-Some.result (Some c.in-Some-2.fault) c.join.new.self
+    = subst (λ (f : Option Fault). CameOfNext l group c.in-Some.result f c.join.new.self) c.in-Some-2.is
+    (subst (λ (z : model.Launch). CameOfNext z group c.in-Some.result c.in_ok-fault.field-0 c.join.new.self) same c.in_ok-fault.ensures) in
     concludes_fault l c.in-Some-2.fault c.into_schedule.result
     (subst (IsStopped l c.in-Some-2.fault) (sym c.into_schedule.ensures) (next_stopped l group c.in-Some.result c.in-Some-2.fault c.join.new.self next))
 
@@ -94,5 +94,5 @@ returns g c =
     let group = c.loop-result.group in
     let none : into_iter_items c.loop-result.result-iterator ≡ [] = none_left (into_iter_items c.loop-result.result-iterator) (sym c.loop-result.result-iterator.rest.ok.0 ∙ c.in-None.ensures.steps.0) in
     subst (λ (z : Vec (List ℕ) Global). Concludes l (Clean z)) (sym c.into_contents.ensures)
-    (concludes_clean l group c.loop-result.sofar c.laws.ensures (grouped_of (setup_of c.args.launch.now) (bytes_in c.args.buffers.now) c.requires.whole c.group_count-groups.ensures.some) c.loop-result.invariant.held
+    (concludes_clean l group c.loop-result.so_far c.laws.ensures (grouped_of (setup_of c.args.launch.now) (bytes_in c.args.buffers.now) c.requires.whole c.group_count-groups.ensures.some) c.loop-result.invariant.held
     (subst (AreResults bytes_of g.L.Accesses.log l group) none c.loop-result.invariant.rest))

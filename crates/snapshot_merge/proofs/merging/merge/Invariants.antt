@@ -4,12 +4,12 @@ use Rattle.item_step.specs.Launches.{setup_of}
 use Rattle.spaces_base.specs.Buffers.{bytes_in}
 use Rattle.spaces.specs.Overlay.{Overlaid}
 use Rattle.snapshot_merge.specs.Launches.{AreResults}
-use Rattle.snapshot_merge.specs.Sofar.{Holds}
+use Rattle.snapshot_merge.specs.JoinedGroups.{HoldsGroups}
 use Rattle.snapshot_merge.proofs.merging.merge.Given as goal
 
 abbrev pub invariant-loop-result : goal.invariant-loop-result
 invariant-loop-result g l =
     record {
-      held : Holds (launch_of (setup_of l.fn.launch) (bytes_in l.fn.buffers)) l.group l.sofar;
+      held : HoldsGroups (launch_of (setup_of l.fn.launch) (bytes_in l.fn.buffers)) l.group l.so_far;
       rest : AreResults (λ (overlay : Overlaid). overlay.bytes) g.L.Accesses.log (launch_of (setup_of l.fn.launch) (bytes_in l.fn.buffers)) l.group (into_iter_items l.result-iterator);
     }

@@ -8,4 +8,4 @@ loop-byte-preserved c = λ log kept.
     (ap (λ v. record { buffer = c.args.number; byte = c.loop-byte.byte; value = v }) (c.joined_byte.ensures log kept))
 
 pub returns : goal.returns
-returns c = λ log kept. range_end _ _ _ _ _ _ (c.loop-byte.invariant log kept) (omega (arith, c.byte_count.ensures.value, c.byte_count.ensures.some))
+returns c = λ log kept. range_end _ _ _ _ _ _ (c.loop-byte.invariant log kept) (omega (arith, c.bytes.ensures.value, c.bytes.ensures.some))

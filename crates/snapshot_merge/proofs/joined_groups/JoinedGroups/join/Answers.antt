@@ -7,7 +7,7 @@ use Rattle.group_run.specs.Results.{IsResult, Leaves}
 use Rattle.group_run.specs.declared.result.GroupResult.{GroupResult}
 use Rattle.group_run.specs.declared.result.GroupResult.TheVariants as group_result
 use Rattle.spaces.specs.Overlay.{Overlaid}
-use Rattle.snapshot_merge.proofs.sofar.Sofar.join.Goals as goal
+use Rattle.snapshot_merge.proofs.joined_groups.JoinedGroups.join.Goals as goal
 
 pub join_done-requires-clause-ran : goal.join_done-requires-clause-ran
 join_done-requires-clause-ran g c =

@@ -4,7 +4,7 @@ use Rattle.clmodel.specs.Outcome.{events_of}
 use Rattle.shadow_list.specs.Log.{Log}
 use Rattle.snapshot_merge.specs.Runs.{Adds}
 use Rattle.snapshot_merge.proofs.Joining.{IsGiven, stop_meets, stop_alone, both_ok}
-use Rattle.snapshot_merge.proofs.sofar.Sofar.join_stopped.Goals as goal
+use Rattle.snapshot_merge.proofs.joined_groups.JoinedGroups.join_stopped.Goals as goal
 
 pub returns-in-Some : goal.returns-in-Some
 returns-in-Some g c =

@@ -2,10 +2,10 @@ use Rattle.std.proofs.Common.{suc, sym, subst, ◌∙◌}
 use Rattle.std.proofs.lemmas.Bool.{true≢false}
 use Rattle.clmodel.specs.Launch.{Launch}
 use Rattle.shadow_list.specs.Log.{Log}
-use Rattle.snapshot_merge.specs.Sofar.{Holds}
+use Rattle.snapshot_merge.specs.JoinedGroups.{HoldsGroups}
 use Rattle.snapshot_merge.proofs.Joining.{IsGiven, done_meets, done_added, done_last}
-use Rattle.snapshot_merge.proofs.sofar.Sofar.join_done.Goals as goal
-use Rattle.snapshot_merge.proofs.sofar.Sofar.join_done.Goals.{then-number+in_ok-add-in-None, else-number}
+use Rattle.snapshot_merge.proofs.joined_groups.JoinedGroups.join_done.Goals as goal
+use Rattle.snapshot_merge.proofs.joined_groups.JoinedGroups.join_done.Goals.{then-number+in_ok-add-in-None, else-number}
 
 pub returns-in_ok-cross-in-Some : goal.returns-in_ok-cross-in-Some
 returns-in_ok-cross-in-Some g c =
@@ -22,12 +22,12 @@ returns-after-number g c =
     let given : IsGiven l c.args.number.group c.args.self.now c.args.runs.now = record { laws = c.laws.ensures; grouped = c.requires.grouped; there = c.requires.there; holds = c.requires.so_far; merged = c.requires.merged } in
     elim c.if-number.branch [
       | then-number+in_ok-add-in-None w ↦
-          subst (Holds l (suc c.args.number.group)) (sym w.self-is)
+          subst (HoldsGroups l (suc c.args.number.group)) (sym w.self-is)
           (done_added l c.args.number.group c.args.self.now log c.args.runs.now c.args.spaces.now given c.requires.ran c.in-None.ensures c.change.new.self w.add.new.self
           c.in_ok-change-in-None.ensures.changed c.in_ok-change-in-None.ensures.first c.in_ok-change-in-None.ensures.footprint c.in_ok-change-in-None.ensures.runs w.in_ok-add-in-None.ensures.first
           w.in_ok-add-in-None.ensures.contents w.in_ok-add-in-None.ensures.accesses w.in_ok-add-in-None.ensures.runs)
       | else-number w ↦
-          subst (Holds l (suc c.args.number.group)) (sym w.self-is)
+          subst (HoldsGroups l (suc c.args.number.group)) (sym w.self-is)
           (done_last l c.args.number.group c.args.self.now log c.args.runs.now c.args.spaces.now given c.requires.ran c.in-None.ensures c.change.new.self c.in_ok-change-in-None.ensures.changed
           c.in_ok-change-in-None.ensures.first (λ h. true≢false (sym (c.requires.further h) ∙ w.if-number.false)))
     ]

@@ -13,17 +13,17 @@ ghost use Rattle.joining.specs.Group.{IsRun, plan_of};
 ghost use Rattle.joining.specs.Memory as joining;
 ghost use Rattle.joining.specs.Parts.{IsGrouped};
 ghost use Rattle.joining.specs.Steps.{HasGroup};
-ghost use Rattle.shadow.specs.Seen.{Keeps};
+ghost use Rattle.shadow.specs.Seen.{IsFootprint};
 ghost use Rattle.spaces_base.specs.Buffers.{bytes_in};
 ghost use Rattle.snapshot_merge.specs.Changes.{AreChanged, changes_of, value_of};
 ghost use Rattle.snapshot_merge.specs.Meetings.{AreOthers, IsFirstMet, report_at};
 ghost use Rattle.snapshot_merge.specs.Runs.{Adds};
-ghost use Rattle.snapshot_merge.specs.Sofar.{Holds, IsStopped, IsFurther, IsNext};
+ghost use Rattle.snapshot_merge.specs.JoinedGroups.{HoldsGroups, IsStopped, CameOfDone, CameOfNext};
 
 use crate::changes::{Before, make_changes};
 use crate::cutting::{add_all, add_first};
 use crate::laws::laws;
-use crate::meetings::{Met, add_accesses, first_met, report_of};
+use crate::meetings::{Met, add_accesses, first_met, report_at};
 use clmodel::fault::Fault;
 use clmodel::schedule::{Run, Schedule};
 use clmodel::text::{Bytes, Name};
@@ -37,7 +37,7 @@ use std::alloc::{AllocError, Global};
 
 /// What the groups so far come to: what they leave in the launch's buffers, the bytes that they accessed, and their events.
 #[derive(Drop)]
-pub(crate) struct Sofar<'a> {
+pub(crate) struct JoinedGroups<'a> {
     /// The bytes of the launch's buffers before any group.
     pub(crate) first: Vec<&'a [u8]>,
     pub(crate) contents: Vec<Bytes>,
@@ -47,7 +47,7 @@ pub(crate) struct Sofar<'a> {
 
 /// The number of a group, and whether a further group is to be joined after it.
 #[derive(Clone, Copy)]
-pub(crate) struct GroupNumber {
+pub(crate) struct GroupPlace {
     pub(crate) group: u32,
     pub(crate) further: bool,
 }
@@ -88,18 +88,18 @@ fn copies_of(alloc: Global, rows: &[&[u8]]) -> Result<Vec<Bytes>, AllocError>
     Ok(copies)
 }
 
-impl<'a> Sofar<'a> {
+impl<'a> JoinedGroups<'a> {
     /// Before any group. The bytes of the launch's buffers are copied once.
     pub(crate) fn new(
         alloc: Global,
         launch: &Launch<'_>,
         buffers: &'a Buffers,
     ) -> Result<Self, AllocError>
-        ensures { IfOk result (Holds (launch_of (setup_of launch.now) (bytes_in buffers.now)) 0) }
+        ensures { IfOk result (HoldsGroups (launch_of (setup_of launch.now) (bytes_in buffers.now)) 0) }
     {
         let first = rows_of(alloc, launch.buffer_names(), buffers)?;
         let contents = copies_of(alloc, first.as_slice())?;
-        Ok(Sofar {
+        Ok(JoinedGroups {
             first,
             contents,
             footprint: Footprint::new(alloc),
@@ -109,7 +109,7 @@ impl<'a> Sofar<'a> {
 
     /// The first access of a group's log that conflicts with the lower groups': group 0 has none.
     fn first_met<L: Accesses>(&self, group: u32, log: &L) -> Option<Met>
-        ensures { (kept : List TheAccess) → Keeps self.now.footprint kept → (group ≡ 0 → kept ≡ []) → AreOthers (L.log log.now).accesses kept → IsFirstMet (L.log log.now).accesses kept result }
+        ensures { (kept : List TheAccess) → IsFootprint self.now.footprint kept → (group ≡ 0 → kept ≡ []) → AreOthers (L.log log.now).accesses kept → IsFirstMet (L.log log.now).accesses kept result }
     {
         if group == 0 {
             return None;
@@ -124,7 +124,7 @@ impl<'a> Sofar<'a> {
         spaces: &[Overlay<'_>],
         log: &L,
     ) -> Result<(), AllocError>
-        ensures changed { OnOk result ((kept : List TheAccess) → Keeps self.old.footprint kept → AreChanged self.old.contents.items self.new.contents.items (changes_of (value_of (map (λ row. row.now) self.old.first.items) self.old.contents.items (λ n b. joining.wrote kept (region.Buffer n) b) (map (λ space. space.bytes) spaces.now)) (L.log log.now).accesses)) }
+        ensures changed { OnOk result ((kept : List TheAccess) → IsFootprint self.old.footprint kept → AreChanged self.old.contents.items self.new.contents.items (changes_of (value_of (map (λ row. row.now) self.old.first.items) self.old.contents.items (λ n b. joining.wrote kept (region.Buffer n) b) (map (λ space. space.bytes) spaces.now)) (L.log log.now).accesses)) }
         ensures first { self.new.first ≡ self.old.first }
         ensures footprint { self.new.footprint ≡ self.old.footprint }
         ensures runs { self.new.runs ≡ self.old.runs }
@@ -147,7 +147,7 @@ impl<'a> Sofar<'a> {
         log: &L,
         runs: &Schedule,
     ) -> Result<(), AllocError>
-        ensures accesses { OnOk result ((kept : List TheAccess) → Keeps self.old.footprint kept → Keeps self.new.footprint (accesses_of (L.log log.now).accesses ++ kept)) }
+        ensures accesses { OnOk result ((kept : List TheAccess) → IsFootprint self.old.footprint kept → IsFootprint self.new.footprint (accesses_of (L.log log.now).accesses ++ kept)) }
         ensures runs { OnOk result (Adds self.old.runs.items self.new.runs.items runs.now (events_of runs.now)) }
         ensures first { self.new.first ≡ self.old.first }
         ensures contents { self.new.contents ≡ self.old.contents }
@@ -168,7 +168,7 @@ impl<'a> Sofar<'a> {
         ensures runs { IfOk result (λ fault. Adds self.old.runs.items self.new.runs.items runs.now (take (met.now.entry.event + 1) (events_of runs.now))) }
     {
         add_first(&mut self.runs, runs.as_slice(), met.entry.event as u64 + 1)?;
-        report_of(launch, met, stopped)
+        report_at(launch, met, stopped)
     }
 
     /// Joins a group that has ended: the report of its first access that conflicts with a lower group's, if there is one.
@@ -176,7 +176,7 @@ impl<'a> Sofar<'a> {
         &mut self,
         alloc: Global,
         launch: &D,
-        number: GroupNumber,
+        number: GroupPlace,
         spaces: &[Overlay<'_>],
         log: &L,
         runs: &Schedule,
@@ -184,10 +184,10 @@ impl<'a> Sofar<'a> {
         requires grouped { IsGrouped (D.launch launch.now) }
         requires there { HasGroup (D.launch launch.now) number.group }
         requires further { HasGroup (D.launch launch.now) (suc number.group) → number.further ≡ true }
-        requires so_far { Holds (D.launch launch.now) number.group self.old }
+        requires so_far { HoldsGroups (D.launch launch.now) number.group self.old }
         requires merged { IsMerged runs.now }
         requires ran { IsRun (plan_of (D.launch launch.now) number.group) (Leaves (λ space. space.bytes) (plan_of (D.launch launch.now) number.group) spaces.now (L.log log.now)) (start (D.launch launch.now)) (events_of runs.now) None }
-        ensures { IfOk result (λ report. IsFurther (D.launch launch.now) number.group report self.new) }
+        ensures { IfOk result (λ report. CameOfDone (D.launch launch.now) number.group report self.new) }
     {
         laws();
         match self.first_met(number.group, log) {
@@ -213,7 +213,7 @@ impl<'a> Sofar<'a> {
     ) -> Result<Fault, AllocError>
         requires grouped { IsGrouped (D.launch launch.now) }
         requires there { HasGroup (D.launch launch.now) group }
-        requires so_far { Holds (D.launch launch.now) group self.old }
+        requires so_far { HoldsGroups (D.launch launch.now) group self.old }
         requires merged { IsMerged runs.now }
         requires ran { IsRun (plan_of (D.launch launch.now) group) (IsLogged (plan_of (D.launch launch.now) group) (L.log log.now)) (start (D.launch launch.now)) (events_of runs.now) (Some fault) }
         ensures { IfOk result (λ report. IsStopped (D.launch launch.now) report self.new.runs.items) }
@@ -234,15 +234,15 @@ impl<'a> Sofar<'a> {
         &mut self,
         alloc: Global,
         launch: &D,
-        number: GroupNumber,
+        number: GroupPlace,
         came: GroupResult<Overlay<'_>, L>,
     ) -> Result<Option<Fault>, AllocError>
         requires grouped { IsGrouped (D.launch launch.now) }
         requires there { HasGroup (D.launch launch.now) number.group }
         requires further { HasGroup (D.launch launch.now) (suc number.group) → number.further ≡ true }
-        requires so_far { Holds (D.launch launch.now) number.group self.old }
+        requires so_far { HoldsGroups (D.launch launch.now) number.group self.old }
         requires result { IsResult (λ overlay. overlay.bytes) L.log (D.launch launch.now) number.group came }
-        ensures { IfOk result (λ report. IsNext (D.launch launch.now) number.group came.entry report self.new) }
+        ensures { IfOk result (λ report. CameOfNext (D.launch launch.now) number.group came.entry report self.new) }
     {
         match came {
             GroupResult::Done {

@@ -7,7 +7,7 @@ use Rattle.spaces.specs.Overlay.{Overlaid}
 use Rattle.snapshot_merge.specs.declared.changes.Change.{Change}
 use Rattle.snapshot_merge.specs.Changes.{AreChanged, changes_of, value_of}
 use Rattle.snapshot_merge.proofs.Joining.{front}
-use Rattle.snapshot_merge.proofs.sofar.Sofar.change.Goals as goal
+use Rattle.snapshot_merge.proofs.joined_groups.JoinedGroups.change.Goals as goal
 
 pub returns-clause-changed : goal.returns-clause-changed
 returns-clause-changed g c = λ kept h.

@@ -1,0 +1,49 @@
+-- What a program holds of the groups that it has joined (own, on OpenCL 1.2, 3.2).
+use Rattle.std.specs.Prelude.{◌≡◌, ℕ, suc, Option, None, Some, List, map}
+use Rattle.clmodel.specs.Launch.{Launch}
+use Rattle.clmodel.specs.Law.{Keeps, RunsIntoFault}
+use Rattle.clmodel.specs.Outcome.{events_of, IsMerged}
+use Rattle.clmodel.specs.Run.{State}
+use Rattle.clmodel.specs.declared.access.Access.{Access}
+use Rattle.clmodel.specs.declared.fault.Fault.{Fault}
+use Rattle.clmodel.specs.declared.schedule.Run.{Run}
+use Rattle.group_run.specs.declared.result.GroupResult.{GroupResult}
+use Rattle.group_run.specs.declared.result.GroupResult.TheVariants.{Done, Stopped}
+use Rattle.joining.specs.Join.{Joined}
+use Rattle.joining.specs.Steps.{HasGroup, IsJoined}
+use Rattle.shadow.specs.Seen.{IsFootprint}
+use Rattle.shadow.specs.declared.footprint.Footprint.{Footprint}
+use Rattle.snapshot_merge.specs.Memory.{HoldsBytes}
+use Rattle.snapshot_merge.specs.declared.joined_groups.JoinedGroups.{JoinedGroups}
+
+-- a footprint and runs hold the accesses and the events of the groups so far (own)
+pub record HoldsLog (joined : Joined) (footprint : Footprint) (runs : List Run) : Type 0 where
+  pub kept : List Access
+  pub keeps : Keeps joined.log kept
+  pub remembers : IsFootprint footprint kept
+  pub events : events_of runs ≡ joined.events
+  pub merged : IsMerged runs
+
+-- a program holds the groups below one, joined without a report; where there is a further group it holds their accesses and
+-- events too (own)
+pub record HoldsGroups (launch : Launch) (group : ℕ) (so_far : JoinedGroups) : Type 0 where
+  pub joined : Joined
+  pub is_joined : IsJoined launch group joined
+  pub first : map (λ row. row.now) so_far.first.items ≡ launch.buffers
+  pub contents : HoldsBytes launch joined.memory so_far.contents.items
+  pub log : HasGroup launch group → HoldsLog joined so_far.footprint so_far.runs.items
+
+-- the canonical run of the launch makes the events of these runs and ends with this report (own)
+abbrev pub IsStopped : Launch → Fault → List Run → Type 0
+IsStopped launch fault runs = ((end : State) × RunsIntoFault launch (events_of runs) end fault) × IsMerged runs
+
+-- what comes of joining a group that has ended: a report, or what is held of all groups so far (own)
+abbrev pub CameOfDone : Launch → ℕ → Option Fault → JoinedGroups → Type 0
+CameOfDone launch group (Some fault) so_far = IsStopped launch fault so_far.runs.items
+CameOfDone launch group None so_far = HoldsGroups launch (suc group) so_far
+
+-- what comes of joining the result of one more group: a group that stopped always brings a report (own)
+abbrev pub CameOfNext : {G L : Type 0} → Launch → ℕ → GroupResult G L → Option Fault → JoinedGroups → Type 0
+CameOfNext launch group (Done number spaces log runs) report so_far = CameOfDone launch group report so_far
+CameOfNext launch group (Stopped number fault log runs) (Some report) so_far = IsStopped launch report so_far.runs.items
+CameOfNext launch group (Stopped number fault log runs) None so_far = ⊥
