@@ -20,13 +20,13 @@ use crate::rest::Wanted;
 use clmodel::operand::Pointer;
 use clmodel::setup::AtomicFunction;
 use clnum::{Value, convert};
-use item_value::halt::Halt;
 use item_value::pointers::{number, pointing};
+use item_value::termination::Termination;
 use regcode::Instruction;
 
 impl<'a> Machine<'a> {
     /// An operand that is a pointer.
-    fn pointer(&self, register: u32) -> Result<Pointer, Halt>
+    fn pointer(&self, register: u32) -> Result<Pointer, Termination>
         ensures { (after : Pointer → Run) → Leads result (read self.now.given self.now.state register (λ v. next.pointing v after)) after }
     {
         let value = self.operand(register)?;
@@ -34,7 +34,7 @@ impl<'a> Machine<'a> {
     }
 
     /// Operands that are a pointer and a number.
-    fn pointer_and_number(&self, pointer: u32, value: u32) -> Result<(Pointer, Value), Halt>
+    fn pointer_and_number(&self, pointer: u32, value: u32) -> Result<(Pointer, Value), Termination>
         ensures { (after : Pointer → Integer → Run) → Leads result (read self.now.given self.now.state pointer (λ v. read self.now.given self.now.state value (λ w. next.pointing v (λ q. next.number w (λ n. after q n))))) (λ pair. after pair.0 pair.1) }
     {
         let pointer = self.operand(pointer)?;
@@ -45,63 +45,58 @@ impl<'a> Machine<'a> {
     }
 
     /// What a load asks.
-    fn load(&self, to: u32, pointer: u32) -> Result<Wanted, Halt>
+    fn load(&self, to: u32, pointer: u32) -> Result<Wanted, Termination>
         ensures { (on after : State → Run) → Leads result (act self.now.given (Some (instruction.Load to pointer)) on after self.now.state) (asks (instruction.Load to pointer) self.now.state after) }
     {
-        match self.pointer(pointer) {
-            Ok(pointer) => Ok(Wanted::Access {
-                pointer,
-                operation: load_of(pointer.element),
-            }),
-            Err(halt) => Err(halt),
-        }
+        let pointer = self.pointer(pointer)?;
+        Ok(Wanted::Access {
+            pointer,
+            operation: load_of(pointer.element),
+        })
     }
 
     /// What a store asks.
-    fn store(&self, pointer: u32, value: u32) -> Result<Wanted, Halt>
+    fn store(&self, pointer: u32, value: u32) -> Result<Wanted, Termination>
         ensures { (on after : State → Run) → Leads result (act self.now.given (Some (instruction.Store pointer value)) on after self.now.state) (asks (instruction.Store pointer value) self.now.state after) }
     {
-        match self.pointer_and_number(pointer, value) {
-            Ok(pair) => Ok(Wanted::Access {
-                pointer: pair.0,
-                operation: store_of(pair.0.element, pair.1),
-            }),
-            Err(halt) => Err(halt),
-        }
+        let pair = self.pointer_and_number(pointer, value)?;
+        Ok(Wanted::Access {
+            pointer: pair.0,
+            operation: store_of(pair.0.element, pair.1),
+        })
     }
 
     /// What an atomic update by 1 asks.
-    fn update_by_one(&self, function: AtomicFunction, pointer: u32) -> Result<Wanted, Halt>
+    fn update_by_one(&self, function: AtomicFunction, pointer: u32) -> Result<Wanted, Termination>
         ensures { (on after : State → Run) → Leads result (act self.now.given (Some (instruction.Update function pointer None)) on after self.now.state) (asks (instruction.Update function pointer None) self.now.state after) }
     {
-        match self.pointer(pointer) {
-            Ok(pointer) => Ok(Wanted::Access {
-                pointer,
-                operation: update_of(
-                    function,
-                    pointer.element,
-                    Value::wrapped(pointer.element, 1),
-                ),
-            }),
-            Err(halt) => Err(halt),
-        }
+        let pointer = self.pointer(pointer)?;
+        let one = Value::wrapped(pointer.element, 1);
+        Ok(Wanted::Access {
+            pointer,
+            operation: update_of(function, pointer.element, one),
+        })
     }
 
     /// What an atomic update asks.
-    fn update(&self, function: AtomicFunction, pointer: u32, value: u32) -> Result<Wanted, Halt>
+    fn update(
+        &self,
+        function: AtomicFunction,
+        pointer: u32,
+        value: u32,
+    ) -> Result<Wanted, Termination>
         ensures { (on after : State → Run) → Leads result (act self.now.given (Some (instruction.Update function pointer (Some value))) on after self.now.state) (asks (instruction.Update function pointer (Some value)) self.now.state after) }
     {
-        match self.pointer_and_number(pointer, value) {
-            Ok(pair) => Ok(Wanted::Access {
-                pointer: pair.0,
-                operation: update_of(function, pair.0.element, convert(pair.1, pair.0.element)),
-            }),
-            Err(halt) => Err(halt),
-        }
+        let pair = self.pointer_and_number(pointer, value)?;
+        let amount = convert(pair.1, pair.0.element);
+        Ok(Wanted::Access {
+            pointer: pair.0,
+            operation: update_of(function, pair.0.element, amount),
+        })
     }
 
     /// What an instruction asks; an instruction that asks nothing has ended.
-    pub(crate) fn wanted(&self, instruction: &Instruction) -> Result<Wanted, Halt>
+    pub(crate) fn wanted(&self, instruction: &Instruction) -> Result<Wanted, Termination>
         requires { IsTrue (is_asking instruction.now) }
         ensures { (on after : State → Run) → Leads result (act self.now.given (Some instruction.now) on after self.now.state) (asks instruction.now self.now.state after) }
     {
@@ -125,7 +120,7 @@ impl<'a> Machine<'a> {
                 depth: *depth,
                 fences: *fences,
             }),
-            _ => Err(Halt::Finish),
+            _ => Err(Termination::Finish),
         }
     }
 }

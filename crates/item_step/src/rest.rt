@@ -5,13 +5,13 @@ use clmodel::access::Operation;
 use clmodel::action::{Action, Fences};
 use clmodel::operand::Pointer;
 use clnum::IntType;
-use item_value::halt::Halt;
+use item_value::termination::Termination;
 use regcode::Instruction;
 
 /// Why an item rests: it doesn't go on, or it stands at an instruction that asks.
 #[derive(Clone, Copy)]
 pub(crate) enum Rest {
-    Halts(Halt),
+    Terminated(Termination),
     Asks(Instruction),
 }
 

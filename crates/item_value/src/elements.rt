@@ -11,8 +11,8 @@ ghost use Rattle.regcode.specs.Machine.{entry_at};
 ghost use Rattle.item_value.specs.Arrays.{all_present};
 ghost use Rattle.item_value.specs.Leading.{Leads};
 
-use crate::halt::Halt;
 use crate::private_array::PrivateArray;
+use crate::termination::Termination;
 use clmodel::action::Cause;
 use clmodel::operand::Operand;
 use clnum::{IntType, Value};
@@ -45,16 +45,16 @@ pub(crate) fn element(
     name: u32,
     index: i64,
     kind: IntType,
-) -> Result<Operand, Halt>
+) -> Result<Operand, Termination>
     ensures { (after : Operand → Run) → Leads result (next.element_value name index kind (next.element_at elements.now index) after) after }
 {
     match at_index(elements, index) {
         Some(Some(bits)) => Ok(Operand::Integral(Value::from_bits(kind, bits))),
-        Some(None) => Err(Halt::Fail(Cause::UnsetElement {
+        Some(None) => Err(Termination::Fail(Cause::UnsetElement {
             array: name,
             element: index,
         })),
-        None => Err(Halt::Fail(Cause::PrivateBounds {
+        None => Err(Termination::Fail(Cause::PrivateBounds {
             array: name,
             element: index,
         })),
@@ -62,11 +62,11 @@ pub(crate) fn element(
 }
 
 /// The place of the element at an index of the array of a name, where a number is put.
-pub fn place(elements: &[Option<u64>], name: u32, index: i64) -> Result<usize, Halt>
+pub fn place(elements: &[Option<u64>], name: u32, index: i64) -> Result<usize, Termination>
     ensures put { (kind : int_type.IntType) (v : Integer) (after : List (Option ℕ) → Run) → Leads result (next.element_set name index kind elements.now v after) (λ place. after (slice_set elements.now place (Some (bits_of kind v.number)))) }
     ensures within { IfOk result (λ place. place < length elements.now) }
 {
-    let fault = Halt::Fail(Cause::PrivateBounds {
+    let fault = Termination::Fail(Cause::PrivateBounds {
         array: name,
         element: index,
     });

@@ -10,16 +10,16 @@ ghost use Rattle.item_value.specs.Leading.{Leads};
 ghost use Rattle.item_value.specs.Giving.{gives, target};
 
 use crate::elements::elements_of;
-use crate::halt::Halt;
 use crate::operators::work_dim;
 use crate::parameters::parameter;
 use crate::pointers::local_pointer;
 use crate::private_array::PrivateArray;
 use crate::registers::RegisterFile;
 use crate::surroundings::Surroundings;
+use crate::termination::Termination;
 use crate::values::{
-    asked, changed, common, converted, hold, joined, known, of_both, of_first, offset, pointed,
-    private_element,
+    apply_binary, apply_unary, assign, call_builtin, call_builtin_of_two, cast, load_private,
+    move_pointer, pointer_operand, query_work_item, to_common_type, variable,
 };
 use clmodel::operand::Operand;
 use regcode::Instruction;
@@ -30,7 +30,7 @@ pub fn value_of(
     values: &[Option<Operand>],
     arrays: &[PrivateArray],
     instruction: &Instruction,
-) -> Result<Option<Operand>, Halt>
+) -> Result<Option<Operand>, Termination>
     requires { IsTrue (gives instruction.now) }
     ensures { (place : ℕ) (counters : List ℕ) (on after : State → Run) →
         let state : State = record { place = place; registers = registers_with values.now arrays.now; counters = counters } in
@@ -43,36 +43,36 @@ pub fn value_of(
     match instruction {
         Instruction::Constant { value, .. } => Ok(Some(Operand::Integral(*value))),
         Instruction::Unset { .. } => Ok(None),
-        Instruction::Move { from, name, .. } => known(registers, *from, *name),
-        Instruction::Hold { from, kind, .. } => hold(registers, *from, *kind),
-        Instruction::Convert { from, kind, .. } => converted(registers, *from, *kind),
-        Instruction::Common { from, other, .. } => common(registers, *from, *other),
+        Instruction::Move { from, name, .. } => variable(registers, *from, *name),
+        Instruction::Hold { from, kind, .. } => assign(registers, *from, *kind),
+        Instruction::Convert { from, kind, .. } => cast(registers, *from, *kind),
+        Instruction::Common { from, other, .. } => to_common_type(registers, *from, *other),
         Instruction::Unary {
             operator,
             operand,
             ..
-        } => changed(registers, *operand, *operator),
+        } => apply_unary(registers, *operand, *operator),
         Instruction::Binary {
             operator,
             left,
             right,
             ..
-        } => joined(registers, *operator, *left, *right),
+        } => apply_binary(registers, *operator, *left, *right),
         Instruction::Builtin {
             function,
             first,
             second,
             ..
         } => match second {
-            None => of_first(registers, *function, *first),
-            Some(second) => of_both(registers, *function, *first, *second),
+            None => call_builtin(registers, *function, *first),
+            Some(second) => call_builtin_of_two(registers, *function, *first, *second),
         },
         Instruction::Dimensions { .. } => Ok(Some(work_dim(&surroundings.context))),
         Instruction::Query {
             function,
             dimension,
             ..
-        } => asked(registers, &surroundings.context, *function, *dimension),
+        } => query_work_item(registers, &surroundings.context, *function, *dimension),
         Instruction::Argument { number, kind, .. } => {
             Ok(parameter(surroundings.buffers, surroundings.arguments, *number, *kind))
         }
@@ -87,15 +87,15 @@ pub fn value_of(
             element,
             name,
             ..
-        } => private_element(
+        } => load_private(
             registers,
             elements_of(arrays, *array),
             *index,
             *element,
             *name,
         ),
-        Instruction::Point { from, .. } => pointed(registers, *from),
-        Instruction::Offset { pointer, index, .. } => { offset(registers, *pointer, *index) }
-        _ => Err(Halt::Finish),
+        Instruction::Point { from, .. } => pointer_operand(registers, *from),
+        Instruction::Offset { pointer, index, .. } => { move_pointer(registers, *pointer, *index) }
+        _ => Err(Termination::Finish),
     }
 }

@@ -4,11 +4,11 @@
 pub mod context;
 pub mod elements;
 pub mod giving;
-pub mod halt;
 pub mod operators;
 mod parameters;
 pub mod pointers;
 pub mod private_array;
 pub mod registers;
 pub mod surroundings;
+pub mod termination;
 pub mod values;

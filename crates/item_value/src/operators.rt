@@ -14,41 +14,41 @@ ghost use Rattle.clmodel.specs.declared.tree.VariableType.TheVariants as variabl
 ghost use Rattle.item_value.specs.Leading.{Leads};
 
 use crate::context::Context;
-use crate::halt::Halt;
 use crate::pointers::{moved, moved_back};
+use crate::termination::Termination;
 use clmodel::action::Cause;
 use clmodel::operand::Operand;
 use clmodel::setup::WorkItemFunction;
 use clnum::{ArithFault, BinaryOperator, Builtin, IntType, Value, binary, builtin, convert};
 
 /// What an operator on integers gave.
-fn arithmetic(outcome: Result<Value, ArithFault>) -> Result<Operand, Halt>
+fn arithmetic(outcome: Result<Value, ArithFault>) -> Result<Operand, Termination>
     ensures { (after : Operand → Run) → Leads result (next.arithmetic outcome after) after }
 {
     match outcome {
         Ok(value) => Ok(Operand::Integral(value)),
-        Err(ArithFault::DivideByZero) => Err(Halt::Fail(Cause::DivideByZero)),
-        Err(ArithFault::DivideOverflow) => Err(Halt::Fail(Cause::DivideOverflow)),
+        Err(ArithFault::DivideByZero) => Err(Termination::Fail(Cause::DivideByZero)),
+        Err(ArithFault::DivideOverflow) => Err(Termination::Fail(Cause::DivideOverflow)),
     }
 }
 
 /// A pointer moved on, as a value.
-fn advanced(pointer: Operand, by: Operand) -> Result<Operand, Halt>
+fn advanced(pointer: Operand, by: Operand) -> Result<Operand, Termination>
     ensures { (after : Operand → Run) → Leads result (next.moved pointer by (λ q. after (operand.Pointed q))) after }
 {
     match moved(pointer, by) {
         Ok(pointer) => Ok(Operand::Pointed(pointer)),
-        Err(halt) => Err(halt),
+        Err(termination) => Err(termination),
     }
 }
 
 /// A pointer moved back, as a value.
-fn withdrawn(pointer: Operand, by: Operand) -> Result<Operand, Halt>
+fn withdrawn(pointer: Operand, by: Operand) -> Result<Operand, Termination>
     ensures { (after : Operand → Run) → Leads result (next.moved_back pointer by (λ q. after (operand.Pointed q))) after }
 {
     match moved_back(pointer, by) {
         Ok(pointer) => Ok(Operand::Pointed(pointer)),
-        Err(halt) => Err(halt),
+        Err(termination) => Err(termination),
     }
 }
 
@@ -57,7 +57,7 @@ pub(crate) fn combined(
     operator: BinaryOperator,
     first: Operand,
     second: Operand,
-) -> Result<Operand, Halt>
+) -> Result<Operand, Termination>
     ensures { (after : Operand → Run) → Leads result (next.combined operator first second after) after }
 {
     match first {
@@ -65,13 +65,13 @@ pub(crate) fn combined(
             Operand::Integral(w) => arithmetic(binary(operator, v, w)),
             Operand::Pointed(p) => match operator {
                 BinaryOperator::Add => advanced(Operand::Pointed(p), Operand::Integral(v)),
-                _ => Err(Halt::Finish),
+                _ => Err(Termination::Finish),
             },
         },
         Operand::Pointed(p) => match operator {
             BinaryOperator::Add => advanced(Operand::Pointed(p), second),
             BinaryOperator::Subtract => withdrawn(Operand::Pointed(p), second),
-            _ => Err(Halt::Finish),
+            _ => Err(Termination::Finish),
         },
     }
 }
@@ -84,17 +84,17 @@ fn is_set(value: Value) -> bool
 }
 
 /// Whether a value is a number other than zero.
-pub fn test(value: Operand) -> Result<bool, Halt>
+pub fn test(value: Operand) -> Result<bool, Termination>
     ensures { (after : Bool → Run) → Leads result (next.test value after) after }
 {
     match value {
         Operand::Integral(value) => Ok(is_set(value)),
-        Operand::Pointed(_) => Err(Halt::Finish),
+        Operand::Pointed(_) => Err(Termination::Finish),
     }
 }
 
 /// A number in the common type of its own and another type (C99 6.3.1.8).
-pub(crate) fn chosen_value(value: Operand, other: IntType) -> Result<Operand, Halt>
+pub(crate) fn chosen_value(value: Operand, other: IntType) -> Result<Operand, Termination>
     ensures { (after : Operand → Run) → Leads result (next.chosen_value value (variable_type.Integer other) after) after }
 {
     match value {
@@ -102,40 +102,40 @@ pub(crate) fn chosen_value(value: Operand, other: IntType) -> Result<Operand, Ha
             let kind = value.kind().common(other);
             Ok(Operand::Integral(convert(value, kind)))
         }
-        Operand::Pointed(_) => Err(Halt::Finish),
+        Operand::Pointed(_) => Err(Termination::Finish),
     }
 }
 
 /// The value of a function of integers.
-fn given_value(value: Option<Value>) -> Result<Operand, Halt>
+fn given_value(value: Option<Value>) -> Result<Operand, Termination>
     ensures { (after : Operand → Run) → Leads result (next.given_value value after) after }
 {
     match value {
         Some(value) => Ok(Operand::Integral(value)),
-        None => Err(Halt::Finish),
+        None => Err(Termination::Finish),
     }
 }
 
 /// A function of one integer.
-pub(crate) fn of_one(function: Builtin, a: Operand) -> Result<Operand, Halt>
+pub(crate) fn of_one(function: Builtin, a: Operand) -> Result<Operand, Termination>
     ensures { (after : Operand → Run) → Leads result (next.integer_call function (a ∷ []) after) after }
 {
     match a {
         Operand::Integral(a) => given_value(builtin(function, &[a])),
-        Operand::Pointed(_) => Err(Halt::Finish),
+        Operand::Pointed(_) => Err(Termination::Finish),
     }
 }
 
 /// A function of two integers.
-pub(crate) fn of_two(function: Builtin, a: Operand, b: Operand) -> Result<Operand, Halt>
+pub(crate) fn of_two(function: Builtin, a: Operand, b: Operand) -> Result<Operand, Termination>
     ensures { (after : Operand → Run) → Leads result (next.integer_call function (a ∷ b ∷ []) after) after }
 {
     match a {
         Operand::Integral(a) => match b {
             Operand::Integral(b) => given_value(builtin(function, &[a, b])),
-            Operand::Pointed(_) => Err(Halt::Finish),
+            Operand::Pointed(_) => Err(Termination::Finish),
         },
-        Operand::Pointed(_) => Err(Halt::Finish),
+        Operand::Pointed(_) => Err(Termination::Finish),
     }
 }
 

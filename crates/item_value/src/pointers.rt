@@ -10,7 +10,7 @@ ghost use Rattle.clmodel.specs.declared.access.Object.TheVariants as object;
 ghost use Rattle.clmodel.specs.declared.operand.Pointer.{Pointer};
 ghost use Rattle.item_value.specs.Leading.{Leads};
 
-use crate::halt::Halt;
+use crate::termination::Termination;
 use clmodel::access::Object;
 use clmodel::operand::{Operand, Pointer};
 use clnum::{IntType, Value};
@@ -46,28 +46,28 @@ fn backward(pointer: Pointer, by: Value) -> Pointer
 }
 
 /// A pointer moved on by a number of elements.
-pub(crate) fn moved(pointer: Operand, index: Operand) -> Result<Pointer, Halt>
+pub(crate) fn moved(pointer: Operand, index: Operand) -> Result<Pointer, Termination>
     ensures { (after : Pointer → Run) → Leads result (next.moved pointer index after) after }
 {
     match pointer {
         Operand::Pointed(pointer) => match index {
             Operand::Integral(index) => Ok(forward(pointer, index)),
-            Operand::Pointed(_) => Err(Halt::Finish),
+            Operand::Pointed(_) => Err(Termination::Finish),
         },
-        Operand::Integral(_) => Err(Halt::Finish),
+        Operand::Integral(_) => Err(Termination::Finish),
     }
 }
 
 /// A pointer moved back by a number of elements.
-pub(crate) fn moved_back(pointer: Operand, index: Operand) -> Result<Pointer, Halt>
+pub(crate) fn moved_back(pointer: Operand, index: Operand) -> Result<Pointer, Termination>
     ensures { (after : Pointer → Run) → Leads result (next.moved_back pointer index after) after }
 {
     match pointer {
         Operand::Pointed(pointer) => match index {
             Operand::Integral(index) => Ok(backward(pointer, index)),
-            Operand::Pointed(_) => Err(Halt::Finish),
+            Operand::Pointed(_) => Err(Termination::Finish),
         },
-        Operand::Integral(_) => Err(Halt::Finish),
+        Operand::Integral(_) => Err(Termination::Finish),
     }
 }
 
@@ -90,21 +90,21 @@ pub(crate) fn local_pointer(number: u32, element: IntType) -> Pointer
 }
 
 /// A value that is a number.
-pub fn number(value: Operand) -> Result<Value, Halt>
+pub fn number(value: Operand) -> Result<Value, Termination>
     ensures { (after : Integer → Run) → Leads result (next.number value after) after }
 {
     match value {
         Operand::Integral(number) => Ok(number),
-        Operand::Pointed(_) => Err(Halt::Finish),
+        Operand::Pointed(_) => Err(Termination::Finish),
     }
 }
 
 /// A value that is a pointer.
-pub fn pointing(value: Operand) -> Result<Pointer, Halt>
+pub fn pointing(value: Operand) -> Result<Pointer, Termination>
     ensures { (after : Pointer → Run) → Leads result (next.pointing value after) after }
 {
     match value {
         Operand::Pointed(pointer) => Ok(pointer),
-        Operand::Integral(_) => Err(Halt::Finish),
+        Operand::Integral(_) => Err(Termination::Finish),
     }
 }

@@ -17,10 +17,10 @@ ghost use Rattle.item_value.specs.Reading.{reads};
 
 use crate::context::Context;
 use crate::elements::element;
-use crate::halt::Halt;
 use crate::operators::{chosen_value, combined, of_one, of_two, work_item};
 use crate::pointers::{index_of, moved, number, pointing};
 use crate::registers::{RegisterFile, operand, register};
+use crate::termination::Termination;
 use clmodel::action::Cause;
 use clmodel::operand::Operand;
 use clmodel::setup::WorkItemFunction;
@@ -28,21 +28,21 @@ use clmodel::tree::VariableType;
 use clnum::{BinaryOperator, Builtin, IntType, UnaryOperator, convert, unary};
 
 /// The value of a variable of a name, which must be set.
-pub(crate) fn known(
+pub(crate) fn variable(
     registers: RegisterFile<'_>,
     from: u32,
     name: u32,
-) -> Result<Option<Operand>, Halt>
+) -> Result<Option<Operand>, Termination>
     ensures { (after : Option Operand → Run) → Leads result (next.known name (entry_at None registers.entry.values.now from) (λ v. after (Some v))) after }
 {
     match register(registers.values, from) {
         Some(value) => Ok(Some(value)),
-        None => Err(Halt::Fail(Cause::UnsetVariable { variable: name })),
+        None => Err(Termination::Fail(Cause::UnsetVariable { variable: name })),
     }
 }
 
 /// A value as a variable of a type holds it (C99 6.5.16.1).
-fn held(kind: VariableType, value: Operand) -> Operand
+fn assigned(kind: VariableType, value: Operand) -> Operand
     ensures { result ≡ next.held kind value }
 {
     match kind {
@@ -55,23 +55,23 @@ fn held(kind: VariableType, value: Operand) -> Operand
 }
 
 /// An operand as a variable of a type holds it.
-pub(crate) fn hold(
+pub(crate) fn assign(
     registers: RegisterFile<'_>,
     from: u32,
     kind: VariableType,
-) -> Result<Option<Operand>, Halt>
+) -> Result<Option<Operand>, Termination>
     ensures { (after : Option Operand → Run) → Leads result (reads registers.entry from (λ v. after (Some (next.held kind v)))) after }
 {
     let value = operand(registers, from)?;
-    Ok(Some(held(kind, value)))
+    Ok(Some(assigned(kind, value)))
 }
 
 /// An operand in another type.
-pub(crate) fn converted(
+pub(crate) fn cast(
     registers: RegisterFile<'_>,
     from: u32,
     kind: IntType,
-) -> Result<Option<Operand>, Halt>
+) -> Result<Option<Operand>, Termination>
     ensures { (after : Option Operand → Run) → Leads result (reads registers.entry from (λ v. next.number v (λ n. after (Some (operand.Integral (converted n kind)))))) after }
 {
     let value = operand(registers, from)?;
@@ -80,11 +80,11 @@ pub(crate) fn converted(
 }
 
 /// An operand in the common type of its own and another type.
-pub(crate) fn common(
+pub(crate) fn to_common_type(
     registers: RegisterFile<'_>,
     from: u32,
     other: IntType,
-) -> Result<Option<Operand>, Halt>
+) -> Result<Option<Operand>, Termination>
     ensures { (after : Option Operand → Run) → Leads result (reads registers.entry from (λ v. next.chosen_value v (variable_type.Integer other) (λ w. after (Some w)))) after }
 {
     let value = operand(registers, from)?;
@@ -93,11 +93,11 @@ pub(crate) fn common(
 }
 
 /// An operator on one integer.
-pub(crate) fn changed(
+pub(crate) fn apply_unary(
     registers: RegisterFile<'_>,
     from: u32,
     operator: UnaryOperator,
-) -> Result<Option<Operand>, Halt>
+) -> Result<Option<Operand>, Termination>
     ensures { (after : Option Operand → Run) → Leads result (reads registers.entry from (λ v. next.number v (λ n. after (Some (operand.Integral (unary_value operator n)))))) after }
 {
     let value = operand(registers, from)?;
@@ -106,12 +106,12 @@ pub(crate) fn changed(
 }
 
 /// An operator on two values.
-pub(crate) fn joined(
+pub(crate) fn apply_binary(
     registers: RegisterFile<'_>,
     operator: BinaryOperator,
     left: u32,
     right: u32,
-) -> Result<Option<Operand>, Halt>
+) -> Result<Option<Operand>, Termination>
     ensures { (after : Option Operand → Run) → Leads result (reads registers.entry left (λ v. reads registers.entry right (λ w. next.combined operator v w (λ x. after (Some x))))) after }
 {
     let left = operand(registers, left)?;
@@ -121,11 +121,11 @@ pub(crate) fn joined(
 }
 
 /// A function of one integer.
-pub(crate) fn of_first(
+pub(crate) fn call_builtin(
     registers: RegisterFile<'_>,
     function: Builtin,
     first: u32,
-) -> Result<Option<Operand>, Halt>
+) -> Result<Option<Operand>, Termination>
     ensures { (after : Option Operand → Run) → Leads result (reads registers.entry first (λ v. next.integer_call function (v ∷ []) (λ x. after (Some x)))) after }
 {
     let first = operand(registers, first)?;
@@ -134,12 +134,12 @@ pub(crate) fn of_first(
 }
 
 /// A function of two integers.
-pub(crate) fn of_both(
+pub(crate) fn call_builtin_of_two(
     registers: RegisterFile<'_>,
     function: Builtin,
     first: u32,
     second: u32,
-) -> Result<Option<Operand>, Halt>
+) -> Result<Option<Operand>, Termination>
     ensures { (after : Option Operand → Run) → Leads result (reads registers.entry first (λ v. reads registers.entry second (λ w. next.integer_call function (v ∷ w ∷ []) (λ x. after (Some x))))) after }
 {
     let first = operand(registers, first)?;
@@ -149,12 +149,12 @@ pub(crate) fn of_both(
 }
 
 /// What a work-item function gives in a dimension.
-pub(crate) fn asked(
+pub(crate) fn query_work_item(
     registers: RegisterFile<'_>,
     context: &Context<'_>,
     function: WorkItemFunction,
     dimension: u32,
-) -> Result<Option<Operand>, Halt>
+) -> Result<Option<Operand>, Termination>
     ensures { (after : Option Operand → Run) → Leads result (reads registers.entry dimension (λ d. next.call (here context.now) (Some (built_in.WorkItem function)) (d ∷ []) (λ x. after (Some x)))) after }
 {
     let dimension = operand(registers, dimension)?;
@@ -162,7 +162,10 @@ pub(crate) fn asked(
 }
 
 /// An operand that is a pointer.
-pub(crate) fn pointed(registers: RegisterFile<'_>, from: u32) -> Result<Option<Operand>, Halt>
+pub(crate) fn pointer_operand(
+    registers: RegisterFile<'_>,
+    from: u32,
+) -> Result<Option<Operand>, Termination>
     ensures { (after : Option Operand → Run) → Leads result (reads registers.entry from (λ v. next.pointing v (λ p. after (Some (operand.Pointed p))))) after }
 {
     let value = operand(registers, from)?;
@@ -171,11 +174,11 @@ pub(crate) fn pointed(registers: RegisterFile<'_>, from: u32) -> Result<Option<O
 }
 
 /// A pointer moved by a number of elements.
-pub(crate) fn offset(
+pub(crate) fn move_pointer(
     registers: RegisterFile<'_>,
     pointer: u32,
     index: u32,
-) -> Result<Option<Operand>, Halt>
+) -> Result<Option<Operand>, Termination>
     ensures { (after : Option Operand → Run) → Leads result (reads registers.entry pointer (λ p. reads registers.entry index (λ i. next.moved p i (λ q. after (Some (operand.Pointed q)))))) after }
 {
     let pointer = operand(registers, pointer)?;
@@ -185,13 +188,13 @@ pub(crate) fn offset(
 }
 
 /// An element of a private array; a fault with its name where there is none, or none that is set.
-pub(crate) fn private_element(
+pub(crate) fn load_private(
     registers: RegisterFile<'_>,
     elements: &[Option<u64>],
     index: u32,
     kind: IntType,
     name: u32,
-) -> Result<Option<Operand>, Halt>
+) -> Result<Option<Operand>, Termination>
     ensures { (after : Option Operand → Run) → Leads result (reads registers.entry index (λ i. next.read_element name kind elements.now i (λ v. after (Some v)))) after }
 {
     let index = operand(registers, index)?;

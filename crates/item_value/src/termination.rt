@@ -5,7 +5,7 @@ use clmodel::action::Cause;
 
 /// An instruction has no next one: the item fails, or it has ended.
 #[derive(Clone, Copy)]
-pub enum Halt {
+pub enum Termination {
     Fail(Cause),
     Finish,
 }

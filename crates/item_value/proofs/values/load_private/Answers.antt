@@ -5,7 +5,7 @@ use Rattle.clnum.specs.Integer.{Integer}
 use Rattle.clmodel.specs.Next.{Run, element_at, element_value, index_of, number}
 use Rattle.item_value.specs.Leading.{Leads}
 use Rattle.item_value.proofs.LeadingLaws.{leads_ok, leads_passed}
-use Rattle.item_value.proofs.values.private_element.Goals as goal
+use Rattle.item_value.proofs.values.load_private.Goals as goal
 
 pub returns-in_err-value : goal.returns-in_err-value
 returns-in_err-value c after =
