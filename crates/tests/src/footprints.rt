@@ -60,3 +60,21 @@ fn the_lowest_byte_and_there_the_earliest(rt: HostRuntime) -> Result<(), Fail> {
     }
     Ok(())
 }
+
+// A local object has the number of a buffer that was touched: no other group shares it.
+#[test]
+fn a_local_object_meets_nothing(rt: HostRuntime) -> Result<(), Fail> {
+    let mut footprint = Footprint::new(rt.alloc());
+    for row in KEPT {
+        footprint.add(rt.alloc(), &access(row))?;
+    }
+    let local = Access {
+        region: Region::Local {
+            group: 1,
+            number: 3,
+        },
+        ..access((9, 3, 600, AccessKind::Store))
+    };
+    assert!(rt; footprint.meeting(&local).is_none());
+    Ok(())
+}

@@ -3,7 +3,7 @@
 ghost use Rattle.std.specs.Prelude.{◌<◌};
 ghost use Rattle.shadow_list.specs.Log.{IsPlaced};
 
-use clmodel::access::{Access, AccessKind, Class, Region, Width};
+use clmodel::access::{Access, AccessKind, Class, Operation, Region, Width};
 use shadow_list::{AccessLog, Accesses, Entry, Fenced, ListLog};
 use std::test::Fail;
 
@@ -73,5 +73,26 @@ fn groups_conflict_on_buffers(rt: HostRuntime) -> Result<(), Fail> {
         None => None,
     };
     assert_eq!(rt; found, Some(11));
+    Ok(())
+}
+
+/// How many local objects an item stores to: as many as local memory has bytes.
+const OBJECTS: u32 = 32768;
+
+// Stores to as many local objects are kept apart, and each again is found without a walk.
+#[test]
+fn local_objects_are_told_apart(rt: HostRuntime) -> Result<(), Fail> {
+    let mut log = ListLog::new(rt.alloc());
+    for turn in 0..2u32 {
+        for number in 0..OBJECTS {
+            let region = Region::Local { group: 0, number };
+            let operation = Operation::Store(Width::One, 7);
+            assert!(rt;
+                log.note(Entry::of(0, region, 0, operation, turn))?
+                    .is_none()
+            );
+        }
+        assert_eq!(rt; log.len(), OBJECTS as usize);
+    }
     Ok(())
 }
