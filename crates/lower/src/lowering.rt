@@ -26,7 +26,7 @@ pub enum LowerFault {
     /// 1: no kernel has the name
     #[error("no such kernel")]
     NoSuchKernel,
-    /// 2: out of memory, or more registers are needed than there are
+    /// 2: out of memory, or the code's instructions, registers or barriers can't be counted in 32 bits
     #[error("out of memory")]
     OutOfMemory,
 }
@@ -73,7 +73,8 @@ fn list_kernel(
     }))
 }
 
-/// The code of the kernel of a name's number.
+/// The code of the kernel of a name's number. Err(OutOfMemory) comes where memory is refused, or where the code's length, the number
+/// of one of its registers or that of one of its barriers passes 32 bits.
 pub fn lower_kernel(alloc: Global, checked: &Checked, number: u32) -> Result<Code, LowerFault>
     ensures code { IfOk result (λ code. IsLowered (program checked.now.tree) number code) }
     ensures listed { IfOk result (λ code. Lists (program checked.now.tree).functions number code) }
@@ -92,7 +93,7 @@ pub fn lower_kernel(alloc: Global, checked: &Checked, number: u32) -> Result<Cod
     }
 }
 
-/// The code of the kernel of a name.
+/// The code of the kernel of a name. Err(OutOfMemory) comes as in `lower_kernel`.
 pub fn lower(alloc: Global, checked: &Checked, kernel: &str) -> Result<Code, LowerFault>
     ensures code { IfOk result (LowersNamed (program checked.now.tree) kernel.now) }
     ensures listed { IfOk result (ListsNamed (program checked.now.tree) kernel.now) }
