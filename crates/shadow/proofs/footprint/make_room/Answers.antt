@@ -1,4 +1,4 @@
-use Rattle.std.proofs.Common.{◌≡◌, ◌∙◌, ap}
+use Rattle.std.proofs.Common.{◌∙◌, ap}
 use Rattle.shadow.specs.Seen.{cell, buffer_cells}
 use Rattle.shadow.proofs.Cells.{one_more}
 use Rattle.shadow.proofs.footprint.make_room.Goals as goal

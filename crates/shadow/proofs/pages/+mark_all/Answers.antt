@@ -1,4 +1,4 @@
-use Rattle.std.proofs.Common.{◌≡◌, sym, arith}
+use Rattle.std.proofs.Common.{arith}
 use Rattle.shadow.specs.Seen.{seen_with, cell_in}
 use Rattle.shadow.proofs.Cells.{marked_more, none_marked}
 use Rattle.shadow.proofs.pages.+mark_all.Goals as goal

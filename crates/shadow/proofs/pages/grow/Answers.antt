@@ -1,4 +1,4 @@
-use Rattle.std.proofs.Common.{◌≡◌, ◌∙◌, ap}
+use Rattle.std.proofs.Common.{◌∙◌, ap}
 use Rattle.shadow.specs.Seen.{row_of}
 use Rattle.shadow.proofs.Cells.{pushed}
 use Rattle.shadow.proofs.pages.grow.Goals as goal

@@ -1,4 +1,4 @@
-use Rattle.std.proofs.Common.{◌≡◌, ℕ, ◌<◌, ◌≤◌, refl, sym, ap, ◌∙◌, subst, length, get_or}
+use Rattle.std.proofs.Common.{◌≡◌, ℕ, ◌<◌, ◌≤◌, refl, ap, ◌∙◌, subst, length, get_or}
 use Rattle.clmodel.specs.declared.access.Region.TheVariants as region
 use Rattle.shadow.specs.Seen.{is_written, cell_in}
 use Rattle.shadow.specs.declared.seen.Seen.{Seen}

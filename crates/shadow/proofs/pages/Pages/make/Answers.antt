@@ -1,4 +1,4 @@
-use Rattle.std.proofs.Common.{◌≡◌, ◌/◌, ◌%◌, ◌<◌, ◌∙◌, ap, length, get_or, arith}
+use Rattle.std.proofs.Common.{◌/◌, ◌%◌, ◌<◌, ◌∙◌, ap, length, get_or, arith}
 use Rattle.shadow.specs.declared.seen.Seen.TheVariants.{Untouched}
 use Rattle.shadow.proofs.Cells.{same_page, filled_cell, filled_page, filled_kept, ok_then}
 use Rattle.shadow.proofs.pages.Pages.make.Goals as goal
