@@ -1,6 +1,7 @@
 -- Reading a schedule file from the front of the bytes, as functions: what each gives is a value and the bytes after it.
-use Rattle.std.specs.Prelude.{ℕ, ◌+◌, ◌-◌, ◌==◌, ℤ, pos, negsuc, Bool, ◌&&◌, nat_lt, nat_le, nat_eq, Option, None, Some, List, [], ◌∷◌, length, take, drop, map, codes, if◌then◌else◌}
+use Rattle.std.specs.Prelude.{ℕ, ◌+◌, ◌-◌, ◌==◌, ℤ, pos, negsuc, Bool, not, ◌&&◌, ◌||◌, nat_lt, nat_le, nat_eq, Option, None, Some, List, [], ◌∷◌, length, take, drop, map, codes, if◌then◌else◌}
 use Rattle.std.specs.List.{list_all, slice_split}
+use Rattle.std.specs.Option.{is_some, unwrap_or}
 use Rattle.std.specs.Char.{is_ascii_digit}
 use lib.Pointwise.{pointwise}
 use Rattle.clmodel.specs.declared.access.AccessKind.{AccessKind}
@@ -222,8 +223,7 @@ access_unset_at item bytes = do
 unfoldable pub unset_at : List ℕ → Option (Fault × List ℕ)
 unset_at bytes = do
   item ← before 32 (number32_at bytes)
-  or_else (after (codes "variable ") item.1) (variable_at item.0)
-  (or_else (after (codes "private ") item.1) (private_unset_at item.0) (access_unset_at item.0 item.1))
+  or_else (after (codes "variable ") item.1) (variable_at item.0) (or_else (after (codes "private ") item.1) (private_unset_at item.0) (access_unset_at item.0 item.1))
 
 unfoldable pub divide_by_zero_at : List ℕ → Option (Fault × List ℕ)
 divide_by_zero_at bytes = do
@@ -240,17 +240,27 @@ budget_at bytes = do
   item ← before 32 (number32_at bytes)
   Some (fault.Budget item.0, item.1)
 
--- a fault in front of a space, by its first words
+-- a fault behind its number, by its words
+
+unfoldable pub alone_fault_at : List ℕ → Option (Fault × List ℕ)
+alone_fault_at bytes =
+    or_else (after (codes "6 divide_by_zero item ") bytes) divide_by_zero_at
+    (or_else (after (codes "7 divide_overflow item ") bytes) divide_overflow_at
+    (or_else (after (codes "8 budget item ") bytes) budget_at None))
+
+unfoldable pub memory_fault_at : List ℕ → Option (Fault × List ℕ)
+memory_fault_at bytes =
+    or_else (after (codes "1 race item ") bytes) (conflict_at Race)
+    (or_else (after (codes "2 order item ") bytes) (conflict_at Order)
+    (or_else (after (codes "3 divergence item ") bytes) divergence_at
+    (or_else (after (codes "4 bounds item ") bytes) bounds_at
+    (or_else (after (codes "5 unset item ") bytes) unset_at (alone_fault_at bytes)))))
+
+-- a fault in front of a space
 unfoldable pub fault_at : List ℕ → Option (Fault × List ℕ)
-fault_at bytes =
-    or_else (after (codes "fault 1 race item ") bytes) (conflict_at Race)
-    (or_else (after (codes "fault 2 order item ") bytes) (conflict_at Order)
-    (or_else (after (codes "fault 3 divergence item ") bytes) divergence_at
-    (or_else (after (codes "fault 4 bounds item ") bytes) bounds_at
-    (or_else (after (codes "fault 5 unset item ") bytes) unset_at
-    (or_else (after (codes "fault 6 divide_by_zero item ") bytes) divide_by_zero_at
-    (or_else (after (codes "fault 7 divide_overflow item ") bytes) divide_overflow_at
-    (or_else (after (codes "fault 8 budget item ") bytes) budget_at None)))))))
+fault_at bytes = do
+  rest ← after (codes "fault ") bytes
+  memory_fault_at rest
 
 -- the schedule
 
@@ -275,10 +285,42 @@ run_of word = do
   read ← run_at word
   if length read.1 == 0 then Some read.0 else None
 
-abbrev pub is_some : {A : Type 0} → Option A → Bool
-is_some None = Rattle.std.specs.Prelude.false
-is_some (Some x) = Rattle.std.specs.Prelude.true
-
 -- the words of a text, one space between each two
 abbrev pub words_of : List ℕ → List (List ℕ)
 words_of text = slice_split (λ b. b == 32) text
+
+abbrev pub is_run : List ℕ → Bool
+is_run word = is_some (run_of word)
+
+-- the run that a word is, and a release where it is none
+abbrev pub run_named : List ℕ → Run
+run_named word = unwrap_or (run_of word) (run.Release 0)
+
+-- a schedule's text behind its word: a - where there are no runs
+abbrev pub is_schedule : List ℕ → Bool
+is_schedule text = same text (codes "-") || list_all is_run (words_of text)
+
+abbrev pub schedule_of : List ℕ → List Run
+schedule_of text = if same text (codes "-") then [] else map run_named (words_of text)
+
+abbrev pub is_inner : ℕ → Bool
+is_inner b = not (b == 10)
+
+-- a line with nothing after it, its line feed left out
+unfoldable pub line_of : List ℕ → Option (List ℕ)
+line_of bytes = let n = front_length is_inner bytes in if same (drop n bytes) (10 ∷ []) then Some (take n bytes) else None
+
+unfoldable pub schedule_at : List ℕ → Option (List ℕ)
+schedule_at bytes = do
+  rest ← after (codes "schedule ") bytes
+  text ← line_of rest
+  if is_schedule text then Some text else None
+
+-- a file: its ticket, its fault and its schedule's text
+unfoldable pub file_of : List ℕ → Option (ℕ × Fault × List ℕ)
+file_of bytes = do
+  rest ← after (codes "ticket ") bytes
+  ticket ← before 10 (number_at rest)
+  fault ← fault_at ticket.1
+  text ← schedule_at fault.1
+  Some (ticket.0, fault.0, text)
