@@ -1,9 +1,9 @@
 -- Fields of a line: what is read is the text of the field, and that text is read.
-use Rattle.std.proofs.Common.{◌≡◌, ℕ, zero, suc, ◌+◌, ◌-◌, ◌*◌, ℤ, pos, negsuc, map, length-take-le, ◌<◌, ◌≤◌, ◌^◌, ◌==◌, Bool, true, false, not, ◌&&◌, ◌||◌, List, [], ◌∷◌, ◌++◌, length, take, drop, get_or, slice_index, Option, None, Some, refl, ap, sym, ◌∙◌, subst, arith, rules, nat_lt, nat_le, nat_eq, if◌then◌else◌, decimal, IsTrue, append_assoc, length-append}
+use Rattle.std.proofs.Common.{◌≡◌, ℕ, zero, suc, ◌+◌, ◌-◌, ℤ, pos, negsuc, map, ◌<◌, ◌≤◌, ◌^◌, ◌==◌, Bool, true, false, not, ◌&&◌, ◌||◌, List, [], ◌∷◌, ◌++◌, length, take, drop, get_or, slice_index, Option, None, Some, refl, ap, sym, ◌∙◌, subst, arith, rules, nat_lt, nat_le, nat_eq, if◌then◌else◌, decimal, IsTrue}
 use Rattle.std.proofs.lemmas.List.{take-append-drop}
 use Rattle.std.proofs.Math.Seq.{take-append_seam, drop-append_seam}
 use Rattle.std.proofs.lemmas.Bool.Decides.{nat_tests}
-use Rattle.std.proofs.lemmas.Bool.{eqb-true, eqb-false, ne_eqb}
+use Rattle.std.proofs.lemmas.Bool.{ne_eqb}
 use Rattle.std.proofs.lemmas.Str.Parse.{IsNumeralModel, numerals_by_fold}
 use Rattle.std.proofs.lemmas.Fmt.{digits_decimal, digits_value-decimal, decimal-digits_value, decimal_nonempty, first_decimal, decimal_digit}
 use Rattle.std.specs.List.{list_all, onto_first, join_with_byte, All}
@@ -14,7 +14,6 @@ use Rattle.std.proofs.lemmas.List.Sums.{AllPass-from_list_all}
 use Rattle.std.specs.Str.{all_ascii_digits}
 use Rattle.std.specs.Char.{is_ascii_digit}
 use lib.Pointwise.{pointwise, bytes_decides}
-use Rattle.replay_text.proofs.FieldLemmas.{front_within}
 use Rattle.replay_text.specs.Fields.{is_name, is_first, is_later, is_number, value_of, value_behind, is_listed, is_turn, turn_of, are_turns, between_commas, turns_of, IsElement}
 use Rattle.replay_text.specs.Reading.{after, name_at, number_at, number32_at, list_at, negative_at, positive_at, signed_at, front_length, before, or_else, ◌>>=◌}
 

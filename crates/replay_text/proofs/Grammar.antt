@@ -1,8 +1,8 @@
 -- Faults: what is read of a line is the text of a fault, and that text is read.
-use Rattle.std.proofs.Common.{◌≡◌, ℕ, ℤ, ◌<◌, ◌^◌, Bool, true, false, nat_lt, nat_eq, if◌then◌else◌, List, [], ◌∷◌, ◌++◌, map, length, Option, None, Some, refl, ap, sym, ◌∙◌, subst, arith, decimal, codes, IsTrue, append_assoc}
+use Rattle.std.proofs.Common.{◌≡◌, ℕ, ℤ, ◌<◌, ◌^◌, Bool, true, false, nat_lt, if◌then◌else◌, List, [], ◌∷◌, ◌++◌, length, Option, None, Some, refl, ap, sym, ◌∙◌, subst, arith, decimal, codes, IsTrue, append_assoc}
 use Rattle.std.specs.Fmt.{signed_decimal}
-use Rattle.std.specs.List.{list_all, flat_map, join_with_byte}
-use lib.Pointwise.{pointwise, bytes_decides}
+use Rattle.std.specs.List.{list_all, flat_map}
+use lib.Pointwise.{bytes_decides}
 use Rattle.clmodel.specs.declared.access.AccessKind.{AccessKind}
 use Rattle.clmodel.specs.declared.access.AccessKind.TheVariants as kind
 use Rattle.clmodel.specs.declared.access.Class.TheVariants as class
@@ -18,8 +18,8 @@ use Rattle.replay_text.specs.Pieces.{joined}
 use Rattle.replay_text.specs.Text.{kind_text, clash_text, location_text, later_turn_text, turns_text, stop_text, fault_text}
 use Rattle.replay_text.specs.Fields.{is_name, turns_of, IsElement}
 use Rattle.replay_text.specs.ScheduleFile.{IsPlace, IsLocalPlace, IsStop, IsWritten}
-use Rattle.replay_text.specs.Reading.{after, name_at, number_at, number32_at, signed_at, list_at, before, same, kind_of, kind_at, buffer_at, local_at, local_place_at, place_at, listed_at, turns_at, barrier_at, barrier_stop_at, stop_at, conflict_at, divergence_at, element_at, private_at, private_bounds_at, access_bounds_at, bounds_at, variable_at, private_unset_at, access_unset_at, unset_at, divide_by_zero_at, divide_overflow_at, budget_at, alone_fault_at, memory_fault_at, fault_at, or_else, ◌>>=◌}
-use Rattle.replay_text.proofs.FieldLaws.{bind_some, after_takes, after_again, name_before, name_before_again, number_before, number_before_again, number32_before, number32_before_again, signed_before, signed_before_again, list_before, list_before_again, list_back, list_text, IsList}
+use Rattle.replay_text.specs.Reading.{after, name_at, number_at, number32_at, list_at, before, same, kind_of, kind_at, buffer_at, local_at, local_place_at, place_at, listed_at, turns_at, barrier_at, barrier_stop_at, stop_at, conflict_at, divergence_at, element_at, private_at, private_bounds_at, access_bounds_at, bounds_at, variable_at, private_unset_at, access_unset_at, unset_at, divide_by_zero_at, divide_overflow_at, budget_at, alone_fault_at, memory_fault_at, fault_at, or_else}
+use Rattle.replay_text.proofs.FieldLaws.{bind_some, after_takes, after_again, name_before, name_before_again, number_before, number32_before, number32_before_again, signed_before, list_before, list_before_again, list_back, list_text, IsList}
 
 -- texts one after another, and then the rest
 abbrev pub joined_onto : List (List ℕ) → List ℕ → List ℕ
@@ -65,7 +65,7 @@ kind_takes bytes x e =
     let P : AccessKind × List ℕ → Type 0 = λ y. bytes ≡ kind_text y.0 ++ 32 ∷ y.1 in
     subst P one (t1.0 ∙ ap (λ l. l ++ 32 ∷ s1.0.1) w)
 
-kind_again : (k : AccessKind) (rest : List ℕ) → kind_at (kind_text k ++ 32 ∷ rest) ≡ Some (k, rest)
+pub kind_again : (k : AccessKind) (rest : List ℕ) → kind_at (kind_text k ++ 32 ∷ rest) ≡ Some (k, rest)
 unfolding kind_at
 kind_again k rest = let b = kind_back k in rw (name_before_again (kind_text k) b.1 rest, b.0) refl
 
@@ -118,13 +118,13 @@ place_takes : (bytes : List ℕ) (x : Location × List ℕ) → place_at bytes �
 unfolding place_at
 place_takes bytes x e = place_by bytes x (after (codes "buffer ") bytes) refl e
 
-local_place_again : (place : Location) → IsLocalPlace place → (rest : List ℕ) → local_place_at (location_text place ++ 32 ∷ rest) ≡ Some (place, rest)
+pub local_place_again : (place : Location) → IsLocalPlace place → (rest : List ℕ) → local_place_at (location_text place ++ 32 ∷ rest) ≡ Some (place, rest)
 local_place_again (location.Buffer name) h rest = absurd h
 local_place_again (location.Local group name) h rest =
     let split = joined-append (codes "local " ∷ decimal group ∷ codes " " ∷ name ∷ []) (32 ∷ rest) in
     rw split (unfold local_place_at in unfold local_at in rw (after_again (codes "local ") (decimal group ++ 32 ∷ (name ++ 32 ∷ rest)), number32_before_again 32 group h.0 (name ++ 32 ∷ rest) refl, name_before_again name h.1 rest) refl)
 
-place_again : (place : Location) → IsPlace place → (rest : List ℕ) → place_at (location_text place ++ 32 ∷ rest) ≡ Some (place, rest)
+pub place_again : (place : Location) → IsPlace place → (rest : List ℕ) → place_at (location_text place ++ 32 ∷ rest) ≡ Some (place, rest)
 place_again (location.Buffer name) h rest =
     let split = joined-append (codes "buffer " ∷ name ∷ []) (32 ∷ rest) in
     rw split (unfold place_at in unfold buffer_at in rw (after_again (codes "buffer ") (name ++ 32 ∷ rest), name_before_again name h rest) refl)
@@ -134,7 +134,7 @@ place_again (location.Local group name) h rest =
 
 -- a stop
 
-append_none : (xs : List ℕ) → xs ++ [] ≡ xs
+pub append_none : (xs : List ℕ) → xs ++ [] ≡ xs
 append_none [] = refl
 append_none (x ∷ xs) = ap (λ l. x ∷ l) (append_none xs)
 
@@ -240,7 +240,7 @@ stop_barrier : (bytes : List ℕ) (x : Stop × List ℕ) → barrier_stop_at (co
 unfolding stop_at after
 stop_barrier bytes x e = e
 
-stop_again : (s : Stop) → IsStop s → (rest : List ℕ) → after (codes "turns ") rest ≡ None → stop_at (stop_text s ++ 32 ∷ rest) ≡ Some (s, rest)
+pub stop_again : (s : Stop) → IsStop s → (rest : List ℕ) → after (codes "turns ") rest ≡ None → stop_at (stop_text s ++ 32 ∷ rest) ≡ Some (s, rest)
 stop_again stop.Ended h rest none = unfold stop_at in rw (after_again (codes "end ") rest) refl
 stop_again (stop.At instance) h rest none =
     let split = barrier_text instance.site instance.turns rest in
