@@ -6,12 +6,12 @@ use Rattle.clmodel.specs.declared.fault.Fault.{Fault}
 use Rattle.clmodel.specs.declared.fault.Fault.TheVariants as fault
 use Rattle.clmodel.specs.declared.fault.Location.{Location}
 use Rattle.clmodel.specs.declared.fault.Location.TheVariants as location
-use Rattle.replay_text.specs.declared.forms.Place.{Place}
-use Rattle.replay_text.specs.declared.forms.Place.TheVariants as place
-use Rattle.replay_text.specs.declared.forms.Halt.{Halt}
-use Rattle.replay_text.specs.declared.forms.Halt.TheVariants as halt
-use Rattle.replay_text.specs.declared.forms.Told.{Told}
-use Rattle.replay_text.specs.declared.forms.Told.TheVariants as told
+use Rattle.replay_text.specs.declared.told.Place.{Place}
+use Rattle.replay_text.specs.declared.told.Place.TheVariants as place
+use Rattle.replay_text.specs.declared.told.Halt.{Halt}
+use Rattle.replay_text.specs.declared.told.Halt.TheVariants as halt
+use Rattle.replay_text.specs.declared.told.Told.{Told}
+use Rattle.replay_text.specs.declared.told.Told.TheVariants as told
 use Rattle.replay_text.specs.Fields.{turns_of}
 
 abbrev pub location_of : Place → Location

@@ -6,6 +6,7 @@ mod forms;
 pub mod pieces;
 mod reading;
 mod runs;
+mod told;
 pub mod writing;
 
 pub use reading::{ReadFault, read};

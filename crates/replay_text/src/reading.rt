@@ -12,8 +12,9 @@ ghost use Rattle.replay_text.specs.ScheduleFile.{IsScheduleFile};
 ghost use Rattle.replay_text.specs.Faults.{IsRefused};
 
 use crate::fields::{after, number_before, turn_of};
-use crate::forms::{Halt, Place, Told, fault_at};
+use crate::forms::fault_at;
 use crate::runs::{schedule_at, schedule_of};
+use crate::told::{Halt, Place, Told};
 use clmodel::action::{Instance, Stop, Turns};
 use clmodel::fault::{Fault, Location};
 use clmodel::schedule::Schedule;
