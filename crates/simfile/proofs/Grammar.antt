@@ -6,7 +6,7 @@ use Rattle.clmodel.specs.declared.setup.Argument.TheVariants as argument
 use Rattle.clmodel.specs.declared.setup.Range.{Range}
 use Rattle.device_store.specs.declared.command.Command.{Command}
 use Rattle.device_store.specs.declared.command.Command.TheVariants as command
-use Rattle.replay.specs.Pieces.{joined}
+use Rattle.replay_text.specs.Pieces.{joined}
 use Rattle.simfile.specs.Fields.{is_name, is_listed, IsList, list_text, numbers_of, AreBytes, hex, bytes_of}
 use Rattle.simfile.specs.Reading.{after, name_at, number_at, list_at, hex_at, before, value_at, source_at, buffer_at, write_at, fill_at, copy_at, read_at, release_at, buffer_argument_at, value_argument_at, local_argument_at, argument_at, listed_offset_at, offset_at, offsets_of, range_of, program_at, kernel_at, arg_at, launch_at, command_at, or_else, ◌>>=◌}
 use Rattle.simfile.specs.Script.{IsText, IsSetting, IsOffset, AreLines, space, line_feed}

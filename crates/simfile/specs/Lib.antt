@@ -5,5 +5,5 @@ pub mod Reading
 pub mod Views
 pub mod Laws
 pub mod Faults
-pub use Rattle.replay.specs.Pieces
-pub use Rattle.replay.specs.Text
+pub use Rattle.replay_text.specs.Pieces
+pub use Rattle.replay_text.specs.Text

@@ -11,8 +11,8 @@ use Rattle.device_store.specs.declared.command.Refusal.{Refusal}
 use Rattle.device_store.specs.declared.command.Refusal.TheVariants as refusal
 use Rattle.device_store.specs.declared.command.Reply.{Reply}
 use Rattle.device_store.specs.declared.command.Reply.TheVariants as reply
-use Rattle.replay.specs.Pieces.{joined}
-use Rattle.replay.specs.Text.{fault_line}
+use Rattle.replay_text.specs.Pieces.{joined}
+use Rattle.replay_text.specs.Text.{fault_line}
 use Rattle.simfile.specs.Fields.{hex}
 
 abbrev pub syntax_words : SyntaxFault → List ℕ

@@ -5,7 +5,7 @@ use Rattle.clmodel.specs.declared.setup.Argument.{Argument}
 use Rattle.clmodel.specs.declared.setup.Argument.TheVariants as argument
 use Rattle.device_store.specs.declared.command.Command.{Command}
 use Rattle.device_store.specs.declared.command.Command.TheVariants as command
-use Rattle.replay.specs.Pieces.{joined}
+use Rattle.replay_text.specs.Pieces.{joined}
 use Rattle.simfile.specs.Fields.{is_name, IsList, list_text, AreBytes, hex, IsValue}
 
 abbrev pub line_feeds : List ℕ → ℕ

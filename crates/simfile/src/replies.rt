@@ -3,7 +3,7 @@
 
 ghost use Rattle.std.specs.Prelude.{◌≡◌, [], ◌∷◌, codes};
 ghost use Rattle.ends.specs.Sink.{Puts};
-ghost use Rattle.replay.specs.Pieces.{joined};
+ghost use Rattle.replay_text.specs.Pieces.{joined};
 ghost use Rattle.simfile.specs.Fields.{hex};
 ghost use Rattle.simfile.specs.Lines.{syntax_words, syntax_place, type_words, type_place, build_words, build_place, refusal_word, fault_of, refused_line, line, check_line};
 
@@ -12,7 +12,7 @@ use clmodel::type_fault::TypeFault;
 use clsyntax_lex::token::SyntaxFault;
 use device_store::command::{BuildFault, Refusal, Reply};
 use ends::{Write, WriteFailed};
-use replay::pieces::{Piece, write_pieces};
+use replay_text::pieces::{Piece, write_pieces};
 
 fn syntax_words(fault: SyntaxFault) -> &'static str
     ensures { result.now ≡ syntax_words fault }
@@ -188,7 +188,7 @@ pub fn write_reply<W: Write>(reply: &Reply, writer: &mut W) -> Result<(), WriteF
         Reply::Done => writer.write(b"ok\n"),
         Reply::Data(bytes) => write_data(bytes.as_slice(), writer),
         Reply::Clean => writer.write(b"clean\n"),
-        Reply::Fault { fault, schedule } => replay::write(fault, schedule, writer),
+        Reply::Fault { fault, schedule } => replay_text::write(fault, schedule, writer),
         Reply::Refused(refusal) => write_refused(
             refusal_word(*refusal),
             fault_of(*refusal),

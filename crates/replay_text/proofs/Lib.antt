@@ -1,0 +1,5 @@
+pub mod FieldLemmas
+pub mod FieldLaws
+pub mod Grammar
+pub mod Again
+pub mod Files

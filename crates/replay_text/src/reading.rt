@@ -1,0 +1,231 @@
+//! A schedule file, read.
+#![tactic(auto)]
+
+ghost use Rattle.std.specs.Prelude.{◌≡◌, map, IfOk, IfErr, List, ℕ};
+ghost use Rattle.std.specs.Option.{option_map};
+ghost use Rattle.clmodel.specs.declared.fault.Fault.{Fault};
+ghost use Rattle.clmodel.specs.declared.schedule.Run.{Run};
+ghost use Rattle.replay_text.specs.Fields.{between_commas, turn_of, turns_of};
+ghost use Rattle.replay_text.specs.Reading.{file_of, schedule_of};
+ghost use Rattle.replay_text.specs.Views.{location_of, stop_of, fault_of};
+ghost use Rattle.replay_text.specs.ScheduleFile.{IsScheduleFile};
+ghost use Rattle.replay_text.specs.Faults.{IsRefused};
+
+use crate::fields::{after, number_before, turn_of};
+use crate::forms::fault_at;
+use crate::runs::{schedule_at, schedule_of};
+use crate::told::{Halt, Place, Told};
+use clmodel::action::{Instance, Stop, Turns};
+use clmodel::fault::{Fault, Location};
+use clmodel::schedule::Schedule;
+use clmodel::text::Name;
+use std::alloc::{AllocError, Global};
+
+/// Why a text is no schedule file, or was not read.
+#[derive(Clone, Copy, Debug, PartialEq, Eq)]
+pub enum ReadFault {
+    BadText,
+    OutOfMemory,
+}
+
+fn location_of(alloc: Global, place: Place<'_>) -> Result<Location, AllocError>
+    ensures { IfOk result (λ location. location ≡ location_of place.entry) }
+{
+    match place {
+        Place::Buffer(name) => Ok(Location::Buffer(Name::copy_of(alloc, name)?)),
+        Place::Local { group, name } => {
+            let name = Name::copy_of(alloc, name)?;
+            Ok(Location::Local { group, name })
+        }
+    }
+}
+
+/// The numbers of a list of turns.
+fn numbers_of(alloc: Global, text: &[u8]) -> Result<Vec<u32>, AllocError>
+    ensures { IfOk result (λ numbers. numbers.items ≡ map turn_of (between_commas text.now)) }
+{
+    let parts = text.split(|byte| *byte == b',');
+    let numbers = parts.map(|digits| turn_of(digits).unwrap_or(0));
+    numbers.collect(alloc)
+}
+
+/// The turns of a list.
+fn listed_turns(alloc: Global, text: &[u8]) -> Result<Turns, AllocError>
+    ensures { IfOk result (λ turns. turns ≡ map turn_of (between_commas text.now)) }
+{
+    let numbers = numbers_of(alloc, text)?;
+    Turns::copy_of(alloc, numbers.as_slice())
+}
+
+fn turns_of(alloc: Global, turns: Option<&[u8]>) -> Result<Turns, AllocError>
+    ensures { IfOk result (λ made. made ≡ turns_of (option_map (λ list. list.now) turns.entry)) }
+{
+    match turns {
+        None => Ok(Turns::new(alloc)),
+        Some(text) => listed_turns(alloc, text),
+    }
+}
+
+fn stop_of(alloc: Global, halt: Halt<'_>) -> Result<Stop, AllocError>
+    ensures { IfOk result (λ stop. stop ≡ stop_of halt.entry) }
+{
+    match halt {
+        Halt::End => Ok(Stop::Ended),
+        Halt::Barrier { site, turns } => {
+            let turns = turns_of(alloc, turns)?;
+            Ok(Stop::At(Instance { site, turns }))
+        }
+    }
+}
+
+/// A fault with copies of the names.
+fn fault_of(alloc: Global, told: Told<'_>) -> Result<Fault, AllocError>
+    ensures { IfOk result (λ fault. fault ≡ fault_of told.entry) }
+{
+    match told {
+        Told::Conflict {
+            clash,
+            item,
+            kind,
+            other_item,
+            other_kind,
+            place,
+            byte,
+        } => {
+            let location = location_of(alloc, place)?;
+            Ok(Fault::Conflict {
+                clash,
+                item,
+                kind,
+                other_item,
+                other_kind,
+                location,
+                byte,
+            })
+        }
+        Told::Divergence {
+            item,
+            stop,
+            other_item,
+            other_stop,
+        } => {
+            let stop = stop_of(alloc, stop)?;
+            let other_stop = stop_of(alloc, other_stop)?;
+            Ok(Fault::Divergence {
+                item,
+                stop,
+                other_item,
+                other_stop,
+            })
+        }
+        Told::Bounds {
+            item,
+            kind,
+            place,
+            element,
+        } => {
+            let location = location_of(alloc, place)?;
+            Ok(Fault::Bounds {
+                item,
+                kind,
+                location,
+                element,
+            })
+        }
+        Told::Unset {
+            item,
+            kind,
+            place,
+            byte,
+        } => {
+            let location = location_of(alloc, place)?;
+            Ok(Fault::Unset {
+                item,
+                kind,
+                location,
+                byte,
+            })
+        }
+        Told::PrivateBounds {
+            item,
+            array,
+            element,
+        } => {
+            let array = Name::copy_of(alloc, array)?;
+            Ok(Fault::PrivateBounds {
+                item,
+                array,
+                element,
+            })
+        }
+        Told::UnsetVariable { item, variable } => {
+            let variable = Name::copy_of(alloc, variable)?;
+            Ok(Fault::UnsetVariable { item, variable })
+        }
+        Told::UnsetElement {
+            item,
+            array,
+            element,
+        } => {
+            let array = Name::copy_of(alloc, array)?;
+            Ok(Fault::UnsetElement {
+                item,
+                array,
+                element,
+            })
+        }
+        Told::DivideByZero { item } => Ok(Fault::DivideByZero { item }),
+        Told::DivideOverflow { item } => Ok(Fault::DivideOverflow { item }),
+        Told::Budget { item } => Ok(Fault::Budget { item }),
+    }
+}
+
+/// What a schedule file tells, with names and a schedule that are lent.
+#[derive(Clone, Copy)]
+struct File<'a> {
+    ticket: u64,
+    fault: Told<'a>,
+    schedule: &'a [u8],
+}
+
+#[tactic(auto, unfolding(crate::specs::Reading::file_of))]
+fn file_of(bytes: &[u8]) -> Option<File<'_>>
+    ensures { option_map (λ file. (file.ticket, fault_of file.fault, file.schedule.now)) result ≡ file_of bytes.now }
+{
+    let rest = after(b"ticket ", bytes)?;
+    let (ticket, rest) = number_before(b'\n', rest)?;
+    let (fault, rest) = fault_at(rest)?;
+    let schedule = schedule_at(rest)?;
+    Some(File {
+        ticket,
+        fault,
+        schedule,
+    })
+}
+
+/// The fault and the schedule of a file.
+fn parts_of(alloc: Global, file: File<'_>) -> Result<(Fault, Schedule), AllocError>
+    ensures { IfOk result (λ parts. (parts.0 ≡ fault_of file.entry.fault) × (parts.1 ≡ schedule_of file.entry.schedule.now)) }
+{
+    let fault = fault_of(alloc, file.fault)?;
+    let schedule = schedule_of(alloc, file.schedule)?;
+    Ok((fault, schedule))
+}
+
+/// Reads a schedule file: a line `ticket T`, which tells the number of a launch among a script's commands, and a line with a fault
+/// and its schedule, as `write` writes it, but that runs may be split. Names are of any length up to a source's. Every other text is
+/// `BadText`.
+pub fn read(alloc: Global, bytes: &[u8]) -> Result<(u64, Fault, Schedule), ReadFault>
+    ensures found { IfOk result (λ file. IsScheduleFile bytes.now file.0 file.1 file.2) }
+    ensures only { (ticket : ℕ) (fault : Fault) (runs : List Run) → IsScheduleFile bytes.now ticket fault runs →
+        IfOk result (λ file. (file.0 ≡ ticket) × (file.1 ≡ fault) × (file.2 ≡ runs)) }
+    ensures bad { IfErr result (IsRefused bytes.now) }
+{
+    let Some(file) = file_of(bytes) else {
+        return Err(ReadFault::BadText);
+    };
+    match parts_of(alloc, file) {
+        Ok((fault, schedule)) => Ok((file.ticket, fault, schedule)),
+        Err(AllocError) => Err(ReadFault::OutOfMemory),
+    }
+}
