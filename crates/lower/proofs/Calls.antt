@@ -1,9 +1,9 @@
 -- The code of a call acts as the helper does, and the code of a kernel as the kernel.
 use Rattle.std.proofs.Common.{◌≡◌, ℕ, suc, ◌+◌, ◌<◌, ◌≤◌, ◌≢◌, ◌==◌, Bool, true, false, Option, None, Some, List, [], ◌∷◌, ◌++◌, length, take, refl, sym, ap, ◌∙◌, subst, arith, length-append, append_assoc}
 use Rattle.std.proofs.Math.Seq.{get_or-append_seam}
-use Rattle.std.proofs.lemmas.Option.{slice_get-get_or}
+use Rattle.std.proofs.lemmas.Option.{slice_get-get_or, none-some}
 use Rattle.clnum.specs.declared.int_type.IntType.{IntType}
-use Rattle.clmodel.specs.Next.{Run, finish, Variables, Helpers, Follows, held, content, bound, returned_as, as_call, at_the_end, sites_in, exec_all, helper}
+use Rattle.clmodel.specs.Next.{Run, finish, Variables, Helpers, Follows, held, content, bound, returned_by, as_body, at_the_end, sites_in, exec_all, helper}
 use Rattle.clmodel.specs.Next as next
 use Rattle.clmodel.specs.Tree.{Func, Funcs, NoFunc, ThenFunc}
 use Rattle.clmodel.specs.declared.operand.Operand.{Operand}
@@ -20,7 +20,7 @@ use Rattle.lower_expr.specs.Agreement.{HasAt, Hold}
 use Rattle.lower_expr.proofs.Places.{has_left, has_right}
 use Rattle.lower_code.specs.Code.{Exits, variable, with_variable, Calls, no_value_code, stmts_code, parameter_variables, pass_code, result_in, body_code, call_code, arguments_code, kernel_code}
 use Rattle.lower.proofs.Scopes.{same_self, kind_small}
-use Rattle.lower.proofs.Stands.{Stands, Returned, put_stands, stands_to, stands_here, here_at}
+use Rattle.lower.proofs.Stands.{Stands, Returned, returned_as, put_stands, stands_to, stands_here, here_at}
 use Rattle.lower.proofs.Parts.{Placed}
 use Rattle.lower.proofs.Rights.{CallsRun}
 use Rattle.lower.proofs.StatementRuns.{declared_seen, no_value_runs, stmts_run}
@@ -98,38 +98,45 @@ module _ (given : Given) (code : List Instruction) (limit : ℕ) where
       (declared_at (record { base = 0; variables = variables }) level p.name p.kind now.registers vs value (omega (arith, e)) same)) has.1
       (λ final at_end sees. go final (stands_to 0 s [] _ final _ (omega arith) at_end) sees))
 
-returned_none : (result : Option IntType) → returned_as result None ≡ None
-returned_none None = refl
-returned_none (Some kind) = refl
+-- a function that gives a value and returns none ends the item
+lost_by : (result : Option IntType) (after : Option Operand → Run) (kind : IntType) → result ≡ Some kind → returned_by result after None ≡ finish
+lost_by None after kind e = absurd (none-some kind e)
+lost_by (Some other) after kind e = refl
+
+-- what follows a call goes on with what was returned
+return_runs : (given : Given) (code : List Instruction) (bound level : ℕ) (now : State) (result : Option IntType) (after : Option Operand → Run) (v : Option Operand)
+    → Returned result level now.registers (returned_as result v) → ((w : Option Operand) → Returned result level now.registers w → Agree given code bound now (after w))
+    → Agree given code bound now (returned_by result after v)
+return_runs given code bound level now None after v is go = go None refl
+return_runs given code bound level now (Some kind) after None is go = absurd (none-some is.0 is.1)
+return_runs given code bound level now (Some kind) after (Some v) is go = go _ is
 
 -- a function's body, whose ends all lead to the end of its code
 module _ (given : Given) (code : List Instruction) (most : ℕ) (calls : Calls) (results : ℕ → Option IntType) (helpers : Helpers) (run_calls : CallsRun given code most calls results helpers) (inside : ℕ → ℕ) where
-  pub body_runs : (f : Func) (limit : ℕ) → limit ≤ most → (level : ℕ) (s : State) (ts : List ℕ) (site at : ℕ) (now : State) (vs : Variables) (k : Follows)
+  pub body_runs : (f : Func) (limit : ℕ) → limit ≤ most → (level : ℕ) (s : State) (ts : List ℕ) (site at : ℕ) (now : State) (vs : Variables) (returned : Option Operand → Run)
       → Stands level s ts at now → Sees (record { base = level; variables = parameter_variables f.parameters [] }) now.registers vs → HasAt code at (body_code calls results inside f level (length ts) site)
-      → ((last : State) (vs : Variables) → Stands level s ts (at + length (body_code calls results inside f level (length ts) site)) last → Returned f.result level last.registers None → Agree given code limit last (k.next vs))
-      → ((last : State) (vs : Variables) → Stands level s ts (at + length (body_code calls results inside f level (length ts) site)) last → Returned f.result level last.registers None → Agree given code limit last (k.broken vs))
-      → ((last : State) (vs : Variables) → Stands level s ts (at + length (body_code calls results inside f level (length ts) site)) last → Returned f.result level last.registers None → Agree given code limit last (k.continued vs))
-      → ((last : State) (v : Option Operand) → Stands level s ts (at + length (body_code calls results inside f level (length ts) site)) last → Returned f.result level last.registers (returned_as f.result v) → Agree given code limit last (k.returned v))
-      → Agree given code limit now (exec_all most given.here helpers inside f.body site ts k vs)
-  body_runs f limit below level s ts site at now vs k stands same has next broken continued returned =
+      → ((kind : IntType) → f.result ≡ Some kind → returned None ≡ finish)
+      → ((last : State) (v : Option Operand) → Stands level s ts (at + length (body_code calls results inside f level (length ts) site)) last → Returned f.result level last.registers (returned_as f.result v) → Agree given code limit last (returned v))
+      → Agree given code limit now (exec_all most given.here helpers inside f.body site ts (as_body returned) vs)
+  body_runs f limit below level s ts site at now vs returned stands same has lost go =
       let scope : Scope = record { base = level; variables = parameter_variables f.parameters [] } in
       let end = no_value_code f.result level in
       let exits : Exits = record { broken = 0; continued = 0; returned = length end } in
       let first = stmts_code calls results inside f.result scope f.body (length ts) site exits in
       let lengths = length-append first end in
       let there = has_right code first end at (at + length first) refl has in
-      let finally : (last : State) (run : Run) → Stands level s ts (at + length first) last
-      → ((final : State) → Stands level s ts (at + length (first ++ end)) final → Returned f.result level final.registers None → Agree given code limit final run) → Agree given code limit last run =
-      λ last run stands' go. no_value_runs given code limit f.result s level ts (at + length first) last run stands' there
-      (λ final at_end is. go final (stands_to level s ts _ final _ (omega (arith, lengths)) at_end) (subst (Returned f.result level final.registers) (returned_none f.result) is)) in
+      let finally : (last : State) → Stands level s ts (at + length first) last → Agree given code limit last (returned None) =
+      λ last stands'. no_value_runs given code limit f.result s level ts (at + length first) last (returned None) stands' there lost
+      (λ final at_end is. go final None (stands_to level s ts _ final _ (omega (arith, lengths)) at_end) is) in
       stmts_run given code most calls results helpers run_calls inside f.result f.body limit below scope s ts site exits
-      (record { next = at + length first; broken = at + length first; continued = at + length first; returned = at + length first + length end }) k at now vs stands same
+      (record { next = at + length first; broken = at + length first; continued = at + length first; returned = at + length first + length end }) (as_body returned) at now vs stands same
       (has_left code first end at has, refl) (record { broken = omega arith; continued = omega arith; returned = refl })
       (record {
-        next = λ last vs stands' sees. finally last (k.next vs) stands' (λ final. next final vs);
-        broken = λ last vs stands' sees. finally last (k.broken vs) stands' (λ final. broken final vs);
-        continued = λ last vs stands' sees. finally last (k.continued vs) stands' (λ final. continued final vs);
-        returned = λ last v stands' is. returned last v (stands_to level s ts _ last _ (omega (arith, lengths)) stands') is;
+        next = λ last vs stands' sees. finally last stands';
+        broken = λ last vs stands' sees. finally last stands';
+        continued = λ last vs stands' sees. finally last stands';
+        returned = λ last v stands' is. go last v (stands_to level s ts _ last _ (omega (arith, lengths)) stands') is;
+        lost = lost;
       })
 
 -- a call of the latest function: its body stands in the place of the call
@@ -139,7 +146,7 @@ module _ (given : Given) (code : List Instruction) (most : ℕ) (earlier : Funcs
       → HasAt code now.place (pass_code f.parameters numbers level ++ body_code (call_code earlier) (result_in earlier) (sites_in earlier) f level (length ts) site)
       → Hold now.registers numbers values → Placed level numbers
       → ((last : State) (v : Option Operand) → Stands level now ts (now.place + length (pass_code f.parameters numbers level ++ body_code (call_code earlier) (result_in earlier) (sites_in earlier) f level (length ts) site)) last → Returned f.result level last.registers v → Agree given code limit last (after v))
-      → Agree given code limit now (exec_all most given.here (helper most given.here earlier) (sites_in earlier) f.body site ts (as_call f.result after) (next.passed f.parameters values []))
+      → Agree given code limit now (exec_all most given.here (helper most given.here earlier) (sites_in earlier) f.body site ts (as_body (returned_by f.result after)) (next.passed f.parameters values []))
   latest_runs limit below numbers values level site ts now after turns has held placed go =
       let first = pass_code f.parameters numbers level in
       let second = body_code (call_code earlier) (result_in earlier) (sites_in earlier) f level (length ts) site in
@@ -147,12 +154,10 @@ module _ (given : Given) (code : List Instruction) (most : ℕ) (earlier : Funcs
       pass_runs given code limit f.parameters numbers values level level [] [] now ts now.place now _ (omega arith) (stands_here level now ts turns) (record { same = refl; arrays = refl }) held placed (has_left code first second now.place has)
       (λ middle stands sees.
       let to_end : (now.place + length first) + length second ≡ now.place + length (first ++ second) = omega (arith, lengths) in
-      body_runs given code most (call_code earlier) (result_in earlier) (helper most given.here earlier) run_calls (sites_in earlier) f limit below level now ts site (now.place + length first) middle (next.passed f.parameters values []) (as_call f.result after)
+      body_runs given code most (call_code earlier) (result_in earlier) (helper most given.here earlier) run_calls (sites_in earlier) f limit below level now ts site (now.place + length first) middle (next.passed f.parameters values []) (returned_by f.result after)
       stands sees (has_right code first second now.place (now.place + length first) refl has)
-      (λ last vs at_end is. go last None (stands_to level now ts _ last _ to_end at_end) is)
-      (λ last vs at_end is. go last None (stands_to level now ts _ last _ to_end at_end) is)
-      (λ last vs at_end is. go last None (stands_to level now ts _ last _ to_end at_end) is)
-      (λ last v at_end is. go last (returned_as f.result v) (stands_to level now ts _ last _ to_end at_end) is))
+      (lost_by f.result after)
+      (λ last v at_end is. return_runs given code limit level last f.result after v is (λ w is. go last w (stands_to level now ts _ last _ to_end at_end) is)))
 
 -- the calls of all functions
 pub calls_run : (given : Given) (code : List Instruction) (most : ℕ) (fs : Funcs) → CallsRun given code most (call_code fs) (result_in fs) (helper most given.here fs)
@@ -167,7 +172,7 @@ calls_run given code most (ThenFunc earlier f) = record { runs = λ limit below 
         → ((last : State) (v : Option Operand)
         → Stands level now ts (now.place + length (elim b as (λ _. List Instruction) [ true ↦ pass_code f.parameters numbers level ++ body_code (call_code earlier) (result_in earlier) (sites_in earlier) f level (length ts) site | false ↦ call_code earlier name numbers level (length ts) site ])) last
         → Returned (elim b [ true ↦ f.result | false ↦ result_in earlier name ]) level last.registers v → Agree given code limit last (after v))
-        → Agree given code limit now (elim b [ true ↦ exec_all most given.here (helper most given.here earlier) (sites_in earlier) f.body site ts (as_call f.result after) (next.passed f.parameters values []) | false ↦ helper most given.here earlier name values site ts after ])
+        → Agree given code limit now (elim b [ true ↦ exec_all most given.here (helper most given.here earlier) (sites_in earlier) f.body site ts (as_body (returned_by f.result after)) (next.passed f.parameters values []) | false ↦ helper most given.here earlier name values site ts after ])
     either given code most earlier f run_calls limit below name numbers values level site ts now after turns true has held placed go =
         latest_runs given code most earlier f run_calls limit below numbers values level site ts now after turns has held placed go
     either given code most earlier f run_calls limit below name numbers values level site ts now after turns false has held placed go =
@@ -201,9 +206,7 @@ kernel_runs given most earlier f limit start below zero_is =
     arguments_run given code limit f.parameters given.arguments 0 [] [] start 0 start _ refl (λ i. ap (argument_at given.arguments) (let n : 0 + i ≡ i = omega arith in n))
     (record { at = zero_is; kept = same_self 0 start.registers; turns = refl }) (record { same = refl; arrays = refl }) (has_left code first (second ++ last) 0 has)
     (λ now stands sees.
-    body_runs given code most (call_code earlier) (result_in earlier) (helper most given.here earlier) (calls_run given code most earlier) (sites_in earlier) f limit below 0 start [] 0 (length first) now _ at_the_end
+    body_runs given code most (call_code earlier) (result_in earlier) (helper most given.here earlier) (calls_run given code most earlier) (sites_in earlier) f limit below 0 start [] 0 (length first) now _ (λ _. finish)
     (stands_to 0 start [] _ now (length first) (omega arith) stands) sees (has_left code second last (length first) rest)
-    (λ now vs stands' is. at_end now stands')
-    (λ now vs stands' is. at_end now stands')
-    (λ now vs stands' is. at_end now stands')
+    (λ kind e. refl)
     (λ now v stands' is. at_end now stands'))

@@ -3,7 +3,6 @@ use Rattle.std.proofs.Common.{◌≡◌, ℕ, zero, suc, ℤ, pos, negsuc, ◌+�
 use Rattle.clnum.specs.Integer.{bits_of}
 use Rattle.clnum.specs.Integer as numbers
 use Rattle.clnum.specs.declared.int_type.IntType.{IntType}
-use Rattle.clnum.specs.declared.operators.BinaryOperator.{BinaryOperator}
 use Rattle.clmodel.specs.Next.{Run, finish, fail, ask, Variables, base_type, has_elements, is_private_array, with_elements, index_of, element_set, write_element, store_element, Helpers, assign, declared_type, held, known, look, load, store, combined, reach, fetch, infix_type, HelperCall, value_of, assigned, call, call_only, wait}
 use Rattle.clmodel.specs.Next.Expressions.{Destination, Through}
 use Rattle.clmodel.specs.Next as next
@@ -91,20 +90,6 @@ write_kept ticks name kind elements i v f g some h =
     number_alike ticks i _ _ (λ n. number_alike ticks v _ _ (λ m. set_kept ticks name (index_of n) kind elements m f g some h))
 
 module _ (given : Given) (code : List Instruction) (bound : ℕ) where
-  -- a register that has no value ends the item where it is needed
-  pub hold_unset : (s : State) (to from : ℕ) (kind : VariableType) → slice_get code s.place ≡ Some (instruction.Hold to from kind) → reg s.registers from ≡ None → Agree given code bound s finish
-  hold_unset s to from kind here is = steps given code bound s finish _ here (λ ticks on after next. rw is (λ answers. refl))
-
-  pub store_unset : (s : State) (pointer from : ℕ) (p : Operand) → slice_get code s.place ≡ Some (instruction.Store pointer from) → reg s.registers pointer ≡ Some p → reg s.registers from ≡ None → Agree given code bound s finish
-  store_unset s pointer from p here is none = steps given code bound s finish _ here (λ ticks on after next. rw (is, none) (λ answers. refl))
-
-  pub binary_unset : (s : State) (to : ℕ) (operator : BinaryOperator) (left right : ℕ) (v : Operand) → slice_get code s.place ≡ Some (instruction.Binary to operator left right) → reg s.registers left ≡ Some v → reg s.registers right ≡ None → Agree given code bound s finish
-  binary_unset s to operator left right v here is none = steps given code bound s finish _ here (λ ticks on after next. rw (is, none) (λ answers. refl))
-
-  private_store_unset : (s : State) (array index from : ℕ) (element : IntType) (name : ℕ) (i : Operand) → slice_get code s.place ≡ Some (instruction.PrivateStore array index from element name) → reg s.registers index ≡ Some i
-      → reg s.registers from ≡ None → Agree given code bound s finish
-  private_store_unset s array index from element name i here is none = steps given code bound s finish _ here (λ ticks on after next. rw (is, none) (λ answers. refl))
-
   -- a store in a private array that has elements, which it has afterwards
   kept_store_runs : (s : State) (run : List (Option ℕ) → Run) (array index value : ℕ) (element : IntType) (name : ℕ) (i v : Operand)
       → slice_get code s.place ≡ Some (instruction.PrivateStore array index value element name) → reg s.registers index ≡ Some i → reg s.registers value ≡ Some v
@@ -249,24 +234,6 @@ module _ (given : Given) (code : List Instruction) (bound : ℕ) where
       part false is h has go = behind_put scope.base s ts at now pointer source h.0 to v vs run stands h.1 h.2 value has.0 (λ last. go (passed now) vs last same)
   put_runs scope (Behind at' term) s ts at now vs pointer level from to v run free stands same h value has go =
       behind_put scope.base s ts at now pointer (register_at level from) h.0 to v vs run stands h.1 h.2 value has.0 (λ last. go (passed now) vs last same)
-
-  -- a value that isn't there ends the item
-  pub put_unset : (scope : Scope) (place : Place) (s : State) (ts : List ℕ) (at : ℕ) (now : State) (pointer from : ℕ) (to : Destination)
-      → Stands scope.base s ts at now → HoldsPlace scope now.registers pointer place to → reg now.registers from ≡ None
-      → HasAt code at (put_code scope place pointer from) → Agree given code bound now finish
-  put_unset scope (Whole at' name) s ts at now pointer from to stands held none has = cases (register_of scope name) has
-    where
-      cases : (o : Option ℕ) → HasAt code at (hold_code o from (kind_named scope name)) → Agree given code bound now finish
-      cases None has = hold_unset now from from (kind_named scope name) (here_at code at _ scope.base s ts now stands has.0) none
-      cases (Some r) has = hold_unset now r from (kind_named scope name) (here_at code at _ scope.base s ts now stands has.0) none
-  put_unset scope (Part at' name index) s ts at now pointer from to stands h none has = part (is_private_array scope.variables name) h has
-    where
-      part : (b : Bool) → HoldsPart b now.registers pointer name to
-          → HasAt code at (if b then private_store scope name pointer from ∷ [] else instruction.Store pointer from ∷ []) → Agree given code bound now finish
-      part true h has = private_store_unset now (level_of scope name) pointer from (type_of_elements scope name) name h.0 (here_at code at _ scope.base s ts now stands has.0) h.2 none
-      part false h has = store_unset now pointer from (Pointed h.0) (here_at code at _ scope.base s ts now stands has.0) h.2 none
-  put_unset scope (Behind at' term) s ts at now pointer from to stands h none has =
-      store_unset now pointer from (Pointed h.0) (here_at code at _ scope.base s ts now stands has.0) h.2 none
 
   -- a barrier
   pub wait_runs : (named : Option Fences) (level : ℕ) (s : State) (ts : List ℕ) (place : ℕ) (now : State) (site : ℕ) (run : Run)

@@ -25,7 +25,7 @@ use Rattle.lower_expr.proofs.Expressions.{expr_runs, terms_run}
 use Rattle.lower_code.specs.Code.{Calls, result_type, needed_code, place_type, fetch_code, put_code, combine_code, right_code, right_type, assign_code, compound_code, step_code, call_only_statement}
 use Rattle.lower.proofs.Scopes.{Same, reached_same, put_same, sees_same}
 use Rattle.lower.proofs.Stands.{Stands, Returned, stands_then, reached_stands, put_stands, stands_to, stands_here, here_at, seen_stands}
-use Rattle.lower.proofs.Parts.{Placed, arguments_placed, reach_runs, fetch_runs, put_runs, put_unset, binary_unset, wait_runs, only_runs}
+use Rattle.lower.proofs.Parts.{Placed, arguments_placed, reach_runs, fetch_runs, put_runs, wait_runs, only_runs}
 
 -- what the code of calls owes: it acts as the helpers do, and leaves their values
 pub record CallsRun (given : Given) (code : List Instruction) (most : ℕ) (calls : Calls) (results : ℕ → Option IntType) (helpers : Helpers) : Type 0 where
@@ -66,21 +66,22 @@ module _ (given : Given) (code : List Instruction) (most : ℕ) (calls : Calls) 
   -- a call whose value is needed
   needed_runs : (o : Option IntType) (level : ℕ) (s : State) (ts : List ℕ) (place : ℕ) (now : State) (v : Option Operand) (after : Operand → Run)
       → Stands level s ts place now → Returned o level now.registers v → HasAt code place (needed_code o)
-      → ((last : State) (v : Option Operand) → Stands level s ts (place + length (needed_code o)) last → reg last.registers (register_at level (result_type o)) ≡ v → Agree given code bound last (value_of v after))
+      → ((last : State) (w : Operand) → Stands level s ts (place + length (needed_code o)) last → reg last.registers (register_at level (result_type o)) ≡ Some w → Agree given code bound last (after w))
       → Agree given code bound now (value_of v after)
   needed_runs None level s ts place now v after stands returned has go =
       subst (λ v. Agree given code bound now (value_of v after)) (sym returned) (ends given code bound now (here_at code place _ level s ts now stands has.0))
-  needed_runs (Some kind) level s ts place now v after stands returned has go = go now v (stands_to level s ts place now (place + 0) (omega arith) stands) returned
+  needed_runs (Some kind) level s ts place now v after stands returned has go =
+      subst (λ v. Agree given code bound now (value_of v after)) (sym returned.1) (go now returned.0 (stands_to level s ts place now (place + 0) (omega arith) stands) returned.2)
 
   -- the right side
   pub right_runs : (scope : Scope) (level : ℕ) (c : Option HelperCall) (value : Term) (site : ℕ) (ts : List ℕ) (now : State) (vs : Variables) (after : Operand → Run) → free_level scope ≤ level
       → Sees scope now.registers vs → take (length ts) now.counters ≡ ts → HasAt code now.place (right_code calls results inside result scope level c value (length ts) site)
-      → ((last : State) (v : Option Operand) → Stands level now ts (now.place + length (right_code calls results inside result scope level c value (length ts) site)) last
-      → reg last.registers (register_at level (right_type calls results inside result scope c value)) ≡ v → Agree given code bound last (value_of v after))
+      → ((last : State) (v : Operand) → Stands level now ts (now.place + length (right_code calls results inside result scope level c value (length ts) site)) last
+      → reg last.registers (register_at level (right_type calls results inside result scope c value)) ≡ Some v → Agree given code bound last (after v))
       → Agree given code bound now (assigned most given.here helpers inside c value site ts vs after)
   right_runs scope level None value site ts now vs after free same turns has go =
       expr_runs given code bound scope level value now vs after free same has
-      (λ v last r is. go last (Some v) (reached_stands level level now ts now.place now _ last (omega arith) (stands_here level now ts turns) r) is)
+      (λ v last r is. go last v (reached_stands level level now ts now.place now _ last (omega arith) (stands_here level now ts turns) r) is)
   right_runs scope level (Some c) value site ts now vs after free same turns has go =
       let first = terms_code scope level c.arguments in
       let numbers = registers_for scope level c.arguments in
@@ -99,27 +100,14 @@ module _ (given : Given) (code : List Instruction) (most : ℕ) (calls : Calls) 
       (λ final w final_stands is.
       go final w (stands_to level now ts _ final _ (let a = r.at in omega (arith, a, lengths, lengths')) final_stands) is)))
 
-  -- a value is put there, if there is one
-  put_wanted : (scope : Scope) (place : Place) (s : State) (ts : List ℕ) (at : ℕ) (now : State) (vs : Variables) (pointer level : ℕ) (from : VariableType) (to : Destination) (v : Option Operand) (run : Variables → Run) → free_level scope ≤ level
-      → Stands scope.base s ts at now → Sees scope now.registers vs → HoldsPlace scope now.registers pointer place to → reg now.registers (register_at level from) ≡ v
-      → HasAt code at (put_code scope place pointer (register_at level from))
-      → ((last : State) (after : Variables) → Stands scope.base s ts (at + length (put_code scope place pointer (register_at level from))) last → Sees scope last.registers after → Agree given code bound last (run after))
-      → Agree given code bound now (value_of v (λ v. next.put to v vs run))
-  put_wanted scope place s ts at now vs pointer level from to None run free stands same held is has go =
-      put_unset given code bound scope place s ts at now pointer (register_at level from) to stands held is has
-  put_wanted scope place s ts at now vs pointer level from to (Some v) run free stands same held is has go =
-      put_runs given code bound scope place s ts at now vs pointer level from to v run free stands same held is has go
-
   -- the operator of a compound assignment
-  pub combine_runs : (scope : Scope) (place : Place) (operator : BinaryOperator) (kind : VariableType) (s : State) (ts : List ℕ) (at : ℕ) (now : State) (vs : Variables) (to : Destination) (old : Operand) (v : Option Operand) (run : Variables → Run)
+  pub combine_runs : (scope : Scope) (place : Place) (operator : BinaryOperator) (kind : VariableType) (s : State) (ts : List ℕ) (at : ℕ) (now : State) (vs : Variables) (to : Destination) (old v : Operand) (run : Variables → Run)
       → Stands scope.base s ts at now → Sees scope now.registers vs → HoldsPlace scope now.registers (place_register scope (free_level scope) place) place to
-      → reg now.registers (register_at (free_level scope + 1) (place_type scope place)) ≡ Some old → reg now.registers (register_at (free_level scope + 2) kind) ≡ v
+      → reg now.registers (register_at (free_level scope + 1) (place_type scope place)) ≡ Some old → reg now.registers (register_at (free_level scope + 2) kind) ≡ Some v
       → HasAt code at (combine_code scope place (free_level scope) operator kind (register_at (free_level scope + 1) (place_type scope place)) (register_at (free_level scope + 2) kind))
       → ((last : State) (after : Variables) → Stands scope.base s ts (at + length (combine_code scope place (free_level scope) operator kind (register_at (free_level scope + 1) (place_type scope place)) (register_at (free_level scope + 2) kind))) last → Sees scope last.registers after → Agree given code bound last (run after))
-      → Agree given code bound now (value_of v (λ v. combined operator old v (λ new. next.put to new vs run)))
-  combine_runs scope place operator kind s ts at now vs to old None run stands same held is none has go =
-      binary_unset given code bound now _ operator (register_at (free_level scope + 1) (place_type scope place)) (register_at (free_level scope + 2) kind) old (here_at code at _ scope.base s ts now stands has.0) is none
-  combine_runs scope place operator kind s ts at now vs to old (Some v) run stands same held is value has go =
+      → Agree given code bound now (combined operator old v (λ new. next.put to new vs run))
+  combine_runs scope place operator kind s ts at now vs to old v run stands same held is value has go =
       let level = free_level scope in
       let type = infix_type (Arithmetic operator) (place_type scope place) kind in
       let target = register_at (level + 1) type in
@@ -155,7 +143,7 @@ module _ (given : Given) (code : List Instruction) (most : ℕ) (calls : Calls) 
       let sees = seen_kept scope level now (now.place + length first) middle vs (omega arith) r same in
       right_runs scope (level + 1) c value site ts middle vs (λ v. next.put to v vs run) (omega arith) sees reached.turns (has_left code second third middle.place rest)
       (λ last v arrived is.
-      put_wanted scope place s ts (middle.place + length second) last vs (place_register scope level place) (level + 1) kind to v run (omega arith)
+      put_runs given code bound scope place s ts (middle.place + length second) last vs (place_register scope level place) (level + 1) kind to v run (omega arith)
       (stands_then scope.base (level + 1) s ts (now.place + length first) middle (middle.place + length second) last (omega arith) reached arrived)
       (seen_stands scope (level + 1) middle ts (middle.place + length second) last vs (omega arith) arrived sees)
       (pointer_kept scope level (level + 1) place to middle.registers last.registers (omega arith) arrived.kept held)
@@ -233,7 +221,7 @@ module _ (given : Given) (code : List Instruction) (most : ℕ) (calls : Calls) 
       let last = with_put later number (Some one) in
       let kept = put_same (level + 2) (Integer Int) (level + 2) later.registers (Some one) (omega arith) in
       constant_runs given code bound later _ number (record { kind = Int; number = pos 1 }) rest'.0
-      (combine_runs scope place operator (Integer Int) s ts (middle.place + length second + 1) last vs to old (Some one) run
+      (combine_runs scope place operator (Integer Int) s ts (middle.place + length second + 1) last vs to old one run
       (put_stands scope.base (level + 2) (Integer Int) s ts (middle.place + length second) later (Some one) (omega arith) reached')
       (sees_same scope later.registers last.registers vs (put_same (level + 2) (Integer Int) level later.registers (Some one) (omega arith)) sees')
       (pointer_kept scope level (level + 2) place to later.registers last.registers (omega arith) kept

@@ -1,7 +1,7 @@
 -- Where a run of code stands, and what follows a statement there.
 use Rattle.std.proofs.Common.{◌≡◌, ℕ, ◌+◌, ◌≤◌, Option, None, Some, List, [], ◌∷◌, ◌++◌, length, take, slice_get, slice_index, refl, ap, ◌∙◌, arith}
 use Rattle.clnum.specs.declared.int_type.IntType.{IntType}
-use Rattle.clmodel.specs.Next.{Run, Variables, Follows, leave, returned_as}
+use Rattle.clmodel.specs.Next.{Run, finish, Variables, Follows, leave, held}
 use Rattle.clmodel.specs.declared.operand.Operand.{Operand}
 use Rattle.clmodel.specs.declared.tree.VariableType.{VariableType}
 use Rattle.clmodel.specs.declared.tree.VariableType.TheVariants.{Integer}
@@ -33,10 +33,16 @@ pub record Leads (exits : Exits) (places : Places) : Type 0 where
   pub continued : places.next + exits.continued ≡ places.continued
   pub returned : places.next + exits.returned ≡ places.returned
 
--- what a function's value is, once its register has it
+-- what a function of a type returns: a value is converted to it
+abbrev pub returned_as : Option IntType → Option Operand → Option Operand
+returned_as (Some kind) (Some v) = Some (held (Integer kind) v)
+returned_as (Some kind) None = None
+returned_as None v = None
+
+-- what a function's value is, once its register has it: one that gives a value has one
 abbrev pub Returned : Option IntType → ℕ → Registers → Option Operand → Type 0
 Returned None level registers v = v ≡ None
-Returned (Some kind) level registers v = reg registers (register_at level (Integer kind)) ≡ v
+Returned (Some kind) level registers v = (w : Operand) × (v ≡ Some w) × (reg registers (register_at level (Integer kind)) ≡ Some w)
 
 -- at each of its ends the code agrees with what follows there
 pub record Ends (given : Given) (code : List Instruction) (bound : ℕ) (result : Option IntType) (s : State) (scope : Scope) (after : Variables) (ts : List ℕ) (places : Places) (k : Follows) : Type 0 where
@@ -44,6 +50,7 @@ pub record Ends (given : Given) (code : List Instruction) (bound : ℕ) (result 
   pub broken : (now : State) (vs : Variables) → Stands scope.base s ts places.broken now → Sees scope now.registers (leave (length scope.variables) vs) → Agree given code bound now (k.broken vs)
   pub continued : (now : State) (vs : Variables) → Stands scope.base s ts places.continued now → Sees scope now.registers (leave (length scope.variables) vs) → Agree given code bound now (k.continued vs)
   pub returned : (now : State) (v : Option Operand) → Stands scope.base s ts places.returned now → Returned result scope.base now.registers (returned_as result v) → Agree given code bound now (k.returned v)
+  pub lost : (kind : IntType) → result ≡ Some kind → k.returned None ≡ finish
 
 -- the turns of the outer loops, and of the innermost
 pub outer_turns : (ts : List ℕ) (count : ℕ) (counters : List ℕ) → take (length (ts ++ count ∷ [])) counters ≡ ts ++ count ∷ [] → take (length ts) counters ≡ ts
@@ -124,6 +131,7 @@ ends_fewer given code bound fewer result s scope after ts places k less h =
       broken = λ now vs at e. with_fewer given code bound fewer now _ less (h.broken now vs at e);
       continued = λ now vs at e. with_fewer given code bound fewer now _ less (h.continued now vs at e);
       returned = λ now v at e. with_fewer given code bound fewer now _ less (h.returned now v at e);
+      lost = h.lost;
     }
 
 -- in an inner scope
@@ -135,6 +143,7 @@ ends_within given code bound result s scope inner after ts places k w h =
       broken = λ now vs at e. h.broken now vs at (outer_left scope inner vs now.registers w e);
       continued = λ now vs at e. h.continued now vs at (outer_left scope inner vs now.registers w e);
       returned = h.returned;
+      lost = h.lost;
     }
 
 -- from an end to the next
@@ -143,4 +152,4 @@ pub ends_before : (given : Given) (code : List Instruction) (bound : ℕ) (resul
     → ((now : State) (vs : Variables) → Stands scope.base s ts place now → Sees (record scope { variables = middle }) now.registers vs → Agree given code bound now (next vs))
     → Ends given code bound result s scope middle ts (record places { next = place }) (record k { next = next })
 ends_before given code bound result s scope after middle ts places place k next h agree =
-    record { next = agree; broken = h.broken; continued = h.continued; returned = h.returned }
+    record { next = agree; broken = h.broken; continued = h.continued; returned = h.returned; lost = h.lost }

@@ -3,7 +3,7 @@ use Rattle.std.proofs.Common.{◌≡◌, ℕ, zero, suc, ◌+◌, ◌≤◌, ◌
 use Rattle.clnum.specs.declared.int_type.IntType.{IntType}
 use Rattle.clmodel.specs.Barrier.{is_barrier}
 use Rattle.clmodel.specs.BuiltIns.{built_in}
-use Rattle.clmodel.specs.Next.{Run, Variables, Helpers, Follows, leave, leaving, in_loop, assign, held, helper_call, value_of, private_array, has_elements, step_operator, sites, part_sites, all_sites, returned_as, exec, exec_part, exec_all}
+use Rattle.clmodel.specs.Next.{Run, finish, Variables, Helpers, Follows, leave, leaving, in_loop, assign, held, helper_call, value_of, private_array, has_elements, step_operator, sites, part_sites, all_sites, exec, exec_part, exec_all}
 use Rattle.clmodel.specs.Next as bindings
 use Rattle.clmodel.specs.Tree.{array_length, Stmt, Empty, Block, Declare, DeclareAs, DeclareArray, Assign, Step, CallOnly, If, IfElse, While, DoWhile, For, Break, Continue, Return, ReturnValue, Stmts, NoStmt, ThenStmt, MaybeStmt, Without, With, While_}
 use Rattle.clmodel.specs.declared.access.Object.TheVariants as object
@@ -14,7 +14,7 @@ use Rattle.clmodel.specs.declared.tree.VariableType.TheVariants.{Integer}
 use Rattle.regcode.specs.Machine.{State, Given, Registers, reg, put, array_of, put_array, with_put, with_array, passed, onward}
 use Rattle.regcode.specs.declared.instruction.Instruction.{Instruction}
 use Rattle.regcode.specs.declared.instruction.Instruction.TheVariants as instruction
-use Rattle.regcode.proofs.Agreement.{Agree, with_fewer, unset_runs, local_runs, unset_array_runs, hold_runs, jump_runs, branch_runs}
+use Rattle.regcode.proofs.Agreement.{ends, Agree, with_fewer, unset_runs, local_runs, unset_array_runs, hold_runs, jump_runs, branch_runs}
 use Rattle.regcode.proofs.Registers.{reg_put, array_put}
 use Rattle.lower_expr.specs.Scope.{Scope, register_at, seen_elements, Sees, free_level}
 use Rattle.lower_expr.specs.Expressions.{expr_code, register_for}
@@ -23,8 +23,7 @@ use Rattle.lower_expr.proofs.Places.{has_left, has_right, has_moved, seen_kept}
 use Rattle.lower_expr.proofs.Expressions.{expr_runs}
 use Rattle.lower_code.specs.Code.{Exits, past, body_exits, variable, with_variable, array_variable, local_pointer, variables_after, variables_after_part, variables_after_all, Calls, no_value_code, value_code, condition_code, while_code, right_code, right_type, stmt_code, part_code, stmts_code}
 use Rattle.lower.proofs.Scopes.{same_then, put_same, array_same, sees_same, view_length, Within, within_self, within_one, within_trans, left_seen, outer_left, self_left}
-use Rattle.lower.proofs.Stands.{Stands, Places, Leads, Returned, Ends, reached_stands, put_stands, array_stands, passed_stands, onward_stands, stands_to, stands_then, stands_out, here_at, seen_stands, ends_within, ends_before}
-use Rattle.lower.proofs.Parts.{hold_unset}
+use Rattle.lower.proofs.Stands.{Stands, Places, Leads, Returned, returned_as, Ends, reached_stands, put_stands, array_stands, passed_stands, onward_stands, stands_to, stands_then, stands_out, here_at, seen_stands, ends_within, ends_before}
 use Rattle.lower.proofs.Rights.{CallsRun, right_runs, assign_runs, compound_runs, step_runs, only_call_runs}
 use Rattle.lower.proofs.Loops.{while_runs, do_runs}
 
@@ -100,18 +99,17 @@ ends_leaving given code bound result s scope inner ts places k count w e h =
       broken = h.broken;
       continued = h.continued;
       returned = h.returned;
+      lost = h.lost;
     }
 
--- a function returns without a value
+-- a function returns without a value: one that gives a value ends the item
 pub no_value_runs : (given : Given) (code : List Instruction) (bound : ℕ) (result : Option IntType) (s : State) (level : ℕ) (ts : List ℕ) (place : ℕ) (now : State) (run : Run)
-    → Stands level s ts place now → HasAt code place (no_value_code result level)
+    → Stands level s ts place now → HasAt code place (no_value_code result level) → ((kind : IntType) → result ≡ Some kind → run ≡ finish)
     → ((last : State) → Stands level s ts (place + length (no_value_code result level)) last → Returned result level last.registers (returned_as result None) → Agree given code bound last run)
     → Agree given code bound now run
-no_value_runs given code bound None s level ts place now run stands has go = go now (stands_to level s ts place now (place + 0) (omega arith) stands) refl
-no_value_runs given code bound (Some kind) s level ts place now run stands has go =
-    let r = register_at level (Integer kind) in
-    unset_runs given code bound now run r (here_at code place _ level s ts now stands has.0)
-    (go (with_put now r None) (put_stands level level (Integer kind) s ts place now None (omega arith) stands) (reg_put now.registers r None))
+no_value_runs given code bound None s level ts place now run stands has lost go = go now (stands_to level s ts place now (place + 0) (omega arith) stands) refl
+no_value_runs given code bound (Some kind) s level ts place now run stands has lost go =
+    subst (Agree given code bound now) (sym (lost kind refl)) (ends given code bound now (here_at code place _ level s ts now stands has.0))
 
 -- or with one
 value_runs : (given : Given) (code : List Instruction) (bound : ℕ) (result : Option IntType) (s : State) (level : ℕ) (ts : List ℕ) (place from : ℕ) (v : Operand) (now : State) (run : Run)
@@ -122,16 +120,14 @@ value_runs given code bound None s level ts place from v now run stands is has g
 value_runs given code bound (Some kind) s level ts place from v now run stands is has go =
     let r = register_at level (Integer kind) in
     hold_runs given code bound now run r from (Integer kind) v (here_at code place _ level s ts now stands has.0) is
-    (go (with_put now r (Some (held (Integer kind) v))) (put_stands level level (Integer kind) s ts place now (Some (held (Integer kind) v)) (omega arith) stands) (reg_put now.registers r (Some (held (Integer kind) v))))
+    (go (with_put now r (Some (held (Integer kind) v))) (put_stands level level (Integer kind) s ts place now (Some (held (Integer kind) v)) (omega arith) stands) (held (Integer kind) v, refl, reg_put now.registers r (Some (held (Integer kind) v))))
 
 -- a variable's first value
-first_value_runs : (given : Given) (code : List Instruction) (bound : ℕ) (scope : Scope) (name : ℕ) (kind : VariableType) (from : ℕ) (s : State) (ts : List ℕ) (place : ℕ) (now : State) (vs : Variables) (v : Option Operand) (run : Variables → Run)
-    → Stands scope.base s ts place now → Sees scope now.registers vs → reg now.registers from ≡ v → slice_get code place ≡ Some (instruction.Hold (register_at (free_level scope) kind) from kind)
+first_value_runs : (given : Given) (code : List Instruction) (bound : ℕ) (scope : Scope) (name : ℕ) (kind : VariableType) (from : ℕ) (s : State) (ts : List ℕ) (place : ℕ) (now : State) (vs : Variables) (v : Operand) (run : Variables → Run)
+    → Stands scope.base s ts place now → Sees scope now.registers vs → reg now.registers from ≡ Some v → slice_get code place ≡ Some (instruction.Hold (register_at (free_level scope) kind) from kind)
     → ((last : State) (after : Variables) → Stands scope.base s ts (place + 1) last → Sees (record scope { variables = variable name kind ∷ scope.variables }) last.registers after → Agree given code bound last (run after))
-    → Agree given code bound now (value_of v (λ v. run (assign (bindings.variable name kind None ∷ vs) name v)))
-first_value_runs given code bound scope name kind from s ts place now vs None run stands same is here go =
-    hold_unset given code bound now (register_at (free_level scope) kind) from kind (here_at code place _ scope.base s ts now stands here) is
-first_value_runs given code bound scope name kind from s ts place now vs (Some v) run stands same is here go =
+    → Agree given code bound now (run (assign (bindings.variable name kind None ∷ vs) name v))
+first_value_runs given code bound scope name kind from s ts place now vs v run stands same is here go =
     let r = register_at (free_level scope) kind in
     hold_runs given code bound now _ r from kind v (here_at code place _ scope.base s ts now stands here) is
     (go (with_put now r (Some (held kind v))) (assign (bindings.variable name kind None ∷ vs) name v)
@@ -153,6 +149,7 @@ loop_ends given code bound fewer result s scope inner after ts count places k pl
           (h.next now (leave n vs) (stands_out scope.base s ts count places.next now stands) (subst (λ c. Sees scope now.registers (leave c vs)) (sym e) (outer_left scope inner vs now.registers w left)));
       continued = λ now vs stands left. agree now (leave m vs) stands (subst (λ c. Sees (record scope { variables = inner }) now.registers (leave c vs)) (sym e') left);
       returned = λ now v stands is. with_fewer given code bound fewer now _ less (h.returned now v (stands_out scope.base s ts count places.returned now stands) is);
+      lost = h.lost;
     }
 
 deeper : (ts : List ℕ) (count : ℕ) → length ts + 1 ≡ length (ts ++ count ∷ [])
@@ -400,7 +397,7 @@ module _ (given : Given) (code : List Instruction) (most : ℕ) (calls : Calls) 
         let first = no_value_code result scope.base in
         let jump : List Instruction = instruction.Jump exits.returned ∷ [] in
         let lengths = length-append first jump in
-        no_value_runs given code bound result s scope.base ts at now (k.returned None) stands (has_left code first jump at has)
+        no_value_runs given code bound result s scope.base ts at now (k.returned None) stands (has_left code first jump at has) h.lost
         (λ last stands' returned.
         jump_runs given code bound last (k.returned None) exits.returned (here_at code (at + length first) _ scope.base s ts last stands' (has_right code first jump at (at + length first) refl has).0)
         (h.returned (onward last exits.returned) None

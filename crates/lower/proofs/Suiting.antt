@@ -1,7 +1,6 @@
 -- Instructions whose registers are of the kinds that they want, in tables that give each register its kind.
 use Rattle.std.proofs.Common.{◌≡◌, ℕ, ◌+◌, ◌*◌, ◌%◌, IsTrue, if◌then◌else◌, Option, None, Some, List, [], ◌∷◌, ◌++◌, slice_get, get_or, refl, ap, ap₂, sym, subst, ◌∙◌, arith}
 use Rattle.std.proofs.lemmas.Nat.{mod-mul-add}
-use Rattle.std.proofs.lemmas.Option.{slice_get_within}
 use Rattle.clnum.specs.Builtins.{is_same}
 use Rattle.clnum.specs.Conversions.{common}
 use Rattle.clnum.specs.Operations.{unary_kind}
@@ -22,6 +21,7 @@ use Rattle.regcode.specs.declared.instruction.Instruction.{Instruction}
 use Rattle.regcode.specs.declared.instruction.Instruction.TheVariants as instruction
 use Rattle.regcode.specs.declared.tables.RegisterKind.{RegisterKind}
 use Rattle.regcode.specs.declared.tables.RegisterKind.TheVariants.{Integer, Pointer}
+use Rattle.regcode.proofs.Registers.{kind_within}
 use Rattle.lower_expr.specs.Scope.{integer_number, kind_number, register_at}
 use Rattle.lower_expr.proofs.Places.{register_below}
 use Rattle.lower.specs.Tables.{kinds, register_kind}
@@ -102,7 +102,7 @@ module _ (parameters : List VariableType) where
   constant_suits to value is code same wide = takes (kind_at code to) (Some (Integer value.kind)) (Integer value.kind) (wide.registers.0 ∙ ap Some is) refl
 
   pub unset_suits : (to : ℕ) → Suits parameters (instruction.Unset to)
-  unset_suits to code same wide = slice_get_within code.registers to (register_kind to) wide.registers.0
+  unset_suits to code same wide = kind_within code to (register_kind to) wide.registers.0
 
   pub move_suits : (to from name : ℕ) (kind : VariableType) → Is to kind → Is from kind → Suits parameters (instruction.Move to from name)
   move_suits to from name kind is of code same wide =

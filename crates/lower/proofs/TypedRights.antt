@@ -29,7 +29,7 @@ use Rattle.lower_expr.specs.Scope.{Scope, register_at, level_of, free_level}
 use Rattle.lower_expr.specs.Expressions.{kind_of, kind_named, type_of_elements, private_load, private_store, register_for, registers_for, expr_code, terms_code, place_code, place_register, call_only_code, count}
 use Rattle.lower_code.specs.Code.{Calls, result_type, needed_code, no_value_code, value_code, hold_code, place_type, fetch_code, put_code, combine_code, wait_code, condition_code, turn_code, right_code, right_type, assign_code, compound_code, step_code, call_only_statement}
 use Rattle.lower.specs.Accepted.{declared_kind, is_private, Is, Matches, Suit}
-use Rattle.lower.proofs.Suiting.{is_at, is_as, suit_both, constant_suits, unset_suits, hold_suits, binary_suits, store_suits, load_suits, private_load_suits, private_store_suits, update_suits, update_by_one_suits, branch_suits}
+use Rattle.lower.proofs.Suiting.{is_at, is_as, suit_both, constant_suits, hold_suits, binary_suits, store_suits, load_suits, private_load_suits, private_store_suits, update_suits, update_by_one_suits, branch_suits}
 use Rattle.lower.proofs.Suited.{element_is, built_in_is, barrier_is, infix_is, call_is, argument_is, last_of, types_are, type_is, numbered, registers_are, variable_suits, call_suits, expression_suits, terms_suit, place_suits}
 use Rattle.lower.proofs.Scoped.{callable_is}
 
@@ -98,7 +98,7 @@ pub record CallSuits (parameters : List VariableType) (calls : Calls) (results :
 module _ (parameters : List VariableType) where
   pub no_value_suits : (result : Option IntType) (level : ℕ) → Suit parameters (no_value_code result level)
   no_value_suits None level = tt
-  no_value_suits (Some kind) level = (unset_suits parameters (register_at level (Integer kind)), tt)
+  no_value_suits (Some kind) level = ((λ code same wide. tt), tt)
 
   pub value_suits : (result : Option IntType) (level from : ℕ) (u : IntType) → Is from (Integer u) → Suit parameters (value_code result level from)
   value_suits None level from u of = tt

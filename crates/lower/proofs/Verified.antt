@@ -5,9 +5,9 @@ use Rattle.clmodel.specs.Next.{sites_in}
 use Rattle.regcode.specs.declared.instruction.Instruction.{Instruction}
 use Rattle.regcode.specs.declared.instruction.Instruction.TheVariants as instruction
 use Rattle.lower_code.specs.Code.{result_in, body_code, call_code, arguments_code, kernel_code}
-use Rattle.lower.specs.Tables.{loops_from}
+use Rattle.lower.specs.Tables.{register_count, loops_from}
 use Rattle.lower.specs.Accepted.{KernelsVerified}
-use Rattle.lower.proofs.Tabled.{suit_fits, loops_counted}
+use Rattle.lower.proofs.Tabled.{suit_fits, names_there, loops_counted}
 use Rattle.lower.proofs.KernelWays.{kernels_go}
 
 outside : (code : List Instruction) → 0 < length code → slice_index (loops_from 0 code) 0 ≡ 0
@@ -27,5 +27,6 @@ kernels_verified parameters earlier f distinct few suit =
       begins = begins;
       listed = loops_counted 0 code;
       outside = outside code begins;
+      named = names_there code (register_count code);
       each = λ place i is. let r = kernels_go parameters earlier f distinct few place i is in record { fits = suit_fits parameters code suit place i is; goes = r.0; few = r.1 };
     }

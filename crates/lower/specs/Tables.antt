@@ -5,6 +5,7 @@ use Rattle.clmodel.specs.declared.tree.VariableType.{VariableType}
 use Rattle.regcode.specs.Listing.{Listing}
 use Rattle.regcode.specs.declared.instruction.Instruction.{Instruction}
 use Rattle.regcode.specs.declared.instruction.Instruction.TheVariants as instruction
+use Rattle.regcode.specs.declared.tables.Register.{Register}
 use Rattle.regcode.specs.declared.tables.RegisterKind.{RegisterKind}
 use Rattle.regcode.specs.declared.tables.RegisterKind.TheVariants.{Integer, Pointer}
 
@@ -64,6 +65,24 @@ greatest number (i ∷ is) = max (number i) (greatest number is)
 abbrev pub register_count : List Instruction → ℕ
 register_count code = greatest (λ i. room (registers_of i)) code
 
+-- what a register is called behind an instruction: a move out of it has its name
+abbrev pub renamed : ℕ → ℕ → Instruction → ℕ
+renamed register name (instruction.Move to from other) = if from == register then other else name
+renamed register name _ = name
+
+-- what it is called behind code
+abbrev pub name_behind : ℕ → List Instruction → ℕ → ℕ
+name_behind name [] register = name
+name_behind name (i ∷ is) register = name_behind (renamed register name i) is register
+
+-- the name of a register: that of the last move out of it, 0 where there is none
+abbrev pub register_name : List Instruction → ℕ → ℕ
+register_name code register = name_behind 0 code register
+
+-- a register of code
+abbrev pub register_in : List Instruction → ℕ → Register
+register_in code register = record { kind = register_kind register; name = register_name code register }
+
 -- one more than the name that an instruction has
 abbrev pub names_of : Instruction → ℕ
 names_of (instruction.Move to from name) = name + 1
@@ -71,9 +90,9 @@ names_of (instruction.PrivateLoad to array index element name) = name + 1
 names_of (instruction.PrivateStore array index value element name) = name + 1
 names_of _ = 0
 
--- how many names there are
+-- how many names there are: one at least, which registers have that no move reads
 abbrev pub name_count : List Instruction → ℕ
-name_count code = greatest names_of code
+name_count code = max 1 (greatest names_of code)
 
 -- one more than the local object that an instruction names
 abbrev pub objects_of : Instruction → ℕ
@@ -120,7 +139,7 @@ abbrev pub tabled : List Instruction → List VariableType → Listing
 tabled code parameters =
     record {
       instructions = code;
-      registers = each_below register_kind (register_count code);
+      registers = each_below (register_in code) (register_count code);
       arrays = each_below (most_at code) (array_count code);
       objects = object_count code;
       names = name_count code;

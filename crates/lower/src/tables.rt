@@ -1,20 +1,20 @@
 //! The tables of code, by its instructions.
 #![tactic(auto)]
 
-ghost use Rattle.std.specs.Prelude.{◌≡◌, ℕ, ◌≤◌, max, [], ◌∷◌, length, get_or, IfOk};
+ghost use Rattle.std.specs.Prelude.{◌≡◌, ℕ, ◌+◌, ◌≤◌, max, [], ◌∷◌, length, get_or, IfOk};
 ghost use Rattle.regcode.specs.Listed.{listing};
 ghost use Rattle.lower.specs.Tables as spec;
 
 use clmodel::tree::VariableType;
 use clnum::IntType;
-use regcode::{Instruction, RegisterKind, Tables};
+use regcode::{Instruction, Register, RegisterKind, Tables};
 use std::alloc::{AllocError, Global};
 
-/// One more than the number of a register or of a private array.
-fn past(register: u32) -> usize
-    ensures { result ≡ spec.room (register ∷ []) }
+/// One more than a number.
+fn past(number: u32) -> usize
+    ensures { result ≡ number + 1 }
 {
-    register as usize + 1
+    number as usize + 1
 }
 
 /// One more than the greater of two registers.
@@ -123,59 +123,85 @@ fn register_kind(register: usize) -> RegisterKind
     KINDS[register % 16]
 }
 
-/// What the first `count` registers may hold.
-fn register_kinds(alloc: Global, count: usize) -> Result<Vec<RegisterKind>, AllocError>
-    ensures { IfOk result (λ kinds. kinds.items ≡ spec.each_below spec.register_kind count) }
+/// Gives the register that a move reads the name that the move has.
+fn rename(names: &mut Vec<u32>, instruction: &Instruction)
+    requires { spec.room (spec.registers_of instruction.now) ≤ length names.now.items }
+    ensures count { length names.new.items ≡ length names.old.items }
+    ensures name { (register : ℕ) → get_or names.new.items register 0 ≡ spec.renamed register (get_or names.old.items register 0) instruction.now }
 {
-    let mut kinds = Vec::new(alloc);
-    for register in 0..count {
-        kinds.push(register_kind(register))?;
+    if let Instruction::Move { from, name, .. } = *instruction {
+        names[from as usize] = name;
     }
-    Ok(kinds)
 }
 
-/// One more than the local object that an instruction names. Err where it is no number of 32 bits.
-fn objects_wanted(instruction: &Instruction) -> Result<u32, AllocError>
-    ensures { IfOk result (λ count. count ≡ spec.objects_of instruction.now) }
+/// Each register's name.
+fn register_names(alloc: Global, code: &[Instruction]) -> Result<Vec<u32>, AllocError>
+    ensures { IfOk result (λ names. names.items ≡ spec.each_below (spec.register_name code.now) (spec.register_count code.now)) }
 {
-    match instruction {
-        Instruction::Local { number, .. } => number.checked_add(1).ok_or(AllocError),
-        _ => Ok(0),
+    let mut names = vec![in alloc; 0; register_count(code)]?;
+    for instruction in code {
+        rename(&mut names, instruction);
+    }
+    Ok(names)
+}
+
+/// Each register: what it may hold, and its name.
+fn registers_of(alloc: Global, code: &[Instruction]) -> Result<Vec<Register>, AllocError>
+    ensures { IfOk result (λ registers. registers.items ≡ spec.each_below (spec.register_in code.now) (spec.register_count code.now)) }
+{
+    let names = register_names(alloc, code)?;
+    let mut registers = Vec::new(alloc);
+    for register in 0..names.len() {
+        registers.push(Register {
+            kind: register_kind(register),
+            name: names[register],
+        })?;
+    }
+    Ok(registers)
+}
+
+/// One more than the local object that an instruction names.
+fn objects_wanted(instruction: &Instruction) -> usize
+    ensures { result ≡ spec.objects_of instruction.now }
+{
+    match *instruction {
+        Instruction::Local { number, .. } => past(number),
+        _ => 0,
     }
 }
 
 /// How many local objects code has: one more than the greatest that it names.
-fn object_count(code: &[Instruction]) -> Result<u32, AllocError>
-    ensures { IfOk result (λ count. count ≡ spec.object_count code.now) }
+fn object_count(code: &[Instruction]) -> usize
+    ensures { result ≡ spec.object_count code.now }
 {
     let mut count = 0;
     for instruction in code {
-        count = objects_wanted(instruction)?.max(count);
+        count = count.max(objects_wanted(instruction));
     }
-    Ok(count)
+    count
 }
 
-/// One more than the name that an instruction has. Err where it is no number of 32 bits.
-fn names_wanted(instruction: &Instruction) -> Result<u32, AllocError>
-    ensures { IfOk result (λ count. count ≡ spec.names_of instruction.now) }
+/// One more than the name that an instruction has.
+fn names_wanted(instruction: &Instruction) -> usize
+    ensures { result ≡ spec.names_of instruction.now }
 {
-    match instruction {
+    match *instruction {
         Instruction::Move { name, .. }
         | Instruction::PrivateLoad { name, .. }
-        | Instruction::PrivateStore { name, .. } => name.checked_add(1).ok_or(AllocError),
-        _ => Ok(0),
+        | Instruction::PrivateStore { name, .. } => past(name),
+        _ => 0,
     }
 }
 
-/// How many names code has: one more than the greatest that it has.
-fn name_count(code: &[Instruction]) -> Result<u32, AllocError>
-    ensures { IfOk result (λ count. count ≡ spec.name_count code.now) }
+/// How many names code has: one more than the greatest that it has, and one at least.
+fn name_count(code: &[Instruction]) -> usize
+    ensures { result ≡ spec.name_count code.now }
 {
-    let mut count = 0;
+    let mut count = 1;
     for instruction in code {
-        count = names_wanted(instruction)?.max(count);
+        count = count.max(names_wanted(instruction));
     }
-    Ok(count)
+    count
 }
 
 /// One more than the private array that an instruction names.
@@ -224,31 +250,31 @@ fn lengths_of(alloc: Global, code: &[Instruction]) -> Result<Vec<u32>, AllocErro
     Ok(lengths)
 }
 
-/// How many loops are entered behind an instruction. Err where it is no number of 32 bits.
-fn depth_after(depth: u32, instruction: &Instruction) -> Result<u32, AllocError>
-    ensures { IfOk result (λ after. after ≡ spec.depth_after depth instruction.now) }
+/// How many loops are entered behind an instruction.
+fn depth_after(depth: usize, instruction: &Instruction) -> usize
+    ensures { result ≡ spec.depth_after depth instruction.now }
 {
-    match instruction {
-        Instruction::Enter { depth } => depth.checked_add(1).ok_or(AllocError),
-        Instruction::Back { .. } => Ok(depth.saturating_sub(1)),
-        _ => Ok(depth),
+    match *instruction {
+        Instruction::Enter { depth } => past(depth),
+        Instruction::Back { .. } => depth.saturating_sub(1),
+        _ => depth,
     }
 }
 
 /// How many loops are entered where each instruction stands.
-fn loops_of(alloc: Global, code: &[Instruction]) -> Result<Vec<u32>, AllocError>
+fn loops_of(alloc: Global, code: &[Instruction]) -> Result<Vec<usize>, AllocError>
     ensures { IfOk result (λ loops. loops.items ≡ spec.loops_from 0 code.now) }
 {
     let mut loops = Vec::new(alloc);
     let mut depth = 0;
     for instruction in code {
         loops.push(depth)?;
-        depth = depth_after(depth, instruction)?;
+        depth = depth_after(depth, instruction);
     }
     Ok(loops)
 }
 
-/// The tables of a kernel's code with these types of parameters. Err if out of memory, or if a number of 32 bits is too small.
+/// The tables of a kernel's code with these types of parameters. Err if out of memory.
 pub fn tables_of(
     alloc: Global,
     code: &[Instruction],
@@ -257,10 +283,10 @@ pub fn tables_of(
     ensures { IfOk result (λ tables. listing code.now tables ≡ spec.tabled code.now parameters.items) }
 {
     Ok(Tables {
-        registers: register_kinds(alloc, register_count(code))?,
+        registers: registers_of(alloc, code)?,
         arrays: lengths_of(alloc, code)?,
-        objects: object_count(code)?,
-        names: name_count(code)?,
+        objects: object_count(code),
+        names: name_count(code),
         parameters,
         loops: loops_of(alloc, code)?,
     })

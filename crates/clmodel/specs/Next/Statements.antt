@@ -214,16 +214,16 @@ passed [] values variables = variables
 passed (p ∷ ps) [] variables = passed ps [] (variable p.name p.kind None ∷ variables)
 passed (p ∷ ps) (v ∷ values) variables = passed ps values (variable p.name p.kind (Some (held p.kind v)) ∷ variables)
 
--- what a function of a type returns: a value is converted to it
-abbrev pub returned_as : Option IntType → Option Operand → Option Operand
-returned_as (Some kind) (Some v) = Some (held (variable_type.Integer kind) v)
-returned_as (Some kind) None = None
-returned_as None v = None
+-- What follows a call of a function of a type that returns a value or none. The value is converted to the type. A function of a type that returns none ends
+-- the item (own; C99 6.9.1, paragraph 12): no function of a typed program does.
+abbrev pub returned_by : Option IntType → (Option Operand → Run) → Option Operand → Run
+returned_by (Some kind) after (Some v) = after (Some (held (variable_type.Integer kind) v))
+returned_by (Some kind) after None = finish
+returned_by None after v = after None
 
--- What follows a function's body is what follows its call.
-abbrev pub as_call : Option IntType → (Option Operand → Run) → Follows
-as_call result after =
-    record { next = λ _. after None; broken = λ _. after None; continued = λ _. after None; returned = λ v. after (returned_as result v) }
+-- What follows a function's body, which returns none where it ends.
+abbrev pub as_body : (Option Operand → Run) → Follows
+as_body returned = record { next = λ _. returned None; broken = λ _. returned None; continued = λ _. returned None; returned = returned }
 
 -- the barriers in a helper; one calls only functions before it
 abbrev pub sites_in : Funcs → ℕ → ℕ
@@ -235,6 +235,6 @@ abbrev pub helper : ℕ → Here → Funcs → Helpers
 helper most here NoFunc name values site ts after = finish
 helper most here (ThenFunc earlier f) name values site ts after =
     elim (name == f.name) [
-      | true ↦ exec_all most here (helper most here earlier) (sites_in earlier) f.body site ts (as_call f.result after) (passed f.parameters values [])
+      | true ↦ exec_all most here (helper most here earlier) (sites_in earlier) f.body site ts (as_body (returned_by f.result after)) (passed f.parameters values [])
       | false ↦ helper most here earlier name values site ts after
     ]

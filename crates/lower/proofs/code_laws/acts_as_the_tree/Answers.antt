@@ -14,6 +14,6 @@ returns c setup f code is lowered item answers =
     let start = at_start (length code.registers) (length code.arrays) in
     let run = run_of setup item earlier (Some f) in
     acts_as code setup item run
-    (subst (λ instructions. Agree (given_of setup item) instructions (suc setup.budget) start run) (sym lowered)
-    (kernel_runs (given_of setup item) (setup.budget + 1) earlier f (suc setup.budget) start (omega arith) refl)) answers
+    (subst (λ instructions. Agree (given_of code setup item) instructions (suc setup.budget) start run) (sym lowered)
+    (kernel_runs (given_of code setup item) (setup.budget + 1) earlier f (suc setup.budget) start (omega arith) refl)) answers
     ∙ ap (λ k. walk (run_of setup item earlier k) setup.budget answers) (sym is)
