@@ -42,11 +42,11 @@ emit_choice-returns-clause-code t c =
     choice_placed s scope c.emit_statement.new.scope later p test (stmt c.args.chosen.now) (stmt c.args.otherwise.now) c.in_ok-between.between c.in_ok-past.field-0 old one c.put.new.self three c.put_test.new.code
     c.in_ok-by.by c.in_ok-added.field-0 c.in_ok-added-2.field-0
     (sym c.in_ok-site.ensures.site) c.in_ok-between.ensures.code c.in_ok-between.ensures.scope c.in_ok-site.ensures.scope
-    (c.in_ok-by.ensures ∙ ap (λ n. length one - n) c.len-end.ensures) c.in_ok-put.ensures
+    (c.in_ok-by.ensures ∙ ap (λ n. length one - n) c.len-end.ensures) c.in_ok-put.ensures.code
     (c.in_ok-added.ensures ∙ ap (λ n. length c.put.new.self - n) c.len-end.ensures) c.in_ok-past.ensures
     c.in_ok-site.ensures.code
     (c.in_ok-added-2.ensures ∙ ap (λ n. length three - n) c.len-middle.ensures)
-    c.in_ok-put_test.ensures
+    c.in_ok-put_test.ensures.code
 
 pub emit_once-returns-clause-code : goal.emit_once-returns-clause-code
 emit_once-returns-clause-code t c =
@@ -83,8 +83,8 @@ emit_turns-returns-clause-code t c =
     let third = part_of c.args.third in
     let body = stmt c.args.body.now in
     let condition = condition_code scope (test_of c.args.condition) in
-    let one = begun condition c.new-turn.result c.put_condition.new.code c.new-turn.ensures c.in_ok-put_condition.ensures in
-    c.in_ok-end_while.ensures (round_code s scope third body p (length condition)) condition
+    let one = begun condition c.new-turn.result c.put_condition.new.code c.new-turn.ensures c.in_ok-put_condition.ensures.code in
+    c.in_ok-end_while.ensures.code (round_code s scope third body p (length condition)) condition
     (c.in_ok-site.ensures.code ∙ ap (λ xs. round_code s scope third body p (length xs) ++ xs) one)
     (c.len-start.ensures ∙ ap length one)
 
@@ -95,8 +95,8 @@ emit_do-returns-clause-code t c =
     let scope = c.args.scope.now in
     let body = stmt c.args.body.now in
     let condition = condition_code scope (While_ (term c.args.condition.now)) in
-    let one = begun condition c.new-turn.result c.put_condition.new.code c.new-turn.ensures c.in_ok-put_condition.ensures in
-    c.in_ok-end_do.ensures (once_code s scope body p (length condition)) condition
+    let one = begun condition c.new-turn.result c.put_condition.new.code c.new-turn.ensures c.in_ok-put_condition.ensures.code in
+    c.in_ok-end_do.ensures.code (once_code s scope body p (length condition)) condition
     (c.in_ok-site.ensures.code ∙ ap (λ xs. once_code s scope body p (length xs) ++ xs) one)
 
 pub emit_for-returns-clause-code : goal.emit_for-returns-clause-code
@@ -104,7 +104,7 @@ emit_for-returns-clause-code t c =
     let one = c.emit_turns.new.code in
     for_placed c.args.setting.now c.args.scope.now c.declare_part.new.scope c.leave_part.new.scope (begun_at c.args.ending c.in_ok-site.site) (part_of c.args.first) (test_of c.args.condition) (part_of c.args.third) (stmt c.args.body.now)
     c.in_ok-behind.behind c.in_ok-past.field-0 c.args.code.now one c.emit_part.new.code c.in_ok-added.field-0
-    c.in_ok-declare_part.ensures (c.leave_part.ensures c.args.scope.now (c.in_ok-behind.ensures.scope ∙ c.in_ok-declare_part.ensures))
+    c.in_ok-declare_part.ensures.declared (c.leave_part.ensures c.args.scope.now (c.in_ok-behind.ensures.scope ∙ c.in_ok-declare_part.ensures.declared))
     c.in_ok-site.ensures.site c.in_ok-behind.ensures.code
     (c.in_ok-added.ensures ∙ ap (λ n. length one - n) c.len-end.ensures) c.in_ok-past.ensures c.in_ok-site.ensures.code
 

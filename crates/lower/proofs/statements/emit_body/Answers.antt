@@ -10,5 +10,5 @@ returns c =
     body_placed c.args.helpers.functions.now c.args.function.now c.args.level c.args.depth c.args.site c.in_ok-emit_all.field-0 c.in_ok-behind.behind c.declare_parameters.new.scope c.as_slice-body.result.now
     c.in_ok-added.field-0 c.args.code.now one c.emit_all.new.code
     c.as_slice-body.ensures.value c.in_ok-behind.ensures c.in_ok-emit_all.ensures.site
-    (c.in_ok-declare_parameters.ensures ∙ ap₂ (λ (z : Scope) ps. record z { variables = parameter_variables ps z.variables }) c.new-scope.ensures c.as_slice.ensures.value)
-    c.in_ok-put_no_value.ensures (c.in_ok-added.ensures ∙ ap (λ n. length one - n) c.len-end.ensures) c.in_ok-emit_all.ensures.code
+    (c.in_ok-declare_parameters.ensures.declared ∙ ap₂ (λ (z : Scope) ps. record z { variables = parameter_variables ps z.variables }) c.new-scope.ensures c.as_slice.ensures.value)
+    c.in_ok-put_no_value.ensures.code (c.in_ok-added.ensures ∙ ap (λ n. length one - n) c.len-end.ensures) c.in_ok-emit_all.ensures.code
