@@ -6,6 +6,7 @@ ghost use Rattle.std.specs.List.{find};
 ghost use Rattle.std.specs.Option.{option_copied};
 ghost use Rattle.clmodel.specs.Typing.Context as typing;
 ghost use Rattle.clmodel.specs.Typing.Context.{declared, variable, function_meaning, meaning, is_free, is_outermost, is_reserved, bind, enter};
+ghost use Rattle.cltypes_scope.specs.Names as spec;
 ghost use Rattle.cltypes_scope.specs.Names.{signature_of, meaning_of, nowhere, with_function, begun, ended, with_loop, left, no_signature};
 
 use crate::meaning::{Meaning, Signature};
@@ -112,7 +113,8 @@ impl Context {
     /// wanting: nothing changes then but the signature of this function, which is lost.
     pub fn end(&mut self) -> Result<(), AllocError>
         requires { typing.signature_of self.old.before self.old.current ≡ None }
-        ensures { OnOk result (self.new ≡ ended self.old) }
+        ensures ended { OnOk result (self.new ≡ ended self.old) }
+        ensures err { OnErr result (self.new ≡ record self.old { signature = spec.no_signature }) }
     {
         let signature = replace(&mut self.signature, no_signature(self.alloc));
         self.before.insert(self.current, signature)?;

@@ -6,8 +6,8 @@ use Rattle.cltypes_scope.specs.contracts.context.Context.{the_view}
 use Rattle.cltypes_scope.proofs.Functions.{seen, not_before, seen_more, ended_as}
 use Rattle.cltypes_scope.proofs.context.Context.end.Goals as goal
 
-pub returns : goal.returns
-returns c =
+pub returns-clause-ended : goal.returns-clause-ended
+returns-clause-ended c =
     let s = c.self.inside in
     let v = the_view s in
     let none = not_before v s.current s.before.entries refl (ap (λ z. typing.signature_of z.before z.current) c.self.view_is ∙ c.requires) in
