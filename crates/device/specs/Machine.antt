@@ -226,6 +226,10 @@ takes_memory (command.Kernel name program function) = true
 takes_memory (command.Arg kernel index argument) = true
 takes_memory (command.Launch kernel range) = true
 
+-- why a command may be refused: the first refusal of its row, or out of memory, where it takes memory
+abbrev pub IsRefusal : Machine → Command → Refusal → Type 0
+IsRefusal old c refusal = (first (row old c) ≡ Some refusal) ⊎ (IsTrue (takes_memory c) × (refusal ≡ OutOfMemory))
+
 -- out of memory may come in place of any answer of a command that takes memory
 abbrev pub LacksMemory : Machine → Command → Reply → Machine → Type 0
 LacksMemory old c r new = IsTrue (takes_memory c) × (r ≡ reply.Refused OutOfMemory) × (new ≡ old)

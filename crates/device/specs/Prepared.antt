@@ -1,12 +1,14 @@
 -- A launch that wasn't refused, and what it came to.
-use Rattle.std.specs.Prelude.{◌≡◌, ℕ, List, None, Some, Result, Ok, Err}
+use Rattle.std.specs.Prelude.{◌≡◌, ℕ, List, None}
 use Rattle.clmodel.specs.Setup.{Setup, buffer_names}
 use Rattle.clmodel.specs.Next.{launch_of}
 use Rattle.clmodel.specs.Outcome.{Concludes}
 use Rattle.clmodel.specs.Tree.{program}
 use Rattle.clmodel.specs.declared.setup.Range.{Range}
 use Rattle.device_store.specs.declared.command.Command.TheVariants as command
-use Rattle.device_store.specs.declared.command.Refusal.{Refusal}
+use Rattle.item_step.specs.Launches as launches
+use Rattle.item_step.specs.declared.launch.Launch.{Launch}
+use Rattle.snapshot_run.specs.Launches.{HasGroups}
 use Rattle.device.specs.Machine.{Machine, first, row, kernel_of, setup_of, bytes_of}
 use Rattle.device.specs.declared.prepared.Prepared.{Prepared}
 use Rattle.device.specs.declared.prepared.Launched.{Launched}
@@ -21,8 +23,13 @@ pub record Came (setup : Setup) (bytes : List ℕ → List ℕ) (launched : Laun
   pub names : launched.names.items ≡ buffer_names setup
   pub concludes : Concludes (launch_of setup bytes) launched.outcome
 
--- the refusal of a launch, or what its run comes to
-abbrev pub Starts : Machine → List ℕ → Range → Result Launched Refusal → Type 0
-Starts m kernel range (Ok launched) =
-    (first (row m (command.Launch kernel range)) ≡ None) × Came (setup_of m (kernel_of m kernel) range) (bytes_of m) launched
-Starts m kernel range (Err refusal) = first (row m (command.Launch kernel range)) ≡ Some refusal
+-- a launch that its row doesn't refuse: it runs the kernel of this name over this range, in whole groups
+pub record IsPrepared (m : Machine) (kernel : List ℕ) (range : Range) (launch : Launch) : Type 0 where
+  pub admitted : first (row m (command.Launch kernel range)) ≡ None
+  pub setup : launches.setup_of launch ≡ setup_of m (kernel_of m kernel) range
+  pub groups : HasGroups (launches.setup_of launch)
+
+-- what the run of a launch comes to that its row doesn't refuse
+pub record Comes (m : Machine) (kernel : List ℕ) (range : Range) (launched : Launched) : Type 0 where
+  pub admitted : first (row m (command.Launch kernel range)) ≡ None
+  pub came : Came (setup_of m (kernel_of m kernel) range) (bytes_of m) launched

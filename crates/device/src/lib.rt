@@ -1,33 +1,28 @@
 //! A simulated OpenCL 1.2 device.
 #![tactic(auto)]
 
-ghost use Rattle.std.specs.Prelude.{◌≡◌, ◌&&◌, IfOk, IfErr, IfSome, OnErr, IsTrue, None, Some, is_some, true, false, ◌≤◌, ◌<◌, ◌+◌, ◌^◌, length, nat_lt};
+ghost use Rattle.std.specs.Prelude.{◌≡◌, IfOk, IfErr, IfSome, Some, is_some, false, ◌≤◌, ◌<◌, ◌+◌, ◌^◌, length, nat_lt};
 ghost use Rattle.std.specs.Option.{option_map};
 ghost use Rattle.clmodel.specs.Tree.{program};
 ghost use Rattle.spaces_base.specs.Tables.{find};
 ghost use Rattle.device.specs.Kept.{ActsAs, AllCompiled};
-ghost use Rattle.device_store.specs.Ranges.{IsLaunchable};
 
 mod compiled;
+mod launching;
 mod prepared;
 
 use crate::compiled::{CompiledKernel, code_of, has_program, holds_buffer, set_argument};
-use crate::prepared::{Launched, Prepared};
-use clmodel::determinacy::{clean_is_complete, determinacy};
-use clmodel::outcome::Outcome;
-use clmodel::run_laws::report_is_shown;
-use clmodel::setup::{Argument, Range};
+use clmodel::setup::Argument;
 use clmodel::text::{Bytes, Name};
 use cltypes::Checked;
 use device_store::build::build;
 pub use device_store::command::{BuildFault, Command, Refusal, Reply};
 use device_store::fills::is_bad_fill;
 use device_store::kernel::{Kernel, kernel_number, parameters_of, suits};
-use device_store::ranges::{is_bad_dimension, is_bad_group, is_too_many};
-use item_step::is_local_too_large;
+pub use item_step::Launch;
 pub use spaces_base::Buffers;
 use spaces_base::Table;
-use std::alloc::{AllocError, Global};
+use std::alloc::Global;
 
 /// The most buffers that a device has.
 const MAX_BUFFERS: usize = 64;
@@ -57,8 +52,7 @@ pub struct Device {
 }
 
 impl Device {
-    ghost use Rattle.device.specs.Machine.{Step, Answers, machine_of, opening, is_used, is_argument, has_kernels, is_in_use, is_there, has_kernel, kernel_of, program_of, setup_of, first, row, takes_memory};
-    ghost use Rattle.device.specs.Prepared.{prepared_setup, Starts};
+    ghost use Rattle.device.specs.Machine.{Step, Answers, machine_of, opening, is_used, is_argument, has_kernels, is_in_use, is_there, has_kernel, kernel_of, program_of};
 
     /// A device without buffers, programs and kernels, on which an item of a launch may make `budget` ticks.
     pub fn new(alloc: Global, budget: u32) -> Self
@@ -125,56 +119,64 @@ impl Device {
         }
     }
 
-    fn make_buffer(&mut self, name: Name, size: u64) -> Result<Reply, AllocError>
+    fn make_buffer(&mut self, name: Name, size: u64) -> Result<Reply, Refusal>
         ensures ok { IfOk result (λ reply. Answers (machine_of self.old) (Command.Buffer name size) reply (machine_of self.new)) }
-        ensures err { OnErr result (machine_of self.new ≡ machine_of self.old) }
+        ensures err { IfErr result (λ refusal. Step (machine_of self.old) (Command.Buffer name size) (Reply.Refused refusal) (machine_of self.new)) }
     {
         if self.is_used(&name) {
-            return Ok(Reply::Refused(Refusal::NameInUse));
+            return Err(Refusal::NameInUse);
         }
         if size == 0 || size > MAX_SIZE {
-            return Ok(Reply::Refused(Refusal::BadSize));
+            return Err(Refusal::BadSize);
         }
         if self.buffers.len() >= MAX_BUFFERS {
-            return Ok(Reply::Refused(Refusal::TooManyBuffers));
+            return Err(Refusal::TooManyBuffers);
         }
         let bytes = Bytes::zeros(self.alloc, size as usize)?;
         self.buffers.insert(name, bytes)?;
         Ok(Reply::Done)
     }
 
-    fn write(&mut self, name: &Name, offset: u64, bytes: &Bytes) -> Reply
-        ensures { Answers (machine_of self.old) (Command.Write name.now offset bytes.now) result (machine_of self.new) }
+    fn write(&mut self, name: &Name, offset: u64, bytes: &Bytes) -> Result<Reply, Refusal>
+        ensures ok { IfOk result (λ reply. Answers (machine_of self.old) (Command.Write name.now offset bytes.now) reply (machine_of self.new)) }
+        ensures err { IfErr result (λ refusal. Step (machine_of self.old) (Command.Write name.now offset bytes.now) (Reply.Refused refusal) (machine_of self.new)) }
     {
         let Some(buffer) = self.buffers.get(name) else {
-            return Reply::Refused(Refusal::NoSuchName);
+            return Err(Refusal::NoSuchName);
         };
         if bytes.is_empty() {
-            return Reply::Refused(Refusal::BadSize);
+            return Err(Refusal::BadSize);
         }
         if bytes.len() > buffer.len() || offset > (buffer.len() - bytes.len()) as u64 {
-            return Reply::Refused(Refusal::OutOfRange);
+            return Err(Refusal::OutOfRange);
         }
         self.buffers.write(name, offset as usize, bytes.as_slice());
-        Reply::Done
+        Ok(Reply::Done)
     }
 
-    fn fill(&mut self, name: &Name, offset: u64, count: u64, pattern: &Bytes) -> Reply
-        ensures { Answers (machine_of self.old) (Command.Fill name.now offset count pattern.now) result (machine_of self.new) }
+    fn fill(
+        &mut self,
+        name: &Name,
+        offset: u64,
+        count: u64,
+        pattern: &Bytes,
+    ) -> Result<Reply, Refusal>
+        ensures ok { IfOk result (λ reply. Answers (machine_of self.old) (Command.Fill name.now offset count pattern.now) reply (machine_of self.new)) }
+        ensures err { IfErr result (λ refusal. Step (machine_of self.old) (Command.Fill name.now offset count pattern.now) (Reply.Refused refusal) (machine_of self.new)) }
     {
         let Some(buffer) = self.buffers.get(name) else {
-            return Reply::Refused(Refusal::NoSuchName);
+            return Err(Refusal::NoSuchName);
         };
         if is_bad_fill(offset, count, pattern.as_slice()) {
-            return Reply::Refused(Refusal::BadSize);
+            return Err(Refusal::BadSize);
         }
         if is_outside(buffer, offset, count) {
-            return Reply::Refused(Refusal::OutOfRange);
+            return Err(Refusal::OutOfRange);
         }
         let pattern = pattern.as_slice();
         self.buffers
             .fill(name, offset as usize, count as usize, pattern);
-        Reply::Done
+        Ok(Reply::Done)
     }
 
     fn copy(
@@ -184,24 +186,24 @@ impl Device {
         target: &Name,
         target_offset: u64,
         count: u64,
-    ) -> Result<Reply, AllocError>
+    ) -> Result<Reply, Refusal>
         ensures ok { IfOk result (λ reply. Answers (machine_of self.old) (Command.Copy source.now offset target.now target_offset count) reply (machine_of self.new)) }
-        ensures err { OnErr result (machine_of self.new ≡ machine_of self.old) }
+        ensures err { IfErr result (λ refusal. Step (machine_of self.old) (Command.Copy source.now offset target.now target_offset count) (Reply.Refused refusal) (machine_of self.new)) }
     {
         let Some(from) = self.buffers.get(source) else {
-            return Ok(Reply::Refused(Refusal::NoSuchName));
+            return Err(Refusal::NoSuchName);
         };
         let Some(to) = self.buffers.get(target) else {
-            return Ok(Reply::Refused(Refusal::NoSuchName));
+            return Err(Refusal::NoSuchName);
         };
         if count == 0 {
-            return Ok(Reply::Refused(Refusal::BadSize));
+            return Err(Refusal::BadSize);
         }
         if is_outside(from, offset, count) || is_outside(to, target_offset, count) {
-            return Ok(Reply::Refused(Refusal::OutOfRange));
+            return Err(Refusal::OutOfRange);
         }
         if source == target && offset < target_offset + count && target_offset < offset + count {
-            return Ok(Reply::Refused(Refusal::Overlap));
+            return Err(Refusal::Overlap);
         }
         let (at, target_at) = (offset as usize, target_offset as usize);
         self.buffers
@@ -209,17 +211,18 @@ impl Device {
         Ok(Reply::Done)
     }
 
-    fn read(&self, name: &Name, offset: u64, count: u64) -> Result<Reply, AllocError>
-        ensures { IfOk result (λ reply. Answers (machine_of self.now) (Command.Read name.now offset count) reply (machine_of self.now)) }
+    fn read(&self, name: &Name, offset: u64, count: u64) -> Result<Reply, Refusal>
+        ensures ok { IfOk result (λ reply. Answers (machine_of self.now) (Command.Read name.now offset count) reply (machine_of self.now)) }
+        ensures err { IfErr result (λ refusal. Step (machine_of self.now) (Command.Read name.now offset count) (Reply.Refused refusal) (machine_of self.now)) }
     {
         let Some(buffer) = self.buffers.get(name) else {
-            return Ok(Reply::Refused(Refusal::NoSuchName));
+            return Err(Refusal::NoSuchName);
         };
         if count == 0 {
-            return Ok(Reply::Refused(Refusal::BadSize));
+            return Err(Refusal::BadSize);
         }
         if is_outside(buffer, offset, count) {
-            return Ok(Reply::Refused(Refusal::OutOfRange));
+            return Err(Refusal::OutOfRange);
         }
         let found = &buffer.as_slice()[offset as usize..(offset + count) as usize];
         Ok(Reply::Data(Bytes::copy_of(self.alloc, found)?))
@@ -249,56 +252,52 @@ impl Device {
             || (self.program(name).is_some() && self.has_kernels(name))
     }
 
-    fn release(&mut self, name: &Name) -> Reply
-        ensures { Answers (machine_of self.old) (Command.Release name.now) result (machine_of self.new) }
+    fn release(&mut self, name: &Name) -> Result<Reply, Refusal>
+        ensures ok { IfOk result (λ reply. Answers (machine_of self.old) (Command.Release name.now) reply (machine_of self.new)) }
+        ensures err { IfErr result (λ refusal. Step (machine_of self.old) (Command.Release name.now) (Reply.Refused refusal) (machine_of self.new)) }
     {
         if !self.is_used(name) {
-            return Reply::Refused(Refusal::NoSuchName);
+            return Err(Refusal::NoSuchName);
         }
         if self.is_in_use(name) {
-            return Reply::Refused(Refusal::InUse);
+            return Err(Refusal::InUse);
         }
         self.buffers.remove(name);
         self.programs.remove(name);
         self.kernels.remove(name);
-        Reply::Done
+        Ok(Reply::Done)
     }
 
     #[tactic(auto, using(crate::proofs::Programs::free))]
-    fn make_program(&mut self, name: Name, source: &Bytes) -> Result<Reply, AllocError>
+    fn make_program(&mut self, name: Name, source: &Bytes) -> Result<Reply, Refusal>
         ensures ok { IfOk result (λ reply. Answers (machine_of self.old) (Command.Program name source.now) reply (machine_of self.new)) }
-        ensures err { OnErr result (machine_of self.new ≡ machine_of self.old) }
+        ensures err { IfErr result (λ refusal. Step (machine_of self.old) (Command.Program name source.now) (Reply.Refused refusal) (machine_of self.new)) }
     {
         if self.is_used(&name) {
-            return Ok(Reply::Refused(Refusal::NameInUse));
+            return Err(Refusal::NameInUse);
         }
         match build(self.alloc, source.as_slice())? {
             Ok(checked) => {
                 self.programs.insert(name, checked)?;
                 Ok(Reply::Done)
             }
-            Err(fault) => Ok(Reply::Refused(Refusal::BuildFailed(fault))),
+            Err(fault) => Err(Refusal::BuildFailed(fault)),
         }
     }
 
     #[tactic(auto, using(crate::proofs::Programs::free_kernel))]
-    fn make_kernel(
-        &mut self,
-        name: Name,
-        program: Name,
-        function: &Name,
-    ) -> Result<Reply, AllocError>
+    fn make_kernel(&mut self, name: Name, program: Name, function: &Name) -> Result<Reply, Refusal>
         ensures ok { IfOk result (λ reply. Answers (machine_of self.old) (Command.Kernel name program function.now) reply (machine_of self.new)) }
-        ensures err { OnErr result (machine_of self.new ≡ machine_of self.old) }
+        ensures err { IfErr result (λ refusal. Step (machine_of self.old) (Command.Kernel name program function.now) (Reply.Refused refusal) (machine_of self.new)) }
     {
         if self.is_used(&name) {
-            return Ok(Reply::Refused(Refusal::NameInUse));
+            return Err(Refusal::NameInUse);
         }
         let Some(checked) = self.program(&program) else {
-            return Ok(Reply::Refused(Refusal::NoSuchName));
+            return Err(Refusal::NoSuchName);
         };
         let Some(number) = kernel_number(&checked.tree, function) else {
-            return Ok(Reply::Refused(Refusal::NoSuchKernel));
+            return Err(Refusal::NoSuchKernel);
         };
         let count = parameters_of(&checked.tree, number).len();
         let code = code_of(self.alloc, checked, number)?;
@@ -308,24 +307,30 @@ impl Device {
         Ok(Reply::Done)
     }
 
-    fn set_argument(&mut self, name: &Name, index: u64, argument: Argument) -> Reply
-        ensures { Answers (machine_of self.old) (Command.Arg name.now index argument) result (machine_of self.new) }
+    fn set_argument(
+        &mut self,
+        name: &Name,
+        index: u64,
+        argument: Argument,
+    ) -> Result<Reply, Refusal>
+        ensures ok { IfOk result (λ reply. Answers (machine_of self.old) (Command.Arg name.now index argument) reply (machine_of self.new)) }
+        ensures err { IfErr result (λ refusal. Step (machine_of self.old) (Command.Arg name.now index argument) (Reply.Refused refusal) (machine_of self.new)) }
     {
         let Some((checked, compiled)) = self.kernel(name) else {
-            return Reply::Refused(Refusal::NoSuchName);
+            return Err(Refusal::NoSuchName);
         };
         let parameters = parameters_of(&checked.tree, compiled.kernel.function());
         let Some(parameter) = parameters.get(index as usize) else {
-            return Reply::Refused(Refusal::BadArgument);
+            return Err(Refusal::BadArgument);
         };
         if !suits(parameter.kind, &argument) {
-            return Reply::Refused(Refusal::BadArgument);
+            return Err(Refusal::BadArgument);
         }
         if !self.is_there(&argument) {
-            return Reply::Refused(Refusal::NoSuchName);
+            return Err(Refusal::NoSuchName);
         }
         set_argument(&mut self.kernels, name, index as usize, argument);
-        Reply::Done
+        Ok(Reply::Done)
     }
 
     /// Whether the buffer that an argument names is there, if it names one.
@@ -338,75 +343,10 @@ impl Device {
         }
     }
 
-    /// A kernel that may be launched over a range, or the launch's refusal.
-    fn prepare(&self, name: &Name, range: &Range) -> Result<Prepared<'_>, Refusal>
-        ensures admitted { IfOk result (λ _. first (row (machine_of self.now) (Command.Launch name.now range.now)) ≡ None) }
-        ensures launchable { IfOk result (λ _. IsLaunchable range.now) }
-        ensures setup { IfOk result (λ p. prepared_setup p range.now ≡ setup_of (machine_of self.now) (kernel_of (machine_of self.now) name.now) range.now) }
-        ensures refused { IfErr result (λ refusal. first (row (machine_of self.now) (Command.Launch name.now range.now)) ≡ Some refusal) }
-    {
-        let Some((checked, compiled)) = self.kernel(name) else {
-            return Err(Refusal::NoSuchName);
-        };
-        let kernel = &compiled.kernel;
-        if is_bad_dimension(range) {
-            return Err(Refusal::BadDimension);
-        }
-        if is_bad_group(range) {
-            return Err(Refusal::BadGroupSize);
-        }
-        if is_too_many(range) {
-            return Err(Refusal::TooManyItems);
-        }
-        if kernel.lacks_argument() {
-            return Err(Refusal::ArgumentsMissing);
-        }
-        if is_local_too_large(&checked.tree, kernel.function(), kernel.arguments()) {
-            return Err(Refusal::LocalTooLarge);
-        }
-        Ok(Prepared {
-            checked,
-            kernel,
-            code: &compiled.code,
-            budget: self.budget,
-        })
-    }
-
-    /// Runs a kernel over a range on the buffers as they are, which it doesn't change, or answers the launch's refusal.
-    fn start(&self, name: &Name, range: &Range) -> Result<Result<Launched, Refusal>, AllocError>
-        ensures { IfOk result (Starts (machine_of self.now) name.now range.now) }
-    {
-        match self.prepare(name, range) {
-            Ok(prepared) => Ok(Ok(prepared.run(self.alloc, &self.buffers, range)?)),
-            Err(refusal) => Ok(Err(refusal)),
-        }
-    }
-
-    fn launch(&mut self, name: &Name, range: &Range) -> Result<Reply, AllocError>
-        ensures ok { IfOk result (λ reply. Answers (machine_of self.old) (Command.Launch name.now range.now) reply (machine_of self.new)) }
-        ensures err { OnErr result (machine_of self.new ≡ machine_of self.old) }
-    {
-        let launched = match self.start(name, range)? {
-            Ok(launched) => launched,
-            Err(refusal) => return Ok(Reply::Refused(refusal)),
-        };
-        let Launched { names, outcome } = launched;
-        determinacy();
-        clean_is_complete();
-        report_is_shown();
-        match outcome {
-            Outcome::Clean(contents) => {
-                self.buffers.replace_all(names.as_slice(), contents);
-                Ok(Reply::Clean)
-            }
-            Outcome::Faulted(fault, schedule) => Ok(Reply::Fault { fault, schedule }),
-        }
-    }
-
-    /// What a command answers and does. An error is out of memory, and nothing is done.
-    fn perform(&mut self, command: Command) -> Result<Reply, AllocError>
+    /// What a command answers and does. A refused one does nothing.
+    fn perform(&mut self, command: Command) -> Result<Reply, Refusal>
         ensures ok { IfOk result (λ reply. Answers (machine_of self.old) command reply (machine_of self.new)) }
-        ensures err { OnErr result (IsTrue (takes_memory command) × (machine_of self.new ≡ machine_of self.old)) }
+        ensures err { IfErr result (λ refusal. Step (machine_of self.old) command (Reply.Refused refusal) (machine_of self.new)) }
     {
         match command {
             Command::Buffer { name, size } => self.make_buffer(name, size),
@@ -414,7 +354,7 @@ impl Device {
                 buffer,
                 offset,
                 bytes,
-            } => Ok(self.write(&buffer, offset, &bytes)),
+            } => self.write(&buffer, offset, &bytes),
             Command::Read {
                 buffer,
                 offset,
@@ -425,7 +365,7 @@ impl Device {
                 offset,
                 count,
                 pattern,
-            } => Ok(self.fill(&buffer, offset, count, &pattern)),
+            } => self.fill(&buffer, offset, count, &pattern),
             Command::Copy {
                 source,
                 offset,
@@ -433,7 +373,7 @@ impl Device {
                 target_offset,
                 count,
             } => self.copy(&source, offset, &target, target_offset, count),
-            Command::Release { name } => Ok(self.release(&name)),
+            Command::Release { name } => self.release(&name),
             Command::Program { name, source } => self.make_program(name, &source),
             Command::Kernel {
                 name,
@@ -444,7 +384,7 @@ impl Device {
                 kernel,
                 index,
                 argument,
-            } => Ok(self.set_argument(&kernel, index, argument)),
+            } => self.set_argument(&kernel, index, argument),
             Command::Launch { kernel, range } => self.launch(&kernel, &range),
         }
     }
@@ -455,7 +395,7 @@ impl Device {
     {
         match self.perform(command) {
             Ok(reply) => reply,
-            Err(AllocError) => Reply::Refused(Refusal::OutOfMemory),
+            Err(refusal) => Reply::Refused(refusal),
         }
     }
 }

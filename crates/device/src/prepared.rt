@@ -5,7 +5,6 @@ ghost use Rattle.std.specs.Prelude.{◌≡◌, ◌≤◌, IfOk};
 ghost use Rattle.item_step.specs.Setups.{plain};
 ghost use Rattle.clmodel.specs.Tree.{program};
 ghost use Rattle.device_store.specs.Ranges.{IsLaunchable};
-ghost use Rattle.spaces_base.specs.Buffers.{bytes_in};
 ghost use Rattle.device.specs.Kept.{ActsAs};
 
 use clmodel::outcome::Outcome;
@@ -16,8 +15,6 @@ use device_store::kernel::Kernel;
 use device_store::ranges::group_items;
 use item_step::{Launch, Setup};
 use regcode::Code;
-use snapshot_merge::run_launch;
-use spaces_base::Buffers;
 use std::alloc::{AllocError, Global};
 
 /// A kernel that may be launched, with its program and its code.
@@ -39,7 +36,7 @@ pub(crate) struct Launched {
 }
 
 /// Copies of names.
-fn copies(alloc: Global, names: &[Name]) -> Result<Vec<Name>, AllocError>
+pub(crate) fn copies(alloc: Global, names: &[Name]) -> Result<Vec<Name>, AllocError>
     ensures { IfOk result (λ copies. copies.items ≡ names.now) }
 {
     let mut copies = Vec::new(alloc);
@@ -49,11 +46,13 @@ fn copies(alloc: Global, names: &[Name]) -> Result<Vec<Name>, AllocError>
     Ok(copies)
 }
 
-impl Prepared<'_> {
-    ghost use Rattle.device.specs.Prepared.{prepared_setup, Came};
+impl<'a> Prepared<'a> {
+    ghost use Rattle.device.specs.Prepared.{prepared_setup};
+    ghost use Rattle.item_step.specs.Launches.{setup_of};
+    ghost use Rattle.snapshot_run.specs.Launches.{HasGroups};
 
     /// What it runs over a range.
-    fn setup<'s>(&'s self, range: &'s Range) -> Setup<'s>
+    fn setup(&self, range: &'a Range) -> Setup<'a>
         ensures { plain result ≡ prepared_setup self.now range.now }
     {
         Setup {
@@ -65,22 +64,13 @@ impl Prepared<'_> {
         }
     }
 
-    /// Runs it over a range on these buffers, which stay as they are. A launch copies the names of its buffers, at most 64, here and in
-    /// `Launch::new`. What the buffers hold isn't copied here: `run_launch` makes one copy of each, in which it joins the groups, and a clean
-    /// outcome hands it on.
-    pub(crate) fn run(
-        &self,
-        alloc: Global,
-        buffers: &Buffers,
-        range: &Range,
-    ) -> Result<Launched, AllocError>
+    /// Its launch over a range.
+    pub(crate) fn launch(&self, alloc: Global, range: &'a Range) -> Result<Launch<'a>, AllocError>
         requires { IsLaunchable range.now }
-        ensures { IfOk result (Came (prepared_setup self.now range.now) (bytes_in buffers.now)) }
+        ensures setup { IfOk result (λ launch. setup_of launch ≡ prepared_setup self.now range.now) }
+        ensures groups { IfOk result (λ launch. HasGroups (setup_of launch)) }
     {
         let group_size = group_items(range);
-        let launch = Launch::new(alloc, self.setup(range), group_size, self.code)?;
-        let names = copies(alloc, launch.buffer_names())?;
-        let outcome = run_launch(alloc, &launch, buffers)?;
-        Ok(Launched { names, outcome })
+        Launch::new(alloc, self.setup(range), group_size, self.code)
     }
 }

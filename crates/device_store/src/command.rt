@@ -1,12 +1,16 @@
 //! Host commands and their replies.
 #![tactic(auto)]
 
+ghost use Rattle.std.specs.Prelude.{◌≡◌};
+ghost use Rattle.device_store.specs.declared.command.Refusal.TheVariants as refusal;
+
 use clmodel::fault::Fault;
 use clmodel::schedule::Schedule;
 use clmodel::setup::{Argument, Range};
 use clmodel::text::{Bytes, Name};
 use clmodel::type_fault::TypeFault;
 use clsyntax_lex::token::SyntaxFault;
+use std::alloc::AllocError;
 
 /// A command of the host (OpenCL 1.2, chapter 5, in an order of their own).
 #[derive(Drop)]
@@ -115,6 +119,14 @@ pub enum Refusal {
     InUse,
     /// 16: memory was refused
     OutOfMemory,
+}
+
+impl From<AllocError> for Refusal {
+    ghost from_gives = { λ _ made. made ≡ refusal.OutOfMemory };
+
+    fn from(_: AllocError) -> Self {
+        Refusal::OutOfMemory
+    }
 }
 
 /// The answer to a command.

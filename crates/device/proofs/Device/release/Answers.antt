@@ -21,8 +21,8 @@ invariant_of-self c =
       limited = device.limited;
     }
 
-pub returns : goal.returns
-returns c =
+pub returns-clause-ok : goal.returns-clause-ok
+returns-clause-ok c =
     let device = c.args.self.now in
     let old : Machine = machine_of device in
     let name = c.args.name.now in

@@ -20,8 +20,8 @@ invariant_of-self c =
       limited = device.limited;
     }
 
-pub returns : goal.returns
-returns c =
+pub returns-clause-ok : goal.returns-clause-ok
+returns-clause-ok c =
     let old : Machine = machine_of c.args.self.now in
     let kernels = c.args.self.now.kernels in
     let compiled = c.in-Some.compiled.now in

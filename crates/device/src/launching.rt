@@ -1,0 +1,98 @@
+//! Launches: their refusals, what they run, and what they leave (OpenCL 1.2, section 5.8).
+#![tactic(auto)]
+
+ghost use Rattle.std.specs.Prelude.{◌≡◌, IfOk, IfErr, None, Some};
+ghost use Rattle.device_store.specs.Ranges.{IsLaunchable};
+
+use crate::Device;
+use crate::prepared::{Launched, Prepared, copies};
+use clmodel::determinacy::{clean_is_complete, determinacy};
+use clmodel::outcome::Outcome;
+use clmodel::run_laws::report_is_shown;
+use clmodel::setup::Range;
+use clmodel::text::Name;
+use device_store::command::{Command, Refusal, Reply};
+use device_store::ranges::{is_bad_dimension, is_bad_group, is_too_many};
+use item_step::{Launch, is_local_too_large};
+use snapshot_merge::run_launch;
+
+impl Device {
+    ghost use Rattle.device.specs.Machine.{Step, Answers, IsRefusal, machine_of, kernel_of, setup_of, first, row};
+    ghost use Rattle.device.specs.Prepared.{prepared_setup, IsPrepared, Comes};
+
+    /// A kernel that may be launched over a range, or the launch's refusal.
+    fn admitted(&self, name: &Name, range: &Range) -> Result<Prepared<'_>, Refusal>
+        ensures admitted { IfOk result (λ _. first (row (machine_of self.now) (Command.Launch name.now range.now)) ≡ None) }
+        ensures launchable { IfOk result (λ _. IsLaunchable range.now) }
+        ensures setup { IfOk result (λ p. prepared_setup p range.now ≡ setup_of (machine_of self.now) (kernel_of (machine_of self.now) name.now) range.now) }
+        ensures refused { IfErr result (λ refusal. first (row (machine_of self.now) (Command.Launch name.now range.now)) ≡ Some refusal) }
+    {
+        let Some((checked, compiled)) = self.kernel(name) else {
+            return Err(Refusal::NoSuchName);
+        };
+        let kernel = &compiled.kernel;
+        if is_bad_dimension(range) {
+            return Err(Refusal::BadDimension);
+        }
+        if is_bad_group(range) {
+            return Err(Refusal::BadGroupSize);
+        }
+        if is_too_many(range) {
+            return Err(Refusal::TooManyItems);
+        }
+        if kernel.lacks_argument() {
+            return Err(Refusal::ArgumentsMissing);
+        }
+        if is_local_too_large(&checked.tree, kernel.function(), kernel.arguments()) {
+            return Err(Refusal::LocalTooLarge);
+        }
+        Ok(Prepared {
+            checked,
+            kernel,
+            code: &compiled.code,
+            budget: self.budget,
+        })
+    }
+
+    /// The launch of a kernel over a range, which runs the kernel's function with the arguments that were set, and by the device's
+    /// budget; nothing is run. The refusals are those of a launch, in their order (OpenCL 1.2, section 5.8); out of memory may come in
+    /// place of any answer.
+    pub fn prepare<'a>(&'a self, name: &Name, range: &'a Range) -> Result<Launch<'a>, Refusal>
+        ensures prepared { IfOk result (IsPrepared (machine_of self.now) name.now range.now) }
+        ensures refused { IfErr result (IsRefusal (machine_of self.now) (Command.Launch name.now range.now)) }
+    {
+        let prepared = self.admitted(name, range)?;
+        Ok(prepared.launch(self.alloc, range)?)
+    }
+
+    /// Runs a kernel over a range on the buffers as they are, which it doesn't change. A launch copies the names of its buffers, at most
+    /// 64, here and in `Launch::new`. What the buffers hold isn't copied here: `run_launch` makes one copy of each, in which it joins
+    /// the groups, and a clean outcome hands it on.
+    fn start(&self, name: &Name, range: &Range) -> Result<Launched, Refusal>
+        ensures came { IfOk result (Comes (machine_of self.now) name.now range.now) }
+        ensures refused { IfErr result (IsRefusal (machine_of self.now) (Command.Launch name.now range.now)) }
+    {
+        let launch = self.prepare(name, range)?;
+        let names = copies(self.alloc, launch.buffer_names())?;
+        let outcome = run_launch(self.alloc, &launch, &self.buffers)?;
+        Ok(Launched { names, outcome })
+    }
+
+    /// Runs a kernel over a range. Where it came out clean, the buffers hold what it left.
+    pub(crate) fn launch(&mut self, name: &Name, range: &Range) -> Result<Reply, Refusal>
+        ensures ok { IfOk result (λ reply. Answers (machine_of self.old) (Command.Launch name.now range.now) reply (machine_of self.new)) }
+        ensures err { IfErr result (λ refusal. Step (machine_of self.old) (Command.Launch name.now range.now) (Reply.Refused refusal) (machine_of self.new)) }
+    {
+        let Launched { names, outcome } = self.start(name, range)?;
+        determinacy();
+        clean_is_complete();
+        report_is_shown();
+        match outcome {
+            Outcome::Clean(contents) => {
+                self.buffers.replace_all(names.as_slice(), contents);
+                Ok(Reply::Clean)
+            }
+            Outcome::Faulted(fault, schedule) => Ok(Reply::Fault { fault, schedule }),
+        }
+    }
+}
