@@ -91,73 +91,57 @@ fn fault_of(alloc: Global, told: Told<'_>) -> Result<Fault, AllocError>
             other_kind,
             place,
             byte,
-        } => {
-            let location = location_of(alloc, place)?;
-            Ok(Fault::Conflict {
-                clash,
-                item,
-                kind,
-                other_item,
-                other_kind,
-                location,
-                byte,
-            })
-        }
+        } => Ok(Fault::Conflict {
+            clash,
+            item,
+            kind,
+            other_item,
+            other_kind,
+            location: location_of(alloc, place)?,
+            byte,
+        }),
         Told::Divergence {
             item,
             stop,
             other_item,
             other_stop,
-        } => {
-            let stop = stop_of(alloc, stop)?;
-            let other_stop = stop_of(alloc, other_stop)?;
-            Ok(Fault::Divergence {
-                item,
-                stop,
-                other_item,
-                other_stop,
-            })
-        }
+        } => Ok(Fault::Divergence {
+            item,
+            stop: stop_of(alloc, stop)?,
+            other_item,
+            other_stop: stop_of(alloc, other_stop)?,
+        }),
         Told::Bounds {
             item,
             kind,
             place,
             element,
-        } => {
-            let location = location_of(alloc, place)?;
-            Ok(Fault::Bounds {
-                item,
-                kind,
-                location,
-                element,
-            })
-        }
+        } => Ok(Fault::Bounds {
+            item,
+            kind,
+            location: location_of(alloc, place)?,
+            element,
+        }),
         Told::Unset {
             item,
             kind,
             place,
             byte,
-        } => {
-            let location = location_of(alloc, place)?;
-            Ok(Fault::Unset {
-                item,
-                kind,
-                location,
-                byte,
-            })
-        }
+        } => Ok(Fault::Unset {
+            item,
+            kind,
+            location: location_of(alloc, place)?,
+            byte,
+        }),
         Told::PrivateBounds {
             item,
             array,
             element,
-        } => {
-            let array = Name::copy_of(alloc, array)?;
-            Ok(Fault::PrivateBounds {
-                item,
-                array,
-                element,
-            })
-        }
+        } => Ok(Fault::PrivateBounds {
+            item,
+            array: Name::copy_of(alloc, array)?,
+            element,
+        }),
         Told::UnsetVariable { item, variable } => {
             let variable = Name::copy_of(alloc, variable)?;
             Ok(Fault::UnsetVariable { item, variable })
@@ -166,14 +150,11 @@ fn fault_of(alloc: Global, told: Told<'_>) -> Result<Fault, AllocError>
             item,
             array,
             element,
-        } => {
-            let array = Name::copy_of(alloc, array)?;
-            Ok(Fault::UnsetElement {
-                item,
-                array,
-                element,
-            })
-        }
+        } => Ok(Fault::UnsetElement {
+            item,
+            array: Name::copy_of(alloc, array)?,
+            element,
+        }),
         Told::DivideByZero { item } => Ok(Fault::DivideByZero { item }),
         Told::DivideOverflow { item } => Ok(Fault::DivideOverflow { item }),
         Told::Budget { item } => Ok(Fault::Budget { item }),
