@@ -6,6 +6,11 @@ ghost use Rattle.clmodel.specs.BuiltIns.{built_in, meanings, meaning_of_place};
 ghost use Rattle.clmodel.specs.Typing.Context.{is_reserved};
 
 use crate::action::Fences;
+use crate::setup::BuiltIn::{Atomic, Integer, WorkDim, WorkItem};
+use crate::setup::Predefined::Function;
+use crate::setup::WorkItemFunction::{
+    GlobalId, GlobalOffset, GlobalSize, GroupId, LocalId, LocalSize, NumGroups,
+};
 use crate::text::{Name, Numbers};
 use clnum::Builtin;
 
@@ -90,30 +95,30 @@ pub enum Predefined {
 
 /// The names that have a meaning without a declaration. A tree's table of names begins with these, in this order.
 pub static PREDEFINED: [(&[u8], Predefined); 26] = [
-    (b"get_work_dim", Predefined::Function(BuiltIn::WorkDim)),
-    (b"get_global_id", Predefined::Function(BuiltIn::WorkItem(WorkItemFunction::GlobalId))),
-    (b"get_local_id", Predefined::Function(BuiltIn::WorkItem(WorkItemFunction::LocalId))),
-    (b"get_group_id", Predefined::Function(BuiltIn::WorkItem(WorkItemFunction::GroupId))),
-    (b"get_global_offset", Predefined::Function(BuiltIn::WorkItem(WorkItemFunction::GlobalOffset))),
-    (b"get_global_size", Predefined::Function(BuiltIn::WorkItem(WorkItemFunction::GlobalSize))),
-    (b"get_local_size", Predefined::Function(BuiltIn::WorkItem(WorkItemFunction::LocalSize))),
-    (b"get_num_groups", Predefined::Function(BuiltIn::WorkItem(WorkItemFunction::NumGroups))),
-    (b"min", Predefined::Function(BuiltIn::Integer(Builtin::Min))),
-    (b"max", Predefined::Function(BuiltIn::Integer(Builtin::Max))),
-    (b"abs", Predefined::Function(BuiltIn::Integer(Builtin::Abs))),
-    (b"clz", Predefined::Function(BuiltIn::Integer(Builtin::Clz))),
-    (b"popcount", Predefined::Function(BuiltIn::Integer(Builtin::Popcount))),
-    (b"rotate", Predefined::Function(BuiltIn::Integer(Builtin::Rotate))),
+    (b"get_work_dim", Function(WorkDim)),
+    (b"get_global_id", Function(WorkItem(GlobalId))),
+    (b"get_local_id", Function(WorkItem(LocalId))),
+    (b"get_group_id", Function(WorkItem(GroupId))),
+    (b"get_global_offset", Function(WorkItem(GlobalOffset))),
+    (b"get_global_size", Function(WorkItem(GlobalSize))),
+    (b"get_local_size", Function(WorkItem(LocalSize))),
+    (b"get_num_groups", Function(WorkItem(NumGroups))),
+    (b"min", Function(Integer(Builtin::Min))),
+    (b"max", Function(Integer(Builtin::Max))),
+    (b"abs", Function(Integer(Builtin::Abs))),
+    (b"clz", Function(Integer(Builtin::Clz))),
+    (b"popcount", Function(Integer(Builtin::Popcount))),
+    (b"rotate", Function(Integer(Builtin::Rotate))),
     (b"barrier", Predefined::Barrier),
-    (b"atomic_add", Predefined::Function(BuiltIn::Atomic(AtomicFunction::Add))),
-    (b"atomic_sub", Predefined::Function(BuiltIn::Atomic(AtomicFunction::Sub))),
-    (b"atomic_min", Predefined::Function(BuiltIn::Atomic(AtomicFunction::Min))),
-    (b"atomic_max", Predefined::Function(BuiltIn::Atomic(AtomicFunction::Max))),
-    (b"atomic_and", Predefined::Function(BuiltIn::Atomic(AtomicFunction::And))),
-    (b"atomic_or", Predefined::Function(BuiltIn::Atomic(AtomicFunction::Or))),
-    (b"atomic_xor", Predefined::Function(BuiltIn::Atomic(AtomicFunction::Xor))),
-    (b"atomic_inc", Predefined::Function(BuiltIn::Atomic(AtomicFunction::Inc))),
-    (b"atomic_dec", Predefined::Function(BuiltIn::Atomic(AtomicFunction::Dec))),
+    (b"atomic_add", Function(Atomic(AtomicFunction::Add))),
+    (b"atomic_sub", Function(Atomic(AtomicFunction::Sub))),
+    (b"atomic_min", Function(Atomic(AtomicFunction::Min))),
+    (b"atomic_max", Function(Atomic(AtomicFunction::Max))),
+    (b"atomic_and", Function(Atomic(AtomicFunction::And))),
+    (b"atomic_or", Function(Atomic(AtomicFunction::Or))),
+    (b"atomic_xor", Function(Atomic(AtomicFunction::Xor))),
+    (b"atomic_inc", Function(Atomic(AtomicFunction::Inc))),
+    (b"atomic_dec", Function(Atomic(AtomicFunction::Dec))),
     (
         b"CLK_LOCAL_MEM_FENCE",
         Predefined::Fence(Fences {

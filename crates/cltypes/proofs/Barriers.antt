@@ -10,8 +10,7 @@ use Rattle.clmodel.specs.declared.tree.VariableType.TheVariants.{Integer as Numb
 use Rattle.clmodel.specs.declared.type_fault.TypeFault.TheVariants as fault
 use Rattle.clmodel.specs.Tree as tree
 use Rattle.clmodel.specs.Tree.{Term, Terms, NoTerm, ThenTerm}
-use Rattle.clmodel.specs.declared.declaration.Declaration.TheVariants.{Single}
-use Rattle.clmodel.specs.Typing.Context.{Context, meaning, Bound, Barrier, fenced}
+use Rattle.clmodel.specs.Typing.Context.{Context, meaning, Barrier, fenced}
 use Rattle.clmodel.specs.Typing.Least.{least, first, node}
 use Rattle.clmodel.specs.Typing.Rules as rule
 use Rattle.clmodel.specs.Typing.Rules.{Types, count}

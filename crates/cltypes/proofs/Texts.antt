@@ -15,7 +15,7 @@ use Rattle.cltypes_limits.specs.Limits.{IsSummary}
 use Rattle.clmodel.specs.Typing.Least.{first}
 use Rattle.clmodel.specs.Typing.Functions.{names, signature, signatures, function_faults, functions_faults, program_faults}
 use Rattle.cltypes_scope.specs.Names.{with_function}
-use Rattle.cltypes.specs.Answers.{IsFaultOf, Ends}
+use Rattle.cltypes.specs.Answers.{IsFaultOf}
 use Rattle.cltypes.specs.Views.{functions_of, known}
 use Rattle.cltypes_scope.proofs.Follows.{inside_first, inside_second, neither_of}
 use Rattle.cltypes.proofs.Programs.{program_sound, program_fault, typed_has_none}

@@ -3,7 +3,7 @@ use Rattle.std.proofs.Common.{◌≡◌, ℕ, suc, ◌+◌, ◌<◌, ◌≤◌, 
 use Rattle.std.proofs.Math.Seq.{get_or-append_seam}
 use Rattle.std.proofs.lemmas.Option.{slice_get-get_or, none-some}
 use Rattle.clnum.specs.declared.int_type.IntType.{IntType}
-use Rattle.clmodel.specs.Next.{Run, finish, Variables, Helpers, Follows, held, content, bound, returned_by, as_body, at_the_end, sites_in, exec_all, helper}
+use Rattle.clmodel.specs.Next.{Run, finish, Variables, Helpers, held, content, bound, returned_by, as_body, at_the_end, sites_in, exec_all, helper}
 use Rattle.clmodel.specs.Next as next
 use Rattle.clmodel.specs.Tree.{Func, Funcs, NoFunc, ThenFunc}
 use Rattle.clmodel.specs.declared.operand.Operand.{Operand}

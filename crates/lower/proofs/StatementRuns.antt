@@ -3,7 +3,7 @@ use Rattle.std.proofs.Common.{◌≡◌, ℕ, zero, suc, ◌+◌, ◌≤◌, ◌
 use Rattle.clnum.specs.declared.int_type.IntType.{IntType}
 use Rattle.clmodel.specs.Barrier.{is_barrier}
 use Rattle.clmodel.specs.BuiltIns.{built_in}
-use Rattle.clmodel.specs.Next.{Run, finish, Variables, Helpers, Follows, leave, leaving, in_loop, assign, held, helper_call, value_of, private_array, has_elements, step_operator, sites, part_sites, all_sites, exec, exec_part, exec_all}
+use Rattle.clmodel.specs.Next.{Run, finish, Variables, Helpers, Follows, leave, leaving, in_loop, assign, held, helper_call, private_array, has_elements, step_operator, sites, part_sites, all_sites, exec, exec_part, exec_all}
 use Rattle.clmodel.specs.Next as bindings
 use Rattle.clmodel.specs.Tree.{array_length, Stmt, Empty, Block, Declare, DeclareAs, DeclareArray, Assign, Step, CallOnly, If, IfElse, While, DoWhile, For, Break, Continue, Return, ReturnValue, Stmts, NoStmt, ThenStmt, MaybeStmt, Without, With, While_}
 use Rattle.clmodel.specs.declared.access.Object.TheVariants as object

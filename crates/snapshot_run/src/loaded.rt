@@ -7,8 +7,7 @@ ghost use Rattle.spaces_base.specs.Buffers.{bytes_in};
 
 use clmodel::text::Name;
 use group_run::{Described, Runnable};
-use item_step::Item;
-use item_step::Launch;
+use item_step::{Item, Launch};
 use spaces_base::Buffers;
 use std::alloc::{AllocError, Global};
 

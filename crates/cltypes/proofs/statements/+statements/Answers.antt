@@ -5,14 +5,14 @@ use Rattle.clmodel.specs.Tree.{term, stmt, maybe_term}
 use Rattle.clmodel.specs.Typing.Context.{enter, turning, after, after_part, after_all}
 use Rattle.clmodel.specs.Typing.Faults.{integer_faults, kind_of, start, term_faults, condition_parts, condition_faults, part_faults, faults}
 use Rattle.clmodel.specs.Typing.Least.{least, first}
-use Rattle.cltypes_scope.specs.Names.{left, with_loop}
+use Rattle.cltypes_scope.specs.Names.{left}
 use Rattle.cltypes_scope.proofs.Follows.{inside, inside_first, inside_second, neither_of, own_fault}
 use Rattle.cltypes.specs.Answers.{Ends}
 use Rattle.cltypes.specs.Views.{held, turns_faults}
 use Rattle.cltypes.proofs.Control.{through, handed_on, ends_as, for_view, for_first, in_first, in_rest}
 use Rattle.cltypes_limits.specs.Limits.{statements}
 use Rattle.clmodel.proofs.Trees.{block_view}
-use Rattle.cltypes.proofs.Bodies.{left_after, left_part, left_block, statement_inside, statement_more, statement_after}
+use Rattle.cltypes.proofs.Bodies.{left_part, left_block, statement_inside, statement_more, statement_after}
 use Rattle.cltypes.proofs.statements.+statements.Goals as goal
 
 pub check_block-returns-clause-left : goal.check_block-returns-clause-left

@@ -1,7 +1,7 @@
 use Rattle.std.proofs.Common.{ℕ, Option, Some, List, subst}
 use Rattle.clmodel.specs.Next.{Run, read_element}
 use Rattle.clmodel.specs.declared.operand.Operand.{Operand}
-use Rattle.regcode.specs.Machine.{read, with_put, State}
+use Rattle.regcode.specs.Machine.{read, with_put}
 use Rattle.item_value.specs.Givens.{given}
 use Rattle.item_value.specs.Arrays.{registers_with}
 use Rattle.item_value.specs.Leading.{Leads}
