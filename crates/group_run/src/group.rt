@@ -1,6 +1,6 @@
 //! The items of a group with their memory and their log.
 
-ghost use Rattle.std.specs.Prelude.{◌≡◌, ◌+◌, ◌-◌, ◌<◌, ◌≤◌, ◌^◌, ℕ, List, Option, None, Some, length, IfOk, IfSome};
+ghost use Rattle.std.specs.Prelude.{◌≡◌, ◌+◌, ◌-◌, ◌<◌, ◌≤◌, ◌^◌, ℕ, List, Option, None, Some, length, IfOk, IfSome, OnOk};
 ghost use Rattle.clmodel.specs.Cells.{size_of};
 ghost use Rattle.clmodel.specs.Launch.{first_byte};
 ghost use Rattle.clmodel.specs.declared.action.Answer.TheVariants.{Done};
@@ -91,13 +91,15 @@ fn pass<L: AccessLog>(log: &mut L, fences: Fences)
     }
 }
 
-/// Answers all items that their barrier is passed.
-fn answer_all<I: RunningItem>(items: &mut Vec<I>)
-    ensures { AreAnswered I.acts Done items.old.items items.new.items }
+/// Answers all items that their barrier is passed. An error is out of memory.
+fn answer_all<I: RunningItem>(items: &mut Vec<I>) -> Result<(), AllocError>
+    ensures many { length items.new.items ≡ length items.old.items }
+    ensures answered { OnOk result (AreAnswered I.acts Done items.old.items items.new.items) }
 {
     for k in 0..items.len() {
-        items[k].answer(Answer::Done);
+        items[k].answer(Answer::Done)?;
     }
+    Ok(())
 }
 
 impl<'a, D: Described, I: RunningItem, G: Space, L: AccessLog> Machine for Group<'a, D, I, G, L> {
@@ -122,7 +124,7 @@ impl<'a, D: Described, I: RunningItem, G: Space, L: AccessLog> Machine for Group
         self.items.len() as u32
     }
 
-    fn next(&mut self, k: u32) -> Action {
+    fn next(&mut self, k: u32) -> Result<Action, AllocError> {
         self.items[k as usize].next()
     }
 
@@ -163,15 +165,16 @@ impl<'a, D: Described, I: RunningItem, G: Space, L: AccessLog> Machine for Group
         };
         let entry = Entry::of(item, region, first, operation, self.made);
         let fault = judge(self.launch, &mut self.log, entry)?;
-        self.items[k as usize].answer(answer);
+        self.items[k as usize].answer(answer)?;
         self.made += 1;
         Ok(Made::judged(fault))
     }
 
-    fn release(&mut self, fences: Fences) {
+    fn release(&mut self, fences: Fences) -> Result<(), AllocError> {
         pass(&mut self.log, fences);
-        answer_all(&mut self.items);
+        answer_all(&mut self.items)?;
         self.made += 1;
+        Ok(())
     }
 
     fn fault_of(&self, item: u32, cause: Cause) -> Result<Fault, AllocError> {

@@ -82,4 +82,4 @@ returns-clause-made g c =
     let entry = c.of-entry.ensures ∙ ap (λ z. entry_of (t.first + c.args.k) z first op t.made) c.region-region.ensures in
     let judged = subst (λ z. IsJudged p.launch (g.L.Accesses.log t.log) z log2 c.in_ok-fault-2.fault) entry c.in_ok-fault-2.ensures in
     let there = slice_get_read t.items.items (length t.items.items) c.args.k i refl c.requires.inside c.index_mut.ensures.value in
-    access_made acts bytes g.G.Space.read_only p t.items.items t.made t.buffers.items t.locals.items (g.L.Accesses.log t.log) c.args.k o element op c.requires.inside r xs ys log2 i j first c.in-Ok.answer c.in_ok-fault-2.fault last there place moved c.answer.ensures judged c.judged.result c.judged.ensures
+    access_made acts bytes g.G.Space.read_only p t.items.items t.made t.buffers.items t.locals.items (g.L.Accesses.log t.log) c.args.k o element op c.requires.inside r xs ys log2 i j first c.in-Ok.answer c.in_ok-fault-2.fault last there place moved c.in_ok-answer.ensures judged c.judged.result c.judged.ensures

@@ -36,4 +36,4 @@ returns-clause-made g c = λ events s fits gathered instance waits.
     let r : Plan = record { launch = p.launch; group = p.group; first = p.first; count = length items2 } in
     let last : r ≡ p = ap (λ n. record { launch = p.launch; group = p.group; first = p.first; count = n }) c.answer_all.ensures.many in
     release_made g.I.RunningItem.acts g.G.Space.bytes g.G.Space.read_only p r t.items.items items2 t.made t.buffers.items t.locals.items (g.L.Accesses.log t.log)
-    (g.L.Accesses.log c.pass.new.log) events s instance c.args.fences last fits refl gathered waits c.answer_all.ensures c.pass.ensures
+    (g.L.Accesses.log c.pass.new.log) events s instance c.args.fences last fits refl gathered waits c.in_ok-answer_all.ensures.answered c.pass.ensures
