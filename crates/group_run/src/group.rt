@@ -6,12 +6,14 @@ ghost use Rattle.clmodel.specs.Launch.{first_byte};
 ghost use Rattle.clmodel.specs.declared.action.Answer.TheVariants.{Done};
 ghost use Rattle.shadow_list.specs.Log.{Log, IsPlaced};
 ghost use Rattle.group_run.specs.Fits.{Fits, AreAnswered, space_of};
+ghost use Rattle.group_run.specs.Items.{acts_of};
 ghost use Rattle.group_run.specs.Logs.{IsJudged, after_fences, conflict_of};
 
 use crate::describing::{self, Described, bounds_fault, unset_fault};
-use crate::item::RunningItem;
+use crate::item::Slot;
 use crate::machine::{Machine, Made};
 use crate::performing::{perform_on, size_of};
+use crate::runnable::Runnable;
 use clmodel::access::{Conflict, Object, Operation};
 use clmodel::action::{Action, Answer, Cause, Fences};
 use clmodel::fault::Fault;
@@ -22,11 +24,11 @@ use std::alloc::AllocError;
 /// A work-group that runs: its items, how many events they have made, the launch's buffers and the group's local objects in their
 /// order, and the log of the accesses.
 #[derive(Drop)]
-pub struct Group<'a, D, I, G, L> {
+pub struct Group<'a, D, G, L> {
     pub(crate) launch: &'a D,
     pub(crate) number: u32,
     pub(crate) first: u32,
-    pub(crate) items: Vec<I>,
+    pub(crate) items: Vec<Slot<'a, D>>,
     pub(crate) made: u32,
     pub(crate) buffers: Vec<G>,
     pub(crate) locals: Vec<LocalMem>,
@@ -92,9 +94,9 @@ fn pass<L: AccessLog>(log: &mut L, fences: Fences)
 }
 
 /// Answers all items that their barrier is passed. An error is out of memory.
-fn answer_all<I: RunningItem>(items: &mut Vec<I>) -> Result<(), AllocError>
+fn answer_all<D: Runnable>(items: &mut Vec<Slot<'_, D>>) -> Result<(), AllocError>
     ensures many { length items.new.items ≡ length items.old.items }
-    ensures answered { OnOk result (AreAnswered I.acts Done items.old.items items.new.items) }
+    ensures answered { OnOk result (AreAnswered (acts_of D.Described.launch) Done items.old.items items.new.items) }
 {
     for k in 0..items.len() {
         items[k].answer(Answer::Done)?;
@@ -102,13 +104,14 @@ fn answer_all<I: RunningItem>(items: &mut Vec<I>) -> Result<(), AllocError>
     Ok(())
 }
 
-impl<'a, D: Described, I: RunningItem, G: Space, L: AccessLog> Machine for Group<'a, D, I, G, L> {
+impl<'a, D: Runnable, G: Space, L: AccessLog> Machine for Group<'a, D, G, L> {
     ghost use Rattle.std.specs.Prelude.{◌-◌, ◌^◌, length};
     ghost use Rattle.group_run.specs.Fits.{Fits};
+    ghost use Rattle.group_run.specs.Items.{acts_of};
 
-    ghost plan = { λ m. record { launch = D.launch m.launch.now; group = m.number; first = m.first; count = length m.items.items } };
+    ghost plan = { λ m. record { launch = D.Described.launch m.launch.now; group = m.number; first = m.first; count = length m.items.items } };
 
-    ghost fits = { λ m. Fits I.acts G.bytes G.read_only (record { launch = D.launch m.launch.now; group = m.number; first = m.first; count = length m.items.items }) m.items.items m.made m.buffers.items m.locals.items (L.Accesses.log m.log) };
+    ghost fits = { λ m. Fits (acts_of D.Described.launch) G.bytes G.read_only (record { launch = D.Described.launch m.launch.now; group = m.number; first = m.first; count = length m.items.items }) m.items.items m.made m.buffers.items m.locals.items (L.Accesses.log m.log) };
 
     ghost ticks = { λ m k. 2 ^ 32 - m.made };
 

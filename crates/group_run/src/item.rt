@@ -1,7 +1,6 @@
-//! What the run of a group asks of a single item.
+//! A single item of a group as it runs.
 
 ghost use Rattle.std.specs.Prelude.{◌≡◌, [], ◌∷◌, List, IfOk, OnOk};
-ghost use Rattle.clmodel.specs.declared.action.Action.{Action};
 ghost use Rattle.clmodel.specs.declared.action.Answer.{Answer};
 ghost use Rattle.group_run.specs.Items.{acts_of, IsAsked};
 
@@ -10,22 +9,8 @@ use clmodel::action::{Action, Answer};
 use item_step::Item;
 use std::alloc::{AllocError, Global};
 
-/// A work-item that runs, seen as the action that it makes after each list of further answers (OpenCL 1.2, section 3.2). Errors are
-/// out of memory.
-pub trait RunningItem {
-    ghost acts: { Self → List Answer → Action };
-
-    /// The action that the item makes next.
-    fn next(&mut self) -> Result<Action, AllocError>
-        ensures action { IfOk result (λ action. action ≡ acts self.old []) }
-        ensures same { (answers : List Answer) → acts self.new answers ≡ acts self.old answers };
-
-    /// The item's next action is answered.
-    fn answer(&mut self, answer: Answer) -> Result<(), AllocError>
-        ensures { OnOk result ((answers : List Answer) → acts self.new answers ≡ acts self.old (answer ∷ answers)) };
-}
-
-/// A work-item of a group as it runs. It is started when it is first asked, and one that has ended keeps no memory.
+/// A work-item of a group as it runs (OpenCL 1.2, section 3.2), seen as the action that it makes after each list of further answers. It is
+/// started when it is first asked, and one that has ended keeps no memory.
 #[derive(Drop)]
 pub enum Slot<'a, D> {
     /// It wasn't asked yet.
@@ -56,14 +41,12 @@ impl<'a, D: Runnable> Slot<'a, D> {
         }
         Ok(())
     }
-}
 
-impl<'a, D: Runnable> RunningItem for Slot<'a, D> {
-    ghost use Rattle.group_run.specs.Items.{acts_of};
-
-    ghost acts = { acts_of D.Described.launch };
-
-    fn next(&mut self) -> Result<Action, AllocError> {
+    /// The action that the item makes next. An error is out of memory.
+    pub fn next(&mut self) -> Result<Action, AllocError>
+        ensures action { IfOk result (λ action. action ≡ acts_of D.Described.launch self.old []) }
+        ensures same { (answers : List Answer) → acts_of D.Described.launch self.new answers ≡ acts_of D.Described.launch self.old answers }
+    {
         self.start()?;
         let Slot::Running(item) = self else {
             return Ok(Action::End);
@@ -75,7 +58,10 @@ impl<'a, D: Runnable> RunningItem for Slot<'a, D> {
         Ok(action)
     }
 
-    fn answer(&mut self, answer: Answer) -> Result<(), AllocError> {
+    /// The item's next action is answered. An error is out of memory.
+    pub fn answer(&mut self, answer: Answer) -> Result<(), AllocError>
+        ensures { OnOk result ((answers : List Answer) → acts_of D.Described.launch self.new answers ≡ acts_of D.Described.launch self.old (answer ∷ answers)) }
+    {
         self.start()?;
         if let Slot::Running(item) = self {
             item.answer(answer);

@@ -40,12 +40,7 @@ fn leader<M: Machine>(m: &mut M) -> Result<Stop, AllocError>
 }
 
 /// Judges an item's stop. An error is out of memory.
-fn stop_at<M: Machine>(
-    m: &mut M,
-    k: u32,
-    stop: Stop,
-    runs: &Runs,
-) -> Result<ItemRun, AllocError>
+fn stop_at<M: Machine>(m: &mut M, k: u32, stop: Stop, runs: &Runs) -> Result<ItemRun, AllocError>
     ghost origin: { State }
     requires whole { IsGroup (M.plan m.old) }
     requires inside { k < (M.plan m.old).count }

@@ -19,7 +19,7 @@ run_items-requires g c κs within =
     (g.L.Accesses.log c.args.log) c.requires.runnable c.requires.there c.requires.writable c.requires.filled
     (c.in_ok-locals.ensures ∙ ap (map (λ size. replicate size None)) c.local_sizes.ensures) c.requires.fresh (ap (λ n. c.args.group * n) size.ensures) size.ensures
     c.in_ok-items.ensures in (
-      search (lives, within.0.0, within.0.1.0, within.1.0, within.1.1.0, within.1.1.1.0) depth 64 fits 20000,
+      search (lives, within.0.0, within.1.0, within.1.1.0, within.1.1.1.0) depth 64 fits 20000,
       (b.whole, (b.brief, subst (Reached p fits (start l)) (sym c.new-runs.ensures) b.reached)),
     )
 

@@ -11,11 +11,12 @@ use Rattle.joining.specs.Group.{Plan}
 use Rattle.shadow_list.specs.Log.{entry_of}
 use Rattle.group_run.specs.Logs.{IsJudged}
 use Rattle.group_run.proofs.Stepping.{access_made, unset_made, access_room}
+use Rattle.group_run.specs.Items.{acts_of}
 use Rattle.group_run.proofs.group.GroupMachine.access.Goals as goal
 
 pub overflow_add-self : goal.overflow_add-self
 overflow_add-self g c =
-    let acts = g.I.RunningItem.acts in
+    let acts = acts_of g.D.Described.launch in
     let bytes = g.G.Space.bytes in
     let t = c.args.self.now in
     let p : Plan = record { launch = g.D.Described.launch t.launch.now; group = t.number; first = t.first; count = length t.items.items } in
@@ -32,7 +33,7 @@ unreachable-requires-in-Err-ReadOnly g c = subst (IsMoved (ObjectsHold g.G.Space
 
 pub returns-in-Err-Unset-clause-made : goal.returns-in-Err-Unset-clause-made
 returns-in-Err-Unset-clause-made g c =
-    let acts = g.I.RunningItem.acts in
+    let acts = acts_of g.D.Described.launch in
     let bytes = g.G.Space.bytes in
     let t = c.args.self.now in
     let p : Plan = record { launch = g.D.Described.launch t.launch.now; group = t.number; first = t.first; count = length t.items.items } in
@@ -56,7 +57,7 @@ returns-in-Err-Unset-clause-made g c =
 
 pub returns-clause-made : goal.returns-clause-made
 returns-clause-made g c =
-    let acts = g.I.RunningItem.acts in
+    let acts = acts_of g.D.Described.launch in
     let bytes = g.G.Space.bytes in
     let t = c.args.self.now in
     let p : Plan = record { launch = g.D.Described.launch t.launch.now; group = t.number; first = t.first; count = length t.items.items } in
