@@ -1,4 +1,4 @@
-use Rattle.std.proofs.Common.{rules, lives, subst, ◌*◌, ◌+◌, ◌<◌, ◌^◌, ◌≡◌, length, refl, sym, ap, ◌∙◌, map, replicate, None}
+use Rattle.std.proofs.Common.{lives, subst, ◌*◌, ◌+◌, ◌<◌, ◌^◌, ◌≡◌, length, refl, sym, ap, ◌∙◌, map, replicate, None}
 use Rattle.group_run.specs.Items.{acts_of}
 use Rattle.clmodel.specs.Outcome.{events_of}
 use Rattle.clmodel.specs.Run.{State, Events, start}
