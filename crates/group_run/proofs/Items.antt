@@ -7,7 +7,6 @@ use Rattle.clmodel.specs.declared.action.Action.{Action}
 use Rattle.clmodel.specs.declared.action.Answer.{Answer}
 use Rattle.clmodel.specs.Launch.{Launch}
 use Rattle.clmodel.proofs.Steps.{none_some, some_inj}
-use Rattle.item_step.specs.Running.{Running, action_of}
 use Rattle.group_run.specs.Fits.{AreAnswered, AreStarted}
 use Rattle.group_run.proofs.Lists.{get_set}
 
@@ -73,22 +72,22 @@ get_last (z ∷ xs) x (suc j) y e = go (get_last xs x j y e)
     go (inl c) = inl (ap suc c.0, c.1)
     go (inr c) = inr c
 
-pub started_none : (l : Launch) (first : ℕ) → AreStarted l first 0 []
-started_none l first =
+pub started_none : {I : Type 0} (acts : I → List Answer → Action) (l : Launch) (first : ℕ) → AreStarted acts l first 0 []
+started_none acts l first =
     record {
       many = refl;
       each = λ k i e. absurd (none_some i e);
     }
 
 pub started_more :
-    (l : Launch) (first k : ℕ) (items : List Running) (i : Running) → AreStarted l first k items → ((answers : List Answer) → action_of i answers ≡ l.next (first + k) answers)
-    → AreStarted l first (k + 1) (items ++ i ∷ [])
-started_more l first k items i h starts =
+    {I : Type 0} (acts : I → List Answer → Action) (l : Launch) (first k : ℕ) (items : List I) (i : I) → AreStarted acts l first k items
+    → ((answers : List Answer) → acts i answers ≡ l.next (first + k) answers) → AreStarted acts l first (k + 1) (items ++ i ∷ [])
+started_more {I} acts l first k items i h starts =
     record {
       many = length-append items (i ∷ []) ∙ ap (λ n. n + 1) h.many;
       each = λ j y e. each j y (get_last items i j y e);
     }
   where
-    each : (j : ℕ) (y : Running) → ((j ≡ length items) × (i ≡ y)) ⊎ (slice_get items j ≡ Some y) → (answers : List Answer) → action_of y answers ≡ l.next (first + j) answers
-    each j y (inl c) answers = ap (λ z. action_of z answers) (sym c.1) ∙ starts answers ∙ ap (λ n. l.next (first + n) answers) (sym (c.0 ∙ h.many))
+    each : (j : ℕ) (y : I) → ((j ≡ length items) × (i ≡ y)) ⊎ (slice_get items j ≡ Some y) → (answers : List Answer) → acts y answers ≡ l.next (first + j) answers
+    each j y (inl c) answers = ap (λ z. acts z answers) (sym c.1) ∙ starts answers ∙ ap (λ n. l.next (first + n) answers) (sym (c.0 ∙ h.many))
     each j y (inr c) answers = h.each j y c answers

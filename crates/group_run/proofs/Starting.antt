@@ -13,7 +13,6 @@ use Rattle.clmodel.specs.declared.action.Answer.{Answer}
 use Rattle.clmodel.specs.declared.access.Region.TheVariants as region
 use Rattle.clmodel.specs.declared.fault.Fault.{Fault}
 use Rattle.clmodel.proofs.Steps.{none_some, some_inj}
-use Rattle.item_step.specs.Running.{Running, action_of}
 use Rattle.shadow_list.specs.Log.{Log, fresh_log}
 use Rattle.group_run.specs.Fits.{SpacesHold, Fits, AreStarted}
 use Rattle.joining.specs.Parts.{IsGrouped}
@@ -130,14 +129,14 @@ from_none : (a b : ℕ) → a ≤ b → 0 + a ≤ b
 from_none a b h = omega (arith, h)
 
 pub start_fits :
-    {G : Type 0} (bytes : G → List (Option ℕ)) (ro : Bool) (l : Launch) (group : ℕ) (items : List Running) (globals : List G) (locals : List (List (Option ℕ))) (log : Log)
+    {I G : Type 0} (acts : I → List Answer → Action) (bytes : G → List (Option ℕ)) (ro : Bool) (l : Launch) (group : ℕ) (items : List I) (globals : List G) (locals : List (List (Option ℕ))) (log : Log)
     → IsRunnable l → group * l.group_size < l.items → ro ≡ false → map bytes globals ≡ filled l → locals ≡ map (λ size. replicate size None) l.local_sizes
-    → log ≡ fresh_log → AreStarted l (group * l.group_size) l.group_size items
-    → Fits action_of bytes ro (plan_of l group) items 0 globals locals log [] (start l)
-start_fits bytes ro l group items globals locals log ready there writable full unset fresh started =
+    → log ≡ fresh_log → AreStarted acts l (group * l.group_size) l.group_size items
+    → Fits acts bytes ro (plan_of l group) items 0 globals locals log [] (start l)
+start_fits acts bytes ro l group items globals locals log ready there writable full unset fresh started =
     let bound = ready.bounded.0 in
-    subst (λ z. Fits action_of bytes ro (plan_of l group) items 0 globals locals z [] (start l)) (sym fresh)
-    (subst (λ z. Fits action_of bytes ro (plan_of l group) items 0 globals z (fresh_log) [] (start l)) (sym unset)
+    subst (λ z. Fits acts bytes ro (plan_of l group) items 0 globals locals z [] (start l)) (sym fresh)
+    (subst (λ z. Fits acts bytes ro (plan_of l group) items 0 globals z (fresh_log) [] (start l)) (sym unset)
     (record {
       whole = group_is l group (groups_whole l ready) there;
       writable = writable;
@@ -173,21 +172,21 @@ pub record Begins (p : Plan) (fits : Events → State → Type 0) (origin : Stat
   pub reached : Reached p fits origin []
 
 pub begins :
-    {G : Type 0} (bytes : G → List (Option ℕ)) (ro : Bool) (l : Launch) (group first count : ℕ) (items : List Running) (globals : List G) (locals : List (List (Option ℕ))) (log : Log)
+    {I G : Type 0} (acts : I → List Answer → Action) (bytes : G → List (Option ℕ)) (ro : Bool) (l : Launch) (group first count : ℕ) (items : List I) (globals : List G) (locals : List (List (Option ℕ))) (log : Log)
     → IsRunnable l → group * l.group_size < l.items → ro ≡ false → map bytes globals ≡ filled l → locals ≡ map (λ size. replicate size None) l.local_sizes
-    → log ≡ fresh_log → first ≡ group * l.group_size → count ≡ l.group_size → AreStarted l first count items
+    → log ≡ fresh_log → first ≡ group * l.group_size → count ≡ l.group_size → AreStarted acts l first count items
     → Begins (record { launch = l; group = group; first = first; count = length items })
-    (Fits action_of bytes ro (record { launch = l; group = group; first = first; count = length items }) items 0 globals locals log) (start l)
-begins bytes ro l group first count items globals locals log ready there writable full unset fresh e h started =
-    let now = subst (λ z. AreStarted l z l.group_size items) e (subst (λ z. AreStarted l first z items) h started) in
-    subst (λ z. Begins z (Fits action_of bytes ro z items 0 globals locals log) (start l)) (sym (plan_same l group first (length items) e (started.many ∙ h)))
+    (Fits acts bytes ro (record { launch = l; group = group; first = first; count = length items }) items 0 globals locals log) (start l)
+begins acts bytes ro l group first count items globals locals log ready there writable full unset fresh e h started =
+    let now = subst (λ z. AreStarted acts l z l.group_size items) e (subst (λ z. AreStarted acts l first z items) h started) in
+    subst (λ z. Begins z (Fits acts bytes ro z items 0 globals locals log) (start l)) (sym (plan_same l group first (length items) e (started.many ∙ h)))
     (record {
       whole = group_is l group (groups_whole l ready) there;
       brief = brief_is l group ready;
       reached = record {
         state = start l;
         runs = refl;
-        holds = start_fits bytes ro l group items globals locals log ready there writable full unset fresh now;
+        holds = start_fits acts bytes ro l group items globals locals log ready there writable full unset fresh now;
         calm = refl;
       };
     })

@@ -1,6 +1,6 @@
 -- What an access and a release leave of what a program holds of a group.
 use Rattle.std.proofs.Common.{◌≡◌, ℕ, ◌+◌, ◌-◌, ◌<◌, ◌≤◌, ◌^◌, ◌⊎◌, ℤ, Bool, true, false, ◌==◌, if◌then◌else◌, Option, None, Some, List, [], ◌∷◌, ◌++◌, length, set, refl, sym, ap, ap₂, ◌∙◌, subst, inl, inr, arith, eq-eqb, ne_eqb, length-append}
-use Rattle.std.specs.Prelude.{reverse, slice_get, Ok, Err}
+use Rattle.std.specs.Prelude.{reverse, slice_get, Result, Ok, Err, IfOk}
 use Rattle.std.specs.Option.{option_map}
 use Rattle.std.proofs.lemmas.Bool.{cases_eq}
 use Rattle.std.proofs.lemmas.List.{append_assoc, append-nil, reverse-append, length-reverse}
@@ -466,6 +466,14 @@ pub action_is :
     → Fits acts bytes ro p items number globals locals log events s → next_action p.launch s (p.first + k) ≡ a
 action_is acts bytes ro p items number globals locals log events s k i a e h f =
     ap (p.launch.next (p.first + k)) (sym (append-nil (s.answers (p.first + k)))) ∙ sym (f.acting k i e []) ∙ sym h
+
+-- an item's next action where memory doesn't want
+pub actions_are :
+    {I G E : Type 0} (acts : I → List Answer → Action) (bytes : G → List (Option ℕ)) (ro : Bool) (p : Plan) (items : List I) (number : ℕ) (globals : List G)
+    (locals : List (List (Option ℕ))) (log : Log) (k : ℕ) (i : I) → slice_get items k ≡ Some i → (answer : Result Action E) → IfOk answer (λ a. a ≡ acts i [])
+    → IfOk answer (λ a. (events : Events) (s : State) → Fits acts bytes ro p items number globals locals log events s → next_action p.launch s (p.first + k) ≡ a)
+actions_are acts bytes ro p items number globals locals log k i e (Ok a) h = λ events s f. action_is acts bytes ro p items number globals locals log events s k i a e h f
+actions_are acts bytes ro p items number globals locals log k i e (Err error) h = tt
 
 -- the first item's action
 pub at_first : (p : Plan) (s : State) (a b : Action) → next_action p.launch s (p.first + 0) ≡ a → a ≡ b → next_action p.launch s p.first ≡ b

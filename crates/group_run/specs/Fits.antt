@@ -11,7 +11,6 @@ use Rattle.clmodel.specs.declared.access.Region.{Region}
 use Rattle.clmodel.specs.declared.access.Region.TheVariants as region
 use Rattle.clmodel.specs.declared.action.Action.{Action}
 use Rattle.clmodel.specs.declared.action.Answer.{Answer}
-use Rattle.item_step.specs.Running.{Running, action_of}
 use Rattle.shadow_list.specs.Log.{Log}
 use Rattle.spaces_base.specs.declared.space.SpaceFault.{SpaceFault}
 use Rattle.spaces_base.specs.declared.space.SpaceFault.TheVariants as space_fault
@@ -48,9 +47,9 @@ pub record AreAnswered {I : Type 0} (acts : I → List Answer → Action) (answe
       → (x : I) × (slice_get old k ≡ Some x) × ((answers : List Answer) → acts y answers ≡ acts x (answer ∷ answers))
 
 -- items of a launch before their first actions, `count` from the first on
-pub record AreStarted (launch : Launch) (first count : ℕ) (items : List Running) : Type 0 where
+pub record AreStarted {I : Type 0} (acts : I → List Answer → Action) (launch : Launch) (first count : ℕ) (items : List I) : Type 0 where
   pub many : length items ≡ count
-  pub each : (k : ℕ) (i : Running) → slice_get items k ≡ Some i → (answers : List Answer) → action_of i answers ≡ launch.next (first + k) answers
+  pub each : (k : ℕ) (i : I) → slice_get items k ≡ Some i → (answers : List Answer) → acts i answers ≡ launch.next (first + k) answers
 
 -- how many answers the group's items can still be given, where none is given more than `bound`
 abbrev pub group_left : Plan → ℕ → State → ℕ

@@ -1,5 +1,6 @@
 pub mod Loops
 pub mod Runs
+pub mod Items
 pub mod Fits
 pub mod Logs
 pub mod Results

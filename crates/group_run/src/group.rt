@@ -1,17 +1,19 @@
 //! The items of a group with their memory and their log.
 
-ghost use Rattle.std.specs.Prelude.{◌≡◌, ◌+◌, ◌-◌, ◌<◌, ◌≤◌, ◌^◌, ℕ, List, Option, None, Some, length, IfOk, IfSome};
+ghost use Rattle.std.specs.Prelude.{◌≡◌, ◌+◌, ◌-◌, ◌<◌, ◌≤◌, ◌^◌, ℕ, List, Option, None, Some, length, IfOk, IfSome, OnOk};
 ghost use Rattle.clmodel.specs.Cells.{size_of};
 ghost use Rattle.clmodel.specs.Launch.{first_byte};
 ghost use Rattle.clmodel.specs.declared.action.Answer.TheVariants.{Done};
 ghost use Rattle.shadow_list.specs.Log.{Log, IsPlaced};
 ghost use Rattle.group_run.specs.Fits.{Fits, AreAnswered, space_of};
+ghost use Rattle.group_run.specs.Items.{acts_of};
 ghost use Rattle.group_run.specs.Logs.{IsJudged, after_fences, conflict_of};
 
 use crate::describing::{self, Described, bounds_fault, unset_fault};
-use crate::item::RunningItem;
+use crate::item::Slot;
 use crate::machine::{Machine, Made};
 use crate::performing::{perform_on, size_of};
+use crate::runnable::Runnable;
 use clmodel::access::{Conflict, Object, Operation};
 use clmodel::action::{Action, Answer, Cause, Fences};
 use clmodel::fault::Fault;
@@ -22,11 +24,11 @@ use std::alloc::AllocError;
 /// A work-group that runs: its items, how many events they have made, the launch's buffers and the group's local objects in their
 /// order, and the log of the accesses.
 #[derive(Drop)]
-pub struct Group<'a, D, I, G, L> {
+pub struct Group<'a, D, G, L> {
     pub(crate) launch: &'a D,
     pub(crate) number: u32,
     pub(crate) first: u32,
-    pub(crate) items: Vec<I>,
+    pub(crate) items: Vec<Slot<'a, D>>,
     pub(crate) made: u32,
     pub(crate) buffers: Vec<G>,
     pub(crate) locals: Vec<LocalMem>,
@@ -91,22 +93,25 @@ fn pass<L: AccessLog>(log: &mut L, fences: Fences)
     }
 }
 
-/// Answers all items that their barrier is passed.
-fn answer_all<I: RunningItem>(items: &mut Vec<I>)
-    ensures { AreAnswered I.acts Done items.old.items items.new.items }
+/// Answers all items that their barrier is passed. An error is out of memory.
+fn answer_all<D: Runnable>(items: &mut Vec<Slot<'_, D>>) -> Result<(), AllocError>
+    ensures many { length items.new.items ≡ length items.old.items }
+    ensures answered { OnOk result (AreAnswered (acts_of D.Described.launch) Done items.old.items items.new.items) }
 {
     for k in 0..items.len() {
-        items[k].answer(Answer::Done);
+        items[k].answer(Answer::Done)?;
     }
+    Ok(())
 }
 
-impl<'a, D: Described, I: RunningItem, G: Space, L: AccessLog> Machine for Group<'a, D, I, G, L> {
+impl<'a, D: Runnable, G: Space, L: AccessLog> Machine for Group<'a, D, G, L> {
     ghost use Rattle.std.specs.Prelude.{◌-◌, ◌^◌, length};
     ghost use Rattle.group_run.specs.Fits.{Fits};
+    ghost use Rattle.group_run.specs.Items.{acts_of};
 
-    ghost plan = { λ m. record { launch = D.launch m.launch.now; group = m.number; first = m.first; count = length m.items.items } };
+    ghost plan = { λ m. record { launch = D.Described.launch m.launch.now; group = m.number; first = m.first; count = length m.items.items } };
 
-    ghost fits = { λ m. Fits I.acts G.bytes G.read_only (record { launch = D.launch m.launch.now; group = m.number; first = m.first; count = length m.items.items }) m.items.items m.made m.buffers.items m.locals.items (L.Accesses.log m.log) };
+    ghost fits = { λ m. Fits (acts_of D.Described.launch) G.bytes G.read_only (record { launch = D.Described.launch m.launch.now; group = m.number; first = m.first; count = length m.items.items }) m.items.items m.made m.buffers.items m.locals.items (L.Accesses.log m.log) };
 
     ghost ticks = { λ m k. 2 ^ 32 - m.made };
 
@@ -122,7 +127,7 @@ impl<'a, D: Described, I: RunningItem, G: Space, L: AccessLog> Machine for Group
         self.items.len() as u32
     }
 
-    fn next(&mut self, k: u32) -> Action {
+    fn next(&mut self, k: u32) -> Result<Action, AllocError> {
         self.items[k as usize].next()
     }
 
@@ -163,15 +168,16 @@ impl<'a, D: Described, I: RunningItem, G: Space, L: AccessLog> Machine for Group
         };
         let entry = Entry::of(item, region, first, operation, self.made);
         let fault = judge(self.launch, &mut self.log, entry)?;
-        self.items[k as usize].answer(answer);
+        self.items[k as usize].answer(answer)?;
         self.made += 1;
         Ok(Made::judged(fault))
     }
 
-    fn release(&mut self, fences: Fences) {
+    fn release(&mut self, fences: Fences) -> Result<(), AllocError> {
         pass(&mut self.log, fences);
-        answer_all(&mut self.items);
+        answer_all(&mut self.items)?;
         self.made += 1;
+        Ok(())
     }
 
     fn fault_of(&self, item: u32, cause: Cause) -> Result<Fault, AllocError> {

@@ -1,35 +1,71 @@
-//! What the run of a group asks of a single item.
+//! A single item of a group as it runs.
 
-ghost use Rattle.std.specs.Prelude.{◌≡◌, [], ◌∷◌, List};
-ghost use Rattle.clmodel.specs.declared.action.Action.{Action};
+ghost use Rattle.std.specs.Prelude.{◌≡◌, [], ◌∷◌, List, IfOk, OnOk};
 ghost use Rattle.clmodel.specs.declared.action.Answer.{Answer};
-ghost use Rattle.item_step.specs.Running.{action_of};
+ghost use Rattle.group_run.specs.Items.{acts_of, IsAsked};
 
+use crate::runnable::Runnable;
 use clmodel::action::{Action, Answer};
 use item_step::Item;
+use std::alloc::{AllocError, Global};
 
-/// A work-item that runs, seen as the action that it makes after each list of further answers (OpenCL 1.2, section 3.2).
-pub trait RunningItem {
-    ghost acts: { Self → List Answer → Action };
-
-    /// The action that the item makes next.
-    fn next(&mut self) -> Action
-        ensures action { result ≡ acts self.old [] }
-        ensures same { (answers : List Answer) → acts self.new answers ≡ acts self.old answers };
-
-    /// The item's next action is answered.
-    fn answer(&mut self, answer: Answer)
-        ensures { (answers : List Answer) → acts self.new answers ≡ acts self.old (answer ∷ answers) };
+/// A work-item of a group as it runs (OpenCL 1.2, section 3.2), seen as the action that it makes after each list of further answers. It is
+/// started when it is first asked, and one that has ended keeps no memory.
+#[derive(Drop)]
+pub enum Slot<'a, D> {
+    /// It wasn't asked yet.
+    Waiting {
+        launch: &'a D,
+        alloc: Global,
+        item: u32,
+    },
+    /// It is under way.
+    Running(Item<'a>),
+    /// It is at its end.
+    Ended,
 }
 
-impl<'a> RunningItem for Item<'a> {
-    ghost acts = { action_of };
-
-    fn next(&mut self) -> Action {
-        Item::next(self)
+impl<'a, D: Runnable> Slot<'a, D> {
+    /// Starts the item where it wasn't asked yet. An error is out of memory.
+    fn start(&mut self) -> Result<(), AllocError>
+        ensures same { (answers : List Answer) → acts_of D.Described.launch self.new answers ≡ acts_of D.Described.launch self.old answers }
+        ensures asked { OnOk result (IsAsked self.new) }
+    {
+        if let Slot::Waiting {
+            launch,
+            alloc,
+            item,
+        } = *self
+        {
+            *self = Slot::Running(launch.start(alloc, item)?);
+        }
+        Ok(())
     }
 
-    fn answer(&mut self, answer: Answer) {
-        Item::answer(self, answer);
+    /// The action that the item makes next. An error is out of memory.
+    pub fn next(&mut self) -> Result<Action, AllocError>
+        ensures action { IfOk result (λ action. action ≡ acts_of D.Described.launch self.old []) }
+        ensures same { (answers : List Answer) → acts_of D.Described.launch self.new answers ≡ acts_of D.Described.launch self.old answers }
+    {
+        self.start()?;
+        let Slot::Running(item) = self else {
+            return Ok(Action::End);
+        };
+        let action = item.next();
+        if let Action::End = action {
+            *self = Slot::Ended;
+        }
+        Ok(action)
+    }
+
+    /// The item's next action is answered. An error is out of memory.
+    pub fn answer(&mut self, answer: Answer) -> Result<(), AllocError>
+        ensures { OnOk result ((answers : List Answer) → acts_of D.Described.launch self.new answers ≡ acts_of D.Described.launch self.old (answer ∷ answers)) }
+    {
+        self.start()?;
+        if let Slot::Running(item) = self {
+            item.answer(answer);
+        }
+        Ok(())
     }
 }

@@ -23,43 +23,43 @@ pub enum ItemRun {
     Reports(Fault),
 }
 
-/// The stop of the group's first item, which is at one.
-fn leader<M: Machine>(m: &mut M) -> Stop
+/// The stop of the group's first item, which is at one. An error is out of memory.
+fn leader<M: Machine>(m: &mut M) -> Result<Stop, AllocError>
     requires some { 0 < (M.plan m.old).count }
     requires stops { (events : Events) × (s : State) × (stop : Stop) × M.fits m.old events s × (stop_of (next_action (M.plan m.old).launch s (M.plan m.old).first) ≡ Some stop) }
     ensures plan_same { M.plan m.new ≡ M.plan m.old }
     ensures ticks_same { (j : ℕ) → M.ticks m.new j ≡ M.ticks m.old j }
     ensures fits_same { (events : Events) (s : State) → M.fits m.old events s → M.fits m.new events s }
-    ensures value { (events : Events) (s : State) → M.fits m.old events s → stop_of (next_action (M.plan m.old).launch s (M.plan m.old).first) ≡ Some result }
+    ensures value { IfOk result (λ stop. (events : Events) (s : State) → M.fits m.old events s → stop_of (next_action (M.plan m.old).launch s (M.plan m.old).first) ≡ Some stop) }
 {
-    match m.next(0) {
-        Action::Barrier { instance, .. } => Stop::At(instance),
-        Action::End => Stop::Ended,
+    match m.next(0)? {
+        Action::Barrier { instance, .. } => Ok(Stop::At(instance)),
+        Action::End => Ok(Stop::Ended),
         _ => unreachable!(),
     }
 }
 
-/// Judges an item's stop.
-fn stop_at<M: Machine>(m: &mut M, k: u32, stop: Stop, runs: &Runs) -> ItemRun
+/// Judges an item's stop. An error is out of memory.
+fn stop_at<M: Machine>(m: &mut M, k: u32, stop: Stop, runs: &Runs) -> Result<ItemRun, AllocError>
     ghost origin: { State }
     requires whole { IsGroup (M.plan m.old) }
     requires inside { k < (M.plan m.old).count }
     requires reached { (g : Gathers (M.plan m.old) (M.fits m.old) origin runs.now k) × (stop_of (next_action (M.plan m.old).launch g.0.state ((M.plan m.old).first + k)) ≡ Some stop) }
     ensures plan_same { M.plan m.new ≡ M.plan m.old }
     ensures ticks_same { (j : ℕ) → M.ticks m.new j ≡ M.ticks m.old j }
-    ensures halted { IsItemRun (M.plan m.old) (M.fits m.new) origin runs.now k result }
+    ensures halted { IfOk result (IsItemRun (M.plan m.old) (M.fits m.new) origin runs.now k) }
 {
     let item = m.first() + k;
-    let leading = leader(m);
+    let leading = leader(m)?;
     if same_stop(&leading, &stop) {
-        ItemRun::Stops
+        Ok(ItemRun::Stops)
     } else {
-        ItemRun::Reports(Fault::Divergence {
+        Ok(ItemRun::Reports(Fault::Divergence {
             item: m.first(),
             stop: leading,
             other_item: item,
             other_stop: stop,
-        })
+        }))
     }
 }
 
@@ -108,7 +108,7 @@ fn run_item<M: Machine>(m: &mut M, k: u32, runs: &mut Runs) -> Result<ItemRun, A
     ensures halted { IfOk result (IsItemRun (M.plan m.old) (M.fits m.new) origin runs.new k) }
 {
     'steps: loop {
-        match m.next(k) {
+        match m.next(k)? {
             Action::Access {
                 object,
                 element,
@@ -120,9 +120,9 @@ fn run_item<M: Machine>(m: &mut M, k: u32, runs: &mut Runs) -> Result<ItemRun, A
                 }
             }
             Action::Barrier { instance, .. } => {
-                return Ok(stop_at(m, k, Stop::At(instance), runs));
+                return stop_at(m, k, Stop::At(instance), runs);
             }
-            Action::End => return Ok(stop_at(m, k, Stop::Ended, runs)),
+            Action::End => return stop_at(m, k, Stop::Ended, runs),
             Action::Fault(cause) => {
                 let fault = m.fault_of(m.first() + k, cause)?;
                 return Ok(ItemRun::Reports(fault));
@@ -164,9 +164,9 @@ pub fn run_items<M: Machine>(m: &mut M, runs: &mut Runs) -> Result<Option<Fault>
             None => {}
             Some(fault) => return Ok(Some(fault)),
         }
-        match m.next(0) {
+        match m.next(0)? {
             Action::Barrier { fences, .. } => {
-                m.release(fences);
+                m.release(fences)?;
                 runs.push(Event::Release(m.group()))?;
             }
             // All items are at one stop, and it is no barrier: they have ended.

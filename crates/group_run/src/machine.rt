@@ -1,6 +1,6 @@
 //! What the run of a group asks of its items and their memory.
 
-ghost use Rattle.std.specs.Prelude.{◌≡◌, ◌<◌, ◌≤◌, ◌+◌, ◌^◌, [], ◌∷◌, ◌++◌, ℕ, None, IfOk};
+ghost use Rattle.std.specs.Prelude.{◌≡◌, ◌<◌, ◌≤◌, ◌+◌, ◌^◌, [], ◌∷◌, ◌++◌, ℕ, None, IfOk, OnOk};
 ghost use Rattle.clmodel.specs.Run.{State, Events, step, next_action, straggler};
 ghost use Rattle.clmodel.specs.Law.{fault_of};
 ghost use Rattle.clmodel.specs.declared.action.Action.TheVariants.{Access, Barrier};
@@ -58,13 +58,13 @@ pub trait Machine {
     fn count(&self) -> u32
         ensures { result ≡ (plan self.now).count };
 
-    /// The next action of an item, which changes nothing that is seen.
-    fn next(&mut self, k: u32) -> Action
+    /// The next action of an item, which changes nothing that is seen. An error is out of memory.
+    fn next(&mut self, k: u32) -> Result<Action, AllocError>
         requires { k < (plan self.old).count }
         ensures plan_same { plan self.new ≡ plan self.old }
         ensures ticks_same { (j : ℕ) → ticks self.new j ≡ ticks self.old j }
         ensures fits_same { (events : Events) (s : State) → fits self.old events s → fits self.new events s }
-        ensures value { (events : Events) (s : State) → fits self.old events s → next_action (plan self.old).launch s ((plan self.old).first + k) ≡ result };
+        ensures value { IfOk result (λ action. (events : Events) (s : State) → fits self.old events s → next_action (plan self.old).launch s ((plan self.old).first + k) ≡ action) };
 
     /// Does this access, which is what an item does next. An error is out of memory.
     fn access(
@@ -81,15 +81,15 @@ pub trait Machine {
         ensures ticks_less { IfOk result (λ made. made ≡ Made.Done → ticks self.new k < ticks self.old k) }
         ensures made { IfOk result (IsMade (plan self.old) (fits self.old) (fits self.new) ((plan self.old).first + k) (Access object element operation)) };
 
-    /// Releases all items from their barrier, which has these fences.
-    fn release(&mut self, fences: Fences)
+    /// Releases all items from their barrier, which has these fences. An error is out of memory.
+    fn release(&mut self, fences: Fences) -> Result<(), AllocError>
         requires { (events : Events) × (s : State) × (instance : Instance) × (fits self.old events s) × (straggler (plan self.old).launch s (plan self.old).group (plan self.old).first ≡ None)
             × (next_action (plan self.old).launch s (plan self.old).first ≡ Barrier instance fences) }
         ensures plan_same { plan self.new ≡ plan self.old }
-        ensures ticks_less { ticks self.new 0 < ticks self.old 0 }
-        ensures made { (events : Events) (s : State) → fits self.old events s → straggler (plan self.old).launch s (plan self.old).group (plan self.old).first ≡ None
+        ensures ticks_less { OnOk result (ticks self.new 0 < ticks self.old 0) }
+        ensures made { OnOk result ((events : Events) (s : State) → fits self.old events s → straggler (plan self.old).launch s (plan self.old).group (plan self.old).first ≡ None
             → (instance : Instance) → next_action (plan self.old).launch s (plan self.old).first ≡ Barrier instance fences
-            → (n : State) × (step (plan self.old).launch s (Release (plan self.old).group) ≡ Some n) × (fits self.new (events ++ Release (plan self.old).group ∷ []) n) };
+            → (n : State) × (step (plan self.old).launch s (Release (plan self.old).group) ≡ Some n) × (fits self.new (events ++ Release (plan self.old).group ∷ []) n)) };
 
     /// The fault of an item that can do nothing more. An error is out of memory.
     fn fault_of(&self, item: u32, cause: Cause) -> Result<Fault, AllocError>

@@ -4,20 +4,19 @@ ghost use Rattle.std.specs.Prelude.{◌≡◌, ◌+◌, ◌*◌, ◌<◌, ◌≤
 ghost use Rattle.clmodel.specs.Launch.{Launch};
 ghost use Rattle.clmodel.specs.Outcome.{IsMerged, events_of};
 ghost use Rattle.clmodel.specs.Run.{start};
-ghost use Rattle.clmodel.specs.declared.action.Answer.{Answer};
-ghost use Rattle.item_step.specs.Running.{action_of, Running};
 ghost use Rattle.shadow_list.specs.Log.{fresh_log};
 ghost use Rattle.group_run.specs.Fits.{AreStarted};
+ghost use Rattle.group_run.specs.Items.{acts_of};
 ghost use Rattle.group_run.specs.Results.{IsRunnable, filled, IsResult};
 
 use crate::group::Group;
+use crate::item::Slot;
 use crate::loops::run_items;
 use crate::result::GroupResult;
 use crate::runnable::Runnable;
 use crate::runs::Runs;
 use clmodel::fault::Fault;
 use clmodel::schedule::Schedule;
-use item_step::Item;
 use shadow_list::AccessLog;
 use spaces_base::{LocalMem, Space};
 use std::alloc::{AllocError, Global};
@@ -33,20 +32,24 @@ fn local_objects(alloc: Global, sizes: &[u64]) -> Result<Vec<LocalMem>, AllocErr
     Ok(locals)
 }
 
-/// `count` items from the first on, before their first actions.
+/// `count` items from the first on, which weren't asked yet.
 #[tactic(auto, using(crate::proofs::Items::started_more, crate::proofs::Items::started_none))]
-fn start_items<'a, D: Runnable>(
+fn waiting_items<'a, D: Runnable>(
     alloc: Global,
     launch: &'a D,
     first: u32,
     count: u32,
-) -> Result<Vec<Item<'a>>, AllocError>
+) -> Result<Vec<Slot<'a, D>>, AllocError>
     requires { first + count < 2 ^ 32 }
-    ensures { IfOk result (λ items. AreStarted (D.Described.launch launch.now) first count items.items) }
+    ensures { IfOk result (λ items. AreStarted (acts_of D.Described.launch) (D.Described.launch launch.now) first count items.items) }
 {
     let mut items = Vec::with_capacity(alloc, count as usize)?;
     for k in 0..count {
-        items.push(launch.start(alloc, first + k)?)?;
+        items.push(Slot::Waiting {
+            launch,
+            alloc,
+            item: first + k,
+        })?;
     }
     Ok(items)
 }
@@ -69,7 +72,7 @@ pub fn run_group<D: Runnable, G: Space + Drop, L: AccessLog + Drop>(
     let count = launch.group_size();
     let first = group * count;
     let locals = local_objects(alloc, launch.local_sizes())?;
-    let items = start_items(alloc, launch, first, count)?;
+    let items = waiting_items(alloc, launch, first, count)?;
     let mut machine = Group {
         launch,
         number: group,

@@ -11,8 +11,8 @@ advance-requires g c κs within =
     let p = g.M.Machine.plan c.args.m.now in
     let r = c.steps.invariant.gathers in
     let acts =
-    acting p (g.M.Machine.plan c.steps.m) r.0.state c.args.k c.next.result (action.Access c.in-Access.object c.in-Access.element c.in-Access.operation)
-    c.steps.invariant.plan_same (c.next.ensures.value c.steps.runs r.0.state r.0.holds) c.in-Access.is in
+    acting p (g.M.Machine.plan c.steps.m) r.0.state c.args.k c.in_ok-object.field-0 (action.Access c.in-Access.object c.in-Access.element c.in-Access.operation)
+    c.steps.invariant.plan_same (c.in_ok-object.ensures.value c.steps.runs r.0.state r.0.holds) c.in-Access.is in
     let back : to_z w64 (of_z w64 c.in-Access.element) ≡ c.in-Access.element = search rules in (
       assumption within,
       advance_asks p (g.M.Machine.plan c.next.new.self) (g.M.Machine.fits c.steps.m) (g.M.Machine.fits c.next.new.self) g.origin c.steps.runs c.args.k
@@ -25,8 +25,8 @@ stop_at-requires g c κs within =
     let p = g.M.Machine.plan c.args.m.now in
     let r = c.steps.invariant.gathers in
     let acts =
-    acting p (g.M.Machine.plan c.steps.m) r.0.state c.args.k c.next.result (action.Barrier c.in-Barrier.instance c.in-Barrier.fences)
-    c.steps.invariant.plan_same (c.next.ensures.value c.steps.runs r.0.state r.0.holds) c.in-Barrier.is in (
+    acting p (g.M.Machine.plan c.steps.m) r.0.state c.args.k c.in_ok-object.field-0 (action.Barrier c.in-Barrier.instance c.in-Barrier.fences)
+    c.steps.invariant.plan_same (c.in_ok-object.ensures.value c.steps.runs r.0.state r.0.holds) c.in-Barrier.is in (
       assumption within,
       stop_asks p (g.M.Machine.plan c.next.new.self) (g.M.Machine.fits c.steps.m) (g.M.Machine.fits c.next.new.self) g.origin c.steps.runs c.args.k (At c.in-Barrier.instance)
           (c.next.ensures.plan_same ∙ c.steps.invariant.plan_same) c.requires.1.0 c.requires.1.1.0 r c.next.ensures.fits_same (ap stop_of acts),
@@ -37,8 +37,8 @@ stop_at-requires-in-End g c κs within =
     let p = g.M.Machine.plan c.args.m.now in
     let r = c.steps.invariant.gathers in
     let acts =
-    acting p (g.M.Machine.plan c.steps.m) r.0.state c.args.k c.next.result action.End
-    c.steps.invariant.plan_same (c.next.ensures.value c.steps.runs r.0.state r.0.holds) c.in-End.is in (
+    acting p (g.M.Machine.plan c.steps.m) r.0.state c.args.k c.in_ok-object.field-0 action.End
+    c.steps.invariant.plan_same (c.in_ok-object.ensures.value c.steps.runs r.0.state r.0.holds) c.in-End.is in (
       assumption within,
       stop_asks p (g.M.Machine.plan c.next.new.self) (g.M.Machine.fits c.steps.m) (g.M.Machine.fits c.next.new.self) g.origin c.steps.runs c.args.k Ended
           (c.next.ensures.plan_same ∙ c.steps.invariant.plan_same) c.requires.1.0 c.requires.1.1.0 r c.next.ensures.fits_same (ap stop_of acts),
@@ -51,8 +51,8 @@ returns-in-Fault-clause-halted g c =
     let e : q ≡ p = c.next.ensures.plan_same ∙ c.steps.invariant.plan_same in
     let r = c.steps.invariant.gathers in
     let acts =
-    acting p (g.M.Machine.plan c.steps.m) r.0.state c.args.k c.next.result (action.Fault c.in-Fault.cause)
-    c.steps.invariant.plan_same (c.next.ensures.value c.steps.runs r.0.state r.0.holds) c.in-Fault.is in
+    acting p (g.M.Machine.plan c.steps.m) r.0.state c.args.k c.in_ok-object.field-0 (action.Fault c.in-Fault.cause)
+    c.steps.invariant.plan_same (c.in_ok-object.ensures.value c.steps.runs r.0.state r.0.holds) c.in-Fault.is in
     record {
       state = r.0.state;
       runs = r.0.runs;

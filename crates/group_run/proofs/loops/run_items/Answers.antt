@@ -14,8 +14,8 @@ release-requires g c =
     gathered_on p (g.M.Machine.plan c.intervals.m) (g.M.Machine.fits c.run_interval.new.m) g.origin c.run_interval.new.runs c.in_ok-run_interval.field-0
     c.intervals.invariant.plan_same c.in-None.is c.in_ok-run_interval.ensures.gathered in
     let led =
-    leading p (g.M.Machine.plan c.run_interval.new.m) r.0.state c.next.result (action.Barrier c.in-Barrier.instance c.in-Barrier.fences) e
-    (c.next.ensures.value c.run_interval.new.runs r.0.state r.0.holds) c.in-Barrier.is in
+    leading p (g.M.Machine.plan c.run_interval.new.m) r.0.state c.in_ok-fences.field-0 (action.Barrier c.in-Barrier.instance c.in-Barrier.fences) e
+    (c.in_ok-fences.ensures.value c.run_interval.new.runs r.0.state r.0.holds) c.in-Barrier.is in
     release_asks p (g.M.Machine.plan c.next.new.self) (g.M.Machine.fits c.run_interval.new.m) (g.M.Machine.fits c.next.new.self) g.origin c.run_interval.new.runs
     c.in-Barrier.instance c.in-Barrier.fences (c.next.ensures.plan_same ∙ e) c.requires.1.0 r c.next.ensures.fits_same led
 
@@ -27,12 +27,12 @@ push-requires g c =
     gathered_on p (g.M.Machine.plan c.intervals.m) (g.M.Machine.fits c.run_interval.new.m) g.origin c.run_interval.new.runs c.in_ok-run_interval.field-0
     c.intervals.invariant.plan_same c.in-None.is c.in_ok-run_interval.ensures.gathered in
     let led =
-    leading p (g.M.Machine.plan c.run_interval.new.m) r.0.state c.next.result (action.Barrier c.in-Barrier.instance c.in-Barrier.fences) e
-    (c.next.ensures.value c.run_interval.new.runs r.0.state r.0.holds) c.in-Barrier.is in
+    leading p (g.M.Machine.plan c.run_interval.new.m) r.0.state c.in_ok-fences.field-0 (action.Barrier c.in-Barrier.instance c.in-Barrier.fences) e
+    (c.in_ok-fences.ensures.value c.run_interval.new.runs r.0.state r.0.holds) c.in-Barrier.is in
     let after =
     after_release p (g.M.Machine.plan c.next.new.self) (g.M.Machine.fits c.run_interval.new.m) (g.M.Machine.fits c.next.new.self) (g.M.Machine.fits c.release.new.self)
     g.origin c.run_interval.new.runs c.in-Barrier.instance c.in-Barrier.fences (c.next.ensures.plan_same ∙ e) c.requires.1.0 c.requires.1.1.0 r c.next.ensures.fits_same led
-    c.release.ensures.made in
+    c.in_ok-release-in-Barrier.ensures.made in
     after.roomy
 
 pub intervals-preserved-in_ok-push-in-Barrier : goal.intervals-preserved-in_ok-push-in-Barrier
@@ -43,12 +43,12 @@ intervals-preserved-in_ok-push-in-Barrier g c =
     gathered_on p (g.M.Machine.plan c.intervals.m) (g.M.Machine.fits c.run_interval.new.m) g.origin c.run_interval.new.runs c.in_ok-run_interval.field-0
     c.intervals.invariant.plan_same c.in-None.is c.in_ok-run_interval.ensures.gathered in
     let led =
-    leading p (g.M.Machine.plan c.run_interval.new.m) r.0.state c.next.result (action.Barrier c.in-Barrier.instance c.in-Barrier.fences) e
-    (c.next.ensures.value c.run_interval.new.runs r.0.state r.0.holds) c.in-Barrier.is in
+    leading p (g.M.Machine.plan c.run_interval.new.m) r.0.state c.in_ok-fences.field-0 (action.Barrier c.in-Barrier.instance c.in-Barrier.fences) e
+    (c.in_ok-fences.ensures.value c.run_interval.new.runs r.0.state r.0.holds) c.in-Barrier.is in
     let after =
     after_release p (g.M.Machine.plan c.next.new.self) (g.M.Machine.fits c.run_interval.new.m) (g.M.Machine.fits c.next.new.self) (g.M.Machine.fits c.release.new.self)
     g.origin c.run_interval.new.runs c.in-Barrier.instance c.in-Barrier.fences (c.next.ensures.plan_same ∙ e) c.requires.1.0 c.requires.1.1.0 r c.next.ensures.fits_same led
-    c.release.ensures.made in
+    c.in_ok-release-in-Barrier.ensures.made in
     record {
       plan_same = c.release.ensures.plan_same ∙ c.next.ensures.plan_same ∙ e;
       reached =
@@ -66,12 +66,12 @@ intervals-preserved-in_ok-push-in-Barrier-2 g c =
     gathered_on p (g.M.Machine.plan c.intervals.m) (g.M.Machine.fits c.run_interval.new.m) g.origin c.run_interval.new.runs c.in_ok-run_interval.field-0
     c.intervals.invariant.plan_same c.in-None.is c.in_ok-run_interval.ensures.gathered in
     let led =
-    leading p (g.M.Machine.plan c.run_interval.new.m) r.0.state c.next.result (action.Barrier c.in-Barrier.instance c.in-Barrier.fences) e
-    (c.next.ensures.value c.run_interval.new.runs r.0.state r.0.holds) c.in-Barrier.is in
+    leading p (g.M.Machine.plan c.run_interval.new.m) r.0.state c.in_ok-fences.field-0 (action.Barrier c.in-Barrier.instance c.in-Barrier.fences) e
+    (c.in_ok-fences.ensures.value c.run_interval.new.runs r.0.state r.0.holds) c.in-Barrier.is in
     let after =
     after_release p (g.M.Machine.plan c.next.new.self) (g.M.Machine.fits c.run_interval.new.m) (g.M.Machine.fits c.next.new.self) (g.M.Machine.fits c.release.new.self)
     g.origin c.run_interval.new.runs c.in-Barrier.instance c.in-Barrier.fences (c.next.ensures.plan_same ∙ e) c.requires.1.0 c.requires.1.1.0 r c.next.ensures.fits_same led
-    c.release.ensures.made in
+    c.in_ok-release-in-Barrier.ensures.made in
     record {
       plan_same = c.release.ensures.plan_same ∙ c.next.ensures.plan_same ∙ e;
       reached =
@@ -88,9 +88,9 @@ returns-in_default g c =
     let r =
     gathered_on p (g.M.Machine.plan c.intervals.m) (g.M.Machine.fits c.run_interval.new.m) g.origin c.run_interval.new.runs c.in_ok-run_interval.field-0
     c.intervals.invariant.plan_same c.in-None.is c.in_ok-run_interval.ensures.gathered in
-    let led = leading p (g.M.Machine.plan c.run_interval.new.m) r.0.state c.next.result c.next.result e (c.next.ensures.value c.run_interval.new.runs r.0.state r.0.holds) refl in
+    let led = leading p (g.M.Machine.plan c.run_interval.new.m) r.0.state c.in_ok-fences.field-0 c.in_ok-fences.field-0 e (c.in_ok-fences.ensures.value c.run_interval.new.runs r.0.state r.0.holds) refl in
     let w = gathered_stop p c.requires.1.0 r.0.state r.1 in
-    let ended = ap stop_of led ∙ over c.next.result w.0 (sym (ap stop_of led) ∙ w.1) c.in_default.not-Barrier in
+    let ended = ap stop_of led ∙ over c.in_ok-fences.field-0 w.0 (sym (ap stop_of led) ∙ w.1) c.in_default.not-Barrier in
     record {
       plan_same = c.next.ensures.plan_same ∙ e;
       ran = (

@@ -4,8 +4,8 @@ use Rattle.clmodel.specs.declared.fault.Fault.TheVariants as fault
 use Rattle.group_run.proofs.Turns.{leads, joins, differs}
 use Rattle.group_run.proofs.loops.stop_at.Goals as goal
 
-pub leader-leading-requires-clause-stops : goal.leader-leading-requires-clause-stops
-leader-leading-requires-clause-stops g c =
+pub leader-requires-clause-stops : goal.leader-requires-clause-stops
+leader-requires-clause-stops g c =
     let r = c.requires.1.1.1 in
     let s = r.0.0.state in
     let w = leads (g.M.Machine.plan c.args.m.now) s c.args.k c.args.stop r.0.1 r.1 in
@@ -18,10 +18,10 @@ returns-then-same_stop-clause-halted g c =
       record {
         state = s;
         runs = r.0.0.runs;
-        holds = c.leader-leading.ensures.fits_same c.args.runs.now s r.0.0.holds;
+        holds = c.leader.ensures.fits_same c.args.runs.now s r.0.0.holds;
         calm = r.0.0.calm;
       },
-      joins (g.M.Machine.plan c.args.m.now) s c.args.k c.leader-leading.result c.args.stop r.0.1 (c.leader-leading.ensures.value c.args.runs.now s r.0.0.holds) r.1
+      joins (g.M.Machine.plan c.args.m.now) s c.args.k c.in_ok-leading.leading c.args.stop r.0.1 (c.in_ok-leading.ensures.value c.args.runs.now s r.0.0.holds) r.1
           (sym c.same_stop.ensures.value ∙ c.if-same_stop.true),
     )
 
@@ -33,11 +33,11 @@ returns-else-same_stop-clause-halted g c =
     record {
       state = s;
       runs = r.0.0.runs;
-      holds = c.leader-leading.ensures.fits_same c.args.runs.now s r.0.0.holds;
+      holds = c.leader.ensures.fits_same c.args.runs.now s r.0.0.holds;
       reports =
-          differs p c.requires.1.0 s c.args.k c.leader-leading.result c.args.stop c.requires.1.1.0 r.0.1 r.0.0.calm (c.leader-leading.ensures.value c.args.runs.now s r.0.0.holds) r.1
+          differs p c.requires.1.0 s c.args.k c.in_ok-leading.leading c.args.stop c.requires.1.1.0 r.0.1 r.0.0.calm (c.in_ok-leading.ensures.value c.args.runs.now s r.0.0.holds) r.1
           (sym c.same_stop.ensures.value ∙ c.if-same_stop.false)
-          ∙ ap₂ (λ a b. Reports (fault.Divergence a c.leader-leading.result (b + c.args.k) c.args.stop))
-          (sym (c.first-else-same_stop.ensures.value ∙ ap (λ z. z.first) c.leader-leading.ensures.plan_same))
+          ∙ ap₂ (λ a b. Reports (fault.Divergence a c.in_ok-leading.leading (b + c.args.k) c.args.stop))
+          (sym (c.first-else-same_stop.ensures.value ∙ ap (λ z. z.first) c.leader.ensures.plan_same))
           (sym c.first.ensures.value);
     }

@@ -11,11 +11,12 @@ use Rattle.joining.specs.Group.{Plan}
 use Rattle.shadow_list.specs.Log.{entry_of}
 use Rattle.group_run.specs.Logs.{IsJudged}
 use Rattle.group_run.proofs.Stepping.{access_made, unset_made, access_room}
+use Rattle.group_run.specs.Items.{acts_of}
 use Rattle.group_run.proofs.group.GroupMachine.access.Goals as goal
 
 pub overflow_add-self : goal.overflow_add-self
 overflow_add-self g c =
-    let acts = g.I.RunningItem.acts in
+    let acts = acts_of g.D.Described.launch in
     let bytes = g.G.Space.bytes in
     let t = c.args.self.now in
     let p : Plan = record { launch = g.D.Described.launch t.launch.now; group = t.number; first = t.first; count = length t.items.items } in
@@ -32,7 +33,7 @@ unreachable-requires-in-Err-ReadOnly g c = subst (IsMoved (ObjectsHold g.G.Space
 
 pub returns-in-Err-Unset-clause-made : goal.returns-in-Err-Unset-clause-made
 returns-in-Err-Unset-clause-made g c =
-    let acts = g.I.RunningItem.acts in
+    let acts = acts_of g.D.Described.launch in
     let bytes = g.G.Space.bytes in
     let t = c.args.self.now in
     let p : Plan = record { launch = g.D.Described.launch t.launch.now; group = t.number; first = t.first; count = length t.items.items } in
@@ -56,7 +57,7 @@ returns-in-Err-Unset-clause-made g c =
 
 pub returns-clause-made : goal.returns-clause-made
 returns-clause-made g c =
-    let acts = g.I.RunningItem.acts in
+    let acts = acts_of g.D.Described.launch in
     let bytes = g.G.Space.bytes in
     let t = c.args.self.now in
     let p : Plan = record { launch = g.D.Described.launch t.launch.now; group = t.number; first = t.first; count = length t.items.items } in
@@ -82,4 +83,4 @@ returns-clause-made g c =
     let entry = c.of-entry.ensures ∙ ap (λ z. entry_of (t.first + c.args.k) z first op t.made) c.region-region.ensures in
     let judged = subst (λ z. IsJudged p.launch (g.L.Accesses.log t.log) z log2 c.in_ok-fault-2.fault) entry c.in_ok-fault-2.ensures in
     let there = slice_get_read t.items.items (length t.items.items) c.args.k i refl c.requires.inside c.index_mut.ensures.value in
-    access_made acts bytes g.G.Space.read_only p t.items.items t.made t.buffers.items t.locals.items (g.L.Accesses.log t.log) c.args.k o element op c.requires.inside r xs ys log2 i j first c.in-Ok.answer c.in_ok-fault-2.fault last there place moved c.answer.ensures judged c.judged.result c.judged.ensures
+    access_made acts bytes g.G.Space.read_only p t.items.items t.made t.buffers.items t.locals.items (g.L.Accesses.log t.log) c.args.k o element op c.requires.inside r xs ys log2 i j first c.in-Ok.answer c.in_ok-fault-2.fault last there place moved c.in_ok-answer.ensures judged c.judged.result c.judged.ensures
