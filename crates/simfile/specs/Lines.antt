@@ -1,6 +1,7 @@
 -- The text of each reply.
 use Rattle.std.specs.Prelude.{ℕ, Option, None, Some, List, [], ◌∷◌, codes, decimal}
 use Rattle.std.specs.List.{flat_map}
+use Rattle.clmodel.specs.Typing.Least.{offset}
 use Rattle.clmodel.specs.declared.type_fault.TypeFault.{TypeFault}
 use Rattle.clmodel.specs.declared.type_fault.TypeFault.TheVariants as typing
 use Rattle.clsyntax_lex.specs.declared.token.SyntaxFault.{SyntaxFault}
@@ -46,21 +47,6 @@ type_words (typing.TooLarge at) = codes "type 11 TooLarge at "
 type_words (typing.MissingReturn at) = codes "type 12 MissingReturn at "
 type_words typing.OutOfMemory = codes "type 13 OutOfMemory at "
 
-abbrev pub type_place : TypeFault → ℕ
-type_place (typing.UnknownName at) = at
-type_place (typing.Redeclared at) = at
-type_place (typing.TypeMismatch at) = at
-type_place (typing.NotAssignable at) = at
-type_place (typing.Recursion at) = at
-type_place (typing.WrongArgumentCount at) = at
-type_place (typing.WrongSpace at) = at
-type_place (typing.BadBarrierFlags at) = at
-type_place (typing.AtomicValueUsed at) = at
-type_place (typing.TooManyLoops at) = at
-type_place (typing.TooLarge at) = at
-type_place (typing.MissingReturn at) = at
-type_place typing.OutOfMemory = 0
-
 abbrev pub build_words : BuildFault → List ℕ
 build_words (build.Syntax fault) = syntax_words fault
 build_words (build.Type fault) = type_words fault
@@ -68,7 +54,7 @@ build_words (build.Type fault) = type_words fault
 -- where in the source
 abbrev pub build_place : BuildFault → ℕ
 build_place (build.Syntax fault) = syntax_place fault
-build_place (build.Type fault) = type_place fault
+build_place (build.Type fault) = offset fault
 
 -- a refusal's number and name
 abbrev pub refusal_word : Refusal → List ℕ

@@ -5,7 +5,7 @@ ghost use Rattle.std.specs.Prelude.{◌≡◌, [], ◌∷◌, codes};
 ghost use Rattle.ends.specs.Sink.{Puts};
 ghost use Rattle.replay_text.specs.Pieces.{joined};
 ghost use Rattle.simfile.specs.Fields.{hex};
-ghost use Rattle.simfile.specs.Lines.{syntax_words, syntax_place, type_words, type_place, build_words, build_place, refusal_word, fault_of, refused_line, line, check_line};
+ghost use Rattle.simfile.specs.Lines.{syntax_words, syntax_place, type_words, build_words, build_place, refusal_word, fault_of, refused_line, line, check_line};
 
 use crate::hex::write_hex;
 use clmodel::type_fault::TypeFault;
@@ -60,26 +60,6 @@ fn type_words(fault: TypeFault) -> &'static str
     }
 }
 
-fn type_place(fault: TypeFault) -> u32
-    ensures { result ≡ type_place fault }
-{
-    match fault {
-        TypeFault::UnknownName { at }
-        | TypeFault::Redeclared { at }
-        | TypeFault::TypeMismatch { at }
-        | TypeFault::NotAssignable { at }
-        | TypeFault::Recursion { at }
-        | TypeFault::WrongArgumentCount { at }
-        | TypeFault::WrongSpace { at }
-        | TypeFault::BadBarrierFlags { at }
-        | TypeFault::AtomicValueUsed { at }
-        | TypeFault::TooManyLoops { at }
-        | TypeFault::TooLarge { at }
-        | TypeFault::MissingReturn { at } => at,
-        TypeFault::OutOfMemory => 0,
-    }
-}
-
 /// The words of a fault of a source, and its place in it.
 fn fault_in_source(fault: BuildFault) -> (&'static str, u32)
     ensures words { result.0.now ≡ build_words fault }
@@ -87,7 +67,7 @@ fn fault_in_source(fault: BuildFault) -> (&'static str, u32)
 {
     match fault {
         BuildFault::Syntax(fault) => (syntax_words(fault), syntax_place(fault)),
-        BuildFault::Type(fault) => (type_words(fault), type_place(fault)),
+        BuildFault::Type(fault) => (type_words(fault), fault.offset()),
     }
 }
 
