@@ -151,15 +151,15 @@ updates_swap class a b c first v finds =
 
 -- ---- any two that agree where they meet
 
--- two operations that don't conflict on a byte
-abbrev pub Agree : Operation → Operation → Type 0
-Agree (Load _) (Load _) = Unit {0}
-Agree (Update c _) (Update d _) = c ≡ d
-Agree _ _ = ⊥
+-- two operations, at the bytes from `first` and from `first2` on, that don't conflict on a byte
+abbrev pub Agree : Operation → ℕ → Operation → ℕ → ℕ → Type 0
+Agree (Load _) _ (Load _) _ _ = Unit {0}
+Agree (Update c _) _ (Update d _) _ _ = c ≡ d
+Agree _ _ _ _ _ = ⊥
 
 -- they agree on each byte that both cover
 abbrev pub Compatible : Operation → ℕ → Operation → ℕ → Type 0
-Compatible op first op2 first2 = (byte : ℕ) → covers first (size_of op) byte ≡ true → covers first2 (size_of op2) byte ≡ true → Agree op op2
+Compatible op first op2 first2 = (byte : ℕ) → covers first (size_of op) byte ≡ true → covers first2 (size_of op2) byte ≡ true → Agree op first op2 first2 byte
 
 -- an access begins at a multiple of its size
 abbrev pub Aligned : Operation → ℕ → Type 0

@@ -3,7 +3,7 @@ use Rattle.std.proofs.Common.{◌≡◌, ℕ, zero, suc, ◌+◌, ◌<◌, ◌�
 use Rattle.std.specs.Option.{option_map}
 use Rattle.std.proofs.lemmas.Bool.{and_parts, and_from, false≢true, cases_eq}
 use Rattle.clmodel.specs.Cells.{byte_count, covers}
-use Rattle.clmodel.specs.Launch.{Launch, same_region, kind_of, class_number, clash, group_of, rule_of, unordered, share, conflict_between, conflict}
+use Rattle.clmodel.specs.Launch.{Launch, same_region, kind_of, class_number, clash, clash_at, group_of, rule_of, unordered, share, conflict_between, conflict}
 use Rattle.clmodel.specs.Run.{State, interval_of, access_of}
 use Rattle.clmodel.specs.Law.{Logged, conflict_on, conflict_from}
 use Rattle.clmodel.specs.declared.access.Access.{Access}
@@ -92,14 +92,14 @@ meet_from rule x y byte m =
     (ap (same_region x.region) (sym m.regions) ∙ same_region_self x.region) m.first_covers m.second_covers)
 
 -- two accesses that meet without a conflict don't clash
-pub no_clash : (l : Launch) (x y : Access) (byte : ℕ) → conflict l x y byte ≡ None → Meet (rule_of l x y) x y byte → clash x.kind y.kind ≡ None
+pub no_clash : (l : Launch) (x y : Access) (byte : ℕ) → conflict l x y byte ≡ None → Meet (rule_of l x y) x y byte → clash_at x y byte ≡ None
 unfolding conflict conflict_between
-no_clash l x y byte h m = none_if (unordered (rule_of l x y) x y && share x y byte) (clash x.kind y.kind) h (meet_from (rule_of l x y) x y byte m)
+no_clash l x y byte h m = none_if (unordered (rule_of l x y) x y && share x y byte) (clash_at x y byte) h (meet_from (rule_of l x y) x y byte m)
 
 -- two accesses have no conflict if they don't clash where they meet
-pub no_conflict : (l : Launch) (x y : Access) (byte : ℕ) → (Meet (rule_of l x y) x y byte → clash x.kind y.kind ≡ None) → conflict l x y byte ≡ None
+pub no_conflict : (l : Launch) (x y : Access) (byte : ℕ) → (Meet (rule_of l x y) x y byte → clash_at x y byte ≡ None) → conflict l x y byte ≡ None
 unfolding conflict conflict_between
-no_conflict l x y byte h = if_none (unordered (rule_of l x y) x y && share x y byte) (clash x.kind y.kind) (λ e. h (meet_parts (rule_of l x y) x y byte e))
+no_conflict l x y byte h = if_none (unordered (rule_of l x y) x y && share x y byte) (clash_at x y byte) (λ e. h (meet_parts (rule_of l x y) x y byte e))
 
 -- ---- both ways round
 
@@ -141,6 +141,9 @@ clash_sym (kind.Update c) kind.Store h = absurd (none_some Race (sym h))
 clash_sym (kind.Update c) (kind.Update d) h =
     if_true (class_number d == class_number c) None (Some Order) (eq-eqb (class_number d) (class_number c) (sym (same_class c d h)))
 
+clash_at_sym : (x y : Access) (byte : ℕ) → clash_at x y byte ≡ None → clash_at y x byte ≡ None
+clash_at_sym x y byte = clash_sym x.kind y.kind
+
 meet_sym : (l : Launch) (x y : Access) (byte : ℕ) → Meet (rule_of l x y) x y byte → Meet (rule_of l y x) y x byte
 meet_sym l x y byte m =
     record {
@@ -153,21 +156,24 @@ meet_sym l x y byte m =
     }
 
 pub conflict_sym : (l : Launch) (x y : Access) (byte : ℕ) → conflict l x y byte ≡ None → conflict l y x byte ≡ None
-conflict_sym l x y byte h = no_conflict l y x byte (λ m. clash_sym x.kind y.kind (no_clash l x y byte h (meet_sym l y x byte m)))
+conflict_sym l x y byte h = no_conflict l y x byte (λ m. clash_at_sym x y byte (no_clash l x y byte h (meet_sym l y x byte m)))
 
 pub no_conflict_self : (l : Launch) (x : Access) (byte : ℕ) → conflict l x x byte ≡ None
 no_conflict_self l x byte = no_conflict l x x byte (λ m. absurd (m.items refl))
 
 -- ---- two accesses of one state
 
-agree : (op op2 : Operation) → clash (kind_of op) (kind_of op2) ≡ None → Agree op op2
-agree (Load width) (Load width2) h = tt
-agree (Load width) (Store width2 value) h = absurd (none_some Race (sym h))
-agree (Load width) (Update d operand) h = absurd (none_some Race (sym h))
-agree (Store width value) op2 h = absurd (none_some Race (sym h))
-agree (Update c operand) (Load width) h = absurd (none_some Race (sym h))
-agree (Update c operand) (Store width value) h = absurd (none_some Race (sym h))
-agree (Update c operand) (Update d operand2) h = sym (class_of-number c) ∙ ap class_of (same_class c d h) ∙ class_of-number d
+-- operations whose accesses don't conflict on a byte agree on it
+agree :
+    (l : Launch) (s : State) (i : ℕ) (r : Region) (first : ℕ) (op : Operation) (j : ℕ) (r2 : Region) (first2 : ℕ) (op2 : Operation) (byte : ℕ)
+    → clash_at (access_of l s i r first op) (access_of l s j r2 first2 op2) byte ≡ None → Agree op first op2 first2 byte
+agree l s i r first (Load width) j r2 first2 (Load width2) byte h = tt
+agree l s i r first (Load width) j r2 first2 (Store width2 value) byte h = absurd (none_some Race (sym h))
+agree l s i r first (Load width) j r2 first2 (Update d operand) byte h = absurd (none_some Race (sym h))
+agree l s i r first (Store width value) j r2 first2 op2 byte h = absurd (none_some Race (sym h))
+agree l s i r first (Update c operand) j r2 first2 (Load width) byte h = absurd (none_some Race (sym h))
+agree l s i r first (Update c operand) j r2 first2 (Store width value) byte h = absurd (none_some Race (sym h))
+agree l s i r first (Update c operand) j r2 first2 (Update d operand2) byte h = sym (class_of-number c) ∙ ap class_of (same_class c d h) ∙ class_of-number d
 
 -- what an item's access would be logged as
 abbrev pub entry_of : (l : Launch) (s : State) (i : ℕ) (t : State) → ItemStep l s i t → Access
@@ -178,7 +184,7 @@ pub free_at :
     (l : Launch) (s : State) (i : ℕ) (r : Region) (first : ℕ) (op : Operation) (j : ℕ) (r2 : Region) (first2 : ℕ) (op2 : Operation) → (i ≡ j → ⊥)
     → ((byte : ℕ) → conflict l (access_of l s i r first op) (access_of l s j r2 first2 op2) byte ≡ None) → r ≡ r2 → Compatible op first op2 first2
 free_at l s i r first op j r2 first2 op2 ne calm same byte a b =
-    agree op op2
+    agree l s i r first op j r2 first2 op2 byte
     (no_clash l (access_of l s i r first op) (access_of l s j r2 first2 op2) byte (calm byte)
     (record {
       items = ne;

@@ -113,9 +113,13 @@ unordered rule x y = not (x.item == y.item) && (not rule.one_group || (x.interva
 abbrev pub share : Access → Access → ℕ → Bool
 share x y byte = same_region x.region y.region && covers x.first (byte_count x.width) byte && covers y.first (byte_count y.width) byte
 
+-- how two accesses conflict on a byte that both are at, if no barrier orders them (3.3.1, own): by their kinds, on each byte alike
+abbrev pub clash_at : Access → Access → ℕ → Option Clash
+clash_at x y byte = clash x.kind y.kind
+
 -- how two accesses conflict on a byte by their rule, if they do (3.3.1, own)
 unfoldable pub conflict_between : Rule → Access → Access → ℕ → Option Clash
-conflict_between rule x y byte = if unordered rule x y && share x y byte then clash x.kind y.kind else None
+conflict_between rule x y byte = if unordered rule x y && share x y byte then clash_at x y byte else None
 
 -- how two accesses of a launch conflict on a byte, if they do (3.3.1, own)
 unfoldable pub conflict : Launch → Access → Access → ℕ → Option Clash

@@ -3,7 +3,7 @@ use Rattle.std.proofs.Common.{◌≡◌, ℕ, zero, suc, true, Option, Some, Non
 use Rattle.std.proofs.lemmas.Bool.{and_parts, eqb-true}
 use Rattle.std.specs.Option.{option_map}
 use Rattle.clmodel.specs.Cells.{byte_count, covers}
-use Rattle.clmodel.specs.Launch.{Launch, same_region, group_of, clash, conflict}
+use Rattle.clmodel.specs.Launch.{Launch, same_region, group_of, clash_at, conflict}
 use Rattle.clmodel.specs.Run.{or_else}
 use Rattle.clmodel.specs.Law.{Logged, conflict_on, conflict_from, newest_conflict}
 use Rattle.clmodel.specs.declared.access.Access.{Access}
@@ -73,7 +73,7 @@ no_cross l lower (z ∷ own) h x y (inr p) q byte = no_cross l lower own (or_els
 
 -- two accesses of different groups at one byte that do not conflict
 pub meet : (l : Launch) (x y : Access) (space : Region) (byte : ℕ) → (group_of l y.item ≡ group_of l x.item → ⊥) → at_byte space byte y ≡ true → at_byte space byte x ≡ true
-    → conflict l y x byte ≡ None → clash y.kind x.kind ≡ None
+    → conflict l y x byte ≡ None → clash_at y x byte ≡ None
 meet l x y space byte ne a b h =
     let p : (same_region space y.region ≡ true) × (covers y.first (byte_count y.width) byte ≡ true) = and_parts (same_region space y.region) (covers y.first (byte_count y.width) byte) a in
     let q : (same_region space x.region ≡ true) × (covers x.first (byte_count x.width) byte ≡ true) = and_parts (same_region space x.region) (covers x.first (byte_count x.width) byte) b in
