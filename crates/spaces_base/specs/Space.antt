@@ -50,3 +50,12 @@ IsUpdated read_only may_want old at class operand new (Err (fault.Unset byte)) =
 IsUpdated read_only may_want old at class operand new (Err fault.ReadOnly) = (read_only ≡ true) × (new ≡ old)
 IsUpdated read_only may_want old at class operand new (Err fault.OutOfMemory) =
     (read_only ≡ false) × (may_want ≡ true) × InRange old at 4 × (new ≡ old)
+
+-- what a change of 4 bytes leaves and answers: the number that was there (6.12.11: "old"), in whose place is one that `makes` allows for it
+abbrev pub IsChanged : Bool → List (Option ℕ) → ℕ → (ℕ → ℕ → Type 0) → List (Option ℕ) → Result ℕ SpaceFault → Type 0
+IsChanged may_want old at makes new (Ok found) =
+    (value : ℕ) × makes found value × InRange old at 4 × (number (cells_of old) at 4 ≡ Some found) × Becomes old new (written (cells_of old) at 4 value)
+IsChanged may_want old at makes new (Err fault.Bounds) = Outside old at 4 × (new ≡ old)
+IsChanged may_want old at makes new (Err (fault.Unset byte)) = InRange old at 4 × (lowest_unset (cells_of old) at 4 ≡ Some byte) × (new ≡ old)
+IsChanged may_want old at makes new (Err fault.ReadOnly) = ⊥
+IsChanged may_want old at makes new (Err fault.OutOfMemory) = (may_want ≡ true) × InRange old at 4 × (new ≡ old)

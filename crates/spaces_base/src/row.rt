@@ -1,6 +1,7 @@
 //! Bytes in a row.
 
 ghost use Rattle.std.specs.Prelude.{◌≡◌, Some, None, map, length, replicate, false, IfOk};
+ghost use Rattle.spaces_base.specs.Space.{IsChanged};
 
 use crate::cells::{Cell, combined, is_inside, put, read};
 use crate::space::{Space, SpaceFault};
@@ -66,6 +67,27 @@ impl Row<Option<u8>> {
     }
 }
 
+impl<C: Cell> Row<C> {
+    /// Puts what a function makes of the number of 4 bytes in its place, and gives the number that was there (OpenCL 1.2, section
+    /// 6.12.11: "old"). An error says why nothing is changed.
+    fn change<F: FnOnce(u32) -> u32>(&mut self, at: u64, makes: F) -> Result<u32, SpaceFault>
+        requires { F.IsAlwaysCallable makes }
+        ensures { IsChanged false self.old at (F.post makes) self.new result }
+    {
+        if !is_inside(self.cells.len(), at, 4) {
+            return Err(SpaceFault::Bounds);
+        }
+        match read(self.cells.as_slice(), at as usize, 4) {
+            Ok(found) => {
+                let value = makes(found as u32);
+                put(self.cells.as_mut_slice(), at as usize, 4, value as u64);
+                Ok(found as u32)
+            }
+            Err(byte) => Err(SpaceFault::Unset(byte)),
+        }
+    }
+}
+
 impl<C: Cell> Space for Row<C> {
     ghost bytes = { λ row. row };
 
@@ -103,16 +125,7 @@ impl<C: Cell> Space for Row<C> {
     }
 
     fn update(&mut self, at: u64, class: Class, operand: u32) -> Result<(), SpaceFault> {
-        if !is_inside(self.cells.len(), at, 4) {
-            return Err(SpaceFault::Bounds);
-        }
-        match read(self.cells.as_slice(), at as usize, 4) {
-            Ok(found) => {
-                let value = combined(class, found as u32, operand);
-                put(self.cells.as_mut_slice(), at as usize, 4, value as u64);
-                Ok(())
-            }
-            Err(byte) => Err(SpaceFault::Unset(byte)),
-        }
+        self.change(at, |found| combined(class, found, operand))?;
+        Ok(())
     }
 }
