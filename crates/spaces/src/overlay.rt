@@ -2,7 +2,7 @@
 
 ghost use Rattle.std.specs.Prelude.{◌≡◌, ◌≢◌, ◌<◌, ◌≤◌, ◌+◌, ◌/◌, ◌^◌, ℕ, Some, length, map, true, false, All, OnOk, OnErr, slice_get, nat_le};
 ghost use Rattle.clmodel.specs.Cells.{cells_of, number, written};
-ghost use Rattle.spaces_base.specs.Space.{Becomes, IsStored, IsUpdated};
+ghost use Rattle.spaces_base.specs.Space.{Becomes, IsChanged, IsStored, IsUpdated};
 
 use crate::pages::Pages;
 use clmodel::access::{Class, Width};
@@ -64,7 +64,7 @@ impl<'a> Overlay<'a> {
     }
 
     /// Puts the low n bytes of a value in place of those that are there.
-    fn change(&mut self, at: usize, count: usize, value: u64) -> Result<(), AllocError>
+    fn put(&mut self, at: usize, count: usize, value: u64) -> Result<(), AllocError>
         requires some { 0 < count }
         requires short { count ≤ 8 }
         requires inside { at + count ≤ length self.old.bytes }
@@ -73,6 +73,24 @@ impl<'a> Overlay<'a> {
         ensures lent { self.new.base ≡ self.old.base }
     {
         self.pages.change(self.base, at, count, value)
+    }
+
+    /// Puts what a function makes of the number of 4 bytes in its place, and gives the number that was there (OpenCL 1.2, section
+    /// 6.12.11: "old"). An error says why nothing is changed.
+    fn change<F: FnOnce(u32) -> u32>(&mut self, at: u64, makes: F) -> Result<u32, SpaceFault>
+        requires { F.IsAlwaysCallable makes }
+        ensures changed { IsChanged true self.old.bytes at (F.post makes) self.new.bytes result }
+        ensures lent { self.new.base ≡ self.old.base }
+    {
+        if !self.is_inside(at, 4) {
+            return Err(SpaceFault::Bounds);
+        }
+        let found = self.number(at as usize, 4) as u32;
+        let value = makes(found);
+        match self.put(at as usize, 4, value as u64) {
+            Ok(()) => Ok(found),
+            Err(_) => Err(SpaceFault::OutOfMemory),
+        }
     }
 }
 
@@ -103,7 +121,7 @@ impl<'a> Space for Overlay<'a> {
         if !self.is_inside(at, count) {
             return Err(SpaceFault::Bounds);
         }
-        match self.change(at as usize, count as usize, value) {
+        match self.put(at as usize, count as usize, value) {
             Ok(()) => Ok(()),
             Err(_) => Err(SpaceFault::OutOfMemory),
         }
@@ -113,14 +131,7 @@ impl<'a> Space for Overlay<'a> {
         ensures updated { IsUpdated false true self.old.bytes at class operand self.new.bytes result }
         ensures lent { self.new.base ≡ self.old.base }
     {
-        if !self.is_inside(at, 4) {
-            return Err(SpaceFault::Bounds);
-        }
-        let found = self.number(at as usize, 4);
-        let value = combined(class, found as u32, operand);
-        match self.change(at as usize, 4, value as u64) {
-            Ok(()) => Ok(()),
-            Err(_) => Err(SpaceFault::OutOfMemory),
-        }
+        self.change(at, |found| combined(class, found, operand))?;
+        Ok(())
     }
 }

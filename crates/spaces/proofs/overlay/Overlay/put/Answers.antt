@@ -4,7 +4,7 @@ use Rattle.clmodel.specs.Cells.{cells_of, written}
 use Rattle.spaces_base.specs.Space.{Becomes}
 use Rattle.spaces.specs.Overlay.{overlaid}
 use Rattle.spaces.proofs.Rows.{as_many}
-use Rattle.spaces.proofs.overlay.Overlay.change.Goals as goal
+use Rattle.spaces.proofs.overlay.Overlay.put.Goals as goal
 
 pub change-requires-clause-inside : goal.change-requires-clause-inside
 change-requires-clause-inside c =
