@@ -14,7 +14,7 @@ ghost use Rattle.clmodel.specs.declared.tree.VariableType.TheVariants as variabl
 ghost use Rattle.item_value.specs.Leading.{Leads};
 
 use crate::context::Context;
-use crate::pointers::{moved, moved_back};
+use crate::pointers::{moved, moved_back, number};
 use crate::termination::Termination;
 use clmodel::action::Cause;
 use clmodel::operand::Operand;
@@ -36,20 +36,16 @@ fn arithmetic(outcome: Result<Value, ArithFault>) -> Result<Operand, Termination
 fn advanced(pointer: Operand, by: Operand) -> Result<Operand, Termination>
     ensures { (after : Operand → Run) → Leads result (next.moved pointer by (λ q. after (operand.Pointed q))) after }
 {
-    match moved(pointer, by) {
-        Ok(pointer) => Ok(Operand::Pointed(pointer)),
-        Err(termination) => Err(termination),
-    }
+    let pointer = moved(pointer, by)?;
+    Ok(Operand::Pointed(pointer))
 }
 
 /// A pointer moved back, as a value.
 fn withdrawn(pointer: Operand, by: Operand) -> Result<Operand, Termination>
     ensures { (after : Operand → Run) → Leads result (next.moved_back pointer by (λ q. after (operand.Pointed q))) after }
 {
-    match moved_back(pointer, by) {
-        Ok(pointer) => Ok(Operand::Pointed(pointer)),
-        Err(termination) => Err(termination),
-    }
+    let pointer = moved_back(pointer, by)?;
+    Ok(Operand::Pointed(pointer))
 }
 
 /// An operator on two values: integers, or a pointer and an integer that is added to it or taken from it.
@@ -97,13 +93,9 @@ pub fn test(value: Operand) -> Result<bool, Termination>
 pub(crate) fn chosen_value(value: Operand, other: IntType) -> Result<Operand, Termination>
     ensures { (after : Operand → Run) → Leads result (next.chosen_value value (variable_type.Integer other) after) after }
 {
-    match value {
-        Operand::Integral(value) => {
-            let kind = value.kind().common(other);
-            Ok(Operand::Integral(convert(value, kind)))
-        }
-        Operand::Pointed(_) => Err(Termination::Finish),
-    }
+    let value = number(value)?;
+    let kind = value.kind().common(other);
+    Ok(Operand::Integral(convert(value, kind)))
 }
 
 /// The value of a function of integers.
@@ -120,23 +112,17 @@ fn given_value(value: Option<Value>) -> Result<Operand, Termination>
 pub(crate) fn of_one(function: Builtin, a: Operand) -> Result<Operand, Termination>
     ensures { (after : Operand → Run) → Leads result (next.integer_call function (a ∷ []) after) after }
 {
-    match a {
-        Operand::Integral(a) => given_value(builtin(function, &[a])),
-        Operand::Pointed(_) => Err(Termination::Finish),
-    }
+    let a = number(a)?;
+    given_value(builtin(function, &[a]))
 }
 
 /// A function of two integers.
 pub(crate) fn of_two(function: Builtin, a: Operand, b: Operand) -> Result<Operand, Termination>
     ensures { (after : Operand → Run) → Leads result (next.integer_call function (a ∷ b ∷ []) after) after }
 {
-    match a {
-        Operand::Integral(a) => match b {
-            Operand::Integral(b) => given_value(builtin(function, &[a, b])),
-            Operand::Pointed(_) => Err(Termination::Finish),
-        },
-        Operand::Pointed(_) => Err(Termination::Finish),
-    }
+    let a = number(a)?;
+    let b = number(b)?;
+    given_value(builtin(function, &[a, b]))
 }
 
 /// A dimension: a number as a uint.
