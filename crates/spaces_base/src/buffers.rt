@@ -45,6 +45,16 @@ fn fill(buffer: &mut Bytes, offset: usize, count: usize, pattern: &[u8])
 }
 
 impl Table<Bytes> {
+    /// The bytes of the buffer of a name, none where there is no such buffer.
+    pub fn bytes_in(&self, name: &Name) -> &[u8]
+        ensures { result.now ≡ bytes_in self.now name.now }
+    {
+        match self.get(name) {
+            Some(bytes) => bytes.as_slice(),
+            None => &[],
+        }
+    }
+
     /// Writes bytes into the buffer of a name from an offset on, in place of those that were there (OpenCL 1.2, section 5.2.2).
     #[tactic(auto, using(crate::proofs::Tables::unreplaced))]
     pub fn write(&mut self, name: &Name, offset: usize, bytes: &[u8])
@@ -88,10 +98,9 @@ impl Table<Bytes> {
         ensures ok { OnOk result (self.new ≡ set_value (is target.now) self.old (with_bytes (bytes_in self.old target.now) target_offset (take count (drop offset (bytes_in self.old source.now))))) }
         ensures err { OnErr result (self.new ≡ self.old) }
     {
-        if let Some(bytes) = self.get(source) {
-            let copied = Bytes::copy_of(alloc, &bytes.as_slice()[offset..offset + count])?;
-            self.write(target, target_offset, copied.as_slice());
-        }
+        let bytes = self.bytes_in(source);
+        let copied = Bytes::copy_of(alloc, &bytes[offset..offset + count])?;
+        self.write(target, target_offset, copied.as_slice());
         Ok(())
     }
 }
