@@ -16,3 +16,4 @@ pub use describing::{Described, conflict_fault};
 pub use result::GroupResult;
 pub use runnable::Runnable;
 pub use running::run_group;
+pub use runs::last_count;

@@ -30,7 +30,7 @@ impl Model for Runs {
 }
 
 /// The count of the last run, if it is of this item.
-fn last_count(runs: &[Run], item: u32) -> Option<u64>
+pub fn last_count(runs: &[Run], item: u32) -> Option<u64>
     ensures some { IfSome result (λ count. (rest : List Run) × (runs.now ≡ rest ++ Run.Item item count ∷ [])) }
     ensures none { IfNone result (EndsWith item runs.now → ⊥) }
 {
