@@ -1,27 +1,31 @@
 //! Operations done on the objects of a group.
 
-ghost use Rattle.std.specs.Prelude.{◌≡◌, ◌+◌, ◌≤◌, ℕ, length, false};
+ghost use Rattle.std.specs.Prelude.{◌≡◌, ◌+◌, ◌≤◌, ℕ, length, false, slice_get};
 ghost use Rattle.clmodel.specs.Cells.{size_of};
 ghost use Rattle.clmodel.specs.Launch.{Launch, region_of};
-ghost use Rattle.group_run.specs.Fits.{IsMoved, ObjectsHold, space_of};
+ghost use Rattle.group_run.specs.Fits.{IsMoved, ObjectsHold, bytes_or, space_of};
 
 use clmodel::access::{Object, Operation};
 use clmodel::action::Answer;
 use spaces_base::{LocalMem, Space, SpaceFault, perform};
+
+/// How many bytes the space of a number has, 0 where there is none.
+fn size_at<S: Space>(spaces: &[S], number: u32) -> u64
+    ensures { result ≡ length (bytes_or S.bytes (slice_get spaces.now number)) }
+{
+    match spaces.get(number as usize) {
+        Some(space) => space.size(),
+        None => 0,
+    }
+}
 
 /// How many bytes an object has.
 pub fn size_of<G: Space>(buffers: &[G], locals: &[LocalMem], object: Object) -> u64
     ensures { result ≡ length (space_of G.bytes buffers.now locals.now object) }
 {
     match object {
-        Object::Buffer(number) => match buffers.get(number as usize) {
-            Some(space) => space.size(),
-            None => 0,
-        },
-        Object::Local(number) => match locals.get(number as usize) {
-            Some(space) => space.size(),
-            None => 0,
-        },
+        Object::Buffer(number) => size_at(buffers, number),
+        Object::Local(number) => size_at(locals, number),
     }
 }
 
