@@ -54,7 +54,7 @@ impl ListLog {
     }
 
     /// Forgets all accesses, as `new` begins, and keeps the memory.
-    pub fn clear(&mut self)
+    fn clear(&mut self)
         ensures { logged self.new.entries.items self.new.local_interval self.new.global_interval ≡ fresh_log }
     {
         self.entries.clear();
@@ -63,6 +63,19 @@ impl ListLog {
         self.local_first = 0;
         self.global_first = 0;
         self.index.clear();
+    }
+
+    /// A log without accesses, in the first interval of both address spaces, in the memory of this one. The memory is given back where
+    /// less than an eighth of it was in use: to clear it takes time in proportion to all of it.
+    pub fn cleared(self, alloc: Global) -> Self
+        ensures { logged result.entries.items result.local_interval result.global_interval ≡ fresh_log }
+    {
+        if self.entries.len() < self.entries.capacity() / 8 {
+            return ListLog::new(alloc);
+        }
+        let mut log = self;
+        log.clear();
+        log
     }
 
     /// An access with the running interval of its address space.

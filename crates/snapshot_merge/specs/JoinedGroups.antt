@@ -14,6 +14,8 @@ use Rattle.joining.specs.Steps.{HasGroup, IsJoined}
 use Rattle.shadow.specs.Seen.{IsFootprint}
 use Rattle.shadow.specs.declared.footprint.Footprint.{Footprint}
 use Rattle.snapshot_merge.specs.Memory.{HoldsBytes}
+use Rattle.snapshot_merge.specs.declared.joined_groups.JoinEnd.{JoinEnd}
+use Rattle.snapshot_merge.specs.declared.joined_groups.JoinEnd.TheVariants.{Goes, Reports}
 use Rattle.snapshot_merge.specs.declared.joined_groups.JoinedGroups.{JoinedGroups}
 
 -- a footprint and runs hold the accesses and the events of the groups so far (own)
@@ -41,6 +43,11 @@ IsStopped launch fault runs = ((end : State) × RunsIntoFault launch (events_of 
 abbrev pub CameOfDone : Launch → ℕ → Option Fault → JoinedGroups → Type 0
 CameOfDone launch group (Some fault) so_far = IsStopped launch fault so_far.runs.items
 CameOfDone launch group None so_far = HoldsGroups launch (suc group) so_far
+
+-- the report of a join, if it has one (own)
+abbrev pub report_of : {L : Type 0} → JoinEnd L → Option Fault
+report_of (Goes log) = None
+report_of (Reports fault) = Some fault
 
 -- what comes of joining the result of one more group: a group that stopped always brings a report (own)
 abbrev pub CameOfNext : {G L : Type 0} → Launch → ℕ → GroupResult G L → Option Fault → JoinedGroups → Type 0

@@ -18,7 +18,7 @@ ghost use Rattle.spaces_base.specs.Buffers.{bytes_in};
 ghost use Rattle.snapshot_merge.specs.Changes.{AreChanged, changes_of, value_of};
 ghost use Rattle.snapshot_merge.specs.Meetings.{AreOthers, IsFirstMet, report_at};
 ghost use Rattle.snapshot_merge.specs.Runs.{Adds};
-ghost use Rattle.snapshot_merge.specs.JoinedGroups.{HoldsGroups, IsStopped, CameOfDone, CameOfNext};
+ghost use Rattle.snapshot_merge.specs.JoinedGroups.{HoldsGroups, IsStopped, CameOfDone, CameOfNext, report_of};
 
 use crate::changes::{Before, make_changes};
 use crate::cutting::{add_all, add_first};
@@ -43,6 +43,15 @@ pub(crate) struct JoinedGroups<'a> {
     pub(crate) contents: Vec<Bytes>,
     pub(crate) footprint: Footprint,
     pub(crate) runs: Vec<Run>,
+}
+
+/// What comes of joining the result of one more group.
+#[derive(Drop)]
+pub(crate) enum JoinEnd<L> {
+    /// Nothing to report so far. The group's log is handed back.
+    Goes(L),
+    /// The launch's report.
+    Reports(Fault),
 }
 
 /// The number of a group, and whether a further group is to be joined after it.
@@ -236,13 +245,13 @@ impl<'a> JoinedGroups<'a> {
         launch: &D,
         number: GroupPlace,
         came: GroupResult<Overlay<'_>, L>,
-    ) -> Result<Option<Fault>, AllocError>
+    ) -> Result<JoinEnd<L>, AllocError>
         requires grouped { IsGrouped (D.launch launch.now) }
         requires there { HasGroup (D.launch launch.now) number.group }
         requires further { HasGroup (D.launch launch.now) (suc number.group) → number.further ≡ true }
         requires so_far { HoldsGroups (D.launch launch.now) number.group self.old }
         requires result { IsResult (λ overlay. overlay.bytes) L.log (D.launch launch.now) number.group came }
-        ensures { IfOk result (λ report. CameOfNext (D.launch launch.now) number.group came.entry report self.new) }
+        ensures { IfOk result (λ end. CameOfNext (D.launch launch.now) number.group came.entry (report_of end) self.new) }
     {
         match came {
             GroupResult::Done {
@@ -250,13 +259,21 @@ impl<'a> JoinedGroups<'a> {
                 log,
                 runs,
                 ..
-            } => { self.join_done(alloc, launch, number, spaces.as_slice(), &log, &runs) }
+            } => {
+                match self.join_done(alloc, launch, number, spaces.as_slice(), &log, &runs)? {
+                    None => Ok(JoinEnd::Goes(log)),
+                    Some(report) => Ok(JoinEnd::Reports(report)),
+                }
+            }
             GroupResult::Stopped {
                 fault,
                 log,
                 runs,
                 ..
-            } => { Ok(Some(self.join_stopped(launch, number.group, fault, &log, &runs)?)) }
+            } => {
+                let report = self.join_stopped(launch, number.group, fault, &log, &runs)?;
+                Ok(JoinEnd::Reports(report))
+            }
         }
     }
 

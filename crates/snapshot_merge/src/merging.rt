@@ -8,7 +8,7 @@ ghost use Rattle.spaces_base.specs.Buffers.{bytes_in};
 ghost use Rattle.snapshot_run.specs.Launches.{HasGroups};
 ghost use Rattle.snapshot_merge.specs.Launches.{AreResults};
 
-use crate::joined_groups::{GroupPlace, JoinedGroups};
+use crate::joined_groups::{GroupPlace, JoinEnd, JoinedGroups};
 use crate::laws::laws;
 use crate::run::group_count;
 use clmodel::outcome::Outcome;
@@ -42,7 +42,7 @@ pub fn merge<'a, L: AccessLog + Drop>(
             group,
             further: group + 1 < groups,
         };
-        if let Some(fault) = so_far.join(alloc, &loaded, number, result)? {
+        if let JoinEnd::Reports(fault) = so_far.join(alloc, &loaded, number, result)? {
             return Ok(Outcome::Faulted(fault, so_far.into_schedule()));
         }
         group += 1;

@@ -5,6 +5,7 @@ ghost use Rattle.clmodel.specs.Next.{launch_of};
 ghost use Rattle.item_step.specs.Launches.{setup_of};
 ghost use Rattle.group_run.specs.Results.{IsResult};
 ghost use Rattle.joining.specs.Steps.{HasGroup};
+ghost use Rattle.shadow_list.specs.Log.{fresh_log};
 ghost use Rattle.spaces_base.specs.Buffers.{bytes_in};
 ghost use Rattle.snapshot_run.specs.Launches.{HasGroups, list_log};
 
@@ -44,20 +45,23 @@ fn overlays_of<'a>(
 }
 
 /// The canonical run of one work-group of a launch on the buffers as they are (OpenCL 1.2, sections 3.2 and 5.8), whatever other groups
-/// do: the overlays hold what the group leaves, and the buffers stay. An error is out of memory.
+/// do: the overlays hold what the group leaves, and the buffers stay. The log is one without accesses, in whose memory the group's are
+/// kept. An error is out of memory.
 pub fn one_group<'a>(
     alloc: Global,
     launch: &Launch<'_>,
     buffers: &'a Buffers,
     group: u32,
+    log: ListLog,
 ) -> Result<GroupResult<Overlay<'a>, ListLog>, AllocError>
     requires whole { HasGroups (setup_of launch.now) }
     requires there { HasGroup (launch_of (setup_of launch.now) (bytes_in buffers.now)) group }
+    requires fresh { list_log log ≡ fresh_log }
     ensures { IfOk result (IsResult (λ overlay. overlay.bytes) list_log (launch_of (setup_of launch.now) (bytes_in buffers.now)) group) }
 {
     budget_bounds();
     let _size = launch.group_size();
     let loaded = LoadedLaunch::new(alloc, launch, buffers);
     let overlays = overlays_of(alloc, buffers, launch.buffer_names())?;
-    run_group(alloc, &loaded, group, overlays, ListLog::new(alloc))
+    run_group(alloc, &loaded, group, overlays, log)
 }

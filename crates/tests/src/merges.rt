@@ -18,6 +18,7 @@ use device_store::ranges::{group_items, is_bad_dimension, is_bad_group, is_too_m
 use group_run::GroupResult;
 use item_step::{Launch, Setup};
 use lower::lower_kernel;
+use shadow_list::ListLog;
 use snapshot_merge::{merge, run_launch};
 use snapshot_run::one_group;
 use spaces_base::Buffers;
@@ -97,7 +98,7 @@ fn merged(
 {
     let mut results = Vec::new(alloc);
     for group in 0..groups {
-        let came = one_group(alloc, launch, buffers, group)?;
+        let came = one_group(alloc, launch, buffers, group, ListLog::new(alloc))?;
         let stopped = has_stopped(&came);
         results.push(came)?;
         if stopped {

@@ -5,11 +5,11 @@ use Rattle.clmodel.specs.Launch as model
 use Rattle.clmodel.specs.Next.{launch_of}
 use Rattle.clmodel.specs.Outcome.{Concludes}
 use Rattle.clmodel.specs.declared.outcome.Outcome.TheVariants.{Clean}
-use Rattle.clmodel.specs.declared.fault.Fault.{Fault}
 use Rattle.item_step.specs.Launches.{setup_of}
 use Rattle.joining.specs.Parts.{IsGrouped}
 use Rattle.spaces_base.specs.Buffers.{bytes_in}
-use Rattle.snapshot_merge.specs.JoinedGroups.{HoldsGroups, IsStopped, CameOfNext}
+use Rattle.snapshot_merge.specs.JoinedGroups.{HoldsGroups, IsStopped, CameOfNext, report_of}
+use Rattle.snapshot_merge.specs.declared.joined_groups.JoinEnd.{JoinEnd}
 use Rattle.std.specs.Vec.Iter.{into_iter_items}
 use Rattle.spaces.specs.Overlay.{Overlaid}
 use Rattle.group_run.specs.Results.{IsResult}
@@ -69,24 +69,24 @@ loop-result-preserved g c =
     let group = c.loop-result.group in
     let now = subst (AreResults bytes_of g.L.Accesses.log l group) c.in-Some.ensures.steps.0 c.loop-result.invariant.rest in
     let next : CameOfNext l group c.in-Some.result None c.join.new.self
-    = subst (λ (f : Option Fault). CameOfNext l group c.in-Some.result f c.join.new.self) c.in_default.is
-    (subst (λ (z : model.Launch). CameOfNext z group c.in-Some.result c.in_ok-fault.field-0 c.join.new.self) same c.in_ok-fault.ensures) in
+    = subst (λ (end : JoinEnd g.row.L.Denot). CameOfNext l group c.in-Some.result (report_of end) c.join.new.self) c.in_default.is
+    (subst (λ (z : model.Launch). CameOfNext z group c.in-Some.result (report_of c.in_ok-fault.field-0) c.join.new.self) same c.in_ok-fault.ensures) in
     record {
       held = subst (λ n. HoldsGroups l n c.join.new.self) (sym (add-one group)) (next_held l group c.in-Some.result c.join.new.self next);
       rest = subst (λ n. AreResults bytes_of g.L.Accesses.log l n (into_iter_items c.next.new.self)) (sym (add-one group))
           (rest_results bytes_of g.L.Accesses.log l group c.in-Some.result (into_iter_items c.next.new.self) c.join.new.self now next);
     }
 
-pub returns-in-Some-2 : goal.returns-in-Some-2
-returns-in-Some-2 g c =
+pub returns-in-Reports : goal.returns-in-Reports
+returns-in-Reports g c =
     let same = ap₂ (λ x y. launch_of (setup_of x) (bytes_in y)) c.new-loaded.ensures.launch c.new-loaded.ensures.buffers in
     let l = launch_of (setup_of c.args.launch.now) (bytes_in c.args.buffers.now) in
     let group = c.loop-result.group in
-    let next : CameOfNext l group c.in-Some.result (Some c.in-Some-2.fault) c.join.new.self
-    = subst (λ (f : Option Fault). CameOfNext l group c.in-Some.result f c.join.new.self) c.in-Some-2.is
-    (subst (λ (z : model.Launch). CameOfNext z group c.in-Some.result c.in_ok-fault.field-0 c.join.new.self) same c.in_ok-fault.ensures) in
-    concludes_fault l c.in-Some-2.fault c.into_schedule.result
-    (subst (IsStopped l c.in-Some-2.fault) (sym c.into_schedule.ensures) (next_stopped l group c.in-Some.result c.in-Some-2.fault c.join.new.self next))
+    let next : CameOfNext l group c.in-Some.result (Some c.in-Reports.fault) c.join.new.self
+    = subst (λ (end : JoinEnd g.row.L.Denot). CameOfNext l group c.in-Some.result (report_of end) c.join.new.self) c.in-Reports.is
+    (subst (λ (z : model.Launch). CameOfNext z group c.in-Some.result (report_of c.in_ok-fault.field-0) c.join.new.self) same c.in_ok-fault.ensures) in
+    concludes_fault l c.in-Reports.fault c.into_schedule.result
+    (subst (IsStopped l c.in-Reports.fault) (sym c.into_schedule.ensures) (next_stopped l group c.in-Some.result c.in-Reports.fault c.join.new.self next))
 
 pub returns : goal.returns
 returns g c =
