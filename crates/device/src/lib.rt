@@ -10,6 +10,7 @@ ghost use Rattle.device.specs.Kept.{ActsAs, AllCompiled};
 mod compiled;
 mod launching;
 mod prepared;
+mod tickets;
 
 use crate::compiled::{CompiledKernel, code_of, has_program, holds_buffer, set_argument};
 use clmodel::setup::Argument;

@@ -1,0 +1,145 @@
+-- What stays of a client's and of the driver's view over a call.
+use Rattle.std.proofs.Common.{◌≡◌, ◌≢◌, ℕ, zero, suc, replicate, get_or, ◌+◌, ◌<◌, ◌≤◌, List, [], ◌∷◌, ◌++◌, length, sym, refl, ap, ◌∙◌, subst, ⊎_elim, arith, le_refl, length-append, Option, Some, None}
+use mathlib.Core.Option.{some, some-ne-none}
+use mathlib.Core.Path.{Path}
+use mathlib.Core.Logic.{dite}
+use native.Mathlib.Decide.{ℕ_discrete}
+use lib.ListN.{get_elem?}
+use Rattle.host_queue.specs.declared.view.Stage.TheVariants.{Idle, Drawn, Taken}
+use Rattle.host_queue.specs.declared.view.Request.{Request}
+use Rattle.host_queue.specs.declared.view.Request.TheVariants.{Asked, Answered}
+use Rattle.host_queue.specs.declared.view.Held.{Held}
+use Rattle.host_queue.specs.declared.view.Entry.{Entry}
+use Rattle.host_queue.specs.declared.view.View.{View}
+use Rattle.host_queue.specs.History.{Begins, Runs, RunsTo}
+use Rattle.host_queue.specs.Tickets.{held, entry, Fits, IsReady, IsClient, IsDriver, IsNote, IsOpen, Saw, told, note_of, host_of, guest_of, first_view}
+use Rattle.host_queue.proofs.Basics.{at_inside, at_end, begins_refl, begins_more, begins_trans, begins_long, begins_both, runs_on, runs_none, runs_more}
+
+module _ {D C R : Type 0} (model : D → C → R → D → Type 0) where
+  abbrev V : Type 0
+  V = View D C R
+
+  pub client_full : (v w : V) → IsClient model v → w ≡ record v { credit = 0 } → IsClient model w
+  client_full v w k e = let a = k.ready in subst (IsClient model) (sym e) record {
+    ready = record { idle = a.idle; part = a.part; share = a.share; count = a.count; driving = a.driving; below = a.below };
+    fits = record { goes_on = k.fits.goes_on; runs = k.fits.runs; own = k.fits.own };
+  }
+
+  -- the view after a draw and a placing
+  abbrev pub placed_view : V → ℕ → C → V
+  placed_view v n c = record v { stage = Idle; floor = n + 1; count = v.count + 1; tickets = v.tickets ++ held n c ∷ [] }
+
+  pub placed_is : (v a b w : V) (n : ℕ) (c : C) → a ≡ record v { stage = Drawn n; floor = n + 1; count = v.count + 1 } → b ≡ a → w ≡ record b { stage = Idle; tickets = b.tickets ++ held n c ∷ [] } → w ≡ placed_view v n c
+  placed_is v a b w n c e f h = h ∙ ap (λ (z : V). let r : V = record z { stage = Idle; tickets = z.tickets ++ held n c ∷ [] } in r) (f ∙ e)
+
+  pub client_placed : (v w : V) (n : ℕ) (c : C) → IsClient model v → v.floor ≤ n → length v.known ≤ n → n < 4096 → w ≡ placed_view v n c → IsClient model w
+  client_placed v w n c k low long high e = let a = k.ready in subst (IsClient model) (sym e) record {
+    ready = record {
+      idle = refl;
+      part = a.part;
+      share = a.share;
+      count = ap (λ (z : ℕ). z + 1) a.count ∙ sym (length-append v.tickets (held n c ∷ []));
+      driving = a.driving;
+      below = λ i t at. ⊎_elim (λ (h : get_elem? v.tickets i ≡ some t). let b = a.below i t h in let l = b.0 in ((let g : t.number < n + 1 = omega arith in g), b.1))
+          (λ (h : (i ≡ length v.tickets) × Path (Held C) (held n c) t). subst (λ (z : Held C). (z.number < n + 1) × (z.number < 4096)) h.1 (omega arith, high)) (at_end v.tickets (held n c) t i at);
+    };
+    fits = record {
+      goes_on = k.fits.goes_on;
+      runs = k.fits.runs;
+      own = λ i t at x at_x. ⊎_elim (λ (h : get_elem? v.tickets i ≡ some t). k.fits.own i t h x at_x)
+          (λ (h : (i ≡ length v.tickets) × Path (Held C) (held n c) t). let m : n ≡ t.number = ap (λ (z : Held C). z.number) h.1 in absurd (let l = at_inside v.known t.number x at_x in omega arith)) (at_end v.tickets (held n c) t i at);
+    };
+  }
+
+  -- a view that knows more, where the rest is as it was but for what was collected
+  pub client_knows : (v w : V) (cs : List ℕ) (f : ℕ) → IsReady v → Fits model v w.known → v.floor ≤ f → w ≡ record v { collected = cs; known = w.known; floor = f } → IsClient model w
+  client_knows v w cs f a fits more e = subst (IsClient model) (sym e) record {
+    ready = record { idle = a.idle; part = a.part; share = a.share; count = a.count; driving = a.driving; below = λ i t at. let b = a.below i t at in let l = b.0 in ((let g : t.number < f = omega arith in g), b.1) };
+    fits = record { goes_on = begins_refl w.known; runs = fits.runs; own = fits.own };
+  }
+
+  -- what a note tells leaves a client ready
+  pub ready_told : (v o w : V) → IsReady v → IsNote o → w ≡ told v o → IsReady w
+  ready_told v o w a n e = let s = a.share in let z = n.share in subst IsReady (sym e) record { idle = a.idle; part = a.part; share = (let g : v.share + o.share ≡ 1 = omega arith in g); count = (let t = a.count in let u = n.count in let g : v.count + o.count ≡ length v.tickets = omega arith in g); driving = a.driving; below = a.below }
+
+  pub gathered_is : (v w z : V) (cs : List ℕ) → w ≡ record v { collected = cs; known = w.known } → z ≡ w → z ≡ record v { collected = cs; known = z.known }
+  gathered_is v w z cs e now = subst (λ (y : V). y ≡ record v { collected = cs; known = y.known }) (sym now) e
+
+  pub fits_is : (v w z : V) → Fits model v w.known → z ≡ w → Fits model v z.known
+  fits_is v w z f now = subst (λ (y : V). Fits model v y.known) (sym now) f
+
+  pub fits_told : (v o z w : V) → z ≡ told v o → Fits model z w.known → Fits model v w.known
+  fits_told v o z w e f = let g = subst (λ (y : V). Fits model y w.known) e f in record { goes_on = g.goes_on; runs = g.runs; own = g.own }
+
+  pub driver_first : (w : V) (d machine : D) → w ≡ first_view d → d ≡ machine → IsDriver model w machine
+  driver_first w d machine e same = subst (λ (z : V). IsDriver model z machine) (sym e) record {
+    idle = refl;
+    driving = refl;
+    left = λ _. refl;
+    runs = λ x st. let is = head_is d x st in subst (λ (z : D). RunsTo model z [] machine) is (subst (λ (z : D). RunsTo model d [] z) same (runs_none model d));
+  }
+    where
+      head_is : (a b : D) → Path (List D) (a ∷ []) (b ∷ []) → Path D a b
+      head_is a b p = cc
+
+  pub driver_looked : (v o z w : V) (machine : D) (known : List (Entry C R)) (f : ℕ) → IsDriver model v machine → (o.share ≡ 0 → o.count ≡ 0) → z ≡ told v o → known ≡ z.known → w ≡ record z { known = known; floor = f } → IsDriver model w machine
+  driver_looked v o z w machine known f k none e same is = let n : known ≡ v.known = same ∙ ap (λ (y : V). y.known) e in
+      subst (λ (y : V). IsDriver model y machine) (sym (is ∙ ap (λ (y : V). let r : V = record y { known = known; floor = f } in r) e)) record {
+        idle = k.idle;
+        driving = k.driving;
+        left = λ h. let a = k.left (omega arith) in let b = none (omega arith) in (let g : v.count + o.count ≡ 0 = omega arith in g);
+        runs = λ d st. subst (λ (l : List (Entry C R)). RunsTo model d l machine) (sym n) (k.runs d st);
+      }
+
+  pub driver_host : (v w : V) (machine : D) → IsDriver model v machine → w ≡ host_of v → IsDriver model w machine
+  driver_host v w machine k e = subst (λ (z : V). IsDriver model z machine) (sym e) record { idle = k.idle; driving = k.driving; left = k.left; runs = k.runs }
+
+  pub client_guest : (v w : V) → w ≡ guest_of v → IsClient model w
+  client_guest v w e = subst (IsClient model) (sym e) record {
+    ready = record { idle = refl; part = refl; share = refl; count = refl; driving = refl; below = λ i t at. absurd (some-ne-none t (sym at)) };
+    fits = record { goes_on = begins_refl []; runs = λ d st. runs_on model d d [] (runs_none model d); own = λ i t at. absurd (some-ne-none t (sym at)) };
+  }
+
+  pub driver_after : (v w : V) (machine after : D) (c : C) (r : R) → IsDriver model v machine → model machine c r after → w ≡ record v { stage = Idle; known = v.known ++ entry c r ∷ [] } → IsDriver model w after
+  driver_after v w machine after c r k did e = subst (λ (z : V). IsDriver model z after) (sym e) record { idle = refl; driving = k.driving; left = k.left; runs = λ d st. runs_more model d machine after v.known c r (k.runs d st) did }
+
+  pub runs_after : (v w : V) (machine after : D) (c : C) (r : R) → IsDriver model v machine → model machine c r after → w.start ≡ v.start → w.known ≡ v.known → (d : D) → w.start ≡ d ∷ [] → Runs model d (w.known ++ entry c r ∷ [])
+  runs_after v w machine after c r k did same known d st = subst (λ (l : List (Entry C R)). Runs model d (l ++ entry c r ∷ [])) (sym known)
+      (runs_on model d after (v.known ++ entry c r ∷ []) (runs_more model d machine after v.known c r (k.runs d (sym same ∙ st)) did))
+
+  pub taken_view : (v a b z : V) (c c' : C) → a ≡ record v { stage = Taken (c ∷ []) } → b ≡ a → z ≡ b → c ≡ c' → z ≡ record v { stage = Taken (c' ∷ []) }
+  taken_view v a b z c c' e f h same = h ∙ (f ∙ (e ∙ ap (λ (x : C). let r : V = record v { stage = Taken (x ∷ []) } in r) same))
+
+  pub answered_view : (v a w z : V) (c : C) (r : R) → a ≡ record v { stage = Taken (c ∷ []) } → w ≡ record a { stage = Idle; known = a.known ++ entry c r ∷ [] } → z ≡ w → z ≡ record v { stage = Idle; known = v.known ++ entry c r ∷ [] }
+  answered_view v a w z c r e f h = h ∙ (f ∙ ap (λ (x : V). let y : V = record x { stage = Idle; known = x.known ++ entry c r ∷ [] } in y) e)
+
+abbrev head_or : {A : Type 0} → Option A → List (ℕ × Option A) → Option A
+head_or d [] = d
+head_or d (x ∷ xs) = x.1
+
+pub same_head : {A : Type 0} (cs xs ys : List (ℕ × Option A)) (j k : ℕ) (a b : Option A) → cs ≡ (j, a) ∷ xs → cs ≡ (k, b) ∷ ys → a ≡ b
+same_head cs xs ys j k a b e f = ap (head_or None) (sym e ∙ f)
+
+pub some_same : {A : Type 0} (a b : A) → Path (Option A) (Some a) (Some b) → Path A a b
+some_same a b e = cc
+
+module _ {D C R : Type 0} where
+  pub note_is : (v o : View D C R) → o ≡ note_of v → IsNote o
+  note_is v o e = subst IsNote (sym e) record { idle = refl; share = refl; count = refl }
+
+module _ {C R : Type 0} where
+  -- a ticket below the count that a note told is answered
+  pub told_hit : (heard answered known : List (Entry C R)) (n count e : ℕ) → heard ≡ answered → count ≡ length answered → n < count → Begins heard known → (e ≢ 3 → length known ≤ n) → e ≡ 3
+  told_hit heard answered known n count e same counted l b miss = dite (ℕ_discrete e 3) (λ h. h) (λ h. let m = miss h in let long = begins_long heard known b in
+      let q : length heard ≡ length answered = ap length same in absurd (omega arith))
+
+  pub asked_same : (a b : C) → Path (Request C R) (Asked a) (Asked b) → Path C a b
+  asked_same a b e = cc
+
+  pub one_history : (xs ys zs : List (Entry C R)) → Begins xs zs → Begins ys zs → (length xs ≤ length ys → Begins xs ys) × (length ys ≤ length xs → Begins ys xs)
+  one_history xs ys zs a b = (begins_both xs ys zs a b, begins_both ys xs zs b a)
+
+pub zeros : (n i : ℕ) → ◌≡◌ {A = ℕ} (get_or (replicate n 0) i 0) 0
+zeros zero i = refl
+zeros (suc n) zero = refl
+zeros (suc n) (suc i) = zeros n i

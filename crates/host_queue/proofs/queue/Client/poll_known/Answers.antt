@@ -1,0 +1,80 @@
+use Rattle.std.proofs.Common.{rules, arith, sym, refl, ap, ◌∙◌, subst, ◌≡◌, ℕ, ◌+◌, ◌<◌, ◌≤◌, [], ◌∷◌, ◌++◌, length, Some, None, le_refl}
+use Rattle.std.specs.Box.{box_value}
+use Rattle.std.specs.Option.{IsSome}
+use lib.ListN.{get_elem?}
+use Rattle.atomic_table.specs.Table.{rest}
+use Rattle.host_queue.specs.History.{Begins}
+use Rattle.host_queue.specs.Tickets.{Fits, Has, IsReady}
+use Rattle.host_queue.proofs.Keeps.{collects}
+use Rattle.host_queue.proofs.Comings.{tells, learns}
+use Rattle.host_queue.proofs.Clients.{client_knows, gathered_is, fits_is, same_head, some_same, note_is, told_hit, ready_told, fits_told}
+use Rattle.host_queue.proofs.queue.Client.poll_known.Goals as goal
+
+pub split_seat-note-requires : goal.split_seat-note-requires
+split_seat-note-requires g c = let note = c.args.answered.now.note in let words = c.args.queue.now.sized.1 in (search rules, omega arith, tells g.D.Machine.step box_value _ _ _ note.idle (λ _. note.count))
+
+pub join_seat-requires : goal.join_seat-requires
+join_seat-requires g c = let words = c.args.queue.now.sized.1 in (search rules, search rules, search rules, omega arith, learns g.D.Machine.step box_value _ _ _ _ _ c.args.self.now.client.ready.idle)
+
+pub compare_exchange-requires : goal.compare_exchange-requires
+compare_exchange-requires g c = let own = c.requires.own in let low = (c.args.self.now.client.ready.below own.0 own.1 own.2).1 in let is = own.3 in let words = c.args.queue.now.sized.1 in let e = ap (λ m. m.0) c.join_seat.ensures.2 in
+    (search rules, omega arith, collects g.D.Machine.step box_value _ _ _ _ c.args.ticket.number own.0 own.1 (ap (λ v. v.stage) e ∙ c.args.self.now.client.ready.idle) (ap (λ v. get_elem? v.tickets own.0) e ∙ own.2) own.3 (λ h. own.4 (subst (λ v. Has v.collected c.args.ticket.number) e h)))
+
+pub exchange-requires : goal.exchange-requires
+exchange-requires g c = let told = c.compare_exchange.ensures.2 c.args.ticket.number refl in
+    let hit = told.2 (told_hit c.join_seat.new.seat.me.0.heard_known c.args.answered.now.seat.me.0.known c.compare_exchange.new.seat.me.0.known c.args.ticket.number c.args.answered.now.count c.compare_exchange.result
+    (ap (λ m. m.0.heard_known) c.join_seat.ensures.2 ∙ ap (λ m. m.0.heard_known) c.split_seat-note.ensures.4) c.args.answered.now.counted c.requires.below told.1 (λ ne. (told.3 ne).2)) in
+    let words = c.args.queue.now.sized.0 in (search rules, (Some hit.0, hit.3 ∙ ap (λ cs. (c.args.ticket.number, Some hit.0) ∷ rest cs) (sym hit.3)))
+
+pub invariant_of-self : goal.invariant_of-self
+invariant_of-self g c = let told = c.compare_exchange.ensures.2 c.args.ticket.number refl in
+    let hit = told.2 (told_hit c.join_seat.new.seat.me.0.heard_known c.args.answered.now.seat.me.0.known c.compare_exchange.new.seat.me.0.known c.args.ticket.number c.args.answered.now.count c.compare_exchange.result
+    (ap (λ m. m.0.heard_known) c.join_seat.ensures.2 ∙ ap (λ m. m.0.heard_known) c.split_seat-note.ensures.4) c.args.answered.now.counted c.requires.below told.1 (λ ne. (told.3 ne).2)) in
+    let now = ap (λ m. m.0) c.exchange.ensures.3 in let j = ap (λ m. m.0) c.join_seat.ensures.2 in let o = ap (λ m. m.0) c.split_seat-note.ensures.4 in
+    let e = gathered_is g.D.Machine.step c.join_seat.new.seat.me.0 c.compare_exchange.new.seat.me.0 c.exchange.new.seat.me.0 (c.args.ticket.number ∷ c.join_seat.new.seat.me.0.collected) hit.2 now in record {
+      client = client_knows g.D.Machine.step c.join_seat.new.seat.me.0 c.exchange.new.seat.me.0 (c.args.ticket.number ∷ c.join_seat.new.seat.me.0.collected) c.join_seat.new.seat.me.0.floor
+          (ready_told g.D.Machine.step c.args.self.now.seat.me.0 c.split_seat-note.result.me.0 c.join_seat.new.seat.me.0 c.args.self.now.client.ready (note_is c.args.answered.now.seat.me.0 c.split_seat-note.result.me.0 o) j)
+          (fits_is g.D.Machine.step c.join_seat.new.seat.me.0 c.compare_exchange.new.seat.me.0 c.exchange.new.seat.me.0 told.0 now) (le_refl _) e;
+      room = λ h. let room = c.args.self.now.room h in let same : c.exchange.new.seat.me.0.credit ≡ c.args.self.now.seat.me.0.credit = ap (λ z. z.credit) e ∙ ap (λ z. z.credit) j in omega arith;
+      counted = c.args.self.now.counted ∙ sym (ap length (ap (λ z. z.tickets) e ∙ ap (λ z. z.tickets) j));
+      few = (let a = c.args.self.now.few.0 in let b = c.args.self.now.few.1 in let f : c.exchange.new.seat.me.0.floor ≡ c.args.self.now.seat.me.0.floor = ap (λ z. z.floor) e ∙ ap (λ z. z.floor) j in (omega arith, b));
+    }
+
+pub unwrap-requires : goal.unwrap-requires
+unwrap-requires g c = let told = c.compare_exchange.ensures.2 c.args.ticket.number refl in
+    let hit = told.2 (told_hit c.join_seat.new.seat.me.0.heard_known c.args.answered.now.seat.me.0.known c.compare_exchange.new.seat.me.0.known c.args.ticket.number c.args.answered.now.count c.compare_exchange.result
+    (ap (λ m. m.0.heard_known) c.join_seat.ensures.2 ∙ ap (λ m. m.0.heard_known) c.split_seat-note.ensures.4) c.args.answered.now.counted c.requires.below told.1 (λ ne. (told.3 ne).2)) in
+    let got = same_head _ _ _ _ _ _ _ c.exchange.ensures.2 hit.3 in subst IsSome (sym got) refl
+
+pub returns-clause-ok : goal.returns-clause-ok
+returns-clause-ok g c = let told = c.compare_exchange.ensures.2 c.args.ticket.number refl in
+    let hit = told.2 (told_hit c.join_seat.new.seat.me.0.heard_known c.args.answered.now.seat.me.0.known c.compare_exchange.new.seat.me.0.known c.args.ticket.number c.args.answered.now.count c.compare_exchange.result
+    (ap (λ m. m.0.heard_known) c.join_seat.ensures.2 ∙ ap (λ m. m.0.heard_known) c.split_seat-note.ensures.4) c.args.answered.now.counted c.requires.below told.1 (λ ne. (told.3 ne).2)) in
+    let now = ap (λ m. m.0) c.exchange.ensures.3 in
+    let got = same_head _ _ _ _ _ _ _ c.exchange.ensures.2 hit.3 in let is = some_same _ _ (sym c.unwrap.ensures ∙ got) in
+    (hit.1, ap (λ z. get_elem? z.known c.args.ticket.number) now ∙ hit.4, ap box_value is ∙ hit.5)
+
+pub returns-clause-collected : goal.returns-clause-collected
+returns-clause-collected g c = let told = c.compare_exchange.ensures.2 c.args.ticket.number refl in
+    let hit = told.2 (told_hit c.join_seat.new.seat.me.0.heard_known c.args.answered.now.seat.me.0.known c.compare_exchange.new.seat.me.0.known c.args.ticket.number c.args.answered.now.count c.compare_exchange.result
+    (ap (λ m. m.0.heard_known) c.join_seat.ensures.2 ∙ ap (λ m. m.0.heard_known) c.split_seat-note.ensures.4) c.args.answered.now.counted c.requires.below told.1 (λ ne. (told.3 ne).2)) in
+    let now = ap (λ m. m.0) c.exchange.ensures.3 in let j = ap (λ m. m.0) c.join_seat.ensures.2 in
+    ap (λ z. z.collected) now ∙ (ap (λ z. z.collected) hit.2 ∙ ap (λ z. c.args.ticket.number ∷ z.collected) j)
+
+pub returns-clause-same : goal.returns-clause-same
+returns-clause-same g c = let told = c.compare_exchange.ensures.2 c.args.ticket.number refl in
+    let hit = told.2 (told_hit c.join_seat.new.seat.me.0.heard_known c.args.answered.now.seat.me.0.known c.compare_exchange.new.seat.me.0.known c.args.ticket.number c.args.answered.now.count c.compare_exchange.result
+    (ap (λ m. m.0.heard_known) c.join_seat.ensures.2 ∙ ap (λ m. m.0.heard_known) c.split_seat-note.ensures.4) c.args.answered.now.counted c.requires.below told.1 (λ ne. (told.3 ne).2)) in
+    let now = ap (λ m. m.0) c.exchange.ensures.3 in let j = ap (λ m. m.0) c.join_seat.ensures.2 in (
+      ap (λ z. z.tickets) now ∙ (ap (λ z. z.tickets) hit.2 ∙ ap (λ z. z.tickets) j),
+      ap (λ z. z.floor) now ∙ (ap (λ z. z.floor) hit.2 ∙ ap (λ z. z.floor) j),
+      ap (λ z. z.start) now ∙ (ap (λ z. z.start) hit.2 ∙ ap (λ z. z.start) j),
+      ap (λ z. z.name) now ∙ (ap (λ z. z.name) hit.2 ∙ ap (λ z. z.name) j),
+    )
+
+pub returns-clause-known : goal.returns-clause-known
+returns-clause-known g c = let told = c.compare_exchange.ensures.2 c.args.ticket.number refl in let now = ap (λ m. m.0) c.exchange.ensures.3 in let j = ap (λ m. m.0) c.join_seat.ensures.2 in let o = ap (λ m. m.0) c.split_seat-note.ensures.4 in (
+  fits_told g.D.Machine.step c.args.self.now.seat.me.0 c.split_seat-note.result.me.0 c.join_seat.new.seat.me.0 c.exchange.new.seat.me.0 j
+      (fits_is g.D.Machine.step c.join_seat.new.seat.me.0 c.compare_exchange.new.seat.me.0 c.exchange.new.seat.me.0 told.0 now),
+  subst (λ z. Begins z c.exchange.new.seat.me.0.known) (ap (λ z. z.heard_known) j ∙ ap (λ z. z.heard_known) o) (subst (λ z. Begins c.join_seat.new.seat.me.0.heard_known z.known) (sym now) told.1),
+)

@@ -1,0 +1,93 @@
+use Rattle.std.proofs.Common.{rules, arith, sym, refl, ap, ◌∙◌, subst, ◌≡◌, ℕ, ◌+◌, ◌<◌, ◌≤◌, [], ◌∷◌, ◌++◌, length, length-append, Some, None, le_refl}
+use Rattle.std.specs.Box.{box_value, with_value}
+use Rattle.atomic_table.specs.Table.{rest}
+use Rattle.host_queue.proofs.Keeps.{takes_at, answers_at}
+use Rattle.host_queue.specs.Tickets.{entry}
+use Rattle.host_queue.specs.History.{Begins}
+use Rattle.host_queue.proofs.Basics.{begins_more}
+use Rattle.host_queue.proofs.Comings.{tells}
+use Rattle.host_queue.proofs.Clients.{same_head, some_same, asked_same, taken_view, answered_view, runs_after, driver_after}
+use Rattle.host_queue.proofs.queue.Driver.drive_one.Goals as goal
+
+pub compare_exchange-requires : goal.compare_exchange-requires
+compare_exchange-requires g c = let k = c.args.self.now.driver in let d = k.driving in let words = c.args.queue.now.sized.1 in let slots = c.args.queue.now.sized.0 in
+    (search rules, (first_of (omega arith, search rules)), takes_at g.D.Machine.step box_value _ _ _ _ c.args.self.now.count c.args.self.now.counted k.idle (omega arith) (first_of (omega arith, search rules)))
+
+pub exchange-requires : goal.exchange-requires
+exchange-requires g c = let hit = c.compare_exchange.ensures.2.0 (search rules) in let is = c.args.self.now.counted in let slots = c.args.queue.now.sized.0 in
+    let has = hit.4 ∙ ap (λ (k : ℕ). (k, Some hit.0) ∷ c.args.self.now.seat.me.1) (sym is) in (search rules, (Some hit.0, has ∙ ap (λ cs. (c.args.self.now.count, Some hit.0) ∷ rest cs) (sym has)))
+
+pub compare_exchange-self-requires : goal.compare_exchange-self-requires
+compare_exchange-self-requires g c = let k = c.args.self.now.driver in let hit = c.compare_exchange.ensures.2.0 (search rules) in let u = c.unwrap-request.ensures in let q = c.exchange.ensures in let did = c.serve.ensures in
+    let got = same_head _ _ _ _ _ _ _ q.2 hit.4 in let is = some_same _ _ (sym u ∙ got) in
+    let cmd = asked_same {R = g.row.R.Denot} hit.1 did.0 (sym hit.2 ∙ (ap box_value (sym is) ∙ (sym c.deref_mut.ensures.value ∙ did.2))) in let h = c.exchange-2.ensures.3 in
+    let e = taken_view g.D.Machine.step c.args.self.now.seat.me.0 c.compare_exchange.new.seat.me.0 c.exchange.new.seat.me.0 c.exchange-2.new.seat.me.0 hit.1 did.0 hit.3 (ap (λ m. m.0) q.3) (ap (λ m. m.0) h) cmd in
+    let d = k.driving in let words = c.args.queue.now.sized.1 in let drives : c.exchange-2.new.seat.me.0.driving ≡ c.args.self.now.seat.me.0.driving = ap (λ z. z.driving) e in (
+      search rules,
+      (first_of (omega arith, search rules)),
+      answers_at g.D.Machine.step box_value _ _ _ _ c.args.self.now.count _ did.0 did.1 _ (c.args.self.now.counted ∙ ap length (sym (ap (λ z. z.known) e))) (omega arith)
+          (runs_after g.D.Machine.step c.args.self.now.seat.me.0 c.exchange-2.new.seat.me.0 c.args.self.now.machine c.serve.new.machine did.0 did.1 k did.4 (ap (λ z. z.start) e) (ap (λ z. z.known) e))
+          (ap (λ z. z.stage) e) did.3 (ap (λ m. m.1) h),
+    )
+
+pub split_seat-seat-requires : goal.split_seat-seat-requires
+split_seat-seat-requires g c = let k = c.args.self.now.driver in let hit = c.compare_exchange.ensures.2.0 (search rules) in let u = c.unwrap-request.ensures in let q = c.exchange.ensures in let did = c.serve.ensures in
+    let got = same_head _ _ _ _ _ _ _ q.2 hit.4 in let is = some_same _ _ (sym u ∙ got) in
+    let cmd = asked_same {R = g.row.R.Denot} hit.1 did.0 (sym hit.2 ∙ (ap box_value (sym is) ∙ (sym c.deref_mut.ensures.value ∙ did.2))) in let h = c.exchange-2.ensures.3 in
+    let e = taken_view g.D.Machine.step c.args.self.now.seat.me.0 c.compare_exchange.new.seat.me.0 c.exchange.new.seat.me.0 c.exchange-2.new.seat.me.0 hit.1 did.0 hit.3 (ap (λ m. m.0) q.3) (ap (λ m. m.0) h) cmd in
+    let n = c.args.self.now.counted ∙ ap length (sym (ap (λ z. z.known) e)) in
+    let put = c.compare_exchange-self.ensures.2 (with_value c.unwrap-request.result c.serve.new.request) did.0 did.1 (rest c.exchange.new.seat.me.1) (ap (λ z. z.stage) e)
+    (ap (λ m. m.1) h ∙ ap (λ (j : ℕ). (j, Some (with_value c.unwrap-request.result c.serve.new.request)) ∷ rest c.exchange.new.seat.me.1) n) did.3 in
+    let words = c.args.queue.now.sized.1 in (
+      search rules,
+      (first_of (omega arith, search rules)),
+      tells g.D.Machine.step box_value _ _ _ (ap (λ z. z.stage) put.0)
+          (λ none. ap (λ z. z.count) put.0 ∙ (ap (λ z. z.count) e ∙ k.left (sym (ap (λ z. z.share) put.0 ∙ ap (λ z. z.share) e) ∙ none))),
+    )
+
+pub invariant_of-self-2 : goal.invariant_of-self-2
+invariant_of-self-2 g c = let k = c.args.self.now.driver in let hit = c.compare_exchange.ensures.2.0 (search rules) in let u = c.unwrap-request.ensures in let q = c.exchange.ensures in let did = c.serve.ensures in
+    let got = same_head _ _ _ _ _ _ _ q.2 hit.4 in let is = some_same _ _ (sym u ∙ got) in
+    let cmd = asked_same {R = g.row.R.Denot} hit.1 did.0 (sym hit.2 ∙ (ap box_value (sym is) ∙ (sym c.deref_mut.ensures.value ∙ did.2))) in let h = c.exchange-2.ensures.3 in
+    let e = taken_view g.D.Machine.step c.args.self.now.seat.me.0 c.compare_exchange.new.seat.me.0 c.exchange.new.seat.me.0 c.exchange-2.new.seat.me.0 hit.1 did.0 hit.3 (ap (λ m. m.0) q.3) (ap (λ m. m.0) h) cmd in
+    let n = c.args.self.now.counted ∙ ap length (sym (ap (λ z. z.known) e)) in
+    let put = c.compare_exchange-self.ensures.2 (with_value c.unwrap-request.result c.serve.new.request) did.0 did.1 (rest c.exchange.new.seat.me.1) (ap (λ z. z.stage) e)
+    (ap (λ m. m.1) h ∙ ap (λ (j : ℕ). (j, Some (with_value c.unwrap-request.result c.serve.new.request)) ∷ rest c.exchange.new.seat.me.1) n) did.3 in
+    let f = answered_view g.D.Machine.step c.args.self.now.seat.me.0 c.exchange-2.new.seat.me.0 c.compare_exchange-self.new.seat.me.0 c.split_seat-seat.new.seat.me.0 did.0 did.1 e put.0 (ap (λ m. m.0) c.split_seat-seat.ensures.2) in
+    record {
+      driver = driver_after g.D.Machine.step c.args.self.now.seat.me.0 c.split_seat-seat.new.seat.me.0 c.args.self.now.machine c.serve.new.machine did.0 did.1 k did.4 f;
+      counted = ap (λ (j : ℕ). j + 1) c.args.self.now.counted ∙ (sym (length-append c.args.self.now.seat.me.0.known (entry did.0 did.1 ∷ [])) ∙ sym (ap length (ap (λ z. z.known) f)));
+    }
+
+pub returns-clause-some : goal.returns-clause-some
+returns-clause-some g c = let k = c.args.self.now.driver in let hit = c.compare_exchange.ensures.2.0 (search rules) in let u = c.unwrap-request.ensures in let q = c.exchange.ensures in let did = c.serve.ensures in
+    let got = same_head _ _ _ _ _ _ _ q.2 hit.4 in let is = some_same _ _ (sym u ∙ got) in
+    let cmd = asked_same {R = g.row.R.Denot} hit.1 did.0 (sym hit.2 ∙ (ap box_value (sym is) ∙ (sym c.deref_mut.ensures.value ∙ did.2))) in let h = c.exchange-2.ensures.3 in
+    let e = taken_view g.D.Machine.step c.args.self.now.seat.me.0 c.compare_exchange.new.seat.me.0 c.exchange.new.seat.me.0 c.exchange-2.new.seat.me.0 hit.1 did.0 hit.3 (ap (λ m. m.0) q.3) (ap (λ m. m.0) h) cmd in
+    let n = c.args.self.now.counted ∙ ap length (sym (ap (λ z. z.known) e)) in
+    let put = c.compare_exchange-self.ensures.2 (with_value c.unwrap-request.result c.serve.new.request) did.0 did.1 (rest c.exchange.new.seat.me.1) (ap (λ z. z.stage) e)
+    (ap (λ m. m.1) h ∙ ap (λ (j : ℕ). (j, Some (with_value c.unwrap-request.result c.serve.new.request)) ∷ rest c.exchange.new.seat.me.1) n) did.3 in
+    let f = answered_view g.D.Machine.step c.args.self.now.seat.me.0 c.exchange-2.new.seat.me.0 c.compare_exchange-self.new.seat.me.0 c.split_seat-seat.new.seat.me.0 did.0 did.1 e put.0 (ap (λ m. m.0) c.split_seat-seat.ensures.2) in
+    (search rules, refl, ap (λ m. m.0.known) c.split_seat-seat.ensures.4 ∙ sym (ap (λ m. m.0.known) c.split_seat-seat.ensures.2), (entry did.0 did.1, ap (λ z. z.known) f, did.4))
+
+pub returns-clause-start : goal.returns-clause-start
+returns-clause-start g c = let k = c.args.self.now.driver in let hit = c.compare_exchange.ensures.2.0 (search rules) in let u = c.unwrap-request.ensures in let q = c.exchange.ensures in let did = c.serve.ensures in
+    let got = same_head _ _ _ _ _ _ _ q.2 hit.4 in let is = some_same _ _ (sym u ∙ got) in
+    let cmd = asked_same {R = g.row.R.Denot} hit.1 did.0 (sym hit.2 ∙ (ap box_value (sym is) ∙ (sym c.deref_mut.ensures.value ∙ did.2))) in let h = c.exchange-2.ensures.3 in
+    let e = taken_view g.D.Machine.step c.args.self.now.seat.me.0 c.compare_exchange.new.seat.me.0 c.exchange.new.seat.me.0 c.exchange-2.new.seat.me.0 hit.1 did.0 hit.3 (ap (λ m. m.0) q.3) (ap (λ m. m.0) h) cmd in
+    let n = c.args.self.now.counted ∙ ap length (sym (ap (λ z. z.known) e)) in
+    let put = c.compare_exchange-self.ensures.2 (with_value c.unwrap-request.result c.serve.new.request) did.0 did.1 (rest c.exchange.new.seat.me.1) (ap (λ z. z.stage) e)
+    (ap (λ m. m.1) h ∙ ap (λ (j : ℕ). (j, Some (with_value c.unwrap-request.result c.serve.new.request)) ∷ rest c.exchange.new.seat.me.1) n) did.3 in
+    let f = answered_view g.D.Machine.step c.args.self.now.seat.me.0 c.exchange-2.new.seat.me.0 c.compare_exchange-self.new.seat.me.0 c.split_seat-seat.new.seat.me.0 did.0 did.1 e put.0 (ap (λ m. m.0) c.split_seat-seat.ensures.2) in
+    ap (λ z. z.start) f
+
+pub returns-clause-grows : goal.returns-clause-grows
+returns-clause-grows g c = let k = c.args.self.now.driver in let hit = c.compare_exchange.ensures.2.0 (search rules) in let u = c.unwrap-request.ensures in let q = c.exchange.ensures in let did = c.serve.ensures in
+    let got = same_head _ _ _ _ _ _ _ q.2 hit.4 in let is = some_same _ _ (sym u ∙ got) in
+    let cmd = asked_same {R = g.row.R.Denot} hit.1 did.0 (sym hit.2 ∙ (ap box_value (sym is) ∙ (sym c.deref_mut.ensures.value ∙ did.2))) in let h = c.exchange-2.ensures.3 in
+    let e = taken_view g.D.Machine.step c.args.self.now.seat.me.0 c.compare_exchange.new.seat.me.0 c.exchange.new.seat.me.0 c.exchange-2.new.seat.me.0 hit.1 did.0 hit.3 (ap (λ m. m.0) q.3) (ap (λ m. m.0) h) cmd in
+    let n = c.args.self.now.counted ∙ ap length (sym (ap (λ z. z.known) e)) in
+    let put = c.compare_exchange-self.ensures.2 (with_value c.unwrap-request.result c.serve.new.request) did.0 did.1 (rest c.exchange.new.seat.me.1) (ap (λ z. z.stage) e)
+    (ap (λ m. m.1) h ∙ ap (λ (j : ℕ). (j, Some (with_value c.unwrap-request.result c.serve.new.request)) ∷ rest c.exchange.new.seat.me.1) n) did.3 in
+    let f = answered_view g.D.Machine.step c.args.self.now.seat.me.0 c.exchange-2.new.seat.me.0 c.compare_exchange-self.new.seat.me.0 c.split_seat-seat.new.seat.me.0 did.0 did.1 e put.0 (ap (λ m. m.0) c.split_seat-seat.ensures.2) in
+    subst (λ l. Begins c.args.self.now.seat.me.0.known l) (sym (ap (λ z. z.known) f)) (begins_more c.args.self.now.seat.me.0.known (entry did.0 did.1 ∷ []))

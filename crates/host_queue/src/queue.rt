@@ -1,0 +1,395 @@
+//! The queue, and those who use it.
+ghost use Rattle.std.specs.Prelude.{◌≡◌, ℕ, List, ◌+◌, ◌<◌, ◌≤◌, ◌≢◌, [], ◌∷◌, ◌++◌, length, slice_get, vec_len, OnOk, IfOk, IfErr, IfSome, IfNone, MatchResult, MatchOption, Some, None, false};
+ghost use Rattle.std.specs.Box.{box_value};
+ghost use mathlib.Core.Option.{some};
+ghost use lib.ListN.{get_elem?};
+ghost use Rattle.host_queue.specs.declared.view.Request.TheVariants.{Asked, Answered as AnsweredBy};
+ghost use Rattle.host_queue.specs.declared.view.Entry.{Entry};
+ghost use Rattle.host_queue.specs.History.{Begins, RunsTo};
+ghost use Rattle.host_queue.specs.Tickets.{total, IsClient, IsDriver, IsNote, IsOpen, IsApart, AgreeAt, Fits, held, host_of, guest_of};
+ghost use Rattle.host_queue.specs.Opened.{Each, IsGuest};
+
+use crate::machine::Machine;
+use crate::table::{Admit, Answer, Draw, Gather, Learn, Leave, Look, Place, Put, Rows, Take, Tell};
+use crate::view::Request;
+use atomic_table::Table;
+use std::alloc::{AllocError, Global};
+use std::mem;
+use std::snapshot::Snapshot;
+use std::sync::Wait;
+
+pub const TICKETS: usize = 4096;
+
+/// What the threads share.
+#[derive(Drop)]
+pub struct Queue<D: Machine<C, R>, C: Drop, R: Drop> {
+    pub table: Rows<D, C, R>,
+    ghost sized: { (table.shared.table_id.slots ≡ 4096) × (table.shared.table_id.words ≡ 4097) },
+}
+
+/// Who submits requests.
+#[derive(Drop)]
+pub struct Client<D: Machine<C, R>, C: Drop, R: Drop> {
+    pub seat: Place<D, C, R>,
+    full: bool,
+    submitted: u64,
+    ghost client: { IsClient D.step seat.me.0 },
+    ghost counted: { submitted ≡ length seat.me.0.tickets },
+    ghost few: { (submitted ≤ seat.me.0.floor) × (submitted ≤ 4096) },
+    ghost room: { full ≡ false → 0 < seat.me.0.credit },
+}
+
+/// The right to one answer.
+#[derive(Drop)]
+pub struct Ticket {
+    pub number: u64,
+}
+
+/// All tickets are drawn. The request comes back.
+#[derive(Drop)]
+pub struct Full<C: Drop, R: Drop> {
+    pub request: Box<Request<C, R>>,
+}
+
+impl<D: Machine<C, R>, C: Drop, R: Drop> Client<D, C, R> {
+    pub fn submit(
+        &mut self,
+        queue: &Queue<D, C, R>,
+        request: Box<Request<C, R>>,
+    ) -> Result<Ticket, Full<C, R>>
+        requires one { self.old.seat.table_id ≡ queue.now.table.shared.table_id }
+        requires asked { (c : C) × (box_value request ≡ Asked c) }
+        ensures one { self.new.seat.table_id ≡ self.old.seat.table_id }
+        ensures ok { IfOk result (λ t. (t.number < 4096) × (self.old.seat.me.0.floor ≤ t.number) × (length self.old.seat.me.0.known ≤ t.number)) }
+        ensures ticket { IfOk result (λ t. (c : C) × (box_value request ≡ Asked c) × (self.new.seat.me.0.tickets ≡ self.old.seat.me.0.tickets ++ held t.number c ∷ [])) }
+        ensures err { IfErr result (λ f. (f.request ≡ request) × (self.new.seat.me.0.tickets ≡ self.old.seat.me.0.tickets)) }
+        ensures same { (self.new.seat.me.0.known ≡ self.old.seat.me.0.known) × (self.new.seat.me.0.collected ≡ self.old.seat.me.0.collected) × (self.new.seat.me.0.start ≡ self.old.seat.me.0.start) × (self.new.seat.me.0.name ≡ self.old.seat.me.0.name) }
+    {
+        if self.full {
+            return Err(Full { request });
+        }
+        let shared = &queue.table.shared;
+        let drawn = shared.fetch_add::<Draw>(&mut self.seat, 0, 1);
+        if drawn >= TICKETS as u64 {
+            self.full = true;
+            return Err(Full { request });
+        }
+        let number = drawn as usize;
+        match shared.exchange(&mut self.seat, number, Some(request)) {
+            None => {}
+            Some(_) => unreachable!(),
+        }
+        shared.compare_exchange::<Put>(&mut self.seat, number + 1, 0, 1);
+        self.submitted += 1;
+        Ok(Ticket { number: drawn })
+    }
+}
+
+impl<D: Machine<C, R>, C: Drop, R: Drop> Client<D, C, R> {
+    /// The answered request, or the ticket back.
+    pub fn poll(
+        &mut self,
+        queue: &Queue<D, C, R>,
+        ticket: Ticket,
+    ) -> Result<Box<Request<C, R>>, Ticket>
+        requires one { self.old.seat.table_id ≡ queue.now.table.shared.table_id }
+        requires own { IsOpen self.old.seat.me.0 ticket.number }
+        ensures one { self.new.seat.table_id ≡ self.old.seat.table_id }
+        ensures known { Fits D.step self.old.seat.me.0 self.new.seat.me.0.known }
+        ensures ok { IfOk result (λ b. (x : Entry C R) × (get_elem? self.new.seat.me.0.known ticket.number ≡ some x) × (box_value b ≡ AnsweredBy x.reply) × (self.new.seat.me.0.collected ≡ ticket.number ∷ self.old.seat.me.0.collected)) }
+        ensures err { IfErr result (λ t. (t ≡ ticket) × (length self.new.seat.me.0.known ≤ ticket.number) × (self.new.seat.me.0.collected ≡ self.old.seat.me.0.collected)) }
+        ensures same { (self.new.seat.me.0.tickets ≡ self.old.seat.me.0.tickets) × (self.new.seat.me.0.floor ≡ self.old.seat.me.0.floor) × (self.new.seat.me.0.start ≡ self.old.seat.me.0.start) × (self.new.seat.me.0.name ≡ self.old.seat.me.0.name) }
+    {
+        let shared = &queue.table.shared;
+        let number = ticket.number as usize;
+        if shared.compare_exchange::<Gather<D>>(&mut self.seat, number + 1, 3, 4) != 3 {
+            return Err(ticket);
+        }
+        Ok(shared.exchange(&mut self.seat, number, None).unwrap())
+    }
+}
+
+/// How many tickets are answered, and what the driver knew then.
+#[derive(Drop)]
+pub struct Answered<D: Machine<C, R>, C: Drop, R: Drop> {
+    pub seat: Place<D, C, R>,
+    pub count: u64,
+    ghost note: { IsNote seat.me.0 },
+    ghost empty_handed: { seat.me.1 ≡ [] },
+    ghost counted: { count ≡ length seat.me.0.known },
+}
+
+/// Who takes the requests in ticket order.
+#[derive(Drop)]
+pub struct Driver<D: Machine<C, R>, C: Drop, R: Drop> {
+    pub seat: Place<D, C, R>,
+    pub machine: D,
+    count: u64,
+    ghost driver: { IsDriver D.step seat.me.0 machine },
+    ghost counted: { count ≡ length seat.me.0.known },
+}
+
+impl<D: Machine<C, R>, C: Drop, R: Drop> Client<D, C, R> {
+    /// The answered request of a ticket below the count of `answered`.
+    pub fn poll_known(
+        &mut self,
+        queue: &Queue<D, C, R>,
+        ticket: Ticket,
+        answered: &mut Answered<D, C, R>,
+    ) -> Box<Request<C, R>>
+        requires one { (self.old.seat.table_id ≡ queue.now.table.shared.table_id) × (answered.old.seat.table_id ≡ queue.now.table.shared.table_id) }
+        requires own { IsOpen self.old.seat.me.0 ticket.number }
+        requires below { ticket.number < answered.old.count }
+        ensures one { (self.new.seat.table_id ≡ self.old.seat.table_id) × (answered.new.seat.table_id ≡ answered.old.seat.table_id) }
+        ensures answered { (answered.new.count ≡ answered.old.count) × (answered.new.seat.me.0 ≡ answered.old.seat.me.0) }
+        ensures known { Fits D.step self.old.seat.me.0 self.new.seat.me.0.known × Begins answered.old.seat.me.0.known self.new.seat.me.0.known }
+        ensures ok { (x : Entry C R) × (get_elem? self.new.seat.me.0.known ticket.number ≡ some x) × (box_value result ≡ AnsweredBy x.reply) }
+        ensures collected { self.new.seat.me.0.collected ≡ ticket.number ∷ self.old.seat.me.0.collected }
+        ensures same { (self.new.seat.me.0.tickets ≡ self.old.seat.me.0.tickets) × (self.new.seat.me.0.floor ≡ self.old.seat.me.0.floor) × (self.new.seat.me.0.start ≡ self.old.seat.me.0.start) × (self.new.seat.me.0.name ≡ self.old.seat.me.0.name) }
+    {
+        let shared = &queue.table.shared;
+        let note = shared.split_seat::<Tell>(&mut answered.seat);
+        shared.join_seat::<Learn>(&mut self.seat, note);
+        let number = ticket.number as usize;
+        shared.compare_exchange::<Gather<D>>(&mut self.seat, number + 1, 3, 4);
+        shared.exchange(&mut self.seat, number, None).unwrap()
+    }
+}
+
+// Applies the command in the box, and leaves the reply in it.
+fn serve<D: Machine<C, R>, C: Drop, R: Drop>(machine: &mut D, request: &mut Request<C, R>)
+    requires { (c : C) × (request.old ≡ Asked c) }
+    ensures { (c : C) × (r : R) × (request.old ≡ Asked c) × (request.new ≡ AnsweredBy r) × D.step machine.old c r machine.new }
+{
+    let Request::Asked(command) = mem::replace(request, Request::Answered(D::placeholder())) else {
+        unreachable!()
+    };
+    let reply = machine.apply(command);
+    *request = Request::Answered(reply);
+}
+
+impl<D: Machine<C, R>, C: Drop, R: Drop> Driver<D, C, R> {
+    /// Answers the next ticket, if its request is there.
+    pub fn drive_one(&mut self, queue: &Queue<D, C, R>) -> Option<Answered<D, C, R>>
+        requires one { self.old.seat.table_id ≡ queue.now.table.shared.table_id }
+        ensures one { self.new.seat.table_id ≡ self.old.seat.table_id }
+        ensures some { IfSome result (λ a. (a.seat.table_id ≡ self.old.seat.table_id) × (a.count ≡ self.old.count + 1) × (a.seat.me.0.known ≡ self.new.seat.me.0.known) × ((x : Entry C R) × (self.new.seat.me.0.known ≡ self.old.seat.me.0.known ++ x ∷ []) × D.step self.old.machine x.command x.reply self.new.machine)) }
+        ensures grows { Begins self.old.seat.me.0.known self.new.seat.me.0.known }
+        ensures none { IfNone result ((self.new.machine ≡ self.old.machine) × (self.new.seat.me.0 ≡ self.old.seat.me.0)) }
+        ensures start { self.new.seat.me.0.start ≡ self.old.seat.me.0.start }
+    {
+        if self.count >= TICKETS as u64 {
+            return None;
+        }
+        let shared = &queue.table.shared;
+        let number = self.count as usize;
+        if shared.compare_exchange::<Take>(&mut self.seat, number + 1, 1, 2) != 1 {
+            return None;
+        }
+        let mut request = shared.exchange(&mut self.seat, number, None).unwrap();
+        serve(&mut self.machine, &mut *request);
+        shared.exchange(&mut self.seat, number, Some(request));
+        shared.compare_exchange::<Answer>(&mut self.seat, number + 1, 2, 3);
+        self.count += 1;
+        let seat = shared.split_seat::<Tell>(&mut self.seat);
+        Some(Answered {
+            seat,
+            count: self.count,
+        })
+    }
+}
+
+impl<D: Machine<C, R>, C: Drop, R: Drop> Client<D, C, R> {
+    // Takes in what the other knows, and looks.
+    fn learn_from(&mut self, queue: &Queue<D, C, R>, other: &mut Client<D, C, R>)
+        requires one { (self.old.seat.table_id ≡ queue.now.table.shared.table_id) × (other.old.seat.table_id ≡ queue.now.table.shared.table_id) }
+        ensures one { (self.new.seat.table_id ≡ self.old.seat.table_id) × (other.new.seat.table_id ≡ other.old.seat.table_id) }
+        ensures known { Fits D.step self.old.seat.me.0 self.new.seat.me.0.known × Begins other.old.seat.me.0.known self.new.seat.me.0.known }
+        ensures floor { (self.old.seat.me.0.floor ≤ self.new.seat.me.0.floor) × (other.old.seat.me.0.floor ≤ self.new.seat.me.0.floor) }
+        ensures apart { self.old.seat.me.0.name ≢ other.old.seat.me.0.name → IsApart other.old.seat.me.0 self.old.seat.me.0 }
+        ensures same { (self.new.seat.me.0.tickets ≡ self.old.seat.me.0.tickets) × (self.new.seat.me.0.collected ≡ self.old.seat.me.0.collected) × (self.new.seat.me.0.start ≡ self.old.seat.me.0.start) × (self.new.seat.me.0.name ≡ self.old.seat.me.0.name) }
+        ensures other { other.new.seat.me.0 ≡ other.old.seat.me.0 }
+    {
+        let shared = &queue.table.shared;
+        let note = shared.split_seat::<Tell>(&mut other.seat);
+        shared.join_seat::<Learn>(&mut self.seat, note);
+        shared.load::<Look<D>>(&mut self.seat, 0);
+    }
+
+    /// Both know the longer of their two lists, and each draws above what the other drew.
+    pub fn agree(&mut self, queue: &Queue<D, C, R>, other: &mut Client<D, C, R>)
+        requires one { (self.old.seat.table_id ≡ queue.now.table.shared.table_id) × (other.old.seat.table_id ≡ queue.now.table.shared.table_id) }
+        requires two { self.old.seat.me.0.name ≢ other.old.seat.me.0.name }
+        ensures one { (self.new.seat.table_id ≡ self.old.seat.table_id) × (other.new.seat.table_id ≡ other.old.seat.table_id) }
+        ensures history { (length self.old.seat.me.0.known ≤ length other.old.seat.me.0.known → Begins self.old.seat.me.0.known other.old.seat.me.0.known) × (length other.old.seat.me.0.known ≤ length self.old.seat.me.0.known → Begins other.old.seat.me.0.known self.old.seat.me.0.known) }
+        ensures mine { Begins self.old.seat.me.0.known self.new.seat.me.0.known × Begins other.old.seat.me.0.known self.new.seat.me.0.known }
+        ensures theirs { Begins self.old.seat.me.0.known other.new.seat.me.0.known × Begins other.old.seat.me.0.known other.new.seat.me.0.known }
+        ensures floors { (self.old.seat.me.0.floor ≤ self.new.seat.me.0.floor) × (other.old.seat.me.0.floor ≤ self.new.seat.me.0.floor) × (self.old.seat.me.0.floor ≤ other.new.seat.me.0.floor) × (other.old.seat.me.0.floor ≤ other.new.seat.me.0.floor) }
+        ensures apart { IsApart other.old.seat.me.0 self.old.seat.me.0 }
+        ensures same { (self.new.seat.me.0.tickets ≡ self.old.seat.me.0.tickets) × (self.new.seat.me.0.collected ≡ self.old.seat.me.0.collected) × (self.new.seat.me.0.start ≡ self.old.seat.me.0.start) × (self.new.seat.me.0.name ≡ self.old.seat.me.0.name) }
+        ensures others { (other.new.seat.me.0.tickets ≡ other.old.seat.me.0.tickets) × (other.new.seat.me.0.collected ≡ other.old.seat.me.0.collected) × (other.new.seat.me.0.start ≡ other.old.seat.me.0.start) × (other.new.seat.me.0.name ≡ other.old.seat.me.0.name) }
+    {
+        self.learn_from(queue, other);
+        other.learn_from(queue, self);
+    }
+}
+
+impl<D: Machine<C, R>, C: Drop, R: Drop> Driver<D, C, R> {
+    // A new client, with the next number.
+    fn admit(&mut self, queue: &Queue<D, C, R>) -> Client<D, C, R>
+        requires one { self.old.seat.table_id ≡ queue.now.table.shared.table_id }
+        requires room { 0 < self.old.seat.me.0.credit }
+        ensures driver { (self.new.seat.table_id ≡ self.old.seat.table_id) × (self.new.seat.me.0 ≡ host_of self.old.seat.me.0) × (self.new.machine ≡ self.old.machine) × (self.new.count ≡ self.old.count) }
+        ensures client { (result.seat.table_id ≡ self.old.seat.table_id) × (result.seat.me.0 ≡ guest_of self.old.seat.me.0) }
+    {
+        let seat = queue.table.shared.split_seat::<Admit>(&mut self.seat);
+        Client {
+            seat,
+            full: false,
+            submitted: 0,
+        }
+    }
+
+    // So many new clients, numbered from 0.
+    fn admit_all(
+        &mut self,
+        alloc: Global,
+        queue: &Queue<D, C, R>,
+        clients: usize,
+    ) -> Result<Vec<Client<D, C, R>>, AllocError>
+        requires one { self.old.seat.table_id ≡ queue.now.table.shared.table_id }
+        requires fresh { (clients ≤ 16) × (self.old.seat.me.0.credit ≡ 16) × (self.old.seat.me.0.admitted ≡ 0) }
+        ensures driver { (self.new.seat.table_id ≡ self.old.seat.table_id) × (self.new.machine ≡ self.old.machine) × (self.new.seat.me.0.start ≡ self.old.seat.me.0.start) × (self.new.seat.me.0.known ≡ self.old.seat.me.0.known) }
+        ensures admitted { OnOk result (self.new.seat.me.0.admitted ≡ clients) }
+        ensures clients { IfOk result (λ v. (vec_len v ≡ clients) × Each v.items (λ k c. (c.seat.table_id ≡ queue.now.table.shared.table_id) × IsGuest self.old.seat.me.0.start k c.seat.me.0)) }
+    {
+        let mut list = Vec::with_capacity(alloc, clients)?;
+        for i in 0..clients {
+            list.push(self.admit(queue))?;
+        }
+        Ok(list)
+    }
+}
+
+/// A queue over the machine, with so many clients, who are numbered from 0.
+pub fn open<D: Machine<C, R>, C: Drop, R: Drop>(
+    alloc: Global,
+    machine: D,
+    clients: usize,
+) -> Result<(Queue<D, C, R>, Vec<Client<D, C, R>>, Driver<D, C, R>), AllocError>
+    requires clients { clients ≤ 16 }
+    ensures driver { IfOk result (λ r. (r.2.seat.table_id ≡ r.0.table.shared.table_id) × (r.2.machine ≡ machine) × (r.2.seat.me.0.start ≡ machine ∷ []) × (r.2.seat.me.0.known ≡ []) × (r.2.seat.me.0.admitted ≡ clients)) }
+    ensures clients { IfOk result (λ r. (vec_len r.1 ≡ clients) × Each r.1.items (λ k c. (c.seat.table_id ≡ r.0.table.shared.table_id) × IsGuest (machine ∷ []) k c.seat.me.0)) }
+{
+    let words = Vec::from_elem(alloc, 0u64, TICKETS + 1)?;
+    let about = Snapshot::of(&machine);
+    let (table, seat): (Rows<D, C, R>, Place<D, C, R>) = Table::vacant(
+        alloc,
+        words.as_slice(),
+        TICKETS,
+        &about,
+    )?;
+    let queue = Queue { table };
+    let mut driver = Driver {
+        seat,
+        machine,
+        count: 0,
+    };
+    let list = driver.admit_all(alloc, &queue, clients)?;
+    Ok((queue, list, driver))
+}
+
+impl<D: Machine<C, R>, C: Drop, R: Drop> Driver<D, C, R> {
+    // A client leaves: it draws no more, and its list, its commands and the count of its tickets are known.
+    fn part_from(&mut self, queue: &Queue<D, C, R>, client: Client<D, C, R>) -> u64
+        requires one { (self.old.seat.table_id ≡ queue.now.table.shared.table_id) × (client.seat.table_id ≡ queue.now.table.shared.table_id) }
+        ensures one { self.new.seat.table_id ≡ self.old.seat.table_id }
+        ensures client { Begins client.seat.me.0.known self.new.seat.me.0.known × AgreeAt client.seat.me.0.tickets self.new.seat.me.0.known }
+        ensures counts { (self.new.seat.me.0.share ≡ self.old.seat.me.0.share + 1) × (self.new.seat.me.0.count ≡ self.old.seat.me.0.count + length client.seat.me.0.tickets) }
+        ensures drawn { self.new.seat.me.0.share ≡ self.new.seat.me.0.admitted → (result ≤ 4096 → self.new.seat.me.0.count ≡ result) × (4096 ≤ result → self.new.seat.me.0.count ≡ 4096) }
+        ensures same { (self.new.machine ≡ self.old.machine) × (self.new.seat.me.0.known ≡ self.old.seat.me.0.known) × (self.new.seat.me.0.start ≡ self.old.seat.me.0.start) × (self.new.seat.me.0.admitted ≡ self.old.seat.me.0.admitted) }
+    {
+        let shared = &queue.table.shared;
+        let mut client = client;
+        let note = shared.split_seat::<Leave>(&mut client.seat);
+        shared.join_seat::<Learn>(&mut self.seat, note);
+        let Client {
+            seat: _,
+            full: _,
+            submitted: _,
+        } = client;
+        shared.load::<Look<D>>(&mut self.seat, 0)
+    }
+}
+
+// How many tickets the clients have drawn.
+fn submitted<D: Machine<C, R>, C: Drop, R: Drop>(clients: &[Client<D, C, R>]) -> u64
+    requires { length clients.now ≤ 16 }
+    ensures { result ≡ total (λ c. length c.seat.me.0.tickets) clients.now }
+{
+    let mut sum = 0;
+    for client in clients {
+        sum += client.submitted;
+    }
+    sum
+}
+
+impl<D: Machine<C, R>, C: Drop, R: Drop> Driver<D, C, R> {
+    // Answers until so many tickets are answered.
+    fn drive_to<W: Wait>(&mut self, rt: &W, queue: &Queue<D, C, R>, sum: u64)
+        requires one { self.old.seat.table_id ≡ queue.now.table.shared.table_id }
+        ensures one { self.new.seat.table_id ≡ self.old.seat.table_id }
+        ensures count { self.new.count ≡ sum }
+        ensures known { Begins self.old.seat.me.0.known self.new.seat.me.0.known }
+        ensures same { self.new.seat.me.0.start ≡ self.old.seat.me.0.start }
+    {
+        for _ in rt.forever() {
+            if self.count == sum {
+                return;
+            }
+            drop(self.drive_one(queue));
+        }
+        unreachable!()
+    }
+
+    fn into_machine(self) -> D
+        ensures { result ≡ self.machine }
+    {
+        let Driver {
+            seat: _,
+            machine,
+            count: _,
+        } = self;
+        machine
+    }
+
+    // Parts from all clients.
+    fn part_from_all(&mut self, queue: &Queue<D, C, R>, mut clients: Vec<Client<D, C, R>>)
+        requires one { (self.old.seat.table_id ≡ queue.now.table.shared.table_id) × Each clients.items (λ k c. c.seat.table_id ≡ queue.now.table.shared.table_id) }
+        ensures clients { Each clients.items (λ k c. Begins c.seat.me.0.known self.new.seat.me.0.known × AgreeAt c.seat.me.0.tickets self.new.seat.me.0.known) }
+        ensures same { (self.new.machine ≡ self.old.machine) × (self.new.seat.me.0.known ≡ self.old.seat.me.0.known) × (self.new.seat.me.0.start ≡ self.old.seat.me.0.start) }
+    {
+        while let Some(client) = clients.pop() {
+            self.part_from(queue, client);
+        }
+    }
+}
+
+/// The machine after all that was submitted. All clients are handed in, and replies that were not collected are dropped.
+pub fn close<D: Machine<C, R>, C: Drop, R: Drop, W: Wait>(
+    rt: &W,
+    queue: Queue<D, C, R>,
+    clients: Vec<Client<D, C, R>>,
+    driver: Driver<D, C, R>,
+) -> D
+    requires one { (driver.seat.table_id ≡ queue.table.shared.table_id) × Each clients.items (λ k c. c.seat.table_id ≡ queue.table.shared.table_id) }
+    requires few { length clients.items ≤ 16 }
+    ensures { (log : List (Entry C R)) × ((d : D) → driver.seat.me.0.start ≡ d ∷ [] → RunsTo D.step d log result) × Begins driver.seat.me.0.known log × Each clients.items (λ k c. Begins c.seat.me.0.known log × AgreeAt c.seat.me.0.tickets log) × (length log ≡ total (λ c. length c.seat.me.0.tickets) clients.items) }
+{
+    let mut driver = driver;
+    let sum = submitted(clients.as_slice());
+    driver.drive_to(rt, &queue, sum);
+    driver.part_from_all(&queue, clients);
+    drop(queue);
+    driver.into_machine()
+}

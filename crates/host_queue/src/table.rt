@@ -1,0 +1,108 @@
+//! The rule of the table, and what each step tells.
+ghost use Rattle.std.specs.Box.{box_value};
+ghost use Rattle.host_queue.specs.Tickets.{Kept, first_view, drew, placed, took, answered, gathered, looked, host_of, guest_of, note_of, gone, farewell_of, told, spent};
+
+use crate::machine::Machine;
+use crate::view::{Request, View};
+use atomic_table::{Join, Play, Seat, Shared, Split, Table, TableRule};
+use std::alloc::Global;
+use std::marker::PhantomData;
+use std::snapshot::Snapshot;
+
+pub struct Tickets;
+
+impl<D: Machine<C, R>, C: Drop, R: Drop> TableRule<
+    Option<Box<Request<C, R>>>,
+    View<D, C, R>,
+    Snapshot<D>,
+> for Tickets {
+    ghost holds = { λ key. Kept D.step box_value key.value };
+
+    ghost first = { λ key. first_view key.value };
+}
+
+pub type Place<D, C, R> = Seat<Option<Box<Request<C, R>>>, View<D, C, R>>;
+
+pub type Board<D, C, R> = Shared<Option<Box<Request<C, R>>>, View<D, C, R>, Snapshot<D>, Tickets>;
+
+pub type Rows<D, C, R> = Table<
+    Option<Box<Request<C, R>>>,
+    View<D, C, R>,
+    Snapshot<D>,
+    Tickets,
+    Global,
+>;
+
+pub(crate) struct Draw;
+
+impl<D, C: Drop, R: Drop> Play<Option<Box<Request<C, R>>>, View<D, C, R>> for Draw {
+    ghost then = { drew box_value };
+}
+
+pub(crate) struct Put;
+
+impl<D, C: Drop, R: Drop> Play<Option<Box<Request<C, R>>>, View<D, C, R>> for Put {
+    ghost then = { placed box_value };
+}
+
+pub(crate) struct Take;
+
+impl<D, C: Drop, R: Drop> Play<Option<Box<Request<C, R>>>, View<D, C, R>> for Take {
+    ghost then = { took box_value };
+}
+
+pub(crate) struct Answer;
+
+impl<D, C: Drop, R: Drop> Play<Option<Box<Request<C, R>>>, View<D, C, R>> for Answer {
+    ghost then = { answered box_value };
+}
+
+pub(crate) struct Gather<M> {
+    machine: PhantomData<M>,
+}
+
+impl<D: Machine<C, R>, C: Drop, R: Drop> Play<Option<Box<Request<C, R>>>, View<D, C, R>>
+    for Gather<D> {
+    ghost then = { gathered D.step box_value };
+}
+
+pub(crate) struct Look<M> {
+    machine: PhantomData<M>,
+}
+
+impl<D: Machine<C, R>, C: Drop, R: Drop> Play<Option<Box<Request<C, R>>>, View<D, C, R>>
+    for Look<D> {
+    ghost then = { looked D.step box_value };
+}
+
+pub(crate) struct Admit;
+
+impl<D, C, R> Split<View<D, C, R>> for Admit {
+    ghost left = { host_of };
+
+    ghost right = { guest_of };
+}
+
+pub(crate) struct Tell;
+
+impl<D, C, R> Split<View<D, C, R>> for Tell {
+    ghost left = { λ v. v };
+
+    ghost right = { note_of };
+}
+
+pub(crate) struct Leave;
+
+impl<D, C, R> Split<View<D, C, R>> for Leave {
+    ghost left = { gone };
+
+    ghost right = { farewell_of };
+}
+
+pub(crate) struct Learn;
+
+impl<D, C, R> Join<View<D, C, R>> for Learn {
+    ghost both = { told };
+
+    ghost spent = { spent };
+}
