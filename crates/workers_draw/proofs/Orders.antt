@@ -15,11 +15,11 @@ module _ {T : Type 0} (gives : ℕ → T → Type 0) (is_stopped : T → Bool) w
 
   pub ends_full : (count n : ℕ) (os : List T) → SoFar n os → count ≤ n + length os → AreResults count gives is_stopped n os
   ends_full count n [] s far = omega (arith, far)
-  ends_full count n (x ∷ os) s far = (s.0, inr (ends_full count (suc n) os s.2 (omega (arith, far))))
+  ends_full count n (x ∷ os) s far = (s.0, inr (s.1, ends_full count (suc n) os s.2 (omega (arith, far))))
 
   pub ends_stopped : (count n : ℕ) (os : List T) (o : T) → SoFar n os → gives (n + length os) o → is_stopped o ≡ true → AreResults count gives is_stopped n (os ++ o ∷ [])
-  ends_stopped count n [] o s is stop = (subst (λ k. gives k o) (omega arith) is, inl stop)
-  ends_stopped count n (x ∷ os) o s is stop = (s.0, inr (ends_stopped count (suc n) os o s.2 (subst (λ k. gives k o) (omega arith) is) stop))
+  ends_stopped count n [] o s is stop = (subst (λ k. gives k o) (omega arith) is, inl (stop, refl))
+  ends_stopped count n (x ∷ os) o s is stop = (s.0, inr (s.1, ends_stopped count (suc n) os o s.2 (subst (λ k. gives k o) (omega arith) is) stop))
 
   pub so_far_at : (n : ℕ) (os : List T) (k : ℕ) → SoFar n os → k < length os → (o : T) × gives (n + k) o × (is_stopped o ≡ false)
   so_far_at n [] k s low = absurd (omega arith)

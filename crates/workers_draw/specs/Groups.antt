@@ -1,5 +1,5 @@
 -- Groups that run apart, and what their results come to.
-use Rattle.std.specs.Prelude.{◌≡◌, ◌⊎◌, ℕ, suc, ◌<◌, ◌≤◌, List, [], ◌∷◌, Bool, true, All, Any, Option, Some, slice_get}
+use Rattle.std.specs.Prelude.{◌≡◌, ◌⊎◌, ℕ, suc, ◌<◌, ◌≤◌, List, [], ◌∷◌, Bool, true, false, All, Any, Option, Some, slice_get}
 use Rattle.atomic_table.specs.Seated.{TableId}
 use Rattle.atomic_table.specs.declared.shared.Seat.{Seat}
 use Rattle.workers_draw.specs.declared.worker.Worker.{Worker}
@@ -24,7 +24,8 @@ module _ {T : Type 0} (count : ℕ) (gives : ℕ → T → Type 0) (is_stopped :
   -- results of the groups from one on, in their order: of all, or up to and with one that stopped
   abbrev pub AreResults : ℕ → List T → Type 0
   AreResults group [] = count ≤ group
-  AreResults group (output ∷ outputs) = gives group output × ((is_stopped output ≡ true) ⊎ AreResults (suc group) outputs)
+  AreResults group (output ∷ outputs) =
+      gives group output × (((is_stopped output ≡ true) × (outputs ≡ [])) ⊎ ((is_stopped output ≡ false) × AreResults (suc group) outputs))
 
 module _ {T : Type 0} where
   -- a group's result is there

@@ -7,7 +7,7 @@ use crate::board::{Drawing, Hand, Place};
 use crate::crew::crew;
 use crate::gate::Gate;
 use crate::gather::{accept_all, in_order, places};
-use crate::work::{Merge, Work};
+use crate::work::Work;
 use crate::worker::Worker;
 use atomic_table::Table;
 use std::alloc::{AllocError, Global};
@@ -29,7 +29,7 @@ fn finish(table: WorkTable, seat: Place)
 }
 
 /// The results of all groups in order, up to and with the first that stopped, by this many workers.
-pub(crate) fn run_groups<W: Work, G: Gate, R: Threads + Wait + Sync>(
+pub fn run_groups<W: Work, G: Gate, R: Threads + Wait + Sync>(
     rt: &R,
     alloc: Global,
     work: &W,
@@ -46,43 +46,4 @@ pub(crate) fn run_groups<W: Work, G: Gate, R: Threads + Wait + Sync>(
     accept_all(work, &mut ready, outputs);
     finish(table, seat);
     in_order(alloc, work, ready)
-}
-
-/// The answer of the groups, by this many workers.
-pub fn run_parallel<W: Merge, G: Gate, R: Threads + Wait + Sync>(
-    rt: &R,
-    alloc: Global,
-    work: &W,
-    workers: usize,
-    gate: &G,
-) -> Result<W::Answer, AllocError>
-    requires { (0 < workers) × (workers ≤ 16) }
-    ensures { IfOk result (W.answers work.now) }
-{
-    let outputs = run_groups(rt, alloc, work, workers, gate)?;
-    work.merge(alloc, outputs)
-}
-
-/// The results of all groups in order, up to and with the first that stopped, one after another.
-fn results_alone<W: Work>(alloc: Global, work: &W) -> Result<Vec<W::Output>, AllocError>
-    ensures { IfOk result (λ v. AreResults (W.count work.now) (W.gives work.now) W.is_stopped 0 v.items) }
-{
-    let mut outputs = Vec::new(alloc);
-    for group in 0..work.group_count() {
-        let output = work.one_group(alloc, group)?;
-        let stopped = W::stopped(&output);
-        outputs.push(output)?;
-        if stopped {
-            return Ok(outputs);
-        }
-    }
-    Ok(outputs)
-}
-
-/// The answer of the groups, one after another.
-pub fn run_alone<W: Merge>(alloc: Global, work: &W) -> Result<W::Answer, AllocError>
-    ensures { IfOk result (W.answers work.now) }
-{
-    let outputs = results_alone(alloc, work)?;
-    work.merge(alloc, outputs)
 }

@@ -1,6 +1,5 @@
 //! Groups that run apart.
 ghost use Rattle.std.specs.Prelude.{◌≡◌, ℕ, ◌<◌, IfOk, Bool, true};
-ghost use Rattle.workers_draw.specs.Groups.{AreResults};
 
 use std::alloc::{AllocError, Global};
 use std::marker::{Send, Sync};
@@ -39,16 +38,4 @@ pub trait Work: Sync {
     ghost stopped_stops: { (w : Self) (n : ℕ) (o : Self.Output) → gives w n o → is_stopped o ≡ true → stops w n };
 
     ghost stops_stopped: { (w : Self) (n : ℕ) (o : Self.Output) → gives w n o → stops w n → is_stopped o ≡ true };
-}
-
-/// Groups whose results come to one answer.
-pub trait Merge: Work {
-    type Answer;
-
-    // the answer of one thread. Workers are not mentioned
-    ghost answers: { Self → Self.Answer → Type 0 };
-
-    fn merge(&self, alloc: Global, outputs: Vec<Self::Output>) -> Result<Self::Answer, AllocError>
-        requires { AreResults (Self.count self.now) (Self.gives self.now) Self.is_stopped 0 outputs.items }
-        ensures { IfOk result (answers self.now) };
 }
