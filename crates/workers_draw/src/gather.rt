@@ -45,6 +45,7 @@ fn put<W: Work>(work: &W, places: &mut Vec<Option<W::Output>>, output: W::Output
     ensures kept { (group : ℕ) → IsThere places.old.items group → IsThere places.new.items group }
     ensures there { (group : ℕ) → W.gives work.now group output → IsThere places.new.items group }
 {
+    work.laws();
     match accept::<W>(places, output) {
         Ok(()) => {}
         Err(refused) => drop(refused),
@@ -81,6 +82,7 @@ pub(crate) fn in_order<W: Work>(
     requires complete { AreComplete (W.count work.now) (W.stops work.now) places.items }
     ensures { IfOk result (λ v. AreResults (W.count work.now) (W.gives work.now) W.is_stopped 0 v.items) }
 {
+    work.laws();
     let mut outputs = Vec::new(alloc);
     for place in places {
         let Some(output) = place else { unreachable!() };

@@ -33,9 +33,9 @@ pub trait Work: Sync {
     fn stopped(output: &Self::Output) -> bool
         ensures { result ≡ is_stopped output.now };
 
-    ghost numbered: { (w : Self) (n : ℕ) (o : Self.Output) → gives w n o → number_of o ≡ n };
-
-    ghost stopped_stops: { (w : Self) (n : ℕ) (o : Self.Output) → gives w n o → is_stopped o ≡ true → stops w n };
-
-    ghost stops_stopped: { (w : Self) (n : ℕ) (o : Self.Output) → gives w n o → stops w n → is_stopped o ≡ true };
+    /// What the results of a group have in common.
+    fn laws(&self)
+        ensures numbered { (group : ℕ) (output : Self.Output) → gives self.now group output → number_of output ≡ group }
+        ensures stopped_stops { (group : ℕ) (output : Self.Output) → gives self.now group output → is_stopped output ≡ true → stops self.now group }
+        ensures stops_stopped { (group : ℕ) (output : Self.Output) → gives self.now group output → stops self.now group → is_stopped output ≡ true };
 }

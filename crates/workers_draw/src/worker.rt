@@ -69,6 +69,7 @@ fn note<W: Work>(work: &W, board: &Board, seat: &mut Place, group: u64, output: 
     ensures same { (seat.new.table_id ≡ seat.old.table_id) × (seat.new.me.1 ≡ seat.old.me.1) }
     ensures noted { IsNoted (W.stops work.now) seat.old.me.0 seat.new.me.0 }
 {
+    work.laws();
     if W::stopped(output) {
         lower(board, seat, group);
     }

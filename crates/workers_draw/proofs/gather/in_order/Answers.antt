@@ -8,10 +8,9 @@ use Rattle.workers_draw.proofs.gather.in_order.Goals as goal
 
 pub unreachable-requires : goal.unreachable-requires
 unreachable-requires g c =
-    let laws = g.met.W.Work g.world.𝓛 g.world.𝓜 g.world.𝓡 ((λ s x. x), (λ x. x), (λ x. x), λ x. x) in
     let w = c.args.work.now in let inv = c.loop-place.invariant in
     not_empty (g.W.Work.count w) (g.W.Work.gives w) (g.W.Work.stops w) g.W.Work.is_stopped c.args.places.items c.loop-place.yielded (into_iter_items c.next.new.self) c.loop-place.outputs.items
-    (λ n o. laws.stops_stopped w n o) (omega (arith, c.args.places.ok.0, c.requires.size)) c.requires.complete inv.0 inv.1
+    (λ n o. c.laws.ensures.stops_stopped n o) (omega (arith, c.args.places.ok.0, c.requires.size)) c.requires.complete inv.0 inv.1
     (inv.2 ∙ ap (λ r. c.loop-place.yielded ++ r) (c.in-Some.ensures.steps.0 ∙ ap (λ p. p ∷ into_iter_items c.next.new.self) c.in_default.is))
 
 pub returns-then-stopped : goal.returns-then-stopped

@@ -7,10 +7,9 @@ use Rattle.workers_draw.proofs.worker.note.Goals as goal
 
 pub returns-then-stopped-clause-noted : goal.returns-then-stopped-clause-noted
 returns-then-stopped-clause-noted g c =
-    let laws = g.met.W.Work g.world.𝓛 g.world.𝓜 g.world.𝓡 ((λ s x. x), (λ x. x), (λ x. x), λ x. x) in
     let stops = g.W.Work.stops c.args.work.now in let v = c.args.seat.now.me.0 in let n = c.args.group in
     let new : c.lower.new.seat.me.0 ≡ hand v.parts v.drawn v.seen (v.stopped ++ n ∷ []) = ap (λ m. m.0) c.lower.ensures.lowered in
-    let is : stops n = laws.stopped_stops c.args.work.now n c.args.output.now c.requires.gives (sym c.stopped.ensures ∙ c.if-stopped.true) in
+    let is : stops n = c.laws.ensures.stopped_stops n c.args.output.now c.requires.gives (sym c.stopped.ensures ∙ c.if-stopped.true) in
     record {
       parts = ap (λ (h : Hand). h.parts) new;
       drawn = ap (λ (h : Hand). h.drawn) new;
