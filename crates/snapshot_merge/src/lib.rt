@@ -11,4 +11,4 @@ mod run;
 mod words;
 
 pub use merging::merge;
-pub use run::run_launch;
+pub use run::{group_count, run_launch};

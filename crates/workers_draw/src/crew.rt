@@ -1,0 +1,96 @@
+//! Workers in threads of their own.
+ghost use Rattle.std.specs.Prelude.{◌≡◌, ℕ, ◌<◌, ◌≤◌, ◌-◌, ◌+◌, ◌^◌, [], IfOk, OnOk, All, vec_len};
+ghost use Rattle.std.specs.Thread.{IsSync};
+ghost use denote.Param.Send.{IsSend};
+ghost use Rattle.workers_draw.specs.Board.{hand, half, dealer, both};
+ghost use Rattle.workers_draw.specs.Groups.{IsFresh, DidWork};
+
+use crate::board::{Board, Deal, Place, Together};
+use crate::gate::Gate;
+use crate::work::Work;
+use crate::worker::{Worker, work_at};
+use std::alloc::{AllocError, Global};
+use std::sync::Wait;
+use std::thread;
+use std::thread::Threads;
+
+/// A seat with half of the parts.
+fn deal(board: &Board, seat: &mut Place) -> Place
+    requires board { board.now.table_id.words ≡ 2 }
+    requires fresh { IsFresh board.now.table_id seat.old.me.0.parts seat.old }
+    ensures left { IsFresh board.now.table_id (seat.old.me.0.parts - half seat.old.me.0.parts) seat.new }
+    ensures right { IsFresh board.now.table_id (half seat.old.me.0.parts) result }
+{
+    board.split_seat::<Deal>(seat)
+}
+
+/// Takes a worker's seat back.
+fn join_seats(board: &Board, seat: &mut Place, other: Place)
+    requires board { (seat.old.table_id ≡ board.now.table_id) × (board.now.table_id.words ≡ 2) }
+    requires other { (other.table_id ≡ board.now.table_id) × (other.me.1 ≡ []) }
+    ensures { (seat.new.table_id ≡ seat.old.table_id) × (seat.new.me ≡ (both seat.old.me.0 other.me.0, seat.old.me.1)) }
+{
+    board.join_seat::<Together>(seat, other);
+}
+
+/// What two workers did, as one.
+fn together<W: Work>(
+    work: &W,
+    board: &Board,
+    one: Worker<W::Output>,
+    other: Worker<W::Output>,
+) -> Result<Worker<W::Output>, AllocError>
+    requires board { board.now.table_id.words ≡ 2 }
+    requires one { DidWork (W.count work.now) (W.gives work.now) (W.stops work.now) board.now.table_id one.seat.me.0.parts one }
+    requires other { DidWork (W.count work.now) (W.gives work.now) (W.stops work.now) board.now.table_id other.seat.me.0.parts other }
+    ensures { IfOk result (DidWork (W.count work.now) (W.gives work.now) (W.stops work.now) board.now.table_id (one.seat.me.0.parts + other.seat.me.0.parts)) }
+{
+    let Worker {
+        mut seat,
+        mut outputs,
+    } = one;
+    let Worker {
+        seat: theirs,
+        outputs: mut more,
+    } = other;
+    join_seats(board, &mut seat, theirs);
+    outputs.append(&mut more)?;
+    Ok(Worker { seat, outputs })
+}
+
+/// Lets this many workers work, each in a thread of its own where one can be made, and one in this thread.
+#[cycle(crew)]
+pub(crate) fn crew<W: Work, G: Gate, R: Threads + Wait + Sync>(
+    rt: &R,
+    alloc: Global,
+    work: &W,
+    gate: &G,
+    board: &Board,
+    mut seat: Place,
+    workers: usize,
+) -> Result<Worker<W::Output>, AllocError>
+    requires board { (board.now.key ≡ W.count work.now) × (board.now.table_id.words ≡ 2) }
+    requires small { W.count work.now < 2 ^ 32 }
+    requires seat { IsFresh board.now.table_id seat.me.0.parts seat }
+    requires workers { (0 < workers) × (workers ≤ seat.me.0.parts) }
+    ensures { IfOk result (DidWork (W.count work.now) (W.gives work.now) (W.stops work.now) board.now.table_id seat.me.0.parts) }
+{
+    if workers == 1 {
+        return work_at(rt, alloc, work, gate, board, seat);
+    }
+    let low = workers / 2;
+    let high = workers - low;
+    let theirs = deal(board, &mut seat);
+    let (other, one) = thread::join(
+        rt,
+        move || -> Result<Worker<W::Output>, AllocError>
+            requires { IsSync R.row × IsSync W.row × IsSync G.row × IsSend W.Output.row × (board.now.key ≡ W.count work.now) × (board.now.table_id.words ≡ 2) × (W.count work.now < 2 ^ 32) × IsFresh board.now.table_id theirs.me.0.parts theirs × (0 < low) × (low ≤ theirs.me.0.parts) }
+            ensures { IfOk result (DidWork (W.count work.entry.now) (W.gives work.entry.now) (W.stops work.entry.now) board.entry.now.table_id theirs.me.0.parts) }
+        { crew(rt, alloc, work, gate, board, theirs, low) },
+        move || -> Result<Worker<W::Output>, AllocError>
+            requires { IsSync R.row × IsSync W.row × IsSync G.row × IsSend W.Output.row × (board.now.key ≡ W.count work.now) × (board.now.table_id.words ≡ 2) × (W.count work.now < 2 ^ 32) × IsFresh board.now.table_id seat.me.0.parts seat × (0 < high) × (high ≤ seat.me.0.parts) }
+            ensures { IfOk result (DidWork (W.count work.entry.now) (W.gives work.entry.now) (W.stops work.entry.now) board.entry.now.table_id seat.me.0.parts) }
+        { crew(rt, alloc, work, gate, board, seat, high) },
+    );
+    together(work, board, one?, other?)
+}

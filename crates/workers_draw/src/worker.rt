@@ -1,0 +1,108 @@
+//! One worker.
+ghost use Rattle.std.specs.Prelude.{◌≡◌, ℕ, ◌<◌, ◌^◌, [], ◌∷◌, ◌++◌, IfOk};
+ghost use Rattle.workers_draw.specs.Board.{hand, total, is_past};
+ghost use Rattle.workers_draw.specs.Groups.{IsFresh, DidWork, IsNoted};
+
+use crate::board::{Board, Draw, Look, Lower, Place};
+use crate::gate::Gate;
+use crate::work::Work;
+use std::alloc::{AllocError, Global};
+use std::sync::Wait;
+
+/// A seat that worked, and the results of the groups that it ran.
+#[derive(Drop)]
+pub struct Worker<T> {
+    pub seat: Place,
+    pub outputs: Vec<T>,
+}
+
+/// Runs the group between two calls of the gate.
+fn run_at<W: Work, G: Gate>(
+    alloc: Global,
+    work: &W,
+    gate: &G,
+    group: u32,
+) -> Result<W::Output, AllocError>
+    requires { group < W.count work.now }
+    ensures { IfOk result (W.gives work.now group) }
+{
+    gate.enter(group);
+    let output = work.one_group(alloc, group);
+    gate.leave(group);
+    output
+}
+
+/// The next number, which no other draw gives.
+pub(crate) fn draw(board: &Board, seat: &mut Place) -> u64
+    requires board { (seat.old.table_id ≡ board.now.table_id) × (board.now.table_id.words ≡ 2) × (board.now.key < 2 ^ 32) }
+    requires room { total (is_past board.now.key) seat.old.me.0.drawn < seat.old.me.0.parts }
+    ensures same { (seat.new.table_id ≡ seat.old.table_id) × (seat.new.id ≡ seat.old.id) }
+    ensures drew { seat.new.me ≡ (hand seat.old.me.0.parts (seat.old.me.0.drawn ++ result ∷ []) seat.old.me.0.seen seat.old.me.0.stopped, seat.old.me.1) }
+{
+    board.fetch_add::<Draw>(seat, 0, 1)
+}
+
+/// A group whose run stops, or the count of groups.
+pub(crate) fn look(board: &Board, seat: &mut Place) -> u64
+    requires board { (seat.old.table_id ≡ board.now.table_id) × (board.now.table_id.words ≡ 2) }
+    ensures same { (seat.new.table_id ≡ seat.old.table_id) × (seat.new.id ≡ seat.old.id) }
+    ensures looked { seat.new.me ≡ (hand seat.old.me.0.parts seat.old.me.0.drawn (seat.old.me.0.seen ++ result ∷ []) seat.old.me.0.stopped, seat.old.me.1) }
+{
+    board.load::<Look>(seat, 1)
+}
+
+/// Lets all know that the run of a group stops.
+pub(crate) fn lower(board: &Board, seat: &mut Place, group: u64)
+    requires board { (seat.old.table_id ≡ board.now.table_id) × (board.now.table_id.words ≡ 2) }
+    requires part { 0 < seat.old.me.0.parts }
+    ensures same { (seat.new.table_id ≡ seat.old.table_id) × (seat.new.id ≡ seat.old.id) }
+    ensures lowered { seat.new.me ≡ (hand seat.old.me.0.parts seat.old.me.0.drawn seat.old.me.0.seen (seat.old.me.0.stopped ++ group ∷ []), seat.old.me.1) }
+{
+    board.fetch_min::<Lower>(seat, 1, group);
+}
+
+/// Lets all know where the run of a group stopped.
+fn note<W: Work>(work: &W, board: &Board, seat: &mut Place, group: u64, output: &W::Output)
+    requires board { (seat.old.table_id ≡ board.now.table_id) × (board.now.table_id.words ≡ 2) }
+    requires part { 0 < seat.old.me.0.parts }
+    requires gives { W.gives work.now group output.now }
+    ensures same { (seat.new.table_id ≡ seat.old.table_id) × (seat.new.me.1 ≡ seat.old.me.1) }
+    ensures noted { IsNoted (W.stops work.now) seat.old.me.0 seat.new.me.0 }
+{
+    work.laws();
+    if W::stopped(output) {
+        lower(board, seat, group);
+    }
+}
+
+/// Draws groups until none is left, and runs each of them that isn't above the least faulty group that was seen.
+pub(crate) fn work_at<W: Work, G: Gate, R: Wait>(
+    rt: &R,
+    alloc: Global,
+    work: &W,
+    gate: &G,
+    board: &Board,
+    mut seat: Place,
+) -> Result<Worker<W::Output>, AllocError>
+    requires board { (board.now.key ≡ W.count work.now) × (board.now.table_id.words ≡ 2) }
+    requires small { W.count work.now < 2 ^ 32 }
+    requires seat { IsFresh board.now.table_id seat.me.0.parts seat × (0 < seat.me.0.parts) }
+    ensures { IfOk result (DidWork (W.count work.now) (W.gives work.now) (W.stops work.now) board.now.table_id seat.me.0.parts) }
+{
+    let count = work.group_count();
+    let mut outputs = Vec::new(alloc);
+    for _ in rt.forever() {
+        let drawn = draw(board, &mut seat);
+        if drawn >= u64::from(count) {
+            return Ok(Worker { seat, outputs });
+        }
+        let least = look(board, &mut seat);
+        if least < drawn {
+            continue;
+        }
+        let output = run_at(alloc, work, gate, drawn as u32)?;
+        note(work, board, &mut seat, drawn, &output);
+        outputs.push(output)?;
+    }
+    unreachable!()
+}
