@@ -1,26 +1,13 @@
 //! Schedules, one after another.
 
-ghost use Rattle.std.specs.Prelude.{◌≡◌, ◌++◌, ◌∷◌, [], List, ◌<◌, OnOk, IfOk, ◌+◌, IfSome, IfNone, take};
+ghost use Rattle.std.specs.Prelude.{◌≡◌, ◌∷◌, [], ◌<◌, OnOk, IfOk, ◌+◌, take};
 ghost use Rattle.clmodel.specs.Outcome.{events_of};
-ghost use Rattle.clmodel.specs.declared.schedule.Run.{Run};
 ghost use Rattle.clmodel.specs.declared.schedule.Run.TheVariants as run;
-ghost use Rattle.group_run.specs.Runs.{EndsWith};
 ghost use Rattle.snapshot_merge.specs.Runs.{Adds, IsFirstOf};
 
 use clmodel::schedule::Run;
+use group_run::last_count;
 use std::alloc::AllocError;
-
-/// The count of the last run, if it is of this item.
-fn last_count(runs: &[Run], item: u32) -> Option<u64>
-    ensures some { IfSome result (λ count. (rest : List Run) × (runs.now ≡ rest ++ run.Item item count ∷ [])) }
-    ensures none { IfNone result (EndsWith item runs.now → ⊥) }
-{
-    let (last, _) = runs.split_last()?;
-    match *last {
-        Run::Item { item: other, count } => { if other == item { Some(count) } else { None } }
-        Run::Release { .. } => None,
-    }
-}
 
 /// The sum of two counts. An error stands for a run of 2^64 events.
 fn added(count: u64, more: u64) -> Result<u64, AllocError>

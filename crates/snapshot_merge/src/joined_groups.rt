@@ -71,19 +71,9 @@ fn rows_of<'a>(
 {
     let mut rows = Vec::new(alloc);
     for i in 0..names.len() {
-        rows.push(row_of(buffers, &names[i]))?;
+        rows.push(buffers.bytes_in(&names[i]))?;
     }
     Ok(rows)
-}
-
-/// The bytes of the buffer of a name, none where there is no such buffer.
-fn row_of<'a>(buffers: &'a Buffers, name: &Name) -> &'a [u8]
-    ensures { result.now ≡ bytes_in buffers.now name.now }
-{
-    match buffers.get(name) {
-        Some(bytes) => bytes.as_slice(),
-        None => &[],
-    }
 }
 
 /// Copies of rows of bytes.

@@ -19,16 +19,6 @@ use spaces::Overlay;
 use spaces_base::Buffers;
 use std::alloc::{AllocError, Global};
 
-/// The bytes of the buffer of a name, none where there is no such buffer.
-fn bytes_in<'a>(buffers: &'a Buffers, name: &Name) -> &'a [u8]
-    ensures { result.now ≡ bytes_in buffers.now name.now }
-{
-    match buffers.get(name) {
-        Some(bytes) => bytes.as_slice(),
-        None => &[],
-    }
-}
-
 /// An overlay without changes for each of these names, over the bytes of its buffer. An error is out of memory.
 fn overlays_of<'a>(
     alloc: Global,
@@ -39,7 +29,7 @@ fn overlays_of<'a>(
 {
     let mut overlays = Vec::with_capacity(alloc, names.len())?;
     for name in names {
-        overlays.push(Overlay::new(alloc, bytes_in(buffers, name)))?;
+        overlays.push(Overlay::new(alloc, buffers.bytes_in(name)))?;
     }
     Ok(overlays)
 }
