@@ -18,7 +18,7 @@ use Rattle.clmodel.specs.Typing.Context.{Context, Signature, Meaning, Bound, Cal
 use Rattle.clmodel.specs.Typing.Least.{least}
 use Rattle.clmodel.specs.Typing.Rules as rule
 use Rattle.clmodel.specs.Typing.Rules.{is_constant, is_writable, is_atomic, has_operand, Calls, count}
-use Rattle.clmodel.specs.Typing.Faults.{unless, start, integer_faults, Want, AnInteger, OfTypeBefore, AnAtomicPointer, atomic_wants, wants, has_value, Spot, is_statement, takes_helper, helper_faults, callee_faults, wanted, same_faults, atomic_faults, argument_faults, call_kind, kind_of, last_kind, arguments_faults, inside_call, barrier_faults, call_faults}
+use Rattle.clmodel.specs.Typing.Faults.{unless, start, integer_faults, Want, AnInteger, OfTypeBefore, AnAtomicPointer, atomic_wants, wants, has_value, Spot, is_statement, takes_helper, helper_faults, callee_faults, wanted, same_faults, atomic_faults, argument_faults, call_kind, kind_of, first_kind, arguments_faults, inside_call, barrier_faults, call_faults}
 use Rattle.cltypes.proofs.Splits.{none_split, none_joined, some_fault, unless_none, unless_true, three_none, three_true, and_true, and_left, and_right}
 use Rattle.cltypes.proofs.Tables.{same_type_sound, same_type_complete}
 
@@ -27,7 +27,7 @@ abbrev pub kinds_of : Context → Terms → List VariableType
 kinds_of c NoTerm = []
 kinds_of c (ThenTerm es e) = kinds_of c es ++ kind_of c e ∷ []
 
--- the type of a call's value, if it has one, by the type of the last argument
+-- the type of a call's value, if it has one, by the type of the first argument
 abbrev pub given : BuiltIn → VariableType → Option VariableType
 given f k = cond (has_value f) (Some (call_kind (BuiltInFunction f) k)) None
 
@@ -164,9 +164,9 @@ one_of f g h (Number t) a n = h t
 one_of f g h (Pointer p) a n = absurd (some_fault (fault.TypeMismatch a) [] n)
 
 two_of : (f : BuiltIn) → ((t : IntType) → Calls f (Number t ∷ Number t ∷ []) (Some (Number t)))
-    → (j k : VariableType) (a b : ℕ) → least (integer_faults j a ++ same_faults j k b) ≡ None → Calls f (j ∷ k ∷ []) (Some k)
+    → (j k : VariableType) (a b : ℕ) → least (integer_faults j a ++ same_faults j k b) ≡ None → Calls f (j ∷ k ∷ []) (Some j)
 two_of f h (Number t) (Number u) a b n =
-    subst (λ v. Calls f (Number v ∷ Number u ∷ []) (Some (Number u))) (sym (same_type_sound t u (unless_none (is_same t u) (fault.TypeMismatch b) n))) (h u)
+    subst (λ v. Calls f (Number t ∷ Number v ∷ []) (Some (Number t))) (same_type_sound t u (unless_none (is_same t u) (fault.TypeMismatch b) n)) (h t)
 two_of f h (Number t) (Pointer q) a b n = absurd (some_fault (fault.TypeMismatch b) [] n)
 two_of f h (Pointer p) k a b n = absurd (some_fault (fault.TypeMismatch a) (same_faults (Pointer p) k b) n)
 
@@ -183,18 +183,18 @@ updates_of f h j (Number t) a b n =
 updates_of f h j (Pointer q) a b n = absurd (some_fault (fault.TypeMismatch b) [] (none_split (atomic_faults j a) (fault.TypeMismatch b ∷ []) n).1)
 
 one_sound : (c : Context) (f : BuiltIn) (es : Terms) (w : Want) → count es ≡ 1 → least (arguments_faults c (w ∷ []) es) ≡ None
-    → ((k : VariableType) (a : ℕ) → least (argument_faults (Some w) (Number Int) k a) ≡ None → Calls f (k ∷ []) (given f k)) → Calls f (kinds_of c es) (given f (last_kind c es))
+    → ((k : VariableType) (a : ℕ) → least (argument_faults (Some w) (Number Int) k a) ≡ None → Calls f (k ∷ []) (given f k)) → Calls f (kinds_of c es) (given f (first_kind c es))
 one_sound c f es w h n g =
     let r = one_term es h in
-    subst (λ ts. Calls f (kinds_of c ts) (given f (last_kind c ts))) (sym r.1)
+    subst (λ ts. Calls f (kinds_of c ts) (given f (first_kind c ts))) (sym r.1)
     (g (kind_of c r.0) (start r.0) (subst (λ ts. least (arguments_faults c (w ∷ []) ts) ≡ None) r.1 n))
 
 two_sound : (c : Context) (f : BuiltIn) (es : Terms) (v w : Want) → count es ≡ 2 → least (arguments_faults c (v ∷ w ∷ []) es) ≡ None
-    → ((j k : VariableType) (a b : ℕ) → least (argument_faults (Some v) (Number Int) j a ++ argument_faults (Some w) j k b) ≡ None → Calls f (j ∷ k ∷ []) (given f k))
-    → Calls f (kinds_of c es) (given f (last_kind c es))
+    → ((j k : VariableType) (a b : ℕ) → least (argument_faults (Some v) (Number Int) j a ++ argument_faults (Some w) j k b) ≡ None → Calls f (j ∷ k ∷ []) (given f j))
+    → Calls f (kinds_of c es) (given f (first_kind c es))
 two_sound c f es v w h n g =
     let r = two_terms es h in
-    subst (λ ts. Calls f (kinds_of c ts) (given f (last_kind c ts))) (sym r.are)
+    subst (λ ts. Calls f (kinds_of c ts) (given f (first_kind c ts))) (sym r.are)
     (g (kind_of c r.left) (kind_of c r.right) (start r.left) (start r.right) (subst (λ ts. least (arguments_faults c (v ∷ w ∷ []) ts) ≡ None) r.are n))
 
 atomic_calls : (c : Context) (f : AtomicFunction) (es : Terms) (b : Bool) → has_operand f ≡ b → count es ≡ length (atomic_wants b) → least (arguments_faults c (atomic_wants b) es) ≡ None
@@ -203,7 +203,7 @@ atomic_calls c f es true h m n = two_sound c (built_in.Atomic f) es AnAtomicPoin
 atomic_calls c f es false h m n = one_sound c (built_in.Atomic f) es AnAtomicPointer m n (alone_of f h)
 
 pub calls_sound : (c : Context) (f : BuiltIn) (es : Terms) → count es ≡ length (wants f) → least (arguments_faults c (wants f) es) ≡ None
-    → Calls f (kinds_of c es) (given f (last_kind c es))
+    → Calls f (kinds_of c es) (given f (first_kind c es))
 calls_sound c built_in.WorkDim es m n = subst (λ ts. Calls built_in.WorkDim (kinds_of c ts) (Some (Number Uint))) (sym (no_terms es m)) rule.work_dim
 calls_sound c (built_in.WorkItem f) es m n = one_sound c (built_in.WorkItem f) es AnInteger m n (one_of (built_in.WorkItem f) (given (built_in.WorkItem f)) (λ t. rule.work_item))
 calls_sound c (built_in.Integer integer.Min) es m n = two_sound c (built_in.Integer integer.Min) es AnInteger OfTypeBefore m n (two_of (built_in.Integer integer.Min) (λ t. rule.min))
@@ -221,7 +221,7 @@ calls_sound c (built_in.Atomic f) es m n = atomic_calls c f es (has_operand f) r
 pub record IsCalled (c : Context) (f : BuiltIn) (es : Terms) (r : Option VariableType) : Type 0 where
   pub counted : count es ≡ length (wants f)
   pub faultless : least (arguments_faults c (wants f) es) ≡ None
-  pub gives : given f (last_kind c es) ≡ r
+  pub gives : given f (first_kind c es) ≡ r
 
 one_head : (a x : VariableType) → a ∷ [] ≡ x ∷ [] → a ≡ x
 one_head a x e = cc
@@ -243,11 +243,11 @@ one_called c f es w k e h g =
       faultless = subst (λ ws. least (arguments_faults c ws es) ≡ None) (sym e)
           (subst (λ ts. least (arguments_faults c (w ∷ []) ts) ≡ None) (sym r.1)
           (subst (λ v. least (argument_faults (Some w) (Number Int) v (start r.0)) ≡ None) (sym s) (g (start r.0))));
-      gives = ap (λ ts. given f (last_kind c ts)) r.1 ∙ ap (given f) s;
+      gives = ap (λ ts. given f (first_kind c ts)) r.1 ∙ ap (given f) s;
     }
 
 two_called : (c : Context) (f : BuiltIn) (es : Terms) (v w : Want) (j k : VariableType) → wants f ≡ v ∷ w ∷ [] → kinds_of c es ≡ j ∷ k ∷ []
-    → ((a b : ℕ) → least (argument_faults (Some v) (Number Int) j a ++ argument_faults (Some w) j k b) ≡ None) → IsCalled c f es (given f k)
+    → ((a b : ℕ) → least (argument_faults (Some v) (Number Int) j a ++ argument_faults (Some w) j k b) ≡ None) → IsCalled c f es (given f j)
 two_called c f es v w j k e h g =
     let n : count es ≡ 2 = counted_as c es (j ∷ k ∷ []) h in
     let r = two_terms es n in
@@ -258,7 +258,7 @@ two_called c f es v w j k e h g =
           (subst (λ ts. least (arguments_faults c (v ∷ w ∷ []) ts) ≡ None) (sym r.are)
           (subst (λ y. least (argument_faults (Some v) (Number Int) y (start r.left) ++ argument_faults (Some w) y (kind_of c r.right) (start r.right)) ≡ None) (sym s.0)
           (subst (λ y. least (argument_faults (Some v) (Number Int) j (start r.left) ++ argument_faults (Some w) j y (start r.right)) ≡ None) (sym s.1) (g (start r.left) (start r.right)))));
-      gives = ap (λ ts. given f (last_kind c ts)) r.are ∙ ap (given f) s.1;
+      gives = ap (λ ts. given f (first_kind c ts)) r.are ∙ ap (given f) s.0;
     }
 
 same_two : (t : IntType) (a b : ℕ) → least (integer_faults (Number t) a ++ same_faults (Number t) (Number t) b) ≡ None

@@ -14,7 +14,7 @@ use Rattle.clmodel.specs.Typing.Context.{Context, meaning, Bound, BuiltInFunctio
 use Rattle.clmodel.specs.Typing.Least.{least, first, node}
 use Rattle.clmodel.specs.Typing.Rules as rule
 use Rattle.clmodel.specs.Typing.Rules.{Calls, Types, TypesAll, count}
-use Rattle.clmodel.specs.Typing.Faults.{start, integer_faults, pointer_faults, name_faults, front_faults, address_faults, operand_faults, Spot, Inside, is_statement, has_value, wanted, type_or_int, name_kind, number_or_int, front_kind, element_kind, unary_type, binary_type, choice_type, call_kind, kind_of, last_kind, arguments_faults, inside_call, call_faults, term_faults, terms_faults}
+use Rattle.clmodel.specs.Typing.Faults.{start, integer_faults, pointer_faults, name_faults, front_faults, address_faults, operand_faults, Spot, Inside, is_statement, has_value, wanted, type_or_int, name_kind, number_or_int, front_kind, element_kind, unary_type, binary_type, choice_type, call_kind, kind_of, first_kind, arguments_faults, inside_call, call_faults, term_faults, terms_faults}
 use Rattle.cltypes.proofs.Splits.{none_split, none_joined, place_then, places_split, places_joined, node_split, node_joined, one_place, some_fault}
 use Rattle.cltypes.proofs.Tables.{integer_sound, name_sound, name_complete, front_sound, front_complete, address_sound, address_complete, operands_sound, operands_complete}
 use Rattle.cltypes.proofs.CallTables.{kinds_of, IsBuiltIn, a_built_in, a_barrier, a_helper, own_sound, calls_sound, IsCalled, calls_complete, own_complete, has_some, some_given}
@@ -62,14 +62,14 @@ choice_sound c a p q r e d f (Number s) (Number t) (Pointer o) x y z n = absurd 
 
 -- a call of a built-in function that has a value
 pub built_in_sound : (c : Context) (spot : Spot) (a x : ℕ) (es : Terms) (f : IsBuiltIn spot (meaning c x) (count es)) → has_value f.function ≡ true → TypesAll c es (kinds_of c es)
-    → least (arguments_faults c (wanted (meaning c x)) es) ≡ None → Types c (tree.Call a x es) (call_kind (meaning c x) (last_kind c es))
+    → least (arguments_faults c (wanted (meaning c x)) es) ≡ None → Types c (tree.Call a x es) (call_kind (meaning c x) (first_kind c es))
 built_in_sound c spot a x es f p all n =
     let g = calls_sound c f.function es f.counted (subst (λ v. least (arguments_faults c (wanted v) es) ≡ None) f.is n) in
-    subst (λ v. Types c (tree.Call a x es) (call_kind v (last_kind c es))) (sym f.is)
-    (rule.call f.is all (subst (λ o. Calls f.function (kinds_of c es) o) (some_given f.function (last_kind c es) p) g))
+    subst (λ v. Types c (tree.Call a x es) (call_kind v (first_kind c es))) (sym f.is)
+    (rule.call f.is all (subst (λ o. Calls f.function (kinds_of c es) o) (some_given f.function (first_kind c es) p) g))
 
 call_sound : (c : Context) (a x : ℕ) (es : Terms) → TypesAll (inside_call (meaning c x) c) es (kinds_of (inside_call (meaning c x) c) es)
-    → least (call_faults c Inside (meaning c x) a es) ≡ None → Types c (tree.Call a x es) (call_kind (meaning c x) (last_kind c es))
+    → least (call_faults c Inside (meaning c x) a es) ≡ None → Types c (tree.Call a x es) (call_kind (meaning c x) (first_kind c es))
 call_sound c a x es all n =
     let m = meaning c x in
     let s = own_sound c Inside m a es n in
@@ -175,10 +175,10 @@ mutual
   term_complete c _ _ (rule.call {a = a} {x = x} {f = f} {es = es} {ks = ks} {k = k} m h g) =
       let r = terms_complete c es ks h in
       let s = calls_complete c f es ks (Some k) g r.same in
-      let t = has_some f (last_kind c es) k s.gives in
+      let t = has_some f (first_kind c es) k s.gives in
       record {
         faultless = call_complete c Inside a x f es ks (Some k) m r s t.0;
-        same = ap (λ v. call_kind v (last_kind c es)) m ∙ t.1;
+        same = ap (λ v. call_kind v (first_kind c es)) m ∙ t.1;
       }
   term_complete c _ _ (rule.unary {a = a} {op = op} {t = t} {e = e} h) =
       let r = term_complete c e (Number t) h in

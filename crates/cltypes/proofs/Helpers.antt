@@ -12,7 +12,7 @@ use Rattle.clmodel.specs.Typing.Context.{Context, Signature, meaning, Callable}
 use Rattle.clmodel.specs.Typing.Least.{least, first, node}
 use Rattle.clmodel.specs.Typing.Rules as rule
 use Rattle.clmodel.specs.Typing.Rules.{count, Passes, Types, AreGiven, CallsHelper, Gives}
-use Rattle.clmodel.specs.Typing.Faults.{start, Spot, RightSide, takes_helper, ForParameter, argument_faults, passing_faults, callee_faults, wanted, call_kind, result_kind, kind_of, last_kind, arguments_faults, inside_call, call_faults, term_faults, terms_faults, value_faults, gives_value, void_faults}
+use Rattle.clmodel.specs.Typing.Faults.{start, Spot, RightSide, takes_helper, ForParameter, argument_faults, passing_faults, callee_faults, wanted, call_kind, result_kind, kind_of, last_kind, first_kind, arguments_faults, inside_call, call_faults, term_faults, terms_faults, value_faults, gives_value, void_faults}
 use Rattle.cltypes.proofs.Splits.{none_split, none_joined, places_split, places_joined, node_split, node_joined, unless_none, unless_true}
 use Rattle.cltypes.proofs.Tables.{passing_sound, passing_complete}
 use Rattle.cltypes.proofs.CallTables.{IsHelper, a_built_in, a_barrier, a_helper, own_sound, helper_complete, calls_complete, has_some}
@@ -79,13 +79,13 @@ pub some_type : (o : Option IntType) → is_some o ≡ true → (t : IntType) ×
 some_type (Some t) h = (t, refl)
 some_type None h = absurd (cc)
 
-gives_helper : (c : Context) (a x : ℕ) (es : Terms) (s : Signature) → CallsHelper c x es s → is_some s.result ≡ true → Gives c (tree.Call a x es) (call_kind (Callable s) (last_kind c es))
+gives_helper : (c : Context) (a x : ℕ) (es : Terms) (s : Signature) → CallsHelper c x es s → is_some s.result ≡ true → Gives c (tree.Call a x es) (call_kind (Callable s) (first_kind c es))
 gives_helper c a x es s h r =
     let t = some_type s.result r in
     subst (λ o. Gives c (tree.Call a x es) (result_kind o)) (sym t.1) (rule.helper h t.1)
 
 called_value : (c : Context) (a x : ℕ) (es : Terms) → first (value_faults c (tree.Call a x es)) ≡ None → least (void_faults c (tree.Call a x es)) ≡ None
-    → Gives c (tree.Call a x es) (call_kind (meaning c x) (last_kind c es))
+    → Gives c (tree.Call a x es) (call_kind (meaning c x) (first_kind c es))
 called_value c a x es n v =
     let m = meaning c x in
     let r = node_split (terms_faults (inside_call m c) es) (call_faults c RightSide m a es) n in
@@ -96,7 +96,7 @@ called_value c a x es n v =
           (subst (λ d. least (arguments_faults d (wanted m) es) ≡ None) same s.arguments))
       | a_barrier b ↦ absurd (true≢false (sym b.placed))
       | a_helper h ↦ let same : inside_call m c ≡ c = ap (λ z. inside_call z c) h.is in
-          subst (λ z. Gives c (tree.Call a x es) (call_kind z (last_kind c es))) (sym h.is)
+          subst (λ z. Gives c (tree.Call a x es) (call_kind z (first_kind c es))) (sym h.is)
           (gives_helper c a x es h.signature
           (helper_sound c RightSide x es h (subst (λ d. first (terms_faults d es) ≡ None) same r.0) (subst (λ d. least (arguments_faults d (wanted m) es) ≡ None) same s.arguments))
           (ap gives_value (sym h.is) ∙ unless_none (gives_value m) (fault.TypeMismatch a) v))
@@ -129,11 +129,11 @@ expression_value : (c : Context) (e : Term) (k : VariableType) → Types c e k �
 expression_value c _ _ (rule.call {a = a} {x = x} {f = f} {es = es} {ks = ks} {k = k} m h g) =
     let r = terms_complete c es ks h in
     let s = calls_complete c f es ks (Some k) g r.same in
-    let t = has_some f (last_kind c es) k s.gives in
+    let t = has_some f (first_kind c es) k s.gives in
     record {
       faultless = call_complete c RightSide a x f es ks (Some k) m r s t.0;
       given = unless_true (gives_value (meaning c x)) (fault.TypeMismatch a) (ap gives_value m);
-      same = ap (λ v. call_kind v (last_kind c es)) m ∙ t.1;
+      same = ap (λ v. call_kind v (first_kind c es)) m ∙ t.1;
     }
 expression_value c (tree.Number a v) k t = plain c (tree.Number a v) k refl refl t
 expression_value c (tree.Variable a x) k t = plain c (tree.Variable a x) k refl refl t
@@ -150,5 +150,5 @@ value_complete c e k (rule.expression t) = expression_value c e k t
 value_complete c _ _ (rule.helper {a = a} {x = x} {es = es} {s = s} {t = t} h r) = record {
   faultless = helper_faultless c RightSide a x es s refl h;
   given = unless_true (gives_value (meaning c x)) (fault.TypeMismatch a) (ap gives_value h.meaning ∙ ap is_some r);
-  same = ap (λ v. call_kind v (last_kind c es)) h.meaning ∙ ap result_kind r;
+  same = ap (λ v. call_kind v (first_kind c es)) h.meaning ∙ ap result_kind r;
 }

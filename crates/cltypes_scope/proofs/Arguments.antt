@@ -8,11 +8,11 @@ use Rattle.clmodel.specs.declared.tree.Expression.{Expression}
 use Rattle.clmodel.specs.declared.type_fault.TypeFault.{TypeFault}
 use Rattle.clmodel.specs.declared.type_fault.TypeFault.TheVariants as fault
 use Rattle.clmodel.specs.Barrier.{fences_of}
-use Rattle.clmodel.specs.Tree.{Terms, NoTerm, ThenTerm, then_all, term, terms}
+use Rattle.clmodel.specs.Tree.{Term, Terms, NoTerm, ThenTerm, then_all, term, terms}
 use Rattle.clmodel.specs.Typing.Context.{Context}
 use Rattle.clmodel.specs.Typing.Least.{lesser, least, first}
 use Rattle.clmodel.specs.Typing.Rules.{count}
-use Rattle.clmodel.specs.Typing.Faults.{Want, last_kind}
+use Rattle.clmodel.specs.Typing.Faults.{Want, last_kind, first_kind}
 use Rattle.clmodel.specs.Typing.Faults.{unless, start, argument_faults, kind_of, arguments_faults, flags_faults, term_faults, terms_faults}
 use Rattle.cltypes_scope.specs.declared.faults.Operand.{Operand}
 use Rattle.cltypes_scope.specs.Views.{operand_of}
@@ -63,6 +63,26 @@ arguments_own c ws es i e t last w own one now h g o l p r s n =
 pub arguments_last : (c : Context) (es : List Expression) (i : ℕ) (e : Expression) (t : Operand) → i < length es → e ≡ get_or es i e → t ≡ operand_of c (term e)
     → t.kind ≡ last_kind c (terms (take (i + 1) es))
 arguments_last c es i e t h g p = ap (λ z. z.kind) p ∙ ap (λ z. last_kind c z) (sym (next_argument es i e h g))
+
+-- the type of the first of them, before the second and behind it
+
+first_here : (c : Context) (ts : Terms) (e : Term) → count ts ≡ 0 → first_kind c (ThenTerm ts e) ≡ kind_of c e
+first_here c NoTerm e h = refl
+first_here c (ThenTerm ts d) e h = absurd (omega (arith, h))
+
+first_stays : (c : Context) (ts : Terms) (e : Term) → (count ts ≡ 0 → ⊥) → first_kind c (ThenTerm ts e) ≡ first_kind c ts
+first_stays c NoTerm e h = absurd (h refl)
+first_stays c (ThenTerm ts d) e h = refl
+
+pub arguments_begin : (c : Context) (es : List Expression) (i : ℕ) (e : Expression) (t : Operand) → i < length es → e ≡ get_or es i e → t ≡ operand_of c (term e)
+    → i ≡ 0 → t.kind ≡ first_kind c (terms (take (i + 1) es))
+arguments_begin c es i e t h g p z =
+    ap (λ z. z.kind) p ∙ sym (first_here c (terms (take i es)) (term e) (counted es i h ∙ z)) ∙ ap (λ z. first_kind c z) (sym (next_argument es i e h g))
+
+pub arguments_keep : (c : Context) (es : List Expression) (i : ℕ) (e : Expression) (k : VariableType) → i < length es → e ≡ get_or es i e → k ≡ first_kind c (terms (take i es))
+    → (i ≡ 0 → ⊥) → k ≡ first_kind c (terms (take (i + 1) es))
+arguments_keep c es i e k h g p z =
+    p ∙ sym (first_stays c (terms (take i es)) (term e) (λ n. z (sym (counted es i h) ∙ n))) ∙ ap (λ z. first_kind c z) (sym (next_argument es i e h g))
 
 -- the flags of a barrier, one argument more
 pub flags_more : (es : List Expression) (i : ℕ) (e : Expression) (own one now : Option TypeFault) → i < length es → e ≡ get_or es i e → own ≡ least (flags_faults (terms (take i es)))

@@ -16,7 +16,7 @@ use Rattle.clmodel.specs.Tree as tree
 use Rattle.clmodel.specs.Tree.{Term, Terms, NoTerm, ThenTerm}
 use Rattle.clmodel.specs.Typing.Context.{Context, Meaning, Bound, Callable, Current, BuiltInFunction, Barrier, Unknown, declared, variable, found, function_meaning, meaning, fenced}
 use Rattle.clmodel.specs.Typing.Least.{least, first, node}
-use Rattle.clmodel.specs.Typing.Faults.{Inside, Want, start, integer_faults, pointer_faults, name_faults, front_faults, address_faults, operand_faults, argument_faults, name_kind, front_kind, element_kind, unary_type, binary_type, choice_type, call_kind, wanted, kind_of, last_kind, arguments_faults, inside_call, call_faults, callee_faults, barrier_faults, term_faults, terms_faults}
+use Rattle.clmodel.specs.Typing.Faults.{Inside, Want, start, integer_faults, pointer_faults, name_faults, front_faults, address_faults, operand_faults, argument_faults, name_kind, front_kind, element_kind, unary_type, binary_type, choice_type, call_kind, wanted, kind_of, last_kind, first_kind, arguments_faults, inside_call, call_faults, callee_faults, barrier_faults, term_faults, terms_faults}
 use Rattle.clmodel.specs.Typing.Rules.{count}
 use Rattle.cltypes_scope.specs.Fenced.{AreAlike}
 use Rattle.cltypes_scope.specs.Answers.{Checks}
@@ -95,16 +95,22 @@ pub record IsSame (c d : Context) (e : Term) : Type 0 where
 pub record AreSame (c d : Context) (es : Terms) : Type 0 where
   pub faults : terms_faults c es ≡ terms_faults d es
   pub last : last_kind c es ≡ last_kind d es
+  pub first : first_kind c es ≡ first_kind d es
   pub own : (ws : List Want) → arguments_faults c ws es ≡ arguments_faults d ws es
 
--- the kind that a call gives, by the last argument
-pub call_last : (m : Meaning) (c : Context) (es : Terms) → call_kind m (last_kind (inside_call m c) es) ≡ call_kind m (last_kind c es)
-call_last Barrier c es = refl
-call_last (Bound k) c es = refl
-call_last (Callable s) c es = refl
-call_last (Current s) c es = refl
-call_last (BuiltInFunction f) c es = refl
-call_last Unknown c es = refl
+-- the kind that a call gives, by the first argument
+pub call_first : (m : Meaning) (c : Context) (es : Terms) → call_kind m (first_kind (inside_call m c) es) ≡ call_kind m (first_kind c es)
+call_first Barrier c es = refl
+call_first (Bound k) c es = refl
+call_first (Callable s) c es = refl
+call_first (Current s) c es = refl
+call_first (BuiltInFunction f) c es = refl
+call_first Unknown c es = refl
+
+-- the kind of the first of one argument more
+first_same : (c d : Context) (es : Terms) (e : Term) → first_kind c es ≡ first_kind d es → kind_of c e ≡ kind_of d e → first_kind c (ThenTerm es e) ≡ first_kind d (ThenTerm es e)
+first_same c d NoTerm e h k = k
+first_same c d (ThenTerm es f) e h k = h
 
 mutual
   pub term_same : (c d : Context) → AreAlike c d → (e : Term) → IsSame c d e
@@ -135,7 +141,7 @@ mutual
         faults = two node (terms_faults (inside_call m c) es) (terms_faults (inside_call m d) es) (call_faults c Inside m a es) (call_faults d Inside m a es)
             r.faults (ap (λ fs. callee_faults Inside m a (count es) ++ fs ++ barrier_faults m es) (r.own (wanted m)))
             ∙ ap (λ z. node (terms_faults (inside_call z d) es) (call_faults d Inside z a es)) (h x);
-        kind = two call_kind m (meaning d x) (last_kind c es) (last_kind d es) (h x) s.last;
+        kind = two call_kind m (meaning d x) (first_kind c es) (first_kind d es) (h x) s.first;
       }
   term_same c d h (tree.Unary a op e) =
       let r = term_same c d h e in
@@ -167,13 +173,14 @@ mutual
       }
 
   pub terms_same : (c d : Context) → AreAlike c d → (es : Terms) → AreSame c d es
-  terms_same c d h NoTerm = record { faults = refl; last = refl; own = λ ws. refl }
+  terms_same c d h NoTerm = record { faults = refl; last = refl; first = refl; own = λ ws. refl }
   terms_same c d h (ThenTerm es e) =
       let r = terms_same c d h es in
       let s = term_same c d h e in
       record {
         faults = two (λ ps qs. ps ++ qs) (terms_faults c es) (terms_faults d es) (term_faults c e) (term_faults d e) r.faults s.faults;
         last = s.kind;
+        first = first_same c d es e r.first s.kind;
         own = λ ws.
             two (λ fs gs. fs ++ gs) (arguments_faults c ws es) (arguments_faults d ws es) _ _ (r.own ws)
             (two (λ j k. argument_faults (slice_get ws (count es)) j k (start e)) (last_kind c es) (last_kind d es) (kind_of c e) (kind_of d e) r.last s.kind);
@@ -185,4 +192,4 @@ pub arguments_same : (c d : Context) (m : Meaning) (es : Terms) (r : Result Argu
 arguments_same c d m es r h =
     let s = terms_same c d h es in
     checks_same r (first (terms_faults c es)) (first (terms_faults d es)) (arguments_of c m es) (arguments_of d m es) (ap first s.faults)
-    (two (λ fs k. record { fault = least fs; last = k }) (arguments_faults c (wanted m) es) (arguments_faults d (wanted m) es) (last_kind c es) (last_kind d es) (s.own (wanted m)) s.last)
+    (two (λ fs k. record { fault = least fs; first = k }) (arguments_faults c (wanted m) es) (arguments_faults d (wanted m) es) (first_kind c es) (first_kind d es) (s.own (wanted m)) s.first)

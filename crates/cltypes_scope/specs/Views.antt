@@ -2,7 +2,7 @@
 use Rattle.clmodel.specs.Tree.{Term, Terms}
 use Rattle.clmodel.specs.Typing.Context.{Context, Meaning}
 use Rattle.clmodel.specs.Typing.Faults as rule
-use Rattle.clmodel.specs.Typing.Faults.{start, kind_of, last_kind, wanted, arguments_faults}
+use Rattle.clmodel.specs.Typing.Faults.{start, kind_of, first_kind, wanted, arguments_faults}
 use Rattle.clmodel.specs.Typing.Least.{least}
 use Rattle.cltypes_scope.specs.declared.faults.Want.{Want}
 use Rattle.cltypes_scope.specs.declared.faults.Want.TheVariants.{Integer, OfTypeBefore, AtomicPointer, ForParameter}
@@ -26,6 +26,6 @@ spot_of Inside = rule.Inside
 abbrev pub operand_of : Context → Term → Operand
 operand_of c e = record { kind = kind_of c e; at = start e }
 
--- the least fault that arguments have as those of what is called, and the type of the last one
+-- the least fault that arguments have as those of what is called, and the type of the first one
 abbrev pub arguments_of : Context → Meaning → Terms → Arguments
-arguments_of c m es = record { fault = least (arguments_faults c (wanted m) es); last = last_kind c es }
+arguments_of c m es = record { fault = least (arguments_faults c (wanted m) es); first = first_kind c es }

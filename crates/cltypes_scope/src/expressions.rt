@@ -5,7 +5,7 @@ ghost use Rattle.std.specs.Prelude.{◌≡◌};
 ghost use Rattle.clmodel.specs.Tree.{Element, ElementAddress, Dereference, Unary, Cast, Binary, Choice, term, terms};
 ghost use Rattle.clmodel.specs.Typing.Context.{meaning};
 ghost use Rattle.clmodel.specs.Typing.Least.{least, first, node};
-ghost use Rattle.clmodel.specs.Typing.Faults.{call_kind, last_kind, inside_call, call_faults, term_faults, terms_faults};
+ghost use Rattle.clmodel.specs.Typing.Faults.{call_kind, first_kind, inside_call, call_faults, term_faults, terms_faults};
 ghost use Rattle.cltypes_scope.specs.Names.{meaning_of};
 ghost use Rattle.cltypes_scope.specs.Fenced.{names_of};
 ghost use Rattle.cltypes_scope.specs.Answers.{Checks};
@@ -143,7 +143,7 @@ pub(crate) fn check_call_in(
         Checks
         result
         (first (node (terms_faults (inside_call m c) es) (call_faults c (spot_of spot) m at es)))
-        (record { kind = call_kind m (last_kind c es); at = at }) }
+        (record { kind = call_kind m (first_kind c es); at = at }) }
 {
     let meaning = meaning_among(names, name);
     let given = check_arguments(names_inside(names, meaning), meaning, arguments)?;
@@ -156,7 +156,7 @@ pub(crate) fn check_call_in(
             given,
             flags_fault(meaning, arguments),
         ),
-        call_kind(meaning, given.last),
+        call_kind(meaning, given.first),
         at,
     )
 }
@@ -235,7 +235,7 @@ fn check_choice(
     )
 }
 
-/// The least of the faults that the arguments of a call have as such, and the type of the last one; or the first fault inside them.
+/// The least of the faults that the arguments of a call have as such, and the type of the first one; or the first fault inside them.
 #[cycle(expressions)]
 fn check_arguments(
     names: Names<'_>,
@@ -248,7 +248,8 @@ fn check_arguments(
         (arguments_of (names_of names.entry) (meaning_of meaning.entry) (terms arguments.now)) }
 {
     let mut least = None;
-    let mut last = VariableType::Integer(IntType::Int);
+    let mut first = VariableType::Integer(IntType::Int);
+    let mut last = first;
     for (index, argument) in arguments.iter().enumerate() {
         let argument = check_in(names, argument)?;
         least = lesser(
@@ -256,6 +257,9 @@ fn check_arguments(
             argument_fault(wanted(meaning, index), last, argument),
         );
         last = argument.kind;
+        if index == 0 {
+            first = last;
+        }
     }
-    Ok(Arguments { fault: least, last })
+    Ok(Arguments { fault: least, first })
 }

@@ -49,11 +49,11 @@ pub struct Operand {
 }
 
 /// Arguments that have no fault inside: the least of those that they have as the arguments of what is called, and the type of the
-/// last one.
+/// first one.
 #[derive(Clone, Copy)]
 pub struct Arguments {
     pub fault: Option<TypeFault>,
-    pub last: VariableType,
+    pub first: VariableType,
 }
 
 /// Whether a fault has a lesser number than another, or the same and an offset that is not greater.

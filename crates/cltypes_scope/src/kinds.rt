@@ -124,12 +124,12 @@ pub(crate) fn choice_type(chosen: VariableType, otherwise: VariableType) -> Vari
 }
 
 /// The type of a call of a function on integers: that of its arguments, of which `abs` gives the unsigned one.
-fn integer_call_kind(function: Builtin, last: VariableType) -> VariableType
-    ensures { result ≡ integer_call_kind function last }
+fn integer_call_kind(function: Builtin, first: VariableType) -> VariableType
+    ensures { result ≡ integer_call_kind function first }
 {
-    match (function, last) {
+    match (function, first) {
         (Builtin::Abs, VariableType::Integer(kind)) => VariableType::Integer(kind.unsigned()),
-        _ => last,
+        _ => first,
     }
 }
 
@@ -140,15 +140,16 @@ fn result_kind(given: Option<IntType>) -> VariableType
     VariableType::Integer(given.unwrap_or(IntType::Int))
 }
 
-/// The type of a call, by that of its last argument.
-pub(crate) fn call_kind(meaning: Meaning<'_>, last: VariableType) -> VariableType
-    ensures { result ≡ call_kind (meaning_of meaning.entry) last }
+/// The type of a call, by that of its first argument: of an atomic function's, the type of what its pointer points to.
+pub(crate) fn call_kind(meaning: Meaning<'_>, first: VariableType) -> VariableType
+    ensures { result ≡ call_kind (meaning_of meaning.entry) first }
 {
     match meaning {
         Meaning::Callable(signature) => result_kind(signature.result),
         Meaning::BuiltInFunction(BuiltIn::WorkDim) => VariableType::Integer(IntType::Uint),
         Meaning::BuiltInFunction(BuiltIn::WorkItem(_)) => VariableType::Integer(IntType::Ulong),
-        Meaning::BuiltInFunction(BuiltIn::Integer(function)) => integer_call_kind(function, last),
+        Meaning::BuiltInFunction(BuiltIn::Integer(function)) => integer_call_kind(function, first),
+        Meaning::BuiltInFunction(BuiltIn::Atomic(_)) => element_kind(first),
         _ => VariableType::Integer(IntType::Int),
     }
 }

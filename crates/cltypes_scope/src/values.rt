@@ -5,7 +5,7 @@ ghost use Rattle.std.specs.Prelude.{◌≡◌};
 ghost use Rattle.clmodel.specs.Tree.{term, terms};
 ghost use Rattle.clmodel.specs.Typing.Context.{meaning};
 ghost use Rattle.clmodel.specs.Typing.Least.{least, first, node};
-ghost use Rattle.clmodel.specs.Typing.Faults.{call_kind, last_kind, inside_call, call_faults, term_faults, terms_faults, value_faults, gives_value, void_faults};
+ghost use Rattle.clmodel.specs.Typing.Faults.{call_kind, first_kind, inside_call, call_faults, term_faults, terms_faults, value_faults, gives_value, void_faults};
 ghost use Rattle.cltypes_scope.specs.Names.{meaning_of};
 ghost use Rattle.cltypes_scope.specs.Fenced.{names_of};
 ghost use Rattle.cltypes_scope.specs.Answers.{Checks};
@@ -50,7 +50,7 @@ pub fn check_call(
         Checks
         result
         (first (node (terms_faults (inside_call m c) es) (call_faults c (spot_of spot) m at es)))
-        (record { kind = call_kind m (last_kind c es); at = at }) }
+        (record { kind = call_kind m (first_kind c es); at = at }) }
 {
     check_call_in(names(context), spot, at, name, arguments)
 }

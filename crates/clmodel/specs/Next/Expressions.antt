@@ -319,7 +319,7 @@ infix_type (Arithmetic operator) (variable_type.Pointer p) b = variable_type.Poi
 infix_type LogicalAnd a b = variable_type.Integer Int
 infix_type LogicalOr a b = variable_type.Integer Int
 
--- the type of a built-in function's value, given the type of its arguments
+-- the type of a built-in function's value, given the type of its first argument, or of what that points to
 abbrev pub call_type : Option BuiltIn → IntType → IntType
 call_type (Some built_in_function.WorkDim) kind = Uint
 call_type (Some (built_in_function.WorkItem function)) kind = Ulong
@@ -341,10 +341,12 @@ abbrev mutual
   type_of variables (Choice at condition chosen otherwise) =
       variable_type.Integer (common (base_type (type_of variables chosen)) (base_type (type_of variables otherwise)))
 
-  -- that of the last argument: functions of two integers have both of one type
+  -- That of the first argument: functions of two integers have both of one type, and an atomic function has that of what its pointer points to
+  -- (6.12.3 and 6.12.11).
   pub argument_type : Variables → Terms → IntType
   argument_type variables NoTerm = Int
-  argument_type variables (ThenTerm terms term) = base_type (type_of variables term)
+  argument_type variables (ThenTerm NoTerm term) = base_type (type_of variables term)
+  argument_type variables (ThenTerm (ThenTerm terms first) term) = argument_type variables (ThenTerm terms first)
 
 -- What follows the left operand: that of `&&` or `||` may settle the value, and else more follows (6.3.g).
 abbrev pub settle : InfixOperator → Operand → (Operand → Run) → Run → Run

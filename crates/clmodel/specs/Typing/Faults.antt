@@ -268,11 +268,12 @@ abbrev pub result_kind : Option IntType → VariableType
 result_kind (Some t) = Number t
 result_kind None = Number Int
 
--- a call, by the type of its last argument
+-- a call, by the type of its first argument; that of an atomic function is the type of what its pointer points to (6.12.11)
 abbrev pub call_kind : Meaning → VariableType → VariableType
 call_kind (BuiltInFunction built_in.WorkDim) k = Number Uint
 call_kind (BuiltInFunction (built_in.WorkItem f)) k = Number Ulong
 call_kind (BuiltInFunction (built_in.Integer f)) k = integer_call_kind f k
+call_kind (BuiltInFunction (built_in.Atomic f)) k = element_kind k
 call_kind (Callable s) k = result_kind s.result
 call_kind _ k = Number Int
 
@@ -283,7 +284,7 @@ abbrev mutual
   kind_of c (tree.Element a x e) = front_kind (meaning c x)
   kind_of c (tree.ElementAddress a b x e) = name_kind (meaning c x)
   kind_of c (tree.Dereference a e) = element_kind (kind_of c e)
-  kind_of c (tree.Call a x es) = call_kind (meaning c x) (last_kind c es)
+  kind_of c (tree.Call a x es) = call_kind (meaning c x) (first_kind c es)
   kind_of c (tree.Unary a op e) = unary_type op (kind_of c e)
   kind_of c (tree.Cast a t e) = Number t
   kind_of c (tree.Binary a op d e) = binary_type op (kind_of c d) (kind_of c e)
@@ -293,6 +294,12 @@ abbrev mutual
   pub last_kind : Context → Terms → VariableType
   last_kind c NoTerm = Number Int
   last_kind c (ThenTerm es e) = kind_of c e
+
+  -- the type of the first of them
+  pub first_kind : Context → Terms → VariableType
+  first_kind c NoTerm = Number Int
+  first_kind c (ThenTerm NoTerm e) = kind_of c e
+  first_kind c (ThenTerm (ThenTerm es d) e) = first_kind c (ThenTerm es d)
 
 abbrev pub arguments_faults : Context → List Want → Terms → List TypeFault
 arguments_faults c ws NoTerm = []

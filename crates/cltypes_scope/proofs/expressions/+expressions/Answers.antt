@@ -1,4 +1,4 @@
-use Rattle.std.proofs.Common.{◌++◌, option_map, refl, sym, ap, ◌∙◌}
+use Rattle.std.proofs.Common.{◌++◌, option_map, refl, sym, ap, ◌∙◌, arith}
 use Rattle.std.proofs.lemmas.Result.{err_from_is_err_and}
 use Rattle.clmodel.specs.declared.tree.VariableType.TheVariants.{Integer}
 use Rattle.clmodel.specs.Tree as tree
@@ -10,11 +10,12 @@ use Rattle.cltypes_scope.specs.Names.{meaning_of}
 use Rattle.cltypes_scope.specs.Fenced.{names_of}
 use Rattle.cltypes_scope.specs.Views.{operand_of, want_of, spot_of}
 use Rattle.cltypes_scope.proofs.Follows.{fault_handed_on, inside, inside_first, inside_second, neither_of, checks_as, operand, along, one_here, two_here, three_here}
-use Rattle.cltypes_scope.proofs.Arguments.{argument_inside, arguments_inside, arguments_own, arguments_last}
+use Rattle.cltypes_scope.proofs.Arguments.{argument_inside, arguments_inside, arguments_own, arguments_last, arguments_begin, arguments_keep}
 use Rattle.clmodel.proofs.Trees.{call_view}
 use Rattle.cltypes_scope.proofs.Views.{count_terms}
 use Rattle.cltypes_scope.proofs.Calls.{call_here, inside_arguments}
 use Rattle.cltypes_scope.proofs.expressions.+expressions.Goals as goal
+use Rattle.cltypes_scope.proofs.expressions.+expressions.Goals.{check_arguments-then-index-eq0, check_arguments-else-index-eq0}
 
 -- a call among the expressions
 
@@ -238,4 +239,10 @@ check_arguments-loop-index-preserved t c =
       own = arguments_own x (wanted (meaning_of c.args.meaning)) es i e c.in_ok-argument.argument c.loop-index.last (option_map want_of c.wanted.result) c.loop-index.least c.argument_fault.result c.lesser-least.result
           c.loop-index-test.true c.index-arguments-index.is c.loop-index.invariant.own c.loop-index.invariant.kind c.in_ok-argument.ensures.1 c.wanted.ensures c.argument_fault.ensures c.lesser-least.ensures;
       kind = arguments_last x es i e c.in_ok-argument.argument c.loop-index-test.true c.index-arguments-index.is c.in_ok-argument.ensures.1;
+      first_kind = elim c.if-index-eq0.branch [
+        | check_arguments-then-index-eq0 w ↦
+            w.first-is ∙ arguments_begin x es i e c.in_ok-argument.argument c.loop-index-test.true c.index-arguments-index.is c.in_ok-argument.ensures.1 (omega (arith))
+        | check_arguments-else-index-eq0 w ↦
+            w.first-is ∙ arguments_keep x es i e c.loop-index.first c.loop-index-test.true c.index-arguments-index.is c.loop-index.invariant.first_kind (λ z. absurd (omega (arith, z)))
+      ];
     }

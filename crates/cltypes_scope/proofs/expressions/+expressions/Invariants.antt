@@ -1,7 +1,7 @@
 use Rattle.std.proofs.Common.{◌≡◌, ◌+◌, ◌*◌, max, None, take}
 use Rattle.clmodel.specs.Tree.{terms}
 use Rattle.clmodel.specs.Typing.Least.{first, least}
-use Rattle.clmodel.specs.Typing.Faults.{terms_faults, arguments_faults, wanted, last_kind}
+use Rattle.clmodel.specs.Typing.Faults.{terms_faults, arguments_faults, wanted, last_kind, first_kind}
 use Rattle.clmodel.specs.declared.tree.Expression.{size-Expression}
 use Rattle.cltypes_scope.specs.Names.{meaning_of}
 use Rattle.cltypes_scope.specs.Fenced.{names_of}
@@ -45,4 +45,5 @@ invariant-check_arguments-loop-index l = record {
   inside : first (terms_faults (names_of l.names) (terms (take l.index l.arguments))) ≡ None;
   own : l.least ≡ least (arguments_faults (names_of l.names) (wanted (meaning_of l.meaning)) (terms (take l.index l.arguments)));
   kind : l.last ≡ last_kind (names_of l.names) (terms (take l.index l.arguments));
+  first_kind : l.first ≡ first_kind (names_of l.names) (terms (take l.index l.arguments));
 }
