@@ -103,19 +103,19 @@ abbrev pub numbered : ℕ → List VariableType → List ℕ
 numbered level [] = []
 numbered level (kind ∷ kinds) = register_at level kind ∷ numbered (level + 1) kinds
 
-abbrev pub last_of : List VariableType → IntType
-last_of [] = Int
-last_of (kind ∷ []) = base_type kind
-last_of (kind ∷ other ∷ kinds) = last_of (other ∷ kinds)
+abbrev pub first_of : List VariableType → IntType
+first_of [] = Int
+first_of (kind ∷ kinds) = base_type kind
 
-last_is : (kinds : List VariableType) (kind : VariableType) → last_of (kinds ++ kind ∷ []) ≡ base_type kind
-last_is [] kind = refl
-last_is (first ∷ []) kind = refl
-last_is (first ∷ second ∷ kinds) kind = last_is (second ∷ kinds) kind
+first_stays : (kinds : List VariableType) (kind other : VariableType) → first_of (kinds ++ kind ∷ []) ≡ first_of ((kinds ++ kind ∷ []) ++ other ∷ [])
+first_stays [] kind other = refl
+first_stays (first ∷ kinds) kind other = refl
 
-pub argument_is : (scope : Scope) (terms : Terms) → argument_type scope.variables terms ≡ last_of (kinds_of scope terms)
+pub argument_is : (scope : Scope) (terms : Terms) → argument_type scope.variables terms ≡ first_of (kinds_of scope terms)
 argument_is scope NoTerm = refl
-argument_is scope (ThenTerm terms term) = sym (last_is (kinds_of scope terms) (kind_of scope term))
+argument_is scope (ThenTerm NoTerm term) = refl
+argument_is scope (ThenTerm (ThenTerm terms first) term) =
+    argument_is scope (ThenTerm terms first) ∙ first_stays (kinds_of scope terms) (kind_of scope first) (kind_of scope term)
 
 numbered_both : (level : ℕ) (kinds : List VariableType) (kind : VariableType) → numbered level (kinds ++ kind ∷ []) ≡ numbered level kinds ++ register_at (level + length kinds) kind ∷ []
 numbered_both level [] kind = ap (λ n. register_at n kind ∷ []) (omega arith)
@@ -134,7 +134,7 @@ registers_are scope level (ThenTerm terms term) =
     ap₂ (λ rs n. rs ++ register_at (level + n) (kind_of scope term) ∷ []) (registers_are scope level terms) (sym (kinds_counted scope terms))
     ∙ sym (numbered_both level (kinds_of scope terms) (kind_of scope term))
 
-pub call_is : (f : BuiltIn) (ks : List VariableType) (r : Option VariableType) (k : VariableType) → Calls f ks r → r ≡ Some k → Integer (call_type (Some f) (last_of ks)) ≡ k
+pub call_is : (f : BuiltIn) (ks : List VariableType) (r : Option VariableType) (k : VariableType) → Calls f ks r → r ≡ Some k → Integer (call_type (Some f) (first_of ks)) ≡ k
 call_is _ _ _ k rule.work_dim e = cc
 call_is _ _ _ k rule.work_item e = cc
 call_is _ _ _ k rule.min e = cc
@@ -173,7 +173,7 @@ module _ (c : Context) (scope : Scope) (m : Matches c scope) where
     type_is _ _ (rule.address {x = x} {d = d} {p = p} is value index) = (m x d is).declared ∙ value_is d (Pointer p) value
     type_is _ _ (rule.dereference {p = p} {e = e} pointer) = ap (λ k. Integer (base_type k)) (type_is e (Pointer p) pointer)
     type_is _ _ (rule.call {x = x} {f = f} {es = es} {ks = ks} {k = k} is arguments calls) =
-        ap₂ (λ g t. Integer (call_type g t)) (built_in_is c x f is) (argument_is scope es ∙ ap last_of (types_are es ks arguments)) ∙ call_is f ks (Some k) k calls refl
+        ap₂ (λ g t. Integer (call_type g t)) (built_in_is c x f is) (argument_is scope es ∙ ap first_of (types_are es ks arguments)) ∙ call_is f ks (Some k) k calls refl
     type_is _ _ (rule.unary {op = op} {t = t} {e = e} operand) = ap (λ k. Integer (unary_kind op (base_type k))) (type_is e (Integer t) operand)
     type_is _ _ (rule.cast operand) = refl
     type_is _ _ (rule.binary {op = op} {d = d} {e = e} {j = j} {k = k} {r = r} left right operates) =

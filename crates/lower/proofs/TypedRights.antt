@@ -30,7 +30,7 @@ use Rattle.lower_expr.specs.Expressions.{kind_of, kind_named, type_of_elements, 
 use Rattle.lower_code.specs.Code.{Calls, result_type, needed_code, no_value_code, value_code, hold_code, place_type, fetch_code, put_code, combine_code, wait_code, condition_code, turn_code, right_code, right_type, assign_code, compound_code, step_code, call_only_statement}
 use Rattle.lower.specs.Accepted.{declared_kind, is_private, Is, Matches, Suit}
 use Rattle.lower.proofs.Suiting.{is_at, is_as, suit_both, constant_suits, hold_suits, binary_suits, store_suits, load_suits, private_load_suits, private_store_suits, update_suits, update_by_one_suits, branch_suits}
-use Rattle.lower.proofs.Suited.{element_is, built_in_is, barrier_is, infix_is, call_is, argument_is, last_of, types_are, type_is, numbered, registers_are, variable_suits, call_suits, expression_suits, terms_suit, place_suits}
+use Rattle.lower.proofs.Suited.{element_is, built_in_is, barrier_is, infix_is, call_is, argument_is, first_of, types_are, type_is, numbered, registers_are, variable_suits, call_suits, expression_suits, terms_suit, place_suits}
 use Rattle.lower.proofs.Scoped.{callable_is}
 
 -- the registers of arguments can be given to parameters of these types, as far as there are both
@@ -265,7 +265,7 @@ module _ (c : Context) (scope : Scope) (m : Matches c scope) where
           let to = register_at level kind in
           suit_both parameters (terms_code scope level es) (call_only_code (Some f) to (registers_for scope level es)) (terms_suit c scope m parameters level es ks arguments)
           (subst (λ rs. Suit parameters (call_only_code (Some f) to rs)) (sym (registers_are scope level es ∙ ap (numbered level) (types_are c scope m es ks arguments)))
-          (only_code_suits f ks r by level to (λ k e. is_as level kind k (ap (λ t. Integer (call_type (Some f) t)) (argument_is scope es ∙ ap last_of (types_are c scope m es ks arguments)) ∙ call_is f ks r k by e))))
+          (only_code_suits f ks r by level to (λ k e. is_as level kind k (ap (λ t. Integer (call_type (Some f) t)) (argument_is scope es ∙ ap first_of (types_are c scope m es ks arguments)) ∙ call_is f ks r k by e))))
 
       pub only_suits : (f : BuiltIn) (x : ℕ) (es : Terms) (ks : List VariableType) (r : Option VariableType) → meaning c x ≡ BuiltInFunction f → TypesAll c es ks → rule.Calls f ks r → (depth site : ℕ)
           → Suit parameters (call_only_statement calls results inside result scope (is_barrier x) (built_in x) x es depth site)

@@ -4,7 +4,7 @@ use Rattle.std.proofs.lemmas.List.{append_assoc, length-append}
 use Rattle.std.specs.declared.alloc.Global.{Global}
 use mathlib.Core.Former.{Count}
 use Rattle.clmodel.specs.BuiltIns.{built_in}
-use Rattle.clmodel.specs.Next.{infix_type}
+use Rattle.clmodel.specs.Next.{Variables, type_of, base_type, argument_type, infix_type}
 use Rattle.clmodel.specs.Tree.{Term, Terms, NoTerm, ThenTerm, Binary, Call, term, terms, row_terms, then_all}
 use Rattle.clmodel.specs.declared.tree.Expression as rust_expression
 use Rattle.clmodel.specs.declared.tree.InfixOperator.{InfixOperator}
@@ -55,6 +55,16 @@ terms_more es i e h p =
 
 pub terms_count : (es : List rust_expression.Expression) (i : ℕ) → i ≤ length es → count (terms (take i es)) ≡ i
 terms_count es i h = let n = all_count NoTerm (take i es) in let k = take_count es i h in omega (arith, n, k)
+
+-- the type of the first of them, before the second and behind it
+
+pub type_here : (variables : Variables) (ts : Terms) (e : Term) → count ts ≡ 0 → argument_type variables (ThenTerm ts e) ≡ base_type (type_of variables e)
+type_here variables NoTerm e h = refl
+type_here variables (ThenTerm ts d) e h = absurd (omega (arith, h))
+
+pub type_stays : (variables : Variables) (ts : Terms) (e : Term) → (count ts ≡ 0 → ⊥) → argument_type variables (ThenTerm ts e) ≡ argument_type variables ts
+type_stays variables NoTerm e h = absurd (h refl)
+type_stays variables (ThenTerm ts d) e h = refl
 
 begun_length : (operator : InfixOperator) (first : ℕ) → length (infix_begun operator first) ≡ length (infix_begun operator 0)
 begun_length (Arithmetic operator) first = refl

@@ -194,7 +194,8 @@ mutual
 
   arguments_in : (base : ℕ) (variables : Variables) (registers : Registers) (es : Terms) → argument_type (view base variables registers) es ≡ argument_type variables es
   arguments_in base vs registers NoTerm = refl
-  arguments_in base vs registers (ThenTerm es e) = ap base_type (type_in base vs registers e)
+  arguments_in base vs registers (ThenTerm NoTerm e) = ap base_type (type_in base vs registers e)
+  arguments_in base vs registers (ThenTerm (ThenTerm es d) e) = arguments_in base vs registers (ThenTerm es d)
 
 pub type_seen : (scope : Scope) (registers : Registers) (variables : Variables) (e : Term) → Sees scope registers variables → type_of scope.variables e ≡ type_of variables e
 type_seen scope registers variables e h = sym (type_in scope.base scope.variables registers e) ∙ ap (λ vs. type_of vs e) h.same

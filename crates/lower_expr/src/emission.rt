@@ -125,7 +125,7 @@ fn emit_address(
 }
 
 /// Adds the code of arguments, from left to right, and gives the registers where their values are, the first at a level, and each
-/// further one a level above. Err if out of memory, or if there are too few registers.
+/// further one a level above, with the integer type of the first, or of what it points to. Err if out of memory, or if there are too few registers.
 #[cycle(emission)]
 pub fn emit_arguments(
     scope: &Scope,
@@ -144,7 +144,9 @@ pub fn emit_arguments(
         let above = level_at(level, i)?;
         let found = emit_expression(scope, above, &arguments[i], code)?;
         registers.push(register_at(above, found)?)?;
-        kind = base_type(found);
+        if i == 0 {
+            kind = base_type(found);
+        }
     }
     Ok(Arguments { registers, kind })
 }

@@ -247,7 +247,7 @@ pub(crate) fn cast(
     Ok(kind)
 }
 
-/// The registers of arguments from left to right, and the integer type of the last; int where there is none.
+/// The registers of arguments from left to right, and the integer type of the first, or of what it points to; int where there is none.
 #[derive(Drop)]
 pub struct Arguments {
     pub registers: SmallVec<u32, 2>,

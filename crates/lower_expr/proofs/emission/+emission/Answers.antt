@@ -11,9 +11,10 @@ use Rattle.clmodel.specs.declared.tree.VariableType.TheVariants.{Integer}
 use Rattle.regcode.specs.declared.instruction.Instruction.{Instruction}
 use Rattle.lower_expr.specs.Scope.{register_at}
 use Rattle.lower_expr.specs.Expressions.{kind_of, expr_code, terms_code, registers_for, call_code, count}
-use Rattle.lower_expr.proofs.Arguments.{calls, terms_more, terms_count, binary_laid, call_laid}
+use Rattle.lower_expr.proofs.Arguments.{calls, terms_more, terms_count, type_here, type_stays, binary_laid, call_laid}
 use Rattle.lower_expr.proofs.Growth.{unchanged, behind, on_err}
 use Rattle.lower_expr.proofs.emission.+emission.Goals as goal
+use Rattle.lower_expr.proofs.emission.+emission.Goals.{emit_arguments-then-i-eq0, emit_arguments-else-i-eq0}
 
 pub emit_arguments-loop-i-preserved : goal.emit_arguments-loop-i-preserved
 emit_arguments-loop-i-preserved t c =
@@ -24,7 +25,8 @@ emit_arguments-loop-i-preserved t c =
     let e = c.index-arguments-i.result in
     let before = terms (take i es) in
     let more = sym (terms_more es i e c.loop-i-test.true c.index-arguments-i.is) in
-    let above : c.in_ok-above.above ≡ level + count before = omega (arith, c.in_ok-above.ensures, terms_count es i (omega (arith, c.loop-i-test.true))) in
+    let counted = terms_count es i (omega (arith, c.loop-i-test.true)) in
+    let above : c.in_ok-above.above ≡ level + count before = omega (arith, c.in_ok-above.ensures, counted) in
     let kind = c.in_ok-found.ensures.kind in (
       c.in_ok-found.ensures.code
           ∙ ap₂ (λ (code : List Instruction) (n : ℕ). code ++ expr_code scope n (term e)) c.loop-i.invariant.0 above
@@ -33,7 +35,11 @@ emit_arguments-loop-i-preserved t c =
       c.in_ok-push.ensures.ok
           ∙ ap₂ (λ (rs : List ℕ) (r : ℕ). rs ++ r ∷ []) c.loop-i.invariant.1 (c.in_ok-register_at.ensures ∙ ap₂ (λ (n : ℕ) (k : VariableType). register_at n k) above kind)
           ∙ ap (λ (ts : Terms). registers_for scope level ts) more,
-      c.base_type-kind.ensures ∙ ap base_type kind ∙ ap (λ (ts : Terms). argument_type scope.variables ts) more,
+      elim c.if-i-eq0.branch [
+        | emit_arguments-then-i-eq0 w ↦ w.kind-is ∙ w.base_type-kind.ensures ∙ ap base_type kind ∙ sym (type_here scope.variables before (term e) (omega (arith, counted)))
+        | emit_arguments-else-i-eq0 w ↦ w.kind-is ∙ c.loop-i.invariant.2 ∙ sym (type_stays scope.variables before (term e) (λ none. absurd (omega (arith, counted, none))))
+      ]
+          ∙ ap (λ (ts : Terms). argument_type scope.variables ts) more,
     )
 
 pub emit_expression-returns-in_ok-kind-in-Call-clause-code : goal.emit_expression-returns-in_ok-kind-in-Call-clause-code
