@@ -1,8 +1,0 @@
-//! The run of a launch by several workers.
-#![tactic(auto)]
-
-mod launch;
-mod run;
-
-pub use run::run_parallel;
-pub use workers_draw::gate::{Gate, OpenGate};
