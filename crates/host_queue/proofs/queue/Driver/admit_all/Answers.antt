@@ -11,6 +11,7 @@ loop-i-preserved g c = let a = c.admit.ensures in let l = c.loop-i.invariant in 
       machine = a.driver.2 ∙ l.machine;
       start = ap (λ z. z.start) a.driver.1 ∙ l.start;
       known = ap (λ z. z.known) a.driver.1 ∙ l.known;
+      share = ap (λ z. z.share) a.driver.1 ∙ l.share;
       credit = (first_of (omega arith, search rules));
       admitted = omega arith;
       long = p.len ∙ ap (λ (z : ℕ). z + 1) l.long;
