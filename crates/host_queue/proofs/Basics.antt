@@ -1,14 +1,14 @@
 -- Lists read by `get_elem?`, functions changed at one number, sums over a list, and runs of the machine.
-use Rattle.std.proofs.Common.{◌≡◌, ◌≢◌, ℕ, zero, suc, ◌+◌, ◌-◌, ◌<◌, ◌≤◌, ◌⊎◌, inl, inr, List, [], ◌∷◌, ◌++◌, length, get_or, set, sym, refl, ap, ◌∙◌, subst, ⊎_elim, arith, length-append}
+use Rattle.std.proofs.Common.{◌≡◌, ◌≢◌, ℕ, zero, suc, ◌+◌, ◌<◌, ◌≤◌, ◌⊎◌, inl, inr, List, [], ◌∷◌, ◌++◌, length, set, sym, refl, ap, ◌∙◌, subst, ⊎_elim, arith, length-append}
 use mathlib.Core.Option.{some, some-ne-none, some-injective}
 use mathlib.Core.Path.{Path}
 use mathlib.Core.Logic.{∥∥₁_map}
 use native.Mathlib.Decide.{ℕ_discrete}
 use lib.ListN.{get_elem?}
 use Rattle.host_queue.specs.declared.view.Entry.{Entry}
-use Rattle.host_queue.specs.History.{Begins, Passes, Runs, RunsTo}
+use Rattle.host_queue.specs.History.{Begins, Runs, RunsTo}
 use Rattle.host_queue.specs.Tickets.{total, entry}
-use Rattle.atomic_table.proofs.Lists.{at_longer, at_last}
+use Rattle.atomic_table.proofs.Lists.{at_longer}
 
 module _ {A : Type 0} where
   abbrev pick : {P : Type 0} → Dec P → A → A → A

@@ -1,5 +1,5 @@
 -- What stays of a client's and of the driver's view over a call.
-use Rattle.std.proofs.Common.{◌≡◌, ◌≢◌, ℕ, zero, suc, replicate, get_or, ◌+◌, ◌<◌, ◌≤◌, List, [], ◌∷◌, ◌++◌, length, sym, refl, ap, ◌∙◌, subst, ⊎_elim, arith, le_refl, length-append, Option, Some, None}
+use Rattle.std.proofs.Common.{◌≡◌, ◌≢◌, ℕ, zero, suc, replicate, get_or, ◌+◌, ◌<◌, ◌≤◌, List, [], ◌∷◌, ◌++◌, length, sym, refl, ap, ◌∙◌, subst, ⊎_elim, arith, length-append, Option, Some, None}
 use mathlib.Core.Option.{some, some-ne-none, some-injective}
 use mathlib.Core.Path.{Path}
 use mathlib.Core.Logic.{dite}
@@ -8,13 +8,13 @@ use lib.ListN.{get_elem?}
 use Rattle.atomic_table.proofs.Lists.{at_last, at_longer}
 use Rattle.host_queue.specs.declared.view.Stage.TheVariants.{Idle, Drawn, Taken}
 use Rattle.host_queue.specs.declared.view.Request.{Request}
-use Rattle.host_queue.specs.declared.view.Request.TheVariants.{Asked, Answered}
+use Rattle.host_queue.specs.declared.view.Request.TheVariants.{Asked}
 use Rattle.host_queue.specs.declared.view.Held.{Held}
 use Rattle.host_queue.specs.declared.view.Entry.{Entry}
 use Rattle.host_queue.specs.declared.view.View.{View}
 use Rattle.host_queue.specs.History.{Begins, Runs, RunsTo}
-use Rattle.host_queue.specs.Tickets.{held, entry, Fits, IsReady, IsClient, IsDriver, IsNote, IsOpen, StaysOpen, StaysOpenBut, Has, AllBelow, AgreeAt, Serves, Saw, told, note_of, host_of, guest_of, first_view}
-use Rattle.host_queue.proofs.Basics.{at_inside, there, at_end, begins_refl, begins_more, begins_trans, begins_long, begins_both, runs_on, runs_none, runs_more}
+use Rattle.host_queue.specs.Tickets.{held, entry, Fits, IsReady, IsClient, IsDriver, IsNote, IsOpen, StaysOpen, StaysOpenBut, Has, AllBelow, AgreeAt, Serves, told, note_of, host_of, guest_of, first_view}
+use Rattle.host_queue.proofs.Basics.{at_inside, there, at_end, begins_refl, begins_long, begins_both, runs_on, runs_none, runs_more}
 
 module _ {D C R : Type 0} (model : D → C → R → D → Type 0) where
   abbrev V : Type 0

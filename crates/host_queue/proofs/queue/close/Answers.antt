@@ -1,6 +1,5 @@
-use Rattle.std.proofs.Common.{arith, sym, ap, ◌∙◌, subst, ◌≡◌, ℕ, ◌+◌, length, [], ◌∷◌}
-use Rattle.host_queue.specs.History.{Begins, RunsTo}
-use Rattle.host_queue.specs.Tickets.{total}
+use Rattle.std.proofs.Common.{arith, sym, ◌∙◌, subst}
+use Rattle.host_queue.specs.History.{RunsTo}
 use Rattle.host_queue.proofs.Basics.{begins_trans}
 use Rattle.host_queue.proofs.Clients.{serves_more}
 use Rattle.host_queue.proofs.queue.close.Goals as goal

@@ -1,4 +1,4 @@
-use Rattle.std.proofs.Common.{rules, arith, sym, refl, ap, ◌∙◌, subst, ◌≡◌, ℕ, replicate, get_or, length, [], ◌∷◌}
+use Rattle.std.proofs.Common.{rules, arith, sym, ap, ◌∙◌, ◌≡◌, get_or, length, [], ◌∷◌}
 use Rattle.std.specs.Box.{box_value}
 use Rattle.host_queue.proofs.Comings.{starts}
 use Rattle.host_queue.proofs.Clients.{driver_first, zeros}

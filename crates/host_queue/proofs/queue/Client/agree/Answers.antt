@@ -1,4 +1,4 @@
-use Rattle.std.proofs.Common.{arith, sym, ap, ◌∙◌, subst, ◌≤◌, ℕ}
+use Rattle.std.proofs.Common.{arith, sym, ap, ◌∙◌, subst, ◌≤◌}
 use Rattle.host_queue.proofs.Clients.{one_history, all_below, stay_open}
 use Rattle.host_queue.proofs.queue.Client.agree.Goals as goal
 

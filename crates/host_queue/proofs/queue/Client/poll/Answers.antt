@@ -1,4 +1,4 @@
-use Rattle.std.proofs.Common.{rules, arith, sym, refl, ap, ◌∙◌, subst, ◌≡◌, ℕ, ◌+◌, ◌<◌, ◌≤◌, [], ◌∷◌, ◌++◌, length, Some, None, le_refl}
+use Rattle.std.proofs.Common.{rules, arith, sym, refl, ap, ◌∙◌, subst, ◌≡◌, ◌∷◌, Some, le_refl}
 use Rattle.std.specs.Box.{box_value}
 use Rattle.std.specs.Option.{IsSome}
 use lib.ListN.{get_elem?}

@@ -1,4 +1,4 @@
-use Rattle.std.proofs.Common.{rules, arith, sym, refl, ap, ◌∙◌, subst, ◌≡◌, ℕ, length}
+use Rattle.std.proofs.Common.{rules, arith, sym, ap, ◌∙◌, ◌≡◌, length}
 use Rattle.std.specs.Box.{box_value}
 use mathlib.Core.Option.{some-ne-none}
 use lib.ListN.{get_elem?}

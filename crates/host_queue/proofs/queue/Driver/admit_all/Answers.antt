@@ -1,6 +1,5 @@
-use Rattle.std.proofs.Common.{rules, arith, sym, refl, ap, ◌∙◌, subst, ◌≡◌, ℕ, ◌+◌, ◌-◌, ◌<◌, length, vec_len, ⊎_elim, [], ◌∷◌, length-append}
+use Rattle.std.proofs.Common.{rules, arith, sym, ap, ◌∙◌, ◌≡◌, ℕ, ◌+◌, ◌-◌, length, ⊎_elim, [], ◌∷◌, length-append}
 use lib.ListN.{get_elem?}
-use Rattle.host_queue.specs.Opened.{IsGuest}
 use Rattle.host_queue.proofs.Basics.{at_end}
 use Rattle.host_queue.proofs.queue.Driver.admit_all.Goals as goal
 

@@ -1,4 +1,4 @@
-use Rattle.std.proofs.Common.{◌≡◌, ℕ, ◌+◌, [], ◌∷◌, vec_len, length}
+use Rattle.std.proofs.Common.{◌≡◌, ◌+◌, vec_len, length}
 use Rattle.host_queue.specs.Opened.{Each, IsGuest}
 use Rattle.host_queue.proofs.queue.Driver.admit_all.Given as goal
 

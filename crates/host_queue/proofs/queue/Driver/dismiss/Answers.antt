@@ -1,4 +1,4 @@
-use Rattle.std.proofs.Common.{rules, arith, sym, refl, ap, ◌∙◌, subst, ◌≡◌, ℕ, ◌+◌, ◌≤◌, length}
+use Rattle.std.proofs.Common.{rules, arith, sym, ap, ◌∙◌, subst, ◌≡◌, ℕ, ◌+◌, length}
 use Rattle.std.specs.Box.{box_value}
 use Rattle.host_queue.specs.History.{Begins}
 use Rattle.host_queue.specs.Tickets.{AgreeAt}

@@ -1,4 +1,4 @@
-use Rattle.std.proofs.Common.{rules, arith, sym, refl, ap, ◌∙◌, subst, ◌≡◌, ℕ, ◌+◌, ◌<◌, ◌≤◌, [], ◌∷◌, ◌++◌, length, length-append, Some, None, le_refl}
+use Rattle.std.proofs.Common.{rules, arith, sym, ap, ◌∙◌, subst, ◌≡◌, ℕ, ◌+◌, ◌<◌, [], ◌∷◌, length, length-append, Some}
 use Rattle.std.specs.Box.{box_value, with_value}
 use Rattle.atomic_table.specs.Table.{rest}
 use Rattle.host_queue.proofs.Keeps.{takes_at, answers_at}

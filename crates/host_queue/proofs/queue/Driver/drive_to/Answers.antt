@@ -1,4 +1,4 @@
-use Rattle.std.proofs.Common.{rules, arith, ◌∙◌, ◌≡◌, ◌<◌, ◌≤◌, ℕ, length}
+use Rattle.std.proofs.Common.{rules, arith, ◌∙◌, ◌<◌}
 use Rattle.host_queue.proofs.Basics.{begins_trans}
 use Rattle.host_queue.proofs.queue.Driver.drive_to.Goals as goal
 

@@ -1,4 +1,4 @@
-use Rattle.std.proofs.Common.{◌≡◌, ℕ, ◌≤◌, length}
+use Rattle.std.proofs.Common.{◌≡◌, ◌≤◌, length}
 use Rattle.host_queue.specs.History.{Begins}
 use Rattle.host_queue.proofs.queue.Driver.drive_to.Given as goal
 

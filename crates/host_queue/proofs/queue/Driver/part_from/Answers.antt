@@ -1,4 +1,4 @@
-use Rattle.std.proofs.Common.{sym, ap, ◌∙◌, subst, ◌≡◌, ℕ, ◌+◌, length}
+use Rattle.std.proofs.Common.{sym, ap, ◌∙◌, subst, ℕ, ◌+◌, length}
 use Rattle.host_queue.specs.History.{Begins}
 use Rattle.host_queue.proofs.queue.Driver.part_from.Goals as goal
 
