@@ -1,14 +1,14 @@
 -- Lists read by `get_elem?`, functions changed at one number, sums over a list, and runs of the machine.
-use Rattle.std.proofs.Common.{◌≡◌, ◌≢◌, ℕ, zero, suc, ◌+◌, ◌-◌, ◌<◌, ◌≤◌, ◌⊎◌, inl, inr, List, [], ◌∷◌, ◌++◌, length, get_or, set, sym, refl, ap, ◌∙◌, subst, ⊎_elim, arith, length-append}
+use Rattle.std.proofs.Common.{◌≡◌, ◌≢◌, ℕ, zero, suc, ◌+◌, ◌<◌, ◌≤◌, ◌⊎◌, inl, inr, List, [], ◌∷◌, ◌++◌, length, set, sym, refl, ap, ◌∙◌, subst, ⊎_elim, arith, length-append}
 use mathlib.Core.Option.{some, some-ne-none, some-injective}
 use mathlib.Core.Path.{Path}
 use mathlib.Core.Logic.{∥∥₁_map}
 use native.Mathlib.Decide.{ℕ_discrete}
 use lib.ListN.{get_elem?}
 use Rattle.host_queue.specs.declared.view.Entry.{Entry}
-use Rattle.host_queue.specs.History.{Begins, Passes, Runs, RunsTo}
+use Rattle.host_queue.specs.History.{Begins, Runs, RunsTo}
 use Rattle.host_queue.specs.Tickets.{total, entry}
-use Rattle.atomic_table.proofs.Lists.{at_longer, at_last}
+use Rattle.atomic_table.proofs.Lists.{at_longer}
 
 module _ {A : Type 0} where
   abbrev pick : {P : Type 0} → Dec P → A → A → A
@@ -88,6 +88,9 @@ module _ {A : Type 0} where
   total_none f g (x ∷ xs) e h = let a : f x ≡ 0 = omega arith in let b = h 0 x refl a in let c = total_none f g xs (omega arith) (λ j u z. h (suc j) u z) in omega arith
 
   -- one item has all of f, and where f is 0, so is g: it has all of g
+  pub total_last : (xs ys : List A) (w : A) (f : A → ℕ) → xs ≡ ys ++ w ∷ [] → total f xs ≡ total f ys + f w
+  total_last xs ys w f e = ap (total f) e ∙ total_snoc f ys w
+
   pub total_alone : (f g : A → ℕ) (xs : List A) (i : ℕ) (v : A) → get_elem? xs i ≡ some v → total f xs ≡ f v → ((j : ℕ) (u : A) → get_elem? xs j ≡ some u → f u ≡ 0 → g u ≡ 0) → total g xs ≡ g v
   total_alone f g [] i v at e h = absurd (some-ne-none v (sym at))
   total_alone f g (x ∷ xs) zero v at e h = let a : f x ≡ f v = ap f (some-injective x v at) in let b : g x ≡ g v = ap g (some-injective x v at) in

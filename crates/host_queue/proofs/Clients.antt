@@ -1,19 +1,20 @@
 -- What stays of a client's and of the driver's view over a call.
-use Rattle.std.proofs.Common.{◌≡◌, ◌≢◌, ℕ, zero, suc, replicate, get_or, ◌+◌, ◌<◌, ◌≤◌, List, [], ◌∷◌, ◌++◌, length, sym, refl, ap, ◌∙◌, subst, ⊎_elim, arith, le_refl, length-append, Option, Some, None}
-use mathlib.Core.Option.{some, some-ne-none}
+use Rattle.std.proofs.Common.{◌≡◌, ◌≢◌, ℕ, zero, suc, replicate, get_or, ◌+◌, ◌<◌, ◌≤◌, List, [], ◌∷◌, ◌++◌, length, sym, refl, ap, ◌∙◌, subst, ⊎_elim, arith, length-append, Option, Some, None}
+use mathlib.Core.Option.{some, some-ne-none, some-injective}
 use mathlib.Core.Path.{Path}
 use mathlib.Core.Logic.{dite}
-use native.Mathlib.Decide.{ℕ_discrete}
+use native.Mathlib.Decide.{ℕ_discrete, dec_le}
 use lib.ListN.{get_elem?}
+use Rattle.atomic_table.proofs.Lists.{at_last, at_longer}
 use Rattle.host_queue.specs.declared.view.Stage.TheVariants.{Idle, Drawn, Taken}
 use Rattle.host_queue.specs.declared.view.Request.{Request}
-use Rattle.host_queue.specs.declared.view.Request.TheVariants.{Asked, Answered}
+use Rattle.host_queue.specs.declared.view.Request.TheVariants.{Asked}
 use Rattle.host_queue.specs.declared.view.Held.{Held}
 use Rattle.host_queue.specs.declared.view.Entry.{Entry}
 use Rattle.host_queue.specs.declared.view.View.{View}
 use Rattle.host_queue.specs.History.{Begins, Runs, RunsTo}
-use Rattle.host_queue.specs.Tickets.{held, entry, Fits, IsReady, IsClient, IsDriver, IsNote, IsOpen, Saw, told, note_of, host_of, guest_of, first_view}
-use Rattle.host_queue.proofs.Basics.{at_inside, at_end, begins_refl, begins_more, begins_trans, begins_long, begins_both, runs_on, runs_none, runs_more}
+use Rattle.host_queue.specs.Tickets.{held, entry, Fits, IsReady, IsClient, IsDriver, IsNote, IsOpen, StaysOpen, StaysOpenBut, Has, AllBelow, AgreeAt, Serves, told, note_of, host_of, guest_of, first_view}
+use Rattle.host_queue.proofs.Basics.{at_inside, there, at_end, begins_refl, begins_long, begins_both, runs_on, runs_none, runs_more}
 
 module _ {D C R : Type 0} (model : D → C → R → D → Type 0) where
   abbrev V : Type 0
@@ -21,7 +22,7 @@ module _ {D C R : Type 0} (model : D → C → R → D → Type 0) where
 
   pub client_full : (v w : V) → IsClient model v → w ≡ record v { credit = 0 } → IsClient model w
   client_full v w k e = let a = k.ready in subst (IsClient model) (sym e) record {
-    ready = record { idle = a.idle; part = a.part; share = a.share; count = a.count; driving = a.driving; below = a.below };
+    ready = record { idle = a.idle; part = a.part; share = a.share; count = a.count; driving = a.driving; below = a.below; collected = a.collected };
     fits = record { goes_on = k.fits.goes_on; runs = k.fits.runs; own = k.fits.own };
   }
 
@@ -42,6 +43,7 @@ module _ {D C R : Type 0} (model : D → C → R → D → Type 0) where
       driving = a.driving;
       below = λ i t at. ⊎_elim (λ (h : get_elem? v.tickets i ≡ some t). let b = a.below i t h in let l = b.0 in ((let g : t.number < n + 1 = omega arith in g), b.1))
           (λ (h : (i ≡ length v.tickets) × Path (Held C) (held n c) t). subst (λ (z : Held C). (z.number < n + 1) × (z.number < 4096)) h.1 (omega arith, high)) (at_end v.tickets (held n c) t i at);
+      collected = λ m has. let l = a.collected m has in (let g : m < n + 1 = omega arith in g);
     };
     fits = record {
       goes_on = k.fits.goes_on;
@@ -52,15 +54,20 @@ module _ {D C R : Type 0} (model : D → C → R → D → Type 0) where
   }
 
   -- a view that knows more, where the rest is as it was but for what was collected
-  pub client_knows : (v w : V) (cs : List ℕ) (f : ℕ) → IsReady v → Fits model v w.known → v.floor ≤ f → w ≡ record v { collected = cs; known = w.known; floor = f } → IsClient model w
-  client_knows v w cs f a fits more e = subst (IsClient model) (sym e) record {
-    ready = record { idle = a.idle; part = a.part; share = a.share; count = a.count; driving = a.driving; below = λ i t at. let b = a.below i t at in let l = b.0 in ((let g : t.number < f = omega arith in g), b.1) };
+  pub client_knows : (v w : V) (cs : List ℕ) (f : ℕ) → IsReady v → Fits model v w.known → v.floor ≤ f → ((n : ℕ) → Has cs n → n < v.floor) → w ≡ record v { collected = cs; known = w.known; floor = f } → IsClient model w
+  client_knows v w cs f a fits more had e = subst (IsClient model) (sym e) record {
+    ready = record { idle = a.idle; part = a.part; share = a.share; count = a.count; driving = a.driving; below = λ i t at. let b = a.below i t at in let l = b.0 in ((let g : t.number < f = omega arith in g), b.1); collected = λ n has. let l = had n has in (let g : n < f = omega arith in g) };
     fits = record { goes_on = begins_refl w.known; runs = fits.runs; own = fits.own };
   }
 
   -- what a note tells leaves a client ready
   pub ready_told : (v o w : V) → IsReady v → IsNote o → w ≡ told v o → IsReady w
-  ready_told v o w a n e = let s = a.share in let z = n.share in subst IsReady (sym e) record { idle = a.idle; part = a.part; share = (let g : v.share + o.share ≡ 1 = omega arith in g); count = (let t = a.count in let u = n.count in let g : v.count + o.count ≡ length v.tickets = omega arith in g); driving = a.driving; below = a.below }
+  ready_told v o w a n e = let s = a.share in let z = n.share in subst IsReady (sym e) record { idle = a.idle; part = a.part; share = (let g : v.share + o.share ≡ 1 = omega arith in g); count = (let t = a.count in let u = n.count in let g : v.count + o.count ≡ length v.tickets = omega arith in g); driving = a.driving; below = a.below; collected = a.collected }
+
+  -- what was collected stays below the floor, also with one of the client's tickets
+  pub had_more : (v : V) (n i : ℕ) (t : Held C) → IsReady v → get_elem? v.tickets i ≡ some t → t.number ≡ n → (m : ℕ) → Has (n ∷ v.collected) m → m < v.floor
+  had_more v n i t a at is m (zero, e) = let b = (a.below i t at).0 in let same : n ≡ m = some-injective n m e in omega arith
+  had_more v n i t a at is m (suc j, e) = a.collected m (j, e)
 
   pub gathered_is : (v w z : V) (cs : List ℕ) → w ≡ record v { collected = cs; known = w.known } → z ≡ w → z ≡ record v { collected = cs; known = z.known }
   gathered_is v w z cs e now = subst (λ (y : V). y ≡ record v { collected = cs; known = y.known }) (sym now) e
@@ -91,12 +98,21 @@ module _ {D C R : Type 0} (model : D → C → R → D → Type 0) where
         runs = λ d st. subst (λ (l : List (Entry C R)). RunsTo model d l machine) (sym n) (k.runs d st);
       }
 
+  -- a look leaves the driver what it is
+  pub driver_looks : (v w : V) (machine : D) (known : List (Entry C R)) (f : ℕ) → IsDriver model v machine → known ≡ v.known → w ≡ record v { known = known; floor = f } → IsDriver model w machine
+  driver_looks v w machine known f k same is = subst (λ (y : V). IsDriver model y machine) (sym is) record {
+    idle = k.idle;
+    driving = k.driving;
+    left = k.left;
+    runs = λ d st. subst (λ (l : List (Entry C R)). RunsTo model d l machine) (sym same) (k.runs d st);
+  }
+
   pub driver_host : (v w : V) (machine : D) → IsDriver model v machine → w ≡ host_of v → IsDriver model w machine
   driver_host v w machine k e = subst (λ (z : V). IsDriver model z machine) (sym e) record { idle = k.idle; driving = k.driving; left = k.left; runs = k.runs }
 
   pub client_guest : (v w : V) → w ≡ guest_of v → IsClient model w
   client_guest v w e = subst (IsClient model) (sym e) record {
-    ready = record { idle = refl; part = refl; share = refl; count = refl; driving = refl; below = λ i t at. absurd (some-ne-none t (sym at)) };
+    ready = record { idle = refl; part = refl; share = refl; count = refl; driving = refl; below = λ i t at. absurd (some-ne-none t (sym at)); collected = λ n has. absurd (some-ne-none n (sym has.1)) };
     fits = record { goes_on = begins_refl []; runs = λ d st. runs_on model d d [] (runs_none model d); own = λ i t at. absurd (some-ne-none t (sym at)) };
   }
 
@@ -124,10 +140,39 @@ pub some_same : {A : Type 0} (a b : A) → Path (Option A) (Some a) (Some b) →
 some_same a b e = cc
 
 module _ {D C R : Type 0} where
+  -- tickets stay open where none is added to what was collected
+  pub stay_open : (v w : View D C R) → w.tickets ≡ v.tickets → w.collected ≡ v.collected → StaysOpen v w
+  stay_open v w tickets collected n o = (o.0, o.1, ap (λ l. get_elem? l o.0) tickets ∙ o.2, o.3, λ has. o.4 (subst (λ (l : List ℕ). Has l n) collected has))
+
+  pub stay_open_but : (v w : View D C R) (n : ℕ) → w.tickets ≡ v.tickets → w.collected ≡ n ∷ v.collected → StaysOpenBut n v w
+  stay_open_but v w n tickets collected m other o = (o.0, o.1, ap (λ l. get_elem? l o.0) tickets ∙ o.2, o.3, λ has. not_in (subst (λ (l : List ℕ). Has l m) collected has))
+    where
+      not_in : Has (n ∷ v.collected) m → ⊥
+      not_in (zero, e) = other (sym (some-injective n m e))
+      not_in (suc j, e) = o.4 (j, e)
+
+  -- a ticket that was placed is open
+  pub opened : (v w : View D C R) (n : ℕ) (c : C) → IsReady v → v.floor ≤ n → w.tickets ≡ v.tickets ++ held n c ∷ [] → w.collected ≡ v.collected → IsOpen w n
+  opened v w n c a low tickets collected = (length v.tickets, held n c, ap (λ l. get_elem? l (length v.tickets)) tickets ∙ at_last v.tickets (held n c) (length v.tickets) refl, refl, λ has. absurd (let l = a.collected n (subst (λ (l : List ℕ). Has l n) collected has) in omega arith))
+
+  pub stay_open_more : (v w : View D C R) (n : ℕ) (c : C) → w.tickets ≡ v.tickets ++ held n c ∷ [] → w.collected ≡ v.collected → StaysOpen v w
+  stay_open_more v w n c tickets collected m o = (o.0, o.1, ap (λ l. get_elem? l o.0) tickets ∙ at_longer v.tickets (held n c ∷ []) o.0 o.1 o.2, o.3, λ has. o.4 (subst (λ (l : List ℕ). Has l m) collected has))
+
+  -- a client's tickets are below its floor
+  pub all_below : (v : View D C R) (n : ℕ) → IsReady v → v.floor ≤ n → AllBelow v.tickets n
+  all_below v n a low i t at = let b = (a.below i t at).0 in omega arith
+
   pub note_is : (v o : View D C R) → o ≡ note_of v → IsNote o
   note_is v o e = subst IsNote (sym e) record { idle = refl; share = refl; count = refl }
 
 module _ {C R : Type 0} where
+  -- a list that is long enough has each of the tickets
+  pub serves : (tickets : List (Held C)) (n : ℕ) (known : List (Entry C R)) → AllBelow tickets n → n ≤ length known → AgreeAt tickets known → Serves tickets known
+  serves tickets n known below long agree i t at = let b = below i t at in let x = there known t.number (omega arith) in (x.0, x.1, agree i t at x.0 x.1)
+
+  pub serves_more : (tickets : List (Held C)) (known more : List (Entry C R)) → Begins known more → Serves tickets known → Serves tickets more
+  serves_more tickets known more begins served i t at = let x = served i t at in (x.0, begins t.number x.0 x.1, x.2)
+
   -- a ticket below the count that a note told is answered
   pub told_hit : (heard answered known : List (Entry C R)) (n count e : ℕ) → heard ≡ answered → count ≡ length answered → n < count → Begins heard known → (e ≢ 3 → length known ≤ n) → e ≡ 3
   told_hit heard answered known n count e same counted l b miss = dite (ℕ_discrete e 3) (λ h. h) (λ h. let m = miss h in let long = begins_long heard known b in
@@ -138,6 +183,12 @@ module _ {C R : Type 0} where
 
   pub one_history : (xs ys zs : List (Entry C R)) → Begins xs zs → Begins ys zs → (length xs ≤ length ys → Begins xs ys) × (length ys ≤ length xs → Begins ys xs)
   one_history xs ys zs a b = (begins_both xs ys zs a b, begins_both ys xs zs b a)
+
+-- where all clients have left, the list has as many entries as they have tickets
+pub all_drawn : (draws tickets slots count old new : ℕ) → slots ≡ 4096 → (draws ≤ 4096 → tickets ≡ draws) → (4096 ≤ draws → tickets ≡ 4096) → (draws ≤ slots → count ≡ draws) → (slots ≤ draws → count ≡ slots) → old ≤ draws → old ≤ 4096 → tickets ≤ new → (old ≤ tickets → new ≤ tickets) → new ≡ count
+all_drawn draws tickets slots count old new is few many low high short four reached more = dite (dec_le draws 4096)
+    (λ h. let a = few h in let b = low (omega arith) in let m = more (omega arith) in omega arith)
+    (λ h. let a = many (omega arith) in let b = high (omega arith) in let m = more (omega arith) in omega arith)
 
 pub zeros : (n i : ℕ) → ◌≡◌ {A = ℕ} (get_or (replicate n 0) i 0) 0
 zeros zero i = refl

@@ -1,23 +1,18 @@
 -- How the queue starts, how seats come, tell and leave, and what a look shows.
-use Rattle.std.proofs.Common.{◌≡◌, ◌≢◌, ℕ, zero, suc, ◌+◌, ◌-◌, ◌<◌, ◌≤◌, ◌⊎◌, inl, inr, List, [], ◌∷◌, ◌++◌, length, map, replicate, get_or, set, sym, refl, ap, ◌∙◌, subst, ⊎_elim, arith, length-append, length-set, Option, Some, None}
+use Rattle.std.proofs.Common.{◌≡◌, ℕ, zero, suc, ◌+◌, ◌<◌, ◌≤◌, List, [], ◌∷◌, ◌++◌, length, map, replicate, get_or, set, sym, refl, ap, ◌∙◌, subst, ⊎_elim, arith, Option, Some, None}
 use mathlib.Core.Logic.{dite}
 use mathlib.Core.Option.{none, some, some-ne-none, some-injective}
-use mathlib.Core.Option as maybe
 use mathlib.Core.Path.{Path}
-use native.Mathlib.Decide.{ℕ_discrete, dec_le}
+use native.Mathlib.Decide.{dec_le}
 use lib.ListN.{get_elem?, length-map, length-replicate}
-use lib.Seq.{set-get_or}
-use Rattle.atomic_table.specs.Table.{State, Me, Step, step, keeps, Allows, Splits, Joins, opening}
-use Rattle.atomic_table.proofs.Lists.{at_set, at_last, set_here, set_else, set_again}
+use Rattle.atomic_table.specs.Table.{State, Me, step, keeps, Allows, Splits, Joins, opening}
+use Rattle.atomic_table.proofs.Lists.{set_else}
 use Rattle.host_queue.specs.declared.view.Request.{Request}
-use Rattle.host_queue.specs.declared.view.Stage.{Stage}
-use Rattle.host_queue.specs.declared.view.Stage.TheVariants.{Idle, Drawn, Taken}
-use Rattle.host_queue.specs.declared.view.Held.{Held}
+use Rattle.host_queue.specs.declared.view.Stage.TheVariants.{Idle}
 use Rattle.host_queue.specs.declared.view.Entry.{Entry}
 use Rattle.host_queue.specs.declared.view.View.{View}
-use Rattle.host_queue.specs.History.{Begins, Passes, Runs, RunsTo}
-use Rattle.host_queue.specs.Tickets.{total, Has, word_of, credit, share, count, newcomer, first_view, TicketOk, AtStage, SeatOk, Kept, Fits, Saw, looked, host_of, guest_of, note_of, gone, farewell_of, told, spent}
-use Rattle.host_queue.proofs.Basics.{put, put_here, put_else, at_inside, there, at_end, begins_refl, begins_trans, begins_more, begins_long, begins_both, total_set, total_has, total_snoc, total_alone, runs_none, runs_on}
+use Rattle.host_queue.specs.Tickets.{total, word_of, credit, share, count, first_view, AtStage, SeatOk, Kept, looked, host_of, guest_of, note_of, gone, farewell_of, told, spent}
+use Rattle.host_queue.proofs.Basics.{put, put_here, put_else, at_inside, at_end, begins_refl, total_set, total_snoc, total_alone, runs_none, runs_on}
 use Rattle.host_queue.proofs.Keeps.{seat_stays, seats_move, unmoved, fits_now}
 
 blank : {A : Type 0} (n i : ℕ) → i < n → get_elem? (map some (replicate {A = Option A} n None)) i ≡ some (some None)

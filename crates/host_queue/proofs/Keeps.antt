@@ -1,5 +1,5 @@
 -- What stays of the rule over a step.
-use Rattle.std.proofs.Common.{◌≡◌, ◌≢◌, ℕ, suc, eqb, ◌+◌, ◌%◌, ◌^◌, ◌<◌, ◌≤◌, ◌⊎◌, inl, inr, List, [], ◌∷◌, ◌++◌, length, get_or, set, sym, refl, ap, ◌∙◌, subst, ⊎_elim, arith, length-append, length-set, get_or-set_other, get_or-set_same, Option, Some, None}
+use Rattle.std.proofs.Common.{◌≡◌, ◌≢◌, ℕ, suc, eqb, ◌+◌, ◌%◌, ◌^◌, ◌<◌, ◌≤◌, List, [], ◌∷◌, ◌++◌, length, get_or, set, sym, refl, ap, ◌∙◌, subst, ⊎_elim, arith, length-append, length-set, get_or-set_other, get_or-set_same, Option, Some, None}
 use mathlib.Core.Logic.{dite}
 use mathlib.Core.Option.{none, some, some-ne-none, some-injective}
 use mathlib.Core.Option as maybe
@@ -8,7 +8,7 @@ use native.Mathlib.Decide.{ℕ_discrete, dec_le}
 use lib.ListN.{get_elem?}
 use lib.Seq.{set-get_or}
 use prog.Atomic.{either}
-use Rattle.atomic_table.specs.Table.{State, Me, Step, step, Act, keeps, takes, gives, stepped, homes_after, carried_after, Valid, Allows, rest}
+use Rattle.atomic_table.specs.Table.{State, Me, step, Act, keeps, takes, gives, stepped, carried_after, Valid, Allows, rest}
 use Rattle.atomic_table.proofs.Lists.{at_set, at_last, set_here, set_else, exchanged}
 use Rattle.host_queue.specs.declared.view.Request.{Request}
 use Rattle.host_queue.specs.declared.view.Request.TheVariants.{Asked, Answered}
@@ -17,9 +17,9 @@ use Rattle.host_queue.specs.declared.view.Stage.TheVariants.{Idle, Drawn, Taken}
 use Rattle.host_queue.specs.declared.view.Held.{Held}
 use Rattle.host_queue.specs.declared.view.Entry.{Entry}
 use Rattle.host_queue.specs.declared.view.View.{View}
-use Rattle.host_queue.specs.History.{Begins, Passes, Runs, RunsTo}
-use Rattle.host_queue.specs.Tickets.{total, Has, word_of, entry, held, credit, share, count, newcomer, first_view, TicketOk, AtStage, SeatOk, Kept, drew, placed, took, answered, Fits, gathered}
-use Rattle.host_queue.proofs.Basics.{put, put_here, put_else, at_inside, there, at_end, begins_refl, begins_trans, begins_more, begins_long, total_set, total_has, total_snoc, runs_begins}
+use Rattle.host_queue.specs.History.{Begins, Runs}
+use Rattle.host_queue.specs.Tickets.{total, Has, word_of, entry, held, credit, share, count, TicketOk, AtStage, SeatOk, Kept, drew, placed, took, answered, Fits, gathered}
+use Rattle.host_queue.proofs.Basics.{put, put_here, put_else, at_inside, at_end, begins_refl, begins_trans, begins_more, begins_long, total_set}
 
 module _ {D C R B : Type 0} (model : D → C → R → D → Type 0) (content : B → Request C R) (start : D) where
   abbrev V : Type 0

@@ -178,6 +178,14 @@ module _ {D C R : Type 0} where
   abbrev pub IsOpen : View D C R → ℕ → Type 0
   IsOpen v n = (i : ℕ) × (t : Held C) × (get_elem? v.tickets i ≡ some t) × (t.number ≡ n) × (Has v.collected n → ⊥)
 
+  -- no ticket was collected
+  abbrev pub StaysOpen : View D C R → View D C R → Type 0
+  StaysOpen v w = (n : ℕ) → IsOpen v n → IsOpen w n
+
+  -- no other ticket than n was collected
+  abbrev pub StaysOpenBut : ℕ → View D C R → View D C R → Type 0
+  StaysOpenBut n v w = (m : ℕ) → m ≢ n → IsOpen v m → IsOpen w m
+
   -- a client's seat that may draw
   pub record IsReady (v : View D C R) : Type 0 where
     pub idle : v.stage ≡ Idle
@@ -186,6 +194,7 @@ module _ {D C R : Type 0} where
     pub count : v.count ≡ length v.tickets
     pub driving : v.driving ≡ 0
     pub below : (i : ℕ) (t : Held C) → get_elem? v.tickets i ≡ some t → (t.number < v.floor) × (t.number < 4096)
+    pub collected : (n : ℕ) → Has v.collected n → n < v.floor
 
   -- a client's seat between two calls
   pub record IsClient (step : D → C → R → D → Type 0) (v : View D C R) : Type 0 where
@@ -209,7 +218,16 @@ module _ {D C R : Type 0} where
   abbrev pub IsApart : View D C R → View D C R → Type 0
   IsApart v w = (i j : ℕ) (t u : Held C) → get_elem? v.tickets i ≡ some t → get_elem? w.tickets j ≡ some u → t.number ≢ u.number
 
+module _ {C : Type 0} where
+  -- the tickets are below the number
+  abbrev pub AllBelow : List (Held C) → ℕ → Type 0
+  AllBelow tickets n = (i : ℕ) (t : Held C) → get_elem? tickets i ≡ some t → t.number < n
+
 module _ {C R : Type 0} where
   -- the list has these commands at these tickets, as far as it goes
   abbrev pub AgreeAt : List (Held C) → List (Entry C R) → Type 0
   AgreeAt tickets known = (i : ℕ) (t : Held C) → get_elem? tickets i ≡ some t → (x : Entry C R) → get_elem? known t.number ≡ some x → x.command ≡ t.command
+
+  -- the list has each of these tickets, with its command
+  abbrev pub Serves : List (Held C) → List (Entry C R) → Type 0
+  Serves tickets log = (i : ℕ) (t : Held C) → get_elem? tickets i ≡ some t → (x : Entry C R) × (get_elem? log t.number ≡ some x) × (x.command ≡ t.command)

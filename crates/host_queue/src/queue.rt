@@ -6,7 +6,7 @@ ghost use lib.ListN.{get_elem?};
 ghost use Rattle.host_queue.specs.declared.view.Request.TheVariants.{Asked, Answered as AnsweredBy};
 ghost use Rattle.host_queue.specs.declared.view.Entry.{Entry};
 ghost use Rattle.host_queue.specs.History.{Begins, RunsTo};
-ghost use Rattle.host_queue.specs.Tickets.{total, IsClient, IsDriver, IsNote, IsOpen, IsApart, AgreeAt, Fits, held, host_of, guest_of};
+ghost use Rattle.host_queue.specs.Tickets.{total, IsClient, IsDriver, IsNote, IsOpen, IsApart, AgreeAt, AllBelow, Serves, StaysOpen, StaysOpenBut, Fits, held, host_of, guest_of};
 ghost use Rattle.host_queue.specs.Opened.{Each, IsGuest};
 
 use crate::machine::Machine;
@@ -32,10 +32,10 @@ pub struct Queue<D: Machine<C, R>, C: Drop, R: Drop> {
 pub struct Client<D: Machine<C, R>, C: Drop, R: Drop> {
     pub seat: Place<D, C, R>,
     full: bool,
-    submitted: u64,
+    // One above the last ticket.
+    next: u64,
     ghost client: { IsClient D.step seat.me.0 },
-    ghost counted: { submitted ≡ length seat.me.0.tickets },
-    ghost few: { (submitted ≤ seat.me.0.floor) × (submitted ≤ 4096) },
+    ghost above: { AllBelow seat.me.0.tickets next },
     ghost room: { full ≡ false → 0 < seat.me.0.credit },
 }
 
@@ -61,6 +61,10 @@ impl<D: Machine<C, R>, C: Drop, R: Drop> Client<D, C, R> {
         requires asked { (c : C) × (box_value request ≡ Asked c) }
         ensures one { self.new.seat.table_id ≡ self.old.seat.table_id }
         ensures ok { IfOk result (λ t. (t.number < 4096) × (self.old.seat.me.0.floor ≤ t.number) × (length self.old.seat.me.0.known ≤ t.number)) }
+        ensures rises { IfOk result (λ t. AllBelow self.old.seat.me.0.tickets t.number) }
+        ensures open { IfOk result (λ t. IsOpen self.new.seat.me.0 t.number) }
+        ensures others { StaysOpen self.old.seat.me.0 self.new.seat.me.0 }
+        ensures floor { self.old.seat.me.0.floor ≤ self.new.seat.me.0.floor }
         ensures ticket { IfOk result (λ t. (c : C) × (box_value request ≡ Asked c) × (self.new.seat.me.0.tickets ≡ self.old.seat.me.0.tickets ++ held t.number c ∷ [])) }
         ensures err { IfErr result (λ f. (f.request ≡ request) × (self.new.seat.me.0.tickets ≡ self.old.seat.me.0.tickets)) }
         ensures same { (self.new.seat.me.0.known ≡ self.old.seat.me.0.known) × (self.new.seat.me.0.collected ≡ self.old.seat.me.0.collected) × (self.new.seat.me.0.start ≡ self.old.seat.me.0.start) × (self.new.seat.me.0.name ≡ self.old.seat.me.0.name) }
@@ -80,7 +84,7 @@ impl<D: Machine<C, R>, C: Drop, R: Drop> Client<D, C, R> {
             Some(_) => unreachable!(),
         }
         shared.compare_exchange::<Put>(&mut self.seat, number + 1, 0, 1);
-        self.submitted += 1;
+        self.next = drawn + 1;
         Ok(Ticket { number: drawn })
     }
 }
@@ -97,7 +101,8 @@ impl<D: Machine<C, R>, C: Drop, R: Drop> Client<D, C, R> {
         ensures one { self.new.seat.table_id ≡ self.old.seat.table_id }
         ensures known { Fits D.step self.old.seat.me.0 self.new.seat.me.0.known }
         ensures ok { IfOk result (λ b. (x : Entry C R) × (get_elem? self.new.seat.me.0.known ticket.number ≡ some x) × (box_value b ≡ AnsweredBy x.reply) × (self.new.seat.me.0.collected ≡ ticket.number ∷ self.old.seat.me.0.collected)) }
-        ensures err { IfErr result (λ t. (t ≡ ticket) × (length self.new.seat.me.0.known ≤ ticket.number) × (self.new.seat.me.0.collected ≡ self.old.seat.me.0.collected)) }
+        ensures err { IfErr result (λ t. (t ≡ ticket) × (length self.new.seat.me.0.known ≤ ticket.number) × (self.new.seat.me.0.collected ≡ self.old.seat.me.0.collected) × StaysOpen self.old.seat.me.0 self.new.seat.me.0) }
+        ensures others { StaysOpenBut ticket.number self.old.seat.me.0 self.new.seat.me.0 }
         ensures same { (self.new.seat.me.0.tickets ≡ self.old.seat.me.0.tickets) × (self.new.seat.me.0.floor ≡ self.old.seat.me.0.floor) × (self.new.seat.me.0.start ≡ self.old.seat.me.0.start) × (self.new.seat.me.0.name ≡ self.old.seat.me.0.name) }
     {
         let shared = &queue.table.shared;
@@ -127,6 +132,7 @@ pub struct Driver<D: Machine<C, R>, C: Drop, R: Drop> {
     count: u64,
     ghost driver: { IsDriver D.step seat.me.0 machine },
     ghost counted: { count ≡ length seat.me.0.known },
+    ghost short: { count ≤ 4096 },
 }
 
 impl<D: Machine<C, R>, C: Drop, R: Drop> Client<D, C, R> {
@@ -145,6 +151,7 @@ impl<D: Machine<C, R>, C: Drop, R: Drop> Client<D, C, R> {
         ensures known { Fits D.step self.old.seat.me.0 self.new.seat.me.0.known × Begins answered.old.seat.me.0.known self.new.seat.me.0.known }
         ensures ok { (x : Entry C R) × (get_elem? self.new.seat.me.0.known ticket.number ≡ some x) × (box_value result ≡ AnsweredBy x.reply) }
         ensures collected { self.new.seat.me.0.collected ≡ ticket.number ∷ self.old.seat.me.0.collected }
+        ensures others { StaysOpenBut ticket.number self.old.seat.me.0 self.new.seat.me.0 }
         ensures same { (self.new.seat.me.0.tickets ≡ self.old.seat.me.0.tickets) × (self.new.seat.me.0.floor ≡ self.old.seat.me.0.floor) × (self.new.seat.me.0.start ≡ self.old.seat.me.0.start) × (self.new.seat.me.0.name ≡ self.old.seat.me.0.name) }
     {
         let shared = &queue.table.shared;
@@ -173,10 +180,10 @@ impl<D: Machine<C, R>, C: Drop, R: Drop> Driver<D, C, R> {
     pub fn drive_one(&mut self, queue: &Queue<D, C, R>) -> Option<Answered<D, C, R>>
         requires one { self.old.seat.table_id ≡ queue.now.table.shared.table_id }
         ensures one { self.new.seat.table_id ≡ self.old.seat.table_id }
-        ensures some { IfSome result (λ a. (a.seat.table_id ≡ self.old.seat.table_id) × (a.count ≡ self.old.count + 1) × (a.seat.me.0.known ≡ self.new.seat.me.0.known) × ((x : Entry C R) × (self.new.seat.me.0.known ≡ self.old.seat.me.0.known ++ x ∷ []) × D.step self.old.machine x.command x.reply self.new.machine)) }
-        ensures grows { Begins self.old.seat.me.0.known self.new.seat.me.0.known }
+        ensures some { IfSome result (λ a. (a.seat.table_id ≡ self.old.seat.table_id) × (a.count ≡ length self.old.seat.me.0.known + 1) × (a.seat.me.0.known ≡ self.new.seat.me.0.known) × ((x : Entry C R) × (self.new.seat.me.0.known ≡ self.old.seat.me.0.known ++ x ∷ []) × D.step self.old.machine x.command x.reply self.new.machine)) }
+        ensures grows { Begins self.old.seat.me.0.known self.new.seat.me.0.known × (length self.new.seat.me.0.known ≤ length self.old.seat.me.0.known + 1) }
         ensures none { IfNone result ((self.new.machine ≡ self.old.machine) × (self.new.seat.me.0 ≡ self.old.seat.me.0)) }
-        ensures start { self.new.seat.me.0.start ≡ self.old.seat.me.0.start }
+        ensures same { (self.new.seat.me.0.start ≡ self.old.seat.me.0.start) × (self.new.seat.me.0.admitted ≡ self.old.seat.me.0.admitted) × (self.new.seat.me.0.share ≡ self.old.seat.me.0.share) × (self.new.seat.me.0.count ≡ self.old.seat.me.0.count) }
     {
         if self.count >= TICKETS as u64 {
             return None;
@@ -225,6 +232,8 @@ impl<D: Machine<C, R>, C: Drop, R: Drop> Client<D, C, R> {
         ensures mine { Begins self.old.seat.me.0.known self.new.seat.me.0.known × Begins other.old.seat.me.0.known self.new.seat.me.0.known }
         ensures theirs { Begins self.old.seat.me.0.known other.new.seat.me.0.known × Begins other.old.seat.me.0.known other.new.seat.me.0.known }
         ensures floors { (self.old.seat.me.0.floor ≤ self.new.seat.me.0.floor) × (other.old.seat.me.0.floor ≤ self.new.seat.me.0.floor) × (self.old.seat.me.0.floor ≤ other.new.seat.me.0.floor) × (other.old.seat.me.0.floor ≤ other.new.seat.me.0.floor) }
+        ensures above { AllBelow other.old.seat.me.0.tickets self.new.seat.me.0.floor × AllBelow self.old.seat.me.0.tickets other.new.seat.me.0.floor }
+        ensures open { StaysOpen self.old.seat.me.0 self.new.seat.me.0 × StaysOpen other.old.seat.me.0 other.new.seat.me.0 }
         ensures apart { IsApart other.old.seat.me.0 self.old.seat.me.0 }
         ensures same { (self.new.seat.me.0.tickets ≡ self.old.seat.me.0.tickets) × (self.new.seat.me.0.collected ≡ self.old.seat.me.0.collected) × (self.new.seat.me.0.start ≡ self.old.seat.me.0.start) × (self.new.seat.me.0.name ≡ self.old.seat.me.0.name) }
         ensures others { (other.new.seat.me.0.tickets ≡ other.old.seat.me.0.tickets) × (other.new.seat.me.0.collected ≡ other.old.seat.me.0.collected) × (other.new.seat.me.0.start ≡ other.old.seat.me.0.start) × (other.new.seat.me.0.name ≡ other.old.seat.me.0.name) }
@@ -246,7 +255,7 @@ impl<D: Machine<C, R>, C: Drop, R: Drop> Driver<D, C, R> {
         Client {
             seat,
             full: false,
-            submitted: 0,
+            next: 0,
         }
     }
 
@@ -259,7 +268,7 @@ impl<D: Machine<C, R>, C: Drop, R: Drop> Driver<D, C, R> {
     ) -> Result<Vec<Client<D, C, R>>, AllocError>
         requires one { self.old.seat.table_id ≡ queue.now.table.shared.table_id }
         requires fresh { (clients ≤ 16) × (self.old.seat.me.0.credit ≡ 16) × (self.old.seat.me.0.admitted ≡ 0) }
-        ensures driver { (self.new.seat.table_id ≡ self.old.seat.table_id) × (self.new.machine ≡ self.old.machine) × (self.new.seat.me.0.start ≡ self.old.seat.me.0.start) × (self.new.seat.me.0.known ≡ self.old.seat.me.0.known) }
+        ensures driver { (self.new.seat.table_id ≡ self.old.seat.table_id) × (self.new.machine ≡ self.old.machine) × (self.new.seat.me.0.start ≡ self.old.seat.me.0.start) × (self.new.seat.me.0.known ≡ self.old.seat.me.0.known) × (self.new.seat.me.0.share ≡ self.old.seat.me.0.share) }
         ensures admitted { OnOk result (self.new.seat.me.0.admitted ≡ clients) }
         ensures clients { IfOk result (λ v. (vec_len v ≡ clients) × Each v.items (λ k c. (c.seat.table_id ≡ queue.now.table.shared.table_id) × IsGuest self.old.seat.me.0.start k c.seat.me.0)) }
     {
@@ -278,7 +287,7 @@ pub fn open<D: Machine<C, R>, C: Drop, R: Drop>(
     clients: usize,
 ) -> Result<(Queue<D, C, R>, Vec<Client<D, C, R>>, Driver<D, C, R>), AllocError>
     requires clients { clients ≤ 16 }
-    ensures driver { IfOk result (λ r. (r.2.seat.table_id ≡ r.0.table.shared.table_id) × (r.2.machine ≡ machine) × (r.2.seat.me.0.start ≡ machine ∷ []) × (r.2.seat.me.0.known ≡ []) × (r.2.seat.me.0.admitted ≡ clients)) }
+    ensures driver { IfOk result (λ r. (r.2.seat.table_id ≡ r.0.table.shared.table_id) × (r.2.machine ≡ machine) × (r.2.seat.me.0.start ≡ machine ∷ []) × (r.2.seat.me.0.known ≡ []) × (r.2.seat.me.0.admitted ≡ clients) × (r.2.seat.me.0.share ≡ 0)) }
     ensures clients { IfOk result (λ r. (vec_len r.1 ≡ clients) × Each r.1.items (λ k c. (c.seat.table_id ≡ r.0.table.shared.table_id) × IsGuest (machine ∷ []) k c.seat.me.0)) }
 {
     let words = Vec::from_elem(alloc, 0u64, TICKETS + 1)?;
@@ -299,15 +308,54 @@ pub fn open<D: Machine<C, R>, C: Drop, R: Drop>(
     Ok((queue, list, driver))
 }
 
+// How many tickets so many draws gave.
+fn tickets_of(draws: u64) -> u64
+    ensures all { draws ≤ 4096 → result ≡ draws }
+    ensures most { 4096 ≤ draws → result ≡ 4096 }
+{
+    let most = TICKETS as u64;
+    if draws < most { draws } else { most }
+}
+
 impl<D: Machine<C, R>, C: Drop, R: Drop> Driver<D, C, R> {
-    // A client leaves: it draws no more, and its list, its commands and the count of its tickets are known.
-    fn part_from(&mut self, queue: &Queue<D, C, R>, client: Client<D, C, R>) -> u64
-        requires one { (self.old.seat.table_id ≡ queue.now.table.shared.table_id) × (client.seat.table_id ≡ queue.now.table.shared.table_id) }
+    // Answers until at least so many tickets are answered.
+    fn drive_to<W: Wait>(&mut self, rt: &W, queue: &Queue<D, C, R>, count: u64)
+        requires one { self.old.seat.table_id ≡ queue.now.table.shared.table_id }
         ensures one { self.new.seat.table_id ≡ self.old.seat.table_id }
-        ensures client { Begins client.seat.me.0.known self.new.seat.me.0.known × AgreeAt client.seat.me.0.tickets self.new.seat.me.0.known }
+        ensures reached { count ≤ length self.new.seat.me.0.known }
+        ensures no_more { length self.old.seat.me.0.known ≤ count → length self.new.seat.me.0.known ≤ count }
+        ensures known { Begins self.old.seat.me.0.known self.new.seat.me.0.known }
+        ensures same { (self.new.seat.me.0.start ≡ self.old.seat.me.0.start) × (self.new.seat.me.0.admitted ≡ self.old.seat.me.0.admitted) × (self.new.seat.me.0.share ≡ self.old.seat.me.0.share) × (self.new.seat.me.0.count ≡ self.old.seat.me.0.count) }
+    {
+        for _ in rt.forever() {
+            if self.count >= count {
+                return;
+            }
+            drop(self.drive_one(queue));
+        }
+        unreachable!()
+    }
+
+    // Answers all that was drawn.
+    fn drive_rest<W: Wait>(&mut self, rt: &W, queue: &Queue<D, C, R>)
+        requires one { self.old.seat.table_id ≡ queue.now.table.shared.table_id }
+        ensures known { Begins self.old.seat.me.0.known self.new.seat.me.0.known }
+        ensures same { self.new.seat.me.0.start ≡ self.old.seat.me.0.start }
+        ensures all { self.old.seat.me.0.share ≡ self.old.seat.me.0.admitted → length self.new.seat.me.0.known ≡ self.old.seat.me.0.count }
+    {
+        let drawn = queue.table.shared.load::<Look<D>>(&mut self.seat, 0);
+        let count = tickets_of(drawn);
+        self.drive_to(rt, queue, count);
+    }
+
+    // A client leaves: its tickets are answered, and its list and its commands are in the driver's list. Answers the count of draws.
+    fn dismiss(&mut self, queue: &Queue<D, C, R>, client: Client<D, C, R>) -> u64
+        requires one { (self.old.seat.table_id ≡ queue.now.table.shared.table_id) × (client.seat.table_id ≡ queue.now.table.shared.table_id) }
+        requires answered { client.next ≤ length self.old.seat.me.0.known }
+        ensures one { self.new.seat.table_id ≡ self.old.seat.table_id }
+        ensures client { Begins client.seat.me.0.known self.new.seat.me.0.known × Serves client.seat.me.0.tickets self.new.seat.me.0.known }
         ensures counts { (self.new.seat.me.0.share ≡ self.old.seat.me.0.share + 1) × (self.new.seat.me.0.count ≡ self.old.seat.me.0.count + length client.seat.me.0.tickets) }
-        ensures drawn { self.new.seat.me.0.share ≡ self.new.seat.me.0.admitted → (result ≤ 4096 → self.new.seat.me.0.count ≡ result) × (4096 ≤ result → self.new.seat.me.0.count ≡ 4096) }
-        ensures same { (self.new.machine ≡ self.old.machine) × (self.new.seat.me.0.known ≡ self.old.seat.me.0.known) × (self.new.seat.me.0.start ≡ self.old.seat.me.0.start) × (self.new.seat.me.0.admitted ≡ self.old.seat.me.0.admitted) }
+        ensures same { (self.new.seat.me.0.known ≡ self.old.seat.me.0.known) × (self.new.seat.me.0.start ≡ self.old.seat.me.0.start) × (self.new.seat.me.0.admitted ≡ self.old.seat.me.0.admitted) }
     {
         let shared = &queue.table.shared;
         let mut client = client;
@@ -316,40 +364,41 @@ impl<D: Machine<C, R>, C: Drop, R: Drop> Driver<D, C, R> {
         let Client {
             seat: _,
             full: _,
-            submitted: _,
+            next: _,
         } = client;
         shared.load::<Look<D>>(&mut self.seat, 0)
     }
-}
 
-// How many tickets the clients have drawn.
-fn submitted<D: Machine<C, R>, C: Drop, R: Drop>(clients: &[Client<D, C, R>]) -> u64
-    requires { length clients.now ≤ 16 }
-    ensures { result ≡ total (λ c. length c.seat.me.0.tickets) clients.now }
-{
-    let mut sum = 0;
-    for client in clients {
-        sum += client.submitted;
-    }
-    sum
-}
-
-impl<D: Machine<C, R>, C: Drop, R: Drop> Driver<D, C, R> {
-    // Answers until so many tickets are answered.
-    fn drive_to<W: Wait>(&mut self, rt: &W, queue: &Queue<D, C, R>, sum: u64)
-        requires one { self.old.seat.table_id ≡ queue.now.table.shared.table_id }
+    // Answers a client's tickets, and lets it leave.
+    fn part_from<W: Wait>(&mut self, rt: &W, queue: &Queue<D, C, R>, client: Client<D, C, R>)
+        requires one { (self.old.seat.table_id ≡ queue.now.table.shared.table_id) × (client.seat.table_id ≡ queue.now.table.shared.table_id) }
         ensures one { self.new.seat.table_id ≡ self.old.seat.table_id }
-        ensures count { self.new.count ≡ sum }
+        ensures client { Begins client.seat.me.0.known self.new.seat.me.0.known × Serves client.seat.me.0.tickets self.new.seat.me.0.known }
+        ensures counts { (self.new.seat.me.0.share ≡ self.old.seat.me.0.share + 1) × (self.new.seat.me.0.count ≡ self.old.seat.me.0.count + length client.seat.me.0.tickets) }
         ensures known { Begins self.old.seat.me.0.known self.new.seat.me.0.known }
-        ensures same { self.new.seat.me.0.start ≡ self.old.seat.me.0.start }
+        ensures same { (self.new.seat.me.0.start ≡ self.old.seat.me.0.start) × (self.new.seat.me.0.admitted ≡ self.old.seat.me.0.admitted) }
     {
-        for _ in rt.forever() {
-            if self.count == sum {
-                return;
-            }
-            drop(self.drive_one(queue));
+        self.drive_to(rt, queue, client.next);
+        self.dismiss(queue, client);
+    }
+
+    // Parts from all clients.
+    fn part_from_all<W: Wait>(
+        &mut self,
+        rt: &W,
+        queue: &Queue<D, C, R>,
+        mut clients: Vec<Client<D, C, R>>,
+    )
+        requires one { (self.old.seat.table_id ≡ queue.now.table.shared.table_id) × Each clients.items (λ k c. c.seat.table_id ≡ queue.now.table.shared.table_id) }
+        ensures one { self.new.seat.table_id ≡ self.old.seat.table_id }
+        ensures clients { Each clients.items (λ k c. Begins c.seat.me.0.known self.new.seat.me.0.known × Serves c.seat.me.0.tickets self.new.seat.me.0.known) }
+        ensures counts { (self.new.seat.me.0.share ≡ self.old.seat.me.0.share + length clients.items) × (self.new.seat.me.0.count ≡ self.old.seat.me.0.count + total (λ c. length c.seat.me.0.tickets) clients.items) }
+        ensures known { Begins self.old.seat.me.0.known self.new.seat.me.0.known }
+        ensures same { (self.new.seat.me.0.start ≡ self.old.seat.me.0.start) × (self.new.seat.me.0.admitted ≡ self.old.seat.me.0.admitted) }
+    {
+        while let Some(client) = clients.pop() {
+            self.part_from(rt, queue, client);
         }
-        unreachable!()
     }
 
     fn into_machine(self) -> D
@@ -362,20 +411,10 @@ impl<D: Machine<C, R>, C: Drop, R: Drop> Driver<D, C, R> {
         } = self;
         machine
     }
-
-    // Parts from all clients.
-    fn part_from_all(&mut self, queue: &Queue<D, C, R>, mut clients: Vec<Client<D, C, R>>)
-        requires one { (self.old.seat.table_id ≡ queue.now.table.shared.table_id) × Each clients.items (λ k c. c.seat.table_id ≡ queue.now.table.shared.table_id) }
-        ensures clients { Each clients.items (λ k c. Begins c.seat.me.0.known self.new.seat.me.0.known × AgreeAt c.seat.me.0.tickets self.new.seat.me.0.known) }
-        ensures same { (self.new.machine ≡ self.old.machine) × (self.new.seat.me.0.known ≡ self.old.seat.me.0.known) × (self.new.seat.me.0.start ≡ self.old.seat.me.0.start) }
-    {
-        while let Some(client) = clients.pop() {
-            self.part_from(queue, client);
-        }
-    }
 }
 
-/// The machine after all that was submitted. All clients are handed in, and replies that were not collected are dropped.
+/// Answers all that remains, and hands the machine back. Replies that were not collected are dropped.
+/// The list has each ticket of each client that is handed in; it has no more where all clients are.
 pub fn close<D: Machine<C, R>, C: Drop, R: Drop, W: Wait>(
     rt: &W,
     queue: Queue<D, C, R>,
@@ -383,13 +422,11 @@ pub fn close<D: Machine<C, R>, C: Drop, R: Drop, W: Wait>(
     driver: Driver<D, C, R>,
 ) -> D
     requires one { (driver.seat.table_id ≡ queue.table.shared.table_id) × Each clients.items (λ k c. c.seat.table_id ≡ queue.table.shared.table_id) }
-    requires few { length clients.items ≤ 16 }
-    ensures { (log : List (Entry C R)) × ((d : D) → driver.seat.me.0.start ≡ d ∷ [] → RunsTo D.step d log result) × Begins driver.seat.me.0.known log × Each clients.items (λ k c. Begins c.seat.me.0.known log × AgreeAt c.seat.me.0.tickets log) × (length log ≡ total (λ c. length c.seat.me.0.tickets) clients.items) }
+    ensures { (log : List (Entry C R)) × ((d : D) → driver.seat.me.0.start ≡ d ∷ [] → RunsTo D.step d log result) × Begins driver.seat.me.0.known log × Each clients.items (λ k c. Begins c.seat.me.0.known log × Serves c.seat.me.0.tickets log) × (driver.seat.me.0.share ≡ 0 → driver.seat.me.0.admitted ≡ length clients.items → length log ≡ total (λ c. length c.seat.me.0.tickets) clients.items) }
 {
     let mut driver = driver;
-    let sum = submitted(clients.as_slice());
-    driver.drive_to(rt, &queue, sum);
-    driver.part_from_all(&queue, clients);
+    driver.part_from_all(rt, &queue, clients);
+    driver.drive_rest(rt, &queue);
     drop(queue);
     driver.into_machine()
 }

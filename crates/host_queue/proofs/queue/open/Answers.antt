@@ -1,4 +1,4 @@
-use Rattle.std.proofs.Common.{rules, arith, sym, refl, ap, ◌∙◌, subst, ◌≡◌, ℕ, replicate, get_or, length, [], ◌∷◌}
+use Rattle.std.proofs.Common.{rules, arith, sym, ap, ◌∙◌, ◌≡◌, get_or, length, [], ◌∷◌}
 use Rattle.std.specs.Box.{box_value}
 use Rattle.host_queue.proofs.Comings.{starts}
 use Rattle.host_queue.proofs.Clients.{driver_first, zeros}
@@ -11,6 +11,7 @@ pub invariant_of-driver : goal.invariant_of-driver
 invariant_of-driver g c = let e = ap (λ m. m.0) c.in_ok-table.ensures.4 in record {
   driver = driver_first g.D.Machine.step c.in_ok-table.seat.me.0 c.of-about.result.value c.args.machine e (search rules);
   counted = sym (ap (λ z. length z.known) e);
+  short = omega arith;
 }
 
 pub returns-clause-clients : goal.returns-clause-clients

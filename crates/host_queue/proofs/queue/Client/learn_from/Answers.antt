@@ -1,8 +1,8 @@
-use Rattle.std.proofs.Common.{rules, arith, sym, refl, ap, ◌∙◌, subst, ◌≡◌, ℕ, ◌+◌, ◌<◌, ◌≤◌, ◌≢◌, [], ◌∷◌, ◌++◌, length, Some, None, le_refl}
+use Rattle.std.proofs.Common.{rules, arith, sym, ap, ◌∙◌, subst, ◌≡◌}
 use Rattle.std.specs.Box.{box_value}
 use lib.ListN.{get_elem?}
 use Rattle.host_queue.specs.History.{Begins}
-use Rattle.host_queue.specs.Tickets.{Fits}
+use Rattle.host_queue.specs.Tickets.{AllBelow}
 use Rattle.host_queue.proofs.Comings.{tells, learns, looks}
 use Rattle.host_queue.proofs.Clients.{client_knows, ready_told, note_is, fits_told}
 use Rattle.host_queue.proofs.queue.Client.learn_from.Goals as goal
@@ -20,10 +20,11 @@ pub invariant_of-self : goal.invariant_of-self
 invariant_of-self g c = let j = ap (λ m. m.0) c.join_seat.ensures.2 in let o = ap (λ m. m.0) c.split_seat-note.ensures.4 in let look = c.load.ensures.2 in record {
   client = client_knows g.D.Machine.step c.join_seat.new.seat.me.0 c.load.new.seat.me.0 c.join_seat.new.seat.me.0.collected c.load.result
       (ready_told g.D.Machine.step c.args.self.now.seat.me.0 c.split_seat-note.result.me.0 c.join_seat.new.seat.me.0 c.args.self.now.client.ready (note_is c.args.other.now.seat.me.0 c.split_seat-note.result.me.0 o) j)
-      look.2.fits look.2.floors.0 look.0;
+      look.2.fits look.2.floors.0
+      (ready_told g.D.Machine.step c.args.self.now.seat.me.0 c.split_seat-note.result.me.0 c.join_seat.new.seat.me.0 c.args.self.now.client.ready (note_is c.args.other.now.seat.me.0 c.split_seat-note.result.me.0 o) j).collected
+      look.0;
   room = λ h. let room = c.args.self.now.room h in let same : c.load.new.seat.me.0.credit ≡ c.args.self.now.seat.me.0.credit = ap (λ z. z.credit) look.0 ∙ ap (λ z. z.credit) j in omega arith;
-  counted = c.args.self.now.counted ∙ sym (ap length (ap (λ z. z.tickets) look.0 ∙ ap (λ z. z.tickets) j));
-  few = (let a = c.args.self.now.few.0 in let b = c.args.self.now.few.1 in let f : c.load.new.seat.me.0.floor ≡ c.load.result = ap (λ z. z.floor) look.0 in let h : c.join_seat.new.seat.me.0.floor ≡ c.args.self.now.seat.me.0.floor = ap (λ z. z.floor) j in let fl = look.2.floors.0 in (omega arith, b));
+  above = subst (λ l. AllBelow l c.args.self.now.next) (sym (ap (λ z. z.tickets) look.0 ∙ ap (λ z. z.tickets) j)) c.args.self.now.above;
 }
 
 pub returns-clause-known : goal.returns-clause-known

@@ -1,13 +1,13 @@
-use Rattle.std.proofs.Common.{rules, arith, sym, refl, ap, ◌∙◌, subst, ◌≡◌, ℕ, ◌+◌, ◌<◌, ◌≤◌, [], ◌∷◌, ◌++◌, length, Some, None, le_refl}
+use Rattle.std.proofs.Common.{rules, arith, sym, refl, ap, ◌∙◌, subst, ◌≡◌, ◌∷◌, Some, le_refl}
 use Rattle.std.specs.Box.{box_value}
 use Rattle.std.specs.Option.{IsSome}
 use lib.ListN.{get_elem?}
 use Rattle.atomic_table.specs.Table.{rest}
 use Rattle.host_queue.specs.History.{Begins}
-use Rattle.host_queue.specs.Tickets.{Fits, Has, IsReady}
+use Rattle.host_queue.specs.Tickets.{Has, AllBelow}
 use Rattle.host_queue.proofs.Keeps.{collects}
 use Rattle.host_queue.proofs.Comings.{tells, learns}
-use Rattle.host_queue.proofs.Clients.{client_knows, gathered_is, fits_is, same_head, some_same, note_is, told_hit, ready_told, fits_told}
+use Rattle.host_queue.proofs.Clients.{client_knows, had_more, stay_open_but, gathered_is, fits_is, same_head, some_same, note_is, told_hit, ready_told, fits_told}
 use Rattle.host_queue.proofs.queue.Client.poll_known.Goals as goal
 
 pub split_seat-note-requires : goal.split_seat-note-requires
@@ -34,10 +34,12 @@ invariant_of-self g c = let told = c.compare_exchange.ensures.2 c.args.ticket.nu
     let e = gathered_is g.D.Machine.step c.join_seat.new.seat.me.0 c.compare_exchange.new.seat.me.0 c.exchange.new.seat.me.0 (c.args.ticket.number ∷ c.join_seat.new.seat.me.0.collected) hit.2 now in record {
       client = client_knows g.D.Machine.step c.join_seat.new.seat.me.0 c.exchange.new.seat.me.0 (c.args.ticket.number ∷ c.join_seat.new.seat.me.0.collected) c.join_seat.new.seat.me.0.floor
           (ready_told g.D.Machine.step c.args.self.now.seat.me.0 c.split_seat-note.result.me.0 c.join_seat.new.seat.me.0 c.args.self.now.client.ready (note_is c.args.answered.now.seat.me.0 c.split_seat-note.result.me.0 o) j)
-          (fits_is g.D.Machine.step c.join_seat.new.seat.me.0 c.compare_exchange.new.seat.me.0 c.exchange.new.seat.me.0 told.0 now) (le_refl _) e;
+          (fits_is g.D.Machine.step c.join_seat.new.seat.me.0 c.compare_exchange.new.seat.me.0 c.exchange.new.seat.me.0 told.0 now) (le_refl _)
+          (had_more g.D.Machine.step c.join_seat.new.seat.me.0 c.args.ticket.number c.requires.own.0 c.requires.own.1
+          (ready_told g.D.Machine.step c.args.self.now.seat.me.0 c.split_seat-note.result.me.0 c.join_seat.new.seat.me.0 c.args.self.now.client.ready (note_is c.args.answered.now.seat.me.0 c.split_seat-note.result.me.0 o) j)
+          (ap (λ v. get_elem? v.tickets c.requires.own.0) j ∙ c.requires.own.2) c.requires.own.3) e;
       room = λ h. let room = c.args.self.now.room h in let same : c.exchange.new.seat.me.0.credit ≡ c.args.self.now.seat.me.0.credit = ap (λ z. z.credit) e ∙ ap (λ z. z.credit) j in omega arith;
-      counted = c.args.self.now.counted ∙ sym (ap length (ap (λ z. z.tickets) e ∙ ap (λ z. z.tickets) j));
-      few = (let a = c.args.self.now.few.0 in let b = c.args.self.now.few.1 in let f : c.exchange.new.seat.me.0.floor ≡ c.args.self.now.seat.me.0.floor = ap (λ z. z.floor) e ∙ ap (λ z. z.floor) j in (omega arith, b));
+      above = subst (λ l. AllBelow l c.args.self.now.next) (sym (ap (λ z. z.tickets) e ∙ ap (λ z. z.tickets) j)) c.args.self.now.above;
     }
 
 pub unwrap-requires : goal.unwrap-requires
@@ -78,3 +80,11 @@ returns-clause-known g c = let told = c.compare_exchange.ensures.2 c.args.ticket
       (fits_is g.D.Machine.step c.join_seat.new.seat.me.0 c.compare_exchange.new.seat.me.0 c.exchange.new.seat.me.0 told.0 now),
   subst (λ z. Begins z c.exchange.new.seat.me.0.known) (ap (λ z. z.heard_known) j ∙ ap (λ z. z.heard_known) o) (subst (λ z. Begins c.join_seat.new.seat.me.0.heard_known z.known) (sym now) told.1),
 )
+
+pub returns-clause-others : goal.returns-clause-others
+returns-clause-others g c = let told = c.compare_exchange.ensures.2 c.args.ticket.number refl in
+    let hit = told.2 (told_hit c.join_seat.new.seat.me.0.heard_known c.args.answered.now.seat.me.0.known c.compare_exchange.new.seat.me.0.known c.args.ticket.number c.args.answered.now.count c.compare_exchange.result
+    (ap (λ m. m.0.heard_known) c.join_seat.ensures.2 ∙ ap (λ m. m.0.heard_known) c.split_seat-note.ensures.4) c.args.answered.now.counted c.requires.below told.1 (λ ne. (told.3 ne).2)) in
+    let now = ap (λ m. m.0) c.exchange.ensures.3 in let j = ap (λ m. m.0) c.join_seat.ensures.2 in
+    stay_open_but c.args.self.now.seat.me.0 c.exchange.new.seat.me.0 c.args.ticket.number (ap (λ z. z.tickets) now ∙ (ap (λ z. z.tickets) hit.2 ∙ ap (λ z. z.tickets) j))
+    (ap (λ z. z.collected) now ∙ (ap (λ z. z.collected) hit.2 ∙ ap (λ z. c.args.ticket.number ∷ z.collected) j))

@@ -1,6 +1,5 @@
-use Rattle.std.proofs.Common.{rules, arith, sym, refl, ap, ◌∙◌, subst, ◌≡◌, ℕ, ◌+◌, ◌-◌, ◌<◌, length, vec_len, ⊎_elim, [], ◌∷◌, length-append}
+use Rattle.std.proofs.Common.{rules, arith, sym, ap, ◌∙◌, ◌≡◌, ℕ, ◌+◌, ◌-◌, length, ⊎_elim, [], ◌∷◌, length-append}
 use lib.ListN.{get_elem?}
-use Rattle.host_queue.specs.Opened.{IsGuest}
 use Rattle.host_queue.proofs.Basics.{at_end}
 use Rattle.host_queue.proofs.queue.Driver.admit_all.Goals as goal
 
@@ -11,6 +10,7 @@ loop-i-preserved g c = let a = c.admit.ensures in let l = c.loop-i.invariant in 
       machine = a.driver.2 ∙ l.machine;
       start = ap (λ z. z.start) a.driver.1 ∙ l.start;
       known = ap (λ z. z.known) a.driver.1 ∙ l.known;
+      share = ap (λ z. z.share) a.driver.1 ∙ l.share;
       credit = (first_of (omega arith, search rules));
       admitted = omega arith;
       long = p.len ∙ ap (λ (z : ℕ). z + 1) l.long;

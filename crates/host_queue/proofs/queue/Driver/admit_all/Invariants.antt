@@ -1,4 +1,4 @@
-use Rattle.std.proofs.Common.{◌≡◌, ℕ, ◌+◌, [], ◌∷◌, vec_len, length}
+use Rattle.std.proofs.Common.{◌≡◌, ◌+◌, vec_len, length}
 use Rattle.host_queue.specs.Opened.{Each, IsGuest}
 use Rattle.host_queue.proofs.queue.Driver.admit_all.Given as goal
 
@@ -8,6 +8,7 @@ invariant-loop-i g l = record {
   machine : l.self.machine ≡ l.fn.self.machine;
   start : l.self.seat.me.0.start ≡ l.fn.self.seat.me.0.start;
   known : l.self.seat.me.0.known ≡ l.fn.self.seat.me.0.known;
+  share : l.self.seat.me.0.share ≡ l.fn.self.seat.me.0.share;
   credit : l.self.seat.me.0.credit + l.i ≡ 16;
   admitted : l.self.seat.me.0.admitted ≡ l.i;
   long : vec_len l.list ≡ l.i;

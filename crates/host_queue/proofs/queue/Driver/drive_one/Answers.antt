@@ -1,4 +1,4 @@
-use Rattle.std.proofs.Common.{rules, arith, sym, refl, ap, ◌∙◌, subst, ◌≡◌, ℕ, ◌+◌, ◌<◌, ◌≤◌, [], ◌∷◌, ◌++◌, length, length-append, Some, None, le_refl}
+use Rattle.std.proofs.Common.{rules, arith, sym, ap, ◌∙◌, subst, ◌≡◌, ℕ, ◌+◌, ◌<◌, [], ◌∷◌, length, length-append, Some}
 use Rattle.std.specs.Box.{box_value, with_value}
 use Rattle.atomic_table.specs.Table.{rest}
 use Rattle.host_queue.proofs.Keeps.{takes_at, answers_at}
@@ -57,6 +57,7 @@ invariant_of-self-2 g c = let k = c.args.self.now.driver in let hit = c.compare_
     record {
       driver = driver_after g.D.Machine.step c.args.self.now.seat.me.0 c.split_seat-seat.new.seat.me.0 c.args.self.now.machine c.serve.new.machine did.0 did.1 k did.4 f;
       counted = ap (λ (j : ℕ). j + 1) c.args.self.now.counted ∙ (sym (length-append c.args.self.now.seat.me.0.known (entry did.0 did.1 ∷ [])) ∙ sym (ap length (ap (λ z. z.known) f)));
+      short = (let low : c.args.self.now.count < 4096 = search rules in omega arith);
     }
 
 pub returns-clause-some : goal.returns-clause-some
@@ -68,10 +69,10 @@ returns-clause-some g c = let k = c.args.self.now.driver in let hit = c.compare_
     let put = c.compare_exchange-self.ensures.2 (with_value c.unwrap-request.result c.serve.new.request) did.0 did.1 (rest c.exchange.new.seat.me.1) (ap (λ z. z.stage) e)
     (ap (λ m. m.1) h ∙ ap (λ (j : ℕ). (j, Some (with_value c.unwrap-request.result c.serve.new.request)) ∷ rest c.exchange.new.seat.me.1) n) did.3 in
     let f = answered_view g.D.Machine.step c.args.self.now.seat.me.0 c.exchange-2.new.seat.me.0 c.compare_exchange-self.new.seat.me.0 c.split_seat-seat.new.seat.me.0 did.0 did.1 e put.0 (ap (λ m. m.0) c.split_seat-seat.ensures.2) in
-    (search rules, refl, ap (λ m. m.0.known) c.split_seat-seat.ensures.4 ∙ sym (ap (λ m. m.0.known) c.split_seat-seat.ensures.2), (entry did.0 did.1, ap (λ z. z.known) f, did.4))
+    (search rules, ap (λ (j : ℕ). j + 1) c.args.self.now.counted, ap (λ m. m.0.known) c.split_seat-seat.ensures.4 ∙ sym (ap (λ m. m.0.known) c.split_seat-seat.ensures.2), (entry did.0 did.1, ap (λ z. z.known) f, did.4))
 
-pub returns-clause-start : goal.returns-clause-start
-returns-clause-start g c = let k = c.args.self.now.driver in let hit = c.compare_exchange.ensures.2.0 (search rules) in let u = c.unwrap-request.ensures in let q = c.exchange.ensures in let did = c.serve.ensures in
+pub returns-clause-same : goal.returns-clause-same
+returns-clause-same g c = let k = c.args.self.now.driver in let hit = c.compare_exchange.ensures.2.0 (search rules) in let u = c.unwrap-request.ensures in let q = c.exchange.ensures in let did = c.serve.ensures in
     let got = same_head _ _ _ _ _ _ _ q.2 hit.4 in let is = some_same _ _ (sym u ∙ got) in
     let cmd = asked_same {R = g.row.R.Denot} hit.1 did.0 (sym hit.2 ∙ (ap box_value (sym is) ∙ (sym c.deref_mut.ensures.value ∙ did.2))) in let h = c.exchange-2.ensures.3 in
     let e = taken_view g.D.Machine.step c.args.self.now.seat.me.0 c.compare_exchange.new.seat.me.0 c.exchange.new.seat.me.0 c.exchange-2.new.seat.me.0 hit.1 did.0 hit.3 (ap (λ m. m.0) q.3) (ap (λ m. m.0) h) cmd in
@@ -79,7 +80,7 @@ returns-clause-start g c = let k = c.args.self.now.driver in let hit = c.compare
     let put = c.compare_exchange-self.ensures.2 (with_value c.unwrap-request.result c.serve.new.request) did.0 did.1 (rest c.exchange.new.seat.me.1) (ap (λ z. z.stage) e)
     (ap (λ m. m.1) h ∙ ap (λ (j : ℕ). (j, Some (with_value c.unwrap-request.result c.serve.new.request)) ∷ rest c.exchange.new.seat.me.1) n) did.3 in
     let f = answered_view g.D.Machine.step c.args.self.now.seat.me.0 c.exchange-2.new.seat.me.0 c.compare_exchange-self.new.seat.me.0 c.split_seat-seat.new.seat.me.0 did.0 did.1 e put.0 (ap (λ m. m.0) c.split_seat-seat.ensures.2) in
-    ap (λ z. z.start) f
+    (ap (λ z. z.start) f, ap (λ z. z.admitted) f, ap (λ z. z.share) f, ap (λ z. z.count) f)
 
 pub returns-clause-grows : goal.returns-clause-grows
 returns-clause-grows g c = let k = c.args.self.now.driver in let hit = c.compare_exchange.ensures.2.0 (search rules) in let u = c.unwrap-request.ensures in let q = c.exchange.ensures in let did = c.serve.ensures in
@@ -90,4 +91,5 @@ returns-clause-grows g c = let k = c.args.self.now.driver in let hit = c.compare
     let put = c.compare_exchange-self.ensures.2 (with_value c.unwrap-request.result c.serve.new.request) did.0 did.1 (rest c.exchange.new.seat.me.1) (ap (λ z. z.stage) e)
     (ap (λ m. m.1) h ∙ ap (λ (j : ℕ). (j, Some (with_value c.unwrap-request.result c.serve.new.request)) ∷ rest c.exchange.new.seat.me.1) n) did.3 in
     let f = answered_view g.D.Machine.step c.args.self.now.seat.me.0 c.exchange-2.new.seat.me.0 c.compare_exchange-self.new.seat.me.0 c.split_seat-seat.new.seat.me.0 did.0 did.1 e put.0 (ap (λ m. m.0) c.split_seat-seat.ensures.2) in
-    subst (λ l. Begins c.args.self.now.seat.me.0.known l) (sym (ap (λ z. z.known) f)) (begins_more c.args.self.now.seat.me.0.known (entry did.0 did.1 ∷ []))
+    let long : length c.split_seat-seat.new.seat.me.0.known ≡ length c.args.self.now.seat.me.0.known + 1 = ap (λ z. length z.known) f ∙ length-append c.args.self.now.seat.me.0.known (entry did.0 did.1 ∷ []) in
+    (subst (λ l. Begins c.args.self.now.seat.me.0.known l) (sym (ap (λ z. z.known) f)) (begins_more c.args.self.now.seat.me.0.known (entry did.0 did.1 ∷ [])), omega arith)

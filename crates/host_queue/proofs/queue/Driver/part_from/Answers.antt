@@ -1,47 +1,13 @@
-use Rattle.std.proofs.Common.{rules, arith, sym, refl, ap, ◌∙◌, subst, ◌≡◌, ℕ, ◌+◌, ◌≤◌, length, [], length}
-use Rattle.std.specs.Box.{box_value}
+use Rattle.std.proofs.Common.{sym, ap, ◌∙◌, subst, ℕ, ◌+◌, length}
 use Rattle.host_queue.specs.History.{Begins}
-use Rattle.host_queue.specs.Tickets.{AgreeAt}
-use Rattle.host_queue.proofs.Comings.{leaves, learns, looks}
-use Rattle.host_queue.proofs.Clients.{driver_looked}
 use Rattle.host_queue.proofs.queue.Driver.part_from.Goals as goal
 
-pub split_seat-note-requires : goal.split_seat-note-requires
-split_seat-note-requires g c = let k = c.args.client.client.ready in let share = k.share in let words = c.args.queue.now.sized.1 in (search rules, omega arith, leaves g.D.Machine.step box_value _ _ _ k.idle (λ none. absurd (omega arith)))
-
-pub join_seat-requires : goal.join_seat-requires
-join_seat-requires g c = let words = c.args.queue.now.sized.1 in (search rules, search rules, search rules, omega arith, learns g.D.Machine.step box_value _ _ _ _ _ c.args.self.now.driver.idle)
-
-pub load-requires : goal.load-requires
-load-requires g c = let words = c.args.queue.now.sized.1 in (search rules, omega arith, looks g.D.Machine.step box_value _ _ _ _ (ap (λ m. m.0.stage) c.join_seat.ensures.2 ∙ c.args.self.now.driver.idle))
-
-pub invariant_of-self : goal.invariant_of-self
-invariant_of-self g c = let k = c.args.self.now.driver in let j = ap (λ m. m.0) c.join_seat.ensures.2 in let o = ap (λ m. m.0) c.split_seat-note.ensures.4 in let look = c.load.ensures.2 in let a = c.args.client.client.ready in
-    let d = k.driving in let dr : c.join_seat.new.seat.me.0.driving ≡ c.args.self.now.seat.me.0.driving = ap (λ z. z.driving) j in let same = look.2.own_known (omega arith) in
-    let sh : c.split_seat-note.result.me.0.share ≡ c.args.client.seat.me.0.share = ap (λ z. z.share) o in let one = a.share in record {
-      driver = driver_looked g.D.Machine.step c.args.self.now.seat.me.0 c.split_seat-note.result.me.0 c.join_seat.new.seat.me.0 c.load.new.seat.me.0 c.args.self.now.machine c.load.new.seat.me.0.known c.load.result k (λ h. absurd (omega arith)) j same look.0;
-      counted = c.args.self.now.counted ∙ sym (ap length (same ∙ ap (λ z. z.known) j));
-    }
-
-pub returns-clause-client : goal.returns-clause-client
-returns-clause-client g c = let j = ap (λ m. m.0) c.join_seat.ensures.2 in let o = ap (λ m. m.0) c.split_seat-note.ensures.4 in let look = c.load.ensures.2 in (
-  subst (λ z. Begins z c.load.new.seat.me.0.known) (ap (λ z. z.heard_known) j ∙ ap (λ z. z.heard_known) o) look.2.heard,
-  subst (λ z. AgreeAt z c.load.new.seat.me.0.known) (ap (λ z. z.heard_tickets) j ∙ ap (λ z. z.heard_tickets) o) look.2.heard_own,
-)
-
 pub returns-clause-counts : goal.returns-clause-counts
-returns-clause-counts g c = let j = ap (λ m. m.0) c.join_seat.ensures.2 in let o = ap (λ m. m.0) c.split_seat-note.ensures.4 in let look = c.load.ensures.2 in let a = c.args.client.client.ready in (
-  ap (λ z. z.share) look.0 ∙ (ap (λ z. z.share) j ∙ ap (λ (n : ℕ). c.args.self.now.seat.me.0.share + n) (ap (λ z. z.share) o ∙ a.share)),
-  ap (λ z. z.count) look.0 ∙ (ap (λ z. z.count) j ∙ ap (λ (n : ℕ). c.args.self.now.seat.me.0.count + n) (ap (λ z. z.count) o ∙ a.count)),
-)
+returns-clause-counts g c = let same = c.drive_to.ensures.same in let left = c.dismiss.ensures.counts in
+    (left.0 ∙ ap (λ (n : ℕ). n + 1) same.2, left.1 ∙ ap (λ (n : ℕ). n + length c.args.client.seat.me.0.tickets) same.3)
 
-pub returns-clause-drawn : goal.returns-clause-drawn
-returns-clause-drawn g c = let k = c.args.self.now.driver in let j = ap (λ m. m.0) c.join_seat.ensures.2 in let look = c.load.ensures.2 in let slots = c.args.queue.now.sized.0 in
-    let d = k.driving in let dr : c.join_seat.new.seat.me.0.driving ≡ c.args.self.now.seat.me.0.driving = ap (λ z. z.driving) j in λ all.
-    let t = look.3 (omega arith) (sym (ap (λ z. z.share) look.0) ∙ (all ∙ ap (λ z. z.admitted) look.0)) in
-    ((λ h. ap (λ z. z.count) look.0 ∙ t.0 (subst (λ (n : ℕ). c.load.result ≤ n) (sym slots) h)), λ h. ap (λ z. z.count) look.0 ∙ (t.1 (subst (λ (n : ℕ). n ≤ c.load.result) (sym slots) h) ∙ slots))
+pub returns-clause-known : goal.returns-clause-known
+returns-clause-known g c = subst (λ z. Begins c.args.self.now.seat.me.0.known z) (sym c.dismiss.ensures.same.0) c.drive_to.ensures.known
 
 pub returns-clause-same : goal.returns-clause-same
-returns-clause-same g c = let k = c.args.self.now.driver in let j = ap (λ m. m.0) c.join_seat.ensures.2 in let look = c.load.ensures.2 in
-    let d = k.driving in let dr : c.join_seat.new.seat.me.0.driving ≡ c.args.self.now.seat.me.0.driving = ap (λ z. z.driving) j in
-    (refl, look.2.own_known (omega arith) ∙ ap (λ z. z.known) j, ap (λ z. z.start) look.0 ∙ ap (λ z. z.start) j, ap (λ z. z.admitted) look.0 ∙ ap (λ z. z.admitted) j)
+returns-clause-same g c = let same = c.drive_to.ensures.same in let left = c.dismiss.ensures.same in (left.1 ∙ same.0, left.2 ∙ same.1)
