@@ -1,12 +1,12 @@
 -- Events of items, in what a program keeps of a state.
-use Rattle.std.proofs.Common.{◌≡◌, ℕ, zero, suc, ◌+◌, ◌<◌, ◌≤◌, ◌⊎◌, ℤ, Bool, true, false, ◌&&◌, ◌==◌, nat_lt, Option, None, Some, List, [], ◌∷◌, ◌++◌, length, map, replicate, set, refl, sym, ap, ◌∙◌, subst, inl, inr, arith, lt-ltb, ltb-true, eq-eqb, ne_eqb}
+use Rattle.std.proofs.Common.{◌≡◌, ℕ, zero, suc, ◌<◌, ◌≤◌, ◌⊎◌, ℤ, Bool, true, false, ◌&&◌, ◌==◌, nat_lt, Option, None, Some, List, [], ◌∷◌, ◌++◌, length, map, replicate, set, refl, sym, ap, ◌∙◌, subst, inl, inr, arith, lt-ltb, ltb-true, eq-eqb, ne_eqb}
 use Rattle.std.specs.Prelude.{slice_get, slice_index, if◌then◌else◌, reverse, Result, Ok, Err}
 use Rattle.std.specs.Option.{option_map, option_and_then}
 use Rattle.std.proofs.Math.Path.{fun_ext}
 use Rattle.std.proofs.lemmas.List.{length-set, length-map, length-replicate, reverse-append, append_assoc, append-nil}
 use Rattle.clmodel.specs.Cells.{Cells, Outcome, cells_of, perform, size_of, found, answer_to, effect, lowest_unset, reads}
 use Rattle.clmodel.specs.Launch.{Launch, bytes_of, first_byte, group_of, region_of, access_in}
-use Rattle.clmodel.specs.Run.{State, Memory, step, item_step, next_action, accessed, access_at, access_of, with_cells, by_region, changed}
+use Rattle.clmodel.specs.Run.{State, Memory, step, item_step, next_action, accessed, access_at, access_of, with_cells, by_region}
 use Rattle.clmodel.specs.declared.access.Access.{Access}
 use Rattle.clmodel.specs.declared.access.Object.{Object}
 use Rattle.clmodel.specs.declared.access.Object.TheVariants as object

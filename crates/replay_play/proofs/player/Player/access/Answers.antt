@@ -1,4 +1,4 @@
-use Rattle.std.proofs.Common.{rules, to_z, of_z, w64, ◌≡◌, ◌<◌, ◌/◌, length, refl, List, sym, ap, ◌∙◌, subst, set, true, Some, None}
+use Rattle.std.proofs.Common.{rules, to_z, of_z, w64, ◌≡◌, ◌<◌, ◌/◌, length, refl, List, sym, ap, subst, set, true, Some, None}
 use Rattle.std.proofs.lemmas.Option.{slice_get_read}
 use Rattle.clmodel.specs.Launch.{group_of}
 use Rattle.clmodel.specs.declared.access.Access.{Access}
