@@ -1,0 +1,57 @@
+-- What a program keeps of a state of a launch while it plays events (own).
+use Rattle.std.specs.Prelude.{◌≡◌, ℕ, ◌<◌, ℤ, ◌⊎◌, Bool, true, false, Option, None, Some, List, [], length, slice_get, reverse, ◌++◌}
+use Rattle.std.specs.Option.{option_and_then}
+use Rattle.clmodel.specs.Cells.{Outcome, perform, size_of}
+use Rattle.clmodel.specs.Launch.{Launch, bytes_of, first_byte, group_of, region_of}
+use Rattle.clmodel.specs.Run.{State, Memory, step, with_cells}
+use Rattle.clmodel.specs.declared.access.Access.{Access}
+use Rattle.clmodel.specs.declared.access.Object.{Object}
+use Rattle.clmodel.specs.declared.access.Operation.{Operation}
+use Rattle.clmodel.specs.declared.access.Region.TheVariants as region
+use Rattle.clmodel.specs.declared.action.Answer.{Answer}
+use Rattle.clmodel.specs.declared.schedule.Event.{Event}
+use Rattle.objects.specs.Objects.{SpacesHold}
+use Rattle.replay_play.specs.Items.{acts_of}
+use Rattle.replay_play.specs.declared.group.Group.{Group}
+use Rattle.replay_play.specs.declared.group.Performed.{Performed}
+use Rattle.replay_play.specs.declared.slot.Slot.{Slot}
+
+-- a group's local objects hold a memory: before the first access of an item of the group they aren't made, and all their bytes are unset (6.5.2)
+abbrev pub LocalsHold : Launch → ℕ → List (List (Option ℕ)) → Memory → Type 0
+LocalsHold launch group locals memory =
+    SpacesHold (λ cells. cells) launch (length launch.local_sizes) (region.Local group) locals memory
+    ⊎ ((locals ≡ []) × ((number byte : ℕ) → memory (region.Local group number) byte ≡ None))
+
+-- what an operation of an item of a group does to a memory, or None where it is out of range or reads an unset byte (3.3)
+abbrev pub attempt : Launch → ℕ → Memory → Object → ℤ → Operation → Option Outcome
+attempt launch group memory object element operation =
+    option_and_then (perform operation (memory (region_of group object))) (first_byte (bytes_of launch (region_of group object)) element (size_of operation))
+
+-- an operation was done, and what is kept holds the memory that it leaves; or it isn't possible, and the memory is as before
+abbrev pub IsPerformed : Launch → ℕ → (Memory → Type 0) → Memory → Object → ℤ → Operation → Option Performed → Type 0
+IsPerformed launch group new memory object element operation None = (attempt launch group memory object element operation ≡ None) × new memory
+IsPerformed launch group new memory object element operation (Some done) =
+    (outcome : Outcome) × (first_byte (bytes_of launch (region_of group object)) element (size_of operation) ≡ Some done.first)
+    × (perform operation (memory (region_of group object)) done.first ≡ Some outcome) × (outcome.answer ≡ done.answer)
+    × new (with_cells memory (region_of group object) outcome.cells)
+
+-- what is kept of a group tells of a state
+pub record IsGroupIn (launch : Launch) (group : ℕ) (kept : Group) (state : State) : Type 0 where
+  pub locals : LocalsHold launch group kept.locals.items state.memory
+  pub local_interval : kept.local_interval ≡ state.local_interval group
+  pub global_interval : kept.global_interval ≡ state.global_interval group
+
+-- Items, buffers, groups and a log, the oldest access first, tell of a state: each item acts as the launch says after the answers of the
+-- state, and the rest is what the state has.
+pub record Tells (launch : Launch) (items : List Slot) (buffers : List (List (Option ℕ))) (groups : List Group) (log : List Access) (state : State) : Type 0 where
+  pub many : length items ≡ launch.items
+  pub acting : (k : ℕ) (i : Slot) → slice_get items k ≡ Some i → (answers : List Answer) → acts_of launch k i answers ≡ launch.next k (state.answers k ++ answers)
+  pub buffers_hold : SpacesHold (λ b. b) launch (length launch.buffers) region.Buffer buffers state.memory
+  pub grouped : (k : ℕ) → k < launch.items → group_of launch k < length groups
+  pub each : (g : ℕ) (x : Group) → slice_get groups g ≡ Some x → IsGroupIn launch g x state
+  pub logged : state.log ≡ reverse log
+
+-- an event was played, and what is kept tells of the state that it leads to; or it isn't possible, and what is kept tells of the state as before
+abbrev pub IsPlayed : Launch → State → Event → (State → Type 0) → Bool → Type 0
+IsPlayed launch state event new true = (next : State) × (step launch state event ≡ Some next) × new next
+IsPlayed launch state event new false = (step launch state event ≡ None) × new state

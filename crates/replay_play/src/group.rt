@@ -1,0 +1,149 @@
+//! What a player keeps of a work-group.
+
+ghost use Rattle.std.specs.Prelude.{◌≡◌, ◌+◌, ◌<◌, ◌≤◌, ℕ, List, Option, [], length, IfOk, IfSome, OnOk};
+ghost use Rattle.clmodel.specs.Cells.{size_of};
+ghost use Rattle.clmodel.specs.Launch.{Launch, access_in, first_byte, region_of};
+ghost use Rattle.clmodel.specs.Run.{Memory, by_region};
+ghost use Rattle.clmodel.specs.declared.access.Region.TheVariants as region;
+ghost use Rattle.objects.specs.Objects.{SpacesHold, ObjectsHold, space_of};
+ghost use Rattle.replay_play.specs.States.{LocalsHold, IsPerformed};
+
+use clmodel::access::{Access, Object, Operation};
+use clmodel::action::Answer;
+use objects::{local_objects, perform_on, size_of};
+use spaces_base::{LocalMem, Plain, SpaceFault, first_byte};
+use std::alloc::{AllocError, Global};
+
+/// The local objects of a work-group, none before the first access of one of its items, and its intervals (OpenCL 1.2, sections 6.5.2
+/// and 6.12.8).
+#[derive(Drop)]
+pub struct Group {
+    locals: Vec<LocalMem>,
+    local_interval: u32,
+    global_interval: u32,
+}
+
+/// An operation that was done: its first byte, and what the item is answered.
+#[derive(Clone, Copy)]
+pub struct Performed {
+    pub first: u64,
+    pub answer: Answer,
+}
+
+/// The first byte of an element of an object, or `None` where the element is out of range.
+fn place(
+    buffers: &[Plain],
+    locals: &[LocalMem],
+    object: Object,
+    element: i64,
+    operation: Operation,
+) -> Option<u64>
+    ensures value { result ≡ first_byte (length (space_of (λ b. b) buffers.now locals.now object)) element (size_of operation) }
+    ensures inside { IfSome result (λ first. first + size_of operation ≤ length (space_of (λ b. b) buffers.now locals.now object)) }
+{
+    let count = operation.width().bytes();
+    first_byte(size_of(buffers, locals, object), element, count)
+}
+
+/// Does an operation on an element of an object, or answers `None` where it isn't possible: the element is out of range, or a byte that is
+/// read is unset. An error is out of memory.
+fn perform(
+    buffers: &mut Vec<Plain>,
+    locals: &mut Vec<LocalMem>,
+    object: Object,
+    element: i64,
+    operation: Operation,
+) -> Result<Option<Performed>, AllocError>
+    ensures { IfOk result (λ done. (launch : Launch) (group : ℕ) (memory : Memory) → ObjectsHold (λ b. b) launch group buffers.old.items locals.old.items memory
+        → IsPerformed launch group (ObjectsHold (λ b. b) launch group buffers.new.items locals.new.items) memory object element operation done) }
+{
+    let Some(first) = place(
+        buffers.as_slice(),
+        locals.as_slice(),
+        object,
+        element,
+        operation,
+    ) else {
+        return Ok(None);
+    };
+    match perform_on(buffers, locals, object, first, operation) {
+        Ok(answer) => Ok(Some(Performed { first, answer })),
+        Err(SpaceFault::Unset(_)) => Ok(None),
+        Err(SpaceFault::OutOfMemory) => Err(AllocError),
+        Err(SpaceFault::Bounds) => unreachable!(),
+        Err(SpaceFault::ReadOnly) => unreachable!(),
+    }
+}
+
+impl Group {
+    /// A group that has made no access.
+    pub fn new(alloc: Global) -> Self
+        ensures locals { result.locals.items ≡ [] }
+        ensures local_interval { result.local_interval ≡ 0 }
+        ensures global_interval { result.global_interval ≡ 0 }
+    {
+        Group {
+            locals: Vec::new(alloc),
+            local_interval: 0,
+            global_interval: 0,
+        }
+    }
+
+    /// Makes the local objects of these sizes where they aren't there yet. An error is out of memory.
+    fn make_locals(&mut self, alloc: Global, sizes: &[u64]) -> Result<(), AllocError>
+        ensures local_interval { self.new.local_interval ≡ self.old.local_interval }
+        ensures global_interval { self.new.global_interval ≡ self.old.global_interval }
+        ensures made { OnOk result ((launch : Launch) (group : ℕ) (memory : Memory) → sizes.now ≡ launch.local_sizes → LocalsHold launch group self.old.locals.items memory
+            → SpacesHold (λ cells. cells) launch (length launch.local_sizes) (region.Local group) self.new.locals.items memory) }
+    {
+        if self.locals.is_empty() {
+            self.locals = local_objects(alloc, sizes)?;
+        }
+        Ok(())
+    }
+
+    /// Does an operation of one of its items on an element of an object, or answers `None` where it isn't possible. An error is out of memory.
+    pub fn perform(
+        &mut self,
+        alloc: Global,
+        sizes: &[u64],
+        buffers: &mut Vec<Plain>,
+        object: Object,
+        element: i64,
+        operation: Operation,
+    ) -> Result<Option<Performed>, AllocError>
+        ensures local_interval { self.new.local_interval ≡ self.old.local_interval }
+        ensures global_interval { self.new.global_interval ≡ self.old.global_interval }
+        ensures performed { IfOk result (λ done. (launch : Launch) (group : ℕ) (memory : Memory) → sizes.now ≡ launch.local_sizes
+            → SpacesHold (λ b. b) launch (length launch.buffers) region.Buffer buffers.old.items memory → LocalsHold launch group self.old.locals.items memory
+            → IsPerformed launch group (ObjectsHold (λ b. b) launch group buffers.new.items self.new.locals.items) memory object element operation done) }
+    {
+        self.make_locals(alloc, sizes)?;
+        perform(buffers, &mut self.locals, object, element, operation)
+    }
+
+    /// What the log gets of an operation of one of its items, in the running interval of the object's address space.
+    pub fn access_of(
+        &self,
+        number: u32,
+        item: u32,
+        object: Object,
+        first: u64,
+        operation: Operation,
+    ) -> Access
+        ensures { result ≡ access_in item (region_of number object) first operation (by_region (region_of number object) self.now.global_interval self.now.local_interval) }
+    {
+        let interval = match object {
+            Object::Buffer(_) => self.global_interval,
+            Object::Local(_) => self.local_interval,
+        };
+        Access {
+            item,
+            region: object.region(number),
+            first,
+            width: operation.width(),
+            kind: operation.kind(),
+            interval,
+        }
+    }
+}
