@@ -261,5 +261,8 @@ fn check_arguments(
             first = last;
         }
     }
-    Ok(Arguments { fault: least, first })
+    Ok(Arguments {
+        fault: least,
+        first,
+    })
 }
