@@ -1,0 +1,12 @@
+//! Laws of launches that can be run.
+
+ghost use Rattle.launches.specs.Groups.{SetupsAreRunnable};
+
+use clmodel::next_laws::budget_bounds;
+
+/// Groups as `HasGroups` asks for them can be run (OpenCL 1.2, section 5.8; the budget is this project's own).
+pub fn setups_are_runnable()
+    ensures { SetupsAreRunnable }
+{
+    budget_bounds();
+}
