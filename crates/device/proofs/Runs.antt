@@ -7,7 +7,7 @@ use Rattle.clmodel.specs.Law.{Determinacy, CleanIsComplete, ReportIsShown, Clean
 use Rattle.device.specs.Machine.{IsReported}
 use Rattle.clmodel.specs.Outcome.{Concludes, events_of, IsMerged}
 use Rattle.clmodel.specs.Setup.{Setup, item_count, group_items}
-use Rattle.snapshot_run.specs.Launches.{HasGroups}
+use Rattle.launches.specs.Groups.{HasGroups}
 use Rattle.clmodel.specs.declared.outcome.Outcome.{Outcome}
 use Rattle.clmodel.specs.declared.outcome.Outcome.TheVariants.{Clean, Faulted}
 

@@ -8,7 +8,7 @@ use Rattle.clmodel.specs.declared.setup.Range.{Range}
 use Rattle.device_store.specs.declared.command.Command.TheVariants as command
 use Rattle.item_step.specs.Launches as launches
 use Rattle.item_step.specs.declared.launch.Launch.{Launch}
-use Rattle.snapshot_run.specs.Launches.{HasGroups}
+use Rattle.launches.specs.Groups.{HasGroups}
 use Rattle.device.specs.Machine.{Machine, first, row, kernel_of, setup_of, bytes_of}
 use Rattle.device.specs.declared.prepared.Prepared.{Prepared}
 use Rattle.device.specs.declared.prepared.Launched.{Launched}

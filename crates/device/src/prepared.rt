@@ -49,7 +49,7 @@ pub(crate) fn copies(alloc: Global, names: &[Name]) -> Result<Vec<Name>, AllocEr
 impl<'a> Prepared<'a> {
     ghost use Rattle.device.specs.Prepared.{prepared_setup};
     ghost use Rattle.item_step.specs.Launches.{setup_of};
-    ghost use Rattle.snapshot_run.specs.Launches.{HasGroups};
+    ghost use Rattle.launches.specs.Groups.{HasGroups};
 
     /// What it runs over a range.
     fn setup(&self, range: &'a Range) -> Setup<'a>

@@ -1,8 +1,6 @@
 pub mod Merging
 pub mod Turns
 pub mod Logs
-pub mod Lists
-pub mod Memory
 pub mod Stepping
 pub mod Items
 pub mod Starting

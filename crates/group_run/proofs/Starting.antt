@@ -14,12 +14,14 @@ use Rattle.clmodel.specs.declared.access.Region.TheVariants as region
 use Rattle.clmodel.specs.declared.fault.Fault.{Fault}
 use Rattle.clmodel.proofs.Steps.{none_some, some_inj}
 use Rattle.shadow_list.specs.Log.{Log, fresh_log}
-use Rattle.group_run.specs.Fits.{SpacesHold, Fits, AreStarted}
+use Rattle.objects.specs.Objects.{SpacesHold}
+use Rattle.group_run.specs.Fits.{Fits, AreStarted}
 use Rattle.joining.specs.Parts.{IsGrouped}
 use Rattle.joining.specs.Group.{Plan, IsGroup, Reached, Reported, IsRun, plan_of}
 use Rattle.group_run.specs.Logs.{IsLogged}
 use Rattle.group_run.specs.Loops.{IsBrief}
-use Rattle.group_run.specs.Results.{IsRunnable, filled, Leaves}
+use Rattle.launches.specs.Groups.{IsRunnable, filled}
+use Rattle.group_run.specs.Results.{Leaves}
 use Rattle.joining.proofs.Grouped.{group_is, whole_inside}
 use Rattle.group_run.proofs.Turns.{moved}
 

@@ -4,3 +4,5 @@ pub mod Items
 pub mod Fits
 pub mod Logs
 pub mod Results
+pub use Rattle.launches.specs.Groups
+pub use Rattle.objects.specs.Objects

@@ -4,19 +4,20 @@ ghost use Rattle.std.specs.Prelude.{◌≡◌, ◌+◌, ◌-◌, ◌<◌, ◌≤
 ghost use Rattle.clmodel.specs.Cells.{size_of};
 ghost use Rattle.clmodel.specs.Launch.{first_byte};
 ghost use Rattle.clmodel.specs.declared.action.Answer.TheVariants.{Done};
+ghost use Rattle.objects.specs.Objects.{space_of};
 ghost use Rattle.shadow_list.specs.Log.{Log, IsPlaced};
-ghost use Rattle.group_run.specs.Fits.{Fits, AreAnswered, space_of};
+ghost use Rattle.group_run.specs.Fits.{Fits, AreAnswered};
 ghost use Rattle.group_run.specs.Items.{acts_of};
 ghost use Rattle.group_run.specs.Logs.{IsJudged, after_fences, conflict_of};
 
-use crate::describing::{self, Described, bounds_fault, unset_fault};
+use crate::faults::{self, bounds_fault, unset_fault};
 use crate::item::Slot;
 use crate::machine::{Machine, Made};
-use crate::performing::{perform_on, size_of};
-use crate::runnable::Runnable;
 use clmodel::access::{Conflict, Object, Operation};
 use clmodel::action::{Action, Answer, Cause, Fences};
 use clmodel::fault::Fault;
+use launches::{Described, Runnable};
+use objects::{perform_on, size_of};
 use shadow_list::{AccessLog, Entry, Fenced, Hit};
 use spaces_base::{LocalMem, Space, SpaceFault, first_byte};
 use std::alloc::AllocError;
@@ -75,7 +76,7 @@ fn judge<D: Described, L: AccessLog>(
 {
     match log.note(entry)? {
         None => Ok(None),
-        Some(hit) => Ok(Some(describing::conflict_fault(launch, &conflict_of(hit))?)),
+        Some(hit) => Ok(Some(faults::conflict_fault(launch, &conflict_of(hit))?)),
     }
 }
 
@@ -181,6 +182,6 @@ impl<'a, D: Runnable, G: Space, L: AccessLog> Machine for Group<'a, D, G, L> {
     }
 
     fn fault_of(&self, item: u32, cause: Cause) -> Result<Fault, AllocError> {
-        describing::fault_of(self.launch, item, cause)
+        faults::fault_of(self.launch, item, cause)
     }
 }

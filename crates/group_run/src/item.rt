@@ -4,9 +4,9 @@ ghost use Rattle.std.specs.Prelude.{◌≡◌, [], ◌∷◌, List, IfOk, OnOk};
 ghost use Rattle.clmodel.specs.declared.action.Answer.{Answer};
 ghost use Rattle.group_run.specs.Items.{acts_of, IsAsked};
 
-use crate::runnable::Runnable;
 use clmodel::action::{Action, Answer};
 use item_step::Item;
+use launches::Runnable;
 use std::alloc::{AllocError, Global};
 
 /// A work-item of a group as it runs (OpenCL 1.2, section 3.2), seen as the action that it makes after each list of further answers. It is

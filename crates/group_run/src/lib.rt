@@ -1,19 +1,16 @@
 //! One work-group's canonical run.
 #![tactic(auto)]
 
-mod describing;
+mod faults;
 mod group;
 mod item;
 mod loops;
 mod machine;
-mod performing;
 mod result;
-mod runnable;
 mod running;
 mod runs;
 
-pub use describing::{Described, conflict_fault};
+pub use faults::conflict_fault;
 pub use result::GroupResult;
-pub use runnable::Runnable;
 pub use running::run_group;
 pub use runs::last_count;

@@ -1,36 +1,24 @@
 //! The run of one group.
 
-ghost use Rattle.std.specs.Prelude.{◌≡◌, ◌+◌, ◌*◌, ◌<◌, ◌≤◌, ◌^◌, ℕ, List, Option, Some, None, [], false, length, map, replicate, slice_get, IfOk};
-ghost use Rattle.clmodel.specs.Launch.{Launch};
-ghost use Rattle.clmodel.specs.Outcome.{IsMerged, events_of};
-ghost use Rattle.clmodel.specs.Run.{start};
+ghost use Rattle.std.specs.Prelude.{◌≡◌, ◌+◌, ◌*◌, ◌<◌, ◌^◌, false, map, IfOk};
+ghost use Rattle.launches.specs.Groups.{IsRunnable, filled};
 ghost use Rattle.shadow_list.specs.Log.{fresh_log};
 ghost use Rattle.group_run.specs.Fits.{AreStarted};
 ghost use Rattle.group_run.specs.Items.{acts_of};
-ghost use Rattle.group_run.specs.Results.{IsRunnable, filled, IsResult};
+ghost use Rattle.group_run.specs.Results.{IsResult};
 
 use crate::group::Group;
 use crate::item::Slot;
 use crate::loops::run_items;
 use crate::result::GroupResult;
-use crate::runnable::Runnable;
 use crate::runs::Runs;
 use clmodel::fault::Fault;
 use clmodel::schedule::Schedule;
+use launches::Runnable;
+use objects::local_objects;
 use shadow_list::AccessLog;
-use spaces_base::{LocalMem, Space};
+use spaces_base::Space;
 use std::alloc::{AllocError, Global};
-
-/// Local objects of these sizes, unset.
-fn local_objects(alloc: Global, sizes: &[u64]) -> Result<Vec<LocalMem>, AllocError>
-    ensures { IfOk result (λ locals. locals.items ≡ map (λ size. replicate size None) sizes.now) }
-{
-    let mut locals = Vec::new(alloc);
-    for i in 0..sizes.len() {
-        locals.push(LocalMem::new(alloc, sizes[i] as usize)?)?;
-    }
-    Ok(locals)
-}
 
 /// `count` items from the first on, which weren't asked yet.
 #[tactic(auto, using(crate::proofs::Items::started_more, crate::proofs::Items::started_none))]

@@ -15,8 +15,8 @@ use Rattle.group_run.specs.declared.result.GroupResult.{GroupResult}
 use Rattle.group_run.specs.declared.result.GroupResult.TheVariants.{Done, Stopped}
 use Rattle.joining.specs.Parts.{IsGrouped}
 use Rattle.joining.specs.Steps.{HasGroup}
+use Rattle.launches.specs.Groups.{HasGroups}
 use Rattle.shadow_list.specs.Log.{Log}
-use Rattle.snapshot_run.specs.Launches.{HasGroups}
 use Rattle.snapshot_merge.specs.Launches.{AreResults}
 use Rattle.snapshot_merge.specs.Laws.{JoiningLaws}
 use Rattle.snapshot_merge.specs.JoinedGroups.{HoldsGroups, IsStopped, CameOfNext}

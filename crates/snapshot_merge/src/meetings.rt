@@ -8,7 +8,8 @@ ghost use Rattle.shadow.specs.Seen.{IsFootprint};
 ghost use Rattle.snapshot_merge.specs.Meetings.{AreOthers, IsFirstMet, is_below, meeting_fault, report_at};
 
 use clmodel::fault::Fault;
-use group_run::{Described, conflict_fault};
+use group_run::conflict_fault;
+use launches::Described;
 use shadow::{Footprint, Meeting};
 use shadow_list::{Accesses, Entry};
 use std::alloc::{AllocError, Global};

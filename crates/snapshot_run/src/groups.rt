@@ -5,15 +5,16 @@ ghost use Rattle.clmodel.specs.Next.{launch_of};
 ghost use Rattle.item_step.specs.Launches.{setup_of};
 ghost use Rattle.group_run.specs.Results.{IsResult};
 ghost use Rattle.joining.specs.Steps.{HasGroup};
+ghost use Rattle.launches.specs.Groups.{HasGroups};
 ghost use Rattle.shadow_list.specs.Log.{fresh_log};
 ghost use Rattle.spaces_base.specs.Buffers.{bytes_in};
-ghost use Rattle.snapshot_run.specs.Launches.{HasGroups, list_log};
+ghost use Rattle.snapshot_run.specs.Launches.{list_log};
 
-use crate::loaded::LoadedLaunch;
-use clmodel::next_laws::budget_bounds;
 use clmodel::text::Name;
 use group_run::{GroupResult, run_group};
 use item_step::Launch;
+use launches::LoadedLaunch;
+use launches::laws::setups_are_runnable;
 use shadow_list::ListLog;
 use spaces::Overlay;
 use spaces_base::Buffers;
@@ -49,7 +50,7 @@ pub fn one_group<'a>(
     requires fresh { list_log log ≡ fresh_log }
     ensures { IfOk result (IsResult (λ overlay. overlay.bytes) list_log (launch_of (setup_of launch.now) (bytes_in buffers.now)) group) }
 {
-    budget_bounds();
+    setups_are_runnable();
     let _size = launch.group_size();
     let loaded = LoadedLaunch::new(alloc, launch, buffers);
     let overlays = overlays_of(alloc, buffers, launch.buffer_names())?;

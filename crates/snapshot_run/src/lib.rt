@@ -2,7 +2,5 @@
 #![tactic(auto)]
 
 mod groups;
-mod loaded;
 
 pub use groups::one_group;
-pub use loaded::LoadedLaunch;

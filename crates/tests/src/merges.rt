@@ -3,7 +3,7 @@
 ghost use Rattle.std.specs.Prelude.{◌≡◌, ◌*◌, ◌<◌};
 ghost use Rattle.clmodel.specs.Setup.{item_count, group_items};
 ghost use Rattle.item_step.specs.Launches.{setup_of};
-ghost use Rattle.snapshot_run.specs.Launches.{HasGroups};
+ghost use Rattle.launches.specs.Groups.{HasGroups};
 ghost use Rattle.tests.specs.Merges.{is_stopped};
 
 use clmodel::access::Clash;

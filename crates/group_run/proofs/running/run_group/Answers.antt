@@ -17,7 +17,7 @@ run_items-requires g c κs within =
     let b =
     begins (acts_of g.D.Described.launch) g.G.Space.bytes g.G.Space.read_only l c.args.group (c.args.group * size.result) size.result c.in_ok-items.items.items c.args.globals.items c.in_ok-locals.locals.items
     (g.L.Accesses.log c.args.log) c.requires.runnable c.requires.there c.requires.writable c.requires.filled
-    (c.in_ok-locals.ensures ∙ ap (map (λ size. replicate size None)) c.local_sizes.ensures) c.requires.fresh (ap (λ n. c.args.group * n) size.ensures) size.ensures
+    (c.in_ok-locals.ensures ∙ ap (map (λ size. replicate size None)) c.local_sizes.ensures) c.requires.fresh (ap (λ n. c.args.group * n) size.ensures.value) size.ensures.value
     c.in_ok-items.ensures in (
       search (lives, within.0.0, within.1.0, within.1.1.0, within.1.1.1.0) depth 64 fits 20000,
       (b.whole, (b.brief, subst (Reached p fits (start l)) (sym c.new-runs.ensures) b.reached)),
@@ -32,7 +32,7 @@ returns-in-None g c =
     let m = c.run_items.new.m in
     let p : Plan = record { launch = l; group = c.args.group; first = first; count = length items } in
     let q : Plan = record { launch = g.D.Described.launch m.launch.now; group = m.number; first = m.first; count = length m.items.items } in
-    let e : p ≡ plan_of l c.args.group = plan_same l c.args.group first (length items) (ap (λ n. c.args.group * n) size.ensures) (c.in_ok-items.ensures.many ∙ size.ensures) in (
+    let e : p ≡ plan_of l c.args.group = plan_same l c.args.group first (length items) (ap (λ n. c.args.group * n) size.ensures.value) (c.in_ok-items.ensures.many ∙ size.ensures.value) in (
       refl,
       c.into_schedule-runs.ensures.merged,
       done_result (acts_of g.D.Described.launch) g.G.Space.bytes g.G.Space.read_only p q l c.args.group m.items.items m.made m.buffers.items m.locals.items (g.L.Accesses.log m.log)
@@ -49,7 +49,7 @@ returns-in-Some g c =
     let m = c.run_items.new.m in
     let p : Plan = record { launch = l; group = c.args.group; first = first; count = length items } in
     let q : Plan = record { launch = g.D.Described.launch m.launch.now; group = m.number; first = m.first; count = length m.items.items } in
-    let e : p ≡ plan_of l c.args.group = plan_same l c.args.group first (length items) (ap (λ n. c.args.group * n) size.ensures) (c.in_ok-items.ensures.many ∙ size.ensures) in (
+    let e : p ≡ plan_of l c.args.group = plan_same l c.args.group first (length items) (ap (λ n. c.args.group * n) size.ensures.value) (c.in_ok-items.ensures.many ∙ size.ensures.value) in (
       refl,
       c.into_schedule-runs.ensures.merged,
       stopped_result (acts_of g.D.Described.launch) g.G.Space.bytes g.G.Space.read_only p q l c.args.group m.items.items m.made m.buffers.items m.locals.items (g.L.Accesses.log m.log)
@@ -59,12 +59,12 @@ returns-in-Some g c =
 
 pub waiting_items-requires : goal.waiting_items-requires
 waiting_items-requires g c =
-    items_fit (g.D.Described.launch c.args.launch.now) c.args.group c.group_size-count.result c.requires.runnable c.requires.there c.group_size-count.ensures
+    items_fit (g.D.Described.launch c.args.launch.now) c.args.group c.group_size-count.result c.requires.runnable c.requires.there c.group_size-count.ensures.value
 
 pub invariant_of-machine : goal.invariant_of-machine
 invariant_of-machine g c =
     record {
       numbered =
           subst (λ n. c.args.group * c.group_size-count.result + n < 2 ^ 32) (sym c.in_ok-items.ensures.many)
-          (items_fit (g.D.Described.launch c.args.launch.now) c.args.group c.group_size-count.result c.requires.runnable c.requires.there c.group_size-count.ensures);
+          (items_fit (g.D.Described.launch c.args.launch.now) c.args.group c.group_size-count.result c.requires.runnable c.requires.there c.group_size-count.ensures.value);
     }
