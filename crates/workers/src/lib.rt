@@ -1,0 +1,4 @@
+//! The groups of a launch on workers.
+#![tactic(auto)]
+
+pub mod shares;
