@@ -1,4 +1,9 @@
-//! The groups of a launch on workers.
+//! The run of a launch by several workers.
 #![tactic(auto)]
 
-pub mod shares;
+mod launch;
+mod run;
+mod shares;
+
+pub use run::run_parallel;
+pub use workers_draw::gate::{Gate, OpenGate};

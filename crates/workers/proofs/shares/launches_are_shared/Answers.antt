@@ -7,11 +7,11 @@ use Rattle.item_step.specs.contracts.local_objects.LocalObjects as LocalObjects
 use Rattle.item_step.specs.contracts.setup.Setup as Setup
 use Rattle.regcode.specs.contracts.code.Code as Code
 use Rattle.std.specs.contracts.option.Option as Option
-use Rattle.workers.proofs.shares.launch.Goals as goal
+use Rattle.workers.proofs.shares.launches_are_shared.Goals as goal
 
 pub returns : goal.returns
 returns c ℓ =
-    let tree = c.tree.ensures in
+    let tree = c.trees_are_shared.ensures in
     let range : IsSync Range.the_row = record { shared = c.is_shared.ensures.shared } in
     let argument : IsSync (Option.the_row Argument.the_row) = record { shared = c.is_shared-2.ensures.shared } in
     let code : IsSync Code.the_row = record { shared = c.is_shared-3.ensures.shared } in

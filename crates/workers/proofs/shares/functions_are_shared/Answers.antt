@@ -1,7 +1,7 @@
 use denote.Param.Send.{sendable}
 use denote.Param.SendFields.{declared_sync}
 use Rattle.clmodel.specs.contracts.tree.Function as Function
-use Rattle.workers.proofs.shares.function.Goals as goal
+use Rattle.workers.proofs.shares.functions_are_shared.Goals as goal
 
 pub returns : goal.returns
 returns c =

@@ -1,7 +1,0 @@
-use Rattle.std.proofs.Crossing.{Vec-sync}
-use denote.Param.SendFields.{declared_sync}
-use Rattle.clmodel.specs.contracts.tree.Tree as Tree
-use Rattle.workers.proofs.shares.tree.Goals as goal
-
-pub returns : goal.returns
-returns c = declared_sync Tree.the_type (record { shared = (Vec-sync _ c.function.ensures).shared }, (record { shared = c.is_shared.ensures.shared }, tt))
