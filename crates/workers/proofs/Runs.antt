@@ -1,0 +1,54 @@
+-- A group's one run, and its result.
+use Rattle.std.proofs.Common.{◌≡◌, ℕ, suc, ◌+◌, ◌*◌, ◌<◌, ◌≤◌, arith, true, true≢false, None, Some, List, [], ◌∷◌, refl, sym, ◌∙◌, subst, ⊎_elim}
+use Rattle.std.proofs.Math.Nat.{suc-mul, mul-le-mul_right}
+use Rattle.clmodel.specs.Launch.{Launch}
+use Rattle.clmodel.specs.Outcome.{events_of}
+use Rattle.clmodel.specs.declared.fault.Fault.{Fault}
+use Rattle.group_run.specs.declared.result.GroupResult.{GroupResult}
+use Rattle.group_run.specs.declared.result.GroupResult.TheVariants.{Done, Stopped}
+use Rattle.joining.specs.Parts.{Part, OnePart}
+use Rattle.shadow_list.specs.declared.list.ListLog.{ListLog}
+use Rattle.snapshot_merge.specs.Launches as snapshot_merge
+use Rattle.snapshot_run.specs.Launches.{list_log}
+use Rattle.spaces.specs.Overlay.{Overlaid}
+use Rattle.workers_draw.specs.Groups.{AreResults}
+use Rattle.workers.specs.Results.{IsOfGroup, IsStopping, number_of, has_stopped}
+
+abbrev Came : Type 0
+Came = GroupResult Overlaid ListLog
+
+none_some : (fault : Fault) → None ≡ Some fault → ⊥
+none_some fault e = cc
+
+-- a group below the count is one of the launch's
+pub below_there : (group groups size items : ℕ) → groups * size ≡ items → 0 < size → group < groups → group * size < items
+below_there group groups size items e some b =
+    let m : suc group * size ≤ groups * size = mul-le-mul_right size (omega (arith, b)) in
+    let s : suc group * size ≡ group * size + size = suc-mul group size in omega (arith, e, some, m, s)
+
+pub is_numbered : (launch : Launch) (group : ℕ) (came : Came) → IsOfGroup launch group came → number_of came ≡ group
+is_numbered launch group (Done number spaces log runs) is = is.1.0
+is_numbered launch group (Stopped number fault log runs) is = is.1.0
+
+pub stopped_stops : (launch : Launch) (group : ℕ) (came : Came) → IsOfGroup launch group came → has_stopped came ≡ true → IsStopping launch group
+stopped_stops launch group (Done number spaces log runs) is stop = absurd (true≢false (sym stop))
+stopped_stops launch group (Stopped number fault log runs) is stop =
+    let run = is.1.2 in
+    let part : Part = record { events = events_of runs; end = run.state; stopped = Some fault } in (part, fault, (run.runs, run.reports), refl)
+
+pub stops_stopped : (launch : Launch) (group : ℕ) (came : Came) → OnePart → IsOfGroup launch group came → IsStopping launch group → has_stopped came ≡ true
+stops_stopped launch group (Done number spaces log runs) one is stops =
+    let run = is.1.2 in
+    let part : Part = record { events = events_of runs; end = run.0.state; stopped = None } in
+    let same = one launch group part stops.0 (run.0.runs, run.1) stops.2 in absurd (none_some stops.1 (same.2 ∙ stops.3))
+stops_stopped launch group (Stopped number fault log runs) one is stops = refl
+
+-- results in order are the results that are joined
+pub are_results :
+    (launch : Launch) (count group : ℕ) (results : List Came) → count * launch.group_size ≡ launch.items → AreResults count (IsOfGroup launch) has_stopped group results
+    → snapshot_merge.AreResults (λ (overlay : Overlaid). overlay.bytes) list_log launch group results
+are_results launch count group [] e far = subst (λ n. n ≤ group * launch.group_size) e (mul-le-mul_right launch.group_size far)
+are_results launch count group (Done number spaces log runs ∷ results) e is =
+    (is.0.0, is.0.1, ⊎_elim (λ stop. absurd (true≢false (sym stop.0))) (λ more. are_results launch count (suc group) results e more.1) is.1)
+are_results launch count group (Stopped number fault log runs ∷ results) e is =
+    (is.0.0, is.0.1, ⊎_elim (λ stop. stop.1) (λ more. absurd (true≢false more.0)) is.1)

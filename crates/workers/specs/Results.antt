@@ -1,0 +1,30 @@
+-- Results of a launch's work-groups, each run apart (OpenCL 1.2, 3.2, 5.8; own).
+use Rattle.std.specs.Prelude.{◌≡◌, ℕ, Bool, true, false, Some}
+use Rattle.clmodel.specs.Launch.{Launch}
+use Rattle.clmodel.specs.declared.fault.Fault.{Fault}
+use Rattle.group_run.specs.Results.{IsResult}
+use Rattle.group_run.specs.declared.result.GroupResult.{GroupResult}
+use Rattle.group_run.specs.declared.result.GroupResult.TheVariants.{Done, Stopped}
+use Rattle.joining.specs.Parts.{Part, IsPart}
+use Rattle.joining.specs.Steps.{HasGroup}
+use Rattle.shadow_list.specs.declared.list.ListLog.{ListLog}
+use Rattle.snapshot_run.specs.Launches.{list_log}
+use Rattle.spaces.specs.Overlay.{Overlaid}
+
+-- the result of a group that the launch has: that of its canonical run on the launch's first memory (3.2)
+abbrev pub IsOfGroup : Launch → ℕ → GroupResult Overlaid ListLog → Type 0
+IsOfGroup launch group came = HasGroup launch group × IsResult (λ overlay. overlay.bytes) list_log launch group came
+
+-- the canonical run of the group ends with a report (own)
+abbrev pub IsStopping : Launch → ℕ → Type 0
+IsStopping launch group = (part : Part) × (fault : Fault) × IsPart launch group part × (part.stopped ≡ Some fault)
+
+-- the number of the group that came (own)
+abbrev pub number_of : {G L : Type 0} → GroupResult G L → ℕ
+number_of (Done number spaces log runs) = number
+number_of (Stopped number fault log runs) = number
+
+-- the group that came has stopped (own)
+abbrev pub has_stopped : {G L : Type 0} → GroupResult G L → Bool
+has_stopped (Done number spaces log runs) = false
+has_stopped (Stopped number fault log runs) = true

@@ -1,0 +1,9 @@
+//! The run of a launch by several workers.
+#![tactic(auto)]
+
+mod launch;
+mod run;
+mod shares;
+
+pub use run::run_parallel;
+pub use workers_draw::gate::{Gate, OpenGate};

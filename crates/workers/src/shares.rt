@@ -1,0 +1,58 @@
+//! A launch may be shared by threads.
+ghost use denote.Param.Send.{IsSync};
+ghost use denote.Ref.{NamedLft};
+ghost use Rattle.clmodel.specs.contracts.tree.Function as FunctionType;
+ghost use Rattle.clmodel.specs.contracts.tree.Tree as TreeType;
+ghost use Rattle.item_step.specs.contracts.launch.Launch as LaunchType;
+ghost use Rattle.workers.specs.contracts.launch.LaunchGroups as GroupsType;
+
+use clmodel::setup::{Argument, Range};
+use clmodel::text::Name;
+use clmodel::tree::{Parameter, Statement};
+use clnum::IntType;
+use regcode::Code;
+use spaces_base::Buffers;
+use std::marker::Sync;
+
+/// The type's values may be shared.
+fn is_shared<T: Sync>()
+    ensures { IsSync T.row }
+{}
+
+/// The functions of a program may be shared.
+fn functions_are_shared()
+    ensures { IsSync FunctionType.the_row }
+{
+    is_shared::<Option<IntType>>();
+    is_shared::<Vec<Parameter>>();
+    is_shared::<Vec<Statement>>();
+}
+
+/// Programs may be shared.
+fn trees_are_shared()
+    ensures { IsSync TreeType.the_row }
+{
+    functions_are_shared();
+    is_shared::<Vec<Name>>();
+}
+
+/// Launches may be shared.
+fn launches_are_shared()
+    ensures { (ℓ : NamedLft) → IsSync (LaunchType.the_row ℓ) }
+{
+    trees_are_shared();
+    is_shared::<Range>();
+    is_shared::<Option<Argument>>();
+    is_shared::<Code>();
+    is_shared::<Vec<Name>>();
+    is_shared::<Vec<u64>>();
+    is_shared::<Vec<u32>>();
+}
+
+/// The groups of launches may be shared.
+pub(crate) fn groups_are_shared()
+    ensures { (ℓ : NamedLft) → IsSync (GroupsType.the_row ℓ) }
+{
+    launches_are_shared();
+    is_shared::<Buffers>();
+}
