@@ -1,5 +1,6 @@
 -- What stays of a client's and of the driver's view over a call.
-use Rattle.std.proofs.Common.{◌≡◌, ◌≢◌, ℕ, zero, suc, replicate, get_or, ◌+◌, ◌<◌, ◌≤◌, List, [], ◌∷◌, ◌++◌, length, sym, refl, ap, ◌∙◌, subst, ⊎_elim, arith, length-append, Option, Some, None}
+use Rattle.std.proofs.Common.{◌≡◌, ◌≢◌, ℕ, zero, suc, replicate, get_or, ◌+◌, ◌<◌, ◌≤◌, List, [], ◌∷◌, ◌++◌, length, sym, refl, ap, ◌∙◌, subst, ⊎_elim, arith, length-append, Option, Some, None, IfNone, IfSome}
+use Rattle.std.specs.Option.{IsSome}
 use mathlib.Core.Option.{some, some-ne-none, some-injective}
 use mathlib.Core.Path.{Path}
 use mathlib.Core.Logic.{dite}
@@ -13,16 +14,24 @@ use Rattle.host_queue.specs.declared.view.Held.{Held}
 use Rattle.host_queue.specs.declared.view.Entry.{Entry}
 use Rattle.host_queue.specs.declared.view.View.{View}
 use Rattle.host_queue.specs.History.{Begins, Runs, RunsTo}
-use Rattle.host_queue.specs.Tickets.{held, entry, Fits, IsReady, IsClient, IsDriver, IsNote, IsOpen, StaysOpen, StaysOpenBut, Has, AllBelow, AgreeAt, Serves, told, note_of, host_of, guest_of, first_view}
+use Rattle.host_queue.specs.Tickets.{held, entry, Fits, IsReady, IsClient, IsDriver, IsNote, IsOpen, StaysOpen, StaysOpenBut, Has, AllBelow, AgreeAt, Serves, told, gone, note_of, host_of, guest_of, first_view}
 use Rattle.host_queue.proofs.Basics.{at_inside, there, at_end, begins_refl, begins_long, begins_both, runs_on, runs_none, runs_more}
 
 module _ {D C R : Type 0} (model : D → C → R → D → Type 0) where
   abbrev V : Type 0
   V = View D C R
 
-  pub client_full : (v w : V) → IsClient model v → w ≡ record v { credit = 0 } → IsClient model w
-  client_full v w k e = let a = k.ready in subst (IsClient model) (sym e) record {
-    ready = record { idle = a.idle; part = a.part; share = a.share; count = a.count; driving = a.driving; below = a.below; collected = a.collected };
+  pub client_full : (v w : V) (f : ℕ) → IsClient model v → v.floor ≤ f → w ≡ record v { credit = 0; floor = f } → IsClient model w
+  client_full v w f k more e = let a = k.ready in subst (IsClient model) (sym e) record {
+    ready = record {
+      idle = a.idle;
+      part = a.part;
+      share = a.share;
+      count = a.count;
+      driving = a.driving;
+      below = λ i t at. let b = a.below i t at in let l = b.0 in ((let g : t.number < f = omega arith in g), b.1);
+      collected = λ n has. let l = a.collected n has in (let g : n < f = omega arith in g);
+    };
     fits = record { goes_on = k.fits.goes_on; runs = k.fits.runs; own = k.fits.own };
   }
 
@@ -107,6 +116,17 @@ module _ {D C R : Type 0} (model : D → C → R → D → Type 0) where
     runs = λ d st. subst (λ (l : List (Entry C R)). RunsTo model d l machine) (sym same) (k.runs d st);
   }
 
+  -- a driver that gave its right to draw away
+  pub driver_gone : (v w : V) (machine : D) → IsDriver model v machine → w ≡ gone v → IsDriver model w machine
+  driver_gone v w machine k e = subst (λ (z : V). IsDriver model z machine) (sym e) record { idle = k.idle; driving = k.driving; left = λ _. refl; runs = k.runs }
+
+  -- a client that lent its right to draw, and has it back
+  pub client_back : (v o w : V) → IsClient model v → o.share ≡ 1 → o.count ≡ length v.tickets → w ≡ told (gone v) o → IsClient model w
+  client_back v o w k share count e = let a = k.ready in subst (IsClient model) (sym e) record {
+    ready = record { idle = a.idle; part = a.part; share = (let g : 0 + o.share ≡ 1 = omega arith in g); count = (let g : 0 + o.count ≡ length v.tickets = omega arith in g); driving = a.driving; below = a.below; collected = a.collected };
+    fits = record { goes_on = k.fits.goes_on; runs = k.fits.runs; own = k.fits.own };
+  }
+
   pub driver_host : (v w : V) (machine : D) → IsDriver model v machine → w ≡ host_of v → IsDriver model w machine
   driver_host v w machine k e = subst (λ (z : V). IsDriver model z machine) (sym e) record { idle = k.idle; driving = k.driving; left = k.left; runs = k.runs }
 
@@ -189,6 +209,19 @@ pub all_drawn : (draws tickets slots count old new : ℕ) → slots ≡ 4096 →
 all_drawn draws tickets slots count old new is few many low high short four reached more = dite (dec_le draws 4096)
     (λ h. let a = few h in let b = low (omega arith) in let m = more (omega arith) in omega arith)
     (λ h. let a = many (omega arith) in let b = high (omega arith) in let m = more (omega arith) in omega arith)
+
+-- the count of draws is that of the tickets of the only client
+pub all_heard : (draws count tickets floor slots : ℕ) → slots ≡ 4096 → (draws ≤ slots → count ≡ draws) → (slots ≤ draws → count ≡ slots) → count ≡ tickets → floor ≤ draws → (floor ≤ 4096 → floor ≤ tickets) × (4096 ≤ floor → 4096 ≤ tickets)
+all_heard draws count tickets floor slots is few many all low = dite (dec_le draws 4096)
+    (λ h. let a = few (omega arith) in ((λ l. omega arith), λ l. omega arith))
+    (λ h. let a = many (omega arith) in ((λ l. omega arith), λ l. omega arith))
+
+pub some_of : {A : Type 0} {P : Type 0} (r : Option A) → IfNone r P → (P → ⊥) → IsSome r
+some_of (Some x) none never = refl
+some_of None none never = absurd (never none)
+
+pub some_gives : {A : Type 0} (r : Option A) (x : A) (P : A → Type 0) → r ≡ Some x → IfSome r P → P x
+some_gives {A = A} r x P e h = subst (λ (z : Option A). IfSome z P) e h
 
 pub zeros : (n i : ℕ) → ◌≡◌ {A = ℕ} (get_or (replicate n 0) i 0) 0
 zeros zero i = refl

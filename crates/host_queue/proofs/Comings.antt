@@ -53,6 +53,7 @@ module _ {D C R B : Type 0} (model : D → C → R → D → Type 0) (content : 
       heard_known = k.heard_known;
       heard_floor = k.heard_floor;
       heard_tickets = k.heard_tickets;
+      busy = k.busy;
     },
     (
       refl,
@@ -121,6 +122,7 @@ module _ {D C R B : Type 0} (model : D → C → R → D → Type 0) (content : 
         heard_known = k.heard_known;
         heard_floor = k.heard_floor;
         heard_tickets = k.heard_tickets;
+        busy = k.busy;
       }
       (λ j u ne e. let ku = r.each_seat j u e in seat_stays model content start n drawn drawn r.driver r.admitted (r.admitted + 1) r.log r.log r.owner r.owner r.seat_of seat_of' r.command r.command word word j u (omega arith) (begins_refl r.log)
       (λ p. absurd (ne ((ku.drives p).0 ∙ sym d.0))) (λ m l. refl) (λ p. put_else r.seat_of r.admitted (length vs) u.name (λ q. let l = (ku.mine p).1 in omega arith)) (omega arith) (λ m c e'. e') (λ m l. l) (λ m l p o w. (o, w)) (λ m p o l w. w) ku))
@@ -136,6 +138,7 @@ module _ {D C R B : Type 0} (model : D → C → R → D → Type 0) (content : 
         heard_known = λ i x e. absurd (some-ne-none x (sym e));
         heard_floor = omega arith;
         heard_tickets = λ i t e. absurd (some-ne-none t (sym e));
+        busy = λ p. absurd (omega arith);
       })
     where
       no_owner : (s : S) (r : Rule s) (m a : ℕ) → m < length s.homes → r.owner m ≡ a → a ≡ r.admitted → word_of s.words m ≡ 4 → ⊥
@@ -164,6 +167,7 @@ module _ {D C R B : Type 0} (model : D → C → R → D → Type 0) (content : 
         heard_known = k.heard_known;
         heard_floor = k.heard_floor;
         heard_tickets = k.heard_tickets;
+        busy = k.busy;
       }
       (λ j u _ e. r.each_seat j u e))
       record {
@@ -177,7 +181,8 @@ module _ {D C R B : Type 0} (model : D → C → R → D → Type 0) (content : 
         stage = tt;
         heard_known = k.known;
         heard_floor = k.floor;
-        heard_tickets = λ i u e. let a = k.tickets i u e in (a.1, a.2, a.3, a.4);
+        heard_tickets = λ i u e. let a = k.tickets i u e in (a.1, a.2, a.3, a.4, a.5);
+        busy = λ p. absurd (omega arith);
       })
 
   pub tells : (id : ℕ) (v : V) → v.stage ≡ Idle → (v.share ≡ 0 → v.count ≡ 0) → Splits Rule id v v (note_of v)
@@ -207,6 +212,7 @@ module _ {D C R B : Type 0} (model : D → C → R → D → Type 0) (content : 
         heard_known = λ i x e. absurd (some-ne-none x (sym e));
         heard_floor = omega arith;
         heard_tickets = λ i u e. absurd (some-ne-none u (sym e));
+        busy = λ p. absurd (omega arith);
       }
       (λ j u _ e. seats_move model content start (SeatOk start n drawn r.driver r.admitted r.log r.owner r.seat_of r.command word) s.views id both
       record {
@@ -221,6 +227,7 @@ module _ {D C R B : Type 0} (model : D → C → R → D → Type 0) (content : 
         heard_known = kw.heard_known;
         heard_floor = kw.heard_floor;
         heard_tickets = kw.heard_tickets;
+        busy = k.busy;
       }
       (λ j u _ e. r.each_seat j u e) j u e))
     where
@@ -267,6 +274,7 @@ module _ {D C R B : Type 0} (model : D → C → R → D → Type 0) (content : 
           heard_known = begins_refl [];
           heard_floor = omega arith;
           heard_tickets = λ i t q. absurd (some-ne-none t (sym q));
+          busy = λ p m two. let z = empty (m + 1) in absurd (omega arith);
         })
         (at_end [] (first_view start) v j e);
   }

@@ -61,7 +61,7 @@ module _ {D C R B : Type 0} (model : D → C → R → D → Type 0) (content : 
     stage_stays v drive own cmd unset floor (Taken (c ∷ cs)) k = let d = drive k.0 in
         subst (λ (z : List E). (0 < v.driving) × (length z < slots) × (word' (length z) ≡ 2) × (command' (length z) ≡ Some c)) (sym d.0) (k.0, k.1, d.1 k.2, cmd (length log) c k.3)
 
-    pub seat_stays : (j : ℕ) (v : V) → drawn ≤ drawn' → Begins log log' → (0 < v.driving → Path (List E) log' log × (admitted' ≡ admitted) × (word (length log) ≡ 2 → word' (length log) ≡ 2)) → ((m : ℕ) → m < drawn → owner' m ≡ owner m)
+    pub seat_stays : (j : ℕ) (v : V) → drawn ≤ drawn' → Begins log log' → (0 < v.driving → Path (List E) log' log × (admitted' ≡ admitted) × (word (length log) ≡ 2 → word' (length log) ≡ 2) × ((m : ℕ) → word' m ≡ 2 → word m ≡ 2)) → ((m : ℕ) → m < drawn → owner' m ≡ owner m)
         → (0 < v.part → seat_of' v.name ≡ seat_of v.name) → admitted ≤ admitted' → ((m : ℕ) (c : C) → command m ≡ Some c → command' m ≡ Some c) → ((m : ℕ) → 0 < word m → 0 < word' m)
         → ((m : ℕ) → m < slots → 0 < v.part → owner' m ≡ v.name → word' m ≡ 4 → (owner m ≡ v.name) × (word m ≡ 4)) → ((m : ℕ) → 0 < v.part → owner m ≡ v.name → m < drawn → word m ≡ 0 → word' m ≡ 0)
         → SeatOk start slots drawn driver admitted log owner seat_of command word j v → SeatOk start slots drawn' driver admitted' log' owner' seat_of' command' word' j v
@@ -76,7 +76,8 @@ module _ {D C R B : Type 0} (model : D → C → R → D → Type 0) (content : 
       stage = stage_stays v (λ p. let d = drive p in (d.0, d.2)) own cmd unset fl v.stage k.stage;
       heard_known = begins_trans v.heard_known log log' k.heard_known b;
       heard_floor = omega arith;
-      heard_tickets = λ i t e. let a = k.heard_tickets i t e in let l : t.number < v.heard_floor = a.1 in (own t.number (omega arith) ∙ a.0, l, a.2, cmd t.number t.command a.3);
+      heard_tickets = λ i t e. let a = k.heard_tickets i t e in let l : t.number < v.heard_floor = a.1 in (own t.number (omega arith) ∙ a.0, l, a.2, cmd t.number t.command a.3, up t.number a.4);
+      busy = λ p m two. let d = drive p in let a = k.busy p m (d.3 m two) in (a.0, a.1 ∙ sym (ap length d.0));
     }
 
   -- one seat's view changes, and what each other knows stays
@@ -94,7 +95,7 @@ module _ {D C R B : Type 0} (model : D → C → R → D → Type 0) (content : 
       → Runs model start log' → Begins r.log log' → length log' ≤ get_or s.words 0 0 → ((m : ℕ) → m ≢ n → m < length log' → m < length r.log)
       → TicketOk content (get_or s.words 0 0) log' n (command' n) x (get_elem? homes' n) → (w.credit ≡ v.credit) × (w.share ≡ v.share) × (w.count ≡ v.count) → 0 < x
       → (x ≡ 4 → (0 < v.part) × (r.owner n ≡ v.name)) → (word_of s.words n ≡ 0 → (0 < v.part) × (r.owner n ≡ v.name))
-      → (id ≢ r.driver → Path (List E) log' r.log × (word_of s.words n ≢ 2))
+      → (id ≢ r.driver → Path (List E) log' r.log × (word_of s.words n ≢ 2) × (x ≢ 2))
       → SeatOk start (length s.homes) (get_or s.words 0 0) r.driver r.admitted log' r.owner r.seat_of command' (put (word_of s.words) n x) id w
       → Rule record { words = set s.words (n + 1) x; homes = homes'; views = set s.views id w }
   moved s r n x id log' command' homes' v w near at deep home cmd cmd_n runs b short grows ticket same_credit pos done unset drive mine =
@@ -130,7 +131,12 @@ module _ {D C R B : Type 0} (model : D → C → R → D → Type 0) (content : 
             (subst (λ (z : ℕ × ℕ × (ℕ → ℕ)). SeatOk start z.0 z.1 r.driver r.admitted log' r.owner r.seat_of command' z.2 id w) (λ i. (sym deep i, sym same0 i, λ m. sym (words_are m) i)) mine)
             (λ j u ne e. subst (λ (z : ℕ). SeatOk start z (get_or (set s.words (n + 1) x) 0 0) r.driver r.admitted log' r.owner r.seat_of command' word' j u) (sym deep)
             (seat_stays (length s.homes) drawn (get_or (set s.words (n + 1) x) 0 0) r.driver r.admitted r.admitted r.log log' r.owner r.owner r.seat_of r.seat_of r.command command' word word' j u (omega arith) b
-            (λ p. let d = drive (λ (h : id ≡ r.driver). ne (((r.each_seat j u e).drives p).0 ∙ sym h)) in (d.0, refl, λ two. else_ (length r.log) (λ (h : length r.log ≡ n). d.1 (ap word (sym h) ∙ two)) ∙ two))
+            (λ p. let d = drive (λ (h : id ≡ r.driver). ne (((r.each_seat j u e).drives p).0 ∙ sym h)) in (
+              d.0,
+              refl,
+              (λ two. else_ (length r.log) (λ (h : length r.log ≡ n). d.1 (ap word (sym h) ∙ two)) ∙ two),
+              λ m two. dite (ℕ_discrete m n) (λ q. absurd (d.2 (sym here ∙ (ap word' (sym q) ∙ two)))) (λ q. sym (else_ m q) ∙ two),
+            ))
             (λ m l. refl) (λ p. refl) (omega arith)
             (λ m c h. dite (ℕ_discrete m n) (λ q. subst (λ (z : ℕ). command' z ≡ Some c) (sym q) (cmd_n c (subst (λ (z : ℕ). r.command z ≡ Some c) q h))) (λ q. cmd m q ∙ h))
             (λ m l. dite (ℕ_discrete m n) (λ q. let g : word' m ≡ x = ap word' q ∙ here in omega arith) (λ q. let g : word' m ≡ word m = else_ m q in omega arith))
@@ -194,8 +200,8 @@ module _ {D C R B : Type 0} (model : D → C → R → D → Type 0) (content : 
   taken_is : (c d : C) → Path (Stage C) (Taken (c ∷ [])) (Taken (d ∷ [])) → Path C c d
   taken_is c d e = cc
 
-  idle_drawn : (n : ℕ) → Path (Stage C) Idle (Drawn n) → ⊥
-  idle_drawn n e = cc
+  idle_taken : (c : C) → Path (Stage C) Idle (Taken (c ∷ [])) → ⊥
+  idle_taken c e = cc
 
   pub command_is : (a b : C) → Path (Option C) (Some a) (Some b) → Path C a b
   command_is a b p = cc
@@ -213,9 +219,9 @@ module _ {D C R B : Type 0} (model : D → C → R → D → Type 0) (content : 
   head_or d [] = d
   head_or d (x ∷ xs) = x.1
 
-  places_in : (slots id : ℕ) (v : V) (n : ℕ) (b : B) (c : C) (more : List (ℕ × Option B)) → v.stage ≡ Drawn n → content b ≡ Asked c
+  places_in : (slots id : ℕ) (v : V) (n : ℕ) (b : B) (c : C) (more : List (ℕ × Option B)) → v.driving ≡ 0 → v.stage ≡ Drawn n → content b ≡ Asked c
       → Allows Rule slots id (v, (n, Some b) ∷ more) (n + 1) (λ y. either (eqb y 0) 1 y) (placed content (step slots (n + 1) 0 1 none) (v, (n, Some b) ∷ more))
-  places_in slots id v n b c more st asked s r wide at _ = let told = placed content (step slots (n + 1) 0 1 none) (v, (n, Some b) ∷ more) in
+  places_in slots id v n b c more idles st asked s r wide at _ = let told = placed content (step slots (n + 1) 0 1 none) (v, (n, Some b) ∷ more) in
       let k = r.each_seat id v at in let g = at_stage s r id v (Drawn n) at st in let part : 0 < v.part = g.0 in let near : n < length s.homes = g.3 in let none_yet : word_of s.words n ≡ 0 = g.4 in
       let below : n < get_or s.words 0 0 = (let a : n < v.floor = g.2 in let f : v.floor ≤ get_or s.words 0 0 = k.floor in omega arith) in
       let old = r.each_ticket n near in let w : V = record v { stage = Idle; tickets = v.tickets ++ held n c ∷ [] } in let command' = put r.command n (Some c) in let word : ℕ → ℕ = word_of s.words in let word' = put word n 1 in
@@ -235,7 +241,7 @@ module _ {D C R B : Type 0} (model : D → C → R → D → Type 0) (content : 
               unlogged = λ _. omega arith;
               last = omega arith;
             }
-            (refl, refl, refl) (omega arith) (λ h. absurd (omega arith)) (λ _. (part, g.1)) (λ _. (refl, λ h. omega arith))
+            (refl, refl, refl) (omega arith) (λ h. absurd (omega arith)) (λ _. (part, g.1)) (λ _. (refl, (λ h. omega arith), λ h. omega arith))
             record {
               begun = k.begun;
               known = k.known;
@@ -252,8 +258,9 @@ module _ {D C R B : Type 0} (model : D → C → R → D → Type 0) (content : 
               stage = tt;
               heard_known = k.heard_known;
               heard_floor = k.heard_floor;
-              heard_tickets = λ i t e. let a = k.heard_tickets i t e in
-                  (a.0, a.1, a.2, put_else r.command n (Some c) t.number (λ q. some_none t.command (sym (old.unplaced none_yet) ∙ (ap r.command (sym q) ∙ a.3))) ∙ a.3);
+              heard_tickets = λ i t e. let a = k.heard_tickets i t e in let ne : t.number ≢ n = (λ q. let z : word t.number ≡ word n = ap word q in let u : 0 < word t.number = a.4 in omega arith) in
+                  (a.0, a.1, a.2, put_else r.command n (Some c) t.number ne ∙ a.3, subst (λ (z : ℕ). 0 < z) (sym (put_else word n 1 t.number ne)) a.4);
+              busy = λ p. let d : 0 < v.driving = p in absurd (omega arith);
             },
         (λ n' b' c' more' is has asked'. let nn : n ≡ n' = drawn_is n n' (sym st ∙ is) in let bb = some_is b b' (ap (head_or None) has) in
             let cc' = asked_is c c' (sym asked ∙ (ap content bb ∙ asked')) in
@@ -261,10 +268,10 @@ module _ {D C R B : Type 0} (model : D → C → R → D → Type 0) (content : 
       ))
       (λ miss. absurd (miss none_yet))
 
-  pub places : (slots id : ℕ) (me : Mine) (n : ℕ) (b : B) (c : C) (more : List (ℕ × Option B)) → me.0.stage ≡ Drawn n → me.1 ≡ (n, Some b) ∷ more → content b ≡ Asked c
+  pub places : (slots id : ℕ) (me : Mine) (n : ℕ) (b : B) (c : C) (more : List (ℕ × Option B)) → me.0.driving ≡ 0 → me.0.stage ≡ Drawn n → me.1 ≡ (n, Some b) ∷ more → content b ≡ Asked c
       → Allows Rule slots id me (n + 1) (λ y. either (eqb y 0) 1 y) (placed content (step slots (n + 1) 0 1 none) me)
-  places slots id me n b c more st has asked = subst (λ (cs : List (ℕ × Option B)). Allows Rule slots id (me.0, cs) (n + 1) (λ y. either (eqb y 0) 1 y) (placed content (step slots (n + 1) 0 1 none) (me.0, cs))) (sym has)
-      (places_in slots id me.0 n b c more st asked)
+  places slots id me n b c more idles st has asked = subst (λ (cs : List (ℕ × Option B)). Allows Rule slots id (me.0, cs) (n + 1) (λ y. either (eqb y 0) 1 y) (placed content (step slots (n + 1) 0 1 none) (me.0, cs))) (sym has)
+      (places_in slots id me.0 n b c more idles st asked)
 
   -- a step on the count of draws, which goes up by one
   counted : (s : S) (r : Rule s) (id : ℕ) (owner' : ℕ → ℕ) (homes' : List (maybe.Option (Option B))) (v w : V) → get_elem? s.views id ≡ some v → length homes' ≡ length s.homes
@@ -310,7 +317,7 @@ module _ {D C R B : Type 0} (model : D → C → R → D → Type 0) (content : 
             (subst (λ (z : ℕ × ℕ × (ℕ → ℕ)). SeatOk start z.0 z.1 r.driver r.admitted r.log owner' r.seat_of r.command z.2 id w) (λ i. (sym deep i, sym is i, λ m. sym (else_ m) i)) mine)
             (λ j u _ e. subst (λ (z : ℕ). SeatOk start z x r.driver r.admitted r.log owner' r.seat_of r.command word' j u) (sym deep)
             (seat_stays (length s.homes) y x r.driver r.admitted r.admitted r.log r.log r.owner owner' r.seat_of r.seat_of r.command r.command word word' j u (omega arith) (begins_refl r.log)
-            (λ p. (refl, refl, λ two. else_ (length r.log) ∙ two)) own (λ p. refl) (omega arith) (λ m c h. h) (λ m l. let g : word' m ≡ word m = else_ m in omega arith)
+            (λ p. (refl, refl, (λ two. else_ (length r.log) ∙ two), λ m two. sym (else_ m) ∙ two)) own (λ p. refl) (omega arith) (λ m c h. h) (λ m l. let g : word' m ≡ word m = else_ m in omega arith)
             (λ m l p o four. let g : word m ≡ 4 = sym (else_ m) ∙ four in let below : m < y = lower (word m) m y g (empty m l) in (sym (own m below) ∙ o, g))
             (λ m p o l z. else_ m ∙ z)
             (r.each_seat j u e)));
@@ -327,7 +334,7 @@ module _ {D C R B : Type 0} (model : D → C → R → D → Type 0) (content : 
       let next : (y + 1) % 2 ^ 64 ≡ y + 1 = omega arith in
       subst (Goes s 0 id me (told y)) (sym next)
       (dite (dec_le slots y)
-      (λ full. let w : V = record v { credit = 0 } in let sum = total_set credit s.views id v w at in (
+      (λ full. let w : V = record v { credit = 0; floor = y + 1 } in let sum = total_set credit s.views id v w at in let fl = k.floor in (
         w,
         keeps,
         tt,
@@ -335,17 +342,18 @@ module _ {D C R B : Type 0} (model : D → C → R → D → Type 0) (content : 
             record {
               begun = k.begun;
               known = k.known;
-              floor = (let f = k.floor in omega arith);
+              floor = (let g : y + 1 ≤ y + 1 = omega arith in g);
               mine = k.mine;
               drives = k.drives;
-              tickets = k.tickets;
+              tickets = λ i t e. let a = k.tickets i t e in let l : t.number < v.floor = a.2 in let l' : t.number < y + 1 = omega arith in (a.0, a.1, l', a.3, a.4, a.5);
               collected = k.collected;
               stage = subst (AtStage (length s.homes) (y + 1) r.log r.owner r.command (word_of s.words) w) (sym st) tt;
               heard_known = k.heard_known;
               heard_floor = (let f = k.heard_floor in omega arith);
               heard_tickets = k.heard_tickets;
+              busy = k.busy;
             },
-        ((λ l. absurd (omega arith)), λ _. (refl, refl)),
+        ((λ l. absurd (omega arith)), λ _. (refl, refl, fl)),
       ))
       (λ some_left. let w : V = record v { stage = Drawn y; floor = y + 1; count = v.count + 1 } in let owner' = put r.owner y v.name in let near : y < length s.homes = omega arith in let sum = total_set credit s.views id v w at in
       let free = (r.each_ticket y near).free (omega arith) in let fl = k.floor in let short = r.short in let long = begins_long v.known r.log k.known in (
@@ -366,7 +374,8 @@ module _ {D C R B : Type 0} (model : D → C → R → D → Type 0) (content : 
               stage = (part, put_here r.owner y v.name, (let g : y < y + 1 = omega arith in g), near, free.0);
               heard_known = k.heard_known;
               heard_floor = (let f = k.heard_floor in omega arith);
-              heard_tickets = λ i t e. let a = k.heard_tickets i t e in let l : t.number < v.heard_floor = a.1 in let hf = k.heard_floor in (put_else r.owner y v.name t.number (λ q. omega arith) ∙ a.0, l, a.2, a.3);
+              heard_tickets = λ i t e. let a = k.heard_tickets i t e in let l : t.number < v.heard_floor = a.1 in let hf = k.heard_floor in (put_else r.owner y v.name t.number (λ q. omega arith) ∙ a.0, l, a.2, a.3, a.4);
+              busy = λ p m two. absurd ((k.busy p m two).0 st);
             },
         ((λ _. (refl, refl, fl, (let g : length v.known ≤ y = omega arith in g))), λ l. absurd (omega arith)),
       )))
@@ -403,11 +412,25 @@ module _ {D C R B : Type 0} (model : D → C → R → D → Type 0) (content : 
               stage = (drives, (let g : length r.log < length s.homes = omega arith in g), ap word' (sym nl) ∙ put_here word n 2, ap r.command (sym nl) ∙ p.2);
               heard_known = k.heard_known;
               heard_floor = k.heard_floor;
-              heard_tickets = k.heard_tickets;
+              heard_tickets = λ i t e. let a = k.heard_tickets i t e in (a.0, a.1, a.2, a.3, raised word n 2 t.number (omega arith) a.4);
+              busy = λ p' m two. dite (ℕ_discrete m n) (λ q. ((λ z. idle_taken c (sym z)), q ∙ nl)) (λ q. absurd ((k.busy p' m (sym (put_else word n 2 m q) ∙ two)).0 st));
             },
         ((λ _. (b, c, p.3, refl, refl)), λ ne. absurd (ne hit)),
       ))
-      (λ miss. (v, keeps, tt, unmoved s r (n + 1) id v v at (refl, refl, refl) k, ((λ hit. absurd (miss hit)), λ _. refl)))
+      (λ miss. (
+        v,
+        keeps,
+        tt,
+        unmoved s r (n + 1) id v v at (refl, refl, refl) k,
+        (
+          (λ hit. absurd (miss hit)),
+          λ _. (
+            refl,
+            λ i t e q. let a = k.heard_tickets i t e in let some_word : 0 < word n = subst (λ (z : ℕ). 0 < word z) q a.4 in
+                let low : word n < 3 = old.unlogged (omega arith) in let ne : word n ≢ 1 = miss in let two : word n ≡ 2 = omega arith in (k.busy drives n two).0 st,
+          ),
+        ),
+      ))
     where
       raised : (word : ℕ → ℕ) (n x m : ℕ) → 0 < x → 0 < word m → 0 < put word n x m
       raised word n x m pos h = dite (ℕ_discrete m n) (λ q. subst (λ (z : ℕ). 0 < put word n x z) (sym q) (subst (λ (z : ℕ). 0 < z) (sym (put_here word n x)) pos)) (λ q. subst (λ (z : ℕ). 0 < z) (sym (put_else word n x m q)) h)
@@ -448,7 +471,8 @@ module _ {D C R B : Type 0} (model : D → C → R → D → Type 0) (content : 
               stage = tt;
               heard_known = begins_trans v.heard_known r.log log' k.heard_known grown;
               heard_floor = k.heard_floor;
-              heard_tickets = k.heard_tickets;
+              heard_tickets = λ i t e. let z = k.heard_tickets i t e in (z.0, z.1, z.2, z.3, raised word n 3 t.number (omega arith) z.4);
+              busy = λ p m two'. dite (ℕ_discrete m n) (λ q. let z : word' m ≡ 3 = ap word' q ∙ put_here word n 3 in absurd (omega arith)) (λ q. absurd (q ((k.busy p m (sym (put_else word n 3 m q) ∙ two')).1 ∙ sym nl)));
             },
         (λ b' c' a' more' is has answer'. let bb = some_is b b' (ap (head_or None) has) in let cc' = taken_is c c' (sym st ∙ is) in let aa = answered_is a a' (sym answer ∙ (ap content bb ∙ answer')) in
             (λ i. record v { stage = Idle; known = v.known ++ entry (cc' i) (aa i) ∷ [] }, ap rest has)),
@@ -495,7 +519,7 @@ module _ {D C R B : Type 0} (model : D → C → R → D → Type 0) (content : 
               unlogged = λ h. let l = old.unlogged h in absurd (omega arith);
               last = omega arith;
             }
-            (refl, refl, refl) (omega arith) (λ _. (part, mine.1)) (λ h. absurd (omega arith)) (λ _. (refl, λ h. omega arith))
+            (refl, refl, refl) (omega arith) (λ _. (part, mine.1)) (λ h. absurd (omega arith)) (λ _. (refl, (λ h. omega arith), λ h. omega arith))
             record {
               begun = k.begun;
               known = begins_refl r.log;
@@ -507,7 +531,8 @@ module _ {D C R B : Type 0} (model : D → C → R → D → Type 0) (content : 
               stage = subst (AtStage (length s.homes) (get_or s.words 0 0) r.log r.owner r.command word' w) (sym st) tt;
               heard_known = k.heard_known;
               heard_floor = k.heard_floor;
-              heard_tickets = k.heard_tickets;
+              heard_tickets = λ j u e. let z = k.heard_tickets j u e in (z.0, z.1, z.2, z.3, raised word n 4 u.number (omega arith) z.4);
+              busy = λ p' m two. dite (ℕ_discrete m n) (λ q. let z : word' m ≡ 4 = ap word' q ∙ put_here word n 4 in absurd (omega arith)) (λ q. absurd ((k.busy p' m (sym (put_else word n 4 m q) ∙ two)).0 st));
             },
         λ n' is'. let nn : n ≡ n' = omega arith in (fits, k.heard_known, (λ _. (b, p.1, (λ z. record v { collected = nn z ∷ v.collected; known = r.log }), (λ z. (nn z, Some b) ∷ me.1), subst (λ (z : ℕ). get_elem? r.log z ≡ some p.1) nn p.2, p.3)), λ miss. absurd (miss hit)),
       ))
@@ -546,6 +571,7 @@ module _ {D C R B : Type 0} (model : D → C → R → D → Type 0) (content : 
         heard_known = k.heard_known;
         heard_floor = k.heard_floor;
         heard_tickets = k.heard_tickets;
+        busy = k.busy;
       }
 
   -- the same, where the number is known by another name

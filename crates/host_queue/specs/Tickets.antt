@@ -49,6 +49,10 @@ module _ {D C R : Type 0} where
   abbrev pub first_view : D → View D C R
   first_view d = record { start = d ∷ []; part = 0; name = 0; credit = 16; share = 0; count = 0; driving = 1; admitted = 0; stage = Idle; tickets = []; collected = []; known = []; floor = 0; heard_name = 0; heard_floor = 0; heard_tickets = []; heard_known = [] }
 
+-- the next ticket of the list is none of those that the seat heard of
+abbrev pub IsUnheard : {D C R : Type 0} → View D C R → Type 0
+IsUnheard {D} {C} {R} v = (i : ℕ) (t : Held C) → get_elem? v.heard_tickets i ≡ some t → t.number ≢ length v.known
+
 -- B is a boxed request, and content what it holds
 -- one ticket: its command, its word and what is at home in its slot
 pub record TicketOk {C R B : Type 0} (content : B → Request C R) (drawn : ℕ) (log : List (Entry C R)) (n : ℕ) (command : Option C) (word : ℕ) (home : maybe.Option (maybe.Option (Option B))) : Type 0 where
@@ -78,7 +82,8 @@ pub record SeatOk {D C R : Type 0} (start : D) (slots drawn driver admitted : �
   pub stage : AtStage slots drawn log owner command word v v.stage
   pub heard_known : Begins v.heard_known log
   pub heard_floor : v.heard_floor ≤ drawn
-  pub heard_tickets : (i : ℕ) (t : Held C) → get_elem? v.heard_tickets i ≡ some t → (owner t.number ≡ v.heard_name) × (t.number < v.heard_floor) × (t.number < slots) × (command t.number ≡ Some t.command)
+  pub heard_tickets : (i : ℕ) (t : Held C) → get_elem? v.heard_tickets i ≡ some t → (owner t.number ≡ v.heard_name) × (t.number < v.heard_floor) × (t.number < slots) × (command t.number ≡ Some t.command) × (0 < word t.number)
+  pub busy : 0 < v.driving → (m : ℕ) → word m ≡ 2 → (v.stage ≢ Idle) × (m ≡ length log)
 
 pub record Kept {D C R B : Type 0} (step : D → C → R → D → Type 0) (content : B → Request C R) (start : D) (s : State (Option B) (View D C R)) : Type 0 where
   pub log : List (Entry C R)
@@ -103,16 +108,16 @@ module _ {D C R B : Type 0} (content : B → Request C R) where
   -- the next number was drawn, which none of the seat's own tickets has; or all are drawn
   abbrev pub drew : Step (Option B) → Me (Option B) (View D C R) → ℕ → Me (Option B) (View D C R) → Type 0
   drew st m n m' = (n < st.slots → (m'.0 ≡ record m.0 { stage = Drawn n; floor = n + 1; count = m.0.count + 1 }) × (m'.1 ≡ (n, None) ∷ m.1) × (m.0.floor ≤ n) × (length m.0.known ≤ n))
-      × (st.slots ≤ n → (m'.0 ≡ record m.0 { credit = 0 }) × (m'.1 ≡ m.1))
+      × (st.slots ≤ n → (m'.0 ≡ record m.0 { credit = 0; floor = n + 1 }) × (m'.1 ≡ m.1) × (m.0.floor ≤ n))
 
   -- the request in hand was placed
   abbrev pub placed : Step (Option B) → Me (Option B) (View D C R) → ℕ → Me (Option B) (View D C R) → Type 0
   placed st m e m' = (n : ℕ) (b : B) (c : C) (more : List (ℕ × Option B)) → m.0.stage ≡ Drawn n → m.1 ≡ (n, Some b) ∷ more → content b ≡ Asked c
       → (m'.0 ≡ record m.0 { stage = Idle; tickets = m.0.tickets ++ held n c ∷ [] }) × (m'.1 ≡ more)
 
-  -- the next ticket's request was taken, or is not there
+  -- the next ticket's request was taken, or is not there, so that the seat has not heard of it
   abbrev pub took : Step (Option B) → Me (Option B) (View D C R) → ℕ → Me (Option B) (View D C R) → Type 0
-  took st m e m' = (e ≡ 1 → (b : B) × (c : C) × (content b ≡ Asked c) × (m'.0 ≡ record m.0 { stage = Taken (c ∷ []) }) × (m'.1 ≡ (length m.0.known, Some b) ∷ m.1)) × (e ≢ 1 → m' ≡ m)
+  took st m e m' = (e ≡ 1 → (b : B) × (c : C) × (content b ≡ Asked c) × (m'.0 ≡ record m.0 { stage = Taken (c ∷ []) }) × (m'.1 ≡ (length m.0.known, Some b) ∷ m.1)) × (e ≢ 1 → (m' ≡ m) × IsUnheard m.0)
 
   -- the answer in hand was put, and stands in the history
   abbrev pub answered : Step (Option B) → Me (Option B) (View D C R) → ℕ → Me (Option B) (View D C R) → Type 0
@@ -213,6 +218,13 @@ module _ {D C R : Type 0} where
     pub idle : v.stage ≡ Idle
     pub share : v.share ≡ 0
     pub count : v.count ≡ 0
+
+  -- the driver let one client in, and each ticket of the client is answered, as the client knows
+  pub record IsOnly (driver client : View D C R) : Type 0 where
+    pub admitted : driver.admitted ≡ 1
+    pub share : driver.share ≡ 0
+    pub answered : length client.tickets ≡ length driver.known
+    pub known : Begins driver.known client.known
 
   -- no ticket is in both views
   abbrev pub IsApart : View D C R → View D C R → Type 0

@@ -1,12 +1,12 @@
 //! The queue, and those who use it.
-ghost use Rattle.std.specs.Prelude.{◌≡◌, ℕ, List, ◌+◌, ◌<◌, ◌≤◌, ◌≢◌, [], ◌∷◌, ◌++◌, length, slice_get, vec_len, OnOk, IfOk, IfErr, IfSome, IfNone, MatchResult, MatchOption, Some, None, false};
+ghost use Rattle.std.specs.Prelude.{◌≡◌, ℕ, List, ◌+◌, ◌<◌, ◌≤◌, ◌≢◌, [], ◌∷◌, ◌++◌, length, slice_get, vec_len, OnOk, IfOk, IfErr, IfSome, IfNone, MatchResult, MatchOption, Some, None, false, true};
 ghost use Rattle.std.specs.Box.{box_value};
 ghost use mathlib.Core.Option.{some};
 ghost use lib.ListN.{get_elem?};
 ghost use Rattle.host_queue.specs.declared.view.Request.TheVariants.{Asked, Answered as AnsweredBy};
 ghost use Rattle.host_queue.specs.declared.view.Entry.{Entry};
 ghost use Rattle.host_queue.specs.History.{Begins, RunsTo};
-ghost use Rattle.host_queue.specs.Tickets.{total, IsClient, IsDriver, IsNote, IsOpen, IsApart, AgreeAt, AllBelow, Serves, StaysOpen, StaysOpenBut, Fits, held, host_of, guest_of};
+ghost use Rattle.host_queue.specs.Tickets.{total, IsClient, IsDriver, IsNote, IsOpen, IsOnly, IsUnheard, IsApart, AgreeAt, AllBelow, Serves, entry, StaysOpen, StaysOpenBut, Fits, held, host_of, guest_of};
 ghost use Rattle.host_queue.specs.Opened.{Each, IsGuest};
 
 use crate::machine::Machine;
@@ -37,6 +37,7 @@ pub struct Client<D: Machine<C, R>, C: Drop, R: Drop> {
     ghost client: { IsClient D.step seat.me.0 },
     ghost above: { AllBelow seat.me.0.tickets next },
     ghost room: { full ≡ false → 0 < seat.me.0.credit },
+    ghost past: { full ≡ true → 4096 ≤ seat.me.0.floor },
 }
 
 /// The right to one answer.
@@ -66,7 +67,9 @@ impl<D: Machine<C, R>, C: Drop, R: Drop> Client<D, C, R> {
         ensures others { StaysOpen self.old.seat.me.0 self.new.seat.me.0 }
         ensures floor { self.old.seat.me.0.floor ≤ self.new.seat.me.0.floor }
         ensures ticket { IfOk result (λ t. (c : C) × (box_value request ≡ Asked c) × (self.new.seat.me.0.tickets ≡ self.old.seat.me.0.tickets ++ held t.number c ∷ [])) }
+        ensures next { IfOk result (λ t. self.new.seat.me.0.floor ≡ t.number + 1) }
         ensures err { IfErr result (λ f. (f.request ≡ request) × (self.new.seat.me.0.tickets ≡ self.old.seat.me.0.tickets)) }
+        ensures full { IfErr result (λ f. 4096 ≤ self.new.seat.me.0.floor) }
         ensures same { (self.new.seat.me.0.known ≡ self.old.seat.me.0.known) × (self.new.seat.me.0.collected ≡ self.old.seat.me.0.collected) × (self.new.seat.me.0.start ≡ self.old.seat.me.0.start) × (self.new.seat.me.0.name ≡ self.old.seat.me.0.name) }
     {
         if self.full {
@@ -183,6 +186,7 @@ impl<D: Machine<C, R>, C: Drop, R: Drop> Driver<D, C, R> {
         ensures some { IfSome result (λ a. (a.seat.table_id ≡ self.old.seat.table_id) × (a.count ≡ length self.old.seat.me.0.known + 1) × (a.seat.me.0.known ≡ self.new.seat.me.0.known) × ((x : Entry C R) × (self.new.seat.me.0.known ≡ self.old.seat.me.0.known ++ x ∷ []) × D.step self.old.machine x.command x.reply self.new.machine)) }
         ensures grows { Begins self.old.seat.me.0.known self.new.seat.me.0.known × (length self.new.seat.me.0.known ≤ length self.old.seat.me.0.known + 1) }
         ensures none { IfNone result ((self.new.machine ≡ self.old.machine) × (self.new.seat.me.0 ≡ self.old.seat.me.0)) }
+        ensures waits { IfNone result (length self.old.seat.me.0.known < 4096 → IsUnheard self.old.seat.me.0) }
         ensures same { (self.new.seat.me.0.start ≡ self.old.seat.me.0.start) × (self.new.seat.me.0.admitted ≡ self.old.seat.me.0.admitted) × (self.new.seat.me.0.share ≡ self.old.seat.me.0.share) × (self.new.seat.me.0.count ≡ self.old.seat.me.0.count) }
     {
         if self.count >= TICKETS as u64 {
@@ -203,6 +207,58 @@ impl<D: Machine<C, R>, C: Drop, R: Drop> Driver<D, C, R> {
             seat,
             count: self.count,
         })
+    }
+}
+
+impl<D: Machine<C, R>, C: Drop, R: Drop> Driver<D, C, R> {
+    // Hears of the tickets of the only client, and looks at how many are drawn.
+    // The client lends its right to draw for the look: while the driver has all these rights, the count of draws is that of the tickets.
+    fn hear(&mut self, queue: &Queue<D, C, R>, client: &mut Client<D, C, R>)
+        requires one { (self.old.seat.table_id ≡ queue.now.table.shared.table_id) × (client.old.seat.table_id ≡ queue.now.table.shared.table_id) }
+        requires alone { (self.old.seat.me.0.admitted ≡ 1) × (self.old.seat.me.0.share ≡ 0) }
+        ensures one { (self.new.seat.table_id ≡ self.old.seat.table_id) × (client.new.seat.table_id ≡ client.old.seat.table_id) }
+        ensures heard { self.new.seat.me.0.heard_tickets ≡ client.old.seat.me.0.tickets }
+        ensures drawn { (client.old.seat.me.0.floor ≤ 4096 → client.old.seat.me.0.floor ≤ length client.old.seat.me.0.tickets) × (4096 ≤ client.old.seat.me.0.floor → 4096 ≤ length client.old.seat.me.0.tickets) }
+        ensures same { (self.new.machine ≡ self.old.machine) × (self.new.seat.me.0.known ≡ self.old.seat.me.0.known) × (self.new.seat.me.0.start ≡ self.old.seat.me.0.start) × (self.new.seat.me.0.admitted ≡ self.old.seat.me.0.admitted) × (self.new.seat.me.0.share ≡ self.old.seat.me.0.share) }
+        ensures client { (client.new.seat.me.0.tickets ≡ client.old.seat.me.0.tickets) × (client.new.seat.me.0.collected ≡ client.old.seat.me.0.collected) × (client.new.seat.me.0.known ≡ client.old.seat.me.0.known) × (client.new.seat.me.0.floor ≡ client.old.seat.me.0.floor) × (client.new.seat.me.0.start ≡ client.old.seat.me.0.start) × (client.new.seat.me.0.name ≡ client.old.seat.me.0.name) }
+    {
+        let shared = &queue.table.shared;
+        let note = shared.split_seat::<Leave>(&mut client.seat);
+        shared.join_seat::<Learn>(&mut self.seat, note);
+        shared.load::<Look<D>>(&mut self.seat, 0);
+        let back = shared.split_seat::<Leave>(&mut self.seat);
+        shared.join_seat::<Learn>(&mut client.seat, back);
+    }
+
+    /// Does the command of the only client at once, for a program on one thread: submits it, drives it, and collects the reply.
+    pub fn answer(
+        &mut self,
+        queue: &Queue<D, C, R>,
+        client: &mut Client<D, C, R>,
+        request: Box<Request<C, R>>,
+    ) -> Result<Box<Request<C, R>>, Full<C, R>>
+        requires one { (self.old.seat.table_id ≡ queue.now.table.shared.table_id) × (client.old.seat.table_id ≡ queue.now.table.shared.table_id) }
+        requires only { IsOnly self.old.seat.me.0 client.old.seat.me.0 }
+        requires asked { (c : C) × (box_value request ≡ Asked c) }
+        ensures one { (self.new.seat.table_id ≡ self.old.seat.table_id) × (client.new.seat.table_id ≡ client.old.seat.table_id) }
+        ensures only { IsOnly self.new.seat.me.0 client.new.seat.me.0 }
+        ensures ok { IfOk result (λ b. (c : C) × (r : R) × (box_value request ≡ Asked c) × (box_value b ≡ AnsweredBy r) × D.step self.old.machine c r self.new.machine × (self.new.seat.me.0.known ≡ self.old.seat.me.0.known ++ entry c r ∷ [])) }
+        ensures room { IfOk result (λ b. length self.old.seat.me.0.known < 4096) }
+        ensures err { IfErr result (λ f. (f.request ≡ request) × (length self.old.seat.me.0.known ≡ 4096) × (self.new ≡ self.old) × (client.new ≡ client.old)) }
+        ensures start { (self.new.seat.me.0.start ≡ self.old.seat.me.0.start) × (client.new.seat.me.0.start ≡ client.old.seat.me.0.start) × (client.new.seat.me.0.name ≡ client.old.seat.me.0.name) }
+    {
+        if self.count >= TICKETS as u64 {
+            return Err(Full { request });
+        }
+        let submitted = client.submit(queue, request);
+        self.hear(queue, client);
+        match submitted {
+            Ok(ticket) => {
+                let mut answered = self.drive_one(queue).unwrap();
+                Ok(client.poll_known(queue, ticket, &mut answered))
+            }
+            Err(_) => unreachable!(),
+        }
     }
 }
 

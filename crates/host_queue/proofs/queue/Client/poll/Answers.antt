@@ -15,6 +15,7 @@ compare_exchange-requires g c = let own = c.requires.own in let low = (c.args.se
 pub invariant_of-self : goal.invariant_of-self
 invariant_of-self g c = let told = c.compare_exchange.ensures.2 c.args.ticket.number refl in let miss = told.3 (search rules) in record {
   client = client_knows g.D.Machine.step c.args.self.now.seat.me.0 c.compare_exchange.new.seat.me.0 c.args.self.now.seat.me.0.collected c.args.self.now.seat.me.0.floor c.args.self.now.client.ready told.0 (le_refl _) c.args.self.now.client.ready.collected miss.0;
+  past = λ h. let past = c.args.self.now.past h in let same : c.compare_exchange.new.seat.me.0.floor ≡ c.args.self.now.seat.me.0.floor = ap (λ z. z.floor) miss.0 in omega arith;
   room = λ h. let room = c.args.self.now.room h in let same : c.compare_exchange.new.seat.me.0.credit ≡ c.args.self.now.seat.me.0.credit = ap (λ z. z.credit) miss.0 in omega arith;
   above = subst (λ l. AllBelow l c.args.self.now.next) (sym (ap (λ z. z.tickets) miss.0)) c.args.self.now.above;
 }
@@ -43,6 +44,7 @@ invariant_of-self-2 g c = let told = c.compare_exchange.ensures.2 c.args.ticket.
       client = client_knows g.D.Machine.step c.args.self.now.seat.me.0 c.exchange.new.seat.me.0 (c.args.ticket.number ∷ c.args.self.now.seat.me.0.collected) c.args.self.now.seat.me.0.floor c.args.self.now.client.ready
           (fits_is g.D.Machine.step c.args.self.now.seat.me.0 c.compare_exchange.new.seat.me.0 c.exchange.new.seat.me.0 told.0 now) (le_refl _)
           (had_more g.D.Machine.step c.args.self.now.seat.me.0 c.args.ticket.number c.requires.own.0 c.requires.own.1 c.args.self.now.client.ready c.requires.own.2 c.requires.own.3) e;
+      past = λ h. let past = c.args.self.now.past h in let same : c.exchange.new.seat.me.0.floor ≡ c.args.self.now.seat.me.0.floor = ap (λ z. z.floor) e in omega arith;
       room = λ h. let room = c.args.self.now.room h in let same : c.exchange.new.seat.me.0.credit ≡ c.args.self.now.seat.me.0.credit = ap (λ z. z.credit) e in omega arith;
       above = subst (λ l. AllBelow l c.args.self.now.next) (sym (ap (λ z. z.tickets) e)) c.args.self.now.above;
     }

@@ -38,6 +38,7 @@ invariant_of-self g c = let told = c.compare_exchange.ensures.2 c.args.ticket.nu
           (had_more g.D.Machine.step c.join_seat.new.seat.me.0 c.args.ticket.number c.requires.own.0 c.requires.own.1
           (ready_told g.D.Machine.step c.args.self.now.seat.me.0 c.split_seat-note.result.me.0 c.join_seat.new.seat.me.0 c.args.self.now.client.ready (note_is c.args.answered.now.seat.me.0 c.split_seat-note.result.me.0 o) j)
           (ap (λ v. get_elem? v.tickets c.requires.own.0) j ∙ c.requires.own.2) c.requires.own.3) e;
+      past = λ h. let past = c.args.self.now.past h in let same : c.exchange.new.seat.me.0.floor ≡ c.args.self.now.seat.me.0.floor = ap (λ z. z.floor) e ∙ ap (λ z. z.floor) j in omega arith;
       room = λ h. let room = c.args.self.now.room h in let same : c.exchange.new.seat.me.0.credit ≡ c.args.self.now.seat.me.0.credit = ap (λ z. z.credit) e ∙ ap (λ z. z.credit) j in omega arith;
       above = subst (λ l. AllBelow l c.args.self.now.next) (sym (ap (λ z. z.tickets) e ∙ ap (λ z. z.tickets) j)) c.args.self.now.above;
     }

@@ -1,4 +1,4 @@
-use Rattle.std.proofs.Common.{rules, arith, sym, ap, ◌∙◌, subst, ◌≡◌, ℕ, ◌+◌}
+use Rattle.std.proofs.Common.{rules, arith, sym, ap, ◌∙◌, subst, ◌≡◌, ℕ, ◌+◌, ◌≤◌}
 use Rattle.std.specs.Box.{box_value}
 use Rattle.host_queue.specs.Tickets.{AllBelow}
 use Rattle.host_queue.proofs.Keeps.{draws, places}
@@ -11,14 +11,15 @@ fetch_add-drawn-requires g c = let k = c.args.self.now.client.ready in let part 
 
 pub invariant_of-self : goal.invariant_of-self
 invariant_of-self g c = let drew = c.fetch_add-drawn.ensures.2.1 (search rules) in record {
-  client = client_full g.D.Machine.step _ _ c.args.self.now.client drew.0;
+  client = client_full g.D.Machine.step _ _ (c.fetch_add-drawn.result + 1) c.args.self.now.client (let low = drew.2 in omega arith) drew.0;
+  past = λ _. (let f : c.fetch_add-drawn.new.seat.me.0.floor ≡ c.fetch_add-drawn.result + 1 = ap (λ v. v.floor) drew.0 in let full : 4096 ≤ c.fetch_add-drawn.result = search rules in omega arith);
   room = λ h. cc;
   above = subst (λ l. AllBelow l c.args.self.now.next) (sym (ap (λ z. z.tickets) drew.0)) c.args.self.now.above;
 }
 
 pub compare_exchange-self-requires : goal.compare_exchange-self-requires
 compare_exchange-self-requires g c = let drew = c.fetch_add-drawn.ensures.2.0 (search rules) in let now = c.exchange.ensures.3 in
-    (search rules, search rules, places g.D.Machine.step box_value _ _ _ _ _ c.args.request c.requires.asked.0 _ (ap (λ m. m.0.stage) now ∙ ap (λ v. v.stage) drew.0) (ap (λ m. m.1) now) c.requires.asked.1)
+    (search rules, search rules, places g.D.Machine.step box_value _ _ _ _ _ c.args.request c.requires.asked.0 _ (ap (λ m. m.0.driving) now ∙ (ap (λ v. v.driving) drew.0 ∙ c.args.self.now.client.ready.driving)) (ap (λ m. m.0.stage) now ∙ ap (λ v. v.stage) drew.0) (ap (λ m. m.1) now) c.requires.asked.1)
 
 pub invariant_of-self-2 : goal.invariant_of-self-2
 invariant_of-self-2 g c = let drew = c.fetch_add-drawn.ensures.2.0 (search rules) in let now = c.exchange.ensures.3 in let n : ℕ = c.fetch_add-drawn.result in
@@ -26,6 +27,7 @@ invariant_of-self-2 g c = let drew = c.fetch_add-drawn.ensures.2.0 (search rules
     let e = placed_is g.D.Machine.step c.args.self.now.seat.me.0 c.fetch_add-drawn.new.seat.me.0 c.exchange.new.seat.me.0 c.compare_exchange-self.new.seat.me.0 n c.requires.asked.0 drew.0 (ap (λ m. m.0) now) put.0 in record {
       client = client_placed g.D.Machine.step c.args.self.now.seat.me.0 c.compare_exchange-self.new.seat.me.0 n c.requires.asked.0 c.args.self.now.client drew.2 drew.3 (search rules) e;
       room = λ h. let room = c.args.self.now.room h in let same : c.compare_exchange-self.new.seat.me.0.credit ≡ c.args.self.now.seat.me.0.credit = ap (λ v. v.credit) e in omega arith;
+      past = λ h. let past = c.args.self.now.past h in let f : c.compare_exchange-self.new.seat.me.0.floor ≡ n + 1 = ap (λ v. v.floor) e in let low = drew.2 in omega arith;
       above = all_below c.compare_exchange-self.new.seat.me.0 (n + 1) (client_placed g.D.Machine.step c.args.self.now.seat.me.0 c.compare_exchange-self.new.seat.me.0 n c.requires.asked.0 c.args.self.now.client drew.2 drew.3 (search rules) e).ready
           (let f : c.compare_exchange-self.new.seat.me.0.floor ≡ n + 1 = ap (λ v. v.floor) e in omega arith);
     }
@@ -60,6 +62,12 @@ returns-clause-floor g c = let drew = c.fetch_add-drawn.ensures.2.0 (search rule
     let put = c.compare_exchange-self.ensures.2 n c.args.request c.requires.asked.0 _ (ap (λ m. m.0.stage) now ∙ ap (λ v. v.stage) drew.0) (ap (λ m. m.1) now) c.requires.asked.1 in
     let e = placed_is g.D.Machine.step c.args.self.now.seat.me.0 c.fetch_add-drawn.new.seat.me.0 c.exchange.new.seat.me.0 c.compare_exchange-self.new.seat.me.0 n c.requires.asked.0 drew.0 (ap (λ m. m.0) now) put.0 in
     let f : c.compare_exchange-self.new.seat.me.0.floor ≡ n + 1 = ap (λ v. v.floor) e in let low = drew.2 in omega arith
+
+pub returns-clause-next : goal.returns-clause-next
+returns-clause-next g c = let drew = c.fetch_add-drawn.ensures.2.0 (search rules) in let now = c.exchange.ensures.3 in let n : ℕ = c.fetch_add-drawn.result in
+    let put = c.compare_exchange-self.ensures.2 n c.args.request c.requires.asked.0 _ (ap (λ m. m.0.stage) now ∙ ap (λ v. v.stage) drew.0) (ap (λ m. m.1) now) c.requires.asked.1 in
+    let e = placed_is g.D.Machine.step c.args.self.now.seat.me.0 c.fetch_add-drawn.new.seat.me.0 c.exchange.new.seat.me.0 c.compare_exchange-self.new.seat.me.0 n c.requires.asked.0 drew.0 (ap (λ m. m.0) now) put.0 in
+    ap (λ v. v.floor) e
 
 pub returns-then-drawn-clause-others : goal.returns-then-drawn-clause-others
 returns-then-drawn-clause-others g c = let drew = c.fetch_add-drawn.ensures.2.1 (search rules) in

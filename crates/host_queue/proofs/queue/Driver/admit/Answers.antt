@@ -19,6 +19,7 @@ invariant_of-self g c = let e = ap (λ m. m.0) c.split_seat-seat.ensures.2 in re
 pub invariant_of-result : goal.invariant_of-result
 invariant_of-result g c = let e = ap (λ m. m.0) c.split_seat-seat.ensures.4 in record {
   client = client_guest g.D.Machine.step c.args.self.now.seat.me.0 c.split_seat-seat.result.me.0 e;
+  past = λ h. cc;
   room = λ _. let one : c.split_seat-seat.result.me.0.credit ≡ 1 = ap (λ z. z.credit) e in omega arith;
   above = λ i t at. absurd (some-ne-none t (sym (sym (ap (λ z. get_elem? z.tickets i) e) ∙ at)));
 }
