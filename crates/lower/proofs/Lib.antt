@@ -25,3 +25,4 @@ pub mod Lowered
 pub mod Chosen
 pub mod Rounds
 pub mod Places
+pub mod Lent

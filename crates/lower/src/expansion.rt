@@ -3,7 +3,7 @@
 //! No call of a helper is a call of this code: what is left to write stands on a list, whose end is what comes next.
 #![tactic(auto, using(lower_code::proofs::Drafts::draft_whole, lower_code::proofs::Drafts::part_whole))]
 
-ghost use Rattle.std.specs.Prelude.{◌≡◌, ◌++◌, reverse, IfOk, OnOk};
+ghost use Rattle.std.specs.Prelude.{◌≡◌, ◌++◌, reverse, IfOk, OnOk, OnErr};
 ghost use Rattle.lower_code.specs.Parts.{hole_code, part_code, whole, HoleKnown, IsKnown, AllKnown};
 
 use crate::statements::emit_body;
@@ -12,12 +12,11 @@ use lower_code::holes::{Helpers, Hole, Part};
 use regcode::Instruction;
 use std::alloc::{AllocError, Global};
 
-/// Puts the body that a hole leaves out before the rest, with those of the helpers that it calls left out.
-fn open<'a>(alloc: Global, hole: &Hole<'a>, rest: &mut Vec<Part<'a>>) -> Result<(), AllocError>
-    requires known { HoleKnown hole.now }
-    requires rest { AllKnown rest.old.items }
-    ensures code { OnOk result (whole (reverse rest.new.items) ≡ hole_code hole.now ++ whole (reverse rest.old.items)) }
-    ensures known { OnOk result (AllKnown rest.new.items) }
+/// The parts of the body that a hole leaves out, the last first, with the bodies of the helpers that it calls left out.
+fn open<'a>(alloc: Global, hole: &Hole<'a>) -> Result<Vec<Part<'a>>, AllocError>
+    requires { HoleKnown hole.now }
+    ensures code { IfOk result (λ parts. whole (reverse parts.items) ≡ hole_code hole.now) }
+    ensures known { IfOk result (λ parts. AllKnown parts.items) }
 {
     let helpers = Helpers {
         functions: hole.functions,
@@ -33,12 +32,10 @@ fn open<'a>(alloc: Global, hole: &Hole<'a>, rest: &mut Vec<Part<'a>>) -> Result<
         hole.site,
         &mut body,
     )?;
-    let parts = body.into_parts();
-    rest.extend_from_slice(&parts)?;
-    Ok(())
+    Ok(body.into_parts())
 }
 
-/// Takes a part off the rest: an instruction is added to the code, and a hole is opened.
+/// Takes a part off the rest: an instruction is added to the code, and a hole is opened. Err if out of memory: nothing changes then.
 fn write<'a>(
     alloc: Global,
     part: &Part<'a>,
@@ -49,13 +46,19 @@ fn write<'a>(
     requires rest { AllKnown rest.old.items }
     ensures code { OnOk result (code.new.items ++ whole (reverse rest.new.items) ≡ code.old.items ++ (part_code part.now ++ whole (reverse rest.old.items))) }
     ensures known { OnOk result (AllKnown rest.new.items) }
+    ensures same_code { OnErr result (code.new.items ≡ code.old.items) }
+    ensures same_rest { OnErr result (rest.new.items ≡ rest.old.items) }
 {
     match part {
         Part::Own(instruction) => {
             code.push(*instruction)?;
             Ok(())
         }
-        Part::Left(hole) => open(alloc, hole, rest),
+        Part::Left(hole) => {
+            let body = open(alloc, hole)?;
+            rest.extend_from_slice(&body)?;
+            Ok(())
+        }
     }
 }
 

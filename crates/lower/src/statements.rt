@@ -5,9 +5,9 @@
 //! here goes into another function: the time is that of the function's own statements. But the body of a `for` with a third part is
 //! counted before it is written, since its barriers have the higher numbers and its code stands first, and the turns of a loop are
 //! put together before the loop is; a statement inside n such loops is so gone through n times more (8 at most in a checked kernel).
-#![tactic(auto)]
+#![tactic(auto, using(lower_code::proofs::Growth::unchanged, lower_code::proofs::Growth::before, lower_code::proofs::Growth::one_before, lower_code::proofs::Growth::same_scope, lower_code::proofs::Growth::inner_scope))]
 
-ghost use Rattle.std.specs.Prelude.{◌≡◌, ◌+◌, ◌++◌, true, length, IfOk, OnOk};
+ghost use Rattle.std.specs.Prelude.{◌≡◌, ◌+◌, ◌++◌, true, length, IfOk, OnOk, OnErr};
 ghost use Rattle.std.specs.Option.{option_map};
 ghost use Rattle.clmodel.specs.Next.{sites, part_sites, all_sites};
 ghost use Rattle.clmodel.specs.Tree as tree;
@@ -15,6 +15,7 @@ ghost use Rattle.clmodel.specs.Tree.{stmt, term};
 ghost use Rattle.lower_code.specs.Trees.{all_of, part_of};
 ghost use Rattle.lower_code.specs.Code.{condition_code, while_code};
 ghost use Rattle.lower_code.specs.Emission.{inside, body_of, statement_code, row_code, maybe_code, test_of};
+ghost use Rattle.lower_code.specs.Growth.{GrowsBefore, KeepsOuter};
 ghost use Rattle.lower.specs.Statements.{is_loop, is_single, begun_at, once_code, round_code};
 
 use crate::sites::{site_before, site_behind_all};
@@ -68,7 +69,8 @@ fn emit_single<'a>(
     requires { is_single statement.now ≡ true }
     ensures code { IfOk result (λ site. code.new ≡ statement_code setting.now scope.old (stmt statement.now) (begun_at ending site) ++ code.old) }
     ensures site { IfOk result (λ site. site + sites (inside setting.now.helpers.functions.now) (stmt statement.now) ≡ ending.behind) }
-    ensures scope { OnOk result (scope.new ≡ scope.old) }
+    ensures scope { scope.new ≡ scope.old }
+    ensures longer { OnErr result (GrowsBefore code.old code.new) }
 {
     let site = site_before(setting.helpers, ending.behind, statement)?;
     let position = Position {
@@ -90,7 +92,8 @@ fn put_single<'a>(
 ) -> Result<(), AllocError>
     requires { is_single statement.now ≡ true }
     ensures code { OnOk result (code.new ≡ statement_code setting.now scope.old (stmt statement.now) position ++ code.old) }
-    ensures scope { OnOk result (scope.new ≡ scope.old) }
+    ensures scope { scope.new ≡ scope.old }
+    ensures longer { OnErr result (GrowsBefore code.old code.new) }
 {
     match statement {
         Statement::Empty { .. } => Ok(()),
@@ -120,6 +123,8 @@ fn emit_statement<'a>(
     ensures code { IfOk result (λ site. code.new ≡ statement_code setting.now scope.old (stmt statement.now) (begun_at ending site) ++ code.old) }
     ensures site { IfOk result (λ site. site + sites (inside setting.now.helpers.functions.now) (stmt statement.now) ≡ ending.behind) }
     ensures scope { OnOk result (scope.new ≡ scope.old) }
+    ensures longer { OnErr result (GrowsBefore code.old code.new) }
+    ensures kept { OnErr result (KeepsOuter scope.old scope.new) }
 {
     match statement {
         Statement::Block { body, .. } => emit_all(setting, scope, body, ending, code),
@@ -162,6 +167,8 @@ fn emit_loop<'a>(
     ensures code { IfOk result (λ site. code.new ≡ statement_code setting.now scope.old (stmt statement.now) (begun_at ending site) ++ code.old) }
     ensures site { IfOk result (λ site. site + sites (inside setting.now.helpers.functions.now) (stmt statement.now) ≡ ending.behind) }
     ensures scope { OnOk result (scope.new ≡ scope.old) }
+    ensures longer { OnErr result (GrowsBefore code.old code.new) }
+    ensures kept { OnErr result (KeepsOuter scope.old scope.new) }
 {
     match statement {
         Statement::While {
@@ -215,6 +222,8 @@ fn emit_all<'a>(
     ensures code { IfOk result (λ site. code.new ≡ row_code setting.now scope.old (all_of statements.now) (begun_at ending site) ++ code.old) }
     ensures site { IfOk result (λ site. site + all_sites (inside setting.now.helpers.functions.now) (all_of statements.now) ≡ ending.behind) }
     ensures scope { OnOk result (scope.new ≡ scope.old) }
+    ensures longer { OnErr result (GrowsBefore code.old code.new) }
+    ensures kept { OnErr result (KeepsOuter scope.old scope.new) }
 {
     declare_all(scope, statements)?;
     let end = code.len();
@@ -241,7 +250,8 @@ pub fn emit_body<'a>(
     site: u32,
     code: &mut Draft<'a>,
 ) -> Result<(), AllocError>
-    ensures { OnOk result (code.new ≡ body_of helpers.entry.functions.now function.now level depth site ++ code.old) }
+    ensures code { OnOk result (code.new ≡ body_of helpers.entry.functions.now function.now level depth site ++ code.old) }
+    ensures longer { OnErr result (GrowsBefore code.old code.new) }
 {
     let end = code.len();
     put_no_value(function.result, level, code)?;
@@ -280,6 +290,8 @@ fn emit_if<'a>(
     ensures code { IfOk result (λ site. code.new ≡ statement_code setting.now scope.old (tree.If 0 (term condition.now) (stmt chosen.now)) (begun_at ending site) ++ code.old) }
     ensures site { IfOk result (λ site. site + sites (inside setting.now.helpers.functions.now) (stmt chosen.now) ≡ ending.behind) }
     ensures scope { OnOk result (scope.new ≡ scope.old) }
+    ensures longer { OnErr result (GrowsBefore code.old code.new) }
+    ensures kept { OnErr result (KeepsOuter scope.old scope.new) }
 {
     let end = code.len();
     let site = emit_statement(setting, scope, chosen, ending, code)?;
@@ -301,6 +313,8 @@ fn emit_choice<'a>(
     ensures code { IfOk result (λ site. code.new ≡ statement_code setting.now scope.old (tree.IfElse 0 (term condition.now) (stmt chosen.now) (stmt otherwise.now)) (begun_at ending site) ++ code.old) }
     ensures site { IfOk result (λ site. site + (sites (inside setting.now.helpers.functions.now) (stmt chosen.now) + sites (inside setting.now.helpers.functions.now) (stmt otherwise.now)) ≡ ending.behind) }
     ensures scope { OnOk result (scope.new ≡ scope.old) }
+    ensures longer { OnErr result (GrowsBefore code.old code.new) }
+    ensures kept { OnErr result (KeepsOuter scope.old scope.new) }
 {
     let end = code.len();
     let between = emit_statement(setting, scope, otherwise, ending, code)?;
@@ -329,6 +343,8 @@ fn emit_part<'a>(
     ensures code { IfOk result (λ site. code.new ≡ maybe_code setting.now scope.old (part_of part.entry) (begun_at ending site) ++ code.old) }
     ensures site { IfOk result (λ site. site + part_sites (inside setting.now.helpers.functions.now) (part_of part.entry) ≡ ending.behind) }
     ensures scope { OnOk result (scope.new ≡ scope.old) }
+    ensures longer { OnErr result (GrowsBefore code.old code.new) }
+    ensures kept { OnErr result (KeepsOuter scope.old scope.new) }
 {
     match part {
         None => Ok(ending.behind),
@@ -349,6 +365,8 @@ fn emit_do<'a>(
     ensures code { IfOk result (λ site. code.new ≡ statement_code setting.now scope.old (tree.DoWhile 0 (stmt body.now) (term condition.now)) (begun_at ending site) ++ code.old) }
     ensures site { IfOk result (λ site. site + sites (inside setting.now.helpers.functions.now) (stmt body.now) ≡ ending.behind) }
     ensures scope { OnOk result (scope.new ≡ scope.old) }
+    ensures longer { OnErr result (GrowsBefore code.old code.new) }
+    ensures kept { OnErr result (KeepsOuter scope.old scope.new) }
 {
     let mut turn = Draft::new(code.allocator());
     put_condition(scope, Some(condition), &mut turn)?;
@@ -369,6 +387,8 @@ fn emit_once<'a>(
     ensures code { IfOk result (λ site. turn.new ≡ once_code setting.now scope.old (stmt body.now) (begun_at ending site) (length turn.old) ++ turn.old) }
     ensures site { IfOk result (λ site. site + sites (inside setting.now.helpers.functions.now) (stmt body.now) ≡ ending.behind) }
     ensures scope { OnOk result (scope.new ≡ scope.old) }
+    ensures longer { OnErr result (GrowsBefore turn.old turn.new) }
+    ensures kept { OnErr result (KeepsOuter scope.old scope.new) }
 {
     let here = Ending {
         depth: level_above(ending.depth)?,
@@ -392,6 +412,8 @@ fn emit_stepped<'a>(
     ensures code { IfOk result (λ site. turn.new ≡ round_code setting.now scope.old (tree.With (stmt third.now)) (stmt body.now) (begun_at ending site) (length turn.old) ++ turn.old) }
     ensures site { IfOk result (λ site. site + (sites (inside setting.now.helpers.functions.now) (stmt third.now) + sites (inside setting.now.helpers.functions.now) (stmt body.now)) ≡ ending.behind) }
     ensures scope { OnOk result (scope.new ≡ scope.old) }
+    ensures longer { OnErr result (GrowsBefore turn.old turn.new) }
+    ensures kept { OnErr result (KeepsOuter scope.old scope.new) }
 {
     let between = site_before(setting.helpers, ending.behind, body)?;
     let last = Ending {
@@ -417,6 +439,8 @@ fn emit_round<'a>(
     ensures code { IfOk result (λ site. turn.new ≡ round_code setting.now scope.old (part_of third.entry) (stmt body.now) (begun_at ending site) (length turn.old) ++ turn.old) }
     ensures site { IfOk result (λ site. site + (part_sites (inside setting.now.helpers.functions.now) (part_of third.entry) + sites (inside setting.now.helpers.functions.now) (stmt body.now)) ≡ ending.behind) }
     ensures scope { OnOk result (scope.new ≡ scope.old) }
+    ensures longer { OnErr result (GrowsBefore turn.old turn.new) }
+    ensures kept { OnErr result (KeepsOuter scope.old scope.new) }
 {
     match third {
         None => emit_once(setting, scope, body, ending, turn),
@@ -439,6 +463,8 @@ fn emit_for<'a>(
     ensures code { IfOk result (λ site. code.new ≡ statement_code setting.now scope.old (tree.For 0 (part_of first.entry) (test_of condition.entry) (part_of third.entry) (stmt body.now)) (begun_at ending site) ++ code.old) }
     ensures site { IfOk result (λ site. site + sites (inside setting.now.helpers.functions.now) (tree.For 0 (part_of first.entry) (test_of condition.entry) (part_of third.entry) (stmt body.now)) ≡ ending.behind) }
     ensures scope { OnOk result (scope.new ≡ scope.old) }
+    ensures longer { OnErr result (GrowsBefore code.old code.new) }
+    ensures kept { OnErr result (KeepsOuter scope.old scope.new) }
 {
     let end = code.len();
     declare_part(scope, first)?;
@@ -468,6 +494,8 @@ fn emit_turns<'a>(
         ≡ while_code ending.depth (round_code setting.now scope.old (part_of third.entry) (stmt body.now) (begun_at ending site) (length (condition_code scope.old (test_of condition.entry)))) (condition_code scope.old (test_of condition.entry)) ++ code.old) }
     ensures site { IfOk result (λ site. site + (part_sites (inside setting.now.helpers.functions.now) (part_of third.entry) + sites (inside setting.now.helpers.functions.now) (stmt body.now)) ≡ ending.behind) }
     ensures scope { OnOk result (scope.new ≡ scope.old) }
+    ensures longer { OnErr result (GrowsBefore code.old code.new) }
+    ensures kept { OnErr result (KeepsOuter scope.old scope.new) }
 {
     let mut turn = Draft::new(code.allocator());
     put_condition(scope, condition, &mut turn)?;

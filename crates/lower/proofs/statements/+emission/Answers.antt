@@ -1,4 +1,4 @@
-use Rattle.std.proofs.Common.{◌≡◌, ℕ, ◌+◌, ◌-◌, ◌<◌, ◌++◌, Option, Bor, List, length, take, ap, ap₂, sym, subst, ◌∙◌, arith, IfOk}
+use Rattle.std.proofs.Common.{◌≡◌, ℕ, ◌+◌, ◌-◌, ◌<◌, ◌++◌, refl, Option, Bor, List, length, take, ap, ap₂, sym, subst, ◌∙◌, arith, IfOk}
 use Rattle.std.proofs.lemmas.Result.{IfOk-weaker}
 use Rattle.std.specs.Option.{option_map}
 use Rattle.clmodel.specs.Next.{sites, part_sites, all_sites}
@@ -10,10 +10,13 @@ use Rattle.lower_code.specs.Variables.{scope_after_all}
 use Rattle.lower_code.specs.Trees.{all_of, part_of}
 use Rattle.lower_code.specs.Code.{Exits, past, stmt_code, stmts_code, condition_code, call_code, result_in}
 use Rattle.lower_code.specs.Emission.{functions_of, inside, statement_code, row_code, test_of, exits_of}
+use Rattle.lower_code.proofs.Growth.{unchanged, before, one_before, both, inner_scope}
 use Rattle.lower_code.proofs.Trees.{row_more}
 use Rattle.lower_code.proofs.Rows.{row_laid, longer, choice_placed, begun}
 use Rattle.lower_code.proofs.Lists.{block_is}
+use Rattle.lower_expr.proofs.Growth.{on_err}
 use Rattle.lower.specs.Statements.{begun_at, once_code, round_code}
+use Rattle.lower.proofs.Lent.{after_part, after_turns, left_statement}
 use Rattle.lower.proofs.Rounds.{once_placed, stepped_placed, lone_round, for_placed, part_named, part_is, for_sites}
 use Rattle.lower.proofs.statements.+emission.Goals as goal
 
@@ -166,6 +169,7 @@ emit_all-loop-i-preserved t c =
       scope = c.in_ok-behind.ensures.scope ∙ inner ∙ ap (λ m. scope_after_all start (all_of (take m ss))) next;
       site = omega (arith, c.loop-i.invariant.site, count, begins, shorter);
       longer = omega (arith, size, c.loop-i.invariant.longer);
+      grows = both c.args.code.now c.loop-i.code c.emit_statement.new.code c.loop-i.invariant.grows (record { added = last; is = emitted });
       code = λ site there.
           let here : site + all_sites f front ≡ first = ap (λ m. site + m) (sym shorter) ∙ there in
           let was : site + all_sites f (all_of (take n ss)) ≡ c.loop-i.behind = omega (arith, count, here, begins) in
@@ -175,3 +179,95 @@ emit_all-loop-i-preserved t c =
           emitted (omega (arith, size, c.loop-i.invariant.longer))
           ∙ ap (λ m. stmts_code (call_code fs) (result_in fs) f s.result start (all_of (take m ss)) e.depth site (past behind (exits_of e.exits)) ++ c.emit_statement.new.code) next;
     }
+
+pub emit_all-returns-in_err-added-clause-longer : goal.emit_all-returns-in_err-added-clause-longer
+emit_all-returns-in_err-added-clause-longer t c =
+    on_err c.from_residual-in_err-added.result c.loop-i.invariant.grows
+
+pub emit_all-returns-in_err-added-clause-kept : goal.emit_all-returns-in_err-added-clause-kept
+emit_all-returns-in_err-added-clause-kept t c =
+    on_err c.from_residual-in_err-added.result
+    (left_statement c.args.scope.now c.loop-i.scope c.leave.new.scope c.args.statements.now c.loop-i.i c.index-statements-statements.result
+    (omega (arith, c.loop-i-test.true)) c.index-statements-statements.is c.loop-i.invariant.scope c.leave.ensures)
+
+pub emit_all-returns-in_err-past-clause-longer : goal.emit_all-returns-in_err-past-clause-longer
+emit_all-returns-in_err-past-clause-longer t c =
+    on_err c.from_residual-in_err-past.result c.loop-i.invariant.grows
+
+pub emit_all-returns-in_err-past-clause-kept : goal.emit_all-returns-in_err-past-clause-kept
+emit_all-returns-in_err-past-clause-kept t c =
+    on_err c.from_residual-in_err-past.result
+    (left_statement c.args.scope.now c.loop-i.scope c.leave.new.scope c.args.statements.now c.loop-i.i c.index-statements-statements.result
+    (omega (arith, c.loop-i-test.true)) c.index-statements-statements.is c.loop-i.invariant.scope c.leave.ensures)
+
+pub emit_all-returns-in_err-behind-clause-longer : goal.emit_all-returns-in_err-behind-clause-longer
+emit_all-returns-in_err-behind-clause-longer t c =
+    on_err c.from_residual-in_err-behind.result (both c.args.code.now c.loop-i.code c.emit_statement.new.code c.loop-i.invariant.grows c.in_err-behind.ensures.longer)
+
+pub emit_all-returns-in_err-behind-clause-kept : goal.emit_all-returns-in_err-behind-clause-kept
+emit_all-returns-in_err-behind-clause-kept t c =
+    on_err c.from_residual-in_err-behind.result
+    (inner_scope c.args.scope.now c.leave.new.scope c.emit_statement.new.scope
+    (left_statement c.args.scope.now c.loop-i.scope c.leave.new.scope c.args.statements.now c.loop-i.i c.index-statements-statements.result
+    (omega (arith, c.loop-i-test.true)) c.index-statements-statements.is c.loop-i.invariant.scope c.leave.ensures)
+    c.in_err-behind.ensures.kept)
+
+pub emit_choice-returns-in_err-added-clause-longer : goal.emit_choice-returns-in_err-added-clause-longer
+emit_choice-returns-in_err-added-clause-longer t c =
+    on_err c.from_residual-in_err-added.result
+    (before c.args.code.now c.emit_statement.new.code c.put.new.self _ c.in_ok-between.ensures.code
+    (one_before _ c.emit_statement.new.code c.put.new.self c.put.new.self c.in_ok-put.ensures.code
+    (unchanged c.put.new.self c.put.new.self refl)))
+
+pub emit_choice-returns-in_err-past-clause-longer : goal.emit_choice-returns-in_err-past-clause-longer
+emit_choice-returns-in_err-past-clause-longer t c =
+    on_err c.from_residual-in_err-past.result
+    (before c.args.code.now c.emit_statement.new.code c.put.new.self _ c.in_ok-between.ensures.code
+    (one_before _ c.emit_statement.new.code c.put.new.self c.put.new.self c.in_ok-put.ensures.code
+    (unchanged c.put.new.self c.put.new.self refl)))
+
+pub emit_choice-returns-in_err-site-clause-longer : goal.emit_choice-returns-in_err-site-clause-longer
+emit_choice-returns-in_err-site-clause-longer t c =
+    on_err c.from_residual-in_err-site.result
+    (before c.args.code.now c.emit_statement.new.code c.emit_statement-2.new.code _ c.in_ok-between.ensures.code
+    (one_before _ c.emit_statement.new.code c.put.new.self c.emit_statement-2.new.code c.in_ok-put.ensures.code
+    (c.in_err-site.ensures.longer)))
+
+pub emit_choice-returns-in_err-added-2-clause-longer : goal.emit_choice-returns-in_err-added-2-clause-longer
+emit_choice-returns-in_err-added-2-clause-longer t c =
+    on_err c.from_residual-in_err-added-2.result
+    (before c.args.code.now c.emit_statement.new.code c.emit_statement-2.new.code _ c.in_ok-between.ensures.code
+    (one_before _ c.emit_statement.new.code c.put.new.self c.emit_statement-2.new.code c.in_ok-put.ensures.code
+    (before c.put.new.self c.emit_statement-2.new.code c.emit_statement-2.new.code _ c.in_ok-site.ensures.code (unchanged c.emit_statement-2.new.code c.emit_statement-2.new.code refl))))
+
+pub emit_choice-returns-in_err-put_test-clause-longer : goal.emit_choice-returns-in_err-put_test-clause-longer
+emit_choice-returns-in_err-put_test-clause-longer t c =
+    on_err c.from_residual-in_err-put_test.result
+    (before c.args.code.now c.emit_statement.new.code c.put_test.new.code _ c.in_ok-between.ensures.code
+    (one_before _ c.emit_statement.new.code c.put.new.self c.put_test.new.code c.in_ok-put.ensures.code
+    (before c.put.new.self c.emit_statement-2.new.code c.put_test.new.code _ c.in_ok-site.ensures.code c.in_err-put_test.ensures.longer)))
+
+pub emit_for-returns-in_err-behind-clause-kept : goal.emit_for-returns-in_err-behind-clause-kept
+emit_for-returns-in_err-behind-clause-kept t c =
+    on_err c.from_residual-in_err-behind.result
+    (inner_scope c.args.scope.now c.declare_part.new.scope c.emit_turns.new.scope
+    (after_part c.args.scope.now c.declare_part.new.scope (part_of c.args.first) c.in_ok-declare_part.ensures.declared)
+    c.in_err-behind.ensures.kept)
+
+pub emit_for-returns-in_err-added-clause-longer : goal.emit_for-returns-in_err-added-clause-longer
+emit_for-returns-in_err-added-clause-longer t c =
+    on_err c.from_residual-in_err-added.result
+    (after_turns c.args.setting.now c.declare_part.new.scope (test_of c.args.condition) (part_of c.args.third) (stmt c.args.body.now) (begun_at c.args.ending c.in_ok-behind.behind)
+    c.args.code.now c.emit_turns.new.code c.emit_turns.new.code c.in_ok-behind.ensures.code (unchanged c.emit_turns.new.code c.emit_turns.new.code refl))
+
+pub emit_for-returns-in_err-past-clause-longer : goal.emit_for-returns-in_err-past-clause-longer
+emit_for-returns-in_err-past-clause-longer t c =
+    on_err c.from_residual-in_err-past.result
+    (after_turns c.args.setting.now c.declare_part.new.scope (test_of c.args.condition) (part_of c.args.third) (stmt c.args.body.now) (begun_at c.args.ending c.in_ok-behind.behind)
+    c.args.code.now c.emit_turns.new.code c.emit_turns.new.code c.in_ok-behind.ensures.code (unchanged c.emit_turns.new.code c.emit_turns.new.code refl))
+
+pub emit_for-returns-in_err-site-clause-longer : goal.emit_for-returns-in_err-site-clause-longer
+emit_for-returns-in_err-site-clause-longer t c =
+    on_err c.from_residual-in_err-site.result
+    (after_turns c.args.setting.now c.declare_part.new.scope (test_of c.args.condition) (part_of c.args.third) (stmt c.args.body.now) (begun_at c.args.ending c.in_ok-behind.behind)
+    c.args.code.now c.emit_turns.new.code c.emit_part.new.code c.in_ok-behind.ensures.code c.in_err-site.ensures.longer)

@@ -6,6 +6,7 @@ use Rattle.lower_code.specs.Variables.{scope_after_all}
 use Rattle.lower_code.specs.Trees.{all_of}
 use Rattle.lower_code.specs.Code.{stmts_code, call_code, result_in, past}
 use Rattle.lower_code.specs.Emission.{functions_of, inside, exits_of, row_code}
+use Rattle.lower_code.specs.Growth.{GrowsBefore}
 use Rattle.lower_code.proofs.Lists.{part_depth}
 use Rattle.lower.specs.Statements.{begun_at}
 use Rattle.lower.proofs.statements.+emission.Given as goal
@@ -53,6 +54,7 @@ invariant-emit_all-loop-i l = record {
   site : l.behind + all_sites (inside l.setting.helpers.functions.now) (all_of l.statements)
       ≡ l.ending.behind + all_sites (inside l.setting.helpers.functions.now) (all_of (take (length l.statements - l.i) l.statements));
   longer : length l.fn.code ≤ length l.code;
+  grows : GrowsBefore l.fn.code l.code;
   code : (site : ℕ) → site + all_sites (inside l.setting.helpers.functions.now) (all_of (take (length l.statements - l.i) l.statements)) ≡ l.behind
       → row_code l.setting l.fn.scope (all_of l.statements) (begun_at l.ending site) ++ l.fn.code
       ≡ stmts_code (call_code (functions_of l.setting.helpers.functions.now)) (result_in (functions_of l.setting.helpers.functions.now)) (inside l.setting.helpers.functions.now) l.setting.result l.fn.scope

@@ -4,8 +4,8 @@ use Rattle.lower_code.specs.Code.{parameter_variables}
 use Rattle.lower.proofs.Rounds.{body_placed}
 use Rattle.lower.proofs.statements.emit_body.Goals as goal
 
-pub returns : goal.returns
-returns c =
+pub returns-clause-code : goal.returns-clause-code
+returns-clause-code c =
     let one = c.put_no_value.new.code in
     body_placed c.args.helpers.functions.now c.args.function.now c.args.level c.args.depth c.args.site c.in_ok-emit_all.field-0 c.in_ok-behind.behind c.declare_parameters.new.scope c.as_slice-body.result.now
     c.in_ok-added.field-0 c.args.code.now one c.emit_all.new.code

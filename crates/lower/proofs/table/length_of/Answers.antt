@@ -8,4 +8,4 @@ pub returns-in-Ok : goal.returns-in-Ok
 returns-in-Ok c level depth site =
     let fs = c.args.helpers.functions.now in
     let f = c.args.function.now in
-    c.len.ensures ∙ ap length (begun (body_of fs f 0 0 0) c.new-code.result c.emit_body.new.code c.new-code.ensures c.in-Ok.ensures) ∙ body_length_of fs f level depth site
+    c.len.ensures ∙ ap length (begun (body_of fs f 0 0 0) c.new-code.result c.emit_body.new.code c.new-code.ensures c.in-Ok.ensures.code) ∙ body_length_of fs f level depth site
