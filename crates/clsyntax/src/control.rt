@@ -118,6 +118,7 @@ fn for_of(turns: Turns, body: Box<Statement>) -> Statement
 fn settle(before_else: bool, statement: Box<Statement>, stack: Stack) -> Result<Settled, AllocError>
     ensures { IfOk result (λ settled. settled_of settled ≡ machine.settle before_else (stmt statement.value) (opened stack)) }
 {
+    // The frame is looked at before it is taken out of its box: it couldn't be put back without memory.
     if !ends(before_else, &stack.frames) {
         return Ok(Settled { statement, stack });
     }

@@ -87,6 +87,7 @@ pub fn begin_turns(
 fn end_simple(nesting: u32, statement: Box<Statement>, stack: Stack) -> Moved
     ensures { Steps result (machine.end_simple nesting (stmt statement.value) (opened stack)) }
 {
+    // The frame is looked at before it is taken, since it stays but in front of the second part of a `for`.
     match stack.part() {
         Part::Other => stack.go(nesting, Mode::Did(statement)),
         Part::Final => Ok(Step::Refused),

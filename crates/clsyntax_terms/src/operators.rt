@@ -163,6 +163,7 @@ pub(crate) fn close(
 ) -> Result<Folded, AllocError>
     ensures { IfOk result (λ folded. folded_of folded ≡ machine.close least from (term value.value) (opened stack)) }
 {
+    // The frame is looked at before it is taken out of its box: it couldn't be put back without memory.
     if !takes(least, &stack.frames) {
         return Ok(Folded { from, value, stack });
     }

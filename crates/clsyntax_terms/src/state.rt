@@ -518,7 +518,8 @@ impl Stack {
         Ok(Stack { alloc, frames })
     }
 
-    /// The frame in front, and the stack without it.
+    /// The frame in front, and the stack without it. One that doesn't fit is let go by `drop(frame)`: else the drop of each variant
+    /// is written into the function that took it, and proved there.
     pub fn pop(self) -> Option<(Frame, Stack)>
         ensures { MatchOption result (opened self ≡ []) (λ popped. opened self ≡ frame_of popped.0 ∷ opened popped.1) }
     {
