@@ -19,7 +19,7 @@ use clsyntax_terms::state::{
 fn in_block(frames: &Frames) -> bool
     ensures { result ≡ machine.in_block (frames_of frames.now) }
 {
-    matches!(frames, Frames::Inside(Frame::InItems(..), _))
+    matches!(frames, Frames::Inside(Frame::InItems { .. }, _))
 }
 
 /// The square bracket behind a declared name.
@@ -86,10 +86,11 @@ fn on_length(array: Array, length_at: u32, length: Value, stack: Stack) -> Moved
         length,
     };
     let statement = Box::new(stack.alloc, declaration)?;
-    stack.go(
-        inner,
-        Mode::Array(ArrayMode::Sized(array.nesting, statement)),
-    )
+    let sized = ArrayMode::Sized {
+        nesting: array.nesting,
+        statement,
+    };
+    stack.go(inner, Mode::Array(sized))
 }
 
 /// The bracket behind an array's length.
@@ -97,7 +98,7 @@ fn on_sized(nesting: u32, statement: Box<Statement>, stack: Stack) -> Moved
     ensures { Steps result (machine.go (suc nesting) (machine.ArrayClosed nesting (stmt statement.value)) (opened stack)) }
 {
     match deeper(nesting) {
-        Some(inner) => stack.go(inner, Mode::Array(ArrayMode::Closed(nesting, statement))),
+        Some(inner) => stack.go(inner, Mode::Array(ArrayMode::Closed { nesting, statement })),
         None => Ok(Step::Deep),
     }
 }
@@ -113,10 +114,10 @@ pub(crate) fn on_array_mode(mode: ArrayMode, stack: Stack, token: Token) -> Move
         (ArrayMode::Opened(array), TokenKind::Number(length)) => {
             on_length(array, token.at, length, stack)
         }
-        (ArrayMode::Sized(nesting, statement), TokenKind::CloseSquare) => {
+        (ArrayMode::Sized { nesting, statement }, TokenKind::CloseSquare) => {
             on_sized(nesting, statement, stack)
         }
-        (ArrayMode::Closed(nesting, statement), TokenKind::Semicolon) => {
+        (ArrayMode::Closed { nesting, statement }, TokenKind::Semicolon) => {
             add_declaration(nesting, statement, stack)
         }
         _ => Ok(Step::Refused),

@@ -93,10 +93,10 @@ fn ends(before_else: bool, frames: &Frames) -> bool
     ensures { result ≡ ends_front before_else (frames_of frames.now) }
 {
     match frames {
-        Frames::Inside(Frame::Otherwise(..), _) => true,
-        Frames::Inside(Frame::Turns(..), _) => true,
+        Frames::Inside(Frame::Otherwise { .. }, _) => true,
+        Frames::Inside(Frame::Turns { .. }, _) => true,
         Frames::Inside(Frame::ForTurns(_), _) => true,
-        Frames::Inside(Frame::Then(..), _) => !before_else,
+        Frames::Inside(Frame::Then { .. }, _) => !before_else,
         _ => false,
     }
 }
@@ -118,6 +118,7 @@ fn for_of(turns: Turns, body: Box<Statement>) -> Statement
 fn settle(before_else: bool, statement: Box<Statement>, stack: Stack) -> Result<Settled, AllocError>
     ensures { IfOk result (λ settled. settled_of settled ≡ machine.settle before_else (stmt statement.value) (opened stack)) }
 {
+    // The frame is looked at before it is taken out of its box: it couldn't be put back without memory.
     if !ends(before_else, &stack.frames) {
         return Ok(Settled { statement, stack });
     }
@@ -126,18 +127,22 @@ fn settle(before_else: bool, statement: Box<Statement>, stack: Stack) -> Result<
     };
     let alloc = stack.alloc;
     let whole = match frame {
-        Frame::Then(at, _, condition) => Statement::If {
+        Frame::Then { at, condition, .. } => Statement::If {
             at,
             condition,
             chosen: statement,
         },
-        Frame::Otherwise(at, condition, chosen) => Statement::IfElse {
+        Frame::Otherwise {
+            at,
+            condition,
+            chosen,
+        } => Statement::IfElse {
             at,
             condition,
             chosen,
             otherwise: statement,
         },
-        Frame::Turns(at, condition) => Statement::While {
+        Frame::Turns { at, condition } => Statement::While {
             at,
             condition,
             body: statement,
@@ -161,20 +166,35 @@ fn on_settled(statement: Box<Statement>, stack: Stack, token: Token) -> Moved
         return Ok(Step::Refused);
     };
     match frame {
-        Frame::InItems(nesting, mut body) => {
+        Frame::InItems { nesting, mut body } => {
             body.push(Box::into_inner(statement))?;
-            on_item(nesting, stack.push(Frame::InItems(nesting, body))?, token)
+            let stack = stack.push(Frame::InItems { nesting, body })?;
+            on_item(nesting, stack, token)
         }
-        Frame::Then(at, nesting, condition) => match token.kind {
-            TokenKind::Else => begin_controlled(
-                nesting,
-                Frame::Otherwise(at, condition, statement),
-                stack,
-            ),
+        Frame::Then {
+            at,
+            nesting,
+            condition,
+        } => match token.kind {
+            TokenKind::Else => {
+                let otherwise = Frame::Otherwise {
+                    at,
+                    condition,
+                    chosen: statement,
+                };
+                begin_controlled(nesting, otherwise, stack)
+            }
             _ => Ok(Step::Refused),
         },
         Frame::DoTurns { at, nesting } => match token.kind {
-            TokenKind::While => stack.go(nesting, Mode::AfterDo(nesting, at, statement)),
+            TokenKind::While => {
+                let after = Mode::AfterDo {
+                    nesting,
+                    at,
+                    body: statement,
+                };
+                stack.go(nesting, after)
+            }
             _ => Ok(Step::Refused),
         },
         _ => {

@@ -45,7 +45,7 @@ pub(crate) fn on_typing(wanted: Purpose, stack: Stack, kind: TokenKind) -> Moved
         (_, Some(integer)) => TypeMode::Whole(VariableType::Integer(integer)),
         _ => return Ok(Step::Refused),
     };
-    stack.go(nesting_of(wanted), Mode::Typing(wanted, mode))
+    stack.go(nesting_of(wanted), Mode::Typing { wanted, mode })
 }
 
 /// One more parameter of the head.
@@ -112,28 +112,24 @@ pub(crate) fn on_type(wanted: Purpose, mode: TypeMode, stack: Stack, token: Toke
             let Some(element) = type_of(wanted, kind) else {
                 return Ok(Step::Refused);
             };
-            TypeMode::AfterElement(space, matches!(mode, TypeMode::AfterConst(_)), element)
-        }
-        (TypeMode::AfterElement(space, is_const, element), kind) => {
-            let pointer = PointerType {
+            TypeMode::AfterElement(PointerType {
                 space,
-                is_const,
+                is_const: matches!(mode, TypeMode::AfterConst(_)),
                 element,
-            };
-            match kind {
-                TokenKind::Star => TypeMode::Whole(VariableType::Pointer(pointer)),
-                TokenKind::Name(name) => {
-                    return on_local_name(wanted, pointer, token.at, name, stack);
-                }
-                _ => return Ok(Step::Refused),
-            }
+            })
+        }
+        (TypeMode::AfterElement(pointer), TokenKind::Star) => {
+            TypeMode::Whole(VariableType::Pointer(pointer))
+        }
+        (TypeMode::AfterElement(pointer), TokenKind::Name(name)) => {
+            return on_local_name(wanted, pointer, token.at, name, stack);
         }
         (TypeMode::Whole(kind), TokenKind::Name(name)) => return on_typed_name(
             wanted, kind, token.at, name, stack,
         ),
         _ => return Ok(Step::Refused),
     };
-    stack.go(nesting_of(wanted), Mode::Typing(wanted, next))
+    stack.go(nesting_of(wanted), Mode::Typing { wanted, mode: next })
 }
 
 /// Where a function's body begins.
@@ -146,9 +142,9 @@ fn on_open_brace(at: u32, stack: Stack) -> Moved
     match frame {
         Frame::InHead(head) => {
             let body = Vec::new(stack.alloc);
-            let stack = stack.push(Frame::InBody(head, at))?;
+            let stack = stack.push(Frame::InBody { head, at })?;
             stack
-                .push(Frame::InItems(1, body))?
+                .push(Frame::InItems { nesting: 1, body })?
                 .go(0, Mode::Item { nesting: 1 })
         }
         _ => {

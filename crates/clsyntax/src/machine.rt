@@ -13,11 +13,12 @@ use crate::statements::{
     on_aim, on_aimed, on_begin, on_begin_name, on_declared, on_item, open_call,
 };
 use clmodel::tree::Expression;
-use clnum::IntType;
 use clsyntax_lex::token::{Token, TokenKind};
 use clsyntax_terms::closing::on_ended;
 use clsyntax_terms::expressions::{on_call_open, on_have, on_opened, on_operand, on_optional};
-use clsyntax_terms::state::{Frame, Mode, Moved, Prefix, Stack, State, Step, deeper};
+use clsyntax_terms::state::{
+    Address, Cast, Frame, Have, Mode, Moved, Prefix, Stack, State, Step, deeper,
+};
 use std::alloc::Global;
 
 /// After a name in an expression.
@@ -29,20 +30,44 @@ fn on_named(nesting: u32, at: u32, name: u32, stack: Stack, token: Token) -> Mov
         TokenKind::OpenRound => open_call(false, at, name, nesting, stack),
         _ => {
             let value = Box::new(stack.alloc, Expression::Variable { at, name })?;
-            on_have(nesting, at, value, stack, token)
+            let have = Have {
+                nesting,
+                from: at,
+                value,
+            };
+            on_have(have, stack, token)
         }
     }
 }
 
 /// The bracket behind the type of a cast.
-fn on_cast_type(nesting: u32, at: u32, target: IntType, stack: Stack) -> Moved
-    ensures { Steps result (machine.go (suc nesting) (machine.Operand (suc nesting)) (machine.Before at (grammar.Convert target) ∷ opened stack)) }
+fn on_cast_type(cast: Cast, stack: Stack) -> Moved
+    ensures { Steps result (machine.go (suc cast.nesting) (machine.Operand (suc cast.nesting)) (machine.Before cast.at (grammar.Convert cast.target) ∷ opened stack)) }
 {
-    let prefix = Prefix::Convert(target);
-    match deeper(nesting) {
-        Some(inner) => stack.want(inner, Frame::Before { at, prefix }),
+    let prefix = Prefix::Convert(cast.target);
+    match deeper(cast.nesting) {
+        Some(inner) => stack.want(
+            inner,
+            Frame::Before {
+                at: cast.at,
+                prefix,
+            },
+        ),
         None => Ok(Step::Deep),
     }
+}
+
+/// After `&` and a name.
+fn on_and_name(nesting: u32, at: u32, name_at: u32, name: u32, stack: Stack) -> Moved
+    ensures { Steps result (machine.go nesting (machine.AndName nesting at name_at name) (opened stack)) }
+{
+    let address = Address {
+        nesting,
+        at,
+        name_at,
+        name,
+    };
+    stack.go(nesting, Mode::AndName(address))
 }
 
 /// What a token does.
@@ -53,17 +78,15 @@ pub(crate) fn step(alloc: Global, state: Box<State>, token: Token) -> Moved
     let stack = Stack { alloc, frames };
     match (mode, token.kind) {
         (Mode::Operand { nesting }, _) => on_operand(nesting, stack, token),
-        (Mode::Have(nesting, from, value), _) => on_have(nesting, from, value, stack, token),
+        (Mode::Have(have), _) => on_have(have, stack, token),
         (Mode::Named { nesting, at, name }, _) => on_named(nesting, at, name, stack, token),
         (Mode::Opened { nesting, at }, _) => on_opened(nesting, at, stack, token),
-        (Mode::CastType(nesting, at, target), TokenKind::CloseRound) => {
-            on_cast_type(nesting, at, target, stack)
-        }
+        (Mode::CastType(cast), TokenKind::CloseRound) => on_cast_type(cast, stack),
         (Mode::AfterAnd { nesting, at }, TokenKind::Name(name)) => {
-            stack.go(nesting, Mode::AndName(nesting, at, token.at, name))
+            on_and_name(nesting, at, token.at, name, stack)
         }
-        (Mode::AndName(nesting, at, name_at, name), TokenKind::OpenSquare) => {
-            stack.open(nesting, Frame::InAddress(at, name_at, name, nesting))
+        (Mode::AndName(address), TokenKind::OpenSquare) => {
+            stack.open(address.nesting, Frame::InAddress(address))
         }
         (Mode::CallOpen { nesting }, _) => on_call_open(nesting, stack, token),
         (Mode::Optional { nesting }, _) => on_optional(nesting, stack, token),
@@ -72,14 +95,10 @@ pub(crate) fn step(alloc: Global, state: Box<State>, token: Token) -> Moved
         (Mode::Initial { nesting }, _) => on_initial(nesting, stack, token),
         (Mode::Final { nesting }, _) => on_final(nesting, stack, token),
         (Mode::Aim { nesting }, _) => on_aim(nesting, stack, token),
-        (Mode::BeginName(is_step, nesting, at, name), _) => {
-            on_begin_name(is_step, nesting, at, name, stack, token)
-        }
-        (Mode::Aimed(is_step, nesting, at, target), _) => {
-            on_aimed(is_step, nesting, at, target, stack, token)
-        }
-        (Mode::Ended(nesting, statement), kind) => on_ended(nesting, statement, stack, kind),
-        (Mode::Closing(nesting, statement), TokenKind::Semicolon) => {
+        (Mode::BeginName(name), _) => on_begin_name(name, stack, token),
+        (Mode::Aimed(aimed), _) => on_aimed(aimed, stack, token),
+        (Mode::Ended { nesting, statement }, kind) => on_ended(nesting, statement, stack, kind),
+        (Mode::Closing { nesting, statement }, TokenKind::Semicolon) => {
             stack.go(nesting, Mode::Did(statement))
         }
         (Mode::Did(statement), _) => on_did(statement, stack, token),
@@ -90,10 +109,10 @@ pub(crate) fn step(alloc: Global, state: Box<State>, token: Token) -> Moved
             stack.open(nesting, Frame::InWhile { at, nesting })
         }
         (Mode::AfterFor { nesting, at }, TokenKind::OpenRound) => open_for(nesting, at, stack),
-        (Mode::AfterDo(nesting, at, body), TokenKind::OpenRound) => {
-            stack.open(nesting, Frame::InDo(at, nesting, body))
+        (Mode::AfterDo { nesting, at, body }, TokenKind::OpenRound) => {
+            stack.open(nesting, Frame::InDo { at, nesting, body })
         }
-        (Mode::Typing(purpose, mode), _) => on_type(purpose, mode, stack, token),
+        (Mode::Typing { wanted, mode }, _) => on_type(wanted, mode, stack, token),
         (Mode::Declared(declared), _) => on_declared(declared, stack, token),
         (Mode::Array(mode), _) => on_array_mode(mode, stack, token),
         (Mode::Head(head), _) => on_head(head, stack, token),

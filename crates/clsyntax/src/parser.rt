@@ -72,6 +72,7 @@ fn whole(functions: Vec<Function>, below: Frames, length: u32) -> Result<Vec<Fun
 fn program_of(frames: Frames, length: u32) -> Result<Vec<Function>, SyntaxFault>
     ensures { IsRead result (at_end (ended_in machine.Top (frames_of frames)) length) }
 {
+    // Two matches, so that a frame of another kind is let go by one call (`Stack::pop` says why).
     match frames {
         Frames::Inside(frame, below) => match frame {
             Frame::InProgram(functions) => whole(functions, Box::into_inner(below), length),

@@ -15,7 +15,8 @@ use clsyntax_lex::token::{Token, TokenKind};
 use clsyntax_terms::closing::{add_declaration, declaration, end_step};
 use clsyntax_terms::operators::assign_of;
 use clsyntax_terms::state::{
-    Call, Declared, Frame, HeadMode, Mode, Moved, Purpose, Stack, Step, deeper,
+    Aimed, Assign, Call, Declared, FirstName, Frame, HeadMode, Mode, Moved, Purpose, Stack, Step,
+    deeper,
 };
 
 /// After a declared name.
@@ -69,7 +70,7 @@ fn end_items(nesting: u32, body: Vec<Statement>, stack: Stack) -> Moved
         return Ok(Step::Refused);
     };
     match frame {
-        Frame::InBody(head, at) => {
+        Frame::InBody { head, at } => {
             let function = Function {
                 is_kernel: head.is_kernel,
                 result: head.result,
@@ -99,7 +100,7 @@ fn on_close_brace(stack: Stack) -> Moved
         return Ok(Step::Refused);
     };
     match frame {
-        Frame::InItems(nesting, body) => end_items(nesting, body, stack),
+        Frame::InItems { nesting, body } => end_items(nesting, body, stack),
         _ => {
             drop(frame);
             Ok(Step::Refused)
@@ -117,7 +118,10 @@ fn open_block(nesting: u32, at: u32, stack: Stack) -> Moved
     let body = Vec::new(stack.alloc);
     let stack = stack
         .push(Frame::InBlock { at, nesting })?
-        .push(Frame::InItems(inner, body))?;
+        .push(Frame::InItems {
+            nesting: inner,
+            body,
+        })?;
     stack.go(nesting, Mode::Item { nesting: inner })
 }
 
@@ -128,7 +132,12 @@ fn begin_step(nesting: u32, at: u32, is_increment: bool, stack: Stack) -> Moved
     let Some(inner) = deeper(nesting) else {
         return Ok(Step::Deep);
     };
-    let stack = stack.push(Frame::InStep(at, nesting, is_increment))?;
+    let step = Frame::InStep {
+        at,
+        nesting,
+        is_increment,
+    };
+    let stack = stack.push(step)?;
     stack.go(nesting, Mode::Aim { nesting: inner })
 }
 
@@ -138,8 +147,23 @@ pub(crate) fn on_simple(nesting: u32, stack: Stack, token: Token) -> Moved
 {
     let Token { kind, at } = token;
     match kind {
-        TokenKind::Name(name) => stack.go(nesting, Mode::BeginName(false, nesting, at, name)),
-        TokenKind::Star => stack.open(nesting, Frame::InBehind(false, at, nesting)),
+        TokenKind::Name(name) => {
+            let name = FirstName {
+                is_step: false,
+                nesting,
+                at,
+                name,
+            };
+            stack.go(nesting, Mode::BeginName(name))
+        }
+        TokenKind::Star => {
+            let behind = Frame::InBehind {
+                is_step: false,
+                at,
+                nesting,
+            };
+            stack.open(nesting, behind)
+        }
         TokenKind::PlusPlus => begin_step(nesting, at, true, stack),
         TokenKind::MinusMinus => begin_step(nesting, at, false, stack),
         _ => Ok(Step::Refused),
@@ -151,7 +175,7 @@ fn close_word(nesting: u32, word: Statement, stack: Stack) -> Moved
     ensures { Steps result (machine.go nesting (machine.Closing nesting (stmt word)) (opened stack)) }
 {
     let statement = Box::new(stack.alloc, word)?;
-    stack.go(nesting, Mode::Closing(nesting, statement))
+    stack.go(nesting, Mode::Closing { nesting, statement })
 }
 
 /// The step of a token before a statement that a frame controls.
@@ -210,8 +234,23 @@ pub(crate) fn on_aim(nesting: u32, stack: Stack, token: Token) -> Moved
 {
     let Token { kind, at } = token;
     match kind {
-        TokenKind::Name(name) => stack.go(nesting, Mode::BeginName(true, nesting, at, name)),
-        TokenKind::Star => stack.open(nesting, Frame::InBehind(true, at, nesting)),
+        TokenKind::Name(name) => {
+            let name = FirstName {
+                is_step: true,
+                nesting,
+                at,
+                name,
+            };
+            stack.go(nesting, Mode::BeginName(name))
+        }
+        TokenKind::Star => {
+            let behind = Frame::InBehind {
+                is_step: true,
+                at,
+                nesting,
+            };
+            stack.open(nesting, behind)
+        }
         _ => Ok(Step::Refused),
     }
 }
@@ -232,7 +271,15 @@ fn on_placed(nesting: u32, at: u32, target: Box<Target>, stack: Stack, token: To
     ensures { Steps result (machine.on_aimed false nesting at (place target.value) (opened stack) token.kind) }
 {
     match assign_of(token.kind) {
-        Some(operator) => stack.want(nesting, Frame::InAssign(at, nesting, target, operator)),
+        Some(operator) => {
+            let assign = Assign {
+                at,
+                nesting,
+                target,
+                operator,
+            };
+            stack.want(nesting, Frame::InAssign(assign))
+        }
         None => match step_of(token.kind) {
             Some(is_increment) => {
                 let step = Statement::Step {
@@ -241,7 +288,7 @@ fn on_placed(nesting: u32, at: u32, target: Box<Target>, stack: Stack, token: To
                     is_increment,
                 };
                 let statement = Box::new(stack.alloc, step)?;
-                stack.go(nesting, Mode::Ended(nesting, statement))
+                stack.go(nesting, Mode::Ended { nesting, statement })
             }
             None => Ok(Step::Refused),
         },
@@ -249,16 +296,15 @@ fn on_placed(nesting: u32, at: u32, target: Box<Target>, stack: Stack, token: To
 }
 
 /// After a name or an element that is a target.
-pub(crate) fn on_aimed(
-    is_step: bool,
-    nesting: u32,
-    at: u32,
-    target: Box<Target>,
-    stack: Stack,
-    token: Token,
-) -> Moved
-    ensures { Steps result (machine.on_aimed is_step nesting at (place target.value) (opened stack) token.kind) }
+pub(crate) fn on_aimed(aimed: Aimed, stack: Stack, token: Token) -> Moved
+    ensures { Steps result (machine.on_aimed aimed.is_step aimed.nesting aimed.at (place aimed.target.value) (opened stack) token.kind) }
 {
+    let Aimed {
+        is_step,
+        nesting,
+        at,
+        target,
+    } = aimed;
     match (is_step, token.kind) {
         (false, _) => on_placed(nesting, at, target, stack, token),
         (true, TokenKind::Semicolon) => end_step(false, target, stack),
@@ -286,23 +332,28 @@ pub(crate) fn open_call(is_statement: bool, at: u32, name: u32, nesting: u32, st
 }
 
 /// After the name with which a statement, or a target behind `++` or `--`, begins.
-pub(crate) fn on_begin_name(
-    is_step: bool,
-    nesting: u32,
-    at: u32,
-    name: u32,
-    stack: Stack,
-    token: Token,
-) -> Moved
-    ensures { Steps result (machine.on_begin_name is_step nesting at name (opened stack) token) }
+pub(crate) fn on_begin_name(first: FirstName, stack: Stack, token: Token) -> Moved
+    ensures { Steps result (machine.on_begin_name first.is_step first.nesting first.at first.name (opened stack) token) }
 {
+    let FirstName {
+        is_step,
+        nesting,
+        at,
+        name,
+    } = first;
     match token.kind {
-        TokenKind::OpenSquare => stack.open(nesting, Frame::InPart(is_step, at, name, nesting)),
+        TokenKind::OpenSquare => stack.open(nesting, Frame::InPart(first)),
         TokenKind::OpenRound if is_step => Ok(Step::Refused),
         TokenKind::OpenRound => open_call(true, at, name, nesting, stack),
         _ => {
             let target = Box::new(stack.alloc, Target::Variable { at, name })?;
-            on_aimed(is_step, nesting, at, target, stack, token)
+            let aimed = Aimed {
+                is_step,
+                nesting,
+                at,
+                target,
+            };
+            on_aimed(aimed, stack, token)
         }
     }
 }

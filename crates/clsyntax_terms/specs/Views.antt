@@ -73,12 +73,12 @@ frame_of (frames.Asked from condition) = machine.Asked from (term condition.valu
 frame_of (frames.Chosen from condition chosen) = machine.Chosen from (term condition.value) (term chosen.value)
 frame_of (frames.InRound at nesting) = machine.InRound at nesting
 frame_of (frames.InElement at name nesting) = machine.InElement at name nesting
-frame_of (frames.InAddress at name_at name nesting) = machine.InAddress at name_at name nesting
+frame_of (frames.InAddress a) = machine.InAddress a.at a.name_at a.name a.nesting
 frame_of (frames.InCall call) = in_call call
-frame_of (frames.InPart is_step at name nesting) = machine.InPart is_step at name nesting
+frame_of (frames.InPart n) = machine.InPart n.is_step n.at n.name n.nesting
 frame_of (frames.InBehind is_step at nesting) = machine.InBehind is_step at nesting
 frame_of (frames.InStep at nesting is_increment) = machine.InStep at nesting is_increment
-frame_of (frames.InAssign at nesting target operator) = machine.InAssign at nesting (place target.value) operator
+frame_of (frames.InAssign a) = machine.InAssign a.at a.nesting (place a.target.value) a.operator
 frame_of (frames.InDeclare d) = machine.InDeclare d.at d.nesting d.kind d.name_at d.name
 frame_of (frames.InReturn at nesting) = machine.InReturn at nesting
 frame_of (frames.InIf at nesting) = machine.InIf at nesting
@@ -115,7 +115,7 @@ head_mode_of heads.HeadDone = machine.HeadDone
 abbrev pub type_mode_of : Purpose → TypeMode → machine.Mode
 type_mode_of p (types.AfterSpace space) = machine.AfterSpace (purpose p) space
 type_mode_of p (types.AfterConst space) = machine.AfterConst (purpose p) space
-type_mode_of p (types.AfterElement space is_const type) = machine.AfterElement (purpose p) space is_const type
+type_mode_of p (types.AfterElement t) = machine.AfterElement (purpose p) t.space t.is_const t.element
 type_mode_of p (types.Whole kind) = machine.AfterTyping (purpose p) kind
 
 abbrev pub array_mode_of : ArrayMode → machine.Mode
@@ -126,12 +126,12 @@ array_mode_of (arrays.Closed nesting statement) = machine.ArrayClosed nesting (s
 
 abbrev pub mode_of : Mode → machine.Mode
 mode_of (modes.Operand nesting) = machine.Operand nesting
-mode_of (modes.Have nesting from value) = machine.Have nesting from (term value.value)
+mode_of (modes.Have h) = machine.Have h.nesting h.from (term h.value.value)
 mode_of (modes.Named nesting at name) = machine.Named nesting at name
 mode_of (modes.Opened nesting at) = machine.Opened nesting at
-mode_of (modes.CastType nesting at type) = machine.CastType nesting at type
+mode_of (modes.CastType c) = machine.CastType c.nesting c.at c.target
 mode_of (modes.AfterAnd nesting at) = machine.AfterAnd nesting at
-mode_of (modes.AndName nesting at name_at name) = machine.AndName nesting at name_at name
+mode_of (modes.AndName a) = machine.AndName a.nesting a.at a.name_at a.name
 mode_of (modes.CallOpen nesting) = machine.CallOpen nesting
 mode_of (modes.Optional nesting) = machine.Optional nesting
 mode_of (modes.Item nesting) = machine.Item nesting
@@ -139,8 +139,8 @@ mode_of (modes.Begin nesting) = machine.Begin nesting
 mode_of (modes.Initial nesting) = machine.Initial nesting
 mode_of (modes.Final nesting) = machine.Final nesting
 mode_of (modes.Aim nesting) = machine.Aim nesting
-mode_of (modes.BeginName is_step nesting at name) = machine.BeginName is_step nesting at name
-mode_of (modes.Aimed is_step nesting at target) = machine.Aimed is_step nesting at (place target.value)
+mode_of (modes.BeginName n) = machine.BeginName n.is_step n.nesting n.at n.name
+mode_of (modes.Aimed a) = machine.Aimed a.is_step a.nesting a.at (place a.target.value)
 mode_of (modes.Ended nesting statement) = machine.Ended nesting (stmt statement.value)
 mode_of (modes.Closing nesting statement) = machine.Closing nesting (stmt statement.value)
 mode_of (modes.Did statement) = machine.Did (stmt statement.value)

@@ -7,7 +7,7 @@ ghost use Rattle.clmodel.specs.Tree.{term, place, stmt, maybe_term, ThenStmt};
 ghost use Rattle.clsyntax_terms.specs.Machine as machine;
 ghost use Rattle.clsyntax_terms.specs.Views.{opened, frame_of, stmts_of, maybe_statement, Steps};
 
-use crate::state::{Declared, Frame, Mode, Moved, Part, Stack, Step, Turns, deeper};
+use crate::state::{Assign, Declared, Frame, Mode, Moved, Part, Stack, Step, Turns, deeper};
 use clmodel::tree::{Expression, Statement, Target};
 use clsyntax_lex::token::TokenKind;
 use std::alloc::{AllocError, Global};
@@ -87,6 +87,7 @@ pub fn begin_turns(
 fn end_simple(nesting: u32, statement: Box<Statement>, stack: Stack) -> Moved
     ensures { Steps result (machine.end_simple nesting (stmt statement.value) (opened stack)) }
 {
+    // The frame is looked at before it is taken, since it stays but in front of the second part of a `for`.
     match stack.part() {
         Part::Other => stack.go(nesting, Mode::Did(statement)),
         Part::Final => Ok(Step::Refused),
@@ -156,7 +157,11 @@ pub fn end_step(is_bracket: bool, target: Box<Target>, stack: Stack) -> Moved
         return Ok(Step::Refused);
     };
     match frame {
-        Frame::InStep(at, nesting, is_increment) => {
+        Frame::InStep {
+            at,
+            nesting,
+            is_increment,
+        } => {
             let step = Statement::Step {
                 at,
                 target,
@@ -172,11 +177,23 @@ pub fn end_step(is_bracket: bool, target: Box<Target>, stack: Stack) -> Moved
     }
 }
 
-/// Where an assignment ends.
-fn end_assign(is_bracket: bool, nesting: u32, assign: Statement, stack: Stack) -> Moved
-    ensures { Steps result (machine.ends_simple is_bracket nesting (stmt assign) (opened stack)) }
+/// Where an assignment of a value ends.
+fn end_assign(is_bracket: bool, assign: Assign, value: Box<Expression>, stack: Stack) -> Moved
+    ensures { Steps result (machine.ends_simple is_bracket assign.nesting (tree.Assign assign.at (place assign.target.value) assign.operator (term value.value)) (opened stack)) }
 {
-    let statement = Box::new(stack.alloc, assign)?;
+    let Assign {
+        at,
+        nesting,
+        target,
+        operator,
+    } = assign;
+    let statement = Statement::Assign {
+        at,
+        target,
+        operator,
+        value,
+    };
+    let statement = Box::new(stack.alloc, statement)?;
     ends_simple(is_bracket, nesting, statement, stack)
 }
 
@@ -211,7 +228,10 @@ fn add_item(
 {
     let mut body = body;
     body.push(Box::into_inner(statement))?;
-    let stack = stack.push(Frame::InItems(outer, body))?;
+    let stack = stack.push(Frame::InItems {
+        nesting: outer,
+        body,
+    })?;
     stack.go(nesting, Mode::Item { nesting })
 }
 
@@ -222,7 +242,11 @@ pub fn add_declaration(nesting: u32, statement: Box<Statement>, stack: Stack) ->
     let Some((frame, stack)) = stack.pop() else {
         return Ok(Step::Refused);
     };
-    let Frame::InItems(outer, body) = frame else {
+    let Frame::InItems {
+        nesting: outer,
+        body,
+    } = frame
+    else {
         drop(frame);
         return Ok(Step::Refused);
     };
@@ -237,7 +261,10 @@ fn end_declaration(nesting: u32, statement: Box<Statement>, stack: Stack) -> Mov
         return Ok(Step::Refused);
     };
     match frame {
-        Frame::InItems(outer, body) => add_item(nesting, outer, body, statement, stack),
+        Frame::InItems {
+            nesting: outer,
+            body,
+        } => add_item(nesting, outer, body, statement, stack),
         Frame::InInitial { at } => begin_condition(nesting, at, Some(statement), stack),
         _ => {
             drop(frame);
@@ -262,16 +289,12 @@ pub(crate) fn on_semicolon(value: Box<Expression>, stack: Stack) -> Moved
         return Ok(Step::Refused);
     };
     match frame {
-        Frame::InAssign(at, nesting, target, operator) => {
-            let assign = Statement::Assign {
-                at,
-                target,
-                operator,
-                value,
-            };
-            end_assign(false, nesting, assign, stack)
-        }
-        Frame::InBehind(true, at, _) => {
+        Frame::InAssign(assign) => end_assign(false, assign, value, stack),
+        Frame::InBehind {
+            is_step: true,
+            at,
+            ..
+        } => {
             let target = Box::new(stack.alloc, Target::Dereference { at, pointer: value })?;
             end_step(false, target, stack)
         }
@@ -337,7 +360,7 @@ fn end_do(
         condition,
     };
     let statement = Box::new(stack.alloc, turns)?;
-    stack.go(inner, Mode::Closing(nesting, statement))
+    stack.go(inner, Mode::Closing { nesting, statement })
 }
 
 /// The bracket behind an expression of a statement.
@@ -345,19 +368,28 @@ pub(crate) fn end_bracket(frame: Frame, value: Box<Expression>, stack: Stack) ->
     ensures { Steps result (machine.end_bracket (term value.value) (frame_of frame ∷ opened stack)) }
 {
     match frame {
-        Frame::InIf { at, nesting } => begin_body(nesting, Frame::Then(at, nesting, value), stack),
-        Frame::InWhile { at, nesting } => begin_body(nesting, Frame::Turns(at, value), stack),
-        Frame::InDo(at, nesting, body) => end_do(at, nesting, body, value, stack),
-        Frame::InAssign(at, nesting, target, operator) => {
-            let assign = Statement::Assign {
+        Frame::InIf { at, nesting } => {
+            let then = Frame::Then {
                 at,
-                target,
-                operator,
-                value,
+                nesting,
+                condition: value,
             };
-            end_assign(true, nesting, assign, stack)
+            begin_body(nesting, then, stack)
         }
-        Frame::InBehind(true, at, _) => {
+        Frame::InWhile { at, nesting } => {
+            let turns = Frame::Turns {
+                at,
+                condition: value,
+            };
+            begin_body(nesting, turns, stack)
+        }
+        Frame::InDo { at, nesting, body } => end_do(at, nesting, body, value, stack),
+        Frame::InAssign(assign) => end_assign(true, assign, value, stack),
+        Frame::InBehind {
+            is_step: true,
+            at,
+            ..
+        } => {
             let target = Box::new(stack.alloc, Target::Dereference { at, pointer: value })?;
             end_step(true, target, stack)
         }

@@ -1,7 +1,7 @@
 //! Expressions.
 #![tactic(auto)]
 
-ghost use Rattle.std.specs.Prelude.{◌≡◌};
+ghost use Rattle.std.specs.Prelude.{◌≡◌, suc};
 ghost use Rattle.clmodel.specs.Tree as tree;
 ghost use Rattle.clmodel.specs.Tree.{term, terms};
 ghost use Rattle.clsyntax_terms.specs.Grammar as grammar;
@@ -10,7 +10,9 @@ ghost use Rattle.clsyntax_terms.specs.Views.{opened, folded_of, is_operand, Step
 
 use crate::closing::{end_bracket, on_nothing, on_semicolon};
 use crate::operators::{Folded, assign_of, close, infix_of, is_star, level, prefix_of};
-use crate::state::{Call, Frame, Mode, Moved, Stack, Step, deeper};
+use crate::state::{
+    Aimed, Assign, Call, Cast, FirstName, Frame, Have, Mode, Moved, Stack, Step, deeper,
+};
 use clmodel::tree::{Expression, InfixOperator, Statement, Target};
 use clnum::IntType;
 use clsyntax_lex::token::{Token, TokenKind};
@@ -23,7 +25,12 @@ pub fn on_operand(nesting: u32, stack: Stack, token: Token) -> Moved
     match kind {
         TokenKind::Number(value) => {
             let value = Box::new(stack.alloc, Expression::Number { at, value })?;
-            stack.go(nesting, Mode::Have(nesting, at, value))
+            let have = Have {
+                nesting,
+                from: at,
+                value,
+            };
+            stack.go(nesting, Mode::Have(have))
         }
         TokenKind::Name(name) => stack.go(nesting, Mode::Named { nesting, at, name }),
         TokenKind::And => match deeper(nesting) {
@@ -60,8 +67,22 @@ pub fn on_opened(nesting: u32, at: u32, stack: Stack, token: Token) -> Moved
         return Ok(Step::Deep);
     };
     match token.kind {
-        TokenKind::Type(target) => stack.go(inner, Mode::CastType(nesting, at, target)),
-        TokenKind::SizeT => stack.go(inner, Mode::CastType(nesting, at, IntType::Ulong)),
+        TokenKind::Type(target) => {
+            let cast = Cast {
+                nesting,
+                at,
+                target,
+            };
+            stack.go(inner, Mode::CastType(cast))
+        }
+        TokenKind::SizeT => {
+            let cast = Cast {
+                nesting,
+                at,
+                target: IntType::Ulong,
+            };
+            stack.go(inner, Mode::CastType(cast))
+        }
         _ => on_operand(inner, stack.push(Frame::InRound { at, nesting })?, token),
     }
 }
@@ -99,10 +120,15 @@ fn end_call(call: Call, stack: Stack) -> Moved
                 arguments,
             },
         )?;
-        stack.go(inner, Mode::Ended(nesting, statement))
+        stack.go(inner, Mode::Ended { nesting, statement })
     } else {
         let value = Box::new(stack.alloc, call_of(at, name, arguments))?;
-        stack.go(inner, Mode::Have(nesting, at, value))
+        let have = Have {
+            nesting,
+            from: at,
+            value,
+        };
+        stack.go(inner, Mode::Have(have))
     }
 }
 
@@ -147,6 +173,31 @@ fn on_comma(value: Box<Expression>, stack: Stack) -> Moved
     }
 }
 
+/// Where the index of a target ends.
+fn end_part(array: FirstName, index: Box<Expression>, stack: Stack) -> Moved
+    ensures { Steps result (machine.go (suc array.nesting) (machine.Aimed array.is_step array.nesting array.at (tree.Part array.at array.name (term index.value))) (opened stack)) }
+{
+    let FirstName {
+        is_step,
+        nesting,
+        at,
+        name,
+    } = array;
+    let target = Box::new(stack.alloc, Target::Element { at, name, index })?;
+    let Some(inner) = deeper(nesting) else {
+        return Ok(Step::Deep);
+    };
+    stack.go(
+        inner,
+        Mode::Aimed(Aimed {
+            is_step,
+            nesting,
+            at,
+            target,
+        }),
+    )
+}
+
 /// Where an index ends.
 fn on_close_square(index: Box<Expression>, stack: Stack) -> Moved
     ensures { Steps result (machine.on_close_square (term index.value) (opened stack)) }
@@ -159,23 +210,17 @@ fn on_close_square(index: Box<Expression>, stack: Stack) -> Moved
             let element = Box::new(stack.alloc, Expression::Element { at, name, index })?;
             stack.close(nesting, at, element)
         }
-        Frame::InAddress(at, name_at, name, nesting) => {
+        Frame::InAddress(of) => {
             let address = Expression::ElementAddress {
-                at,
-                name_at,
-                name,
+                at: of.at,
+                name_at: of.name_at,
+                name: of.name,
                 index,
             };
             let address = Box::new(stack.alloc, address)?;
-            stack.close(nesting, at, address)
+            stack.close(of.nesting, of.at, address)
         }
-        Frame::InPart(is_step, at, name, nesting) => {
-            let target = Box::new(stack.alloc, Target::Element { at, name, index })?;
-            match deeper(nesting) {
-                Some(inner) => stack.go(inner, Mode::Aimed(is_step, nesting, at, target)),
-                None => Ok(Step::Deep),
-            }
-        }
+        Frame::InPart(array) => end_part(array, index, stack),
         _ => {
             drop(frame);
             Ok(Step::Refused)
@@ -191,10 +236,14 @@ fn on_colon(nesting: u32, chosen: Box<Expression>, stack: Stack) -> Moved
         return Ok(Step::Refused);
     };
     match frame {
-        Frame::Asked(from, condition) => stack.want(
-            nesting,
-            Frame::Chosen(from, condition, chosen),
-        ),
+        Frame::Asked { from, condition } => {
+            let choice = Frame::Chosen {
+                from,
+                condition,
+                chosen,
+            };
+            stack.want(nesting, choice)
+        }
         _ => {
             drop(frame);
             Ok(Step::Refused)
@@ -213,9 +262,19 @@ fn on_assignment(kind: TokenKind, pointer: Box<Expression>, stack: Stack) -> Mov
         return Ok(Step::Refused);
     };
     match frame {
-        Frame::InBehind(false, at, nesting) => {
+        Frame::InBehind {
+            is_step: false,
+            at,
+            nesting,
+        } => {
             let target = Box::new(stack.alloc, Target::Dereference { at, pointer })?;
-            stack.want(nesting, Frame::InAssign(at, nesting, target, operator))
+            let assign = Assign {
+                at,
+                nesting,
+                target,
+                operator,
+            };
+            stack.want(nesting, Frame::InAssign(assign))
         }
         _ => {
             drop(frame);
@@ -231,7 +290,13 @@ fn end_expression(kind: TokenKind, nesting: u32, folded: Folded) -> Moved
     let Folded { from, value, stack } = folded;
     match kind {
         TokenKind::Question if is_star(&stack.frames) => Ok(Step::Refused),
-        TokenKind::Question => stack.open(nesting, Frame::Asked(from, value)),
+        TokenKind::Question => stack.open(
+            nesting,
+            Frame::Asked {
+                from,
+                condition: value,
+            },
+        ),
         TokenKind::Colon => on_colon(nesting, value, stack),
         TokenKind::CloseRound => on_close_round(value, stack),
         TokenKind::Comma => on_comma(value, stack),
@@ -253,16 +318,26 @@ fn asked_level(between: Option<InfixOperator>, kind: TokenKind) -> u32
 }
 
 /// After an expression.
-pub fn on_have(nesting: u32, from: u32, value: Box<Expression>, stack: Stack, token: Token) -> Moved
-    ensures { Steps result (machine.on_have nesting from (term value.value) (opened stack) token) }
+pub fn on_have(have: Have, stack: Stack, token: Token) -> Moved
+    ensures { Steps result (machine.on_have have.nesting have.from (term have.value.value) (opened stack) token) }
 {
+    let Have {
+        nesting,
+        from,
+        value,
+    } = have;
     let infix = infix_of(token.kind);
     let folded = close(asked_level(infix, token.kind), from, value, stack)?;
     match infix {
         Some(_) if is_star(&folded.stack.frames) => Ok(Step::Refused),
         Some(operator) => {
             let Folded { from, value, stack } = folded;
-            stack.open(nesting, Frame::After(from, operator, value))
+            let after = Frame::After {
+                from,
+                operator,
+                left: value,
+            };
+            stack.open(nesting, after)
         }
         None => end_expression(token.kind, nesting, folded),
     }

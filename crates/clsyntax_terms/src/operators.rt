@@ -140,9 +140,9 @@ fn takes(least: u32, frames: &Frames) -> bool
     ensures { result ≡ takes_front least (frames_of frames.now) }
 {
     match frames {
-        Frames::Inside(Frame::After(_, operator, _), _) => least <= level(*operator),
+        Frames::Inside(Frame::After { operator, .. }, _) => least <= level(*operator),
         Frames::Inside(Frame::Before { .. }, _) => true,
-        Frames::Inside(Frame::Chosen(..), _) => least == 0,
+        Frames::Inside(Frame::Chosen { .. }, _) => least == 0,
         _ => false,
     }
 }
@@ -151,7 +151,7 @@ fn takes(least: u32, frames: &Frames) -> bool
 pub(crate) fn is_star(frames: &Frames) -> bool
     ensures { result ≡ is_behind (frames_of frames.now) }
 {
-    matches!(frames, Frames::Inside(Frame::InBehind(..), _))
+    matches!(frames, Frames::Inside(Frame::InBehind { .. }, _))
 }
 
 /// An expression with the prefixes before it, the operators that bind at least so tightly, and, at 0, a choice.
@@ -163,6 +163,7 @@ pub(crate) fn close(
 ) -> Result<Folded, AllocError>
     ensures { IfOk result (λ folded. folded_of folded ≡ machine.close least from (term value.value) (opened stack)) }
 {
+    // The frame is looked at before it is taken out of its box: it couldn't be put back without memory.
     if !takes(least, &stack.frames) {
         return Ok(Folded { from, value, stack });
     }
@@ -174,26 +175,34 @@ pub(crate) fn close(
         frames,
     };
     match frame {
-        Frame::After(at, operator, left) => {
+        Frame::After {
+            from,
+            operator,
+            left,
+        } => {
             let whole = Expression::Binary {
-                at,
+                at: from,
                 operator,
                 left,
                 right: value,
             };
-            close(least, at, Box::new(stack.alloc, whole)?, stack)
+            close(least, from, Box::new(stack.alloc, whole)?, stack)
         }
         Frame::Before { at, prefix } => {
             close(least, at, prefixed(stack.alloc, prefix, at, value)?, stack)
         }
-        Frame::Chosen(at, condition, chosen) => {
+        Frame::Chosen {
+            from,
+            condition,
+            chosen,
+        } => {
             let whole = Expression::Choice {
-                at,
+                at: from,
                 condition,
                 chosen,
                 otherwise: value,
             };
-            close(least, at, Box::new(stack.alloc, whole)?, stack)
+            close(least, from, Box::new(stack.alloc, whole)?, stack)
         }
         _ => unreachable!(),
     }

@@ -7,7 +7,8 @@ ghost use Rattle.clsyntax_terms.specs.Machine as machine;
 ghost use Rattle.clsyntax_terms.specs.Views.{opened, frame_of, mode_of, part_of, Steps};
 
 use clmodel::tree::{
-    AddressSpace, Expression, Function, InfixOperator, Parameter, Statement, Target, VariableType,
+    AddressSpace, Expression, Function, InfixOperator, Parameter, PointerType, Statement, Target,
+    VariableType,
 };
 use clnum::{BinaryOperator, IntType, UnaryOperator};
 use std::alloc::{AllocError, Global};
@@ -84,64 +85,182 @@ pub struct Turns {
     pub last: Option<Box<Statement>>,
 }
 
+/// `target =`, or with an operator.
+#[derive(Drop)]
+pub struct Assign {
+    pub at: u32,
+    pub nesting: u32,
+    pub target: Box<Target>,
+    pub operator: Option<BinaryOperator>,
+}
+
+/// `&name`, and where the name begins.
+#[derive(Clone, Copy)]
+pub struct Address {
+    pub nesting: u32,
+    pub at: u32,
+    pub name_at: u32,
+    pub name: u32,
+}
+
+/// A target's or a call's first name, and whether `++` or `--` stands before it.
+#[derive(Clone, Copy)]
+pub struct FirstName {
+    pub is_step: bool,
+    pub nesting: u32,
+    pub at: u32,
+    pub name: u32,
+}
+
+/// A target, and whether `++` or `--` stands before it.
+#[derive(Drop)]
+pub struct Aimed {
+    pub is_step: bool,
+    pub nesting: u32,
+    pub at: u32,
+    pub target: Box<Target>,
+}
+
+/// An expression, and where it begins.
+#[derive(Drop)]
+pub struct Have {
+    pub nesting: u32,
+    pub from: u32,
+    pub value: Box<Expression>,
+}
+
+/// `(type` of a cast.
+#[derive(Clone, Copy)]
+pub struct Cast {
+    pub nesting: u32,
+    pub at: u32,
+    pub target: IntType,
+}
+
 /// Something open.
 #[derive(Drop)]
 pub enum Frame {
     /// An operator that waits for its right operand, and where its left one begins
-    After(u32, InfixOperator, Box<Expression>),
+    After {
+        from: u32,
+        operator: InfixOperator,
+        left: Box<Expression>,
+    },
     /// A prefix that waits for its operand
-    Before { at: u32, prefix: Prefix },
+    Before {
+        at: u32,
+        prefix: Prefix,
+    },
     /// `condition ?`, and where it begins
-    Asked(u32, Box<Expression>),
+    Asked {
+        from: u32,
+        condition: Box<Expression>,
+    },
     /// `condition ? chosen :`, and where it begins
-    Chosen(u32, Box<Expression>, Box<Expression>),
+    Chosen {
+        from: u32,
+        condition: Box<Expression>,
+        chosen: Box<Expression>,
+    },
     /// `(`
-    InRound { at: u32, nesting: u32 },
+    InRound {
+        at: u32,
+        nesting: u32,
+    },
     /// `name[` in an expression
-    InElement { at: u32, name: u32, nesting: u32 },
-    /// `&name[`: where it and its name begin, the name, and the nesting
-    InAddress(u32, u32, u32, u32),
+    InElement {
+        at: u32,
+        name: u32,
+        nesting: u32,
+    },
+    /// `&name[`
+    InAddress(Address),
     InCall(Call),
-    /// `name[` of a target, whether `++` or `--` stands before it
-    InPart(bool, u32, u32, u32),
-    /// `*` of a target, whether `++` or `--` stands before it
-    InBehind(bool, u32, u32),
+    /// `name[` of a target
+    InPart(FirstName),
+    /// `*` of a target, and whether `++` or `--` stands before it
+    InBehind {
+        is_step: bool,
+        at: u32,
+        nesting: u32,
+    },
     /// `++` or `--`
-    InStep(u32, u32, bool),
-    /// `target =`, or with an operator
-    InAssign(u32, u32, Box<Target>, Option<BinaryOperator>),
+    InStep {
+        at: u32,
+        nesting: u32,
+        is_increment: bool,
+    },
+    InAssign(Assign),
     /// `type name =`
     InDeclare(Declared),
     /// `return`
-    InReturn { at: u32, nesting: u32 },
+    InReturn {
+        at: u32,
+        nesting: u32,
+    },
     /// `if (`
-    InIf { at: u32, nesting: u32 },
+    InIf {
+        at: u32,
+        nesting: u32,
+    },
     /// `while (`
-    InWhile { at: u32, nesting: u32 },
+    InWhile {
+        at: u32,
+        nesting: u32,
+    },
     /// `do body while (`
-    InDo(u32, u32, Box<Statement>),
+    InDo {
+        at: u32,
+        nesting: u32,
+        body: Box<Statement>,
+    },
     /// `for (`
-    InInitial { at: u32 },
+    InInitial {
+        at: u32,
+    },
     /// `for (initial;`
     InCondition(Box<Turns>),
     /// `for (initial; condition;`
     InFinal(Box<Turns>),
     /// `if (condition)`
-    Then(u32, u32, Box<Expression>),
+    Then {
+        at: u32,
+        nesting: u32,
+        condition: Box<Expression>,
+    },
     /// `if (condition) chosen else`
-    Otherwise(u32, Box<Expression>, Box<Statement>),
+    Otherwise {
+        at: u32,
+        condition: Box<Expression>,
+        chosen: Box<Statement>,
+    },
     /// `while (condition)`
-    Turns(u32, Box<Expression>),
+    Turns {
+        at: u32,
+        condition: Box<Expression>,
+    },
     /// `do`
-    DoTurns { at: u32, nesting: u32 },
+    DoTurns {
+        at: u32,
+        nesting: u32,
+    },
     /// `for (initial; condition; last)`
     ForTurns(Box<Turns>),
     /// The statements so far of a block
-    InItems(u32, Vec<Statement>),
+    InItems {
+        nesting: u32,
+        body: Vec<Statement>,
+    },
     /// A block that is a statement
-    InBlock { at: u32, nesting: u32 },
+    InBlock {
+        at: u32,
+        nesting: u32,
+    },
     /// The block of a function
-    InBody(Head, u32),
+    InBody {
+        head: Head,
+        at: u32,
+    },
     /// The brackets of a function's head
     InHead(Head),
     /// The functions so far
@@ -159,50 +278,98 @@ pub enum Frames {
 #[derive(Drop)]
 pub enum Mode {
     /// An operand is wanted
-    Operand { nesting: u32 },
-    /// An expression was read, which begins at an offset
-    Have(u32, u32, Box<Expression>),
+    Operand {
+        nesting: u32,
+    },
+    /// An expression was read
+    Have(Have),
     /// In an expression a name was read
-    Named { nesting: u32, at: u32, name: u32 },
+    Named {
+        nesting: u32,
+        at: u32,
+        name: u32,
+    },
     /// Where an operand was wanted, `(` was read
-    Opened { nesting: u32, at: u32 },
+    Opened {
+        nesting: u32,
+        at: u32,
+    },
     /// `(type` of a cast was read
-    CastType(u32, u32, IntType),
+    CastType(Cast),
     /// `&` was read
-    AfterAnd { nesting: u32, at: u32 },
-    /// `&name` was read: the nesting, where it and its name begin, and the name
-    AndName(u32, u32, u32, u32),
+    AfterAnd {
+        nesting: u32,
+        at: u32,
+    },
+    /// `&name` was read
+    AndName(Address),
     /// The bracket of a call was read
-    CallOpen { nesting: u32 },
+    CallOpen {
+        nesting: u32,
+    },
     /// An expression is wanted, or a semicolon in its place
-    Optional { nesting: u32 },
+    Optional {
+        nesting: u32,
+    },
     /// A statement, a declaration or the block's end is wanted
-    Item { nesting: u32 },
+    Item {
+        nesting: u32,
+    },
     /// A statement is wanted
-    Begin { nesting: u32 },
+    Begin {
+        nesting: u32,
+    },
     /// The first part of a `for` is wanted
-    Initial { nesting: u32 },
+    Initial {
+        nesting: u32,
+    },
     /// The third part of a `for` is wanted
-    Final { nesting: u32 },
+    Final {
+        nesting: u32,
+    },
     /// The target of `++` or `--` is wanted
-    Aim { nesting: u32 },
-    /// A target's or a call's first name was read, whether behind `++` or `--`
-    BeginName(bool, u32, u32, u32),
-    /// The target was read, whether behind `++` or `--`
-    Aimed(bool, u32, u32, Box<Target>),
+    Aim {
+        nesting: u32,
+    },
+    /// A target's or a call's first name was read
+    BeginName(FirstName),
+    /// The target was read
+    Aimed(Aimed),
     /// A simple statement was read
-    Ended(u32, Box<Statement>),
+    Ended {
+        nesting: u32,
+        statement: Box<Statement>,
+    },
     /// Another statement but its semicolon was read
-    Closing(u32, Box<Statement>),
+    Closing {
+        nesting: u32,
+        statement: Box<Statement>,
+    },
     /// A statement was read
     Did(Box<Statement>),
-    AfterIf { nesting: u32, at: u32 },
-    AfterWhile { nesting: u32, at: u32 },
-    AfterFor { nesting: u32, at: u32 },
+    AfterIf {
+        nesting: u32,
+        at: u32,
+    },
+    AfterWhile {
+        nesting: u32,
+        at: u32,
+    },
+    AfterFor {
+        nesting: u32,
+        at: u32,
+    },
     /// `do body while` was read
-    AfterDo(u32, u32, Box<Statement>),
+    AfterDo {
+        nesting: u32,
+        at: u32,
+        body: Box<Statement>,
+    },
     /// Some of a type was read
-    Typing(Purpose, TypeMode),
+    Typing {
+        wanted: Purpose,
+        mode: TypeMode,
+    },
     /// A type and a name were read
     Declared(Declared),
     /// Some of an array's declaration was read
@@ -217,8 +384,8 @@ pub enum TypeMode {
     AfterSpace(AddressSpace),
     /// That and `const`
     AfterConst(AddressSpace),
-    /// All but the star of a pointer, whether with `const`
-    AfterElement(AddressSpace, bool, IntType),
+    /// All but the star of a pointer
+    AfterElement(PointerType),
     Whole(VariableType),
 }
 
@@ -230,9 +397,15 @@ pub enum ArrayMode {
     /// The bracket before its length
     Opened(Array),
     /// Its length: all but `];`
-    Sized(u32, Box<Statement>),
+    Sized {
+        nesting: u32,
+        statement: Box<Statement>,
+    },
     /// All but its semicolon
-    Closed(u32, Box<Statement>),
+    Closed {
+        nesting: u32,
+        statement: Box<Statement>,
+    },
 }
 
 /// What was read last of a function's head.
@@ -345,7 +518,8 @@ impl Stack {
         Ok(Stack { alloc, frames })
     }
 
-    /// The frame in front, and the stack without it.
+    /// The frame in front, and the stack without it. One that doesn't fit is let go by `drop(frame)`: else the drop of each variant
+    /// is written into the function that took it, and proved there.
     pub fn pop(self) -> Option<(Frame, Stack)>
         ensures { MatchOption result (opened self ≡ []) (λ popped. opened self ≡ frame_of popped.0 ∷ opened popped.1) }
     {
@@ -386,7 +560,14 @@ impl Stack {
         ensures { Steps result (machine.go (suc nesting) (machine.Have nesting from (term value.value)) (opened self)) }
     {
         match deeper(nesting) {
-            Some(inner) => self.go(inner, Mode::Have(nesting, from, value)),
+            Some(inner) => {
+                let have = Have {
+                    nesting,
+                    from,
+                    value,
+                };
+                self.go(inner, Mode::Have(have))
+            }
             None => Ok(Step::Deep),
         }
     }

@@ -62,32 +62,72 @@ run_text (run.Release group) = joined (codes " r" ∷ decimal group ∷ [])
 abbrev pub schedule_text : List Run → List ℕ
 schedule_text runs = if length runs == 0 then codes " -" else flat_map run_text runs
 
--- a fault at an element of a private array
-abbrev pub private_text : List ℕ → ℕ → List ℕ → ℤ → List ℕ
-private_text words item array element = joined (words ∷ decimal item ∷ codes " private " ∷ array ∷ codes " element " ∷ signed_decimal element ∷ [])
+-- the words in front of a fault's item
+abbrev pub fault_words : Fault → List ℕ
+fault_words (fault.Conflict clash item kind other_item other_kind location byte) = clash_text clash
+fault_words (fault.Divergence item stop other_item other_stop) = codes "fault 3 divergence item "
+fault_words (fault.Bounds item kind location element) = codes "fault 4 bounds item "
+fault_words (fault.PrivateBounds item array element) = codes "fault 4 bounds item "
+fault_words (fault.Unset item kind location byte) = codes "fault 5 unset item "
+fault_words (fault.UnsetVariable item variable) = codes "fault 5 unset item "
+fault_words (fault.UnsetElement item array element) = codes "fault 5 unset item "
+fault_words (fault.DivideByZero item) = codes "fault 6 divide_by_zero item "
+fault_words (fault.DivideOverflow item) = codes "fault 7 divide_overflow item "
+fault_words (fault.Budget item) = codes "fault 8 budget item "
 
--- a fault that names an item alone
-abbrev pub item_text : List ℕ → ℕ → List ℕ
-item_text words item = joined (words ∷ decimal item ∷ [])
+-- a fault's item, the first one where it has two
+abbrev pub fault_item : Fault → ℕ
+fault_item (fault.Conflict clash item kind other_item other_kind location byte) = item
+fault_item (fault.Divergence item stop other_item other_stop) = item
+fault_item (fault.Bounds item kind location element) = item
+fault_item (fault.PrivateBounds item array element) = item
+fault_item (fault.Unset item kind location byte) = item
+fault_item (fault.UnsetVariable item variable) = item
+fault_item (fault.UnsetElement item array element) = item
+fault_item (fault.DivideByZero item) = item
+fault_item (fault.DivideOverflow item) = item
+fault_item (fault.Budget item) = item
+
+-- an access of a byte, behind its item
+abbrev pub byte_texts : AccessKind → Location → ℕ → List (List ℕ)
+byte_texts kind location byte = codes " " ∷ kind_text kind ∷ codes " " ∷ location_text location ∷ codes " byte " ∷ decimal byte ∷ []
+
+-- an access of an element, behind its item
+abbrev pub element_texts : AccessKind → Location → ℤ → List (List ℕ)
+element_texts kind location element = codes " " ∷ kind_text kind ∷ codes " " ∷ location_text location ∷ codes " element " ∷ signed_decimal element ∷ []
+
+-- an element of a private array, behind the item
+abbrev pub private_texts : List ℕ → ℤ → List (List ℕ)
+private_texts array element = codes " private " ∷ array ∷ codes " element " ∷ signed_decimal element ∷ []
+
+-- a variable, behind the item
+abbrev pub variable_texts : List ℕ → List (List ℕ)
+variable_texts variable = codes " variable " ∷ variable ∷ []
+
+-- two accesses, behind the earlier one's item
+abbrev pub conflict_texts : AccessKind → ℕ → AccessKind → Location → ℕ → List (List ℕ)
+conflict_texts kind other_item other_kind location byte = codes " " ∷ kind_text kind ∷ codes " item " ∷ decimal other_item ∷ byte_texts other_kind location byte
+
+-- two stops, behind the first one's item
+abbrev pub divergence_texts : Stop → ℕ → Stop → List (List ℕ)
+divergence_texts stop other_item other_stop = codes " " ∷ stop_text stop ∷ codes " item " ∷ decimal other_item ∷ codes " " ∷ stop_text other_stop ∷ []
+
+-- what a fault tells behind its item
+abbrev pub fault_details : Fault → List (List ℕ)
+fault_details (fault.Conflict clash item kind other_item other_kind location byte) = conflict_texts kind other_item other_kind location byte
+fault_details (fault.Divergence item stop other_item other_stop) = divergence_texts stop other_item other_stop
+fault_details (fault.Bounds item kind location element) = element_texts kind location element
+fault_details (fault.PrivateBounds item array element) = private_texts array element
+fault_details (fault.Unset item kind location byte) = byte_texts kind location byte
+fault_details (fault.UnsetVariable item variable) = variable_texts variable
+fault_details (fault.UnsetElement item array element) = private_texts array element
+fault_details (fault.DivideByZero item) = []
+fault_details (fault.DivideOverflow item) = []
+fault_details (fault.Budget item) = []
 
 -- a fault, its schedule left out
 abbrev pub fault_text : Fault → List ℕ
-fault_text (fault.Conflict clash item kind other_item other_kind location byte) =
-    joined (clash_text clash ∷ decimal item ∷ codes " " ∷ kind_text kind ∷ codes " item " ∷ decimal other_item ∷ codes " " ∷ kind_text other_kind ∷ codes " "
-    ∷ location_text location ∷ codes " byte " ∷ decimal byte ∷ [])
-fault_text (fault.Divergence item stop other_item other_stop) =
-    joined (codes "fault 3 divergence item " ∷ decimal item ∷ codes " " ∷ stop_text stop ∷ codes " item " ∷ decimal other_item ∷ codes " " ∷ stop_text other_stop ∷ [])
-fault_text (fault.Bounds item kind location element) =
-    joined (codes "fault 4 bounds item " ∷ decimal item ∷ codes " " ∷ kind_text kind ∷ codes " " ∷ location_text location ∷ codes " element " ∷ signed_decimal element ∷ [])
-fault_text (fault.PrivateBounds item array element) = private_text (codes "fault 4 bounds item ") item array element
-fault_text (fault.Unset item kind location byte) =
-    joined (codes "fault 5 unset item " ∷ decimal item ∷ codes " " ∷ kind_text kind ∷ codes " " ∷ location_text location ∷ codes " byte " ∷ decimal byte ∷ [])
-fault_text (fault.UnsetVariable item variable) =
-    joined (codes "fault 5 unset item " ∷ decimal item ∷ codes " variable " ∷ variable ∷ [])
-fault_text (fault.UnsetElement item array element) = private_text (codes "fault 5 unset item ") item array element
-fault_text (fault.DivideByZero item) = item_text (codes "fault 6 divide_by_zero item ") item
-fault_text (fault.DivideOverflow item) = item_text (codes "fault 7 divide_overflow item ") item
-fault_text (fault.Budget item) = item_text (codes "fault 8 budget item ") item
+fault_text fault = joined (fault_words fault ∷ decimal (fault_item fault) ∷ fault_details fault)
 
 -- a fault and its schedule, as a line with its line feed
 abbrev pub fault_line : Fault → List Run → List ℕ

@@ -10,6 +10,11 @@ use Rattle.replay_text.specs.declared.told.Place.{Place}
 use Rattle.replay_text.specs.declared.told.Place.TheVariants as place
 use Rattle.replay_text.specs.declared.told.Halt.{Halt}
 use Rattle.replay_text.specs.declared.told.Halt.TheVariants as halt
+use Rattle.replay_text.specs.declared.told.Conflict.{Conflict}
+use Rattle.replay_text.specs.declared.told.Divergence.{Divergence}
+use Rattle.replay_text.specs.declared.told.Bounds.{Bounds}
+use Rattle.replay_text.specs.declared.told.Unset.{Unset}
+use Rattle.replay_text.specs.declared.told.Private.{Private}
 use Rattle.replay_text.specs.declared.told.Told.{Told}
 use Rattle.replay_text.specs.declared.told.Told.TheVariants as told
 use Rattle.replay_text.specs.Fields.{turns_of}
@@ -22,14 +27,32 @@ abbrev pub stop_of : Halt → Stop
 stop_of (halt.Barrier site turns) = stop.At (record { site = site; turns = turns_of (option_map (λ list. list.now) turns) })
 stop_of halt.End = stop.Ended
 
+abbrev pub conflict_of : Conflict → Fault
+conflict_of told = fault.Conflict told.clash told.item told.kind told.other_item told.other_kind (location_of told.place) told.byte
+
+abbrev pub divergence_of : Divergence → Fault
+divergence_of told = fault.Divergence told.item (stop_of told.stop) told.other_item (stop_of told.other_stop)
+
+abbrev pub bounds_of : Bounds → Fault
+bounds_of told = fault.Bounds told.item told.kind (location_of told.place) told.element
+
+abbrev pub private_bounds_of : Private → Fault
+private_bounds_of told = fault.PrivateBounds told.item told.array.now told.element
+
+abbrev pub unset_of : Unset → Fault
+unset_of told = fault.Unset told.item told.kind (location_of told.place) told.byte
+
+abbrev pub unset_element_of : Private → Fault
+unset_element_of told = fault.UnsetElement told.item told.array.now told.element
+
 abbrev pub fault_of : Told → Fault
-fault_of (told.Conflict clash item kind other other_kind place byte) = fault.Conflict clash item kind other other_kind (location_of place) byte
-fault_of (told.Divergence item stop other other_stop) = fault.Divergence item (stop_of stop) other (stop_of other_stop)
-fault_of (told.Bounds item kind place element) = fault.Bounds item kind (location_of place) element
-fault_of (told.PrivateBounds item array element) = fault.PrivateBounds item array.now element
-fault_of (told.Unset item kind place byte) = fault.Unset item kind (location_of place) byte
+fault_of (told.Conflict conflict) = conflict_of conflict
+fault_of (told.Divergence divergence) = divergence_of divergence
+fault_of (told.Bounds bounds) = bounds_of bounds
+fault_of (told.PrivateBounds place) = private_bounds_of place
+fault_of (told.Unset unset) = unset_of unset
 fault_of (told.UnsetVariable item variable) = fault.UnsetVariable item variable.now
-fault_of (told.UnsetElement item array element) = fault.UnsetElement item array.now element
+fault_of (told.UnsetElement place) = unset_element_of place
 fault_of (told.DivideByZero item) = fault.DivideByZero item
 fault_of (told.DivideOverflow item) = fault.DivideOverflow item
 fault_of (told.Budget item) = fault.Budget item

@@ -10,7 +10,7 @@ ghost use Rattle.replay_text.specs.Views.{location_of, stop_of, fault_of};
 use crate::fields::{
     after, list_before, name_before, number_before, number32_before, signed_before,
 };
-use crate::told::{Halt, Place, Told};
+use crate::told::{Bounds, Conflict, Divergence, Halt, Place, Private, Told, Unset};
 use clmodel::access::{AccessKind, Clash, Class};
 
 /// The kind of an access that a word names.
@@ -148,7 +148,7 @@ fn conflict_at(clash: Clash, bytes: &[u8]) -> Option<(Told<'_>, &[u8])>
     let (place, rest) = place_at(rest)?;
     let rest = after(b"byte ", rest)?;
     let (byte, rest) = number_before(b' ', rest)?;
-    let told = Told::Conflict {
+    let conflict = Conflict {
         clash,
         item,
         kind,
@@ -157,7 +157,7 @@ fn conflict_at(clash: Clash, bytes: &[u8]) -> Option<(Told<'_>, &[u8])>
         place,
         byte,
     };
-    Some((told, rest))
+    Some((Told::Conflict(conflict), rest))
 }
 
 #[tactic(auto, unfolding(crate::specs::Reading::divergence_at))]
@@ -169,13 +169,13 @@ fn divergence_at(bytes: &[u8]) -> Option<(Told<'_>, &[u8])>
     let rest = after(b"item ", rest)?;
     let (other_item, rest) = number32_before(b' ', rest)?;
     let (other_stop, rest) = stop_at(rest)?;
-    let told = Told::Divergence {
+    let divergence = Divergence {
         item,
         stop,
         other_item,
         other_stop,
     };
-    Some((told, rest))
+    Some((Told::Divergence(divergence), rest))
 }
 
 #[tactic(auto, unfolding(crate::specs::Reading::element_at))]
@@ -201,12 +201,12 @@ fn private_bounds_at(item: u32, bytes: &[u8]) -> Option<(Told<'_>, &[u8])>
     ensures { option_map (λ read. (fault_of read.0, read.1.now)) result ≡ private_bounds_at item bytes.now }
 {
     let ((array, element), rest) = private_at(bytes)?;
-    let told = Told::PrivateBounds {
+    let place = Private {
         item,
         array,
         element,
     };
-    Some((told, rest))
+    Some((Told::PrivateBounds(place), rest))
 }
 
 #[tactic(auto, unfolding(crate::specs::Reading::access_bounds_at))]
@@ -216,13 +216,13 @@ fn access_bounds_at(item: u32, bytes: &[u8]) -> Option<(Told<'_>, &[u8])>
     let (kind, rest) = kind_at(bytes)?;
     let (place, rest) = place_at(rest)?;
     let (element, rest) = element_at(rest)?;
-    let told = Told::Bounds {
+    let bounds = Bounds {
         item,
         kind,
         place,
         element,
     };
-    Some((told, rest))
+    Some((Told::Bounds(bounds), rest))
 }
 
 #[tactic(auto, unfolding(crate::specs::Reading::bounds_at))]
@@ -249,12 +249,12 @@ fn private_unset_at(item: u32, bytes: &[u8]) -> Option<(Told<'_>, &[u8])>
     ensures { option_map (λ read. (fault_of read.0, read.1.now)) result ≡ private_unset_at item bytes.now }
 {
     let ((array, element), rest) = private_at(bytes)?;
-    let told = Told::UnsetElement {
+    let place = Private {
         item,
         array,
         element,
     };
-    Some((told, rest))
+    Some((Told::UnsetElement(place), rest))
 }
 
 #[tactic(auto, unfolding(crate::specs::Reading::access_unset_at))]
@@ -265,13 +265,13 @@ fn access_unset_at(item: u32, bytes: &[u8]) -> Option<(Told<'_>, &[u8])>
     let (place, rest) = local_place_at(rest)?;
     let rest = after(b"byte ", rest)?;
     let (byte, rest) = number_before(b' ', rest)?;
-    let told = Told::Unset {
+    let unset = Unset {
         item,
         kind,
         place,
         byte,
     };
-    Some((told, rest))
+    Some((Told::Unset(unset), rest))
 }
 
 #[tactic(auto, unfolding(crate::specs::Reading::unset_at))]

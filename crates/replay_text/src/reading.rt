@@ -7,14 +7,14 @@ ghost use Rattle.clmodel.specs.declared.fault.Fault.{Fault};
 ghost use Rattle.clmodel.specs.declared.schedule.Run.{Run};
 ghost use Rattle.replay_text.specs.Fields.{between_commas, turn_of, turns_of};
 ghost use Rattle.replay_text.specs.Reading.{file_of, schedule_of};
-ghost use Rattle.replay_text.specs.Views.{location_of, stop_of, fault_of};
+ghost use Rattle.replay_text.specs.Views.{location_of, stop_of, conflict_of, divergence_of, bounds_of, private_bounds_of, unset_of, unset_element_of, fault_of};
 ghost use Rattle.replay_text.specs.ScheduleFile.{IsScheduleFile};
 ghost use Rattle.replay_text.specs.Faults.{IsRefused};
 
 use crate::fields::{after, number_before, turn_of};
 use crate::forms::fault_at;
 use crate::runs::{schedule_at, schedule_of};
-use crate::told::{Halt, Place, Told};
+use crate::told::{Bounds, Conflict, Divergence, Halt, Place, Private, Told, Unset};
 use clmodel::action::{Instance, Stop, Turns};
 use clmodel::fault::{Fault, Location};
 use clmodel::schedule::Schedule;
@@ -78,83 +78,88 @@ fn stop_of(alloc: Global, halt: Halt<'_>) -> Result<Stop, AllocError>
     }
 }
 
+fn conflict_of(alloc: Global, told: Conflict<'_>) -> Result<Fault, AllocError>
+    ensures { IfOk result (λ fault. fault ≡ conflict_of told.entry) }
+{
+    Ok(Fault::Conflict {
+        clash: told.clash,
+        item: told.item,
+        kind: told.kind,
+        other_item: told.other_item,
+        other_kind: told.other_kind,
+        location: location_of(alloc, told.place)?,
+        byte: told.byte,
+    })
+}
+
+fn divergence_of(alloc: Global, told: Divergence<'_>) -> Result<Fault, AllocError>
+    ensures { IfOk result (λ fault. fault ≡ divergence_of told.entry) }
+{
+    Ok(Fault::Divergence {
+        item: told.item,
+        stop: stop_of(alloc, told.stop)?,
+        other_item: told.other_item,
+        other_stop: stop_of(alloc, told.other_stop)?,
+    })
+}
+
+fn bounds_of(alloc: Global, told: Bounds<'_>) -> Result<Fault, AllocError>
+    ensures { IfOk result (λ fault. fault ≡ bounds_of told.entry) }
+{
+    Ok(Fault::Bounds {
+        item: told.item,
+        kind: told.kind,
+        location: location_of(alloc, told.place)?,
+        element: told.element,
+    })
+}
+
+fn private_bounds_of(alloc: Global, told: Private<'_>) -> Result<Fault, AllocError>
+    ensures { IfOk result (λ fault. fault ≡ private_bounds_of told.entry) }
+{
+    Ok(Fault::PrivateBounds {
+        item: told.item,
+        array: Name::copy_of(alloc, told.array)?,
+        element: told.element,
+    })
+}
+
+fn unset_of(alloc: Global, told: Unset<'_>) -> Result<Fault, AllocError>
+    ensures { IfOk result (λ fault. fault ≡ unset_of told.entry) }
+{
+    Ok(Fault::Unset {
+        item: told.item,
+        kind: told.kind,
+        location: location_of(alloc, told.place)?,
+        byte: told.byte,
+    })
+}
+
+fn unset_element_of(alloc: Global, told: Private<'_>) -> Result<Fault, AllocError>
+    ensures { IfOk result (λ fault. fault ≡ unset_element_of told.entry) }
+{
+    Ok(Fault::UnsetElement {
+        item: told.item,
+        array: Name::copy_of(alloc, told.array)?,
+        element: told.element,
+    })
+}
+
 /// A fault with copies of the names.
 fn fault_of(alloc: Global, told: Told<'_>) -> Result<Fault, AllocError>
     ensures { IfOk result (λ fault. fault ≡ fault_of told.entry) }
 {
     match told {
-        Told::Conflict {
-            clash,
-            item,
-            kind,
-            other_item,
-            other_kind,
-            place,
-            byte,
-        } => Ok(Fault::Conflict {
-            clash,
-            item,
-            kind,
-            other_item,
-            other_kind,
-            location: location_of(alloc, place)?,
-            byte,
-        }),
-        Told::Divergence {
-            item,
-            stop,
-            other_item,
-            other_stop,
-        } => Ok(Fault::Divergence {
-            item,
-            stop: stop_of(alloc, stop)?,
-            other_item,
-            other_stop: stop_of(alloc, other_stop)?,
-        }),
-        Told::Bounds {
-            item,
-            kind,
-            place,
-            element,
-        } => Ok(Fault::Bounds {
-            item,
-            kind,
-            location: location_of(alloc, place)?,
-            element,
-        }),
-        Told::Unset {
-            item,
-            kind,
-            place,
-            byte,
-        } => Ok(Fault::Unset {
-            item,
-            kind,
-            location: location_of(alloc, place)?,
-            byte,
-        }),
-        Told::PrivateBounds {
-            item,
-            array,
-            element,
-        } => Ok(Fault::PrivateBounds {
-            item,
-            array: Name::copy_of(alloc, array)?,
-            element,
-        }),
+        Told::Conflict(conflict) => conflict_of(alloc, conflict),
+        Told::Divergence(divergence) => divergence_of(alloc, divergence),
+        Told::Bounds(bounds) => bounds_of(alloc, bounds),
+        Told::PrivateBounds(place) => private_bounds_of(alloc, place),
+        Told::Unset(unset) => unset_of(alloc, unset),
         Told::UnsetVariable { item, variable } => {
             let variable = Name::copy_of(alloc, variable)?;
             Ok(Fault::UnsetVariable { item, variable })
         }
-        Told::UnsetElement {
-            item,
-            array,
-            element,
-        } => Ok(Fault::UnsetElement {
-            item,
-            array: Name::copy_of(alloc, array)?,
-            element,
-        }),
+        Told::UnsetElement(place) => unset_element_of(alloc, place),
         Told::DivideByZero { item } => Ok(Fault::DivideByZero { item }),
         Told::DivideOverflow { item } => Ok(Fault::DivideOverflow { item }),
         Told::Budget { item } => Ok(Fault::Budget { item }),

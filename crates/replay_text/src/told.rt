@@ -17,57 +17,64 @@ pub enum Halt<'a> {
     End,
 }
 
+/// Two accesses that conflict on a byte, the earlier one first.
+#[derive(Clone, Copy)]
+pub struct Conflict<'a> {
+    pub clash: Clash,
+    pub item: u32,
+    pub kind: AccessKind,
+    pub other_item: u32,
+    pub other_kind: AccessKind,
+    pub place: Place<'a>,
+    pub byte: u64,
+}
+
+/// Two items at different stops.
+#[derive(Clone, Copy)]
+pub struct Divergence<'a> {
+    pub item: u32,
+    pub stop: Halt<'a>,
+    pub other_item: u32,
+    pub other_stop: Halt<'a>,
+}
+
+/// An access of an element that is out of range.
+#[derive(Clone, Copy)]
+pub struct Bounds<'a> {
+    pub item: u32,
+    pub kind: AccessKind,
+    pub place: Place<'a>,
+    pub element: i64,
+}
+
+/// An access that reads an unset byte.
+#[derive(Clone, Copy)]
+pub struct Unset<'a> {
+    pub item: u32,
+    pub kind: AccessKind,
+    pub place: Place<'a>,
+    pub byte: u64,
+}
+
+/// An item at an element of one of its private arrays.
+#[derive(Clone, Copy)]
+pub struct Private<'a> {
+    pub item: u32,
+    pub array: &'a [u8],
+    pub element: i64,
+}
+
 /// A fault, with names that are lent.
 #[derive(Clone, Copy)]
 pub enum Told<'a> {
-    Conflict {
-        clash: Clash,
-        item: u32,
-        kind: AccessKind,
-        other_item: u32,
-        other_kind: AccessKind,
-        place: Place<'a>,
-        byte: u64,
-    },
-    Divergence {
-        item: u32,
-        stop: Halt<'a>,
-        other_item: u32,
-        other_stop: Halt<'a>,
-    },
-    Bounds {
-        item: u32,
-        kind: AccessKind,
-        place: Place<'a>,
-        element: i64,
-    },
-    PrivateBounds {
-        item: u32,
-        array: &'a [u8],
-        element: i64,
-    },
-    Unset {
-        item: u32,
-        kind: AccessKind,
-        place: Place<'a>,
-        byte: u64,
-    },
-    UnsetVariable {
-        item: u32,
-        variable: &'a [u8],
-    },
-    UnsetElement {
-        item: u32,
-        array: &'a [u8],
-        element: i64,
-    },
-    DivideByZero {
-        item: u32,
-    },
-    DivideOverflow {
-        item: u32,
-    },
-    Budget {
-        item: u32,
-    },
+    Conflict(Conflict<'a>),
+    Divergence(Divergence<'a>),
+    Bounds(Bounds<'a>),
+    PrivateBounds(Private<'a>),
+    Unset(Unset<'a>),
+    UnsetVariable { item: u32, variable: &'a [u8] },
+    UnsetElement(Private<'a>),
+    DivideByZero { item: u32 },
+    DivideOverflow { item: u32 },
+    Budget { item: u32 },
 }

@@ -4,8 +4,9 @@
 ghost use Rattle.std.specs.Prelude.{◌≡◌};
 ghost use Rattle.std.specs.List.{flat_map};
 ghost use Rattle.ends.specs.Sink.{Puts};
-ghost use Rattle.replay_text.specs.Text.{class_text, kind_text, clash_text, location_text, later_turn_text, turns_text, stop_text, run_text, schedule_text, fault_text, private_text, item_text, fault_line};
+ghost use Rattle.replay_text.specs.Text.{class_text, kind_text, clash_text, location_text, later_turn_text, turns_text, stop_text, run_text, schedule_text, fault_words, fault_item, byte_texts, element_texts, private_texts, variable_texts, conflict_texts, divergence_texts, fault_details, fault_text, fault_line};
 ghost use Rattle.replay_text.specs.Parts.{part_text};
+ghost use Rattle.replay_text.specs.Pieces.{joined};
 
 use crate::pieces::{Piece, write_number, write_pieces, write_signed};
 use clmodel::access::{AccessKind, Clash, Class};
@@ -186,28 +187,59 @@ fn write_parts<W: Write>(parts: &[Part<'_>], writer: &mut W) -> Result<(), Write
     Ok(())
 }
 
-/// Writes a fault of two accesses, each given by its item and its kind.
+/// The words in front of a fault's item.
+fn words_of(fault: &Fault) -> &'static str
+    ensures { result.now ≡ fault_words fault.now }
+{
+    match fault {
+        Fault::Conflict { clash, .. } => clash_words(*clash),
+        Fault::Divergence { .. } => "fault 3 divergence item ",
+        Fault::Bounds { .. } | Fault::PrivateBounds { .. } => "fault 4 bounds item ",
+        Fault::Unset { .. } | Fault::UnsetVariable { .. } | Fault::UnsetElement { .. } => {
+            "fault 5 unset item "
+        }
+        Fault::DivideByZero { .. } => "fault 6 divide_by_zero item ",
+        Fault::DivideOverflow { .. } => "fault 7 divide_overflow item ",
+        Fault::Budget { .. } => "fault 8 budget item ",
+    }
+}
+
+/// A fault's item, the first one where it has two.
+fn item_of(fault: &Fault) -> u32
+    ensures { result ≡ fault_item fault.now }
+{
+    match fault {
+        Fault::Conflict { item, .. }
+        | Fault::Divergence { item, .. }
+        | Fault::Bounds { item, .. }
+        | Fault::PrivateBounds { item, .. }
+        | Fault::Unset { item, .. }
+        | Fault::UnsetVariable { item, .. }
+        | Fault::UnsetElement { item, .. }
+        | Fault::DivideByZero { item }
+        | Fault::DivideOverflow { item }
+        | Fault::Budget { item } => *item,
+    }
+}
+
+/// Writes two accesses behind the item of the earlier one; the later one is given by its item and its kind.
 fn write_conflict<W: Write>(
-    clash: Clash,
-    earlier: (u32, AccessKind),
-    later: (u32, AccessKind),
+    kind: AccessKind,
+    other: (u32, AccessKind),
     location: &Location,
     byte: u64,
     writer: &mut W,
 ) -> Result<(), WriteFailed>
-    ensures { Puts (W.sink writer.old) result (W.sink writer.new)
-        (fault_text (Fault.Conflict clash earlier.0 earlier.1 later.0 later.1 location.now byte)) }
+    ensures { Puts (W.sink writer.old) result (W.sink writer.new) (joined (conflict_texts kind other.0 other.1 location.now byte)) }
 {
     write_parts(
         &[
-            Part::Clash(clash),
-            Part::Number32(earlier.0),
             Part::Text(" "),
-            Part::Kind(earlier.1),
+            Part::Kind(kind),
             Part::Text(" item "),
-            Part::Number32(later.0),
+            Part::Number32(other.0),
             Part::Text(" "),
-            Part::Kind(later.1),
+            Part::Kind(other.1),
             Part::Text(" "),
             Part::Location(location),
             Part::Text(" byte "),
@@ -217,20 +249,17 @@ fn write_conflict<W: Write>(
     )
 }
 
+/// Writes two stops behind the item of the first.
 fn write_divergence<'a, W: Write>(
-    item: u32,
     stop: &'a Stop,
     other_item: u32,
     other_stop: &'a Stop,
     writer: &mut W,
 ) -> Result<(), WriteFailed>
-    ensures { Puts (W.sink writer.old) result (W.sink writer.new)
-        (fault_text (Fault.Divergence item stop.now other_item other_stop.now)) }
+    ensures { Puts (W.sink writer.old) result (W.sink writer.new) (joined (divergence_texts stop.now other_item other_stop.now)) }
 {
     write_parts(
         &[
-            Part::Text("fault 3 divergence item "),
-            Part::Number32(item),
             Part::Text(" "),
             Part::Stop(stop),
             Part::Text(" item "),
@@ -242,20 +271,17 @@ fn write_divergence<'a, W: Write>(
     )
 }
 
-fn write_bounds<W: Write>(
-    item: u32,
+/// Writes an access of an element behind its item.
+fn write_element_access<W: Write>(
     kind: AccessKind,
     location: &Location,
     element: i64,
     writer: &mut W,
 ) -> Result<(), WriteFailed>
-    ensures { Puts (W.sink writer.old) result (W.sink writer.new)
-        (fault_text (Fault.Bounds item kind location.now element)) }
+    ensures { Puts (W.sink writer.old) result (W.sink writer.new) (joined (element_texts kind location.now element)) }
 {
     write_parts(
         &[
-            Part::Text("fault 4 bounds item "),
-            Part::Number32(item),
             Part::Text(" "),
             Part::Kind(kind),
             Part::Text(" "),
@@ -267,20 +293,17 @@ fn write_bounds<W: Write>(
     )
 }
 
-fn write_unset<W: Write>(
-    item: u32,
+/// Writes an access of a byte behind its item.
+fn write_byte_access<W: Write>(
     kind: AccessKind,
     location: &Location,
     byte: u64,
     writer: &mut W,
 ) -> Result<(), WriteFailed>
-    ensures { Puts (W.sink writer.old) result (W.sink writer.new)
-        (fault_text (Fault.Unset item kind location.now byte)) }
+    ensures { Puts (W.sink writer.old) result (W.sink writer.new) (joined (byte_texts kind location.now byte)) }
 {
     write_parts(
         &[
-            Part::Text("fault 5 unset item "),
-            Part::Number32(item),
             Part::Text(" "),
             Part::Kind(kind),
             Part::Text(" "),
@@ -292,114 +315,82 @@ fn write_unset<W: Write>(
     )
 }
 
-fn write_unset_variable<W: Write>(
-    item: u32,
-    variable: &Name,
+/// Writes an element of a private array behind the item.
+fn write_private_element<W: Write>(
+    array: &Name,
+    element: i64,
     writer: &mut W,
 ) -> Result<(), WriteFailed>
-    ensures { Puts (W.sink writer.old) result (W.sink writer.new)
-        (fault_text (Fault.UnsetVariable item variable.now)) }
+    ensures { Puts (W.sink writer.old) result (W.sink writer.new) (joined (private_texts array.now element)) }
 {
     write_parts(
         &[
-            Part::Text("fault 5 unset item "),
-            Part::Number32(item),
-            Part::Text(" variable "),
-            Part::Name(variable.as_slice()),
-        ],
-        writer,
-    )
-}
-
-/// Writes a fault at an element of a private array, behind the words that name the fault.
-fn write_private<'a, W: Write>(
-    words: &'a str,
-    item: u32,
-    array: &'a Name,
-    element: &i64,
-    writer: &mut W,
-) -> Result<(), WriteFailed>
-    ensures { Puts (W.sink writer.old) result (W.sink writer.new)
-        (private_text words.now item array.now element.now) }
-{
-    write_parts(
-        &[
-            Part::Text(words),
-            Part::Number32(item),
             Part::Text(" private "),
             Part::Name(array.as_slice()),
             Part::Text(" element "),
-            Part::Signed(*element),
+            Part::Signed(element),
         ],
         writer,
     )
 }
 
-/// Writes a fault that names an item alone, behind the words that name the fault.
-fn write_item<W: Write>(words: &str, item: u32, writer: &mut W) -> Result<(), WriteFailed>
-    ensures { Puts (W.sink writer.old) result (W.sink writer.new) (item_text words.now item) }
+/// Writes a variable behind its item.
+fn write_variable<W: Write>(variable: &Name, writer: &mut W) -> Result<(), WriteFailed>
+    ensures { Puts (W.sink writer.old) result (W.sink writer.new) (joined (variable_texts variable.now)) }
 {
-    write_parts(&[Part::Text(words), Part::Number32(item)], writer)
+    write_parts(
+        &[Part::Text(" variable "), Part::Name(variable.as_slice())],
+        writer,
+    )
+}
+
+/// Writes what a fault tells behind its item.
+fn write_details<W: Write>(fault: &Fault, writer: &mut W) -> Result<(), WriteFailed>
+    ensures { Puts (W.sink writer.old) result (W.sink writer.new) (joined (fault_details fault.now)) }
+{
+    match fault {
+        Fault::Conflict {
+            kind,
+            other_item,
+            other_kind,
+            location,
+            byte,
+            ..
+        } => write_conflict(*kind, (*other_item, *other_kind), location, *byte, writer),
+        Fault::Divergence {
+            stop,
+            other_item,
+            other_stop,
+            ..
+        } => write_divergence(stop, *other_item, other_stop, writer),
+        Fault::Bounds {
+            kind,
+            location,
+            element,
+            ..
+        } => write_element_access(*kind, location, *element, writer),
+        Fault::Unset {
+            kind,
+            location,
+            byte,
+            ..
+        } => write_byte_access(*kind, location, *byte, writer),
+        Fault::PrivateBounds { array, element, .. } | Fault::UnsetElement { array, element, .. } =>
+            write_private_element(array, *element, writer),
+        Fault::UnsetVariable { variable, .. } => write_variable(variable, writer),
+        Fault::DivideByZero { .. } | Fault::DivideOverflow { .. } | Fault::Budget { .. } => Ok(()),
+    }
 }
 
 /// Writes a fault without its schedule.
 fn write_fault<W: Write>(fault: &Fault, writer: &mut W) -> Result<(), WriteFailed>
     ensures { Puts (W.sink writer.old) result (W.sink writer.new) (fault_text fault.now) }
 {
-    match fault {
-        Fault::Conflict {
-            clash,
-            item,
-            kind,
-            other_item,
-            other_kind,
-            location,
-            byte,
-        } => write_conflict(
-            *clash,
-            (*item, *kind),
-            (*other_item, *other_kind),
-            location,
-            *byte,
-            writer,
-        ),
-        Fault::Divergence {
-            item,
-            stop,
-            other_item,
-            other_stop,
-        } => write_divergence(*item, stop, *other_item, other_stop, writer),
-        Fault::Bounds {
-            item,
-            kind,
-            location,
-            element,
-        } => write_bounds(*item, *kind, location, *element, writer),
-        Fault::PrivateBounds {
-            item,
-            array,
-            element,
-        } => write_private("fault 4 bounds item ", *item, array, element, writer),
-        Fault::Unset {
-            item,
-            kind,
-            location,
-            byte,
-        } => write_unset(*item, *kind, location, *byte, writer),
-        Fault::UnsetVariable { item, variable } => write_unset_variable(*item, variable, writer),
-        Fault::UnsetElement {
-            item,
-            array,
-            element,
-        } => write_private("fault 5 unset item ", *item, array, element, writer),
-        Fault::DivideByZero { item } => write_item("fault 6 divide_by_zero item ", *item, writer),
-        Fault::DivideOverflow { item } => write_item(
-            "fault 7 divide_overflow item ",
-            *item,
-            writer,
-        ),
-        Fault::Budget { item } => write_item("fault 8 budget item ", *item, writer),
-    }
+    write_parts(
+        &[Part::Text(words_of(fault)), Part::Number32(item_of(fault))],
+        writer,
+    )?;
+    write_details(fault, writer)
 }
 
 /// Writes a fault and the schedule after which a launch shows it, as a line with its line feed. Where it fails a beginning of the

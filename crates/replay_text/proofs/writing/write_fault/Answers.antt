@@ -1,14 +1,27 @@
-use Rattle.std.proofs.Common.{rules}
+use Rattle.std.proofs.Common.{ℕ, List, [], ◌∷◌, ◌++◌, decimal}
+use Rattle.std.proofs.lemmas.Result.{err_from_is_err_and}
+use Rattle.ends.specs.Sink.{Wrote, Stopped, Puts}
+use Rattle.ends.proofs.Puts.{stopped_more, puts_then}
+use Rattle.replay_text.specs.Pieces.{joined}
+use Rattle.replay_text.specs.Text.{fault_words, fault_item, fault_details}
+use Rattle.replay_text.proofs.Grammar.{joined-append}
 use Rattle.replay_text.proofs.writing.write_fault.Goals as goal
 
-pub returns-in-UnsetElement : goal.returns-in-UnsetElement
-returns-in-UnsetElement g c = rw c.in-UnsetElement.is c.write_private-in-UnsetElement.ensures
+pub returns-in_err-write_parts : goal.returns-in_err-write_parts
+returns-in_err-write_parts g c =
+    let p = err_from_is_err_and c.from_residual.result c.from_residual.ensures.1 in
+    let fault = c.args.fault.now in
+    let begun : List (List ℕ) = fault_words fault ∷ decimal (fault_item fault) ∷ [] in
+    let rest = joined (fault_details fault) in
+    let stopped : Stopped (g.W.Write.sink c.args.writer.now) (g.W.Write.sink c.write_parts.new.writer) (joined begun) = rw (c.words_of.ensures, c.item_of.ensures) at c.in_err-write_parts.ensures in
+    let whole : Stopped (g.W.Write.sink c.args.writer.now) (g.W.Write.sink c.write_parts.new.writer) (joined begun ++ rest) = stopped_more rest stopped in
+    rw p.1 (rw (joined-append begun rest) at whole)
 
-pub returns-in-DivideByZero : goal.returns-in-DivideByZero
-returns-in-DivideByZero g c = rw c.in-DivideByZero.is (search rules)
-
-pub returns-in-DivideOverflow : goal.returns-in-DivideOverflow
-returns-in-DivideOverflow g c = rw c.in-DivideOverflow.is (search rules)
-
-pub returns-in-Budget : goal.returns-in-Budget
-returns-in-Budget g c = rw c.in-Budget.is (search rules)
+pub returns : goal.returns
+returns g c =
+    let fault = c.args.fault.now in
+    let begun : List (List ℕ) = fault_words fault ∷ decimal (fault_item fault) ∷ [] in
+    let rest = joined (fault_details fault) in
+    let wrote : Wrote (g.W.Write.sink c.args.writer.now) (g.W.Write.sink c.write_parts.new.writer) (joined begun) = rw (c.words_of.ensures, c.item_of.ensures) at c.in_ok-write_parts.ensures in
+    let whole : Puts (g.W.Write.sink c.args.writer.now) c.write_details.result (g.W.Write.sink c.write_details.new.writer) (joined begun ++ rest) = puts_then _ rest c.write_details.result wrote c.write_details.ensures in
+    rw (joined-append begun rest) at whole
