@@ -4,7 +4,7 @@ ghost use Rattle.std.specs.Prelude.{◌≡◌, ◌*◌, ◌<◌};
 ghost use Rattle.clmodel.specs.Next.{launch_of};
 ghost use Rattle.clmodel.specs.Setup.{item_count, group_items};
 ghost use Rattle.item_step.specs.Launches.{setup_of};
-ghost use Rattle.snapshot_run.specs.Launches.{HasGroups};
+ghost use Rattle.launches.specs.Groups.{HasGroups};
 ghost use Rattle.spaces_base.specs.Buffers.{bytes_in};
 ghost use Rattle.workers.specs.Results.{IsOfGroup, IsStopping, number_of, has_stopped};
 

@@ -4,7 +4,7 @@ ghost use Rattle.std.specs.Prelude.{◌≡◌, ◌≤◌, IfOk};
 ghost use Rattle.clmodel.specs.Next.{launch_of};
 ghost use Rattle.clmodel.specs.Outcome.{Concludes};
 ghost use Rattle.item_step.specs.Launches.{setup_of};
-ghost use Rattle.snapshot_run.specs.Launches.{HasGroups};
+ghost use Rattle.launches.specs.Groups.{HasGroups};
 ghost use Rattle.spaces_base.specs.Buffers.{bytes_in};
 
 use crate::launch::LaunchGroups;
