@@ -2,7 +2,7 @@
 ghost use Rattle.std.specs.Prelude.{◌≡◌, ℕ};
 ghost use Rattle.std.specs.Box.{box_value};
 ghost use Rattle.host_queue.specs.declared.view.Request.TheVariants.{Answered};
-ghost use Rattle.host_queue.specs.Tickets.{IsOpen};
+ghost use Rattle.host_queue.specs.Clients.{IsOpen};
 ghost use Rattle.host_queue.specs.Opened.{Each};
 
 use crate::tally::Tally;
@@ -62,7 +62,7 @@ impl<'a> Desk<'a> {
         let Ok(ticket) = self.client.submit(self.queue, request) else {
             return Ok(None);
         };
-        let number = ticket.number;
+        let number = ticket.number();
         let request = wait(rt, self.queue, &mut self.client, ticket);
         match *request {
             Request::Answered(reply) => Ok(Some(Line {
@@ -121,7 +121,7 @@ pub fn drive<R: Wait>(
         match driver.drive_one(queue) {
             None => thread::yield_now(),
             Some(answered) => {
-                if answered.count >= count {
+                if answered.count() >= count {
                     return driver;
                 }
             }

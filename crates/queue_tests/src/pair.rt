@@ -2,7 +2,7 @@
 ghost use Rattle.std.specs.Prelude.{◌≡◌, ◌≢◌, IfOk};
 ghost use Rattle.std.specs.Box.{box_value};
 ghost use Rattle.host_queue.specs.declared.view.Request.TheVariants.{Asked};
-ghost use Rattle.host_queue.specs.Tickets.{IsOnly};
+ghost use Rattle.host_queue.specs.Clients.{IsOnly};
 
 use crate::desk::Tallies;
 use crate::tally::Tally;
@@ -96,12 +96,12 @@ fn agreed_tickets_rise(rt: HostRuntime) -> Result<(), Fail> {
     let Ok(two) = second.submit(&queue, boxed(alloc, 2)?) else {
         panic!(rt; "full")
     };
-    assert!(rt; one.number < two.number);
+    assert!(rt; one.number() < two.number());
     first.agree(&queue, &mut second);
     let Ok(three) = first.submit(&queue, boxed(alloc, 4)?) else {
         panic!(rt; "full")
     };
-    assert!(rt; two.number < three.number);
+    assert!(rt; two.number() < three.number());
     let machine = close(&rt, queue, Vec::new(alloc), driver);
     assert_eq!(rt; machine.total, 7);
     Ok(())
@@ -145,7 +145,7 @@ fn a_dropped_client_loses_nobody_elses_tickets(rt: HostRuntime) -> Result<(), Fa
     let Some(answered) = driver.drive_one(&queue) else {
         panic!(rt; "no request")
     };
-    assert_eq!(rt; answered.count, 2);
+    assert_eq!(rt; answered.count(), 2);
     let Ok(request) = second.poll(&queue, ticket) else {
         panic!(rt; "no reply")
     };

@@ -1,5 +1,5 @@
 use Rattle.std.proofs.Common.{◌≡◌}
-use Rattle.host_queue.specs.Tickets.{IsOpen}
+use Rattle.host_queue.specs.Clients.{IsOpen}
 use Rattle.queue_tests.proofs.desk.wait.Given as goal
 
 abbrev pub invariant-loop : goal.invariant-loop

@@ -1,5 +1,5 @@
 use Rattle.std.proofs.Common.{◌≡◌}
-use Rattle.host_queue.specs.Tickets.{IsOnly}
+use Rattle.host_queue.specs.Clients.{IsOnly}
 use Rattle.queue_tests.proofs.pair.sums.Given as goal
 
 abbrev pub invariant-loop-add : goal.invariant-loop-add
