@@ -7,7 +7,7 @@ use native.Mathlib.Decide.{ℕ_discrete}
 use lib.ListN.{get_elem?}
 use Rattle.host_queue.specs.declared.view.Entry.{Entry}
 use Rattle.host_queue.specs.History.{Begins, Runs, RunsTo}
-use Rattle.host_queue.specs.Tickets.{total, entry}
+use Rattle.host_queue.specs.Views.{total, entry}
 use Rattle.atomic_table.proofs.Lists.{at_longer}
 
 module _ {A : Type 0} where

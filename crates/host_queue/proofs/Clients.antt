@@ -14,7 +14,10 @@ use Rattle.host_queue.specs.declared.view.Held.{Held}
 use Rattle.host_queue.specs.declared.view.Entry.{Entry}
 use Rattle.host_queue.specs.declared.view.View.{View}
 use Rattle.host_queue.specs.History.{Begins, Runs, RunsTo}
-use Rattle.host_queue.specs.Tickets.{held, entry, Fits, IsReady, IsClient, IsDriver, IsNote, IsOpen, StaysOpen, StaysOpenBut, Has, AllBelow, AgreeAt, Serves, told, gone, note_of, host_of, guest_of, first_view}
+use Rattle.host_queue.specs.Views.{held, entry, Has, first_view}
+use Rattle.host_queue.specs.Plays.{Fits}
+use Rattle.host_queue.specs.Clients.{IsReady, IsClient, IsDriver, IsNote, IsOpen, StaysOpen, StaysOpenBut, AllBelow, AgreeAt, Serves}
+use Rattle.host_queue.specs.Notes.{told, gone, note_of, host_of, guest_of}
 use Rattle.host_queue.proofs.Basics.{at_inside, there, at_end, begins_refl, begins_long, begins_both, runs_on, runs_none, runs_more}
 
 module _ {D C R : Type 0} (model : D → C → R → D → Type 0) where

@@ -11,7 +11,10 @@ use Rattle.host_queue.specs.declared.view.Request.{Request}
 use Rattle.host_queue.specs.declared.view.Stage.TheVariants.{Idle}
 use Rattle.host_queue.specs.declared.view.Entry.{Entry}
 use Rattle.host_queue.specs.declared.view.View.{View}
-use Rattle.host_queue.specs.Tickets.{total, word_of, credit, share, count, first_view, AtStage, SeatOk, Kept, looked, host_of, guest_of, note_of, gone, farewell_of, told, spent}
+use Rattle.host_queue.specs.Views.{total, credit, share, count, first_view}
+use Rattle.host_queue.specs.Tickets.{word_of, AtStage, SeatOk, Kept}
+use Rattle.host_queue.specs.Plays.{looked}
+use Rattle.host_queue.specs.Notes.{host_of, guest_of, note_of, gone, farewell_of, told, spent}
 use Rattle.host_queue.proofs.Basics.{put, put_here, put_else, at_inside, at_end, begins_refl, total_set, total_snoc, total_alone, runs_none, runs_on}
 use Rattle.host_queue.proofs.Keeps.{seat_stays, seats_move, unmoved, fits_now}
 

@@ -18,7 +18,9 @@ use Rattle.host_queue.specs.declared.view.Held.{Held}
 use Rattle.host_queue.specs.declared.view.Entry.{Entry}
 use Rattle.host_queue.specs.declared.view.View.{View}
 use Rattle.host_queue.specs.History.{Begins, Runs}
-use Rattle.host_queue.specs.Tickets.{total, Has, word_of, entry, held, credit, share, count, TicketOk, AtStage, SeatOk, Kept, drew, placed, took, answered, Fits, gathered}
+use Rattle.host_queue.specs.Views.{total, Has, entry, held, credit, share, count}
+use Rattle.host_queue.specs.Tickets.{word_of, TicketOk, AtStage, SeatOk, Kept}
+use Rattle.host_queue.specs.Plays.{drew, placed, took, answered, Fits, gathered}
 use Rattle.host_queue.proofs.Basics.{put, put_here, put_else, at_inside, at_end, begins_refl, begins_trans, begins_more, begins_long, total_set}
 
 module _ {D C R B : Type 0} (model : D → C → R → D → Type 0) (content : B → Request C R) (start : D) where

@@ -1,5 +1,5 @@
 -- A list of commands with their replies, as a run of the machine.
-use Rattle.std.specs.Prelude.{◌≡◌, ℕ, suc, ◌<◌, List, length}
+use Rattle.std.specs.Prelude.{◌≡◌, ℕ, suc, List, length}
 use mathlib.Core.Option.{some}
 use lib.ListN.{get_elem?}
 use Rattle.host_queue.specs.declared.view.Entry.{Entry}

@@ -6,7 +6,10 @@ ghost use lib.ListN.{get_elem?};
 ghost use Rattle.host_queue.specs.declared.view.Request.TheVariants.{Asked, Answered as AnsweredBy};
 ghost use Rattle.host_queue.specs.declared.view.Entry.{Entry};
 ghost use Rattle.host_queue.specs.History.{Begins, RunsTo};
-ghost use Rattle.host_queue.specs.Tickets.{total, IsClient, IsDriver, IsNote, IsOpen, IsOnly, IsUnheard, IsApart, AgreeAt, AllBelow, Serves, entry, StaysOpen, StaysOpenBut, Fits, held, host_of, guest_of};
+ghost use Rattle.host_queue.specs.Views.{total, entry, held};
+ghost use Rattle.host_queue.specs.Clients.{IsClient, IsDriver, IsNote, IsOpen, IsOnly, IsApart, AgreeAt, AllBelow, Serves, StaysOpen, StaysOpenBut};
+ghost use Rattle.host_queue.specs.Plays.{IsUnheard, Fits};
+ghost use Rattle.host_queue.specs.Notes.{host_of, guest_of};
 ghost use Rattle.host_queue.specs.Opened.{Each, IsGuest};
 
 use crate::machine::Machine;
@@ -44,6 +47,15 @@ pub struct Client<D: Machine<C, R>, C: Drop, R: Drop> {
 #[derive(Drop)]
 pub struct Ticket {
     pub number: u64,
+}
+
+impl Ticket {
+    /// Its place in the order of all commands, from 0 on.
+    pub fn number(&self) -> u64
+        ensures { result ≡ self.now.number }
+    {
+        self.number
+    }
 }
 
 /// All tickets are drawn. The request comes back.
@@ -125,6 +137,15 @@ pub struct Answered<D: Machine<C, R>, C: Drop, R: Drop> {
     ghost note: { IsNote seat.me.0 },
     ghost empty_handed: { seat.me.1 ≡ [] },
     ghost counted: { count ≡ length seat.me.0.known },
+}
+
+impl<D: Machine<C, R>, C: Drop, R: Drop> Answered<D, C, R> {
+    /// How many tickets are answered.
+    pub fn count(&self) -> u64
+        ensures { result ≡ self.now.count }
+    {
+        self.count
+    }
 }
 
 /// Who takes the requests in ticket order.

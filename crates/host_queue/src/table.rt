@@ -1,6 +1,9 @@
 //! The rule of the table, and what each step tells.
 ghost use Rattle.std.specs.Box.{box_value};
-ghost use Rattle.host_queue.specs.Tickets.{Kept, first_view, drew, placed, took, answered, gathered, looked, host_of, guest_of, note_of, gone, farewell_of, told, spent};
+ghost use Rattle.host_queue.specs.Tickets.{Kept};
+ghost use Rattle.host_queue.specs.Views.{first_view};
+ghost use Rattle.host_queue.specs.Plays.{drew, placed, took, answered, gathered, looked};
+ghost use Rattle.host_queue.specs.Notes.{host_of, guest_of, note_of, gone, farewell_of, told, spent};
 
 use crate::machine::Machine;
 use crate::view::{Request, View};

@@ -2,7 +2,7 @@ use Rattle.std.proofs.Common.{rules, arith, sym, ap, ◌∙◌, subst, ◌≡◌
 use Rattle.std.specs.Box.{box_value}
 use lib.ListN.{get_elem?}
 use Rattle.host_queue.specs.History.{Begins}
-use Rattle.host_queue.specs.Tickets.{AllBelow}
+use Rattle.host_queue.specs.Clients.{AllBelow}
 use Rattle.host_queue.proofs.Comings.{tells, learns, looks}
 use Rattle.host_queue.proofs.Clients.{client_knows, ready_told, note_is, fits_told}
 use Rattle.host_queue.proofs.queue.Client.learn_from.Goals as goal

@@ -3,7 +3,7 @@ use Rattle.std.specs.Box.{box_value}
 use Rattle.std.specs.Option.{IsSome}
 use lib.ListN.{get_elem?}
 use Rattle.atomic_table.specs.Table.{rest}
-use Rattle.host_queue.specs.Tickets.{AllBelow}
+use Rattle.host_queue.specs.Clients.{AllBelow}
 use Rattle.host_queue.proofs.Keeps.{collects}
 use Rattle.host_queue.proofs.Clients.{client_knows, had_more, gathered_is, fits_is, same_head, some_same, stay_open, stay_open_but}
 use Rattle.host_queue.proofs.queue.Client.poll.Goals as goal

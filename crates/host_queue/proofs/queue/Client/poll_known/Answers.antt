@@ -4,7 +4,8 @@ use Rattle.std.specs.Option.{IsSome}
 use lib.ListN.{get_elem?}
 use Rattle.atomic_table.specs.Table.{rest}
 use Rattle.host_queue.specs.History.{Begins}
-use Rattle.host_queue.specs.Tickets.{Has, AllBelow}
+use Rattle.host_queue.specs.Views.{Has}
+use Rattle.host_queue.specs.Clients.{AllBelow}
 use Rattle.host_queue.proofs.Keeps.{collects}
 use Rattle.host_queue.proofs.Comings.{tells, learns}
 use Rattle.host_queue.proofs.Clients.{client_knows, had_more, stay_open_but, gathered_is, fits_is, same_head, some_same, note_is, told_hit, ready_told, fits_told}

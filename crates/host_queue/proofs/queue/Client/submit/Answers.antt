@@ -1,6 +1,6 @@
 use Rattle.std.proofs.Common.{rules, arith, sym, ap, ◌∙◌, subst, ◌≡◌, ℕ, ◌+◌, ◌≤◌}
 use Rattle.std.specs.Box.{box_value}
-use Rattle.host_queue.specs.Tickets.{AllBelow}
+use Rattle.host_queue.specs.Clients.{AllBelow}
 use Rattle.host_queue.proofs.Keeps.{draws, places}
 use Rattle.host_queue.proofs.Clients.{client_full, client_placed, placed_is, all_below, opened, stay_open, stay_open_more}
 use Rattle.host_queue.proofs.queue.Client.submit.Goals as goal

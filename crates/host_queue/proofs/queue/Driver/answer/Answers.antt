@@ -1,10 +1,10 @@
-use Rattle.std.proofs.Common.{rules, arith, sym, refl, ap, ◌∙◌, subst, ◌≡◌, ◌<◌, ℕ, ◌+◌, [], ◌∷◌, ◌++◌, length, length-append}
+use Rattle.std.proofs.Common.{arith, sym, refl, ap, ◌∙◌, subst, ◌≡◌, ℕ, ◌+◌, [], ◌∷◌, ◌++◌, length, length-append}
 use mathlib.Core.Option.{some-injective}
 use lib.ListN.{get_elem?}
 use Rattle.atomic_table.proofs.Lists.{at_last}
 use Rattle.host_queue.specs.declared.view.Request.TheVariants.{Answered as AnsweredBy}
 use Rattle.host_queue.specs.History.{Begins}
-use Rattle.host_queue.specs.Tickets.{held, entry}
+use Rattle.host_queue.specs.Views.{held, entry}
 use Rattle.host_queue.proofs.Basics.{begins_long}
 use Rattle.host_queue.proofs.Clients.{stay_open, some_of, some_gives}
 use Rattle.host_queue.proofs.queue.Driver.answer.Goals as goal

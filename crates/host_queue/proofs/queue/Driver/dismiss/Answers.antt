@@ -1,7 +1,7 @@
 use Rattle.std.proofs.Common.{rules, arith, sym, ap, ◌∙◌, subst, ◌≡◌, ℕ, ◌+◌, length}
 use Rattle.std.specs.Box.{box_value}
 use Rattle.host_queue.specs.History.{Begins}
-use Rattle.host_queue.specs.Tickets.{AgreeAt}
+use Rattle.host_queue.specs.Clients.{AgreeAt}
 use Rattle.host_queue.proofs.Comings.{leaves, learns, looks}
 use Rattle.host_queue.proofs.Clients.{driver_looked, serves}
 use Rattle.host_queue.proofs.queue.Driver.dismiss.Goals as goal

@@ -2,7 +2,7 @@ use Rattle.std.proofs.Common.{rules, arith, sym, ap, ◌∙◌, subst, ◌≡◌
 use Rattle.std.specs.Box.{box_value, with_value}
 use Rattle.atomic_table.specs.Table.{rest}
 use Rattle.host_queue.proofs.Keeps.{takes_at, answers_at}
-use Rattle.host_queue.specs.Tickets.{entry}
+use Rattle.host_queue.specs.Views.{entry}
 use Rattle.host_queue.specs.History.{Begins}
 use Rattle.host_queue.proofs.Basics.{begins_more}
 use Rattle.host_queue.proofs.Comings.{tells}

@@ -1,6 +1,7 @@
-use Rattle.std.proofs.Common.{rules, arith, sym, refl, ap, ◌∙◌, subst, ◌≡◌, ◌≤◌, ℕ, ◌+◌, length}
+use Rattle.std.proofs.Common.{rules, arith, sym, refl, ap, ◌∙◌, subst, ◌≡◌, ◌+◌, length}
 use Rattle.std.specs.Box.{box_value}
-use Rattle.host_queue.specs.Tickets.{AllBelow, told}
+use Rattle.host_queue.specs.Clients.{AllBelow}
+use Rattle.host_queue.specs.Notes.{told}
 use Rattle.host_queue.proofs.Comings.{leaves, learns, looks}
 use Rattle.host_queue.proofs.Clients.{driver_looked, driver_gone, client_back, all_heard}
 use Rattle.host_queue.proofs.queue.Driver.hear.Goals as goal

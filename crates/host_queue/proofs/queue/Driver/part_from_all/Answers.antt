@@ -5,7 +5,7 @@ use native.Mathlib.Decide.{ℕ_discrete}
 use lib.ListN.{get_elem?}
 use Rattle.atomic_table.proofs.Lists.{at_last, at_longer}
 use Rattle.host_queue.specs.History.{Begins}
-use Rattle.host_queue.specs.Tickets.{Serves}
+use Rattle.host_queue.specs.Clients.{Serves}
 use Rattle.host_queue.proofs.Basics.{at_inside, begins_refl, begins_trans, total_last}
 use Rattle.host_queue.proofs.Clients.{serves_more}
 use Rattle.host_queue.proofs.queue.Driver.part_from_all.Goals as goal

@@ -1,6 +1,7 @@
 use Rattle.std.proofs.Common.{◌≡◌, ◌+◌, ◌≤◌, length}
 use Rattle.host_queue.specs.History.{Begins}
-use Rattle.host_queue.specs.Tickets.{Serves, total}
+use Rattle.host_queue.specs.Clients.{Serves}
+use Rattle.host_queue.specs.Views.{total}
 use Rattle.host_queue.specs.Opened.{Each}
 use Rattle.host_queue.proofs.queue.Driver.part_from_all.Given as goal
 
