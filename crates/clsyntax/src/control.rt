@@ -3,14 +3,14 @@
 
 ghost use Rattle.std.specs.Prelude.{◌≡◌, ◌∷◌, suc, IfOk};
 ghost use Rattle.clmodel.specs.Tree as tree;
-ghost use Rattle.clmodel.specs.Tree.{stmt, maybe_term};
+ghost use Rattle.clmodel.specs.Tree.{term, stmt, maybe_term};
 ghost use Rattle.clsyntax_terms.specs.Machine as machine;
 ghost use Rattle.clsyntax_terms.specs.Views.{frames_of, opened, maybe_statement, Steps};
 ghost use Rattle.clsyntax.specs.Views.{settled_of, ends_front};
 
 use crate::heads::on_typing;
 use crate::statements::{begin_controlled, on_item, on_simple};
-use clmodel::tree::Statement;
+use clmodel::tree::{Expression, Statement};
 use clsyntax_lex::token::{Token, TokenKind};
 use clsyntax_terms::closing::{begin_condition, begin_turns};
 use clsyntax_terms::state::{Frame, Frames, Mode, Moved, Purpose, Stack, Step, Turns, deeper};
@@ -157,6 +157,24 @@ fn settle(before_else: bool, statement: Box<Statement>, stack: Stack) -> Result<
     )
 }
 
+/// The `else` behind the statement that an `if` chooses.
+fn begin_otherwise(
+    nesting: u32,
+    at: u32,
+    condition: Box<Expression>,
+    chosen: Box<Statement>,
+    stack: Stack,
+) -> Moved
+    ensures { Steps result (machine.go nesting (machine.Begin (suc nesting)) (machine.Otherwise at (term condition.value) (stmt chosen.value) ∷ opened stack)) }
+{
+    let otherwise = Frame::Otherwise {
+        at,
+        condition,
+        chosen,
+    };
+    begin_controlled(nesting, otherwise, stack)
+}
+
 /// Behind a statement that nothing more controls: the next of its block, an `else`, or the `while` of a `do`.
 #[tactic(auto, using(crate::proofs::Lists::stmts_then))]
 fn on_settled(statement: Box<Statement>, stack: Stack, token: Token) -> Moved
@@ -176,14 +194,7 @@ fn on_settled(statement: Box<Statement>, stack: Stack, token: Token) -> Moved
             nesting,
             condition,
         } => match token.kind {
-            TokenKind::Else => {
-                let otherwise = Frame::Otherwise {
-                    at,
-                    condition,
-                    chosen: statement,
-                };
-                begin_controlled(nesting, otherwise, stack)
-            }
+            TokenKind::Else => begin_otherwise(nesting, at, condition, statement, stack),
             _ => Ok(Step::Refused),
         },
         Frame::DoTurns { at, nesting } => match token.kind {

@@ -2,6 +2,7 @@
 #![tactic(auto)]
 
 ghost use Rattle.std.specs.Prelude.{◌≡◌, IfOk};
+ghost use Rattle.clmodel.specs.Tree as tree;
 ghost use Rattle.clmodel.specs.Tree.{term};
 ghost use Rattle.clsyntax_terms.specs.Grammar as grammar;
 ghost use Rattle.clsyntax_terms.specs.Machine as machine;
@@ -127,6 +128,44 @@ fn prefixed(
     Ok(Box::new(alloc, whole)?)
 }
 
+/// Two operands with the operator between them.
+fn infix(
+    alloc: Global,
+    at: u32,
+    operator: InfixOperator,
+    left: Box<Expression>,
+    right: Box<Expression>,
+) -> Result<Box<Expression>, AllocError>
+    ensures { IfOk result (λ whole. term whole.value ≡ tree.Binary at operator (term left.value) (term right.value)) }
+{
+    let whole = Expression::Binary {
+        at,
+        operator,
+        left,
+        right,
+    };
+    Ok(Box::new(alloc, whole)?)
+}
+
+/// A condition with the two values between which it chooses.
+fn choice(
+    alloc: Global,
+    at: u32,
+    condition: Box<Expression>,
+    chosen: Box<Expression>,
+    otherwise: Box<Expression>,
+) -> Result<Box<Expression>, AllocError>
+    ensures { IfOk result (λ whole. term whole.value ≡ tree.Choice at (term condition.value) (term chosen.value) (term otherwise.value)) }
+{
+    let whole = Expression::Choice {
+        at,
+        condition,
+        chosen,
+        otherwise,
+    };
+    Ok(Box::new(alloc, whole)?)
+}
+
 /// An expression, where it begins, and what is open outside of it.
 #[derive(Drop)]
 pub(crate) struct Folded {
@@ -180,13 +219,8 @@ pub(crate) fn close(
             operator,
             left,
         } => {
-            let whole = Expression::Binary {
-                at: from,
-                operator,
-                left,
-                right: value,
-            };
-            close(least, from, Box::new(stack.alloc, whole)?, stack)
+            let whole = infix(stack.alloc, from, operator, left, value)?;
+            close(least, from, whole, stack)
         }
         Frame::Before { at, prefix } => {
             close(least, at, prefixed(stack.alloc, prefix, at, value)?, stack)
@@ -196,13 +230,8 @@ pub(crate) fn close(
             condition,
             chosen,
         } => {
-            let whole = Expression::Choice {
-                at: from,
-                condition,
-                chosen,
-                otherwise: value,
-            };
-            close(least, from, Box::new(stack.alloc, whole)?, stack)
+            let whole = choice(stack.alloc, from, condition, chosen, value)?;
+            close(least, from, whole, stack)
         }
         _ => unreachable!(),
     }

@@ -4,10 +4,17 @@ use Rattle.clmodel.specs.declared.setup.Argument.{Argument}
 use Rattle.clmodel.specs.declared.setup.Argument.TheVariants as argument
 use Rattle.device_store.specs.declared.command.Command.{Command}
 use Rattle.device_store.specs.declared.command.Command.TheVariants as command
-use Rattle.simfile.specs.declared.forms.Line.{Line}
-use Rattle.simfile.specs.declared.forms.Line.TheVariants as line
-use Rattle.simfile.specs.declared.forms.Setting.{Setting}
-use Rattle.simfile.specs.declared.forms.Setting.TheVariants as setting
+use Rattle.simfile.specs.declared.lines.WriteLine.{WriteLine}
+use Rattle.simfile.specs.declared.lines.FillLine.{FillLine}
+use Rattle.simfile.specs.declared.lines.CopyLine.{CopyLine}
+use Rattle.simfile.specs.declared.lines.ReadLine.{ReadLine}
+use Rattle.simfile.specs.declared.lines.KernelLine.{KernelLine}
+use Rattle.simfile.specs.declared.lines.ArgLine.{ArgLine}
+use Rattle.simfile.specs.declared.lines.LaunchLine.{LaunchLine}
+use Rattle.simfile.specs.declared.lines.Line.{Line}
+use Rattle.simfile.specs.declared.lines.Line.TheVariants as line
+use Rattle.simfile.specs.declared.lines.Setting.{Setting}
+use Rattle.simfile.specs.declared.lines.Setting.TheVariants as setting
 use Rattle.simfile.specs.Fields.{bytes_of}
 use Rattle.simfile.specs.Reading.{range_of}
 
@@ -16,15 +23,36 @@ argument_of (setting.Buffer name) = argument.Buffer name.now
 argument_of (setting.Value value) = argument.Value value
 argument_of (setting.Local size) = argument.Local size
 
+abbrev pub write_of : WriteLine → Command
+write_of told = command.Write told.buffer.now told.offset (bytes_of told.digits.now)
+
+abbrev pub fill_of : FillLine → Command
+fill_of told = command.Fill told.buffer.now told.offset told.count (bytes_of told.digits.now)
+
+abbrev pub copy_of : CopyLine → Command
+copy_of told = command.Copy told.source.now told.offset told.target.now told.target_offset told.count
+
+abbrev pub read_of : ReadLine → Command
+read_of told = command.Read told.buffer.now told.offset told.count
+
+abbrev pub kernel_of : KernelLine → Command
+kernel_of told = command.Kernel told.name.now told.program.now told.function.now
+
+abbrev pub arg_of : ArgLine → Command
+arg_of told = command.Arg told.kernel.now told.index (argument_of told.argument)
+
+abbrev pub launch_of : LaunchLine → Command
+launch_of told = command.Launch told.kernel.now (range_of told.global.now told.local.now (option_map (λ list. list.now) told.offset))
+
 -- the command that a line tells
 abbrev pub command_of : Line → Command
 command_of (line.Buffer name size) = command.Buffer name.now size
-command_of (line.Write buffer offset digits) = command.Write buffer.now offset (bytes_of digits.now)
-command_of (line.Read buffer offset count) = command.Read buffer.now offset count
-command_of (line.Fill buffer offset count digits) = command.Fill buffer.now offset count (bytes_of digits.now)
-command_of (line.Copy source offset target target_offset count) = command.Copy source.now offset target.now target_offset count
+command_of (line.Write told) = write_of told
+command_of (line.Fill told) = fill_of told
+command_of (line.Copy told) = copy_of told
+command_of (line.Read told) = read_of told
 command_of (line.Release name) = command.Release name.now
 command_of (line.Program name source) = command.Program name.now source.now
-command_of (line.Kernel name program function) = command.Kernel name.now program.now function.now
-command_of (line.Arg kernel index argument) = command.Arg kernel.now index (argument_of argument)
-command_of (line.Launch kernel global local offset) = command.Launch kernel.now (range_of global.now local.now (option_map (λ list. list.now) offset))
+command_of (line.Kernel told) = kernel_of told
+command_of (line.Arg told) = arg_of told
+command_of (line.Launch told) = launch_of told

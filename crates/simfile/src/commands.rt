@@ -6,10 +6,12 @@ ghost use Rattle.std.specs.Option.{option_map};
 ghost use Rattle.device_store.specs.declared.command.Command.TheVariants as command;
 ghost use Rattle.simfile.specs.Fields.{bytes_of};
 ghost use Rattle.simfile.specs.Reading.{range_of};
-ghost use Rattle.simfile.specs.Views.{argument_of, command_of};
+ghost use Rattle.simfile.specs.Views.{argument_of, write_of, fill_of, copy_of, read_of, kernel_of, arg_of, launch_of, command_of};
 
 use crate::fields::{bytes_of, numbers_of};
-use crate::forms::{Line, Setting};
+use crate::lines::{
+    ArgLine, CopyLine, FillLine, KernelLine, LaunchLine, Line, ReadLine, Setting, WriteLine,
+};
 use clmodel::setup::{Argument, Range};
 use clmodel::text::{Bytes, Name, Numbers};
 use device_store::command::Command;
@@ -53,66 +55,46 @@ fn buffer(alloc: Global, name: &[u8], size: u64) -> Result<Command, AllocError>
     Ok(Command::Buffer { name, size })
 }
 
-fn write(alloc: Global, buffer: &[u8], offset: u64, digits: &[u8]) -> Result<Command, AllocError>
-    ensures { IfOk result (λ made. made ≡ command.Write buffer.now offset (bytes_of digits.now)) }
+fn write(alloc: Global, line: WriteLine<'_>) -> Result<Command, AllocError>
+    ensures { IfOk result (λ made. made ≡ write_of line.entry) }
 {
-    let buffer = Name::copy_of(alloc, buffer)?;
-    let bytes = bytes_of(alloc, digits)?;
     Ok(Command::Write {
-        buffer,
-        offset,
-        bytes,
+        buffer: Name::copy_of(alloc, line.buffer)?,
+        offset: line.offset,
+        bytes: bytes_of(alloc, line.digits)?,
     })
 }
 
-fn fill(
-    alloc: Global,
-    buffer: &[u8],
-    offset: u64,
-    count: u64,
-    digits: &[u8],
-) -> Result<Command, AllocError>
-    ensures { IfOk result (λ made. made ≡ command.Fill buffer.now offset count (bytes_of digits.now)) }
+fn fill(alloc: Global, line: FillLine<'_>) -> Result<Command, AllocError>
+    ensures { IfOk result (λ made. made ≡ fill_of line.entry) }
 {
-    let buffer = Name::copy_of(alloc, buffer)?;
-    let pattern = bytes_of(alloc, digits)?;
     Ok(Command::Fill {
-        buffer,
-        offset,
-        count,
-        pattern,
+        buffer: Name::copy_of(alloc, line.buffer)?,
+        offset: line.offset,
+        count: line.count,
+        pattern: bytes_of(alloc, line.digits)?,
     })
 }
 
-fn copy(
-    alloc: Global,
-    source: &[u8],
-    offset: u64,
-    target: &[u8],
-    target_offset: u64,
-    count: u64,
-) -> Result<Command, AllocError>
-    ensures { IfOk result (λ made. made ≡ command.Copy source.now offset target.now target_offset count) }
+fn copy(alloc: Global, line: CopyLine<'_>) -> Result<Command, AllocError>
+    ensures { IfOk result (λ made. made ≡ copy_of line.entry) }
 {
-    let source = Name::copy_of(alloc, source)?;
-    let target = Name::copy_of(alloc, target)?;
     Ok(Command::Copy {
-        source,
-        offset,
-        target,
-        target_offset,
-        count,
+        source: Name::copy_of(alloc, line.source)?,
+        offset: line.offset,
+        target: Name::copy_of(alloc, line.target)?,
+        target_offset: line.target_offset,
+        count: line.count,
     })
 }
 
-fn read(alloc: Global, buffer: &[u8], offset: u64, count: u64) -> Result<Command, AllocError>
-    ensures { IfOk result (λ made. made ≡ command.Read buffer.now offset count) }
+fn read(alloc: Global, line: ReadLine<'_>) -> Result<Command, AllocError>
+    ensures { IfOk result (λ made. made ≡ read_of line.entry) }
 {
-    let buffer = Name::copy_of(alloc, buffer)?;
     Ok(Command::Read {
-        buffer,
-        offset,
-        count,
+        buffer: Name::copy_of(alloc, line.buffer)?,
+        offset: line.offset,
+        count: line.count,
     })
 }
 
@@ -131,54 +113,33 @@ fn program(alloc: Global, name: &[u8], source: &[u8]) -> Result<Command, AllocEr
     Ok(Command::Program { name, source })
 }
 
-fn kernel(
-    alloc: Global,
-    name: &[u8],
-    program: &[u8],
-    function: &[u8],
-) -> Result<Command, AllocError>
-    ensures { IfOk result (λ made. made ≡ command.Kernel name.now program.now function.now) }
+fn kernel(alloc: Global, line: KernelLine<'_>) -> Result<Command, AllocError>
+    ensures { IfOk result (λ made. made ≡ kernel_of line.entry) }
 {
-    let name = Name::copy_of(alloc, name)?;
-    let program = Name::copy_of(alloc, program)?;
-    let function = Name::copy_of(alloc, function)?;
     Ok(Command::Kernel {
-        name,
-        program,
-        function,
+        name: Name::copy_of(alloc, line.name)?,
+        program: Name::copy_of(alloc, line.program)?,
+        function: Name::copy_of(alloc, line.function)?,
     })
 }
 
-fn arg(
-    alloc: Global,
-    kernel: &[u8],
-    index: u64,
-    setting: Setting<'_>,
-) -> Result<Command, AllocError>
-    ensures { IfOk result (λ made. made ≡ command.Arg kernel.now index (argument_of setting.entry)) }
+fn arg(alloc: Global, line: ArgLine<'_>) -> Result<Command, AllocError>
+    ensures { IfOk result (λ made. made ≡ arg_of line.entry) }
 {
-    let argument = argument_of(alloc, setting)?;
-    let kernel = Name::copy_of(alloc, kernel)?;
     Ok(Command::Arg {
-        kernel,
-        index,
-        argument,
+        kernel: Name::copy_of(alloc, line.kernel)?,
+        index: line.index,
+        argument: argument_of(alloc, line.argument)?,
     })
 }
 
-fn launch(
-    alloc: Global,
-    kernel: &[u8],
-    global: &[u8],
-    local: &[u8],
-    offset: Option<&[u8]>,
-) -> Result<Command, AllocError>
-    ensures { IfOk result
-        (λ made. made ≡ command.Launch kernel.now (range_of global.now local.now (option_map (λ list. list.now) offset.entry))) }
+fn launch(alloc: Global, line: LaunchLine<'_>) -> Result<Command, AllocError>
+    ensures { IfOk result (λ made. made ≡ launch_of line.entry) }
 {
-    let range = range_of(alloc, global, local, offset)?;
-    let kernel = Name::copy_of(alloc, kernel)?;
-    Ok(Command::Launch { kernel, range })
+    Ok(Command::Launch {
+        kernel: Name::copy_of(alloc, line.kernel)?,
+        range: range_of(alloc, line.global, line.local, line.offset)?,
+    })
 }
 
 /// The command that a line tells.
@@ -187,46 +148,14 @@ pub fn command_of(alloc: Global, line: Line<'_>) -> Result<Command, AllocError>
 {
     match line {
         Line::Buffer { name, size } => buffer(alloc, name, size),
-        Line::Write {
-            buffer,
-            offset,
-            digits,
-        } => write(alloc, buffer, offset, digits),
-        Line::Fill {
-            buffer,
-            offset,
-            count,
-            digits,
-        } => fill(alloc, buffer, offset, count, digits),
-        Line::Copy {
-            source,
-            offset,
-            target,
-            target_offset,
-            count,
-        } => copy(alloc, source, offset, target, target_offset, count),
-        Line::Read {
-            buffer,
-            offset,
-            count,
-        } => read(alloc, buffer, offset, count),
+        Line::Write(line) => write(alloc, line),
+        Line::Fill(line) => fill(alloc, line),
+        Line::Copy(line) => copy(alloc, line),
+        Line::Read(line) => read(alloc, line),
         Line::Release { name } => release(alloc, name),
         Line::Program { name, source } => program(alloc, name, source),
-        Line::Kernel {
-            name,
-            program,
-            function,
-        } => kernel(alloc, name, program, function),
-        Line::Arg {
-            kernel,
-            index,
-            argument,
-        } => arg(alloc, kernel, index, argument),
-        Line::Launch {
-            kernel,
-            global,
-            local,
-            offset,
-        } => launch(alloc, kernel, global, local, offset),
+        Line::Kernel(line) => kernel(alloc, line),
+        Line::Arg(line) => arg(alloc, line),
+        Line::Launch(line) => launch(alloc, line),
     }
 }

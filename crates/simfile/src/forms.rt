@@ -10,70 +10,9 @@ use crate::fields::{
     after, hex_before, lines_at, list_at, list_before, name_at, name_before, number_at,
     number_before, value_at,
 };
-
-/// A line of a script, with the source that follows a program's.
-#[derive(Clone, Copy)]
-pub enum Line<'a> {
-    Buffer {
-        name: &'a [u8],
-        size: u64,
-    },
-    Write {
-        buffer: &'a [u8],
-        offset: u64,
-        digits: &'a [u8],
-    },
-    Fill {
-        buffer: &'a [u8],
-        offset: u64,
-        count: u64,
-        digits: &'a [u8],
-    },
-    Copy {
-        source: &'a [u8],
-        offset: u64,
-        target: &'a [u8],
-        target_offset: u64,
-        count: u64,
-    },
-    Read {
-        buffer: &'a [u8],
-        offset: u64,
-        count: u64,
-    },
-    Release {
-        name: &'a [u8],
-    },
-    Program {
-        name: &'a [u8],
-        source: &'a [u8],
-    },
-    Kernel {
-        name: &'a [u8],
-        program: &'a [u8],
-        function: &'a [u8],
-    },
-    Arg {
-        kernel: &'a [u8],
-        index: u64,
-        argument: Setting<'a>,
-    },
-    Launch {
-        kernel: &'a [u8],
-        global: &'a [u8],
-        local: &'a [u8],
-        offset: Option<&'a [u8]>,
-    },
-}
-
-/// What a line sets an argument to.
-#[derive(Clone, Copy)]
-pub enum Setting<'a> {
-    Buffer(&'a [u8]),
-    Value(i128),
-    /// The bytes of local memory
-    Local(u64),
-}
+use crate::lines::{
+    ArgLine, CopyLine, FillLine, KernelLine, LaunchLine, Line, ReadLine, Setting, WriteLine,
+};
 
 #[tactic(auto, unfolding(crate::specs::Reading::buffer_at))]
 fn buffer_at(bytes: &[u8]) -> Option<(Line<'_>, &[u8])>
@@ -91,12 +30,12 @@ fn write_at(bytes: &[u8]) -> Option<(Line<'_>, &[u8])>
     let (buffer, rest) = name_before(b' ', bytes)?;
     let (offset, rest) = number_before(b' ', rest)?;
     let (digits, rest) = hex_before(b'\n', rest)?;
-    let line = Line::Write {
+    let line = WriteLine {
         buffer,
         offset,
         digits,
     };
-    Some((line, rest))
+    Some((Line::Write(line), rest))
 }
 
 #[tactic(auto, unfolding(crate::specs::Reading::fill_at))]
@@ -107,13 +46,13 @@ fn fill_at(bytes: &[u8]) -> Option<(Line<'_>, &[u8])>
     let (offset, rest) = number_before(b' ', rest)?;
     let (count, rest) = number_before(b' ', rest)?;
     let (digits, rest) = hex_before(b'\n', rest)?;
-    let line = Line::Fill {
+    let line = FillLine {
         buffer,
         offset,
         count,
         digits,
     };
-    Some((line, rest))
+    Some((Line::Fill(line), rest))
 }
 
 #[tactic(auto, unfolding(crate::specs::Reading::copy_at))]
@@ -125,14 +64,14 @@ fn copy_at(bytes: &[u8]) -> Option<(Line<'_>, &[u8])>
     let (target, rest) = name_before(b' ', rest)?;
     let (target_offset, rest) = number_before(b' ', rest)?;
     let (count, rest) = number_before(b'\n', rest)?;
-    let line = Line::Copy {
+    let line = CopyLine {
         source,
         offset,
         target,
         target_offset,
         count,
     };
-    Some((line, rest))
+    Some((Line::Copy(line), rest))
 }
 
 #[tactic(auto, unfolding(crate::specs::Reading::read_at))]
@@ -142,12 +81,12 @@ fn read_at(bytes: &[u8]) -> Option<(Line<'_>, &[u8])>
     let (buffer, rest) = name_before(b' ', bytes)?;
     let (offset, rest) = number_before(b' ', rest)?;
     let (count, rest) = number_before(b'\n', rest)?;
-    let line = Line::Read {
+    let line = ReadLine {
         buffer,
         offset,
         count,
     };
-    Some((line, rest))
+    Some((Line::Read(line), rest))
 }
 
 #[tactic(auto, unfolding(crate::specs::Reading::release_at))]
@@ -186,12 +125,12 @@ fn kernel_at(bytes: &[u8]) -> Option<(Line<'_>, &[u8])>
     let (name, rest) = name_before(b' ', bytes)?;
     let (program, rest) = name_before(b' ', rest)?;
     let (function, rest) = name_before(b'\n', rest)?;
-    let line = Line::Kernel {
+    let line = KernelLine {
         name,
         program,
         function,
     };
-    Some((line, rest))
+    Some((Line::Kernel(line), rest))
 }
 
 #[tactic(auto, unfolding(crate::specs::Reading::buffer_argument_at))]
@@ -240,12 +179,12 @@ fn arg_at(bytes: &[u8]) -> Option<(Line<'_>, &[u8])>
     let (index, rest) = number_at(rest)?;
     let (argument, rest) = argument_at(rest)?;
     let rest = after(b"\n", rest)?;
-    let line = Line::Arg {
+    let line = ArgLine {
         kernel,
         index,
         argument,
     };
-    Some((line, rest))
+    Some((Line::Arg(line), rest))
 }
 
 /// The list of the offsets, where there is one, and the rest behind the line feed.
@@ -269,13 +208,13 @@ fn launch_at(bytes: &[u8]) -> Option<(Line<'_>, &[u8])>
     let (global, rest) = list_before(b' ', rest)?;
     let (local, rest) = list_at(rest)?;
     let (offset, rest) = offset_at(rest)?;
-    let line = Line::Launch {
+    let line = LaunchLine {
         kernel,
         global,
         local,
         offset,
     };
-    Some((line, rest))
+    Some((Line::Launch(line), rest))
 }
 
 /// The line of a command in front, and the rest.

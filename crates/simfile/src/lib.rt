@@ -6,5 +6,6 @@ mod fields;
 mod forms;
 pub mod hex;
 pub mod laws;
+mod lines;
 pub mod replies;
 pub mod script;

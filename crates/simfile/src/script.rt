@@ -8,7 +8,8 @@ ghost use Rattle.simfile.specs.Faults.{NoScript};
 ghost use Rattle.device_store.specs.declared.command.Command.{Command};
 
 use crate::commands::command_of;
-use crate::forms::{Line, line_at};
+use crate::forms::line_at;
+use crate::lines::Line;
 use device_store::command::Command;
 use std::alloc::{AllocError, Global};
 
