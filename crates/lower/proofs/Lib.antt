@@ -26,3 +26,7 @@ pub mod Chosen
 pub mod Rounds
 pub mod Places
 pub mod Lent
+pub mod Short
+pub mod FewSites
+pub mod ShortStatements
+pub mod ShortKernels

@@ -29,7 +29,7 @@ use Rattle.lower.proofs.TypedStatements.{stmts_suit}
 use Rattle.lower.proofs.Verified.{kernels_verified}
 
 -- names that are free for functions are those of no built-in function
-unreserved : (name : ℕ) → is_reserved name ≡ false → (built_in name ≡ None) × (is_barrier name ≡ false)
+pub unreserved : (name : ℕ) → is_reserved name ≡ false → (built_in name ≡ None) × (is_barrier name ≡ false)
 unreserved name e =
     let none = slice_get_past (meanings predefined) name (ltb-false name (length predefined) e) in
     (ap function_in none, ap barrier_in none)
@@ -38,12 +38,12 @@ none_of : {V : Type 0} (o : Option V) → not (is_some o) ≡ true → o ≡ Non
 none_of None e = refl
 none_of (Some v) e = absurd (cc)
 
-new_parts : (fs : Funcs) (name : ℕ) → is_new fs name ≡ true → (is_reserved name ≡ false) × (signature_of (signatures fs) name ≡ None)
+pub new_parts : (fs : Funcs) (name : ℕ) → is_new fs name ≡ true → (is_reserved name ≡ false) × (signature_of (signatures fs) name ≡ None)
 new_parts fs name e =
     let parts = and_parts (not (is_reserved name)) (not (is_some (signature_of (signatures fs) name))) e in
     (not-true (is_reserved name) parts.0, none_of (signature_of (signatures fs) name) parts.1)
 
-same_signature : (s t : Signature) → Some s ≡ Some t → s ≡ t
+pub same_signature : (s t : Signature) → Some s ≡ Some t → s ≡ t
 same_signature s t e = ap (λ o. elim o as (λ _. Signature) [ None ↦ s | Some r ↦ r ]) e
 
 pass_suits : (parameters : List VariableType) (ps : List Parameter) (numbers : List ℕ) (level : ℕ) → Filled (map (λ p. p.kind) ps) numbers → Suit parameters (pass_code ps numbers level)
@@ -148,16 +148,16 @@ both_none test vs ws y v w before e = by_case test vs ws y v w before (test y) r
     by_case test vs ws y v w before true is e = absurd (none_left test vs y v is e)
     by_case test vs ws y v w before false is e = look_left test ws y w is ∙ before (sym (look_left test vs y v is) ∙ e)
 
-sizes_none : (fs : Funcs) (test : ℕ → Bool) → lookup test (signatures fs) ≡ None → lookup test (sizes_of fs) ≡ None
+pub sizes_none : (fs : Funcs) (test : ℕ → Bool) → lookup test (signatures fs) ≡ None → lookup test (sizes_of fs) ≡ None
 sizes_none NoFunc test e = refl
 sizes_none (ThenFunc fs f) test e = both_none test (signatures fs) (sizes_of fs) f.name (signature f) (row_size (sizes_of fs) f.body) (sizes_none fs test) e
 
-distinct : (all : List ℕ) (fs : Funcs) → AreTypedFunctions all fs → Distinct fs
+pub distinct : (all : List ℕ) (fs : Funcs) → AreTypedFunctions all fs → Distinct fs
 distinct all NoFunc typed = tt
 distinct all (ThenFunc fs f) typed = (distinct all fs typed.0, sizes_none fs (nat_eq f.name) (new_parts fs f.name typed.1.name).1)
 
 -- the kernel of a name, with the functions before it
-kernel_typed : (all : List ℕ) (fs : Funcs) (name : ℕ) (f : Func) → AreTypedFunctions all fs → kernel_in fs name ≡ Some f
+pub kernel_typed : (all : List ℕ) (fs : Funcs) (name : ℕ) (f : Func) → AreTypedFunctions all fs → kernel_in fs name ≡ Some f
     → (AreTypedFunctions all (functions_before fs name) × IsTypedFunction all (functions_before fs name) f) × (f.is_kernel ≡ true)
 kernel_typed all NoFunc name f typed is = absurd (cc)
 kernel_typed all (ThenFunc fs g) name f typed is = by_case all fs name f g typed (kernel_typed all fs name f typed.0) (g.is_kernel && nat_eq g.name name) refl is

@@ -59,7 +59,7 @@ counted scope level (tree.ThenTerm es e) =
     let before = counted scope level es in
     omega (arith, all, before)
 
-no_helper : (c : Context) (e : Term) (k : VariableType) → Types c e k → helper_call e ≡ None
+pub no_helper : (c : Context) (e : Term) (k : VariableType) → Types c e k → helper_call e ≡ None
 no_helper c _ _ (rule.call {x = x} {f = f} {es = es} is arguments calls) =
     ap (λ g. helper_or g (record { name = x; arguments = es })) (built_in_is c x f is)
 no_helper c _ _ rule.number = refl

@@ -5,3 +5,4 @@ pub mod Lowers
 pub mod Lists
 pub mod Names
 pub mod Statements
+pub mod Bounds

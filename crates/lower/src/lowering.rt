@@ -26,7 +26,7 @@ pub enum LowerFault {
     /// 1: no kernel has the name
     #[error("no such kernel")]
     NoSuchKernel,
-    /// 2: out of memory, or the code's instructions, registers or barriers can't be counted in 32 bits
+    /// 2: out of memory, or a kernel's instructions or registers can't be counted in 32 bits
     #[error("out of memory")]
     OutOfMemory,
 }
@@ -73,8 +73,9 @@ fn list_kernel(
     }))
 }
 
-/// The code of the kernel of a name's number. Err(OutOfMemory) comes where memory is refused, or where the code's length, the number
-/// of one of its registers or that of one of its barriers passes 32 bits.
+/// The code of the kernel of a name's number. Err(OutOfMemory) comes where memory is refused, or where the code's length or the number
+/// of one of its registers passes 32 bits. The length does so only by the kernel's parameters, of which nothing limits the number
+/// (`typed_kernels_are_short`); the number of a barrier is at most 20,000 (`typed_kernels_have_few_barriers`).
 pub fn lower_kernel(alloc: Global, checked: &Checked, number: u32) -> Result<Code, LowerFault>
     ensures code { IfOk result (λ code. IsLowered (program checked.now.tree) number code) }
     ensures listed { IfOk result (λ code. Lists (program checked.now.tree).functions number code) }

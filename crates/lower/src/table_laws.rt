@@ -2,6 +2,7 @@
 #![tactic(auto)]
 
 ghost use Rattle.lower.specs.Accepted.{ExpressionsSuit, PlacesSuit, ExpressionsFlat, ExpressionsSound, StatementsSound, KernelsGo, KernelsVerified, SuitFits, TypedKernelsVerified};
+ghost use Rattle.lower.specs.Bounds.{TypedKernelsShort, TypedKernelsFewBarriers};
 
 /// A kernel's code is verified with the tables that are made from it, if its loops are nested no deeper than the limit, no two
 /// functions before it have one name, and its instructions suit the types of its parameters. Those of typed expressions, and of
@@ -20,4 +21,14 @@ pub fn code_is_verified()
 /// The code of each kernel of a typed program is verified with the tables that are made from it.
 pub fn typed_kernels_are_verified()
     ensures { TypedKernelsVerified }
+{}
+
+/// Each kernel of a typed program has at most 20,000 barriers, those in the helpers that it calls among them.
+pub fn typed_kernels_have_few_barriers()
+    ensures { TypedKernelsFewBarriers }
+{}
+
+/// The code of each kernel of a typed program has at most 140,002 instructions besides one for each of its parameters.
+pub fn typed_kernels_are_short()
+    ensures { TypedKernelsShort }
 {}

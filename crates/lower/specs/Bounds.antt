@@ -1,0 +1,27 @@
+-- How long a kernel's code is, and how many barriers it has (own).
+use Rattle.std.specs.Prelude.{◌≡◌, ℕ, ◌+◌, ◌*◌, ◌≤◌, Some, length}
+use Rattle.clmodel.specs.Next.{all_sites, sites_in}
+use Rattle.clmodel.specs.Setup.{kernel_in, functions_before}
+use Rattle.clmodel.specs.Tree.{Program, Func}
+use Rattle.clmodel.specs.Typing.{IsTypedProgram}
+use Rattle.clmodel.specs.Typing.Functions.{size_of}
+use Rattle.clmodel.specs.Typing.Sizes.{node_limit}
+use Rattle.lower_code.specs.Code.{kernel_code}
+
+-- how many instructions a node has at most
+abbrev pub per_node : ℕ
+per_node = 7
+
+-- The code of each kernel of a typed program has at most `per_node` instructions for each node of its body, one for each parameter, and two more: so at
+-- most 140,002 besides those of its parameters.
+unfoldable pub TypedKernelsShort : Type 0
+TypedKernelsShort =
+    (program : Program) (name : ℕ) (f : Func) → IsTypedProgram program → kernel_in program.functions name ≡ Some f →
+    (length (kernel_code (functions_before program.functions name) f) ≤ per_node * (size_of (functions_before program.functions name) f).nodes + length f.parameters + 2)
+    × ((size_of (functions_before program.functions name) f).nodes ≤ node_limit)
+
+-- Each kernel of a typed program has no more barriers, those in the helpers that it calls among them, than its body has nodes: so at most 20,000.
+unfoldable pub TypedKernelsFewBarriers : Type 0
+TypedKernelsFewBarriers =
+    (program : Program) (name : ℕ) (f : Func) → IsTypedProgram program → kernel_in program.functions name ≡ Some f →
+    all_sites (sites_in (functions_before program.functions name)) f.body ≤ node_limit
