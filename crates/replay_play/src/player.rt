@@ -1,10 +1,11 @@
 //! A launch as it is played, one event after another.
 
-ghost use Rattle.std.specs.Prelude.{◌≡◌, ◌<◌, ℕ, IfOk, length};
+ghost use Rattle.std.specs.Prelude.{◌≡◌, ◌<◌, IfOk, reverse};
+ghost use Rattle.clmodel.specs.Launch.{Launch};
 ghost use Rattle.clmodel.specs.Run.{State, next_action};
 ghost use Rattle.clmodel.specs.declared.action.Action.TheVariants as action;
 ghost use Rattle.clmodel.specs.declared.schedule.Event.TheVariants as event;
-ghost use Rattle.replay_play.specs.States.{Tells, IsPlayed};
+ghost use Rattle.replay_play.specs.States.{ActsNext, IsAt, IsPlayed};
 
 use crate::group::Group;
 use crate::playable::Playable;
@@ -34,12 +35,9 @@ impl<'a, D: Playable> Player<'a, D> {
         element: i64,
         operation: Operation,
     ) -> Result<bool, AllocError>
-        requires { (state : State) × (Tells (D.launch self.old.launch.now) self.old.items.items self.old.buffers.items self.old.groups.items self.old.log.items state)
-            × (item < (D.launch self.old.launch.now).items) }
-        ensures launch_same { D.launch self.new.launch.now ≡ D.launch self.old.launch.now }
-        ensures played { IfOk result (λ yes. (state : State) → Tells (D.launch self.old.launch.now) self.old.items.items self.old.buffers.items self.old.groups.items self.old.log.items state
-            → next_action (D.launch self.old.launch.now) state item ≡ action.Access object element operation
-            → IsPlayed (D.launch self.old.launch.now) state (event.Item item) (Tells (D.launch self.new.launch.now) self.new.items.items self.new.buffers.items self.new.groups.items self.new.log.items) yes) }
+        requires { (launch : Launch) × (state : State) × IsAt D.launch launch self.old state × (item < launch.items) }
+        ensures { IfOk result (λ yes. (launch : Launch) (state : State) → IsAt D.launch launch self.old state → next_action launch state item ≡ action.Access object element operation
+            → IsPlayed launch state (event.Item item) (IsAt D.launch launch self.new) yes) }
     {
         let number = item / self.launch.group_size();
         let group = &mut self.groups[number as usize];
@@ -60,33 +58,39 @@ impl<'a, D: Playable> Player<'a, D> {
         Ok(true)
     }
 
-    /// The next action of an item, which changes nothing that is seen. An error is out of memory.
-    fn next(&mut self, item: u32) -> Result<Action, AllocError>
-        requires { item < length self.old.items.items }
-        ensures launch_same { D.launch self.new.launch.now ≡ D.launch self.old.launch.now }
-        ensures same { (state : State) → Tells (D.launch self.old.launch.now) self.old.items.items self.old.buffers.items self.old.groups.items self.old.log.items state
-            → Tells (D.launch self.new.launch.now) self.new.items.items self.new.buffers.items self.new.groups.items self.new.log.items state }
-        ensures value { IfOk result (λ action. (state : State) → Tells (D.launch self.old.launch.now) self.old.items.items self.old.buffers.items self.old.groups.items self.old.log.items state
-            → next_action (D.launch self.old.launch.now) state item ≡ action) }
+    /// The next action of an item, `None` where there is no such item (OpenCL 1.2, section 3.2). It stays the next one. An error is out of
+    /// memory.
+    pub fn action(&mut self, item: u32) -> Result<Option<Action>, AllocError>
+        ensures same { (launch : Launch) (state : State) → IsAt D.launch launch self.old state → IsAt D.launch launch self.new state }
+        ensures value { IfOk result (λ action. (launch : Launch) (state : State) → IsAt D.launch launch self.old state → ActsNext launch state item action) }
     {
-        self.items[item as usize].next(self.alloc, self.launch, item)
+        if item as usize >= self.items.len() {
+            return Ok(None);
+        }
+        let action = self.items[item as usize].next(self.alloc, self.launch, item)?;
+        Ok(Some(action))
+    }
+
+    /// The accesses so far, the oldest first.
+    pub fn log(&self) -> &[Access]
+        ensures { (launch : Launch) (state : State) → IsAt D.launch launch self.now state → result.now ≡ reverse state.log }
+    {
+        self.log.as_slice()
     }
 
     /// An event of an item: its access, where that is what it does next and is possible. An error is out of memory.
     pub fn play_item(&mut self, item: u32) -> Result<bool, AllocError>
-        requires { (state : State) × Tells (D.launch self.old.launch.now) self.old.items.items self.old.buffers.items self.old.groups.items self.old.log.items state }
-        ensures launch_same { D.launch self.new.launch.now ≡ D.launch self.old.launch.now }
-        ensures played { IfOk result (λ yes. (state : State) → Tells (D.launch self.old.launch.now) self.old.items.items self.old.buffers.items self.old.groups.items self.old.log.items state
-            → IsPlayed (D.launch self.old.launch.now) state (event.Item item) (Tells (D.launch self.new.launch.now) self.new.items.items self.new.buffers.items self.new.groups.items self.new.log.items) yes) }
+        requires { (launch : Launch) × (state : State) × IsAt D.launch launch self.old state }
+        ensures { IfOk result (λ yes. (launch : Launch) (state : State) → IsAt D.launch launch self.old state → IsPlayed launch state (event.Item item) (IsAt D.launch launch self.new) yes) }
     {
-        if item as usize >= self.items.len() {
+        let Some(action) = self.action(item)? else {
             return Ok(false);
-        }
+        };
         let Action::Access {
             object,
             element,
             operation,
-        } = self.next(item)?
+        } = action
         else {
             return Ok(false);
         };
