@@ -1,8 +1,9 @@
 //! A launch as it is played, one event after another.
 
-ghost use Rattle.std.specs.Prelude.{◌≡◌, ◌<◌, IfOk, reverse};
-ghost use Rattle.clmodel.specs.Launch.{Launch};
-ghost use Rattle.clmodel.specs.Run.{State, next_action};
+ghost use Rattle.std.specs.Prelude.{◌≡◌, ◌+◌, ◌<◌, ◌≤◌, ℕ, IfOk, IfSome, reverse};
+ghost use Rattle.clmodel.specs.Cells.{lowest_unset, size_of};
+ghost use Rattle.clmodel.specs.Launch.{Launch, bytes_of, group_of, region_of};
+ghost use Rattle.clmodel.specs.Run.{State, byte_at, next_action};
 ghost use Rattle.clmodel.specs.declared.action.Action.TheVariants as action;
 ghost use Rattle.clmodel.specs.declared.schedule.Event.TheVariants as event;
 ghost use Rattle.replay_play.specs.States.{ActsNext, IsAt, IsPlayed};
@@ -12,7 +13,7 @@ use crate::playable::Playable;
 use crate::slot::Slot;
 use clmodel::access::{Access, Object, Operation};
 use clmodel::action::Action;
-use spaces_base::Plain;
+use spaces_base::{Plain, Space, first_byte};
 use std::alloc::{AllocError, Global};
 
 /// A launch as it is played: its items, one memory that they share, and the accesses so far, the oldest first.
@@ -76,6 +77,52 @@ impl<'a, D: Playable> Player<'a, D> {
         ensures { (launch : Launch) (state : State) → IsAt D.launch launch self.now state → result.now ≡ reverse state.log }
     {
         self.log.as_slice()
+    }
+
+    /// How many bytes an object has, none where there is no such object.
+    fn size_of(&self, object: Object) -> u64
+        ensures { (launch : Launch) (state : State) → IsAt D.launch launch self.now state → (group : ℕ) → result ≡ bytes_of launch (region_of group object) }
+    {
+        match object {
+            Object::Buffer(number) => match self.buffers.get(number as usize) {
+                Some(buffer) => buffer.size(),
+                None => 0,
+            },
+            Object::Local(number) => match self.launch.local_sizes().get(number as usize) {
+                Some(size) => *size,
+                None => 0,
+            },
+        }
+    }
+
+    /// The first byte of an element of an object, for an item of any group, or `None` where the element is out of range (C99 6.5.2.1, 6.5.6).
+    pub fn first_byte(&self, object: Object, element: i64, operation: Operation) -> Option<u64>
+        ensures value { (launch : Launch) (state : State) → IsAt D.launch launch self.now state → (item : ℕ) → result ≡ byte_at launch item object element operation }
+        ensures inside { IfSome result (λ first. (launch : Launch) (state : State) → IsAt D.launch launch self.now state
+            → (item : ℕ) → first + size_of operation ≤ bytes_of launch (region_of (group_of launch item) object)) }
+    {
+        let count = operation.width().bytes();
+        first_byte(self.size_of(object), element, count)
+    }
+
+    /// The lowest byte that is unset among those of an item's operation on an object from `first` on, which the object has, if one is unset
+    /// (C99 6.7.8; own in what reading it is). Local objects are unset until the first access of one of their group's items (OpenCL 1.2,
+    /// section 6.5.2).
+    pub fn unset_byte(
+        &self,
+        item: u32,
+        object: Object,
+        first: u64,
+        operation: Operation,
+    ) -> Option<u64>
+        requires { (launch : Launch) × (state : State) × IsAt D.launch launch self.now state × (item < launch.items)
+            × (first + size_of operation ≤ bytes_of launch (region_of (group_of launch item) object)) }
+        ensures { (launch : Launch) (state : State) → IsAt D.launch launch self.now state
+            → result ≡ lowest_unset (state.memory (region_of (group_of launch item) object)) first (size_of operation) }
+    {
+        let number = item / self.launch.group_size();
+        let group = &self.groups[number as usize];
+        group.unset_byte(self.buffers.as_slice(), object, first, operation)
     }
 
     /// An event of an item: its access, where that is what it does next and is possible. An error is out of memory.
