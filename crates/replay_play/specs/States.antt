@@ -38,6 +38,12 @@ IsPerformed launch group new memory object element operation (Some done) =
     × (perform operation (memory (region_of group object)) done.first ≡ Some outcome) × (outcome.answer ≡ done.answer)
     × new (with_cells memory (region_of group object) outcome.cells)
 
+-- what is kept of a group that has made no access and passed no barrier
+pub record IsNew (kept : Group) : Type 0 where
+  pub locals : kept.locals.items ≡ []
+  pub local_interval : kept.local_interval ≡ 0
+  pub global_interval : kept.global_interval ≡ 0
+
 -- what is kept of a group tells of a state
 pub record IsGroupIn (launch : Launch) (group : ℕ) (kept : Group) (state : State) : Type 0 where
   pub locals : LocalsHold launch group kept.locals.items state.memory

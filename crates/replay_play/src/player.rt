@@ -1,16 +1,17 @@
 //! A launch as it is played, one event after another.
 
-ghost use Rattle.std.specs.Prelude.{◌≡◌, ◌+◌, ◌<◌, ◌≤◌, ℕ, IfOk, IfSome, reverse};
+ghost use Rattle.std.specs.Prelude.{◌≡◌, ◌+◌, ◌<◌, ◌≤◌, ℕ, ◌*◌, IfOk, IfSome, reverse};
 ghost use Rattle.clmodel.specs.Cells.{lowest_unset, size_of};
 ghost use Rattle.clmodel.specs.Launch.{Launch, bytes_of, group_of, region_of};
-ghost use Rattle.clmodel.specs.Run.{State, byte_at, next_action};
+ghost use Rattle.clmodel.specs.Run.{State, byte_at, next_action, start};
 ghost use Rattle.clmodel.specs.declared.action.Action.TheVariants as action;
 ghost use Rattle.clmodel.specs.declared.schedule.Event.TheVariants as event;
+ghost use Rattle.replay_play.specs.Launches.{IsRunnable, filled};
 ghost use Rattle.replay_play.specs.States.{ActsNext, IsAt, IsPlayed};
 
-use crate::group::Group;
+use crate::group::{Group, new_groups};
 use crate::playable::Playable;
-use crate::slot::Slot;
+use crate::slot::{Slot, waiting_items};
 use clmodel::access::{Access, Object, Operation};
 use clmodel::action::Action;
 use spaces_base::{Plain, Space, first_byte};
@@ -28,6 +29,31 @@ pub struct Player<'a, D> {
 }
 
 impl<'a, D: Playable> Player<'a, D> {
+    /// A launch of so many work-groups before its first event (OpenCL 1.2, section 3.2), with spaces for its buffers that hold their first bytes.
+    /// An error is out of memory.
+    pub fn new(
+        alloc: Global,
+        launch: &'a D,
+        groups: u32,
+        buffers: Vec<Plain>,
+    ) -> Result<Self, AllocError>
+        requires runnable { IsRunnable (D.launch launch.now) }
+        requires counted { groups * (D.launch launch.now).group_size ≡ (D.launch launch.now).items }
+        requires filled { buffers.items ≡ filled (D.launch launch.now) }
+        ensures { IfOk result (λ player. IsAt D.launch (D.launch launch.now) player (start (D.launch launch.now))) }
+    {
+        let items = waiting_items(alloc, groups * launch.group_size())?;
+        let groups = new_groups(alloc, groups)?;
+        Ok(Player {
+            alloc,
+            launch,
+            items,
+            buffers,
+            groups,
+            log: Vec::new(alloc),
+        })
+    }
+
     /// Does this access, which is what an item does next, where it is possible. An error is out of memory.
     fn access(
         &mut self,

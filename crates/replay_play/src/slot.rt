@@ -1,8 +1,9 @@
 //! A single item as it is played.
 
-ghost use Rattle.std.specs.Prelude.{◌≡◌, [], ◌∷◌, List, IfOk, OnOk};
+ghost use Rattle.std.specs.Prelude.{◌≡◌, [], ◌∷◌, List, replicate, IfOk, OnOk};
 ghost use Rattle.clmodel.specs.declared.action.Answer.{Answer};
 ghost use Rattle.replay_play.specs.Items.{acts_of, IsAsked};
+ghost use Rattle.replay_play.specs.declared.slot.Slot.TheVariants as slot;
 
 use crate::playable::Playable;
 use clmodel::action::{Action, Answer};
@@ -19,6 +20,17 @@ pub enum Slot<'a> {
     Running(Item<'a>),
     /// It is at its end.
     Ended,
+}
+
+/// Items that weren't asked yet. An error is out of memory.
+pub fn waiting_items<'a>(alloc: Global, count: u32) -> Result<Vec<Slot<'a>>, AllocError>
+    ensures { IfOk result (λ items. items.items ≡ replicate count slot.Waiting) }
+{
+    let mut items = Vec::with_capacity(alloc, count as usize)?;
+    for _ in 0..count {
+        items.push(Slot::Waiting)?;
+    }
+    Ok(items)
 }
 
 impl<'a> Slot<'a> {
