@@ -1,3 +1,4 @@
 pub mod Bytes
 pub mod Playing
 pub mod Starting
+pub mod Walks

@@ -1,15 +1,15 @@
 //! What a player keeps of a work-group.
 
-ghost use Rattle.std.specs.Prelude.{◌≡◌, ◌+◌, ◌<◌, ◌≤◌, ℕ, List, Option, [], length, All, IfOk, IfSome, OnOk};
+ghost use Rattle.std.specs.Prelude.{◌≡◌, ◌+◌, ◌-◌, ◌<◌, ◌≤◌, ◌^◌, ℕ, List, Option, [], length, All, IfOk, IfSome, OnOk};
 ghost use Rattle.clmodel.specs.Cells.{cells_of, lowest_unset, size_of};
 ghost use Rattle.clmodel.specs.Launch.{Launch, access_in, bytes_of, first_byte, region_of};
 ghost use Rattle.clmodel.specs.Run.{Memory, by_region};
 ghost use Rattle.clmodel.specs.declared.access.Region.TheVariants as region;
 ghost use Rattle.objects.specs.Objects.{SpacesHold, ObjectsHold, space_of};
-ghost use Rattle.replay_play.specs.States.{LocalsHold, IsNew, IsPerformed};
+ghost use Rattle.replay_play.specs.States.{LocalsHold, IsNew, IsPerformed, passed};
 
 use clmodel::access::{Access, Object, Operation};
-use clmodel::action::Answer;
+use clmodel::action::{Answer, Fences};
 use objects::{local_objects, perform_on, size_of};
 use spaces_base::{LocalMem, Plain, Space, SpaceFault, first_byte};
 use std::alloc::{AllocError, Global};
@@ -168,6 +168,20 @@ impl Group {
             width: operation.width(),
             kind: operation.kind(),
             interval,
+        }
+    }
+
+    /// Begins the next interval of each address space that a barrier fences (OpenCL 1.2, section 6.12.8).
+    pub fn pass(&mut self, fences: Fences)
+        requires local { self.old.local_interval < 2 ^ 32 - 1 }
+        requires global { self.old.global_interval < 2 ^ 32 - 1 }
+        ensures { self.new ≡ passed self.old fences }
+    {
+        if fences.local {
+            self.local_interval += 1;
+        }
+        if fences.global {
+            self.global_interval += 1;
         }
     }
 
