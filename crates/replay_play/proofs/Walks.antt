@@ -1,5 +1,5 @@
 -- Items that are asked or answered one after another.
-use Rattle.std.proofs.Common.{◌≡◌, ℕ, ◌+◌, ◌<◌, ◌≤◌, ◌⊎◌, true, false, Option, None, Some, List, [], ◌∷◌, length, set, refl, sym, ap, ◌∙◌, subst, inl, inr, arith}
+use Rattle.std.proofs.Common.{◌≡◌, ℕ, ◌+◌, ◌<◌, ◌≤◌, ◌⊎◌, Bool, true, false, Some, List, [], ◌∷◌, set, refl, sym, ap, ◌∙◌, inl, inr, arith}
 use Rattle.std.specs.Prelude.{slice_get}
 use Rattle.std.proofs.lemmas.List.{length-set}
 use Rattle.clmodel.specs.Launch.{Launch}
@@ -49,9 +49,9 @@ below_next : (j k : ℕ) → j < k + 1 → (j < k) ⊎ (j ≡ k)
 below_next j k h = grind arith
 
 pub at_more :
-    (l : Launch) (old new : List Slot) (first k : ℕ) (stop : Stop) (x : Slot) → slice_get new k ≡ Some x → is_at l stop k x ≡ true → AreAlike l old new → AreAt l old first k stop true
-    → AreAt l old first (k + 1) stop true
-at_more l old new first k stop x there here h before = λ j i from below e. go j i from e (below_next j k below)
+    (l : Launch) (old new : List Slot) (first k : ℕ) (stop : Stop) (x : Slot) (found : Bool) → slice_get new k ≡ Some x → found ≡ is_at l stop k x → found ≡ true → AreAlike l old new
+    → AreAt l old first k stop true → AreAt l old first (k + 1) stop true
+at_more l old new first k stop x found there told here h before = λ j i from below e. go j i from e (below_next j k below)
   where
     o : (w : Slot) × (slice_get old k ≡ Some w) × ((answers : List Answer) → acts_of l k x answers ≡ acts_of l k w answers)
     o = h.each k x there
@@ -60,14 +60,14 @@ at_more l old new first k stop x there here h before = λ j i from below e. go j
     go j i from e (inl b) = before j i from b e
     go j i from e (inr q) =
         let same : i ≡ o.0 = some_inj i o.0 (sym e ∙ ap (slice_get old) q ∙ o.1) in
-        ap (λ n. is_at l stop n i) q ∙ ap (is_at l stop k) same ∙ sym (at_alike l stop k x o.0 o.2) ∙ here
+        ap (λ n. is_at l stop n i) q ∙ ap (is_at l stop k) same ∙ sym (at_alike l stop k x o.0 o.2) ∙ sym told ∙ here
 
 pub at_not :
-    (l : Launch) (old new : List Slot) (first end k : ℕ) (stop : Stop) (x : Slot) → first ≤ k → k < end → slice_get new k ≡ Some x → is_at l stop k x ≡ false → AreAlike l old new
-    → AreAt l old first end stop false
-at_not l old new first end k stop x from below there here h =
+    (l : Launch) (old new : List Slot) (first end k : ℕ) (stop : Stop) (x : Slot) (found : Bool) → first ≤ k → k < end → slice_get new k ≡ Some x → found ≡ is_at l stop k x → found ≡ false
+    → AreAlike l old new → AreAt l old first end stop false
+at_not l old new first end k stop x found from below there told here h =
     let o : (w : Slot) × (slice_get old k ≡ Some w) × ((answers : List Answer) → acts_of l k x answers ≡ acts_of l k w answers) = h.each k x there in
-    (k, o.0, from, below, o.1, sym (at_alike l stop k x o.0 o.2) ∙ here)
+    (k, o.0, from, below, o.1, sym (at_alike l stop k x o.0 o.2) ∙ sym told ∙ here)
 
 -- ---- items that are answered
 

@@ -200,13 +200,8 @@ impl<'a, D: Playable> Player<'a, D> {
         self.groups[group as usize].pass(fences);
         let size = self.launch.group_size();
         let first = group * size;
-        answer_all(
-            &mut self.items,
-            self.alloc,
-            self.launch,
-            first,
-            first + size,
-        )
+        let end = first + size;
+        answer_all(&mut self.items, self.alloc, self.launch, first, end)
     }
 
     /// A group's release, where all its items are at one barrier in the same turns of the loops round it (OpenCL 1.2, section 6.12.8): each

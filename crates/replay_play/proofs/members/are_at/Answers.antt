@@ -1,4 +1,4 @@
-use Rattle.std.proofs.Common.{◌≡◌, ◌<◌, length, refl, sym, ◌∙◌, arith}
+use Rattle.std.proofs.Common.{◌<◌, length, refl, arith}
 use Rattle.std.proofs.lemmas.Option.{slice_get_read}
 use Rattle.replay_play.proofs.Walks.{alike_more, at_more, at_not}
 use Rattle.replay_play.proofs.members.are_at.Goals as goal
@@ -31,8 +31,8 @@ returns-then-not-branch-clause-value g c =
     let x = c.index_mut.result.now in
     let inside : k < length xs = omega (arith, c.loop-item-test.true, c.loop-item.invariant.alike.many, c.requires) in
     let there = slice_get_read xs (length xs) k x refl inside c.index_mut.ensures.value in
-    at_not l c.args.items.now.items xs c.args.first c.args.end k c.args.stop.now x c.loop-item.auto.item c.loop-item-test.true there
-    (sym c.in_ok-is_at.ensures.value ∙ c.if-not-branch.true) c.loop-item.invariant.alike
+    at_not l c.args.items.now.items xs c.args.first c.args.end k c.args.stop.now x c.in_ok-is_at.field-0 c.loop-item.auto.item c.loop-item-test.true there
+    c.in_ok-is_at.ensures.value c.if-not-branch.true c.loop-item.invariant.alike
 
 pub loop-item-preserved : goal.loop-item-preserved
 loop-item-preserved g c =
@@ -44,5 +44,5 @@ loop-item-preserved g c =
     let there = slice_get_read xs (length xs) k x refl inside c.index_mut.ensures.value in
     record {
       alike = alike_more l c.args.items.now.items xs k x c.is_at.new.self there c.is_at.ensures.same c.loop-item.invariant.alike;
-      at = at_more l c.args.items.now.items xs c.args.first k c.args.stop.now x there (sym c.in_ok-is_at.ensures.value ∙ c.if-not-branch.false) c.loop-item.invariant.alike c.loop-item.invariant.at;
+      at = at_more l c.args.items.now.items xs c.args.first k c.args.stop.now x c.in_ok-is_at.field-0 there c.in_ok-is_at.ensures.value c.if-not-branch.false c.loop-item.invariant.alike c.loop-item.invariant.at;
     }

@@ -1,4 +1,4 @@
-use Rattle.std.proofs.Common.{◌≡◌, ◌+◌, ◌*◌, ◌<◌, ◌≤◌, length, refl, sym, ap, ◌∙◌, subst, arith}
+use Rattle.std.proofs.Common.{◌≡◌, ◌*◌, ◌<◌, ◌≤◌, length, ap, ◌∙◌, subst, arith}
 use Rattle.clmodel.specs.Run.{next_action, released, stop_of}
 use Rattle.clmodel.specs.declared.action.Stop.TheVariants.{At}
 use Rattle.clmodel.proofs.Steps.{release_at}
