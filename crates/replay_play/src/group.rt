@@ -1,17 +1,17 @@
 //! What a player keeps of a work-group.
 
-ghost use Rattle.std.specs.Prelude.{◌≡◌, ◌+◌, ◌<◌, ◌≤◌, ℕ, List, Option, [], length, IfOk, IfSome, OnOk};
-ghost use Rattle.clmodel.specs.Cells.{size_of};
-ghost use Rattle.clmodel.specs.Launch.{Launch, access_in, first_byte, region_of};
+ghost use Rattle.std.specs.Prelude.{◌≡◌, ◌+◌, ◌-◌, ◌<◌, ◌≤◌, ◌^◌, ℕ, List, Option, [], length, All, IfOk, IfSome, OnOk};
+ghost use Rattle.clmodel.specs.Cells.{cells_of, lowest_unset, size_of};
+ghost use Rattle.clmodel.specs.Launch.{Launch, access_in, bytes_of, first_byte, region_of};
 ghost use Rattle.clmodel.specs.Run.{Memory, by_region};
 ghost use Rattle.clmodel.specs.declared.access.Region.TheVariants as region;
 ghost use Rattle.objects.specs.Objects.{SpacesHold, ObjectsHold, space_of};
-ghost use Rattle.replay_play.specs.States.{LocalsHold, IsPerformed};
+ghost use Rattle.replay_play.specs.States.{LocalsHold, IsNew, IsPerformed, passed};
 
 use clmodel::access::{Access, Object, Operation};
-use clmodel::action::Answer;
+use clmodel::action::{Answer, Fences};
 use objects::{local_objects, perform_on, size_of};
-use spaces_base::{LocalMem, Plain, SpaceFault, first_byte};
+use spaces_base::{LocalMem, Plain, Space, SpaceFault, first_byte};
 use std::alloc::{AllocError, Global};
 
 /// The local objects of a work-group, none before the first access of one of its items, and its intervals (OpenCL 1.2, sections 6.5.2
@@ -75,12 +75,36 @@ fn perform(
     }
 }
 
+/// The lowest unset byte among those of an operation from `first` on, which the space has, if one is unset.
+fn unset_in<S: Space>(space: &S, first: u64, operation: Operation) -> Option<u64>
+    requires { first + size_of operation ≤ length (S.bytes space.now) }
+    ensures { result ≡ lowest_unset (cells_of (S.bytes space.now)) first (size_of operation) }
+{
+    match space.load(first, operation.width()) {
+        Ok(_) => None,
+        Err(SpaceFault::Unset(byte)) => Some(byte),
+        Err(SpaceFault::Bounds) => unreachable!(),
+        Err(SpaceFault::ReadOnly) => unreachable!(),
+        Err(SpaceFault::OutOfMemory) => unreachable!(),
+    }
+}
+
+/// Groups none of whose items were asked yet. An error is out of memory.
+pub fn new_groups(alloc: Global, count: u32) -> Result<Vec<Group>, AllocError>
+    ensures many { IfOk result (λ groups. length groups.items ≡ count) }
+    ensures fresh { IfOk result (λ groups. All IsNew groups.items) }
+{
+    let mut groups = Vec::with_capacity(alloc, count as usize)?;
+    for _ in 0..count {
+        groups.push(Group::new(alloc))?;
+    }
+    Ok(groups)
+}
+
 impl Group {
     /// A group that has made no access.
-    pub fn new(alloc: Global) -> Self
-        ensures locals { result.locals.items ≡ [] }
-        ensures local_interval { result.local_interval ≡ 0 }
-        ensures global_interval { result.global_interval ≡ 0 }
+    fn new(alloc: Global) -> Self
+        ensures { IsNew result }
     {
         Group {
             locals: Vec::new(alloc),
@@ -144,6 +168,44 @@ impl Group {
             width: operation.width(),
             kind: operation.kind(),
             interval,
+        }
+    }
+
+    /// Begins the next interval of each address space that a barrier fences (OpenCL 1.2, section 6.12.8).
+    pub fn pass(&mut self, fences: Fences)
+        requires local { self.old.local_interval < 2 ^ 32 - 1 }
+        requires global { self.old.global_interval < 2 ^ 32 - 1 }
+        ensures { self.new ≡ passed self.old fences }
+    {
+        if fences.local {
+            self.local_interval += 1;
+        }
+        if fences.global {
+            self.global_interval += 1;
+        }
+    }
+
+    /// The lowest unset byte among those of an operation of one of its items, from `first` on, which the object has, if one is unset. A local
+    /// object that isn't made yet is unset.
+    pub fn unset_byte(
+        &self,
+        buffers: &[Plain],
+        object: Object,
+        first: u64,
+        operation: Operation,
+    ) -> Option<u64>
+        requires { (launch : Launch) × (group : ℕ) × (memory : Memory) × SpacesHold (λ b. b) launch (length launch.buffers) region.Buffer buffers.now memory
+            × LocalsHold launch group self.now.locals.items memory × (first + size_of operation ≤ bytes_of launch (region_of group object)) }
+        ensures { (launch : Launch) (group : ℕ) (memory : Memory) → SpacesHold (λ b. b) launch (length launch.buffers) region.Buffer buffers.now memory
+            → LocalsHold launch group self.now.locals.items memory → first + size_of operation ≤ bytes_of launch (region_of group object)
+            → result ≡ lowest_unset (memory (region_of group object)) first (size_of operation) }
+    {
+        match object {
+            Object::Buffer(number) => unset_in(&buffers[number as usize], first, operation),
+            Object::Local(number) => match self.locals.get(number as usize) {
+                Some(space) => unset_in(space, first, operation),
+                None => Some(first),
+            },
         }
     }
 }
