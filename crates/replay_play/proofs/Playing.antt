@@ -1,12 +1,13 @@
 -- Events of items, in what a program keeps of a state.
-use Rattle.std.proofs.Common.{◌≡◌, ℕ, zero, suc, ◌<◌, ◌≤◌, ◌⊎◌, ℤ, Bool, true, false, ◌&&◌, ◌==◌, nat_lt, Option, None, Some, List, [], ◌∷◌, ◌++◌, length, map, replicate, set, refl, sym, ap, ◌∙◌, subst, inl, inr, arith, lt-ltb, ltb-true, eq-eqb, ne_eqb}
+use Rattle.std.proofs.Common.{◌≡◌, ℕ, zero, suc, ◌*◌, ◌<◌, ◌≤◌, ◌⊎◌, ℤ, Bool, true, false, ◌&&◌, ◌==◌, nat_lt, Option, None, Some, List, [], ◌∷◌, ◌++◌, length, map, replicate, set, refl, sym, ap, ◌∙◌, subst, inl, inr, arith, lt-ltb, ltb-true, eqb-true, eq-eqb, ne_eqb}
 use Rattle.std.specs.Prelude.{slice_get, slice_index, if◌then◌else◌, reverse, Result, Ok, Err}
 use Rattle.std.specs.Option.{option_map, option_and_then}
 use Rattle.std.proofs.Math.Path.{fun_ext}
-use Rattle.std.proofs.lemmas.List.{length-set, length-map, length-replicate, reverse-append, append_assoc, append-nil}
+use Rattle.std.proofs.lemmas.List.{length-set, length-map, length-append, length-replicate, reverse-append, append_assoc, append-nil}
+use Rattle.std.proofs.lemmas.Nat.{div_below}
 use Rattle.clmodel.specs.Cells.{Cells, Outcome, cells_of, perform, size_of, found, answer_to, effect, lowest_unset, reads}
 use Rattle.clmodel.specs.Launch.{Launch, bytes_of, first_byte, group_of, region_of, access_in}
-use Rattle.clmodel.specs.Run.{State, Memory, step, item_step, next_action, accessed, access_at, access_of, with_cells, by_region}
+use Rattle.clmodel.specs.Run.{State, Memory, step, item_step, next_action, changed, accessed, access_at, access_of, with_cells, by_region}
 use Rattle.clmodel.specs.declared.access.Access.{Access}
 use Rattle.clmodel.specs.declared.access.Object.{Object}
 use Rattle.clmodel.specs.declared.access.Object.TheVariants as object
@@ -129,6 +130,7 @@ asked l items bs groups log s k i j there same t =
       grouped = t.grouped;
       each = t.each;
       logged = t.logged;
+      paced = t.paced;
     }
   where
     acting :
@@ -228,9 +230,10 @@ access_refused l items bs cs groups log s k x y o element op t acts there local 
     many = t.many;
     acting = t.acting;
     buffers_hold = p.1.0;
-    grouped = λ q b. subst (λ n. group_of l q < n) (sym (length-set groups (group_of l k) y)) (t.grouped q b);
+    grouped = ap (λ n. n * l.group_size) (length-set groups (group_of l k) y) ∙ t.grouped;
     each = λ q z e. each q z (get_set groups (group_of l k) y q z e);
     logged = t.logged;
+    paced = t.paced;
   },
 )
   where
@@ -239,6 +242,22 @@ access_refused l items bs cs groups log s k x y o element op t acts there local 
         subst (λ w. IsGroupIn l q w s) e.1
         (subst (λ n. IsGroupIn l n y s) (sym e.0) (group_same l (group_of l k) x y s local global (inl p.1.1) (t.each (group_of l k) x there)))
     each q z (inr e) = t.each q z e.1
+
+longest : (a b c : ℕ) → a ≤ b → b ≤ c → a ≤ c
+longest a b c h e = omega (arith, h, e)
+
+-- an answer more leaves no item fewer
+grown : (answers : ℕ → List Answer) (k : ℕ) (a : Answer) (f : ℕ) → length (answers f) ≤ length (changed answers k (answers k ++ a ∷ []) f)
+grown answers k a f = go (f == k) refl
+  where
+    go : (b : Bool) → (f == k) ≡ b → length (answers f) ≤ length (if b then answers k ++ a ∷ [] else answers f)
+    go true e = omega (arith, ap (λ z. length (answers z)) (eqb-true f k e), length-append (answers k) (a ∷ []))
+    go false e = omega arith
+
+-- the group of an item is there
+pub group_there : (l : Launch) (groups : List Group) (k g : ℕ) → 0 < l.group_size → length groups * l.group_size ≡ l.items → k < l.items → group_of l k ≡ g → g < length groups
+group_there l groups k g some whole below e =
+    subst (λ w. w < length groups) e (div_below k l.group_size (length groups) some (subst (λ w. k < w) (sym whole) below))
 
 -- what is kept after an access that was done
 access_done :
@@ -256,9 +275,13 @@ access_done l items bs cs groups log s k i j x y o element op d a t below acts i
     many = length-set items k j ∙ t.many;
     acting = λ q z e. acting q z (get_set items k j q z e);
     buffers_hold = p.4.0;
-    grouped = λ q b. subst (λ w. group_of l q < w) (sym (length-set groups g y)) (t.grouped q b);
+    grouped = ap (λ w. w * l.group_size) (length-set groups g y) ∙ t.grouped;
     each = λ q z e. each q z (get_set groups g y q z e);
     logged = logged;
+    paced = λ q. (
+      longest (s.local_interval q) _ _ (t.paced q).0 (grown s.answers k outcome.answer (q * l.group_size)),
+      longest (s.global_interval q) _ _ (t.paced q).1 (grown s.answers k outcome.answer (q * l.group_size)),
+    );
   },
 )
   where

@@ -1,19 +1,22 @@
 -- What a program keeps of a state of a launch while it plays events (own).
-use Rattle.std.specs.Prelude.{◌≡◌, ℕ, ◌<◌, ℤ, ◌⊎◌, Bool, true, false, Option, None, Some, List, [], length, slice_get, reverse, ◌++◌}
+use Rattle.std.specs.Prelude.{◌≡◌, ℕ, ◌*◌, ◌<◌, ◌≤◌, ℤ, ◌⊎◌, Bool, true, false, Option, None, Some, List, [], length, slice_get, reverse, ◌++◌}
 use Rattle.std.specs.Option.{option_and_then}
 use Rattle.clmodel.specs.Cells.{Outcome, perform, size_of}
-use Rattle.clmodel.specs.Launch.{Launch, bytes_of, first_byte, group_of, region_of}
-use Rattle.clmodel.specs.Run.{State, Memory, step, with_cells}
+use Rattle.clmodel.specs.Launch.{Launch, bytes_of, first_byte, region_of}
+use Rattle.clmodel.specs.Run.{State, Memory, step, next_action, with_cells}
 use Rattle.clmodel.specs.declared.access.Access.{Access}
 use Rattle.clmodel.specs.declared.access.Object.{Object}
 use Rattle.clmodel.specs.declared.access.Operation.{Operation}
 use Rattle.clmodel.specs.declared.access.Region.TheVariants as region
+use Rattle.clmodel.specs.declared.action.Action.{Action}
 use Rattle.clmodel.specs.declared.action.Answer.{Answer}
 use Rattle.clmodel.specs.declared.schedule.Event.{Event}
 use Rattle.objects.specs.Objects.{SpacesHold}
 use Rattle.replay_play.specs.Items.{acts_of}
+use Rattle.replay_play.specs.Launches.{IsRunnable}
 use Rattle.replay_play.specs.declared.group.Group.{Group}
 use Rattle.replay_play.specs.declared.group.Performed.{Performed}
+use Rattle.replay_play.specs.declared.player.Player.{Player}
 use Rattle.replay_play.specs.declared.slot.Slot.{Slot}
 
 -- a group's local objects hold a memory: before the first access of an item of the group they aren't made, and all their bytes are unset (6.5.2)
@@ -41,15 +44,33 @@ pub record IsGroupIn (launch : Launch) (group : ℕ) (kept : Group) (state : Sta
   pub local_interval : kept.local_interval ≡ state.local_interval group
   pub global_interval : kept.global_interval ≡ state.global_interval group
 
+-- A group's intervals are at most the answers of its first item: a release answers it once, and raises each interval by one at most (6.12.8).
+abbrev pub IsPaced : Launch → State → Type 0
+IsPaced launch state =
+    (group : ℕ)
+    → (state.local_interval group ≤ length (state.answers (group * launch.group_size))) × (state.global_interval group ≤ length (state.answers (group * launch.group_size)))
+
 -- Items, buffers, groups and a log, the oldest access first, tell of a state: each item acts as the launch says after the answers of the
 -- state, and the rest is what the state has.
 pub record Tells (launch : Launch) (items : List Slot) (buffers : List (List (Option ℕ))) (groups : List Group) (log : List Access) (state : State) : Type 0 where
   pub many : length items ≡ launch.items
   pub acting : (k : ℕ) (i : Slot) → slice_get items k ≡ Some i → (answers : List Answer) → acts_of launch k i answers ≡ launch.next k (state.answers k ++ answers)
   pub buffers_hold : SpacesHold (λ b. b) launch (length launch.buffers) region.Buffer buffers state.memory
-  pub grouped : (k : ℕ) → k < launch.items → group_of launch k < length groups
+  pub grouped : length groups * launch.group_size ≡ launch.items
   pub each : (g : ℕ) (x : Group) → slice_get groups g ≡ Some x → IsGroupIn launch g x state
   pub logged : state.log ≡ reverse log
+  pub paced : IsPaced launch state
+
+-- a player, which plays this launch, is at a state of it; `launch_of` says which launch its own one is
+pub record IsAt {D : Type 0} (launch_of : D → Launch) (launch : Launch) (player : Player D) (state : State) : Type 0 where
+  pub plays : launch_of player.launch.now ≡ launch
+  pub runnable : IsRunnable launch
+  pub tells : Tells launch player.items.items player.buffers.items player.groups.items player.log.items state
+
+-- an item's next action in a state, or None where there is no such item (3.2)
+abbrev pub ActsNext : Launch → State → ℕ → Option Action → Type 0
+ActsNext launch state item None = launch.items ≤ item
+ActsNext launch state item (Some action) = (item < launch.items) × (next_action launch state item ≡ action)
 
 -- an event was played, and what is kept tells of the state that it leads to; or it isn't possible, and what is kept tells of the state as before
 abbrev pub IsPlayed : Launch → State → Event → (State → Type 0) → Bool → Type 0

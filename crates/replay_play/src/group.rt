@@ -1,8 +1,8 @@
 //! What a player keeps of a work-group.
 
 ghost use Rattle.std.specs.Prelude.{◌≡◌, ◌+◌, ◌<◌, ◌≤◌, ℕ, List, Option, [], length, IfOk, IfSome, OnOk};
-ghost use Rattle.clmodel.specs.Cells.{size_of};
-ghost use Rattle.clmodel.specs.Launch.{Launch, access_in, first_byte, region_of};
+ghost use Rattle.clmodel.specs.Cells.{cells_of, lowest_unset, size_of};
+ghost use Rattle.clmodel.specs.Launch.{Launch, access_in, bytes_of, first_byte, region_of};
 ghost use Rattle.clmodel.specs.Run.{Memory, by_region};
 ghost use Rattle.clmodel.specs.declared.access.Region.TheVariants as region;
 ghost use Rattle.objects.specs.Objects.{SpacesHold, ObjectsHold, space_of};
@@ -11,7 +11,7 @@ ghost use Rattle.replay_play.specs.States.{LocalsHold, IsPerformed};
 use clmodel::access::{Access, Object, Operation};
 use clmodel::action::Answer;
 use objects::{local_objects, perform_on, size_of};
-use spaces_base::{LocalMem, Plain, SpaceFault, first_byte};
+use spaces_base::{LocalMem, Plain, Space, SpaceFault, first_byte};
 use std::alloc::{AllocError, Global};
 
 /// The local objects of a work-group, none before the first access of one of its items, and its intervals (OpenCL 1.2, sections 6.5.2
@@ -72,6 +72,20 @@ fn perform(
         Err(SpaceFault::OutOfMemory) => Err(AllocError),
         Err(SpaceFault::Bounds) => unreachable!(),
         Err(SpaceFault::ReadOnly) => unreachable!(),
+    }
+}
+
+/// The lowest unset byte among those of an operation from `first` on, which the space has, if one is unset.
+fn unset_in<S: Space>(space: &S, first: u64, operation: Operation) -> Option<u64>
+    requires { first + size_of operation ≤ length (S.bytes space.now) }
+    ensures { result ≡ lowest_unset (cells_of (S.bytes space.now)) first (size_of operation) }
+{
+    match space.load(first, operation.width()) {
+        Ok(_) => None,
+        Err(SpaceFault::Unset(byte)) => Some(byte),
+        Err(SpaceFault::Bounds) => unreachable!(),
+        Err(SpaceFault::ReadOnly) => unreachable!(),
+        Err(SpaceFault::OutOfMemory) => unreachable!(),
     }
 }
 
@@ -144,6 +158,30 @@ impl Group {
             width: operation.width(),
             kind: operation.kind(),
             interval,
+        }
+    }
+
+    /// The lowest unset byte among those of an operation of one of its items, from `first` on, which the object has, if one is unset. A local
+    /// object that isn't made yet is unset.
+    pub fn unset_byte(
+        &self,
+        buffers: &[Plain],
+        object: Object,
+        first: u64,
+        operation: Operation,
+    ) -> Option<u64>
+        requires { (launch : Launch) × (group : ℕ) × (memory : Memory) × SpacesHold (λ b. b) launch (length launch.buffers) region.Buffer buffers.now memory
+            × LocalsHold launch group self.now.locals.items memory × (first + size_of operation ≤ bytes_of launch (region_of group object)) }
+        ensures { (launch : Launch) (group : ℕ) (memory : Memory) → SpacesHold (λ b. b) launch (length launch.buffers) region.Buffer buffers.now memory
+            → LocalsHold launch group self.now.locals.items memory → first + size_of operation ≤ bytes_of launch (region_of group object)
+            → result ≡ lowest_unset (memory (region_of group object)) first (size_of operation) }
+    {
+        match object {
+            Object::Buffer(number) => unset_in(&buffers[number as usize], first, operation),
+            Object::Local(number) => match self.locals.get(number as usize) {
+                Some(space) => unset_in(space, first, operation),
+                None => Some(first),
+            },
         }
     }
 }

@@ -1,17 +1,19 @@
 //! A launch as it is played, one event after another.
 
-ghost use Rattle.std.specs.Prelude.{◌≡◌, ◌<◌, ℕ, IfOk, length};
-ghost use Rattle.clmodel.specs.Run.{State, next_action};
+ghost use Rattle.std.specs.Prelude.{◌≡◌, ◌+◌, ◌<◌, ◌≤◌, ℕ, IfOk, IfSome, reverse};
+ghost use Rattle.clmodel.specs.Cells.{lowest_unset, size_of};
+ghost use Rattle.clmodel.specs.Launch.{Launch, bytes_of, group_of, region_of};
+ghost use Rattle.clmodel.specs.Run.{State, byte_at, next_action};
 ghost use Rattle.clmodel.specs.declared.action.Action.TheVariants as action;
 ghost use Rattle.clmodel.specs.declared.schedule.Event.TheVariants as event;
-ghost use Rattle.replay_play.specs.States.{Tells, IsPlayed};
+ghost use Rattle.replay_play.specs.States.{ActsNext, IsAt, IsPlayed};
 
 use crate::group::Group;
 use crate::playable::Playable;
 use crate::slot::Slot;
 use clmodel::access::{Access, Object, Operation};
 use clmodel::action::Action;
-use spaces_base::Plain;
+use spaces_base::{Plain, Space, first_byte};
 use std::alloc::{AllocError, Global};
 
 /// A launch as it is played: its items, one memory that they share, and the accesses so far, the oldest first.
@@ -34,12 +36,9 @@ impl<'a, D: Playable> Player<'a, D> {
         element: i64,
         operation: Operation,
     ) -> Result<bool, AllocError>
-        requires { (state : State) × (Tells (D.launch self.old.launch.now) self.old.items.items self.old.buffers.items self.old.groups.items self.old.log.items state)
-            × (item < (D.launch self.old.launch.now).items) }
-        ensures launch_same { D.launch self.new.launch.now ≡ D.launch self.old.launch.now }
-        ensures played { IfOk result (λ yes. (state : State) → Tells (D.launch self.old.launch.now) self.old.items.items self.old.buffers.items self.old.groups.items self.old.log.items state
-            → next_action (D.launch self.old.launch.now) state item ≡ action.Access object element operation
-            → IsPlayed (D.launch self.old.launch.now) state (event.Item item) (Tells (D.launch self.new.launch.now) self.new.items.items self.new.buffers.items self.new.groups.items self.new.log.items) yes) }
+        requires { (launch : Launch) × (state : State) × IsAt D.launch launch self.old state × (item < launch.items) }
+        ensures { IfOk result (λ yes. (launch : Launch) (state : State) → IsAt D.launch launch self.old state → next_action launch state item ≡ action.Access object element operation
+            → IsPlayed launch state (event.Item item) (IsAt D.launch launch self.new) yes) }
     {
         let number = item / self.launch.group_size();
         let group = &mut self.groups[number as usize];
@@ -60,33 +59,85 @@ impl<'a, D: Playable> Player<'a, D> {
         Ok(true)
     }
 
-    /// The next action of an item, which changes nothing that is seen. An error is out of memory.
-    fn next(&mut self, item: u32) -> Result<Action, AllocError>
-        requires { item < length self.old.items.items }
-        ensures launch_same { D.launch self.new.launch.now ≡ D.launch self.old.launch.now }
-        ensures same { (state : State) → Tells (D.launch self.old.launch.now) self.old.items.items self.old.buffers.items self.old.groups.items self.old.log.items state
-            → Tells (D.launch self.new.launch.now) self.new.items.items self.new.buffers.items self.new.groups.items self.new.log.items state }
-        ensures value { IfOk result (λ action. (state : State) → Tells (D.launch self.old.launch.now) self.old.items.items self.old.buffers.items self.old.groups.items self.old.log.items state
-            → next_action (D.launch self.old.launch.now) state item ≡ action) }
+    /// The next action of an item, `None` where there is no such item (OpenCL 1.2, section 3.2). It stays the next one. An error is out of
+    /// memory.
+    pub fn action(&mut self, item: u32) -> Result<Option<Action>, AllocError>
+        ensures same { (launch : Launch) (state : State) → IsAt D.launch launch self.old state → IsAt D.launch launch self.new state }
+        ensures value { IfOk result (λ action. (launch : Launch) (state : State) → IsAt D.launch launch self.old state → ActsNext launch state item action) }
     {
-        self.items[item as usize].next(self.alloc, self.launch, item)
+        if item as usize >= self.items.len() {
+            return Ok(None);
+        }
+        let action = self.items[item as usize].next(self.alloc, self.launch, item)?;
+        Ok(Some(action))
+    }
+
+    /// The accesses so far, the oldest first.
+    pub fn log(&self) -> &[Access]
+        ensures { (launch : Launch) (state : State) → IsAt D.launch launch self.now state → result.now ≡ reverse state.log }
+    {
+        self.log.as_slice()
+    }
+
+    /// How many bytes an object has, none where there is no such object.
+    fn size_of(&self, object: Object) -> u64
+        ensures { (launch : Launch) (state : State) → IsAt D.launch launch self.now state → (group : ℕ) → result ≡ bytes_of launch (region_of group object) }
+    {
+        match object {
+            Object::Buffer(number) => match self.buffers.get(number as usize) {
+                Some(buffer) => buffer.size(),
+                None => 0,
+            },
+            Object::Local(number) => match self.launch.local_sizes().get(number as usize) {
+                Some(size) => *size,
+                None => 0,
+            },
+        }
+    }
+
+    /// The first byte of an element of an object, for an item of any group, or `None` where the element is out of range (C99 6.5.2.1, 6.5.6).
+    pub fn first_byte(&self, object: Object, element: i64, operation: Operation) -> Option<u64>
+        ensures value { (launch : Launch) (state : State) → IsAt D.launch launch self.now state → (item : ℕ) → result ≡ byte_at launch item object element operation }
+        ensures inside { IfSome result (λ first. (launch : Launch) (state : State) → IsAt D.launch launch self.now state
+            → (item : ℕ) → first + size_of operation ≤ bytes_of launch (region_of (group_of launch item) object)) }
+    {
+        let count = operation.width().bytes();
+        first_byte(self.size_of(object), element, count)
+    }
+
+    /// The lowest byte that is unset among those of an item's operation on an object from `first` on, which the object has, if one is unset
+    /// (C99 6.7.8; own in what reading it is). Local objects are unset until the first access of one of their group's items (OpenCL 1.2,
+    /// section 6.5.2).
+    pub fn unset_byte(
+        &self,
+        item: u32,
+        object: Object,
+        first: u64,
+        operation: Operation,
+    ) -> Option<u64>
+        requires { (launch : Launch) × (state : State) × IsAt D.launch launch self.now state × (item < launch.items)
+            × (first + size_of operation ≤ bytes_of launch (region_of (group_of launch item) object)) }
+        ensures { (launch : Launch) (state : State) → IsAt D.launch launch self.now state
+            → result ≡ lowest_unset (state.memory (region_of (group_of launch item) object)) first (size_of operation) }
+    {
+        let number = item / self.launch.group_size();
+        let group = &self.groups[number as usize];
+        group.unset_byte(self.buffers.as_slice(), object, first, operation)
     }
 
     /// An event of an item: its access, where that is what it does next and is possible. An error is out of memory.
     pub fn play_item(&mut self, item: u32) -> Result<bool, AllocError>
-        requires { (state : State) × Tells (D.launch self.old.launch.now) self.old.items.items self.old.buffers.items self.old.groups.items self.old.log.items state }
-        ensures launch_same { D.launch self.new.launch.now ≡ D.launch self.old.launch.now }
-        ensures played { IfOk result (λ yes. (state : State) → Tells (D.launch self.old.launch.now) self.old.items.items self.old.buffers.items self.old.groups.items self.old.log.items state
-            → IsPlayed (D.launch self.old.launch.now) state (event.Item item) (Tells (D.launch self.new.launch.now) self.new.items.items self.new.buffers.items self.new.groups.items self.new.log.items) yes) }
+        requires { (launch : Launch) × (state : State) × IsAt D.launch launch self.old state }
+        ensures { IfOk result (λ yes. (launch : Launch) (state : State) → IsAt D.launch launch self.old state → IsPlayed launch state (event.Item item) (IsAt D.launch launch self.new) yes) }
     {
-        if item as usize >= self.items.len() {
+        let Some(action) = self.action(item)? else {
             return Ok(false);
-        }
+        };
         let Action::Access {
             object,
             element,
             operation,
-        } = self.next(item)?
+        } = action
         else {
             return Ok(false);
         };
