@@ -13,7 +13,7 @@ use Rattle.clmodel.specs.declared.action.Answer.{Answer}
 use Rattle.clmodel.specs.declared.schedule.Event.{Event}
 use Rattle.objects.specs.Objects.{SpacesHold}
 use Rattle.replay_play.specs.Items.{acts_of}
-use Rattle.replay_play.specs.Launches.{IsRunnable}
+use Rattle.launches.specs.Groups.{IsRunnable}
 use Rattle.replay_play.specs.declared.group.Group.{Group}
 use Rattle.replay_play.specs.declared.group.Performed.{Performed}
 use Rattle.replay_play.specs.declared.player.Player.{Player}

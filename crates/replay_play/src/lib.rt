@@ -2,9 +2,7 @@
 #![tactic(auto)]
 
 mod group;
-mod playable;
 mod player;
 mod slot;
 
-pub use playable::Playable;
 pub use player::Player;

@@ -9,10 +9,10 @@ ghost use Rattle.clmodel.specs.declared.schedule.Event.TheVariants as event;
 ghost use Rattle.replay_play.specs.States.{ActsNext, IsAt, IsPlayed};
 
 use crate::group::Group;
-use crate::playable::Playable;
 use crate::slot::Slot;
 use clmodel::access::{Access, Object, Operation};
 use clmodel::action::Action;
+use launches::Runnable;
 use spaces_base::{Plain, Space, first_byte};
 use std::alloc::{AllocError, Global};
 
@@ -27,7 +27,7 @@ pub struct Player<'a, D> {
     log: Vec<Access>,
 }
 
-impl<'a, D: Playable> Player<'a, D> {
+impl<'a, D: Runnable> Player<'a, D> {
     /// Does this access, which is what an item does next, where it is possible. An error is out of memory.
     fn access(
         &mut self,

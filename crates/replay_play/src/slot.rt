@@ -4,9 +4,9 @@ ghost use Rattle.std.specs.Prelude.{◌≡◌, [], ◌∷◌, List, IfOk, OnOk};
 ghost use Rattle.clmodel.specs.declared.action.Answer.{Answer};
 ghost use Rattle.replay_play.specs.Items.{acts_of, IsAsked};
 
-use crate::playable::Playable;
 use clmodel::action::{Action, Answer};
 use item_step::Item;
+use launches::Runnable;
 use std::alloc::{AllocError, Global};
 
 /// A work-item as it is played (OpenCL 1.2, section 3.2). It is started when it is first asked, and one that has ended keeps no memory.
@@ -23,7 +23,7 @@ pub enum Slot<'a> {
 
 impl<'a> Slot<'a> {
     /// Starts the item where it wasn't asked yet. An error is out of memory.
-    fn start<D: Playable>(
+    fn start<D: Runnable>(
         &mut self,
         alloc: Global,
         launch: &'a D,
@@ -39,7 +39,7 @@ impl<'a> Slot<'a> {
     }
 
     /// The action that the item makes next. An error is out of memory.
-    pub fn next<D: Playable>(
+    pub fn next<D: Runnable>(
         &mut self,
         alloc: Global,
         launch: &'a D,
@@ -60,7 +60,7 @@ impl<'a> Slot<'a> {
     }
 
     /// The item's next action is answered. An error is out of memory.
-    pub fn answer<D: Playable>(
+    pub fn answer<D: Runnable>(
         &mut self,
         alloc: Global,
         launch: &'a D,
