@@ -1,2 +1,6 @@
-pub mod Spots
+pub mod Counting
+pub mod Played
+pub mod Showing
 pub mod Shown
+pub mod Spots
+pub mod Telling

@@ -2,5 +2,10 @@
 //! section 3.2 allows).
 #![tactic(auto)]
 
+mod buffers;
 mod conflicts;
+mod counts;
+mod events;
+mod faults;
+mod nexts;
 mod places;
