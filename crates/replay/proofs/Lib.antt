@@ -1,5 +1,6 @@
 pub mod Counting
 pub mod Played
+pub mod Reaching
 pub mod Showing
 pub mod Shown
 pub mod Spots

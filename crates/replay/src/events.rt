@@ -8,7 +8,7 @@ ghost use Rattle.clmodel.specs.declared.schedule.Event.TheVariants as event;
 ghost use Rattle.replay_play.specs.States.{IsAt};
 ghost use Rattle.replay.specs.Played.{ArePlayed};
 
-use clmodel::schedule::{Run, Schedule};
+use clmodel::schedule::{Event, Run, Schedule};
 use launches::Runnable;
 use replay_play::Player;
 use std::alloc::AllocError;
@@ -23,7 +23,7 @@ fn play_items<D: Runnable>(
     ensures { IfOk result (λ yes. (launch : Launch) (state : State) → IsAt D.launch launch player.old state → ArePlayed launch state (replicate count (event.Item item)) (IsAt D.launch launch player.new) yes) }
 {
     for _ in 0..count {
-        if !player.play_item(item)? {
+        if !player.play(Event::Item(item))? {
             return Ok(false);
         }
     }
@@ -37,7 +37,7 @@ fn play_run<D: Runnable>(player: &mut Player<'_, D>, run: Run) -> Result<bool, A
 {
     match run {
         Run::Item { item, count } => play_items(player, item, count),
-        Run::Release { group } => play_items(player, group, 1),
+        Run::Release { group } => player.play(Event::Release(group)),
     }
 }
 

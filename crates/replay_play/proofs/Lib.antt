@@ -1,2 +1,5 @@
 pub mod Bytes
 pub mod Playing
+pub mod Releasing
+pub mod Starting
+pub mod Walks

@@ -1,15 +1,17 @@
 -- What a program keeps of a state of a launch while it plays events (own).
-use Rattle.std.specs.Prelude.{◌≡◌, ℕ, ◌*◌, ◌<◌, ◌≤◌, ℤ, ◌⊎◌, Bool, true, false, Option, None, Some, List, [], length, slice_get, reverse, ◌++◌}
+use Rattle.std.specs.Prelude.{◌≡◌, ℕ, ◌+◌, ◌*◌, ◌<◌, ◌≤◌, ℤ, ◌⊎◌, Bool, true, false, Option, None, Some, List, [], length, slice_get, reverse, ◌++◌, if◌then◌else◌}
 use Rattle.std.specs.Option.{option_and_then}
 use Rattle.clmodel.specs.Cells.{Outcome, perform, size_of}
-use Rattle.clmodel.specs.Launch.{Launch, bytes_of, first_byte, region_of}
-use Rattle.clmodel.specs.Run.{State, Memory, step, next_action, with_cells}
+use Rattle.clmodel.specs.Launch.{Launch, bytes_of, first_byte, group_of, region_of}
+use Rattle.clmodel.specs.Run.{State, Memory, step, next_action, stop_of, both_stop, with_cells}
 use Rattle.clmodel.specs.declared.access.Access.{Access}
 use Rattle.clmodel.specs.declared.access.Object.{Object}
 use Rattle.clmodel.specs.declared.access.Operation.{Operation}
 use Rattle.clmodel.specs.declared.access.Region.TheVariants as region
 use Rattle.clmodel.specs.declared.action.Action.{Action}
 use Rattle.clmodel.specs.declared.action.Answer.{Answer}
+use Rattle.clmodel.specs.declared.action.Fences.{Fences}
+use Rattle.clmodel.specs.declared.action.Stop.{Stop}
 use Rattle.clmodel.specs.declared.schedule.Event.{Event}
 use Rattle.objects.specs.Objects.{SpacesHold}
 use Rattle.replay_play.specs.Items.{acts_of}
@@ -37,6 +39,12 @@ IsPerformed launch group new memory object element operation (Some done) =
     (outcome : Outcome) × (first_byte (bytes_of launch (region_of group object)) element (size_of operation) ≡ Some done.first)
     × (perform operation (memory (region_of group object)) done.first ≡ Some outcome) × (outcome.answer ≡ done.answer)
     × new (with_cells memory (region_of group object) outcome.cells)
+
+-- what is kept of a group that has made no access and passed no barrier
+pub record IsNew (kept : Group) : Type 0 where
+  pub locals : kept.locals.items ≡ []
+  pub local_interval : kept.local_interval ≡ 0
+  pub global_interval : kept.global_interval ≡ 0
 
 -- what is kept of a group tells of a state
 pub record IsGroupIn (launch : Launch) (group : ℕ) (kept : Group) (state : State) : Type 0 where
@@ -71,6 +79,22 @@ pub record IsAt {D : Type 0} (launch_of : D → Launch) (launch : Launch) (playe
 abbrev pub ActsNext : Launch → State → ℕ → Option Action → Type 0
 ActsNext launch state item None = launch.items ≤ item
 ActsNext launch state item (Some action) = (item < launch.items) × (next_action launch state item ≡ action)
+
+-- the items of a group are at this stop, or one of them isn't (6.12.8)
+abbrev pub Gathers : Launch → State → ℕ → Stop → Bool → Type 0
+Gathers launch state group stop true =
+    (item : ℕ) → item < launch.items → group_of launch item ≡ group → both_stop (Some stop) (stop_of (next_action launch state item)) ≡ true
+Gathers launch state group stop false =
+    (item : ℕ) × (item < launch.items) × (group_of launch item ≡ group) × (both_stop (Some stop) (stop_of (next_action launch state item)) ≡ false)
+
+-- what is kept of a group once a barrier with these fences is passed (6.12.8)
+abbrev pub passed : Group → Fences → Group
+passed kept fences =
+    record {
+      locals = kept.locals;
+      local_interval = if fences.local then kept.local_interval + 1 else kept.local_interval;
+      global_interval = if fences.global then kept.global_interval + 1 else kept.global_interval;
+    }
 
 -- an event was played, and what is kept tells of the state that it leads to; or it isn't possible, and what is kept tells of the state as before
 abbrev pub IsPlayed : Launch → State → Event → (State → Type 0) → Bool → Type 0

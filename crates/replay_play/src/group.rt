@@ -1,15 +1,15 @@
 //! What a player keeps of a work-group.
 
-ghost use Rattle.std.specs.Prelude.{◌≡◌, ◌+◌, ◌<◌, ◌≤◌, ℕ, List, Option, [], length, IfOk, IfSome, OnOk};
+ghost use Rattle.std.specs.Prelude.{◌≡◌, ◌+◌, ◌-◌, ◌<◌, ◌≤◌, ◌^◌, ℕ, List, Option, [], length, All, IfOk, IfSome, OnOk};
 ghost use Rattle.clmodel.specs.Cells.{cells_of, lowest_unset, size_of};
 ghost use Rattle.clmodel.specs.Launch.{Launch, access_in, bytes_of, first_byte, region_of};
 ghost use Rattle.clmodel.specs.Run.{Memory, by_region};
 ghost use Rattle.clmodel.specs.declared.access.Region.TheVariants as region;
 ghost use Rattle.objects.specs.Objects.{SpacesHold, ObjectsHold, space_of};
-ghost use Rattle.replay_play.specs.States.{LocalsHold, IsPerformed};
+ghost use Rattle.replay_play.specs.States.{LocalsHold, IsNew, IsPerformed, passed};
 
 use clmodel::access::{Access, Object, Operation};
-use clmodel::action::Answer;
+use clmodel::action::{Answer, Fences};
 use objects::{local_objects, perform_on, size_of};
 use spaces_base::{LocalMem, Plain, Space, SpaceFault, first_byte};
 use std::alloc::{AllocError, Global};
@@ -89,12 +89,22 @@ fn unset_in<S: Space>(space: &S, first: u64, operation: Operation) -> Option<u64
     }
 }
 
+/// Groups none of whose items were asked yet. An error is out of memory.
+pub fn new_groups(alloc: Global, count: u32) -> Result<Vec<Group>, AllocError>
+    ensures many { IfOk result (λ groups. length groups.items ≡ count) }
+    ensures fresh { IfOk result (λ groups. All IsNew groups.items) }
+{
+    let mut groups = Vec::with_capacity(alloc, count as usize)?;
+    for _ in 0..count {
+        groups.push(Group::new(alloc))?;
+    }
+    Ok(groups)
+}
+
 impl Group {
     /// A group that has made no access.
-    pub fn new(alloc: Global) -> Self
-        ensures locals { result.locals.items ≡ [] }
-        ensures local_interval { result.local_interval ≡ 0 }
-        ensures global_interval { result.global_interval ≡ 0 }
+    fn new(alloc: Global) -> Self
+        ensures { IsNew result }
     {
         Group {
             locals: Vec::new(alloc),
@@ -158,6 +168,20 @@ impl Group {
             width: operation.width(),
             kind: operation.kind(),
             interval,
+        }
+    }
+
+    /// Begins the next interval of each address space that a barrier fences (OpenCL 1.2, section 6.12.8).
+    pub fn pass(&mut self, fences: Fences)
+        requires local { self.old.local_interval < 2 ^ 32 - 1 }
+        requires global { self.old.global_interval < 2 ^ 32 - 1 }
+        ensures { self.new ≡ passed self.old fences }
+    {
+        if fences.local {
+            self.local_interval += 1;
+        }
+        if fences.global {
+            self.global_interval += 1;
         }
     }
 

@@ -2,6 +2,7 @@
 #![tactic(auto)]
 
 mod group;
+mod members;
 mod player;
 mod slot;
 

@@ -1,17 +1,21 @@
 //! A launch as it is played, one event after another.
 
-ghost use Rattle.std.specs.Prelude.{◌≡◌, ◌+◌, ◌<◌, ◌≤◌, ℕ, IfOk, IfSome, reverse};
+ghost use Rattle.std.specs.Prelude.{◌≡◌, ◌+◌, ◌<◌, ◌≤◌, ℕ, ◌*◌, IfOk, IfSome, OnOk, reverse};
 ghost use Rattle.clmodel.specs.Cells.{lowest_unset, size_of};
 ghost use Rattle.clmodel.specs.Launch.{Launch, bytes_of, group_of, region_of};
-ghost use Rattle.clmodel.specs.Run.{State, byte_at, next_action};
+ghost use Rattle.clmodel.specs.Run.{State, byte_at, next_action, released, start};
 ghost use Rattle.clmodel.specs.declared.action.Action.TheVariants as action;
+ghost use Rattle.clmodel.specs.declared.action.Instance.{Instance};
 ghost use Rattle.clmodel.specs.declared.schedule.Event.TheVariants as event;
-ghost use Rattle.replay_play.specs.States.{ActsNext, IsAt, IsPlayed};
+ghost use Rattle.launches.specs.Groups.{IsRunnable, filled};
+ghost use Rattle.replay_play.specs.States.{ActsNext, Gathers, IsAt, IsPlayed};
 
-use crate::group::Group;
-use crate::slot::Slot;
+use crate::group::{Group, new_groups};
+use crate::members::{answer_all, are_at};
+use crate::slot::{Slot, waiting_items};
 use clmodel::access::{Access, Object, Operation};
-use clmodel::action::Action;
+use clmodel::action::{Action, Fences, Stop};
+use clmodel::schedule::Event;
 use launches::Runnable;
 use spaces_base::{Plain, Space, first_byte};
 use std::alloc::{AllocError, Global};
@@ -28,6 +32,31 @@ pub struct Player<'a, D> {
 }
 
 impl<'a, D: Runnable> Player<'a, D> {
+    /// A launch of so many work-groups before its first event (OpenCL 1.2, section 3.2), with spaces for its buffers that hold their first bytes.
+    /// An error is out of memory.
+    pub fn new(
+        alloc: Global,
+        launch: &'a D,
+        groups: u32,
+        buffers: Vec<Plain>,
+    ) -> Result<Self, AllocError>
+        requires runnable { IsRunnable (D.launch launch.now) }
+        requires counted { groups * (D.launch launch.now).group_size ≡ (D.launch launch.now).items }
+        requires filled { buffers.items ≡ filled (D.launch launch.now) }
+        ensures { IfOk result (λ player. IsAt D.launch (D.launch launch.now) player (start (D.launch launch.now))) }
+    {
+        let items = waiting_items(alloc, groups * launch.group_size())?;
+        let groups = new_groups(alloc, groups)?;
+        Ok(Player {
+            alloc,
+            launch,
+            items,
+            buffers,
+            groups,
+            log: Vec::new(alloc),
+        })
+    }
+
     /// Does this access, which is what an item does next, where it is possible. An error is out of memory.
     fn access(
         &mut self,
@@ -142,5 +171,76 @@ impl<'a, D: Runnable> Player<'a, D> {
             return Ok(false);
         };
         self.access(item, object, element, operation)
+    }
+
+    /// Whether all items of a group are at a stop: a walk over them. An error is out of memory.
+    fn gathers(&mut self, group: u32, stop: &Stop) -> Result<bool, AllocError>
+        requires { (launch : Launch) × (state : State) × IsAt D.launch launch self.old state × (group * launch.group_size < launch.items) }
+        ensures same { (launch : Launch) (state : State) → IsAt D.launch launch self.old state → IsAt D.launch launch self.new state }
+        ensures value { IfOk result (λ yes. (launch : Launch) (state : State) → IsAt D.launch launch self.old state → Gathers launch state group stop.now yes) }
+    {
+        let size = self.launch.group_size();
+        let first = group * size;
+        are_at(
+            &mut self.items,
+            self.alloc,
+            self.launch,
+            first,
+            first + size,
+            stop,
+        )
+    }
+
+    /// Releases a group from a barrier with these fences, at which its first item is: a walk over its items. An error is out of memory.
+    fn release(&mut self, group: u32, fences: Fences) -> Result<(), AllocError>
+        requires { (launch : Launch) × (state : State) × (instance : Instance) × IsAt D.launch launch self.old state × (group * launch.group_size < launch.items)
+            × (next_action launch state (group * launch.group_size) ≡ action.Barrier instance fences) }
+        ensures { OnOk result ((launch : Launch) (state : State) → IsAt D.launch launch self.old state → IsAt D.launch launch self.new (released launch state group fences)) }
+    {
+        self.groups[group as usize].pass(fences);
+        let size = self.launch.group_size();
+        let first = group * size;
+        answer_all(
+            &mut self.items,
+            self.alloc,
+            self.launch,
+            first,
+            first + size,
+        )
+    }
+
+    /// A group's release, where all its items are at one barrier in the same turns of the loops round it (OpenCL 1.2, section 6.12.8): each
+    /// item goes on, and the interval of each fenced address space is one higher. It takes a walk over the group's items to compare them with
+    /// the first, and one to answer them. An error is out of memory.
+    pub fn play_release(&mut self, group: u32) -> Result<bool, AllocError>
+        requires { (launch : Launch) × (state : State) × IsAt D.launch launch self.old state }
+        ensures { IfOk result (λ yes. (launch : Launch) (state : State) → IsAt D.launch launch self.old state → IsPlayed launch state (event.Release group) (IsAt D.launch launch self.new) yes) }
+    {
+        if group as usize >= self.groups.len() {
+            return Ok(false);
+        }
+        let first = group * self.launch.group_size();
+        let Some(action) = self.action(first)? else {
+            return Ok(false);
+        };
+        let Action::Barrier { instance, fences } = action else {
+            return Ok(false);
+        };
+        if !self.gathers(group, &Stop::At(instance))? {
+            return Ok(false);
+        }
+        self.release(group, fences)?;
+        Ok(true)
+    }
+
+    /// An event, where it is possible: an item's access or a group's release (OpenCL 1.2, sections 3.2 and 6.12.8). An error is out of memory.
+    pub fn play(&mut self, event: Event) -> Result<bool, AllocError>
+        requires { (launch : Launch) × (state : State) × IsAt D.launch launch self.old state }
+        ensures { IfOk result (λ yes. (launch : Launch) (state : State) → IsAt D.launch launch self.old state → IsPlayed launch state event (IsAt D.launch launch self.new) yes) }
+    {
+        match event {
+            Event::Item(item) => self.play_item(item),
+            Event::Release(group) => self.play_release(group),
+        }
     }
 }

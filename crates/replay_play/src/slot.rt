@@ -1,10 +1,13 @@
 //! A single item as it is played.
 
-ghost use Rattle.std.specs.Prelude.{◌≡◌, [], ◌∷◌, List, IfOk, OnOk};
+ghost use Rattle.std.specs.Prelude.{◌≡◌, Some, [], ◌∷◌, List, replicate, IfOk, OnOk};
+ghost use Rattle.clmodel.specs.Run.{stop_of};
 ghost use Rattle.clmodel.specs.declared.action.Answer.{Answer};
-ghost use Rattle.replay_play.specs.Items.{acts_of, IsAsked};
+ghost use Rattle.replay_play.specs.Items.{acts_of, is_at, IsAsked};
+ghost use Rattle.replay_play.specs.declared.slot.Slot.TheVariants as slot;
 
-use clmodel::action::{Action, Answer};
+use clmodel::action::{Action, Answer, Stop};
+use divergence::same_stop;
 use item_step::Item;
 use launches::Runnable;
 use std::alloc::{AllocError, Global};
@@ -19,6 +22,29 @@ pub enum Slot<'a> {
     Running(Item<'a>),
     /// It is at its end.
     Ended,
+}
+
+/// Items that weren't asked yet. An error is out of memory.
+pub fn waiting_items<'a>(alloc: Global, count: u32) -> Result<Vec<Slot<'a>>, AllocError>
+    ensures { IfOk result (λ items. items.items ≡ replicate count slot.Waiting) }
+{
+    let mut items = Vec::with_capacity(alloc, count as usize)?;
+    for _ in 0..count {
+        items.push(Slot::Waiting)?;
+    }
+    Ok(items)
+}
+
+/// Where an item waits that makes this action next, if it does (OpenCL 1.2, section 6.12.8).
+fn stop_of(action: Action) -> Option<Stop>
+    ensures { result ≡ stop_of action }
+{
+    match action {
+        Action::Access { .. } => None,
+        Action::Barrier { instance, .. } => Some(Stop::At(instance)),
+        Action::End => Some(Stop::Ended),
+        Action::Fault(_) => None,
+    }
 }
 
 impl<'a> Slot<'a> {
@@ -57,6 +83,23 @@ impl<'a> Slot<'a> {
             *self = Slot::Ended;
         }
         Ok(action)
+    }
+
+    /// Whether the item is at a stop. An error is out of memory.
+    pub fn is_at<D: Runnable>(
+        &mut self,
+        alloc: Global,
+        launch: &'a D,
+        item: u32,
+        stop: &Stop,
+    ) -> Result<bool, AllocError>
+        ensures same { (answers : List Answer) → acts_of (D.launch launch.now) item self.new answers ≡ acts_of (D.launch launch.now) item self.old answers }
+        ensures value { IfOk result (λ yes. yes ≡ is_at (D.launch launch.now) stop.now item self.old) }
+    {
+        match stop_of(self.next(alloc, launch, item)?) {
+            Some(other) => Ok(same_stop(stop, &other)),
+            None => Ok(false),
+        }
     }
 
     /// The item's next action is answered. An error is out of memory.

@@ -1,0 +1,117 @@
+-- Items that are asked or answered one after another.
+use Rattle.std.proofs.Common.{◌≡◌, ℕ, ◌+◌, ◌<◌, ◌≤◌, ◌⊎◌, true, false, Option, None, Some, List, [], ◌∷◌, length, set, refl, sym, ap, ◌∙◌, subst, inl, inr, arith}
+use Rattle.std.specs.Prelude.{slice_get}
+use Rattle.std.proofs.lemmas.List.{length-set}
+use Rattle.clmodel.specs.Launch.{Launch}
+use Rattle.clmodel.specs.Run.{stop_of, both_stop}
+use Rattle.clmodel.specs.declared.action.Answer.{Answer}
+use Rattle.clmodel.specs.declared.action.Stop.{Stop}
+use Rattle.clmodel.proofs.Steps.{some_inj}
+use Rattle.objects.proofs.Lists.{get_set}
+use Rattle.replay_play.specs.Items.{acts_of, is_at, AreAlike, AreAt, AreAnswered}
+use Rattle.replay_play.specs.declared.slot.Slot.{Slot}
+
+-- ---- items that are asked
+
+pub alike_same : (l : Launch) (items : List Slot) → AreAlike l items items
+alike_same l items =
+    record {
+      many = refl;
+      each = λ k y e. (y, e, λ answers. refl);
+    }
+
+pub alike_more :
+    (l : Launch) (old new : List Slot) (k : ℕ) (x y : Slot) → slice_get new k ≡ Some x → ((answers : List Answer) → acts_of l k y answers ≡ acts_of l k x answers)
+    → AreAlike l old new → AreAlike l old (set new k y)
+alike_more l old new k x y there same h =
+    record {
+      many = length-set new k y ∙ h.many;
+      each = λ j z e. each j z (get_set new k y j z e);
+    }
+  where
+    each :
+        (j : ℕ) (z : Slot) → ((j ≡ k) × (y ≡ z)) ⊎ ((j ≡ k → ⊥) × (slice_get new j ≡ Some z))
+        → (w : Slot) × (slice_get old j ≡ Some w) × ((answers : List Answer) → acts_of l j z answers ≡ acts_of l j w answers)
+    each j z (inl e) =
+        let o : (w : Slot) × (slice_get old k ≡ Some w) × ((answers : List Answer) → acts_of l k x answers ≡ acts_of l k w answers) = h.each k x there in (
+          o.0,
+          ap (slice_get old) e.0 ∙ o.1,
+          λ answers. ap (λ n. acts_of l n z answers) e.0 ∙ ap (λ w. acts_of l k w answers) (sym e.1) ∙ same answers ∙ o.2 answers ∙ ap (λ n. acts_of l n o.0 answers) (sym e.0),
+        )
+    each j z (inr e) = h.each j z e.1
+
+-- an item among others that act as before is at a stop if it was
+at_alike :
+    (l : Launch) (stop : Stop) (k : ℕ) (x w : Slot) → ((answers : List Answer) → acts_of l k x answers ≡ acts_of l k w answers) → is_at l stop k x ≡ is_at l stop k w
+at_alike l stop k x w same = ap (λ a. both_stop (Some stop) (stop_of a)) (same [])
+
+below_next : (j k : ℕ) → j < k + 1 → (j < k) ⊎ (j ≡ k)
+below_next j k h = grind arith
+
+pub at_more :
+    (l : Launch) (old new : List Slot) (first k : ℕ) (stop : Stop) (x : Slot) → slice_get new k ≡ Some x → is_at l stop k x ≡ true → AreAlike l old new → AreAt l old first k stop true
+    → AreAt l old first (k + 1) stop true
+at_more l old new first k stop x there here h before = λ j i from below e. go j i from e (below_next j k below)
+  where
+    o : (w : Slot) × (slice_get old k ≡ Some w) × ((answers : List Answer) → acts_of l k x answers ≡ acts_of l k w answers)
+    o = h.each k x there
+
+    go : (j : ℕ) (i : Slot) → first ≤ j → slice_get old j ≡ Some i → (j < k) ⊎ (j ≡ k) → is_at l stop j i ≡ true
+    go j i from e (inl b) = before j i from b e
+    go j i from e (inr q) =
+        let same : i ≡ o.0 = some_inj i o.0 (sym e ∙ ap (slice_get old) q ∙ o.1) in
+        ap (λ n. is_at l stop n i) q ∙ ap (is_at l stop k) same ∙ sym (at_alike l stop k x o.0 o.2) ∙ here
+
+pub at_not :
+    (l : Launch) (old new : List Slot) (first end k : ℕ) (stop : Stop) (x : Slot) → first ≤ k → k < end → slice_get new k ≡ Some x → is_at l stop k x ≡ false → AreAlike l old new
+    → AreAt l old first end stop false
+at_not l old new first end k stop x from below there here h =
+    let o : (w : Slot) × (slice_get old k ≡ Some w) × ((answers : List Answer) → acts_of l k x answers ≡ acts_of l k w answers) = h.each k x there in
+    (k, o.0, from, below, o.1, sym (at_alike l stop k x o.0 o.2) ∙ here)
+
+-- ---- items that are answered
+
+pub answered_none : (l : Launch) (first : ℕ) (answer : Answer) (items : List Slot) → AreAnswered l first first answer items items
+answered_none l first answer items =
+    record {
+      many = refl;
+      done = λ k y from below e. absurd (omega (arith, from, below));
+      others = λ k y out e. e;
+    }
+
+pub answered_more :
+    (l : Launch) (first : ℕ) (answer : Answer) (old new : List Slot) (k : ℕ) (x y : Slot) → first ≤ k → slice_get new k ≡ Some x
+    → ((answers : List Answer) → acts_of l k y answers ≡ acts_of l k x (answer ∷ answers)) → AreAnswered l first k answer old new
+    → AreAnswered l first (k + 1) answer old (set new k y)
+answered_more l first answer old new k x y from there answered h =
+    record {
+      many = length-set new k y ∙ h.many;
+      done = λ j z f b e. done j z f b (get_set new k y j z e);
+      others = λ j z out e. others j z out (get_set new k y j z e);
+    }
+  where
+    out_of : (j : ℕ) → (j < first) ⊎ (k + 1 ≤ j) → (j < first) ⊎ (k ≤ j)
+    out_of j (inl b) = inl b
+    out_of j (inr b) = inr (omega (arith, b))
+
+    not_here : (j : ℕ) → (j < first) ⊎ (k + 1 ≤ j) → j ≡ k → ⊥
+    not_here j (inl b) e = absurd (omega (arith, b, e, from))
+    not_here j (inr b) e = absurd (omega (arith, b, e))
+
+    done :
+        (j : ℕ) (z : Slot) → first ≤ j → j < k + 1 → ((j ≡ k) × (y ≡ z)) ⊎ ((j ≡ k → ⊥) × (slice_get new j ≡ Some z))
+        → (w : Slot) × (slice_get old j ≡ Some w) × ((answers : List Answer) → acts_of l j z answers ≡ acts_of l j w (answer ∷ answers))
+    done j z f b (inl e) = (
+      x,
+      ap (slice_get old) e.0 ∙ h.others k x (inr (omega arith)) there,
+      λ answers. ap (λ n. acts_of l n z answers) e.0 ∙ ap (λ w. acts_of l k w answers) (sym e.1) ∙ answered answers ∙ ap (λ n. acts_of l n x (answer ∷ answers)) (sym e.0),
+    )
+    done j z f b (inr e) = h.done j z f (below (below_next j k b)) e.1
+      where
+        below : (j < k) ⊎ (j ≡ k) → j < k
+        below (inl q) = q
+        below (inr q) = absurd (e.0 q)
+
+    others : (j : ℕ) (z : Slot) → (j < first) ⊎ (k + 1 ≤ j) → ((j ≡ k) × (y ≡ z)) ⊎ ((j ≡ k → ⊥) × (slice_get new j ≡ Some z)) → slice_get old j ≡ Some z
+    others j z out (inl e) = absurd (not_here j out e.0)
+    others j z out (inr e) = h.others j z (out_of j out) e.1

@@ -1,0 +1,99 @@
+use Rattle.std.proofs.Common.{◌≡◌, ◌+◌, ◌*◌, ◌<◌, ◌≤◌, length, refl, sym, ap, ◌∙◌, subst, arith}
+use Rattle.clmodel.specs.Run.{next_action, released, stop_of}
+use Rattle.clmodel.specs.declared.action.Stop.TheVariants.{At}
+use Rattle.clmodel.proofs.Steps.{release_at}
+use Rattle.replay_play.specs.States.{ActsNext, Gathers}
+use Rattle.replay_play.proofs.Playing.{is_none}
+use Rattle.replay_play.proofs.Releasing.{group_begins, group_ends, leads, no_leader, no_group, not_waiting, straggles, gathered, not_both}
+use Rattle.replay_play.proofs.player.Player.play_release.Goals as goal
+
+pub returns-then-group-len : goal.returns-then-group-len
+returns-then-group-len g c = λ l s at.
+    let gs = c.args.self.now.groups in
+    let past : length gs.items ≤ c.args.group = omega (arith, c.if-group-len.true, c.len.ensures, gs.ok.0) in
+    (no_group l s c.args.group (no_leader l gs.items c.args.group at.runnable.grouped at.tells.grouped past), at)
+
+pub overflow_mul-first : goal.overflow_mul-first
+overflow_mul-first g c =
+    let l = c.requires.0 in
+    let at = c.requires.2 in
+    let gs = c.args.self.now.groups in
+    let below : c.args.group < length gs.items = omega (arith, c.if-group-len.false, c.len.ensures, gs.ok.0) in
+    let there = group_begins l gs.items c.args.group at.runnable at.tells.grouped below in
+    let ends = group_ends l gs.items c.args.group c.group_size.result (c.group_size.ensures.value ∙ ap (λ z. z.group_size) at.plays) at.tells.grouped there in
+    let few = at.runnable.numbered in
+    omega (arith, ends, few)
+
+pub returns-in_default : goal.returns-in_default
+returns-in_default g c = λ l s at.
+    let n = c.args.group in
+    let gs = c.args.self.now.groups in
+    let below : n < length gs.items = omega (arith, c.if-group-len.false, c.len.ensures, gs.ok.0) in
+    let there = group_begins l gs.items n at.runnable at.tells.grouped below in
+    let first = ap (λ z. n * z) (c.group_size.ensures.value ∙ ap (λ z. z.group_size) at.plays) in
+    let past = subst (ActsNext l s (n * c.group_size.result)) (is_none c.in_ok-action.field-0 c.in_default.not-Some) (c.in_ok-action.ensures.value l s at) in
+    absurd (not_both l.items (n * l.group_size) there (subst (λ z. l.items ≤ z) first past))
+
+pub returns-in_default-action : goal.returns-in_default-action
+returns-in_default-action g c = λ l s at.
+    let n = c.args.group in
+    let gs = c.args.self.now.groups in
+    let below : n < length gs.items = omega (arith, c.if-group-len.false, c.len.ensures, gs.ok.0) in
+    let there = group_begins l gs.items n at.runnable at.tells.grouped below in
+    let first = ap (λ z. n * z) (c.group_size.ensures.value ∙ ap (λ z. z.group_size) at.plays) in
+    let acts = subst (λ z. next_action l s z ≡ c.in-Some.action) first (subst (ActsNext l s (n * c.group_size.result)) c.in-Some.is (c.in_ok-action.ensures.value l s at)).1 in
+    (not_waiting l s n (n * l.group_size) c.in-Some.action (leads l n at.runnable.grouped there) acts c.in_default-action.not-Barrier, c.action.ensures.same l s at)
+
+pub gathers-requires : goal.gathers-requires
+gathers-requires g c =
+    let l = c.requires.0 in
+    let s = c.requires.1 in
+    let at = c.requires.2 in
+    let gs = c.args.self.now.groups in
+    let below : c.args.group < length gs.items = omega (arith, c.if-group-len.false, c.len.ensures, gs.ok.0) in
+    (l, s, c.action.ensures.same l s at, group_begins l gs.items c.args.group at.runnable at.tells.grouped below)
+
+pub returns-then-not-branch : goal.returns-then-not-branch
+returns-then-not-branch g c = λ l s at.
+    let n = c.args.group in
+    let gs = c.args.self.now.groups in
+    let below : n < length gs.items = omega (arith, c.if-group-len.false, c.len.ensures, gs.ok.0) in
+    let there = group_begins l gs.items n at.runnable at.tells.grouped below in
+    let first = ap (λ z. n * z) (c.group_size.ensures.value ∙ ap (λ z. z.group_size) at.plays) in
+    let acts = subst (λ z. next_action l s z ≡ c.in-Some.action) first (subst (ActsNext l s (n * c.group_size.result)) c.in-Some.is (c.in_ok-action.ensures.value l s at)).1 in
+    let same = c.action.ensures.same l s at in (
+      straggles l s n (n * l.group_size) (At c.in-Barrier.instance) (leads l n at.runnable.grouped there) (ap stop_of (acts ∙ c.in-Barrier.is))
+          (subst (Gathers l s n (At c.in-Barrier.instance)) c.if-not-branch.true (c.in_ok-gathers.ensures.value l s same)),
+      c.gathers.ensures.same l s same,
+    )
+
+pub release-requires : goal.release-requires
+release-requires g c =
+    let l = c.requires.0 in
+    let s = c.requires.1 in
+    let at = c.requires.2 in
+    let n = c.args.group in
+    let gs = c.args.self.now.groups in
+    let below : n < length gs.items = omega (arith, c.if-group-len.false, c.len.ensures, gs.ok.0) in
+    let there = group_begins l gs.items n at.runnable at.tells.grouped below in
+    let first = ap (λ z. n * z) (c.group_size.ensures.value ∙ ap (λ z. z.group_size) at.plays) in
+    let acts = subst (λ z. next_action l s z ≡ c.in-Some.action) first (subst (ActsNext l s (n * c.group_size.result)) c.in-Some.is (c.in_ok-action.ensures.value l s at)).1 in
+    (l, s, c.in-Barrier.instance, c.gathers.ensures.same l s (c.action.ensures.same l s at), there, acts ∙ c.in-Barrier.is)
+
+pub returns : goal.returns
+returns g c = λ l s at.
+    let n = c.args.group in
+    let gs = c.args.self.now.groups in
+    let below : n < length gs.items = omega (arith, c.if-group-len.false, c.len.ensures, gs.ok.0) in
+    let there = group_begins l gs.items n at.runnable at.tells.grouped below in
+    let first = ap (λ z. n * z) (c.group_size.ensures.value ∙ ap (λ z. z.group_size) at.plays) in
+    let acts = subst (λ z. next_action l s z ≡ c.in-Some.action) first (subst (ActsNext l s (n * c.group_size.result)) c.in-Some.is (c.in_ok-action.ensures.value l s at)).1 in
+    let same = c.action.ensures.same l s at in
+    let led = leads l n at.runnable.grouped there in (
+      released l s n c.in-Barrier.fences,
+      release_at l s n (n * l.group_size) c.in-Barrier.instance c.in-Barrier.fences led
+          (gathered l s n (n * l.group_size) (At c.in-Barrier.instance) (ap stop_of (acts ∙ c.in-Barrier.is))
+          (subst (Gathers l s n (At c.in-Barrier.instance)) c.if-not-branch.false (c.in_ok-gathers.ensures.value l s same)))
+          (acts ∙ c.in-Barrier.is),
+      c.in_ok-release.ensures l s (c.gathers.ensures.same l s same),
+    )
