@@ -1,5 +1,5 @@
 -- A conflict that a fault tells, and the spots of the log.
-use Rattle.std.proofs.Common.{◌≡◌, ℕ, zero, suc, ◌+◌, ◌<◌, ◌⊎◌, ◌==◌, ◌&&◌, ◌||◌, not, Bool, true, false, if◌then◌else◌, Option, None, Some, List, [], ◌∷◌, ◌++◌, length, refl, sym, ap, ap₂, ◌∙◌, subst, inl, inr, arith, eqb-true, eq-eqb}
+use Rattle.std.proofs.Common.{◌≡◌, ℕ, zero, suc, ◌<◌, ◌⊎◌, ◌==◌, ◌&&◌, ◌||◌, not, Bool, true, false, if◌then◌else◌, Option, None, Some, List, [], ◌∷◌, ◌++◌, length, refl, sym, ap, ap₂, ◌∙◌, subst, inl, inr, arith, eqb-true, eq-eqb}
 use Rattle.std.specs.Prelude.{slice_get, reverse}
 use Rattle.std.specs.Bool.{Decides}
 use Rattle.std.proofs.lemmas.Bool.{and_parts, and_from, false≢true}
@@ -20,7 +20,7 @@ use Rattle.clmodel.specs.declared.fault.Location.TheVariants as location
 use Rattle.clmodel.proofs.Conflicts.{Meet}
 use Rattle.clmodel.proofs.Steps.{none_some, some_inj, if_some, if_true}
 use Rattle.clmodel.proofs.Swaps.{same_region_self, same_region-true}
-use Rattle.replay.specs.Spots.{number_in, IsSpot, HasSpot, Meets, AnyMeets}
+use Rattle.replay.specs.Spots.{number_in, HasSpot, AnyMeets}
 use Rattle.replay.specs.declared.conflicts.Spot.{Spot}
 
 -- ---- a log by places

@@ -1,5 +1,5 @@
 -- Where the accesses lie that a fault tells of (own).
-use Rattle.std.specs.Prelude.{◌≡◌, ℕ, ◌<◌, ◌==◌, ◌&&◌, Bool, true, false, Option, None, Some, List, if◌then◌else◌, slice_get}
+use Rattle.std.specs.Prelude.{◌≡◌, ℕ, ◌<◌, ◌==◌, ◌&&◌, Bool, true, Option, None, Some, List, if◌then◌else◌, slice_get}
 use Rattle.clmodel.specs.Cells.{byte_count, covers}
 use Rattle.clmodel.specs.Launch.{Launch, location_of}
 use Rattle.clmodel.specs.declared.access.Access.{Access}

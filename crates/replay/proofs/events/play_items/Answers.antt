@@ -1,4 +1,4 @@
-use Rattle.std.proofs.Common.{◌≡◌, Some, ap, sym, ◌∙◌, replicate, arith}
+use Rattle.std.proofs.Common.{◌≡◌, ap, ◌∙◌, replicate, arith}
 use Rattle.clmodel.specs.Run.{after}
 use Rattle.clmodel.specs.declared.schedule.Event.TheVariants as event
 use Rattle.replay_play.specs.States.{IsAt}

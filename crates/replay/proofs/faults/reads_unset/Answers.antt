@@ -1,5 +1,4 @@
-use Rattle.std.proofs.Common.{rules, to_z, of_z, w64, ◌≡◌, None, Some, sym, ap, ◌∙◌, subst, arith}
-use Rattle.std.specs.Bool.{Decides}
+use Rattle.std.proofs.Common.{rules, to_z, of_z, w64, ◌≡◌, sym, ap, ◌∙◌}
 use Rattle.clmodel.specs.Run.{byte_at}
 use Rattle.replay.proofs.Showing.{never, same_byte, reads_byte, reads_none}
 use Rattle.replay.proofs.faults.reads_unset.Goals as goal

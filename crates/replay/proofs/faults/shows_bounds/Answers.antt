@@ -1,4 +1,4 @@
-use Rattle.std.proofs.Common.{rules, to_z, of_z, w64, ◌≡◌, ◌/◌, ◌∙◌, Some, None, true, false, sym, ap, subst}
+use Rattle.std.proofs.Common.{rules, to_z, of_z, w64, ◌≡◌, ◌/◌, ◌∙◌, sym, ap, subst}
 use Rattle.std.specs.Prelude.{is_some}
 use Rattle.std.specs.Bool.{Decides}
 use Rattle.std.proofs.lemmas.Bool.{false≢true}

@@ -1,4 +1,4 @@
-use Rattle.std.proofs.Common.{◌≡◌, ◌/◌, sym, ap, ◌∙◌, refl, rules}
+use Rattle.std.proofs.Common.{◌≡◌, ◌/◌, sym, ap, ◌∙◌}
 use Rattle.std.proofs.lemmas.Result.{IfOk-weaker}
 use Rattle.clmodel.specs.Launch.{group_of}
 use Rattle.replay.proofs.Showing.{diverges}
