@@ -20,7 +20,7 @@ use Rattle.clmodel.specs.declared.schedule.Event.TheVariants.{Release}
 use Rattle.clmodel.proofs.Steps.{if_true, if_false, lowest_some, lowest_least, lowest_finds, lowest_is_none}
 use Rattle.objects.proofs.Lists.{get_set}
 use Rattle.replay_play.specs.Items.{acts_of, AreAlike, AreAt, AreAnswered}
-use Rattle.replay_play.specs.Launches.{IsRunnable}
+use Rattle.launches.specs.Groups.{IsRunnable}
 use Rattle.replay_play.specs.States.{IsGroupIn, IsPaced, Tells, Gathers, passed}
 use Rattle.replay_play.specs.declared.group.Group.{Group}
 use Rattle.replay_play.specs.declared.slot.Slot.{Slot}

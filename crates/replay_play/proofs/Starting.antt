@@ -11,7 +11,7 @@ use Rattle.clmodel.specs.declared.access.Region.TheVariants as region
 use Rattle.clmodel.proofs.Steps.{none_some, some_inj}
 use Rattle.objects.specs.Objects.{SpacesHold}
 use Rattle.replay_play.specs.Items.{acts_of}
-use Rattle.replay_play.specs.Launches.{filled}
+use Rattle.launches.specs.Groups.{filled}
 use Rattle.replay_play.specs.States.{IsGroupIn, IsNew, Tells}
 use Rattle.replay_play.specs.declared.group.Group.{Group}
 use Rattle.replay_play.specs.declared.slot.Slot.{Slot}

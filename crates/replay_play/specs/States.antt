@@ -15,7 +15,7 @@ use Rattle.clmodel.specs.declared.action.Stop.{Stop}
 use Rattle.clmodel.specs.declared.schedule.Event.{Event}
 use Rattle.objects.specs.Objects.{SpacesHold}
 use Rattle.replay_play.specs.Items.{acts_of}
-use Rattle.replay_play.specs.Launches.{IsRunnable}
+use Rattle.launches.specs.Groups.{IsRunnable}
 use Rattle.replay_play.specs.declared.group.Group.{Group}
 use Rattle.replay_play.specs.declared.group.Performed.{Performed}
 use Rattle.replay_play.specs.declared.player.Player.{Player}

@@ -3,9 +3,7 @@
 
 mod group;
 mod members;
-mod playable;
 mod player;
 mod slot;
 
-pub use playable::Playable;
 pub use player::Player;

@@ -4,14 +4,14 @@ ghost use Rattle.std.specs.Prelude.{◌≡◌, ◌≤◌, length, IfOk, OnOk};
 ghost use Rattle.clmodel.specs.declared.action.Answer.TheVariants.{Done};
 ghost use Rattle.replay_play.specs.Items.{AreAlike, AreAt, AreAnswered};
 
-use crate::playable::Playable;
 use crate::slot::Slot;
 use clmodel::action::{Answer, Stop};
+use launches::Runnable;
 use std::alloc::{AllocError, Global};
 
 /// Whether the items from the first on, below an end, are at a stop: a walk over them, up to the first one that isn't. An error is out of
 /// memory.
-pub fn are_at<'a, D: Playable>(
+pub fn are_at<'a, D: Runnable>(
     items: &mut Vec<Slot<'a>>,
     alloc: Global,
     launch: &'a D,
@@ -32,7 +32,7 @@ pub fn are_at<'a, D: Playable>(
 }
 
 /// Answers the items from the first on, below an end, that their barrier is passed. An error is out of memory.
-pub fn answer_all<'a, D: Playable>(
+pub fn answer_all<'a, D: Runnable>(
     items: &mut Vec<Slot<'a>>,
     alloc: Global,
     launch: &'a D,

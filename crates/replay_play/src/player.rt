@@ -7,16 +7,16 @@ ghost use Rattle.clmodel.specs.Run.{State, byte_at, next_action, released, start
 ghost use Rattle.clmodel.specs.declared.action.Action.TheVariants as action;
 ghost use Rattle.clmodel.specs.declared.action.Instance.{Instance};
 ghost use Rattle.clmodel.specs.declared.schedule.Event.TheVariants as event;
-ghost use Rattle.replay_play.specs.Launches.{IsRunnable, filled};
+ghost use Rattle.launches.specs.Groups.{IsRunnable, filled};
 ghost use Rattle.replay_play.specs.States.{ActsNext, Gathers, IsAt, IsPlayed};
 
 use crate::group::{Group, new_groups};
 use crate::members::{answer_all, are_at};
-use crate::playable::Playable;
 use crate::slot::{Slot, waiting_items};
 use clmodel::access::{Access, Object, Operation};
 use clmodel::action::{Action, Fences, Stop};
 use clmodel::schedule::Event;
+use launches::Runnable;
 use spaces_base::{Plain, Space, first_byte};
 use std::alloc::{AllocError, Global};
 
@@ -31,7 +31,7 @@ pub struct Player<'a, D> {
     log: Vec<Access>,
 }
 
-impl<'a, D: Playable> Player<'a, D> {
+impl<'a, D: Runnable> Player<'a, D> {
     /// A launch of so many work-groups before its first event (OpenCL 1.2, section 3.2), with spaces for its buffers that hold their first bytes.
     /// An error is out of memory.
     pub fn new(

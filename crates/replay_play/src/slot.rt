@@ -6,10 +6,10 @@ ghost use Rattle.clmodel.specs.declared.action.Answer.{Answer};
 ghost use Rattle.replay_play.specs.Items.{acts_of, is_at, IsAsked};
 ghost use Rattle.replay_play.specs.declared.slot.Slot.TheVariants as slot;
 
-use crate::playable::Playable;
 use clmodel::action::{Action, Answer, Stop};
 use divergence::same_stop;
 use item_step::Item;
+use launches::Runnable;
 use std::alloc::{AllocError, Global};
 
 /// A work-item as it is played (OpenCL 1.2, section 3.2). It is started when it is first asked, and one that has ended keeps no memory.
@@ -49,7 +49,7 @@ fn stop_of(action: Action) -> Option<Stop>
 
 impl<'a> Slot<'a> {
     /// Starts the item where it wasn't asked yet. An error is out of memory.
-    fn start<D: Playable>(
+    fn start<D: Runnable>(
         &mut self,
         alloc: Global,
         launch: &'a D,
@@ -65,7 +65,7 @@ impl<'a> Slot<'a> {
     }
 
     /// The action that the item makes next. An error is out of memory.
-    pub fn next<D: Playable>(
+    pub fn next<D: Runnable>(
         &mut self,
         alloc: Global,
         launch: &'a D,
@@ -86,7 +86,7 @@ impl<'a> Slot<'a> {
     }
 
     /// Whether the item is at a stop. An error is out of memory.
-    pub fn is_at<D: Playable>(
+    pub fn is_at<D: Runnable>(
         &mut self,
         alloc: Global,
         launch: &'a D,
@@ -103,7 +103,7 @@ impl<'a> Slot<'a> {
     }
 
     /// The item's next action is answered. An error is out of memory.
-    pub fn answer<D: Playable>(
+    pub fn answer<D: Runnable>(
         &mut self,
         alloc: Global,
         launch: &'a D,

@@ -6,11 +6,11 @@ use Rattle.replay_play.proofs.Walks.{answered_none, answered_more}
 use Rattle.replay_play.proofs.members.answer_all.Goals as goal
 
 pub loop-item-init : goal.loop-item-init
-loop-item-init g c = answered_none (g.D.Playable.launch c.args.launch.now) c.args.first Done c.args.items.now.items
+loop-item-init g c = answered_none (g.D.Described.launch c.args.launch.now) c.args.first Done c.args.items.now.items
 
 pub loop-item-preserved : goal.loop-item-preserved
 loop-item-preserved g c =
-    let l = g.D.Playable.launch c.args.launch.now in
+    let l = g.D.Described.launch c.args.launch.now in
     let xs = c.loop-item.items.items in
     let k = c.loop-item.item in
     let x = c.index_mut.result.now in
@@ -21,4 +21,4 @@ loop-item-preserved g c =
 pub returns : goal.returns
 returns g c =
     let e : c.loop-item.item ≡ c.args.end = omega (arith, c.loop-item-test.false, c.loop-item.auto.item-end, c.requires.order) in
-    subst (λ z. AreAnswered (g.D.Playable.launch c.args.launch.now) c.args.first z Done c.args.items.now.items c.loop-item.items.items) e c.loop-item.invariant
+    subst (λ z. AreAnswered (g.D.Described.launch c.args.launch.now) c.args.first z Done c.args.items.now.items c.loop-item.items.items) e c.loop-item.invariant

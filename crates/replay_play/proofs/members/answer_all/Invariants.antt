@@ -3,4 +3,4 @@ use Rattle.replay_play.specs.Items.{AreAnswered}
 use Rattle.replay_play.proofs.members.answer_all.Given as goal
 
 abbrev pub invariant-loop-item : goal.invariant-loop-item
-invariant-loop-item g l = AreAnswered (g.D.Playable.launch l.fn.launch) l.fn.first l.item Done l.fn.items.items l.items.items
+invariant-loop-item g l = AreAnswered (g.D.Described.launch l.fn.launch) l.fn.first l.item Done l.fn.items.items l.items.items

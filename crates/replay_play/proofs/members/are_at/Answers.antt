@@ -5,7 +5,7 @@ use Rattle.replay_play.proofs.members.are_at.Goals as goal
 
 pub returns-in_err-is_at-clause-same : goal.returns-in_err-is_at-clause-same
 returns-in_err-is_at-clause-same g c =
-    let l = g.D.Playable.launch c.args.launch.now in
+    let l = g.D.Described.launch c.args.launch.now in
     let xs = c.loop-item.items.items in
     let k = c.loop-item.item in
     let x = c.index_mut.result.now in
@@ -15,7 +15,7 @@ returns-in_err-is_at-clause-same g c =
 
 pub returns-then-not-branch-clause-same : goal.returns-then-not-branch-clause-same
 returns-then-not-branch-clause-same g c =
-    let l = g.D.Playable.launch c.args.launch.now in
+    let l = g.D.Described.launch c.args.launch.now in
     let xs = c.loop-item.items.items in
     let k = c.loop-item.item in
     let x = c.index_mut.result.now in
@@ -25,7 +25,7 @@ returns-then-not-branch-clause-same g c =
 
 pub returns-then-not-branch-clause-value : goal.returns-then-not-branch-clause-value
 returns-then-not-branch-clause-value g c =
-    let l = g.D.Playable.launch c.args.launch.now in
+    let l = g.D.Described.launch c.args.launch.now in
     let xs = c.loop-item.items.items in
     let k = c.loop-item.item in
     let x = c.index_mut.result.now in
@@ -36,7 +36,7 @@ returns-then-not-branch-clause-value g c =
 
 pub loop-item-preserved : goal.loop-item-preserved
 loop-item-preserved g c =
-    let l = g.D.Playable.launch c.args.launch.now in
+    let l = g.D.Described.launch c.args.launch.now in
     let xs = c.loop-item.items.items in
     let k = c.loop-item.item in
     let x = c.index_mut.result.now in

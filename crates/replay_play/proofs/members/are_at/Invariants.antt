@@ -5,6 +5,6 @@ use Rattle.replay_play.proofs.members.are_at.Given as goal
 abbrev pub invariant-loop-item : goal.invariant-loop-item
 invariant-loop-item g l =
     record {
-      alike : AreAlike (g.D.Playable.launch l.fn.launch) l.fn.items.items l.items.items;
-      at : AreAt (g.D.Playable.launch l.fn.launch) l.fn.items.items l.fn.first l.item l.fn.stop true;
+      alike : AreAlike (g.D.Described.launch l.fn.launch) l.fn.items.items l.items.items;
+      at : AreAt (g.D.Described.launch l.fn.launch) l.fn.items.items l.fn.first l.item l.fn.stop true;
     }

@@ -2,7 +2,7 @@ use Rattle.std.proofs.Common.{◌≡◌, ◌*◌, List, ◌∙◌, sym, ap, subs
 use Rattle.std.specs.Prelude.{replicate}
 use Rattle.clmodel.specs.Run.{start}
 use Rattle.clmodel.specs.declared.access.Access.{Access}
-use Rattle.replay_play.specs.Launches.{filled}
+use Rattle.launches.specs.Groups.{filled}
 use Rattle.replay_play.specs.States.{Tells}
 use Rattle.replay_play.specs.declared.slot.Slot.TheVariants as slot
 use Rattle.replay_play.proofs.Starting.{starts}
@@ -10,7 +10,7 @@ use Rattle.replay_play.proofs.player.Player.new.Goals as goal
 
 pub returns : goal.returns
 returns g c =
-    let l = g.D.Playable.launch c.args.launch.now in
+    let l = g.D.Described.launch c.args.launch.now in
     let counted : c.args.groups * c.group_size.result ≡ l.items = ap (λ z. c.args.groups * z) c.group_size.ensures.value ∙ c.requires.counted in
     let whole = ap (λ z. z * l.group_size) c.in_ok-groups.ensures.many ∙ c.requires.counted in
     record {

@@ -1,0 +1,7 @@
+pub mod Counting
+pub mod Played
+pub mod Reaching
+pub mod Showing
+pub mod Shown
+pub mod Spots
+pub mod Telling

@@ -1,0 +1,229 @@
+-- A conflict that a fault tells, and the spots of the log.
+use Rattle.std.proofs.Common.{◌≡◌, ℕ, zero, suc, ◌<◌, ◌⊎◌, ◌==◌, ◌&&◌, ◌||◌, not, Bool, true, false, if◌then◌else◌, Option, None, Some, List, [], ◌∷◌, ◌++◌, length, refl, sym, ap, ap₂, ◌∙◌, subst, inl, inr, arith, eqb-true, eq-eqb}
+use Rattle.std.specs.Prelude.{slice_get, reverse}
+use Rattle.std.specs.Bool.{Decides}
+use Rattle.std.proofs.lemmas.Bool.{and_parts, and_from, false≢true}
+use Rattle.std.proofs.lemmas.List.{reverse-reverse, reverse-append}
+use Rattle.clmodel.specs.Cells.{byte_count, covers}
+use Rattle.clmodel.specs.Launch.{Launch, same_region, clash, clash_at, group_of, location_of, rule_of, unordered, share, conflict_between, conflict}
+use Rattle.clmodel.specs.Law.{Logged, Shows}
+use Rattle.clmodel.specs.Run.{State}
+use Rattle.clmodel.specs.declared.access.Access.{Access}
+use Rattle.clmodel.specs.declared.access.AccessKind.{AccessKind}
+use Rattle.clmodel.specs.declared.access.Clash.{Clash}
+use Rattle.clmodel.specs.declared.access.Region.{Region}
+use Rattle.clmodel.specs.declared.access.Region.TheVariants as region
+use Rattle.clmodel.specs.declared.access.Rule.{Rule}
+use Rattle.clmodel.specs.declared.fault.Fault.TheVariants as fault
+use Rattle.clmodel.specs.declared.fault.Location.{Location}
+use Rattle.clmodel.specs.declared.fault.Location.TheVariants as location
+use Rattle.clmodel.proofs.Conflicts.{Meet}
+use Rattle.clmodel.proofs.Steps.{none_some, some_inj, if_some, if_true}
+use Rattle.clmodel.proofs.Swaps.{same_region_self, same_region-true}
+use Rattle.replay.specs.Spots.{number_in, HasSpot, AnyMeets}
+use Rattle.replay.specs.declared.conflicts.Spot.{Spot}
+
+-- ---- a log by places
+
+logged_in : (log : List Access) (x : Access) → Logged log x → (k : ℕ) × (slice_get log k ≡ Some x)
+logged_in [] x h = absurd h
+logged_in (y ∷ log) x (inl e) = (0, ap Some e)
+logged_in (y ∷ log) x (inr h) = let r = logged_in log x h in (suc r.0, r.1)
+
+logged_at : (log : List Access) (k : ℕ) (x : Access) → slice_get log k ≡ Some x → Logged log x
+logged_at [] k x e = absurd (none_some x e)
+logged_at (y ∷ log) zero x e = inl (some_inj y x e)
+logged_at (y ∷ log) (suc k) x e = inr (logged_at log k x e)
+
+logged_last : (xs : List Access) (x : Access) → Logged (xs ++ x ∷ []) x
+logged_last [] x = inl refl
+logged_last (y ∷ xs) x = inr (logged_last xs x)
+
+logged_front : (xs ys : List Access) (x : Access) → Logged xs x → Logged (xs ++ ys) x
+logged_front [] ys x h = absurd h
+logged_front (y ∷ xs) ys x (inl e) = inl e
+logged_front (y ∷ xs) ys x (inr h) = inr (logged_front xs ys x h)
+
+logged_reverse : (log : List Access) (x : Access) → Logged log x → Logged (reverse log) x
+logged_reverse [] x h = absurd h
+logged_reverse (y ∷ log) x h = subst (λ z. Logged z x) (sym (reverse-append (y ∷ []) log)) (go (logged_reverse log x) h)
+  where
+    go : (Logged log x → Logged (reverse log) x) → (y ≡ x) ⊎ Logged log x → Logged (reverse log ++ y ∷ []) x
+    go rest (inl e) = subst (Logged (reverse log ++ y ∷ [])) e (logged_last (reverse log) y)
+    go rest (inr h) = logged_front (reverse log) (y ∷ []) x (rest h)
+
+-- ---- two accesses that conflict
+
+and_three : (a b c : Bool) → (a && b && c) ≡ true → (a ≡ true) × (b ≡ true) × (c ≡ true)
+and_three true true true h = (refl, refl, refl)
+and_three true true false h = absurd (false≢true h)
+and_three true false c h = absurd (false≢true h)
+and_three false b c h = absurd (false≢true h)
+
+and_three_from : (a b c : Bool) → a ≡ true → b ≡ true → c ≡ true → (a && b && c) ≡ true
+and_three_from a b c p q r = ap₂ ◌&&◌ (ap₂ ◌&&◌ p q) r
+
+not_parts : (a : Bool) → not a ≡ true → a ≡ true → ⊥
+not_parts true h e = false≢true h
+not_parts false h e = false≢true e
+
+not_made : (a : Bool) → (a ≡ true → ⊥) → not a ≡ true
+not_made true h = absurd (h refl)
+not_made false h = refl
+
+or_at : (a b : Bool) → (not a || b) ≡ true → a ≡ true → b ≡ true
+or_at true b h e = h
+or_at false b h e = absurd (false≢true e)
+
+or_made : (a b : Bool) → (a ≡ true → b ≡ true) → (not a || b) ≡ true
+or_made true b h = h refl
+or_made false b h = refl
+
+meet_parts : (rule : Rule) (x y : Access) (byte : ℕ) → unordered rule x y ≡ true → share x y byte ≡ true → Meet rule x y byte
+meet_parts rule x y byte free both =
+    let u : (not (x.item == y.item) ≡ true) × ((not rule.one_group || (x.interval == y.interval)) ≡ true)
+    = and_parts (not (x.item == y.item)) (not rule.one_group || (x.interval == y.interval)) free in
+    let s : (same_region x.region y.region ≡ true) × (covers x.first (byte_count x.width) byte ≡ true) × (covers y.first (byte_count y.width) byte ≡ true)
+    = and_three (same_region x.region y.region) (covers x.first (byte_count x.width) byte) (covers y.first (byte_count y.width) byte) both in
+    record {
+      items = λ e. not_parts (x.item == y.item) u.0 (eq-eqb x.item y.item e);
+      intervals = λ e. eqb-true x.interval y.interval (or_at rule.one_group (x.interval == y.interval) u.1 e);
+      regions = same_region-true x.region y.region s.0;
+      first_covers = s.1;
+      second_covers = s.2;
+    }
+
+meet_from : (rule : Rule) (x y : Access) (byte : ℕ) → Meet rule x y byte → (unordered rule x y && share x y byte) ≡ true
+meet_from rule x y byte m =
+    and_from (unordered rule x y) (share x y byte)
+    (and_from (not (x.item == y.item)) (not rule.one_group || (x.interval == y.interval)) (not_made (x.item == y.item) (λ e. m.items (eqb-true x.item y.item e)))
+    (or_made rule.one_group (x.interval == y.interval) (λ e. eq-eqb x.interval y.interval (m.intervals e))))
+    (and_three_from (same_region x.region y.region) (covers x.first (byte_count x.width) byte) (covers y.first (byte_count y.width) byte)
+    (ap (same_region x.region) (sym m.regions) ∙ same_region_self x.region) m.first_covers m.second_covers)
+
+-- a conflict is a clash of two accesses that meet
+conflict_is : (l : Launch) (x y : Access) (byte : ℕ) (c : Clash) → conflict l x y byte ≡ Some c → Meet (rule_of l x y) x y byte × (clash x.kind y.kind ≡ Some c)
+unfolding conflict conflict_between
+conflict_is l x y byte c h =
+    let r : ((unordered (rule_of l x y) x y && share x y byte) ≡ true) × (clash_at x y byte ≡ Some c) = if_some (unordered (rule_of l x y) x y && share x y byte) (clash_at x y byte) c h in
+    let p : (unordered (rule_of l x y) x y ≡ true) × (share x y byte ≡ true) = and_parts (unordered (rule_of l x y) x y) (share x y byte) r.0 in
+    (meet_parts (rule_of l x y) x y byte p.0 p.1, r.1)
+
+conflict_made : (l : Launch) (x y : Access) (byte : ℕ) (c : Clash) → Meet (rule_of l x y) x y byte → clash x.kind y.kind ≡ Some c → conflict l x y byte ≡ Some c
+unfolding conflict conflict_between
+conflict_made l x y byte c m e = if_true (unordered (rule_of l x y) x y && share x y byte) (clash_at x y byte) None (meet_from (rule_of l x y) x y byte m) ∙ e
+
+-- what two accesses that are shown have alike
+pub shown_needs :
+    (l : Launch) (s : State) (c : Clash) (item : ℕ) (kind : AccessKind) (other : ℕ) (other_kind : AccessKind) (place : Location) (byte : ℕ)
+    → Shows l s (fault.Conflict c item kind other other_kind place byte) → (item ≡ other → ⊥) × (clash kind other_kind ≡ Some c)
+shown_needs l s c item kind other other_kind place byte (x, y, in_x, in_y, item_x, kind_x, item_y, kind_y, at, conflicts) =
+    let r = conflict_is l x y byte c conflicts in (λ e. r.0.items (item_x ∙ e ∙ sym item_y), ap₂ clash (sym kind_x) (sym kind_y) ∙ r.1)
+
+-- ---- the number of an object
+
+abbrev number_of : Region → ℕ
+number_of (region.Buffer number) = number
+number_of (region.Local group number) = number
+
+numbered : (l : Launch) (r : Region) → number_in (location_of l r) r ≡ Some (number_of r)
+numbered l (region.Buffer number) = refl
+numbered l (region.Local group number) = if_true (group == group) (Some number) None (eq-eqb group group refl)
+
+in_group : (told g h n m k : ℕ) → (if g == told then Some n else None) ≡ Some k → (if h == told then Some m else None) ≡ Some k → region.Local g n ≡ region.Local h m
+in_group told g h n m k p q =
+    let a : ((g == told) ≡ true) × (◌≡◌ {A = Option ℕ} (Some n) (Some k)) = if_some (g == told) (Some n) k p in
+    let b : ((h == told) ≡ true) × (◌≡◌ {A = Option ℕ} (Some m) (Some k)) = if_some (h == told) (Some m) k q in
+    ap₂ region.Local (eqb-true g told a.0 ∙ sym (eqb-true h told b.0)) (some_inj n k a.1 ∙ sym (some_inj m k b.1))
+
+one_region : (place : Location) (r s : Region) (n : ℕ) → number_in place r ≡ Some n → number_in place s ≡ Some n → r ≡ s
+one_region (location.Buffer name) (region.Buffer a) (region.Buffer b) n p q = ap region.Buffer (some_inj a n p ∙ sym (some_inj b n q))
+one_region (location.Buffer name) (region.Buffer a) (region.Local h b) n p q = absurd (none_some n q)
+one_region (location.Buffer name) (region.Local g a) s n p q = absurd (none_some n p)
+one_region (location.Local told name) (region.Buffer a) s n p q = absurd (none_some n p)
+one_region (location.Local told name) (region.Local g a) (region.Buffer b) n p q = absurd (none_some n q)
+one_region (location.Local told name) (region.Local g a) (region.Local h b) n p q = in_group told g h a b n p q
+
+-- ---- the conflict
+
+at_true : (b : Bool) (n m k : ℕ) → b ≡ true → (if b then n else 0) ≡ k → (if b then m else 0) ≡ k → n ≡ m
+at_true true n m k h p q = p ∙ sym q
+at_true false n m k h p q = absurd (false≢true h)
+
+at_both : (b : Bool) (n m : ℕ) → (b ≡ true → n ≡ m) → (if b then m else 0) ≡ (if b then n else 0)
+at_both true n m h = sym (h refl)
+at_both false n m h = refl
+
+-- the spots of the one partner, and an access of the other at one of them, say whether the conflict is shown
+pub shown :
+    (l : Launch) (log : List Access) (s : State) (c : Clash) (item : ℕ) (kind : AccessKind) (other : ℕ) (other_kind : AccessKind) (place : Location) (byte : ℕ) (one : Bool)
+    (among : Spot → Bool) (answer : Bool) → one ≡ (group_of l item == group_of l other) → log ≡ reverse s.log → (item ≡ other → ⊥) → clash kind other_kind ≡ Some c
+    → ((q : Spot) → Decides (among q) (HasSpot item kind place byte one log (length log) q)) → Decides answer (AnyMeets l other other_kind place byte one among log)
+    → Decides answer (Shows l s (fault.Conflict c item kind other other_kind place byte))
+shown l log s c item kind other other_kind place byte one among answer rule order apart clashes spots meets = (λ e. forth (meets.0 e), λ h. meets.1 (back h))
+  where
+    in_log : (k : ℕ) (x : Access) → slice_get log k ≡ Some x → Logged s.log x
+    in_log k x e = subst (λ z. Logged z x) (ap reverse order ∙ reverse-reverse s.log) (logged_reverse log x (logged_at log k x e))
+
+    place_in : (x : Access) → Logged s.log x → (k : ℕ) × (slice_get log k ≡ Some x)
+    place_in x h = logged_in log x (subst (λ z. Logged z x) (sym order) (logged_reverse s.log x h))
+
+    forth : AnyMeets l other other_kind place byte one among log → Shows l s (fault.Conflict c item kind other other_kind place byte)
+    forth (k, (y, at_y, (q, found, is_y, lies))) = pair ((spots q).0 found)
+      where
+        pair : HasSpot item kind place byte one log (length log) q → Shows l s (fault.Conflict c item kind other other_kind place byte)
+        pair (j, (x, below, at_x, is_x)) =
+            let regions : x.region ≡ y.region = one_region place x.region y.region q.number is_x.numbered is_y.numbered in (
+              x,
+              y,
+              in_log j x at_x,
+              in_log k y at_y,
+              is_x.of_item,
+              is_x.of_kind,
+              is_y.of_item,
+              is_y.of_kind,
+              ap (location_of l) regions ∙ lies,
+              conflict_made l x y byte c
+                  (record {
+                    items = λ e. apart (sym is_x.of_item ∙ e ∙ is_y.of_item);
+                    intervals = λ e. at_true one x.interval y.interval q.interval (rule ∙ ap₂ (λ a b. group_of l a == group_of l b) (sym is_x.of_item) (sym is_y.of_item) ∙ e) is_x.in_interval is_y.in_interval;
+                    regions = regions;
+                    first_covers = is_x.on_byte;
+                    second_covers = is_y.on_byte;
+                  })
+                  (ap₂ clash is_x.of_kind is_y.of_kind ∙ clashes),
+            )
+
+    back : Shows l s (fault.Conflict c item kind other other_kind place byte) → AnyMeets l other other_kind place byte one among log
+    back (x, y, in_x, in_y, item_x, kind_x, item_y, kind_y, at, conflicts) =
+        let r = conflict_is l x y byte c conflicts in
+        let q : Spot = record { number = number_of x.region; interval = if one then x.interval else 0 } in
+        let number : number_in place x.region ≡ Some (number_of x.region) = ap (λ z. number_in z x.region) (sym at) ∙ numbered l x.region in
+        let px = place_in x in_x in
+        let py = place_in y in_y in (
+          py.0,
+          (
+            y,
+            py.1,
+            (
+              q,
+              (spots q).1 (
+                px.0,
+                (x, at_length log px.0 x px.1, px.1, record { of_item = item_x; of_kind = kind_x; on_byte = r.0.first_covers; numbered = number; in_interval = refl }),
+              ),
+              record {
+                of_item = item_y;
+                of_kind = kind_y;
+                on_byte = r.0.second_covers;
+                numbered = ap (number_in place) (sym r.0.regions) ∙ number;
+                in_interval = at_both one x.interval y.interval (λ e. r.0.intervals (ap₂ (λ a b. group_of l a == group_of l b) item_x item_y ∙ sym rule ∙ e));
+              },
+              ap (location_of l) (sym r.0.regions) ∙ at,
+            ),
+          ),
+        )
+      where
+        at_length : (xs : List Access) (k : ℕ) (x : Access) → slice_get xs k ≡ Some x → k < length xs
+        at_length [] k x e = absurd (none_some x e)
+        at_length (y ∷ xs) zero x e = omega arith
+        at_length (y ∷ xs) (suc k) x e = let h = at_length xs k x e in omega (arith, h)

@@ -1,0 +1,66 @@
+use Rattle.std.proofs.Common.{◌∙◌, Some, map, ap, ap₂, sym, subst}
+use Rattle.std.specs.Bool.{Decides}
+use Rattle.std.proofs.lemmas.Result.{IfOk-weaker}
+use Rattle.clmodel.specs.Launch.{Launch}
+use Rattle.clmodel.specs.Law.{Reaches}
+use Rattle.clmodel.specs.Next.{launch_of}
+use Rattle.clmodel.specs.Outcome.{events_of}
+use Rattle.clmodel.specs.Run.{start}
+use Rattle.clmodel.specs.Setup.{buffer_names}
+use Rattle.item_step.specs.Launches.{setup_of}
+use Rattle.launches.specs.Groups.{IsRunnable, filled}
+use Rattle.spaces_base.specs.Buffers.{bytes_in}
+use Rattle.launches.specs.declared.loaded.LoadedLaunch.{LoadedLaunch}
+use Rattle.replay_play.specs.States.{IsAt}
+use Rattle.replay.proofs.Showing.{never}
+use Rattle.replay.proofs.Reaching.{never_reaches, reaches, map_map, played, unplayed}
+use Rattle.replay.proofs.replay.Goals as goal
+
+pub new-requires-clause-runnable : goal.new-requires-clause-runnable
+new-requires-clause-runnable c =
+    let same = ap₂ (λ x b. launch_of (setup_of x) (bytes_in b)) c.new-loaded.ensures.launch c.new-loaded.ensures.buffers in
+    subst IsRunnable (sym same) (c.setups_are_runnable.ensures (setup_of c.args.launch.now) (bytes_in c.args.buffers.now) c.group_count-groups.ensures.some c.requires)
+
+pub new-requires-clause-filled : goal.new-requires-clause-filled
+new-requires-clause-filled c =
+    let same = ap₂ (λ x b. launch_of (setup_of x) (bytes_in b)) c.new-loaded.ensures.launch c.new-loaded.ensures.buffers in
+    let bytes = bytes_in c.args.buffers.now in
+    c.in_ok-memory.ensures ∙ ap (map (λ name. map Some (bytes name))) c.buffer_names.ensures ∙ map_map (map Some) bytes (buffer_names (setup_of c.args.launch.now)) ∙ ap filled (sym same)
+
+-- the launch of a loaded one
+abbrev of_loaded : LoadedLaunch → Launch
+of_loaded loaded = launch_of (setup_of loaded.launch.now) (bytes_in loaded.buffers.now)
+
+pub returns-then-not-branch : goal.returns-then-not-branch
+returns-then-not-branch c =
+    let same = ap₂ (λ x b. launch_of (setup_of x) (bytes_in b)) c.new-loaded.ensures.launch c.new-loaded.ensures.buffers in
+    let l = of_loaded c.new-loaded.result in
+    let events = events_of c.args.schedule.now in
+    let f = c.args.fault.now in
+    never
+    (subst (λ z. Reaches z events f → ⊥) same
+    (never_reaches l events f
+    (unplayed l (start l) events (IsAt {D = LoadedLaunch} of_loaded l c.play_schedule.new.player) c.in_ok-play_schedule.field-0
+    (c.in_ok-play_schedule.ensures l (start l) c.in_ok-player.ensures) c.if-not-branch.true)))
+
+pub shows-requires : goal.shows-requires
+shows-requires c =
+    let l = of_loaded c.new-loaded.result in
+    let events = events_of c.args.schedule.now in
+    let p =
+    played l (start l) events (IsAt {D = LoadedLaunch} of_loaded l c.play_schedule.new.player) c.in_ok-play_schedule.field-0
+    (c.in_ok-play_schedule.ensures l (start l) c.in_ok-player.ensures) c.if-not-branch.false in
+    (p.0, p.2)
+
+pub returns : goal.returns
+returns c =
+    let same = ap₂ (λ x b. launch_of (setup_of x) (bytes_in b)) c.new-loaded.ensures.launch c.new-loaded.ensures.buffers in
+    let l = of_loaded c.new-loaded.result in
+    let events = events_of c.args.schedule.now in
+    let f = c.args.fault.now in
+    let p =
+    played l (start l) events (IsAt {D = LoadedLaunch} of_loaded l c.play_schedule.new.player) c.in_ok-play_schedule.field-0
+    (c.in_ok-play_schedule.ensures l (start l) c.in_ok-player.ensures) c.if-not-branch.false in
+    IfOk-weaker c.shows.result _ _
+    (λ answer h. subst (λ z. Decides answer (Reaches z events f)) same (reaches l events f p.0 answer p.1 (h p.0 p.2)))
+    c.shows.ensures

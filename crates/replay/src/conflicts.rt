@@ -1,0 +1,173 @@
+//! Whether a log has a conflict that a fault tells.
+
+ghost use Rattle.std.specs.Prelude.{◌≡◌, length, IfOk, MatchOption, reverse};
+ghost use Rattle.std.specs.Bool.{Decides};
+ghost use Rattle.std.specs.HashSet.{contains};
+ghost use Rattle.clmodel.specs.Cells.{byte_count, covers};
+ghost use Rattle.clmodel.specs.Launch.{clash};
+ghost use Rattle.clmodel.specs.Law.{Shows};
+ghost use Rattle.clmodel.specs.Run.{State};
+ghost use Rattle.clmodel.specs.declared.fault.Fault.TheVariants as faults;
+ghost use Rattle.replay.specs.Spots.{number_in, same_spot, IsSpot, HasSpot, Meets, AnyMeets};
+
+use crate::places::is_at;
+use clmodel::access::{Access, AccessKind, Clash, Region};
+use clmodel::fault::Location;
+use launches::{Described, Runnable};
+use shadow_list::clash;
+use std::alloc::{AllocError, Global};
+use std::collections::HashSet;
+
+/// One of the two accesses that conflict, as a fault tells it.
+#[derive(Clone, Copy)]
+pub struct Partner {
+    pub item: u32,
+    pub kind: AccessKind,
+}
+
+/// Where two accesses conflict, as a fault tells it.
+#[derive(Clone, Copy)]
+pub struct Place<'a> {
+    pub location: &'a Location,
+    pub byte: u64,
+}
+
+/// Where a partner's access lies: the number of its object and, where barriers can order the two partners, its interval, else 0.
+#[derive(Clone, Copy, PartialEq, Eq, Hash)]
+pub struct Spot {
+    pub number: u32,
+    pub interval: u32,
+}
+
+/// The number of a region's object, where a location of this kind and group is told.
+fn number_in(location: &Location, region: Region) -> Option<u32>
+    ensures { result ≡ number_in location.now region }
+{
+    match region {
+        Region::Buffer(number) => match location {
+            Location::Buffer(_) => Some(number),
+            Location::Local { .. } => None,
+        },
+        Region::Local { group, number } => match location {
+            Location::Buffer(_) => None,
+            Location::Local { group: told, .. } if group == *told => Some(number),
+            Location::Local { .. } => None,
+        },
+    }
+}
+
+/// Whether an access is at this byte.
+fn is_on(access: &Access, byte: u64) -> bool
+    ensures { result ≡ covers access.now.first (byte_count access.now.width) byte }
+{
+    access.first <= byte && byte - access.first < access.width.bytes()
+}
+
+/// Where an access lies, if it is a partner's at the told byte.
+fn spot_of(partner: Partner, place: &Place<'_>, one_group: bool, access: &Access) -> Option<Spot>
+    ensures { MatchOption result ((spot : Spot) → IsSpot partner.item partner.kind place.now.location.now place.now.byte one_group access.now spot → ⊥) (IsSpot partner.item partner.kind place.now.location.now place.now.byte one_group access.now) }
+{
+    if access.item != partner.item || access.kind != partner.kind || !is_on(access, place.byte) {
+        return None;
+    }
+    let number = number_in(place.location, access.region)?;
+    let interval = if one_group { access.interval } else { 0 };
+    Some(Spot { number, interval })
+}
+
+/// Where the accesses of a log lie that are a partner's at the told byte. An error is out of memory.
+fn spots_of(
+    alloc: Global,
+    partner: Partner,
+    place: &Place<'_>,
+    one_group: bool,
+    log: &[Access],
+) -> Result<HashSet<Spot>, AllocError>
+    ensures { IfOk result (λ spots. (spot : Spot) → Decides (contains same_spot spots spot) (HasSpot partner.item partner.kind place.now.location.now place.now.byte one_group log.now (length log.now) spot)) }
+{
+    let mut spots = HashSet::new(alloc);
+    for access in log {
+        if let Some(spot) = spot_of(partner, place, one_group, access) {
+            spots.insert(spot)?;
+        }
+    }
+    Ok(spots)
+}
+
+/// Whether an access is a partner's at the told location and byte, and lies at one of these spots. An error is out of memory.
+fn meets<D: Described>(
+    launch: &D,
+    partner: Partner,
+    place: &Place<'_>,
+    one_group: bool,
+    spots: &HashSet<Spot>,
+    access: &Access,
+) -> Result<bool, AllocError>
+    ensures { IfOk result (λ yes. Decides yes (Meets (D.launch launch.now) partner.item partner.kind place.now.location.now place.now.byte one_group (contains same_spot spots.now) access.now)) }
+{
+    match spot_of(partner, place, one_group, access) {
+        Some(spot) if spots.contains(&spot) => is_at(launch, access.region, place.location),
+        _ => Ok(false),
+    }
+}
+
+/// Whether a log has such an access. An error is out of memory.
+fn any_meets<D: Described>(
+    launch: &D,
+    partner: Partner,
+    place: &Place<'_>,
+    one_group: bool,
+    spots: &HashSet<Spot>,
+    log: &[Access],
+) -> Result<bool, AllocError>
+    ensures { IfOk result (λ yes. Decides yes (AnyMeets (D.launch launch.now) partner.item partner.kind place.now.location.now place.now.byte one_group (contains same_spot spots.now) log.now)) }
+{
+    for access in log {
+        if meets(launch, partner, place, one_group, spots, access)? {
+            return Ok(true);
+        }
+    }
+    Ok(false)
+}
+
+/// A conflict, as a fault tells it.
+#[derive(Clone, Copy)]
+pub struct ToldConflict<'a> {
+    pub clash: Clash,
+    pub first: Partner,
+    pub second: Partner,
+    pub place: Place<'a>,
+}
+
+/// Whether two kinds of accesses conflict as a fault tells.
+fn clashes(kind: AccessKind, other: AccessKind, told: Clash) -> bool
+    ensures { Decides result (clash kind other ≡ Some told) }
+{
+    match clash(kind, other) {
+        Some(found) => found == told,
+        None => false,
+    }
+}
+
+/// Whether a log, the oldest access first, has a conflict (OpenCL 1.2, sections 3.3.1 and 6.12.8). It goes over the log twice, whatever
+/// conflicts there are. An error is out of memory.
+pub fn shows_conflict<D: Runnable>(
+    alloc: Global,
+    launch: &D,
+    log: &[Access],
+    told: &ToldConflict<'_>,
+) -> Result<bool, AllocError>
+    ensures { IfOk result (λ yes. (state : State) → log.now ≡ reverse state.log → Decides yes (Shows (D.launch launch.now) state
+        (faults.Conflict told.now.clash told.now.first.item told.now.first.kind told.now.second.item told.now.second.kind told.now.place.location.now told.now.place.byte))) }
+{
+    if told.first.item == told.second.item {
+        return Ok(false);
+    }
+    if !clashes(told.first.kind, told.second.kind, told.clash) {
+        return Ok(false);
+    }
+    let size = launch.group_size();
+    let one_group = told.first.item / size == told.second.item / size;
+    let spots = spots_of(alloc, told.first, &told.place, one_group, log)?;
+    any_meets(launch, told.second, &told.place, one_group, &spots, log)
+}

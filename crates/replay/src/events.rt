@@ -1,0 +1,59 @@
+//! The events of a schedule, played one after another.
+
+ghost use Rattle.std.specs.Prelude.{IfOk, [], ◌∷◌, replicate};
+ghost use Rattle.clmodel.specs.Launch.{Launch};
+ghost use Rattle.clmodel.specs.Outcome.{events_of};
+ghost use Rattle.clmodel.specs.Run.{State};
+ghost use Rattle.clmodel.specs.declared.schedule.Event.TheVariants as event;
+ghost use Rattle.replay_play.specs.States.{IsAt};
+ghost use Rattle.replay.specs.Played.{ArePlayed};
+
+use clmodel::schedule::{Event, Run, Schedule};
+use launches::Runnable;
+use replay_play::Player;
+use std::alloc::AllocError;
+
+/// Plays events of an item up to the first that isn't possible, and tells whether all are. An error is out of memory.
+fn play_items<D: Runnable>(
+    player: &mut Player<'_, D>,
+    item: u32,
+    count: u64,
+) -> Result<bool, AllocError>
+    requires { (launch : Launch) × (state : State) × IsAt D.launch launch player.old state }
+    ensures { IfOk result (λ yes. (launch : Launch) (state : State) → IsAt D.launch launch player.old state → ArePlayed launch state (replicate count (event.Item item)) (IsAt D.launch launch player.new) yes) }
+{
+    for _ in 0..count {
+        if !player.play(Event::Item(item))? {
+            return Ok(false);
+        }
+    }
+    Ok(true)
+}
+
+/// Plays the events of a run up to the first that isn't possible, and tells whether all are. An error is out of memory.
+fn play_run<D: Runnable>(player: &mut Player<'_, D>, run: Run) -> Result<bool, AllocError>
+    requires { (launch : Launch) × (state : State) × IsAt D.launch launch player.old state }
+    ensures { IfOk result (λ yes. (launch : Launch) (state : State) → IsAt D.launch launch player.old state → ArePlayed launch state (events_of (run ∷ [])) (IsAt D.launch launch player.new) yes) }
+{
+    match run {
+        Run::Item { item, count } => play_items(player, item, count),
+        Run::Release { group } => player.play(Event::Release(group)),
+    }
+}
+
+/// Plays the events of a schedule up to the first that isn't possible (OpenCL 1.2, section 3.2), and tells whether all are. An error is out of
+/// memory.
+pub fn play_schedule<D: Runnable>(
+    player: &mut Player<'_, D>,
+    schedule: &Schedule,
+) -> Result<bool, AllocError>
+    requires { (launch : Launch) × (state : State) × IsAt D.launch launch player.old state }
+    ensures { IfOk result (λ yes. (launch : Launch) (state : State) → IsAt D.launch launch player.old state → ArePlayed launch state (events_of schedule.now) (IsAt D.launch launch player.new) yes) }
+{
+    for run in schedule.as_slice() {
+        if !play_run(player, *run)? {
+            return Ok(false);
+        }
+    }
+    Ok(true)
+}
