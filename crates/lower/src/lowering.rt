@@ -74,7 +74,7 @@ fn list_kernel(
 }
 
 /// The code of the kernel of a name's number. Err(OutOfMemory) comes where memory is refused, or where the code's length or the number
-/// of a register or of a barrier passes 32 bits. That takes 2^28 - 20,001 parameters: by the laws `typed_kernels_are_short`,
+/// of a register or of a barrier passes 32 bits. That takes 2^28 - 20,000 parameters: by the laws `typed_kernels_are_short`,
 /// `typed_kernels_have_few_registers` and `typed_kernels_have_few_barriers` all else of a checked kernel is far below.
 pub fn lower_kernel(alloc: Global, checked: &Checked, number: u32) -> Result<Code, LowerFault>
     ensures code { IfOk result (λ code. IsLowered (program checked.now.tree) number code) }
