@@ -28,5 +28,8 @@ pub mod Places
 pub mod Lent
 pub mod Short
 pub mod FewSites
+pub mod Low
+pub mod LowStatements
+pub mod LowKernels
 pub mod ShortStatements
 pub mod ShortKernels

@@ -102,7 +102,7 @@ module _ (sizes : Sizes) (scope : Scope) where
   place_short level (Behind at pointer) = within (both (expr_short level pointer) single) (node_fits (term_size sizes pointer).nodes 1 (omega arith))
 
 -- each expression has a node
-some_node : (sizes : Sizes) (e : Term) → 1 ≤ (term_size sizes e).nodes
+pub some_node : (sizes : Sizes) (e : Term) → 1 ≤ (term_size sizes e).nodes
 some_node sizes (Number at value) = omega arith
 some_node sizes (Variable at name) = omega arith
 some_node sizes (Element at name index) = omega arith

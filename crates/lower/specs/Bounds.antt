@@ -7,6 +7,7 @@ use Rattle.clmodel.specs.Typing.{IsTypedProgram}
 use Rattle.clmodel.specs.Typing.Functions.{size_of}
 use Rattle.clmodel.specs.Typing.Sizes.{node_limit}
 use Rattle.lower_code.specs.Code.{kernel_code}
+use Rattle.lower.specs.Tables.{register_count}
 
 -- how many instructions a node has at most
 abbrev pub per_node : ℕ
@@ -25,3 +26,9 @@ unfoldable pub TypedKernelsFewBarriers : Type 0
 TypedKernelsFewBarriers =
     (program : Program) (name : ℕ) (f : Func) → IsTypedProgram program → kernel_in program.functions name ≡ Some f →
     all_sites (sites_in (functions_before program.functions name)) f.body ≤ node_limit
+
+-- Its registers are those of levels below the count of its parameters with that of its nodes and one more: so at most 320,016 besides 16 for each parameter.
+unfoldable pub TypedKernelsFewRegisters : Type 0
+TypedKernelsFewRegisters =
+    (program : Program) (name : ℕ) (f : Func) → IsTypedProgram program → kernel_in program.functions name ≡ Some f →
+    register_count (kernel_code (functions_before program.functions name) f) ≤ 16 * (length f.parameters + node_limit + 1)

@@ -74,8 +74,8 @@ fn list_kernel(
 }
 
 /// The code of the kernel of a name's number. Err(OutOfMemory) comes where memory is refused, or where the code's length or the number
-/// of one of its registers passes 32 bits. The length does so only by the kernel's parameters, of which nothing limits the number
-/// (`typed_kernels_are_short`); the number of a barrier is at most 20,000 (`typed_kernels_have_few_barriers`).
+/// of a register or of a barrier passes 32 bits. That takes 2^28 - 20,000 parameters: by the laws `typed_kernels_are_short`,
+/// `typed_kernels_have_few_registers` and `typed_kernels_have_few_barriers` all else of a checked kernel is far below.
 pub fn lower_kernel(alloc: Global, checked: &Checked, number: u32) -> Result<Code, LowerFault>
     ensures code { IfOk result (λ code. IsLowered (program checked.now.tree) number code) }
     ensures listed { IfOk result (λ code. Lists (program checked.now.tree).functions number code) }

@@ -2,7 +2,7 @@
 #![tactic(auto)]
 
 ghost use Rattle.lower.specs.Accepted.{ExpressionsSuit, PlacesSuit, ExpressionsFlat, ExpressionsSound, StatementsSound, KernelsGo, KernelsVerified, SuitFits, TypedKernelsVerified};
-ghost use Rattle.lower.specs.Bounds.{TypedKernelsShort, TypedKernelsFewBarriers};
+ghost use Rattle.lower.specs.Bounds.{TypedKernelsShort, TypedKernelsFewBarriers, TypedKernelsFewRegisters};
 
 /// A kernel's code is verified with the tables that are made from it, if its loops are nested no deeper than the limit, no two
 /// functions before it have one name, and its instructions suit the types of its parameters. Those of typed expressions, and of
@@ -31,4 +31,9 @@ pub fn typed_kernels_have_few_barriers()
 /// The code of each kernel of a typed program has at most 140,002 instructions besides one for each of its parameters.
 pub fn typed_kernels_are_short()
     ensures { TypedKernelsShort }
+{}
+
+/// The registers of each kernel of a typed program are at most 320,016 besides 16 for each of its parameters.
+pub fn typed_kernels_have_few_registers()
+    ensures { TypedKernelsFewRegisters }
 {}
