@@ -21,8 +21,16 @@ CODE = """0 argument r12, 0, __global int *
 6 end
 """
 
+# two work-items that stop apart
+APART = "program p 1\n__kernel void f() { if (get_local_id(0) < 1) barrier(CLK_LOCAL_MEM_FENCE); }\nkernel k p f\nlaunch k 2 2\n"
+# two that end
+EMPTY = "program q 1\n__kernel void f() { }\nkernel k q f\nlaunch k 2 2\n"
+SCHEDULE = "ticket 2\nfault 3 divergence item 0 barrier 0 item 1 end schedule -\n"
+
 # what is asked of a text, the text, what is written and the status
 ASKED = [
+    ("replay FILE SCHEDULE", APART, "yes\n", 0),
+    ("replay FILE SCHEDULE", EMPTY, "no\n", 1),
     ("run FILE", FIRST_RUN, "ok\nok\nok\nok\nclean\ndata 0700000009000000\n", 0),
     ("check FILE", STORE, "ok\n", 0),
     ("check FILE", "#", "syntax 1 BadByte at 0\n", 2),
@@ -45,10 +53,15 @@ LONG = ("buffer a 1000\n" + "read a 0 1000\n" * 20, "ok\n" + f"data {'00' * 1000
 HELD = 8_192
 
 
+def schedule_of(asked):
+    """What the file SCHEDULE holds, where it is asked for."""
+    return SCHEDULE if "SCHEDULE" in asked else None
+
+
 def cut(asked, text, whole, room, end="ROOM"):
     """The row of an output that takes some bytes of the whole, and fails."""
     title = f"{asked} of {text.splitlines()[0]}: {end} for {room} bytes of {len(whole)}"
-    return dict(title=title, text=text, output=whole[:room], error="clsim: cannot write\n", status=2,
+    return dict(title=title, text=text, schedule=schedule_of(asked), output=whole[:room], error="clsim: cannot write\n", status=2,
                 command=f"clsim {asked} > {end} {room}")
 
 
@@ -56,8 +69,8 @@ def rows():
     for asked, text, whole, status in ASKED:
         for room in range(len(whole)):
             yield cut(asked, text, whole, room)
-        yield dict(title=f"{asked} of {text.splitlines()[0]}: room for all", text=text, output=whole, status=status,
-                   command=f"clsim {asked} > ROOM {len(whole)}")
+        yield dict(title=f"{asked} of {text.splitlines()[0]}: room for all", text=text, schedule=schedule_of(asked), output=whole,
+                   status=status, command=f"clsim {asked} > ROOM {len(whole)}")
     text, whole = LONG
     for room in [*range(0, len(whole), 997), len(whole) - 1]:
         yield cut("run FILE", text, whole, room)

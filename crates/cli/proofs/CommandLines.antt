@@ -7,7 +7,7 @@ use Rattle.clap.specs.declared.parser.matches.ArgMatches.{ArgMatches}
 use Rattle.clap.specs.declared.parser.matches.SubCommand.{SubCommand}
 use Rattle.clap.specs.declared.parser.matches.ArgMatches.TheViews.{out-ArgMatches, out-SubCommand}
 use Rattle.cli.specs.declared.command_line.Invocation.{Invocation}
-use Rattle.cli.specs.CommandLine.{IsBudget, IsRun, IsCheck, IsDump, Holds}
+use Rattle.cli.specs.CommandLine.{IsBudget, IsRun, IsCheck, IsDump, IsReplay, Holds}
 
 -- no option was read where it isn't there
 pub no_option : {E : Type 0} (G : List ℕ → Result ℕ E → Type 0) (o : Option Text) (read : Option ℕ) → read ≡ None
@@ -52,4 +52,9 @@ holds_check m rows asked named held is =
 pub holds_dump : (m : ArgMatches) (rows : List Row) (asked : Invocation) → subcommand_name_of m ≡ Some (codes "dump")
     → option_map (λ p. p.1) (subcommand_rows_of m) ≡ Some rows → IsDump rows asked → Holds (subcommand_rows_of m) asked
 holds_dump m rows asked named held is =
-    subst (λ (o : Option (Text × List Row)). Holds o asked) (sym (rows_named m (codes "dump") rows named held)) (inr (inr (refl, is)))
+    subst (λ (o : Option (Text × List Row)). Holds o asked) (sym (rows_named m (codes "dump") rows named held)) (inr (inr (inl (refl, is))))
+
+pub holds_replay : (m : ArgMatches) (rows : List Row) (asked : Invocation) → subcommand_name_of m ≡ Some (codes "replay")
+    → option_map (λ p. p.1) (subcommand_rows_of m) ≡ Some rows → IsReplay rows asked → Holds (subcommand_rows_of m) asked
+holds_replay m rows asked named held is =
+    subst (λ (o : Option (Text × List Row)). Holds o asked) (sym (rows_named m (codes "replay") rows named held)) (inr (inr (inr (refl, is))))

@@ -22,7 +22,7 @@ pub record HasAnswered (budget : ℕ) (done : List Command) (now : Machine) (old
 pub answered_none : (budget : ℕ) (now : Machine) (s : Sink) → now ≡ opening budget → HasAnswered budget [] now s s (end_of [])
 answered_none budget now s e = record { replies = []; plays = e; wrote = wrote_none s; counts = refl }
 
-plays_more : (old mid new : Machine) (cs : List Command) (rs : List Reply) (c : Command) (r : Reply) → Plays old cs rs mid → Step mid c r new → Plays old (cs ++ c ∷ []) (rs ++ r ∷ []) new
+pub plays_more : (old mid new : Machine) (cs : List Command) (rs : List Reply) (c : Command) (r : Reply) → Plays old cs rs mid → Step mid c r new → Plays old (cs ++ c ∷ []) (rs ++ r ∷ []) new
 plays_more old mid new [] [] c r h s = let P : Machine → Type 0 = λ m. Step m c r new in (new, subst P h s, refl)
 plays_more old mid new [] (x ∷ rs) c r h s = absurd h
 plays_more old mid new (x ∷ cs) [] c r h s = absurd h

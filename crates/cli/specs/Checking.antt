@@ -3,6 +3,7 @@ use Rattle.std.specs.Prelude.{◌≡◌, ℕ, Bool, true, false, Option, None, S
 use Rattle.clmodel.specs.Tree.{Program}
 use Rattle.device_store.specs.Builds.{Builds}
 use Rattle.device_store.specs.declared.command.BuildFault.{BuildFault}
+use Rattle.cli.specs.declared.session.Reader.TheVariants as reader
 use Rattle.cli.specs.declared.session.RunFault.{RunFault}
 use Rattle.cli.specs.declared.session.RunFault.TheVariants as fault
 use Rattle.ends.specs.Sink.{Sink, Wrote, Stopped, CountsUp}
@@ -33,11 +34,15 @@ pub record Untold (rest : Option (List ℕ)) (old new : Sink) : Type 0 where
 
 -- why a check came to no end, and what it left
 abbrev pub Unchecked : Option (List ℕ) → ℕ → ℕ → Sink → Sink → RunFault → Type 0
-Unchecked rest failures failures' old new fault.Read = CountsUp failures failures' × (new ≡ old)
+Unchecked rest failures failures' old new (fault.Read reader.First) = CountsUp failures failures' × (new ≡ old)
+Unchecked rest failures failures' old new (fault.Read reader.Second) = ⊥
 Unchecked rest failures failures' old new fault.OutOfMemory = new ≡ old
 Unchecked rest failures failures' old new fault.Write = Untold rest old new
 Unchecked rest failures failures' old new (fault.BadLine n) = ⊥
 Unchecked rest failures failures' old new fault.NoSuchKernel = ⊥
+Unchecked rest failures failures' old new fault.BadSchedule = ⊥
+Unchecked rest failures failures' old new (fault.NotALaunch ticket) = ⊥
+Unchecked rest failures failures' old new (fault.CommandRefused ticket) = ⊥
 
 -- 0 where a source that was checked or dumped builds, else 2 (own)
 abbrev pub source_status_of : Result Bool RunFault → ℕ

@@ -32,13 +32,24 @@ kernel = record (new_rule (codes "KERNEL")) { required = true }
 abbrev pub dump_form : App
 dump_form = with_rule (with_rule (new_app (codes "dump")) file) kernel
 
+-- `SCRIPT`
+abbrev pub script : Rule
+script = record (new_rule (codes "SCRIPT")) { required = true }
+
+-- `SCHEDULE`
+abbrev pub schedule : Rule
+schedule = record (new_rule (codes "SCHEDULE")) { required = true }
+
+abbrev pub replay_form : App
+replay_form = with_rule (with_rule (new_app (codes "replay")) script) schedule
+
 -- `clsim run FILE [--budget N]`
 abbrev pub runs : App
 runs = with_subcommand (on_top (λ top. record top { subcommand_required = true }) (new_app (codes "clsim"))) run_form.top
 
--- `clsim run FILE [--budget N]`, `clsim check FILE` or `clsim dump FILE KERNEL`
+-- `clsim run FILE [--budget N]`, `clsim check FILE`, `clsim dump FILE KERNEL` or `clsim replay SCRIPT SCHEDULE`
 abbrev pub program : App
-program = with_subcommand (with_subcommand runs check_form.top) dump_form.top
+program = with_subcommand (with_subcommand (with_subcommand runs check_form.top) dump_form.top) replay_form.top
 
 -- the number of `--budget`, or 100,000 where it isn't there
 abbrev pub IsBudget : Option Text → ℕ → Type 0
@@ -54,24 +65,38 @@ abbrev pub IsRun : List Row → Invocation → Type 0
 IsRun rows (invocation.Run path options) = (first_of (codes "FILE") rows ≡ Some path.now) × GivesBudget rows options.budget
 IsRun rows (invocation.Check path) = ⊥
 IsRun rows (invocation.Dump path name) = ⊥
+IsRun rows (invocation.Replay script schedule) = ⊥
 
 -- a check of the file of these matches
 abbrev pub IsCheck : List Row → Invocation → Type 0
 IsCheck rows (invocation.Run path options) = ⊥
 IsCheck rows (invocation.Check path) = first_of (codes "FILE") rows ≡ Some path.now
 IsCheck rows (invocation.Dump path name) = ⊥
+IsCheck rows (invocation.Replay script schedule) = ⊥
 
 -- a dump of the kernel and of the file of these matches
 abbrev pub IsDump : List Row → Invocation → Type 0
 IsDump rows (invocation.Run path options) = ⊥
 IsDump rows (invocation.Check path) = ⊥
 IsDump rows (invocation.Dump path name) = (first_of (codes "FILE") rows ≡ Some path.now) × (first_of (codes "KERNEL") rows ≡ Some name.now)
+IsDump rows (invocation.Replay script schedule) = ⊥
+
+-- a replay of the schedule file on the script of these matches
+abbrev pub IsReplay : List Row → Invocation → Type 0
+IsReplay rows (invocation.Run path options) = ⊥
+IsReplay rows (invocation.Check path) = ⊥
+IsReplay rows (invocation.Dump path name) = ⊥
+IsReplay rows (invocation.Replay script schedule) =
+    (first_of (codes "SCRIPT") rows ≡ Some script.now) × (first_of (codes "SCHEDULE") rows ≡ Some schedule.now)
 
 -- the subcommand that was met, with its matches, is the form that is asked for
 abbrev pub Holds : Option (Text × List Row) → Invocation → Type 0
 Holds None asked = ⊥
 Holds (Some (name, rows)) asked =
-    (name ≡ codes "run") × IsRun rows asked ⊎ ((name ≡ codes "check") × IsCheck rows asked ⊎ (name ≡ codes "dump") × IsDump rows asked)
+    (name ≡ codes "run") × IsRun rows asked
+    ⊎ ((name ≡ codes "check") × IsCheck rows asked
+    ⊎ ((name ≡ codes "dump") × IsDump rows asked
+    ⊎ (name ≡ codes "replay") × IsReplay rows asked))
 
 -- the words' matches hold what is asked for
 abbrev pub AsksFor : List Text → Invocation → Type 0

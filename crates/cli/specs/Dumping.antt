@@ -9,6 +9,7 @@ use Rattle.lower.specs.Names.{kernel_number, LowersNamed}
 use Rattle.regcode.specs.Listing.{Listing}
 use Rattle.regcode.specs.Text.{text_of}
 use Rattle.simfile.specs.Lines.{check_line}
+use Rattle.cli.specs.declared.session.Reader.TheVariants as reader
 use Rattle.cli.specs.declared.session.RunFault.{RunFault}
 use Rattle.cli.specs.declared.session.RunFault.TheVariants as fault
 
@@ -32,11 +33,14 @@ pub record Lacks (program : Program) (kernel : List ℕ) (old new : Sink) : Type
 
 -- why a kernel's code wasn't told, and what was written
 abbrev pub Untold : Program → List ℕ → Sink → Sink → RunFault → Type 0
-Untold program kernel old new fault.Read = ⊥
+Untold program kernel old new (fault.Read by) = ⊥
 Untold program kernel old new fault.OutOfMemory = new ≡ old
 Untold program kernel old new fault.Write = Broke program kernel old new
 Untold program kernel old new (fault.BadLine n) = ⊥
 Untold program kernel old new fault.NoSuchKernel = Lacks program kernel old new
+Untold program kernel old new fault.BadSchedule = ⊥
+Untold program kernel old new (fault.NotALaunch ticket) = ⊥
+Untold program kernel old new (fault.CommandRefused ticket) = ⊥
 
 -- what is told of what a source builds to: the code of the kernel, or the line of the source's fault
 abbrev pub Tells : Result Program BuildFault → List ℕ → Sink → Sink → Bool → Type 0
@@ -73,8 +77,12 @@ pub record Missed (rest : Option (List ℕ)) (kernel : List ℕ) (old new : Sink
 
 -- why a dump came to no end, and what it left
 abbrev pub Undumped : Option (List ℕ) → List ℕ → ℕ → ℕ → Sink → Sink → RunFault → Type 0
-Undumped rest kernel failures failures' old new fault.Read = CountsUp failures failures' × (new ≡ old)
+Undumped rest kernel failures failures' old new (fault.Read reader.First) = CountsUp failures failures' × (new ≡ old)
+Undumped rest kernel failures failures' old new (fault.Read reader.Second) = ⊥
 Undumped rest kernel failures failures' old new fault.OutOfMemory = new ≡ old
 Undumped rest kernel failures failures' old new fault.Write = Broken rest kernel old new
 Undumped rest kernel failures failures' old new fault.NoSuchKernel = Missed rest kernel old new
 Undumped rest kernel failures failures' old new (fault.BadLine n) = ⊥
+Undumped rest kernel failures failures' old new fault.BadSchedule = ⊥
+Undumped rest kernel failures failures' old new (fault.NotALaunch ticket) = ⊥
+Undumped rest kernel failures failures' old new (fault.CommandRefused ticket) = ⊥

@@ -5,6 +5,7 @@ use Rattle.device.specs.Machine.{Machine, Step, opening}
 use Rattle.device_store.specs.declared.command.Command.{Command}
 use Rattle.device_store.specs.declared.command.Reply.{Reply}
 use Rattle.device_store.specs.declared.command.Reply.TheVariants as reply
+use Rattle.cli.specs.declared.session.Reader.TheVariants as reader
 use Rattle.cli.specs.declared.session.RunEnd.{RunEnd}
 use Rattle.cli.specs.declared.session.RunFault.{RunFault}
 use Rattle.cli.specs.declared.session.RunFault.TheVariants as fault
@@ -76,11 +77,15 @@ pub record Cut (rest : Option (List ℕ)) (budget : ℕ) (old new : Sink) : Type
 
 -- why a run came to no end, and what it left
 abbrev pub Failed : Option (List ℕ) → ℕ → ℕ → ℕ → Sink → Sink → RunFault → Type 0
-Failed rest failures failures' budget old new fault.Read = CountsUp failures failures' × (new ≡ old)
+Failed rest failures failures' budget old new (fault.Read reader.First) = CountsUp failures failures' × (new ≡ old)
+Failed rest failures failures' budget old new (fault.Read reader.Second) = ⊥
 Failed rest failures failures' budget old new (fault.BadLine n) = Misread rest n old new
 Failed rest failures failures' budget old new fault.OutOfMemory = new ≡ old
 Failed rest failures failures' budget old new fault.Write = Cut rest budget old new
 Failed rest failures failures' budget old new fault.NoSuchKernel = ⊥
+Failed rest failures failures' budget old new fault.BadSchedule = ⊥
+Failed rest failures failures' budget old new (fault.NotALaunch ticket) = ⊥
+Failed rest failures failures' budget old new (fault.CommandRefused ticket) = ⊥
 
 -- 2 where a command was refused or the run failed, else 1 where a launch faulted, else 0
 abbrev pub status_of : Result RunEnd RunFault → ℕ

@@ -6,7 +6,7 @@ ghost use Rattle.ends.specs.Sink.{Puts};
 ghost use Rattle.simfile.specs.Lines.{check_line};
 ghost use Rattle.cli.specs.Checking.{Checked, Unchecked, source_status_of};
 
-use crate::session::RunFault;
+use crate::session::{Reader, RunFault};
 use device_store::build::build;
 use device_store::command::BuildFault;
 use ends::{Read, ReadFault, Write, WriteFailed};
@@ -37,7 +37,7 @@ pub fn check_file<R: Read, W: Write>(
 {
     let source = match reader.read_all(alloc) {
         Ok(source) => source,
-        Err(ReadFault::Failed) => return Err(RunFault::Read),
+        Err(ReadFault::Failed) => return Err(RunFault::Read(Reader::First)),
         Err(ReadFault::OutOfMemory) => return Err(RunFault::OutOfMemory),
     };
     let fault = match build(alloc, source.as_slice()) {

@@ -5,7 +5,7 @@ ghost use Rattle.std.specs.Prelude.{◌≡◌, ◌≤◌, false, map, Ok, IfOk, 
 ghost use Rattle.clap.specs.Words.{AddsSubcommand, app_of, new_app, rule_of, found_of, rows_of, subcommand_rows_of};
 ghost use Rattle.clap.specs.declared.builder.command.Command.{Command};
 ghost use Rattle.clap.specs.declared.builder.command.Command.TheViews.{out-Command};
-ghost use Rattle.cli.specs.CommandLine.{file, budget, kernel, run_form, check_form, dump_form, runs, program, GivesBudget, IsRun, IsCheck, IsDump, Holds, AsksFor};
+ghost use Rattle.cli.specs.CommandLine.{file, budget, kernel, script, schedule, run_form, check_form, dump_form, replay_form, runs, program, GivesBudget, IsRun, IsCheck, IsDump, IsReplay, Holds, AsksFor};
 
 use crate::session::Options;
 use clap::builder::ValueParser;
@@ -22,6 +22,8 @@ pub enum Invocation<'a> {
     Check { file: &'a str },
     /// Writes the code of a kernel of the source of a file
     Dump { file: &'a str, kernel: &'a str },
+    /// Replays a schedule file on the script of a file
+    Replay { script: &'a str, schedule: &'a str },
 }
 
 /// The greatest budget of a run.
@@ -55,6 +57,24 @@ fn kernel<'a>(alloc: Global) -> Arg<'a>
     Arg::new(alloc, "KERNEL")
         .required(true)
         .help("The kernel's name")
+}
+
+/// The argument `SCRIPT`.
+fn script<'a>(alloc: Global) -> Arg<'a>
+    ensures rule { rule_of result ≡ script }
+    ensures local { result.global ≡ false }
+{
+    Arg::new(alloc, "SCRIPT").required(true).help("The script")
+}
+
+/// The argument `SCHEDULE`.
+fn schedule<'a>(alloc: Global) -> Arg<'a>
+    ensures rule { rule_of result ≡ schedule }
+    ensures local { result.global ≡ false }
+{
+    Arg::new(alloc, "SCHEDULE")
+        .required(true)
+        .help("The schedule file: a line `ticket T`, and a fault's line")
 }
 
 /// A form without arguments, and what help says of it.
@@ -102,6 +122,20 @@ fn dump_form<'a>(alloc: Global) -> Result<Command<'a>, AllocError>
     form.arg(kernel(alloc))
 }
 
+/// The form `replay SCRIPT SCHEDULE`.
+fn replay_form<'a>(alloc: Global) -> Result<Command<'a>, AllocError>
+    ensures form { IfOk result (λ form. app_of form ≡ replay_form) }
+    ensures local { IfOk result (λ form. (out-Command form).has_globals ≡ false) }
+{
+    let form = named(
+        alloc,
+        "replay",
+        "Replays a schedule and prints whether it leads to its fault",
+    )
+    .arg(script(alloc))?;
+    form.arg(schedule(alloc))
+}
+
 /// The budget of a run, the default where the option isn't there, and `None` where it is no budget.
 fn budget_of(run: &ArgMatches<'_>) -> Option<u32>
     ensures given { IfSome result (λ n. GivesBudget (rows_of (found_of run.now)) n) }
@@ -143,6 +177,15 @@ fn dump_of<'a>(dump: &ArgMatches<'a>) -> Option<Invocation<'a>>
     Some(Invocation::Dump { file, kernel })
 }
 
+/// What the matches of `replay` ask for.
+fn replay_of<'a>(replay: &ArgMatches<'a>) -> Option<Invocation<'a>>
+    ensures { IfSome result (λ asked. IsReplay (rows_of (found_of replay.now)) asked) }
+{
+    let script = replay.get_str("SCRIPT")?;
+    let schedule = replay.get_str("SCHEDULE")?;
+    Some(Invocation::Replay { script, schedule })
+}
+
 /// What the matches of a command line ask for, by the form that they hold.
 fn asked<'a>(matches: &ArgMatches<'a>) -> Option<Invocation<'a>>
     ensures { IfSome result (λ asked. Holds (subcommand_rows_of matches.now) asked) }
@@ -153,7 +196,10 @@ fn asked<'a>(matches: &ArgMatches<'a>) -> Option<Invocation<'a>>
     if let Some(check) = matches.subcommand_matches("check") {
         return check_of(check);
     }
-    dump_of(matches.subcommand_matches("dump")?)
+    if let Some(dump) = matches.subcommand_matches("dump") {
+        return dump_of(dump);
+    }
+    replay_of(matches.subcommand_matches("replay")?)
 }
 
 /// The forms of the command line, `run` alone.
@@ -185,7 +231,8 @@ fn forms<'a>(alloc: Global) -> Result<Command<'a>, AllocError>
 {
     let runs = runs(alloc)?;
     let runs_and_checks = with_form(runs, check_form(alloc))?;
-    with_form(runs_and_checks, dump_form(alloc))
+    let with_dumps = with_form(runs_and_checks, dump_form(alloc))?;
+    with_form(with_dumps, replay_form(alloc))
 }
 
 /// The error of a command line that holds no form.
@@ -208,8 +255,8 @@ fn command_by<'a>(forms: &mut Command<'a>, words: &'a [&'a str]) -> Result<Invoc
     }
 }
 
-/// Reads the words of a command line, the program's name first. The forms are `clsim run FILE [--budget N]`, `clsim check FILE`
-/// and `clsim dump FILE KERNEL`.
+/// Reads the words of a command line, the program's name first. The forms are `clsim run FILE [--budget N]`, `clsim check FILE`,
+/// `clsim dump FILE KERNEL` and `clsim replay SCRIPT SCHEDULE`.
 pub fn command<'a>(alloc: Global, words: &'a [&'a str]) -> Result<Invocation<'a>, Error>
     ensures { IfOk result (λ asked. AsksFor (map (λ word. word.now) words.entry.now) asked) }
 {

@@ -8,7 +8,7 @@ ghost use Rattle.regcode.specs.Text.{text_of};
 ghost use Rattle.cli.specs.Dumping.{Told, Untold, Dumped, Undumped};
 
 use crate::checking::tell;
-use crate::session::RunFault;
+use crate::session::{Reader, RunFault};
 use cltypes::Checked;
 use device_store::build::build;
 use ends::{Read, ReadFault, Write, WriteFailed};
@@ -64,7 +64,7 @@ pub fn dump_file<R: Read, W: Write>(
 {
     let source = match reader.read_all(alloc) {
         Ok(source) => source,
-        Err(ReadFault::Failed) => return Err(RunFault::Read),
+        Err(ReadFault::Failed) => return Err(RunFault::Read(Reader::First)),
         Err(ReadFault::OutOfMemory) => return Err(RunFault::OutOfMemory),
     };
     let checked = match build(alloc, source.as_slice()) {

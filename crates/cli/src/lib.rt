@@ -1,13 +1,15 @@
-//! The program's commands: scripts in and replies out, sources checked, and kernels shown as code.
+//! The program's commands: scripts in and replies out, sources checked, kernels shown as code, and schedules replayed.
 #![tactic(auto)]
 
 pub mod checking;
 pub mod command_line;
 pub mod dumping;
+pub mod replaying;
 pub mod session;
 
 pub use checking::check_file;
 pub use command_line::command;
 pub use dumping::dump_file;
 pub use ends::{Read, ReadFault, Write, WriteFailed};
+pub use replaying::replay_files;
 pub use session::{run, status};

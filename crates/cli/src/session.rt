@@ -47,24 +47,42 @@ pub struct RunEnd {
     pub refused: bool,
 }
 
-/// Why a run, a check or a dump came to no end.
+/// One of the readers of a command.
+#[derive(Clone, Copy, Debug, PartialEq, Eq)]
+pub enum Reader {
+    /// The script's or the source's
+    First,
+    /// The schedule file's
+    Second,
+}
+
+/// Why a run, a check, a dump or a replay came to no end.
 #[derive(Clone, Copy, Debug, PartialEq, Eq, Error)]
 pub enum RunFault {
-    /// 1: the reader failed. Nothing was written
+    /// 1: this reader failed. Nothing was written
     #[error("cannot read")]
-    Read,
-    /// 2: the writer failed. A beginning of the replies' text was written
+    Read(Reader),
+    /// 2: the writer failed. A beginning of the text was written
     #[error("cannot write")]
     Write,
     /// 3: the lowest bad line of a text that is no script, counted from 1. Nothing was written
     #[error("line {0}: bad line")]
     BadLine(usize),
-    /// 4: no memory is left to read the script. Nothing was written
+    /// 4: no memory is left. Nothing was written
     #[error("out of memory")]
     OutOfMemory,
     /// 5: no kernel of the source has the name. Nothing was written
     #[error("no such kernel")]
     NoSuchKernel,
+    /// 6: a text is no schedule file. Nothing was written
+    #[error("bad schedule file")]
+    BadSchedule,
+    /// 7: the command of the schedule file's ticket is no launch, or there is none. Nothing was written
+    #[error("command {0} is not a launch")]
+    NotALaunch(u64),
+    /// 8: the launch of the schedule file's ticket is refused, and not for want of memory. Nothing was written
+    #[error("command {0} is refused")]
+    CommandRefused(u64),
 }
 
 fn one_end(reply: &Reply, end: RunEnd) -> RunEnd
@@ -155,7 +173,7 @@ pub fn run<R: Read, W: Write>(
 {
     let bytes = match reader.read_all(alloc) {
         Ok(bytes) => bytes,
-        Err(ReadFault::Failed) => return Err(RunFault::Read),
+        Err(ReadFault::Failed) => return Err(RunFault::Read(Reader::First)),
         Err(ReadFault::OutOfMemory) => return Err(RunFault::OutOfMemory),
     };
     let commands = match read_script(alloc, bytes.as_slice()) {

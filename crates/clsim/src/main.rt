@@ -5,11 +5,16 @@ ghost use Rattle.std.specs.Prelude.{◌≡◌, ◌≤◌, IfOk};
 ghost use Rattle.std.specs.Process.{exit_status};
 ghost use Rattle.cli.specs.Session.{status_of};
 ghost use Rattle.cli.specs.Checking.{source_status_of};
+ghost use Rattle.cli.specs.Replaying.{replay_status_of};
 
+mod named_file;
+
+use crate::named_file::NamedFile;
 use cli::checking::{check_file, source_status};
 use cli::command_line::{Invocation, command};
 use cli::dumping::dump_file;
-use cli::session::{Options, RunEnd, RunFault, run, status};
+use cli::replaying::{replay_files, replay_status};
+use cli::session::{Options, Reader, RunEnd, RunFault, run, status};
 use std::io::{BufWriter, Printer};
 use std::process::ExitCode;
 use std::rt::Files;
@@ -22,7 +27,7 @@ fn open<'a, R: Files + Print + AllocGlobal>(
     file: &str,
 ) -> Result<(Input<R::File>, Output<Printer<'a, R>>), RunFault> {
     let Ok(reader) = fs::open(rt, file) else {
-        return Err(RunFault::Read);
+        return Err(RunFault::Read(Reader::First));
     };
     match BufWriter::new(rt.alloc(), io::writer(rt)) {
         Ok(writer) => Ok((Input::new(reader), Output::new(writer))),
@@ -56,10 +61,22 @@ fn dump_kernel<R: Files + Print + AllocGlobal>(
     dump_file(rt.alloc(), &mut reader, kernel, &mut writer)
 }
 
+/// Replays a schedule file on the script of a file, with the answer on standard output. The schedule file is opened once the script was
+/// read and found good.
+fn replay_schedule<R: Files + Print + AllocGlobal>(
+    rt: &R,
+    script: &str,
+    schedule: &str,
+) -> Result<bool, RunFault> {
+    let (mut reader, mut writer) = open(rt, script)?;
+    let mut file = NamedFile::new(rt, schedule);
+    replay_files(rt.alloc(), &mut reader, &mut file, &mut writer)
+}
+
 /// Tells on standard error why a file came to no end. Where that fails too, the status alone tells it.
 fn tell(rt: &impl Eprint, fault: RunFault, file: &str) {
     let _ = match fault {
-        RunFault::Read => eprintln!(rt; "clsim: {fault} {file}"),
+        RunFault::Read(_) => eprintln!(rt; "clsim: {fault} {file}"),
         _ => eprintln!(rt; "clsim: {fault}"),
     };
 }
@@ -84,6 +101,18 @@ fn end_source(rt: &impl Eprint, outcome: Result<bool, RunFault>, file: &str) -> 
     source_status(&outcome)
 }
 
+/// The status of a replay. A fault is told, with the file that couldn't be read.
+fn end_replay(rt: &impl Eprint, outcome: Result<bool, RunFault>, script: &str, schedule: &str) -> u8
+    ensures { result ≡ replay_status_of outcome }
+{
+    match outcome {
+        Ok(_) => {}
+        Err(RunFault::Read(Reader::Second)) => tell(rt, RunFault::Read(Reader::Second), schedule),
+        Err(fault) => tell(rt, fault, script),
+    }
+    replay_status(&outcome)
+}
+
 /// Does what the words of the command line ask for, and gives the status.
 fn perform<R: Files + Print + Eprint + AllocGlobal>(rt: &R, words: &[&str]) -> u8
     ensures { result ≤ 2 }
@@ -93,6 +122,10 @@ fn perform<R: Files + Print + Eprint + AllocGlobal>(rt: &R, words: &[&str]) -> u
         Ok(Invocation::Check { file }) => end_source(rt, check_source(rt, file), file),
         Ok(Invocation::Dump { file, kernel }) => {
             end_source(rt, dump_kernel(rt, file, kernel), file)
+        }
+        Ok(Invocation::Replay { script, schedule }) => {
+            let outcome = replay_schedule(rt, script, schedule);
+            end_replay(rt, outcome, script, schedule)
         }
         Err(error) => {
             let _ = rt.eprint(&error);

@@ -17,4 +17,5 @@ next {E} made forms all old form shape local same h =
 pub returns : goal.returns
 returns c =
     let checks = next c.check_form.result c.in_ok-runs.runs c.in_ok-runs_and_checks.runs_and_checks _ _ c.check_form.ensures.form c.check_form.ensures.local c.in_ok-runs.ensures c.in_ok-runs_and_checks.ensures in
-    IfOk-weaker c.with_form-2.result _ _ (λ forms h. next c.dump_form.result c.in_ok-runs_and_checks.runs_and_checks forms _ _ c.dump_form.ensures.form c.dump_form.ensures.local checks h) c.with_form-2.ensures
+    let dumps = next c.dump_form.result c.in_ok-runs_and_checks.runs_and_checks c.in_ok-with_dumps.with_dumps _ _ c.dump_form.ensures.form c.dump_form.ensures.local checks c.in_ok-with_dumps.ensures in
+    IfOk-weaker c.with_form-3.result _ _ (λ forms h. next c.replay_form.result c.in_ok-with_dumps.with_dumps forms _ _ c.replay_form.ensures.form c.replay_form.ensures.local dumps h) c.with_form-3.ensures

@@ -1,0 +1,75 @@
+-- The commands before a launch, one by one, and what a replay comes to.
+use Rattle.std.proofs.Common.{◌≡◌, ℕ, ◌<◌, zero, suc, Bool, true, false, Option, Some, List, [], ◌∷◌, ◌++◌, length, take, refl, sym, subst, arith}
+use Rattle.std.specs.Prelude.{Decides, slice_get}
+use Rattle.std.proofs.lemmas.List.Elements.{All-push}
+use Rattle.clmodel.specs.Law.{Reaches}
+use Rattle.clmodel.specs.Next.{launch_of}
+use Rattle.clmodel.specs.Outcome.{events_of}
+use Rattle.clmodel.specs.Setup.{Setup}
+use Rattle.clmodel.specs.declared.fault.Fault.{Fault}
+use Rattle.clmodel.specs.declared.schedule.Run.{Run}
+use Rattle.clmodel.specs.declared.setup.Range.{Range}
+use Rattle.device.specs.Machine.{Machine, Step, kernel_of, setup_of}
+use Rattle.device.specs.Prepared.{IsPrepared}
+use Rattle.device_store.specs.declared.command.Command.{Command}
+use Rattle.device_store.specs.declared.command.Reply.{Reply}
+use Rattle.ends.specs.Sink.{Sink}
+use Rattle.item_step.specs.Launches as launches
+use Rattle.item_step.specs.declared.launch.Launch.{Launch}
+use Rattle.spaces_base.specs.Buffers.{bytes_in}
+use Rattle.spaces_base.specs.Tables.{Table}
+use Rattle.cli.specs.Replaying.{HadMemory, Leads, Performs, Replays, ReadsScript, ReadsFile, Unjudged, Unreplayed, Missed, Refused}
+use Rattle.cli.specs.declared.session.RunFault.{RunFault}
+use Rattle.cli.specs.declared.session.RunFault.TheVariants as fault
+use Rattle.cli.proofs.Sessions.{plays_more}
+
+pub leads_none : (m : Machine) → Leads m [] m
+leads_none m = record { replies = []; plays = refl; had_memory = λ k d h. absurd (omega arith) }
+
+pub leads_more : {old now new : Machine} {done : List Command} (c : Command) → Leads old done now → Performs now c new → Leads old (done ++ c ∷ []) new
+leads_more {old} {now} {new} {done} c h p = record {
+  replies = h.replies ++ p.reply ∷ [];
+  plays = plays_more old now new done h.replies c p.reply h.plays p.step;
+  had_memory = All-push HadMemory h.replies p.reply h.had_memory p.had_memory;
+}
+
+-- the last of the first n + 1 elements
+pub last_taken : {A : Type 0} (xs rest : List A) (n : ℕ) (x : A) → n < length xs → take (suc n) xs ≡ rest ++ x ∷ [] → slice_get xs n ≡ Some x
+last_taken [] rest n x h e = absurd (omega arith)
+last_taken (y ∷ xs) [] zero x h e = cc
+last_taken (y ∷ xs) (z ∷ []) zero x h e = cc
+last_taken (y ∷ xs) (z ∷ w ∷ rest) zero x h e = cc
+last_taken (y ∷ []) [] (suc n) x h e = absurd (omega arith)
+last_taken (y ∷ w ∷ xs) [] (suc n) x h e = cc
+last_taken (y ∷ xs) (z ∷ rest) (suc n) x h e =
+    let tail : take (suc n) xs ≡ rest ++ x ∷ [] = cc in
+    last_taken xs rest n x (omega arith) tail
+
+decided : {P : Type 0} (yes : Bool) → (yes ≡ true → P) → (yes ≡ false → P → ⊥) → Decides yes P
+decided true y n = (y, λ p. refl)
+decided false y n = (y, λ p. absurd (n refl p))
+
+-- a prepared launch that was replayed
+pub replays : {m : Machine} {kernel : List ℕ} {range : Range} (launch : Launch) (buffers : Table (List ℕ)) (f : Fault) (runs : List Run) (yes : Bool)
+    → IsPrepared m kernel range launch → buffers ≡ m.buffers
+    → (yes ≡ true → Reaches (launch_of (launches.setup_of launch) (bytes_in buffers)) (events_of runs) f)
+    → (yes ≡ false → Reaches (launch_of (launches.setup_of launch) (bytes_in buffers)) (events_of runs) f → ⊥)
+    → Replays m kernel range f runs yes
+replays {m} {kernel} {range} launch buffers f runs answer p e y n =
+    let D : Setup → Table (List ℕ) → Type 0 = λ s b. Decides answer (Reaches (launch_of s (bytes_in b)) (events_of runs) f) in
+    let here : D (launches.setup_of launch) buffers = decided answer y n in
+    record { admitted = p.admitted; decides = subst (λ (b : Table (List ℕ)). D (setup_of m (kernel_of m kernel) range) b) e (subst (λ (s : Setup). D s buffers) p.setup here) }
+
+-- a replay that came to no answer behind its two texts
+pub unreplayed : {rest rest' : Option (List ℕ)} {commands : List Command} {ticket : ℕ} {f : Fault} {runs : List Run} (a a' b b' : ℕ) (s : Sink) (why : RunFault)
+    → ReadsScript rest commands → ReadsFile rest' ticket f runs → Unjudged commands ticket why → Unreplayed rest rest' a a' b b' s s why
+unreplayed a a' b b' s (fault.Read by) script file h = absurd h
+unreplayed a a' b b' s fault.Write script file h = absurd h
+unreplayed a a' b b' s (fault.BadLine n) script file h = absurd h
+unreplayed a a' b b' s fault.OutOfMemory script file h = refl
+unreplayed a a' b b' s fault.NoSuchKernel script file h = absurd h
+unreplayed a a' b b' s fault.BadSchedule script file h = absurd h
+unreplayed {rest} {rest'} {commands} {ticket} {f} {runs} a a' b b' s (fault.NotALaunch named) script file h =
+    (subst (λ (n : ℕ). Missed rest rest' n) (sym h.0) (record { commands = commands; fault = f; runs = runs; script = script; file = file; missed = h.1 }), refl)
+unreplayed {rest} {rest'} {commands} {ticket} {f} {runs} a a' b b' s (fault.CommandRefused named) script file h =
+    (subst (λ (n : ℕ). Refused rest rest' n) (sym h.0) (record { commands = commands; fault = f; runs = runs; script = script; file = file; refuses = h.1 }), refl)

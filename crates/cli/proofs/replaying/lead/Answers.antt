@@ -1,0 +1,27 @@
+use Rattle.std.proofs.Common.{◌≡◌, [], ◌∷◌, ◌++◌, refl, ap, sym, ◌∙◌, append_assoc, rules, arith, List, length, subst}
+use Rattle.std.specs.Vec.Iter.{into_iter_items}
+use Rattle.std.proofs.lemmas.List.{append-nil}
+use Rattle.device.specs.Machine.{machine_of}
+use Rattle.device_store.specs.declared.command.Command.{Command}
+use Rattle.cli.specs.Replaying.{Leads}
+use Rattle.cli.proofs.Replays.{leads_none, leads_more}
+use Rattle.cli.proofs.replaying.lead.Goals as goal
+
+nothing_left : {A : Type 0} (xs : List A) → length xs ≡ 0 → xs ≡ []
+nothing_left [] h = refl
+nothing_left (x ∷ xs) h = absurd (omega (arith, h))
+
+pub loop-command-init : goal.loop-command-init
+loop-command-init c = record { split = search rules; led = leads_none _ }
+
+pub loop-command-preserved : goal.loop-command-preserved
+loop-command-preserved c = record {
+  split = c.loop-command.invariant.split ∙ (ap (λ l. c.loop-command.yielded ++ l) c.in-Some.ensures.steps.0 ∙ sym (append_assoc c.loop-command.yielded (c.in-Some.command ∷ []) (into_iter_items c.next.new.self)));
+  led = leads_more c.in-Some.command c.loop-command.invariant.led (c.lacks_memory.ensures c.if-lacks_memory.false);
+}
+
+pub returns : goal.returns
+returns c =
+    let empty = nothing_left (into_iter_items c.loop-command.command-iterator) (omega (arith, c.in-None.ensures.steps.0, c.loop-command.command-iterator.rest.ok)) in
+    let all : c.args.commands.items ≡ c.loop-command.yielded = c.loop-command.invariant.split ∙ (ap (λ l. c.loop-command.yielded ++ l) empty ∙ append-nil c.loop-command.yielded) in
+    subst (λ (l : List Command). Leads (machine_of c.args.device.now) l (machine_of c.loop-command.device)) (sym all) c.loop-command.invariant.led

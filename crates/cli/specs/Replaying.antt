@@ -1,0 +1,204 @@
+-- A schedule file that is replayed on a launch of a script.
+use Rattle.std.specs.Prelude.{◌≡◌, ℕ, Bool, true, false, Decides, ⊤, Option, None, Some, Result, Ok, Err, List, [], codes, take, slice_get}
+use Rattle.std.specs.List.{All}
+use Rattle.clmodel.specs.Law.{Reaches}
+use Rattle.clmodel.specs.Next.{launch_of}
+use Rattle.clmodel.specs.Outcome.{events_of}
+use Rattle.clmodel.specs.declared.fault.Fault.{Fault}
+use Rattle.clmodel.specs.declared.schedule.Run.{Run}
+use Rattle.clmodel.specs.declared.setup.Range.{Range}
+use Rattle.device.specs.Machine.{Machine, Step, opening, first, row, kernel_of, setup_of, bytes_of}
+use Rattle.device_store.specs.declared.command.Command.{Command}
+use Rattle.device_store.specs.declared.command.Command.TheVariants as command
+use Rattle.device_store.specs.declared.command.Refusal.{Refusal}
+use Rattle.device_store.specs.declared.command.Refusal.TheVariants as refusal
+use Rattle.device_store.specs.declared.command.Reply.{Reply}
+use Rattle.device_store.specs.declared.command.Reply.TheVariants as reply
+use Rattle.ends.specs.Sink.{Sink, Wrote, Stopped, CountsUp}
+use Rattle.ends.specs.Source.{Are}
+use Rattle.replay_text.specs.ScheduleFile.{IsScheduleFile, NoScheduleFile}
+use Rattle.simfile.specs.Script.{IsScript, IsBadLine}
+use Rattle.cli.specs.Session.{Plays}
+use Rattle.cli.specs.declared.session.Reader.TheVariants as reader
+use Rattle.cli.specs.declared.session.RunFault.{RunFault}
+use Rattle.cli.specs.declared.session.RunFault.TheVariants as fault
+
+-- a reply other than the refusal for want of memory
+abbrev pub HadMemory : Reply → Type 0
+HadMemory r = r ≡ reply.Refused refusal.OutOfMemory → ⊥
+
+-- the commands lead from a machine to another, and none is refused for want of memory
+pub record Leads (old : Machine) (commands : List Command) (new : Machine) : Type 0 where
+  pub replies : List Reply
+  pub plays : Plays old commands replies new
+  pub had_memory : All HadMemory replies
+
+-- the command of a ticket, counted from 0, launches a kernel over a range, and the commands before it lead a new device there
+pub record ComesTo (commands : List Command) (ticket : ℕ) (kernel : List ℕ) (range : Range) (m : Machine) : Type 0 where
+  pub launch : slice_get commands ticket ≡ Some (command.Launch kernel range)
+  pub leads : Leads (opening 100000) (take ticket commands) m
+
+-- a launch that its row doesn't refuse: yes exactly where the schedule leads it to a state that shows the fault
+pub record Replays (m : Machine) (kernel : List ℕ) (range : Range) (fault : Fault) (runs : List Run) (yes : Bool) : Type 0 where
+  pub admitted : first (row m (command.Launch kernel range)) ≡ None
+  pub decides : Decides yes (Reaches (launch_of (setup_of m (kernel_of m kernel) range) (bytes_of m)) (events_of runs) fault)
+
+-- the bytes that are read are a script
+pub record ReadsScript (rest : Option (List ℕ)) (commands : List Command) : Type 0 where
+  pub bytes : List ℕ
+  pub read : Are rest bytes
+  pub script : IsScript bytes commands
+
+-- the bytes that are read are a schedule file
+pub record ReadsFile (rest : Option (List ℕ)) (ticket : ℕ) (fault : Fault) (runs : List Run) : Type 0 where
+  pub bytes : List ℕ
+  pub read : Are rest bytes
+  pub file : IsScheduleFile bytes ticket fault runs
+
+-- what the command of the ticket comes to: yes or no
+pub record Judges (commands : List Command) (ticket : ℕ) (fault : Fault) (runs : List Run) (yes : Bool) : Type 0 where
+  pub kernel : List ℕ
+  pub range : Range
+  pub machine : Machine
+  pub comes : ComesTo commands ticket kernel range machine
+  pub replays : Replays machine kernel range fault runs yes
+
+-- the answer to a script and a schedule file
+pub record Judged (rest rest' : Option (List ℕ)) (yes : Bool) : Type 0 where
+  pub commands : List Command
+  pub ticket : ℕ
+  pub fault : Fault
+  pub runs : List Run
+  pub script : ReadsScript rest commands
+  pub file : ReadsFile rest' ticket fault runs
+  pub judges : Judges commands ticket fault runs yes
+
+abbrev pub answer_line : Bool → List ℕ
+answer_line true = codes "yes\n"
+answer_line false = codes "no\n"
+
+-- the answer was written as a line, of which nothing is held back
+pub record Replayed (rest rest' : Option (List ℕ)) (old new : Sink) (yes : Bool) : Type 0 where
+  pub judged : Judged rest rest' yes
+  pub wrote : Wrote old new (answer_line yes)
+  pub released : new.held ≡ []
+
+-- a write failed at the line of the answer
+pub record Cut (rest rest' : Option (List ℕ)) (old new : Sink) : Type 0 where
+  pub yes : Bool
+  pub judged : Judged rest rest' yes
+  pub stopped : Stopped old new (answer_line yes)
+
+-- the script's bytes have a bad line
+pub record Misread (rest : Option (List ℕ)) (n : ℕ) : Type 0 where
+  pub bytes : List ℕ
+  pub read : Are rest bytes
+  pub bad : IsBadLine bytes n
+
+-- there is a script, and a reader of the schedule file that failed
+pub record Unread (rest : Option (List ℕ)) (failures failures' : ℕ) : Type 0 where
+  pub commands : List Command
+  pub script : ReadsScript rest commands
+  pub counted : CountsUp failures failures'
+
+-- the bytes that are read are no schedule file
+pub record ReadsNoFile (rest : Option (List ℕ)) : Type 0 where
+  pub bytes : List ℕ
+  pub read : Are rest bytes
+  pub bad : NoScheduleFile bytes
+
+-- there is a script, and the other bytes are no schedule file
+pub record Unscheduled (rest rest' : Option (List ℕ)) : Type 0 where
+  pub commands : List Command
+  pub script : ReadsScript rest commands
+  pub file : ReadsNoFile rest'
+
+-- no command of the ticket launches anything
+abbrev pub NoLaunch : List Command → ℕ → Type 0
+NoLaunch commands ticket = (kernel : List ℕ) (range : Range) → slice_get commands ticket ≡ Some (command.Launch kernel range) → ⊥
+
+-- there are a script and a schedule file, whose ticket is that of no launch
+pub record Missed (rest rest' : Option (List ℕ)) (ticket : ℕ) : Type 0 where
+  pub commands : List Command
+  pub fault : Fault
+  pub runs : List Run
+  pub script : ReadsScript rest commands
+  pub file : ReadsFile rest' ticket fault runs
+  pub missed : NoLaunch commands ticket
+
+-- the launch of the ticket is refused by its row
+pub record Refuses (commands : List Command) (ticket : ℕ) : Type 0 where
+  pub kernel : List ℕ
+  pub range : Range
+  pub machine : Machine
+  pub refusal : Refusal
+  pub comes : ComesTo commands ticket kernel range machine
+  pub refused : first (row machine (command.Launch kernel range)) ≡ Some refusal
+
+-- there are a script and a schedule file, and the launch of its ticket is refused
+pub record Refused (rest rest' : Option (List ℕ)) (ticket : ℕ) : Type 0 where
+  pub commands : List Command
+  pub fault : Fault
+  pub runs : List Run
+  pub script : ReadsScript rest commands
+  pub file : ReadsFile rest' ticket fault runs
+  pub refuses : Refuses commands ticket
+
+-- why a replay came to no answer, and what it left; the script's reader and its failures come first
+abbrev pub Unreplayed : Option (List ℕ) → Option (List ℕ) → ℕ → ℕ → ℕ → ℕ → Sink → Sink → RunFault → Type 0
+Unreplayed rest rest' a a' b b' old new (fault.Read reader.First) = CountsUp a a' × (new ≡ old)
+Unreplayed rest rest' a a' b b' old new (fault.Read reader.Second) = Unread rest b b' × (new ≡ old)
+Unreplayed rest rest' a a' b b' old new (fault.BadLine n) = Misread rest n × (new ≡ old)
+Unreplayed rest rest' a a' b b' old new fault.OutOfMemory = new ≡ old
+Unreplayed rest rest' a a' b b' old new fault.Write = Cut rest rest' old new
+Unreplayed rest rest' a a' b b' old new fault.NoSuchKernel = ⊥
+Unreplayed rest rest' a a' b b' old new fault.BadSchedule = Unscheduled rest rest' × (new ≡ old)
+Unreplayed rest rest' a a' b b' old new (fault.NotALaunch ticket) = Missed rest rest' ticket × (new ≡ old)
+Unreplayed rest rest' a a' b b' old new (fault.CommandRefused ticket) = Refused rest rest' ticket × (new ≡ old)
+
+-- 0 after yes, 1 after no, else 2 (own)
+abbrev pub replay_status_of : Result Bool RunFault → ℕ
+replay_status_of (Ok true) = 0
+replay_status_of (Ok false) = 1
+replay_status_of (Err fault) = 2
+
+-- why no script was read
+abbrev pub ScriptFails : Option (List ℕ) → ℕ → ℕ → RunFault → Type 0
+ScriptFails rest failures failures' (fault.Read reader.First) = CountsUp failures failures'
+ScriptFails rest failures failures' (fault.Read reader.Second) = ⊥
+ScriptFails rest failures failures' (fault.BadLine n) = Misread rest n
+ScriptFails rest failures failures' fault.OutOfMemory = ⊤
+ScriptFails rest failures failures' fault.Write = ⊥
+ScriptFails rest failures failures' fault.NoSuchKernel = ⊥
+ScriptFails rest failures failures' fault.BadSchedule = ⊥
+ScriptFails rest failures failures' (fault.NotALaunch ticket) = ⊥
+ScriptFails rest failures failures' (fault.CommandRefused ticket) = ⊥
+
+-- why no schedule file was read
+abbrev pub FileFails : Option (List ℕ) → ℕ → ℕ → RunFault → Type 0
+FileFails rest failures failures' (fault.Read reader.First) = ⊥
+FileFails rest failures failures' (fault.Read reader.Second) = CountsUp failures failures'
+FileFails rest failures failures' (fault.BadLine n) = ⊥
+FileFails rest failures failures' fault.OutOfMemory = ⊤
+FileFails rest failures failures' fault.Write = ⊥
+FileFails rest failures failures' fault.NoSuchKernel = ⊥
+FileFails rest failures failures' fault.BadSchedule = ReadsNoFile rest
+FileFails rest failures failures' (fault.NotALaunch ticket) = ⊥
+FileFails rest failures failures' (fault.CommandRefused ticket) = ⊥
+
+-- why the command of a ticket came to no answer
+abbrev pub Unjudged : List Command → ℕ → RunFault → Type 0
+Unjudged commands ticket (fault.Read by) = ⊥
+Unjudged commands ticket (fault.BadLine n) = ⊥
+Unjudged commands ticket fault.OutOfMemory = ⊤
+Unjudged commands ticket fault.Write = ⊥
+Unjudged commands ticket fault.NoSuchKernel = ⊥
+Unjudged commands ticket fault.BadSchedule = ⊥
+Unjudged commands ticket (fault.NotALaunch named) = (named ≡ ticket) × NoLaunch commands ticket
+Unjudged commands ticket (fault.CommandRefused named) = (named ≡ ticket) × Refuses commands ticket
+
+-- a command is performed, and isn't refused for want of memory
+pub record Performs (old : Machine) (command : Command) (new : Machine) : Type 0 where
+  pub reply : Reply
+  pub step : Step old command reply new
+  pub had_memory : HadMemory reply
