@@ -45,20 +45,14 @@ last_taken (y ∷ xs) (z ∷ rest) (suc n) x h e =
     let tail : take (suc n) xs ≡ rest ++ x ∷ [] = cc in
     last_taken xs rest n x (omega arith) tail
 
-decided : {P : Type 0} (yes : Bool) → (yes ≡ true → P) → (yes ≡ false → P → ⊥) → Decides yes P
-decided true y n = (y, λ p. refl)
-decided false y n = (y, λ p. absurd (n refl p))
-
 -- a prepared launch that was replayed
 pub replays : {m : Machine} {kernel : List ℕ} {range : Range} (launch : Launch) (buffers : Table (List ℕ)) (f : Fault) (runs : List Run) (yes : Bool)
     → IsPrepared m kernel range launch → buffers ≡ m.buffers
-    → (yes ≡ true → Reaches (launch_of (launches.setup_of launch) (bytes_in buffers)) (events_of runs) f)
-    → (yes ≡ false → Reaches (launch_of (launches.setup_of launch) (bytes_in buffers)) (events_of runs) f → ⊥)
+    → Decides yes (Reaches (launch_of (launches.setup_of launch) (bytes_in buffers)) (events_of runs) f)
     → Replays m kernel range f runs yes
-replays {m} {kernel} {range} launch buffers f runs answer p e y n =
+replays {m} {kernel} {range} launch buffers f runs answer p e d =
     let D : Setup → Table (List ℕ) → Type 0 = λ s b. Decides answer (Reaches (launch_of s (bytes_in b)) (events_of runs) f) in
-    let here : D (launches.setup_of launch) buffers = decided answer y n in
-    record { admitted = p.admitted; decides = subst (λ (b : Table (List ℕ)). D (setup_of m (kernel_of m kernel) range) b) e (subst (λ (s : Setup). D s buffers) p.setup here) }
+    record { admitted = p.admitted; decides = subst (λ (b : Table (List ℕ)). D (setup_of m (kernel_of m kernel) range) b) e (subst (λ (s : Setup). D s buffers) p.setup d) }
 
 -- a replay that came to no answer behind its two texts
 pub unreplayed : {rest rest' : Option (List ℕ)} {commands : List Command} {ticket : ℕ} {f : Fault} {runs : List Run} (a a' b b' : ℕ) (s : Sink) (why : RunFault)
