@@ -17,7 +17,7 @@ use Rattle.joining.specs.Parts.{IsGrouped}
 use Rattle.joining.specs.Steps.{HasGroup}
 use Rattle.launches.specs.Groups.{HasGroups}
 use Rattle.shadow_list.specs.Log.{Log}
-use Rattle.snapshot_merge.specs.Launches.{AreResults}
+use Rattle.snapshot_merge.specs.Launches.{AreResults, AreResultsTo}
 use Rattle.snapshot_merge.specs.Laws.{JoiningLaws}
 use Rattle.snapshot_merge.specs.JoinedGroups.{HoldsGroups, IsStopped, CameOfNext}
 use Rattle.snapshot_merge.specs.declared.joined_groups.JoinedGroups.{JoinedGroups}
@@ -85,3 +85,19 @@ rest_results bytes log_of l g (Stopped number fault log runs) rs so_far h n = ab
 pub none_left : {A : Type 0} (xs : List A) → length xs ≡ 0 → xs ≡ []
 none_left [] e = refl
 none_left (x ∷ xs) e = absurd (omega arith)
+
+-- ---- results of a round
+
+module _ {G L : Type 0} (bytes : G → List (Option ℕ)) (log_of : L → Log) (l : Launch) (last g : ℕ) where
+  pub round_there : (r : GroupResult G L) (rs : List (GroupResult G L)) → AreResultsTo bytes log_of l last g (r ∷ rs) → HasGroup l g
+  round_there (Done number spaces log runs) rs h = h.0
+  round_there (Stopped number fault log runs) rs h = h.0
+
+  pub round_result : (r : GroupResult G L) (rs : List (GroupResult G L)) → AreResultsTo bytes log_of l last g (r ∷ rs) → IsResult bytes log_of l g r
+  round_result (Done number spaces log runs) rs h = h.1
+  round_result (Stopped number fault log runs) rs h = h.1
+
+  pub round_rest :
+      (r : GroupResult G L) (rs : List (GroupResult G L)) (so_far : JoinedGroups) → AreResultsTo bytes log_of l last g (r ∷ rs) → CameOfNext l g r None so_far → AreResultsTo bytes log_of l last (suc g) rs
+  round_rest (Done number spaces log runs) rs so_far h n = h.2
+  round_rest (Stopped number fault log runs) rs so_far h n = absurd n

@@ -1,15 +1,17 @@
 -- What a program holds of the groups that it has joined (own, on OpenCL 1.2, 3.2).
-use Rattle.std.specs.Prelude.{◌≡◌, ℕ, suc, Option, None, Some, List, map}
+use Rattle.std.specs.Prelude.{◌≡◌, ℕ, suc, ◌*◌, ◌≤◌, Option, None, Some, List, map}
 use Rattle.clmodel.specs.Launch.{Launch}
 use Rattle.clmodel.specs.Law.{Keeps, RunsIntoFault}
-use Rattle.clmodel.specs.Outcome.{events_of, IsMerged}
+use Rattle.clmodel.specs.Outcome.{events_of, IsMerged, Concludes}
 use Rattle.clmodel.specs.Run.{State}
 use Rattle.clmodel.specs.declared.access.Access.{Access}
 use Rattle.clmodel.specs.declared.fault.Fault.{Fault}
+use Rattle.clmodel.specs.declared.outcome.Outcome.TheVariants.{Clean}
 use Rattle.clmodel.specs.declared.schedule.Run.{Run}
 use Rattle.group_run.specs.declared.result.GroupResult.{GroupResult}
 use Rattle.group_run.specs.declared.result.GroupResult.TheVariants.{Done, Stopped}
 use Rattle.joining.specs.Join.{Joined}
+use Rattle.joining.specs.Parts.{IsGrouped}
 use Rattle.joining.specs.Steps.{HasGroup, IsJoined}
 use Rattle.shadow.specs.Seen.{IsFootprint}
 use Rattle.shadow.specs.declared.footprint.Footprint.{Footprint}
@@ -54,3 +56,9 @@ abbrev pub CameOfNext : {G L : Type 0} → Launch → ℕ → GroupResult G L �
 CameOfNext launch group (Done number spaces log runs) report so_far = CameOfDone launch group report so_far
 CameOfNext launch group (Stopped number fault log runs) (Some report) so_far = IsStopped launch report so_far.runs.items
 CameOfNext launch group (Stopped number fault log runs) None so_far = ⊥
+
+-- where all groups of a launch are joined without a report, the launch ends clean with what they leave (3.2)
+abbrev pub JoinedConclude : Type 0
+JoinedConclude =
+    (launch : Launch) (group : ℕ) (so_far : JoinedGroups) → IsGrouped launch → HoldsGroups launch group so_far → launch.items ≤ group * launch.group_size
+    → Concludes launch (Clean so_far.contents)

@@ -15,3 +15,11 @@ AreResults bytes log_of launch group (Done number spaces log runs ∷ results) =
     HasGroup launch group × IsResult bytes log_of launch group (Done number spaces log runs) × AreResults bytes log_of launch (suc group) results
 AreResults bytes log_of launch group (Stopped number fault log runs ∷ results) =
     HasGroup launch group × IsResult bytes log_of launch group (Stopped number fault log runs) × (results ≡ [])
+
+-- The results of the groups from one on up to another, which isn't among them: of all of them, or up to and with one that stopped (own).
+abbrev pub AreResultsTo : {G L : Type 0} → (G → List (Option ℕ)) → (L → Log) → Launch → ℕ → ℕ → List (GroupResult G L) → Type 0
+AreResultsTo bytes log_of launch last group [] = last ≤ group
+AreResultsTo bytes log_of launch last group (Done number spaces log runs ∷ results) =
+    HasGroup launch group × IsResult bytes log_of launch group (Done number spaces log runs) × AreResultsTo bytes log_of launch last (suc group) results
+AreResultsTo bytes log_of launch last group (Stopped number fault log runs ∷ results) =
+    HasGroup launch group × IsResult bytes log_of launch group (Stopped number fault log runs) × (results ≡ [])

@@ -38,7 +38,7 @@ use std::alloc::{AllocError, Global};
 
 /// What the groups so far come to: what they leave in the launch's buffers, the bytes that they accessed, and their events.
 #[derive(Drop)]
-pub(crate) struct JoinedGroups<'a> {
+pub struct JoinedGroups<'a> {
     /// The bytes of the launch's buffers before any group.
     pub(crate) first: Vec<&'a [u8]>,
     pub(crate) contents: Vec<Bytes>,
@@ -90,11 +90,7 @@ fn copies_of(alloc: Global, rows: &[&[u8]]) -> Result<Vec<Bytes>, AllocError>
 
 impl<'a> JoinedGroups<'a> {
     /// Before any group. The bytes of the launch's buffers are copied once.
-    pub(crate) fn new(
-        alloc: Global,
-        launch: &Launch<'_>,
-        buffers: &'a Buffers,
-    ) -> Result<Self, AllocError>
+    pub fn new(alloc: Global, launch: &Launch<'_>, buffers: &'a Buffers) -> Result<Self, AllocError>
         ensures { IfOk result (HoldsGroups (launch_of (setup_of launch.now) (bytes_in buffers.now)) 0) }
     {
         let first = rows_of(alloc, launch.buffer_names(), buffers)?;
@@ -269,7 +265,7 @@ impl<'a> JoinedGroups<'a> {
     }
 
     /// What the groups left in the launch's buffers.
-    pub(crate) fn into_contents(self) -> Vec<Bytes>
+    pub fn into_contents(self) -> Vec<Bytes>
         ensures { result ≡ self.entry.contents }
     {
         self.contents

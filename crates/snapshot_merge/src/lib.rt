@@ -7,8 +7,11 @@ mod joined_groups;
 mod laws;
 mod meetings;
 mod merging;
+mod rounds;
 mod run;
 mod words;
 
+pub use joined_groups::JoinedGroups;
 pub use merging::merge;
+pub use rounds::{RoundEnd, join_round, joined_groups_conclude};
 pub use run::{group_count, run_launch};

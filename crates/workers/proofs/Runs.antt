@@ -8,7 +8,7 @@ use Rattle.group_run.specs.declared.result.GroupResult.{GroupResult}
 use Rattle.group_run.specs.declared.result.GroupResult.TheVariants.{Done, Stopped}
 use Rattle.joining.specs.Parts.{Part, OnePart}
 use Rattle.shadow_list.specs.declared.list.ListLog.{ListLog}
-use Rattle.snapshot_merge.specs.Launches as snapshot_merge
+use Rattle.snapshot_merge.specs.Launches.{AreResultsTo}
 use Rattle.snapshot_run.specs.Launches.{list_log}
 use Rattle.spaces.specs.Overlay.{Overlaid}
 use Rattle.workers_draw.specs.Groups.{AreResults}
@@ -20,10 +20,10 @@ Came = GroupResult Overlaid ListLog
 none_some : (fault : Fault) → None ≡ Some fault → ⊥
 none_some fault e = cc
 
--- a group below the count is one of the launch's
-pub below_there : (group groups size items : ℕ) → groups * size ≡ items → 0 < size → group < groups → group * size < items
-below_there group groups size items e some b =
-    let m : suc group * size ≤ groups * size = mul-le-mul_right size (omega (arith, b)) in
+-- a group below one that begins where the launch's items end, or before, is one of the launch's
+pub below_there : (group last size items : ℕ) → last * size ≤ items → 0 < size → group < last → group * size < items
+below_there group last size items e some b =
+    let m : suc group * size ≤ last * size = mul-le-mul_right size (omega (arith, b)) in
     let s : suc group * size ≡ group * size + size = suc-mul group size in omega (arith, e, some, m, s)
 
 pub is_numbered : (launch : Launch) (group : ℕ) (came : Came) → IsOfGroup launch group came → number_of came ≡ group
@@ -43,12 +43,20 @@ stops_stopped launch group (Done number spaces log runs) one is stops =
     let same = one launch group part stops.0 (run.0.runs, run.1) stops.2 in absurd (none_some stops.1 (same.2 ∙ stops.3))
 stops_stopped launch group (Stopped number fault log runs) one is stops = refl
 
--- results in order are the results that are joined
-pub are_results :
-    (launch : Launch) (count group : ℕ) (results : List Came) → count * launch.group_size ≡ launch.items → AreResults count (IsOfGroup launch) has_stopped group results
-    → snapshot_merge.AreResults (λ (overlay : Overlaid). overlay.bytes) list_log launch group results
-are_results launch count group [] e far = subst (λ n. n ≤ group * launch.group_size) e (mul-le-mul_right launch.group_size far)
-are_results launch count group (Done number spaces log runs ∷ results) e is =
-    (is.0.0, is.0.1, ⊎_elim (λ stop. absurd (true≢false (sym stop.0))) (λ more. are_results launch count (suc group) results e more.1) is.1)
-are_results launch count group (Stopped number fault log runs ∷ results) e is =
-    (is.0.0, is.0.1, ⊎_elim (λ stop. stop.1) (λ more. absurd (true≢false more.0)) is.1)
+-- the results of a round in order are those that are joined
+module _ (launch : Launch) (first count : ℕ) where
+  abbrev Gives : ℕ → Came → Type 0
+  Gives n came = IsOfGroup launch (first + n) came
+
+  abbrev ToLast : ℕ → List Came → Type 0
+  ToLast group results = AreResultsTo (λ (overlay : Overlaid). overlay.bytes) list_log launch (first + count) group results
+
+  pub are_results : (n : ℕ) (results : List Came) → AreResults count Gives has_stopped n results → ToLast (first + n) results
+  are_results n [] far = omega (arith, far)
+  are_results n (Done number spaces log runs ∷ results) is = (
+    is.0.0,
+    is.0.1,
+    ⊎_elim (λ stop. absurd (true≢false (sym stop.0))) (λ more. subst (λ k. ToLast k results) (omega arith) (are_results (suc n) results more.1)) is.1,
+  )
+  are_results n (Stopped number fault log runs ∷ results) is =
+      (is.0.0, is.0.1, ⊎_elim (λ stop. stop.1) (λ more. absurd (true≢false more.0)) is.1)

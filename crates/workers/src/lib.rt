@@ -1,7 +1,8 @@
 //! The run of a launch by several workers.
 #![tactic(auto)]
 
-mod launch;
+mod round;
+mod round_gate;
 mod run;
 mod shares;
 

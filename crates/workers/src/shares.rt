@@ -4,7 +4,7 @@ ghost use denote.Ref.{NamedLft};
 ghost use Rattle.clmodel.specs.contracts.tree.Function as FunctionType;
 ghost use Rattle.clmodel.specs.contracts.tree.Tree as TreeType;
 ghost use Rattle.item_step.specs.contracts.launch.Launch as LaunchType;
-ghost use Rattle.workers.specs.contracts.launch.LaunchGroups as GroupsType;
+ghost use Rattle.workers.specs.contracts.round.Round as RoundType;
 
 use clmodel::setup::{Argument, Range};
 use clmodel::text::Name;
@@ -49,9 +49,9 @@ fn launches_are_shared()
     is_shared::<Vec<u32>>();
 }
 
-/// The groups of launches may be shared.
-pub(crate) fn groups_are_shared()
-    ensures { (ℓ : NamedLft) → IsSync (GroupsType.the_row ℓ) }
+/// Groups of launches may be shared.
+pub(crate) fn rounds_are_shared()
+    ensures { (ℓ : NamedLft) → IsSync (RoundType.the_row ℓ) }
 {
     launches_are_shared();
     is_shared::<Buffers>();

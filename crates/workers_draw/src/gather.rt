@@ -18,13 +18,14 @@ pub(crate) fn places<T: Drop>(alloc: Global, count: u32) -> Result<Vec<Option<T>
 
 /// Puts a result at its group's place. A result of a group that has one already, or of no group, is refused, and comes back.
 pub fn accept<W: Work>(
+    work: &W,
     places: &mut Vec<Option<W::Output>>,
     output: W::Output,
 ) -> Result<(), W::Output>
-    ensures ok { IfOk result (λ _. (slice_get places.old.items (W.number_of output) ≡ Some None) × (places.new.items ≡ slice_set places.old.items (W.number_of output) (Some output))) }
-    ensures err { IfErr result (λ o. (o ≡ output) × (places.new.items ≡ places.old.items) × ((vec_len places.old ≤ W.number_of output) ⊎ IsThere places.old.items (W.number_of output))) }
+    ensures ok { IfOk result (λ _. (slice_get places.old.items (W.number_of work.now output) ≡ Some None) × (places.new.items ≡ slice_set places.old.items (W.number_of work.now output) (Some output))) }
+    ensures err { IfErr result (λ o. (o ≡ output) × (places.new.items ≡ places.old.items) × ((vec_len places.old ≤ W.number_of work.now output) ⊎ IsThere places.old.items (W.number_of work.now output))) }
 {
-    let number = W::number(&output) as usize;
+    let number = work.number(&output) as usize;
     match places.get(number) {
         Some(None) => {
             places[number] = Some(output);
@@ -46,7 +47,7 @@ fn put<W: Work>(work: &W, places: &mut Vec<Option<W::Output>>, output: W::Output
     ensures there { (group : ℕ) → W.gives work.now group output → IsThere places.new.items group }
 {
     work.laws();
-    match accept::<W>(places, output) {
+    match accept(work, places, output) {
         Ok(()) => {}
         Err(refused) => drop(refused),
     }

@@ -16,7 +16,8 @@ pub trait Work: Sync {
     // the run of a group stops
     ghost stops: { Self → ℕ → Type 0 };
 
-    ghost number_of: { Self.Output → ℕ };
+    // the place of an output among those of all groups
+    ghost number_of: { Self → Self.Output → ℕ };
 
     ghost is_stopped: { Self.Output → Bool };
 
@@ -27,15 +28,15 @@ pub trait Work: Sync {
         requires { group < count self.now }
         ensures { IfOk result (gives self.now group) };
 
-    fn number(output: &Self::Output) -> u32
-        ensures { result ≡ number_of output.now };
+    fn number(&self, output: &Self::Output) -> u32
+        ensures { result ≡ number_of self.now output.now };
 
     fn stopped(output: &Self::Output) -> bool
         ensures { result ≡ is_stopped output.now };
 
     /// What the results of a group have in common.
     fn laws(&self)
-        ensures numbered { (group : ℕ) (output : Self.Output) → gives self.now group output → number_of output ≡ group }
+        ensures numbered { (group : ℕ) (output : Self.Output) → gives self.now group output → number_of self.now output ≡ group }
         ensures stopped_stops { (group : ℕ) (output : Self.Output) → gives self.now group output → is_stopped output ≡ true → stops self.now group }
         ensures stops_stopped { (group : ℕ) (output : Self.Output) → gives self.now group output → stops self.now group → is_stopped output ≡ true };
 }

@@ -2,11 +2,11 @@ use denote.Param.Send.{sendable, IsSync}
 use denote.Param.SendFields.{declared_sync}
 use Rattle.clmodel.specs.contracts.text.Bytes as Bytes
 use Rattle.spaces_base.specs.contracts.table.Table as Table
-use Rattle.workers.specs.contracts.launch.LaunchGroups as LaunchGroups
-use Rattle.workers.proofs.shares.groups_are_shared.Goals as goal
+use Rattle.workers.specs.contracts.round.Round as Round
+use Rattle.workers.proofs.shares.rounds_are_shared.Goals as goal
 
 pub returns : goal.returns
 returns c ℓ =
     let launch = c.launches_are_shared.ensures ℓ in
     let buffers : IsSync (Table.the_row Bytes.the_row) = record { shared = c.is_shared.ensures.shared } in
-    declared_sync (LaunchGroups.the_type ℓ) (search (sendable, launch), (search (sendable, buffers), (search sendable, tt)))
+    declared_sync (Round.the_type ℓ) (search (sendable, launch), (search (sendable, buffers), (search sendable, (search sendable, tt))))

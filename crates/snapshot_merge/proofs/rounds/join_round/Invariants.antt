@@ -1,0 +1,15 @@
+use Rattle.std.specs.Vec.Iter.{into_iter_items}
+use Rattle.clmodel.specs.Next.{launch_of}
+use Rattle.item_step.specs.Launches.{setup_of}
+use Rattle.spaces_base.specs.Buffers.{bytes_in}
+use Rattle.spaces.specs.Overlay.{Overlaid}
+use Rattle.snapshot_merge.specs.Launches.{AreResultsTo}
+use Rattle.snapshot_merge.specs.JoinedGroups.{HoldsGroups}
+use Rattle.snapshot_merge.proofs.rounds.join_round.Given as goal
+
+abbrev pub invariant-loop-group : goal.invariant-loop-group
+invariant-loop-group g l =
+    record {
+      held : HoldsGroups (launch_of (setup_of l.fn.launch) (bytes_in l.fn.buffers)) l.group l.so_far;
+      rest : AreResultsTo (λ (overlay : Overlaid). overlay.bytes) g.L.Accesses.log (launch_of (setup_of l.fn.launch) (bytes_in l.fn.buffers)) l.fn.last l.group (into_iter_items l.results);
+    }

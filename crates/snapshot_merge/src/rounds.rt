@@ -1,0 +1,76 @@
+//! The join of some groups that follow one another.
+
+ghost use Rattle.std.specs.Prelude.{◌≤◌, IfOk};
+ghost use Rattle.clmodel.specs.Next.{launch_of};
+ghost use Rattle.item_step.specs.Launches.{setup_of};
+ghost use Rattle.spaces_base.specs.Buffers.{bytes_in};
+ghost use Rattle.launches.specs.Groups.{HasGroups};
+ghost use Rattle.snapshot_merge.specs.JoinedGroups.{HoldsGroups, JoinedConclude};
+ghost use Rattle.snapshot_merge.specs.Launches.{AreResultsTo};
+ghost use Rattle.snapshot_merge.specs.Rounds.{CameOfRound};
+
+use crate::joined_groups::{GroupPlace, JoinEnd, JoinedGroups};
+use crate::laws::laws;
+use crate::run::group_count;
+use clmodel::outcome::Outcome;
+use group_run::GroupResult;
+use item_step::Launch;
+use launches::LoadedLaunch;
+use shadow_list::AccessLog;
+use spaces::Overlay;
+use spaces_base::Buffers;
+use std::alloc::{AllocError, Global};
+
+/// What comes of joining some groups that follow one another.
+#[derive(Drop)]
+pub enum RoundEnd<'a> {
+    /// Nothing to report so far.
+    Goes(JoinedGroups<'a>),
+    /// What the launch comes to.
+    Ends(Outcome),
+}
+
+/// Joins the results of the groups from one on up to another, which isn't among them, in their order (OpenCL 1.2, section 3.2). The
+/// results are those of all of them, or up to and with one that stopped. Each result is let go once it is joined. An error is out of memory.
+pub fn join_round<'a, L: AccessLog + Drop>(
+    alloc: Global,
+    launch: &Launch<'_>,
+    buffers: &Buffers,
+    mut so_far: JoinedGroups<'a>,
+    first: u32,
+    last: u32,
+    results: Vec<GroupResult<Overlay<'_>, L>>,
+) -> Result<RoundEnd<'a>, AllocError>
+    requires whole { HasGroups (setup_of launch.now) }
+    requires order { first ≤ last }
+    requires so_far { HoldsGroups (launch_of (setup_of launch.now) (bytes_in buffers.now)) first so_far }
+    requires results { AreResultsTo (λ overlay. overlay.bytes) L.Accesses.log (launch_of (setup_of launch.now) (bytes_in buffers.now)) last first results.items }
+    ensures { IfOk result (CameOfRound (launch_of (setup_of launch.now) (bytes_in buffers.now)) last) }
+{
+    let groups = group_count(launch);
+    let loaded = LoadedLaunch::new(alloc, launch, buffers);
+    let mut results = results.into_iter();
+    for group in first..last {
+        let Some(result) = results.next() else {
+            unreachable!()
+        };
+        let number = GroupPlace {
+            group,
+            further: group + 1 < groups,
+        };
+        match so_far.join(alloc, &loaded, number, result)? {
+            JoinEnd::Goes(log) => drop(log),
+            JoinEnd::Reports(fault) => {
+                return Ok(RoundEnd::Ends(Outcome::Faulted(fault, so_far.into_schedule())));
+            }
+        }
+    }
+    Ok(RoundEnd::Goes(so_far))
+}
+
+/// Where all groups of a launch are joined without a report, the launch ends clean with what they leave.
+pub fn joined_groups_conclude()
+    ensures { JoinedConclude }
+{
+    laws();
+}

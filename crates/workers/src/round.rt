@@ -1,0 +1,99 @@
+//! Some groups of a launch, as workers draw them.
+
+ghost use Rattle.std.specs.Prelude.{◌≡◌, ◌+◌, ◌-◌, ◌*◌, ◌<◌, ◌≤◌};
+ghost use Rattle.clmodel.specs.Next.{launch_of};
+ghost use Rattle.clmodel.specs.Setup.{item_count, group_items};
+ghost use Rattle.item_step.specs.Launches.{setup_of};
+ghost use Rattle.launches.specs.Groups.{HasGroups};
+ghost use Rattle.spaces_base.specs.Buffers.{bytes_in};
+ghost use Rattle.workers.specs.Results.{IsOfGroup, IsStopping, number_of, has_stopped};
+
+use group_run::GroupResult;
+use item_step::Launch;
+use joining::one_part;
+use shadow_list::ListLog;
+use snapshot_run::one_group;
+use spaces::Overlay;
+use spaces_base::Buffers;
+use std::alloc::{AllocError, Global};
+use workers_draw::work::Work;
+
+/// Some work-groups of a launch on these buffers, which follow one another (OpenCL 1.2, sections 3.2 and 5.8). A group has one run, whatever other groups do.
+#[derive(Clone, Copy)]
+pub(crate) struct Round<'a> {
+    launch: &'a Launch<'a>,
+    buffers: &'a Buffers,
+    /// The number of the first of them
+    first: u32,
+    count: u32,
+    ghost whole: { HasGroups (setup_of launch.now) },
+    ghost there: { (first + count) * group_items (setup_of launch.now).range ≤ item_count (setup_of launch.now).range },
+    ghost some: { 0 < group_items (setup_of launch.now).range },
+}
+
+impl<'a> Round<'a> {
+    /// The groups of a launch from one on up to another, which isn't among them.
+    pub(crate) fn new(launch: &'a Launch<'a>, buffers: &'a Buffers, first: u32, last: u32) -> Self
+        requires whole { HasGroups (setup_of launch.now) }
+        requires some { 0 < group_items (setup_of launch.now).range }
+        requires order { first ≤ last }
+        requires there { last * group_items (setup_of launch.now).range ≤ item_count (setup_of launch.now).range }
+        ensures launch { result.launch.now ≡ launch.now }
+        ensures buffers { result.buffers.now ≡ buffers.now }
+        ensures first { result.first ≡ first }
+        ensures count { first + result.count ≡ last }
+    {
+        Round {
+            launch,
+            buffers,
+            first,
+            count: last - first,
+        }
+    }
+}
+
+impl<'a> Work for Round<'a> {
+    type Output = GroupResult<Overlay<'a>, ListLog>;
+
+    ghost count = { λ w. w.count };
+
+    ghost gives = { λ w n came. IsOfGroup (launch_of (setup_of w.launch.now) (bytes_in w.buffers.now)) (w.first + n) came };
+
+    ghost stops = { λ w n. IsStopping (launch_of (setup_of w.launch.now) (bytes_in w.buffers.now)) (w.first + n) };
+
+    ghost number_of = { λ w came. number_of came - w.first };
+
+    ghost is_stopped = { has_stopped };
+
+    fn group_count(&self) -> u32 {
+        self.count
+    }
+
+    fn one_group(
+        &self,
+        alloc: Global,
+        group: u32,
+    ) -> Result<GroupResult<Overlay<'a>, ListLog>, AllocError> {
+        let log = ListLog::new(alloc);
+        one_group(alloc, self.launch, self.buffers, self.first + group, log)
+    }
+
+    fn number(&self, came: &GroupResult<Overlay<'a>, ListLog>) -> u32 {
+        let group = match came {
+            GroupResult::Done { group, .. } => *group,
+            GroupResult::Stopped { group, .. } => *group,
+        };
+        group.saturating_sub(self.first)
+    }
+
+    fn stopped(came: &GroupResult<Overlay<'a>, ListLog>) -> bool {
+        match came {
+            GroupResult::Done { .. } => false,
+            GroupResult::Stopped { .. } => true,
+        }
+    }
+
+    fn laws(&self) {
+        one_part();
+    }
+}
