@@ -102,7 +102,8 @@ impl<'a> Slot<'a> {
         }
     }
 
-    /// The item's next action is answered. An error is out of memory.
+    /// The item's next action is answered, and the item goes on to the one after it, so that one that comes to its end keeps no memory. An
+    /// error is out of memory.
     pub fn answer<D: Runnable>(
         &mut self,
         alloc: Global,
@@ -116,6 +117,7 @@ impl<'a> Slot<'a> {
         if let Slot::Running(running) = self {
             running.answer(answer);
         }
+        self.next(alloc, launch, item)?;
         Ok(())
     }
 }
