@@ -1,15 +1,13 @@
 //! Requests in ticket order.
 #![tactic(auto)]
 
-mod hand;
 mod machine;
 mod queue;
 mod sends;
 mod table;
 mod view;
 
-pub use machine::{Machine, ParallelMachine};
+pub use machine::Machine;
 pub use queue::{Answered, Client, Driver, Full, Queue, TICKETS, Ticket, close, open};
 pub use table::{Board, Place, Rows, Tickets};
 pub use view::{Entry, Held, Request, Stage, View};
-pub use workers_draw::gate::{Gate, OpenGate};
