@@ -1,7 +1,8 @@
 //! Launches: their refusals, what they run, and what they leave (OpenCL 1.2, section 5.8).
 #![tactic(auto)]
 
-ghost use Rattle.std.specs.Prelude.{◌≡◌, IfOk, IfErr, None, Some};
+ghost use Rattle.std.specs.Prelude.{◌≡◌, ◌≤◌, ℕ, List, IfOk, IfErr, None, Some};
+ghost use Rattle.clmodel.specs.declared.setup.Range.{Range as RangeOf};
 ghost use Rattle.device_store.specs.Ranges.{IsLaunchable};
 
 use crate::Device;
@@ -15,6 +16,10 @@ use device_store::command::{Command, Refusal, Reply};
 use device_store::ranges::{is_bad_dimension, is_bad_group, is_too_many};
 use item_step::{Launch, is_local_too_large};
 use snapshot_merge::run_launch;
+use std::marker::Sync;
+use std::sync::Wait;
+use std::thread::Threads;
+use workers::{Gate, run_parallel};
 
 impl Device {
     ghost use Rattle.device.specs.Machine.{Step, Answers, IsRefusal, machine_of, kernel_of, setup_of, first, row};
@@ -78,21 +83,65 @@ impl Device {
         Ok(Launched { names, outcome })
     }
 
-    /// Runs a kernel over a range. Where it came out clean, the buffers hold what it left.
-    pub(crate) fn launch(&mut self, name: &Name, range: &Range) -> Result<Reply, Refusal>
-        ensures ok { IfOk result (λ reply. Answers (machine_of self.old) (Command.Launch name.now range.now) reply (machine_of self.new)) }
-        ensures err { IfErr result (λ refusal. Step (machine_of self.old) (Command.Launch name.now range.now) (Reply.Refused refusal) (machine_of self.new)) }
+    /// Runs a kernel over a range by 1 to 16 workers, which call the gate, on the buffers as they are. It doesn't change them.
+    fn start_with<G: Gate, T: Threads + Wait + Sync>(
+        &self,
+        rt: &T,
+        name: &Name,
+        range: &Range,
+        workers: u32,
+        gate: &G,
+    ) -> Result<Launched, Refusal>
+        requires workers { (1 ≤ workers) × (workers ≤ 16) }
+        ensures came { IfOk result (Comes (machine_of self.now) name.now range.now) }
+        ensures refused { IfErr result (IsRefusal (machine_of self.now) (Command.Launch name.now range.now)) }
     {
-        let Launched { names, outcome } = self.start(name, range)?;
+        let launch = self.prepare(name, range)?;
+        let names = copies(self.alloc, launch.buffer_names())?;
+        let outcome = run_parallel(rt, self.alloc, &launch, &self.buffers, workers, gate)?;
+        Ok(Launched { names, outcome })
+    }
+
+    /// What is said of a launch that came to this. Where it came out clean, the buffers hold what it left.
+    fn conclude(&mut self, launched: Launched) -> Reply
+        ensures { (name : List ℕ) (range : RangeOf) → Comes (machine_of self.old) name range launched → Answers (machine_of self.old) (Command.Launch name range) result (machine_of self.new) }
+    {
+        let Launched { names, outcome } = launched;
         determinacy();
         clean_is_complete();
         report_is_shown();
         match outcome {
             Outcome::Clean(contents) => {
                 self.buffers.replace_all(names.as_slice(), contents);
-                Ok(Reply::Clean)
+                Reply::Clean
             }
-            Outcome::Faulted(fault, schedule) => Ok(Reply::Fault { fault, schedule }),
+            Outcome::Faulted(fault, schedule) => Reply::Fault { fault, schedule },
         }
+    }
+
+    /// Runs a kernel over a range. Where it came out clean, the buffers hold what it left.
+    pub(crate) fn launch(&mut self, name: &Name, range: &Range) -> Result<Reply, Refusal>
+        ensures ok { IfOk result (λ reply. Answers (machine_of self.old) (Command.Launch name.now range.now) reply (machine_of self.new)) }
+        ensures err { IfErr result (λ refusal. Step (machine_of self.old) (Command.Launch name.now range.now) (Reply.Refused refusal) (machine_of self.new)) }
+    {
+        let launched = self.start(name, range)?;
+        Ok(self.conclude(launched))
+    }
+
+    /// Runs a kernel over a range by 1 to 16 workers, which call the gate. Where it came out clean, the buffers hold what it left.
+    pub(crate) fn launch_with<G: Gate, T: Threads + Wait + Sync>(
+        &mut self,
+        rt: &T,
+        name: &Name,
+        range: &Range,
+        workers: u32,
+        gate: &G,
+    ) -> Result<Reply, Refusal>
+        requires workers { (1 ≤ workers) × (workers ≤ 16) }
+        ensures ok { IfOk result (λ reply. Answers (machine_of self.old) (Command.Launch name.now range.now) reply (machine_of self.new)) }
+        ensures err { IfErr result (λ refusal. Step (machine_of self.old) (Command.Launch name.now range.now) (Reply.Refused refusal) (machine_of self.new)) }
+    {
+        let launched = self.start_with(rt, name, range, workers, gate)?;
+        Ok(self.conclude(launched))
     }
 }

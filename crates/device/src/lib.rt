@@ -24,6 +24,11 @@ pub use item_step::Launch;
 pub use spaces_base::Buffers;
 use spaces_base::Table;
 use std::alloc::Global;
+use std::marker::Sync;
+use std::sync::Wait;
+use std::thread::Threads;
+pub use tickets::{answer_with, drive_with};
+pub use workers::{Gate, OpenGate};
 
 /// The most buffers that a device has.
 const MAX_BUFFERS: usize = 64;
@@ -395,6 +400,28 @@ impl Device {
         ensures { Step (machine_of self.old) command result (machine_of self.new) }
     {
         match self.perform(command) {
+            Ok(reply) => reply,
+            Err(refusal) => Reply::Refused(refusal),
+        }
+    }
+
+    /// One step of the machine, where 1 to 16 workers run the groups of a launch, between two calls of the gate (OpenCL 1.2, sections 3.2
+    /// and 5.8). The calling thread is one of the workers, and a thread that can't be started is done without. A launch answers what it
+    /// answers in `apply`, or out of memory, however many workers there are and whatever the gate does.
+    pub fn apply_with<G: Gate, T: Threads + Wait + Sync>(
+        &mut self,
+        rt: &T,
+        command: Command,
+        workers: u32,
+        gate: &G,
+    ) -> Reply
+        requires workers { (1 ≤ workers) × (workers ≤ 16) }
+        ensures { Step (machine_of self.old) command result (machine_of self.new) }
+    {
+        let Command::Launch { kernel, range } = command else {
+            return self.apply(command);
+        };
+        match self.launch_with(rt, &kernel, &range, workers, gate) {
             Ok(reply) => reply,
             Err(refusal) => Reply::Refused(refusal),
         }

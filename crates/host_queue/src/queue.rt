@@ -10,6 +10,7 @@ ghost use Rattle.host_queue.specs.Views.{total, entry, held};
 ghost use Rattle.host_queue.specs.Clients.{IsClient, IsDriver, IsNote, IsOpen, IsOnly, IsApart, AgreeAt, AllBelow, Serves, StaysOpen, StaysOpenBut};
 ghost use Rattle.host_queue.specs.Plays.{IsUnheard, Fits};
 ghost use Rattle.host_queue.specs.Notes.{host_of, guest_of};
+ghost use Rattle.host_queue.specs.Hands.{DoesSteps};
 ghost use Rattle.host_queue.specs.Opened.{Each, IsGuest};
 
 use crate::machine::Machine;
@@ -187,21 +188,33 @@ impl<D: Machine<C, R>, C: Drop, R: Drop> Client<D, C, R> {
     }
 }
 
-// Applies the command in the box, and leaves the reply in it.
-fn serve<D: Machine<C, R>, C: Drop, R: Drop>(machine: &mut D, request: &mut Request<C, R>)
-    requires { (c : C) × (request.old ≡ Asked c) }
+// Does the command in the box, and leaves the reply in it.
+fn serve<D: Machine<C, R>, C: Drop, R: Drop, F: FnOnce(&mut D, C) -> R>(
+    machine: &mut D,
+    request: &mut Request<C, R>,
+    how: F,
+)
+    requires asked { (c : C) × (request.old ≡ Asked c) }
+    requires callable { F.IsAlwaysCallable how }
+    requires steps { DoesSteps D.step F.FnOnce how }
     ensures { (c : C) × (r : R) × (request.old ≡ Asked c) × (request.new ≡ AnsweredBy r) × D.step machine.old c r machine.new }
 {
     let Request::Asked(command) = mem::replace(request, Request::Answered(D::placeholder())) else {
         unreachable!()
     };
-    let reply = machine.apply(command);
+    let reply = how(machine, command);
     *request = Request::Answered(reply);
 }
 
 impl<D: Machine<C, R>, C: Drop, R: Drop> Driver<D, C, R> {
-    /// Answers the next ticket, if its request is there.
-    pub fn drive_one(&mut self, queue: &Queue<D, C, R>) -> Option<Answered<D, C, R>>
+    /// Answers the next ticket, if its request is there, with the command done as `how` does it.
+    pub fn drive_by<F: FnOnce(&mut D, C) -> R + Drop>(
+        &mut self,
+        queue: &Queue<D, C, R>,
+        how: F,
+    ) -> Option<Answered<D, C, R>>
+        requires callable { F.IsAlwaysCallable how }
+        requires steps { DoesSteps D.step F.FnOnce how }
         requires one { self.old.seat.table_id ≡ queue.now.table.shared.table_id }
         ensures one { self.new.seat.table_id ≡ self.old.seat.table_id }
         ensures some { IfSome result (λ a. (a.seat.table_id ≡ self.old.seat.table_id) × (a.count ≡ length self.old.seat.me.0.known + 1) × (a.seat.me.0.known ≡ self.new.seat.me.0.known) × ((x : Entry C R) × (self.new.seat.me.0.known ≡ self.old.seat.me.0.known ++ x ∷ []) × D.step self.old.machine x.command x.reply self.new.machine)) }
@@ -219,7 +232,7 @@ impl<D: Machine<C, R>, C: Drop, R: Drop> Driver<D, C, R> {
             return None;
         }
         let mut request = shared.exchange(&mut self.seat, number, None).unwrap();
-        serve(&mut self.machine, &mut *request);
+        serve(&mut self.machine, &mut *request, how);
         shared.exchange(&mut self.seat, number, Some(request));
         shared.compare_exchange::<Answer>(&mut self.seat, number + 1, 2, 3);
         self.count += 1;
@@ -228,6 +241,24 @@ impl<D: Machine<C, R>, C: Drop, R: Drop> Driver<D, C, R> {
             seat,
             count: self.count,
         })
+    }
+
+    /// Answers the next ticket, if its request is there.
+    pub fn drive_one(&mut self, queue: &Queue<D, C, R>) -> Option<Answered<D, C, R>>
+        requires one { self.old.seat.table_id ≡ queue.now.table.shared.table_id }
+        ensures one { self.new.seat.table_id ≡ self.old.seat.table_id }
+        ensures some { IfSome result (λ a. (a.seat.table_id ≡ self.old.seat.table_id) × (a.count ≡ length self.old.seat.me.0.known + 1) × (a.seat.me.0.known ≡ self.new.seat.me.0.known) × ((x : Entry C R) × (self.new.seat.me.0.known ≡ self.old.seat.me.0.known ++ x ∷ []) × D.step self.old.machine x.command x.reply self.new.machine)) }
+        ensures grows { Begins self.old.seat.me.0.known self.new.seat.me.0.known × (length self.new.seat.me.0.known ≤ length self.old.seat.me.0.known + 1) }
+        ensures none { IfNone result ((self.new.machine ≡ self.old.machine) × (self.new.seat.me.0 ≡ self.old.seat.me.0)) }
+        ensures waits { IfNone result (length self.old.seat.me.0.known < 4096 → IsUnheard self.old.seat.me.0) }
+        ensures same { (self.new.seat.me.0.start ≡ self.old.seat.me.0.start) × (self.new.seat.me.0.admitted ≡ self.old.seat.me.0.admitted) × (self.new.seat.me.0.share ≡ self.old.seat.me.0.share) × (self.new.seat.me.0.count ≡ self.old.seat.me.0.count) }
+    {
+        self.drive_by(
+            queue,
+            |machine: &mut D, command: C| -> R
+                ensures { D.step machine.old command result machine.new }
+            { machine.apply(command) },
+        )
     }
 }
 
@@ -251,13 +282,16 @@ impl<D: Machine<C, R>, C: Drop, R: Drop> Driver<D, C, R> {
         shared.join_seat::<Learn>(&mut client.seat, back);
     }
 
-    /// Does the command of the only client at once, for a program on one thread: submits it, drives it, and collects the reply.
-    pub fn answer(
+    /// Does the command of the only client at once, as `how` does it: submits it, drives it, and collects the reply.
+    pub fn answer_by<F: FnOnce(&mut D, C) -> R + Drop>(
         &mut self,
         queue: &Queue<D, C, R>,
         client: &mut Client<D, C, R>,
         request: Box<Request<C, R>>,
+        how: F,
     ) -> Result<Box<Request<C, R>>, Full<C, R>>
+        requires callable { F.IsAlwaysCallable how }
+        requires steps { DoesSteps D.step F.FnOnce how }
         requires one { (self.old.seat.table_id ≡ queue.now.table.shared.table_id) × (client.old.seat.table_id ≡ queue.now.table.shared.table_id) }
         requires only { IsOnly self.old.seat.me.0 client.old.seat.me.0 }
         requires asked { (c : C) × (box_value request ≡ Asked c) }
@@ -275,11 +309,38 @@ impl<D: Machine<C, R>, C: Drop, R: Drop> Driver<D, C, R> {
         self.hear(queue, client);
         match submitted {
             Ok(ticket) => {
-                let mut answered = self.drive_one(queue).unwrap();
+                let mut answered = self.drive_by(queue, how).unwrap();
                 Ok(client.poll_known(queue, ticket, &mut answered))
             }
             Err(_) => unreachable!(),
         }
+    }
+
+    /// Does the command of the only client at once, for a program on one thread: submits it, drives it, and collects the reply.
+    pub fn answer(
+        &mut self,
+        queue: &Queue<D, C, R>,
+        client: &mut Client<D, C, R>,
+        request: Box<Request<C, R>>,
+    ) -> Result<Box<Request<C, R>>, Full<C, R>>
+        requires one { (self.old.seat.table_id ≡ queue.now.table.shared.table_id) × (client.old.seat.table_id ≡ queue.now.table.shared.table_id) }
+        requires only { IsOnly self.old.seat.me.0 client.old.seat.me.0 }
+        requires asked { (c : C) × (box_value request ≡ Asked c) }
+        ensures one { (self.new.seat.table_id ≡ self.old.seat.table_id) × (client.new.seat.table_id ≡ client.old.seat.table_id) }
+        ensures only { IsOnly self.new.seat.me.0 client.new.seat.me.0 }
+        ensures ok { IfOk result (λ b. (c : C) × (r : R) × (box_value request ≡ Asked c) × (box_value b ≡ AnsweredBy r) × D.step self.old.machine c r self.new.machine × (self.new.seat.me.0.known ≡ self.old.seat.me.0.known ++ entry c r ∷ [])) }
+        ensures room { IfOk result (λ b. length self.old.seat.me.0.known < 4096) }
+        ensures err { IfErr result (λ f. (f.request ≡ request) × (length self.old.seat.me.0.known ≡ 4096) × (self.new ≡ self.old) × (client.new ≡ client.old)) }
+        ensures start { (self.new.seat.me.0.start ≡ self.old.seat.me.0.start) × (client.new.seat.me.0.start ≡ client.old.seat.me.0.start) × (client.new.seat.me.0.name ≡ client.old.seat.me.0.name) }
+    {
+        self.answer_by(
+            queue,
+            client,
+            request,
+            |machine: &mut D, command: C| -> R
+                ensures { D.step machine.old command result machine.new }
+            { machine.apply(command) },
+        )
     }
 }
 

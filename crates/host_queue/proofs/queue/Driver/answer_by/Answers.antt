@@ -7,7 +7,7 @@ use Rattle.host_queue.specs.History.{Begins}
 use Rattle.host_queue.specs.Views.{held, entry}
 use Rattle.host_queue.proofs.Basics.{begins_long}
 use Rattle.host_queue.proofs.Clients.{stay_open, some_of, some_gives}
-use Rattle.host_queue.proofs.queue.Driver.answer.Goals as goal
+use Rattle.host_queue.proofs.queue.Driver.answer_by.Goals as goal
 
 pub unwrap-answered-requires : goal.unwrap-answered-requires
 unwrap-answered-requires g c = let sent = c.in-Ok.ensures in let n : ℕ = c.in-Ok.ticket.number in let only = c.requires.only in let old = c.args.client.now.seat.me.0.tickets in
@@ -15,7 +15,7 @@ unwrap-answered-requires g c = let sent = c.in-Ok.ensures in let n : ℕ = c.in-
     let many : length c.submit-submitted.new.self.seat.me.0.tickets ≡ length old + 1 = ap length sent.ticket.2 ∙ length-append old (held n sent.ticket.0 ∷ []) in
     let answered = only.answered in let long = begins_long c.args.self.now.seat.me.0.known c.args.client.now.seat.me.0.known only.known in let same : length c.hear.new.self.seat.me.0.known ≡ length c.args.self.now.seat.me.0.known = ap length c.hear.ensures.same.1 in
     let is : n ≡ length c.hear.new.self.seat.me.0.known = omega arith in
-    some_of c.drive_one.result c.drive_one.ensures.waits
+    some_of c.drive_by.result c.drive_by.ensures.waits
     (λ waits. waits (omega arith) (length old) (held n sent.ticket.0) (ap (λ l. get_elem? l (length old)) heard ∙ at_last old (held n sent.ticket.0) (length old) refl) is)
 
 pub poll_known-requires-clause-own : goal.poll_known-requires-clause-own
@@ -26,8 +26,8 @@ returns-clause-only g c = let sent = c.in-Ok.ensures in let n : ℕ = c.in-Ok.ti
     let heard = c.hear.ensures.heard ∙ sent.ticket.2 in let f = sent.next in let below = sent.ok.0 in let most = c.hear.ensures.drawn.0 (omega arith) in let least = sent.ok.2 in
     let many : length c.submit-submitted.new.self.seat.me.0.tickets ≡ length old + 1 = ap length sent.ticket.2 ∙ length-append old (held n sent.ticket.0 ∷ []) in
     let answered = only.answered in let long = begins_long c.args.self.now.seat.me.0.known c.args.client.now.seat.me.0.known only.known in let same : length c.hear.new.self.seat.me.0.known ≡ length c.args.self.now.seat.me.0.known = ap length c.hear.ensures.same.1 in
-    let is : n ≡ length c.hear.new.self.seat.me.0.known = omega arith in let told = some_gives c.drive_one.result c.unwrap-answered.result _ c.unwrap-answered.ensures c.drive_one.ensures.some in let d = c.drive_one.ensures.same in let h = c.hear.ensures.same in let x = told.3 in
-    let more : length c.drive_one.new.self.seat.me.0.known ≡ length c.hear.new.self.seat.me.0.known + 1 = ap length x.1 ∙ length-append c.hear.new.self.seat.me.0.known (x.0 ∷ []) in
+    let is : n ≡ length c.hear.new.self.seat.me.0.known = omega arith in let told = some_gives c.drive_by.result c.unwrap-answered.result _ c.unwrap-answered.ensures c.drive_by.ensures.some in let d = c.drive_by.ensures.same in let h = c.hear.ensures.same in let x = told.3 in
+    let more : length c.drive_by.new.self.seat.me.0.known ≡ length c.hear.new.self.seat.me.0.known + 1 = ap length x.1 ∙ length-append c.hear.new.self.seat.me.0.known (x.0 ∷ []) in
     let kept : length c.poll_known.new.self.seat.me.0.tickets ≡ length c.submit-submitted.new.self.seat.me.0.tickets = ap length (c.poll_known.ensures.same.0 ∙ c.hear.ensures.client.0) in record {
       admitted = d.1 ∙ (h.3 ∙ only.admitted);
       share = d.2 ∙ (h.4 ∙ only.share);
@@ -40,7 +40,7 @@ returns-clause-ok g c = let sent = c.in-Ok.ensures in let n : ℕ = c.in-Ok.tick
     let heard = c.hear.ensures.heard ∙ sent.ticket.2 in let f = sent.next in let below = sent.ok.0 in let most = c.hear.ensures.drawn.0 (omega arith) in let least = sent.ok.2 in
     let many : length c.submit-submitted.new.self.seat.me.0.tickets ≡ length old + 1 = ap length sent.ticket.2 ∙ length-append old (held n sent.ticket.0 ∷ []) in
     let answered = only.answered in let long = begins_long c.args.self.now.seat.me.0.known c.args.client.now.seat.me.0.known only.known in let same : length c.hear.new.self.seat.me.0.known ≡ length c.args.self.now.seat.me.0.known = ap length c.hear.ensures.same.1 in
-    let is : n ≡ length c.hear.new.self.seat.me.0.known = omega arith in let told = some_gives c.drive_one.result c.unwrap-answered.result _ c.unwrap-answered.ensures c.drive_one.ensures.some in let x = told.3.0 in let c0 = sent.ticket.0 in let known = c.hear.new.self.seat.me.0.known in
+    let is : n ≡ length c.hear.new.self.seat.me.0.known = omega arith in let told = some_gives c.drive_by.result c.unwrap-answered.result _ c.unwrap-answered.ensures c.drive_by.ensures.some in let x = told.3.0 in let c0 = sent.ticket.0 in let known = c.hear.new.self.seat.me.0.known in
     let at_x = subst (λ l. Begins l c.poll_known.new.self.seat.me.0.known) told.2 c.poll_known.ensures.known.1 n x (ap (λ l. get_elem? l n) told.3.1 ∙ at_last known x n (sym is)) in
     let got = c.poll_known.ensures.ok in let same_x = some-injective got.0 x (sym got.1 ∙ at_x) in
     let asked = c.poll_known.ensures.known.0.own (length old) (held n c0) (ap (λ l. get_elem? l (length old)) (c.hear.ensures.client.0 ∙ sent.ticket.2) ∙ at_last old (held n c0) (length old) refl) x at_x in (
@@ -48,6 +48,6 @@ returns-clause-ok g c = let sent = c.in-Ok.ensures in let n : ℕ = c.in-Ok.tick
       x.reply,
       sent.ticket.1,
       got.2 ∙ ap (λ z. AnsweredBy z.reply) same_x,
-      subst (λ z. g.D.Machine.step c.args.self.now.machine z x.reply c.drive_one.new.self.machine) asked (subst (λ m. g.D.Machine.step m x.command x.reply c.drive_one.new.self.machine) c.hear.ensures.same.0 told.3.2),
+      subst (λ z. g.D.Machine.step c.args.self.now.machine z x.reply c.drive_by.new.self.machine) asked (subst (λ m. g.D.Machine.step m x.command x.reply c.drive_by.new.self.machine) c.hear.ensures.same.0 told.3.2),
       told.3.1 ∙ (ap (λ l. l ++ x ∷ []) c.hear.ensures.same.1 ∙ ap (λ z. c.args.self.now.seat.me.0.known ++ entry z x.reply ∷ []) asked),
     )

@@ -7,7 +7,7 @@ use Rattle.host_queue.specs.History.{Begins}
 use Rattle.host_queue.proofs.Basics.{begins_more}
 use Rattle.host_queue.proofs.Comings.{tells}
 use Rattle.host_queue.proofs.Clients.{same_head, some_same, asked_same, taken_view, answered_view, runs_after, driver_after}
-use Rattle.host_queue.proofs.queue.Driver.drive_one.Goals as goal
+use Rattle.host_queue.proofs.queue.Driver.drive_by.Goals as goal
 
 pub compare_exchange-requires : goal.compare_exchange-requires
 compare_exchange-requires g c = let k = c.args.self.now.driver in let d = k.driving in let words = c.args.queue.now.sized.1 in let slots = c.args.queue.now.sized.0 in
