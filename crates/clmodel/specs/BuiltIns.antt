@@ -37,6 +37,8 @@ predefined =
     (codes "atomic_dec", Function (Atomic atomic.Dec)) ∷
     (codes "CLK_LOCAL_MEM_FENCE", Fence (record { local = true; global = false })) ∷
     (codes "CLK_GLOBAL_MEM_FENCE", Fence (record { local = false; global = true })) ∷
+    (codes "atomic_xchg", Function (Atomic atomic.Exchange)) ∷
+    (codes "atomic_cmpxchg", Function (Atomic atomic.CompareExchange)) ∷
     []
 
 -- the meanings in a table of texts

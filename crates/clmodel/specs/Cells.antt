@@ -1,13 +1,15 @@
 -- One region of memory: its bytes, and what a load, a store and an atomic update do to them.
 -- Numbers of sections are those of OpenCL 1.2, or of C99 where that is said; "own" is what this project decided.
-use Rattle.std.specs.Prelude.{ℕ, zero, suc, ◌+◌, ◌-◌, ◌*◌, ◌/◌, ◌%◌, ◌^◌, min, max, Bool, true, false, ◌&&◌, nat_le, nat_lt, if◌then◌else◌, Option, None, Some, List, [], ◌∷◌, bit_and, bit_or, bit_xor}
+use Rattle.std.specs.Prelude.{ℕ, zero, suc, ◌+◌, ◌-◌, ◌*◌, ◌/◌, ◌%◌, ◌^◌, ◌==◌, min, max, Bool, true, false, ◌&&◌, nat_le, nat_lt, if◌then◌else◌, Option, None, Some, List, [], ◌∷◌, bit_and, bit_or, bit_xor}
 use Rattle.std.specs.Option.{option_map}
 use Rattle.clmodel.specs.declared.access.Width.{Width}
 use Rattle.clmodel.specs.declared.access.Width.TheVariants.{One, Two, Four, Eight}
 use Rattle.clmodel.specs.declared.access.Class.{Class}
 use Rattle.clmodel.specs.declared.access.Class.TheVariants as class
+use Rattle.clmodel.specs.declared.access.FetchOp.{FetchOp}
+use Rattle.clmodel.specs.declared.access.FetchOp.TheVariants as fetch
 use Rattle.clmodel.specs.declared.access.Operation.{Operation}
-use Rattle.clmodel.specs.declared.access.Operation.TheVariants.{Load, Store, Update}
+use Rattle.clmodel.specs.declared.access.Operation.TheVariants.{Load, Store, Update, Fetch}
 use Rattle.clmodel.specs.declared.action.Answer.{Answer}
 use Rattle.clmodel.specs.declared.action.Answer.TheVariants.{Value, Done}
 
@@ -70,21 +72,29 @@ combined class.UnsignedMin x v = min (x % 2 ^ 32) (v % 2 ^ 32)
 combined class.SignedMax x v = signed_place (max (signed_place x) (signed_place v))
 combined class.UnsignedMax x v = max (x % 2 ^ 32) (v % 2 ^ 32)
 
--- the width of what an operation acts on: an update acts on 4 bytes (6.12.11)
+-- what an atomic operation whose old number is used leaves of a number x of 32 bits (6.12.11)
+abbrev pub fetched : FetchOp → ℕ → ℕ → ℕ
+fetched (fetch.Class class) x v = combined class x v
+fetched fetch.Exchange x v = v
+fetched (fetch.CompareExchange expected) x v = if x == expected then v else x
+
+-- the width of what an operation acts on: an atomic one acts on 4 bytes (6.12.11)
 abbrev pub width_of : Operation → Width
 width_of (Load width) = width
 width_of (Store width _) = width
 width_of (Update _ _) = Four
+width_of (Fetch _ _) = Four
 
 -- how many bytes an operation acts on (6.1.1, 6.12.11)
 abbrev pub size_of : Operation → ℕ
 size_of operation = byte_count (width_of operation)
 
--- whether the bytes must be set: a load and an update read them (6.12.11, own in what reading an unset one is)
+-- whether the bytes must be set: a load and an atomic operation read them (6.12.11, own in what reading an unset one is)
 abbrev pub reads : Operation → Bool
 reads (Load _) = true
 reads (Store _ _) = false
 reads (Update _ _) = true
+reads (Fetch _ _) = true
 
 -- the answer of an access and the cells that it leaves (own)
 pub record Outcome : Type 0 where
@@ -95,17 +105,19 @@ pub record Outcome : Type 0 where
 abbrev pub found : Operation → Cells → ℕ → Option ℕ
 found operation cells first = if reads operation then number cells first (size_of operation) else Some 0
 
--- the answer to an operation that found a number: a load gives it, and what an update returns goes unused (own)
+-- the answer to an operation that found a number: a load and a fetch give it (6.12.11: "returns old"), and what an update returns goes unused (own)
 abbrev pub answer_to : Operation → ℕ → Answer
 answer_to (Load _) x = Value x
 answer_to (Store _ _) x = Done
 answer_to (Update _ _) x = Done
+answer_to (Fetch _ _) x = Value x
 
 -- the cells that it leaves (C99 6.5.16.1, 6.12.11)
 abbrev pub effect : Operation → ℕ → Cells → ℕ → Cells
 effect (Load _) x cells first = cells
 effect (Store width value) x cells first = written cells first (byte_count width) value
 effect (Update class operand) x cells first = written cells first 4 (combined class x operand)
+effect (Fetch op operand) x cells first = written cells first 4 (fetched op x operand)
 
 -- an operation at the bytes from `first` on, done whole (6.12.11), or None where it reads an unset one (own)
 abbrev pub perform : Operation → Cells → ℕ → Option Outcome

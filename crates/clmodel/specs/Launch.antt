@@ -65,6 +65,7 @@ abbrev pub kind_of : Operation → AccessKind
 kind_of (operation.Load _) = kind.Load
 kind_of (operation.Store _ _) = kind.Store
 kind_of (operation.Update class _) = kind.Update class
+kind_of (operation.Fetch _ _) = kind.Fetch
 
 -- what is kept of an item's operation at the bytes from `first` on, made in an interval of its group (own)
 abbrev pub access_in : ℕ → Region → ℕ → Operation → ℕ → Access
@@ -82,11 +83,14 @@ class_number class.UnsignedMin = 5
 class_number class.SignedMax = 6
 class_number class.UnsignedMax = 7
 
--- How two kinds conflict (own, on 3.3.1 and 6.12.11): loads don't, nor updates of one class; updates of two classes leave what
--- depends on their order.
+-- How two kinds conflict (own, on 3.3.1 and 6.12.11): loads don't, nor updates of one class; what updates of two classes leave, and the old
+-- number that a fetch gives, depends on their order.
 abbrev pub clash : AccessKind → AccessKind → Option Clash
 clash kind.Load kind.Load = None
 clash (kind.Update c) (kind.Update d) = if class_number c == class_number d then None else Some Order
+clash (kind.Update c) kind.Fetch = Some Order
+clash kind.Fetch (kind.Update d) = Some Order
+clash kind.Fetch kind.Fetch = Some Order
 clash _ _ = Some Race
 
 -- an item's group: items are numbered group by group (3.2, own in the order)

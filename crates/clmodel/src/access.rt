@@ -44,12 +44,24 @@ pub enum Class {
     UnsignedMax,
 }
 
+/// What an atomic operation whose old number is used leaves of 4 bytes (OpenCL 1.2, section 6.12.11).
+#[derive(Clone, Copy, PartialEq, Eq)]
+pub enum FetchOp {
+    /// What an update of this class leaves
+    Class(Class),
+    /// `atomic_xchg`: the operand
+    Exchange,
+    /// `atomic_cmpxchg`: the operand, where the old number is this one; else the old number
+    CompareExchange(u32),
+}
+
 /// The kind of an access, by which accesses conflict.
 #[derive(Clone, Copy, PartialEq, Eq)]
 pub enum AccessKind {
     Load,
     Store,
     Update(Class),
+    Fetch,
 }
 
 /// An object that a pointer of a work-item points into (OpenCL 1.2, section 3.3): a buffer, by its place among the launch's
@@ -79,12 +91,14 @@ pub enum Region {
     Local { group: u32, number: u32 },
 }
 
-/// What an access does at its bytes. A store writes the low bytes of its value, an update acts on 4 bytes.
+/// What an access does at its bytes. A store writes the low bytes of its value. An update acts on 4 bytes, and so does a fetch, which
+/// answers their old number.
 #[derive(Clone, Copy, PartialEq, Eq)]
 pub enum Operation {
     Load(Width),
     Store(Width, u64),
     Update(Class, u32),
+    Fetch(FetchOp, u32),
 }
 
 impl Operation {
@@ -95,7 +109,7 @@ impl Operation {
         match self {
             Operation::Load(width) => width,
             Operation::Store(width, _) => width,
-            Operation::Update(_, _) => Width::Four,
+            Operation::Update(_, _) | Operation::Fetch(_, _) => Width::Four,
         }
     }
 
@@ -107,6 +121,7 @@ impl Operation {
             Operation::Load(_) => AccessKind::Load,
             Operation::Store(_, _) => AccessKind::Store,
             Operation::Update(class, _) => AccessKind::Update(class),
+            Operation::Fetch(_, _) => AccessKind::Fetch,
         }
     }
 }

@@ -72,6 +72,10 @@ pub enum AtomicFunction {
     Inc,
     /// `atomic_dec(p)`
     Dec,
+    /// `atomic_xchg(p, v)`
+    Exchange,
+    /// `atomic_cmpxchg(p, c, v)`
+    CompareExchange,
 }
 
 /// A built-in function (OpenCL 1.2, sections 6.12.1, 6.12.3 and 6.12.11).
@@ -94,7 +98,7 @@ pub enum Predefined {
 }
 
 /// The names that have a meaning without a declaration. A tree's table of names begins with these, in this order.
-pub static PREDEFINED: [(&[u8], Predefined); 26] = [
+pub static PREDEFINED: [(&[u8], Predefined); 28] = [
     (b"get_work_dim", Function(WorkDim)),
     (b"get_global_id", Function(WorkItem(GlobalId))),
     (b"get_local_id", Function(WorkItem(LocalId))),
@@ -132,6 +136,11 @@ pub static PREDEFINED: [(&[u8], Predefined); 26] = [
             local: false,
             global: true,
         }),
+    ),
+    (b"atomic_xchg", Function(Atomic(AtomicFunction::Exchange))),
+    (
+        b"atomic_cmpxchg",
+        Function(Atomic(AtomicFunction::CompareExchange)),
     ),
 ];
 

@@ -26,9 +26,7 @@ pub enum TypeFault {
     WrongSpace { at: u32 },
     /// 8: an argument of `barrier` that names no fences
     BadBarrierFlags { at: u32 },
-    /// 9: an atomic call that isn't a whole statement
-    AtomicValueUsed { at: u32 },
-    /// 10: loops nested too deep
+    /// 10 (9 was a used value of an atomic call, which is no fault): loops nested too deep
     TooManyLoops { at: u32 },
     /// 11: an array or a kernel that is too large
     TooLarge { at: u32 },
@@ -52,7 +50,6 @@ impl TypeFault {
             TypeFault::WrongArgumentCount { .. } => 6,
             TypeFault::WrongSpace { .. } => 7,
             TypeFault::BadBarrierFlags { .. } => 8,
-            TypeFault::AtomicValueUsed { .. } => 9,
             TypeFault::TooManyLoops { .. } => 10,
             TypeFault::TooLarge { .. } => 11,
             TypeFault::MissingReturn { .. } => 12,
@@ -73,7 +70,6 @@ impl TypeFault {
             | TypeFault::WrongArgumentCount { at }
             | TypeFault::WrongSpace { at }
             | TypeFault::BadBarrierFlags { at }
-            | TypeFault::AtomicValueUsed { at }
             | TypeFault::TooManyLoops { at }
             | TypeFault::TooLarge { at }
             | TypeFault::MissingReturn { at } => at,

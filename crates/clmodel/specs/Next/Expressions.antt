@@ -25,6 +25,8 @@ use Rattle.clmodel.specs.declared.access.Width.{Width}
 use Rattle.clmodel.specs.declared.access.Width.TheVariants.{One, Two, Four, Eight}
 use Rattle.clmodel.specs.declared.access.Class.{Class}
 use Rattle.clmodel.specs.declared.access.Class.TheVariants as class
+use Rattle.clmodel.specs.declared.access.FetchOp.{FetchOp}
+use Rattle.clmodel.specs.declared.access.FetchOp.TheVariants as fetch_op
 use Rattle.clmodel.specs.declared.access.Operation.TheVariants as operation
 use Rattle.clmodel.specs.declared.action.Action.{Action}
 use Rattle.clmodel.specs.declared.action.Action.TheVariants as action
@@ -217,7 +219,8 @@ element_set name (negsuc i) kind elements v after = fail (cause.PrivateBounds na
 abbrev pub write_element : (name : ℕ) → IntType → List (Option ℕ) → (index value : Operand) → (List (Option ℕ) → Run) → Run
 write_element name kind elements i v after = number i (λ n. number v (λ m. element_set name (index_of n) kind elements m after))
 
--- the class of an atomic function at an element type: the least and the greatest go by its sign
+-- The class of an atomic function at an element type: the least and the greatest go by its sign. (An exchange and a compare-exchange have
+-- none: they are no updates.)
 abbrev pub class_of : AtomicFunction → IntType → Class
 class_of atomic.Add kind = class.Add
 class_of atomic.Sub kind = class.Add
@@ -228,6 +231,8 @@ class_of atomic.Or kind = class.Or
 class_of atomic.Xor kind = class.Xor
 class_of atomic.Inc kind = class.Add
 class_of atomic.Dec kind = class.Add
+class_of atomic.Exchange kind = class.Add
+class_of atomic.CompareExchange kind = class.Add
 
 -- what an atomic function brings to its element, given a number of the element's type
 abbrev pub amount : AtomicFunction → Integer → Integer
@@ -240,11 +245,40 @@ abbrev pub update : AtomicFunction → Pointer → Integer → Run → Run
 update function p v after =
     ask (action.Access p.object p.offset (operation.Update (class_of function p.element) (bits_of Uint (amount function v).number))) (λ _. after)
 
--- A call of an atomic function. Its number is converted to the element's type; `inc` and `dec` are given none, and it is 1.
+-- A call of an atomic function that is an update. Its number is converted to the element's type; `inc` and `dec` are given none, and it is 1.
 abbrev pub atomic_call : AtomicFunction → List Operand → Run → Run
 atomic_call function (p ∷ []) after = pointing p (λ q. update function q (wrapped q.element (pos 1)) after)
 atomic_call function (p ∷ v ∷ []) after = pointing p (λ q. number v (λ n. update function q (converted n q.element) after))
 atomic_call function _ after = finish
+
+-- what an atomic function whose old number is used leaves, where the number that it compares with has these bits (6.12.11)
+abbrev pub fetch_op_of : AtomicFunction → IntType → (expected : ℕ) → FetchOp
+fetch_op_of atomic.Exchange kind expected = fetch_op.Exchange
+fetch_op_of atomic.CompareExchange kind expected = fetch_op.CompareExchange expected
+fetch_op_of function kind expected = fetch_op.Class (class_of function kind)
+
+-- an atomic operation on 32 bits through a pointer, with numbers of the element's type; its value is the old number (6.12.11)
+abbrev pub fetch_number : AtomicFunction → Pointer → (expected value : Integer) → (Operand → Run) → Run
+fetch_number function p expected v after =
+    ask (action.Access p.object p.offset
+    (operation.Fetch (fetch_op_of function p.element (bits_of Uint expected.number)) (bits_of Uint (amount function v).number)))
+    (λ answer. after (Integral (wrapped p.element (pos (answered answer)))))
+
+-- A call of an atomic function whose old number is used. Its numbers are converted to the element's type (6.12.11); one that isn't given
+-- is 1, and the number to compare with, which only a compare-exchange has, 0.
+abbrev pub fetch_call : AtomicFunction → List Operand → (Operand → Run) → Run
+fetch_call function (p ∷ []) after = pointing p (λ q. fetch_number function q (wrapped q.element (pos 0)) (wrapped q.element (pos 1)) after)
+fetch_call function (p ∷ v ∷ []) after =
+    pointing p (λ q. number v (λ n. fetch_number function q (wrapped q.element (pos 0)) (converted n q.element) after))
+fetch_call function (p ∷ c ∷ v ∷ []) after =
+    pointing p (λ q. number c (λ m. number v (λ n. fetch_number function q (converted m q.element) (converted n q.element) after)))
+fetch_call function _ after = finish
+
+-- whether a call that is a whole statement is an update: each atomic function but exchange and compare-exchange (own)
+abbrev pub is_update : AtomicFunction → Bool
+is_update atomic.Exchange = false
+is_update atomic.CompareExchange = false
+is_update _ = true
 
 abbrev pub arithmetic : Result Integer ArithFault → (Operand → Run) → Run
 arithmetic (Ok value) after = after (Integral value)
@@ -290,11 +324,13 @@ call here (Some built_in_function.WorkDim) [] after = after (Integral (wrapped U
 call here (Some (built_in_function.WorkItem function)) (d ∷ []) after =
     after (Integral (wrapped Ulong (pos (work_item_value here.range here.item function (dimension d)))))
 call here (Some (built_in_function.Integer function)) values after = integer_call function values after
+call here (Some (built_in_function.Atomic function)) values after = fetch_call function values after
 call here _ _ after = finish
 
--- a call that is a whole statement: an atomic function, or one whose value is dropped
+-- a call that is a whole statement: an atomic update, or a function whose value is dropped
 abbrev pub call_only : Here → Option BuiltIn → List Operand → Run → Run
-call_only here (Some (built_in_function.Atomic function)) values after = atomic_call function values after
+call_only here (Some (built_in_function.Atomic function)) values after =
+    if is_update function then atomic_call function values after else fetch_call function values (λ _. after)
 call_only here function values after = call here function values (λ _. after)
 
 -- the integer type of a type, or of what it points to

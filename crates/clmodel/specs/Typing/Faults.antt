@@ -1,5 +1,5 @@
 -- The faults of a tree: for each place the list of its faults, in no order, and the places in the order of the text, children before parents.
-use Rattle.std.specs.Prelude.{ℕ, Bool, true, false, not, ◌||◌, ◌&&◌, nat_eq, nat_le, List, [], ◌∷◌, ◌++◌, map, Option, None, Some, is_some, length}
+use Rattle.std.specs.Prelude.{ℕ, Bool, true, false, not, ◌||◌, ◌&&◌, nat_eq, nat_le, List, [], ◌∷◌, ◌++◌, map, replicate, Option, None, Some, is_some, length}
 use Rattle.std.specs.List.{slice_get}
 use Rattle.clnum.specs.Integer.{Integer}
 use Rattle.clnum.specs.Builtins.{is_same}
@@ -27,7 +27,7 @@ use Rattle.clmodel.specs.Tree as tree
 use Rattle.clmodel.specs.Tree.{Term, Terms, NoTerm, ThenTerm, array_length, Place, Stmt, Stmts, NoStmt, ThenStmt, MaybeStmt, Without, With, MaybeTerm, Always, While_}
 use Rattle.clmodel.specs.Typing.Context.{Context, Signature, Single, LocalArray, PrivateArray, value_type, element_type, is_outermost, Meaning, meaning, Bound, Callable, Current, BuiltInFunction, Barrier, Unknown, is_free, bind, enter, fenced, turning, for_context, after_all}
 use Rattle.clmodel.specs.Typing.Least.{Places, node}
-use Rattle.clmodel.specs.Typing.Rules.{is_constant, is_writable, is_stored, length_limit, is_atomic, has_operand, count}
+use Rattle.clmodel.specs.Typing.Rules.{is_constant, is_writable, is_stored, length_limit, is_atomic, operands, count}
 
 abbrev pub unless : Bool → TypeFault → List TypeFault
 unless true f = []
@@ -141,21 +141,16 @@ integer_wants integer.Max = AnInteger ∷ OfTypeBefore ∷ []
 integer_wants integer.Rotate = AnInteger ∷ OfTypeBefore ∷ []
 integer_wants _ = AnInteger ∷ []
 
-abbrev pub atomic_wants : (has_operand : Bool) → List Want
-atomic_wants true = AnAtomicPointer ∷ AnInteger ∷ []
-atomic_wants false = AnAtomicPointer ∷ []
+-- those of an atomic function, by how many operands it has beside its pointer
+abbrev pub atomic_wants : (operands : ℕ) → List Want
+atomic_wants operands = AnAtomicPointer ∷ replicate operands AnInteger
 
 -- the parameters of a built-in function
 abbrev pub wants : BuiltIn → List Want
 wants built_in.WorkDim = []
 wants (built_in.WorkItem f) = AnInteger ∷ []
 wants (built_in.Integer f) = integer_wants f
-wants (built_in.Atomic f) = atomic_wants (has_operand f)
-
--- whether its call has a value
-abbrev pub has_value : BuiltIn → Bool
-has_value (built_in.Atomic f) = false
-has_value _ = true
+wants (built_in.Atomic f) = atomic_wants (operands f)
 
 -- where a call stands
 pub data Spot : Type 0 where
@@ -179,8 +174,7 @@ helper_faults spot s a n =
 
 -- what is called: at which spot, where, and with how many arguments
 abbrev pub callee_faults : Spot → Meaning → (at arguments : ℕ) → List TypeFault
-callee_faults spot (BuiltInFunction f) a n =
-    unless (nat_eq n (length (wants f))) (fault.WrongArgumentCount a) ++ unless (is_statement spot || has_value f) (fault.AtomicValueUsed a)
+callee_faults spot (BuiltInFunction f) a n = unless (nat_eq n (length (wants f))) (fault.WrongArgumentCount a)
 callee_faults spot Barrier a n = unless (is_statement spot) (fault.TypeMismatch a) ++ unless (nat_eq n 1) (fault.WrongArgumentCount a)
 callee_faults spot (Callable s) a n = helper_faults spot s a n
 callee_faults spot (Current s) a n = helper_faults spot s a n ++ fault.Recursion a ∷ []

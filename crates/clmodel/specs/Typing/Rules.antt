@@ -14,7 +14,7 @@ use Rattle.clmodel.specs.Barrier.{fences}
 use Rattle.clmodel.specs.declared.action.Fences.{Fences}
 use Rattle.clmodel.specs.declared.declaration.Declaration.{Declaration}
 use Rattle.clmodel.specs.declared.setup.AtomicFunction.{AtomicFunction}
-use Rattle.clmodel.specs.declared.setup.AtomicFunction.TheVariants.{Inc, Dec}
+use Rattle.clmodel.specs.declared.setup.AtomicFunction.TheVariants.{Inc, Dec, CompareExchange}
 use Rattle.clmodel.specs.declared.setup.BuiltIn.{BuiltIn}
 use Rattle.clmodel.specs.declared.setup.BuiltIn.TheVariants as built_in
 use Rattle.clmodel.specs.declared.setup.WorkItemFunction.{WorkItemFunction}
@@ -55,11 +55,12 @@ is_atomic Int = true
 is_atomic Uint = true
 is_atomic _ = false
 
--- whether an atomic function has an operand beside its pointer
-abbrev pub has_operand : AtomicFunction → Bool
-has_operand Inc = false
-has_operand Dec = false
-has_operand _ = true
+-- how many operands an atomic function has beside its pointer (6.12.11)
+abbrev pub operands : AtomicFunction → ℕ
+operands Inc = 0
+operands Dec = 0
+operands CompareExchange = 2
+operands _ = 1
 
 -- A value of the second type can be given to what has the first: as an initialiser, an assignment or an argument (C99 6.5.16.1).
 pub data Passes : VariableType → VariableType → Type 0 where
@@ -75,20 +76,23 @@ pub data Operates : InfixOperator → VariableType → VariableType → Variable
   pointer_difference : {p : PointerType} {u : IntType} → Operates (Arithmetic Subtract) (Pointer p) (Number u) (Pointer p)
   sum_pointer : {t : IntType} {p : PointerType} → Operates (Arithmetic Add) (Number t) (Pointer p) (Pointer p)
 
--- A built-in function with arguments of these types, and the type of its value, if it has one (6.12.1, 6.12.3, 6.12.11).
-pub data Calls : BuiltIn → List VariableType → Option VariableType → Type 0 where
-  work_dim : Calls built_in.WorkDim [] (Some (Number Uint))
-  work_item : {f : WorkItemFunction} {t : IntType} → Calls (built_in.WorkItem f) (Number t ∷ []) (Some (Number Ulong))
-  min : {t : IntType} → Calls (built_in.Integer integer.Min) (Number t ∷ Number t ∷ []) (Some (Number t))
-  max : {t : IntType} → Calls (built_in.Integer integer.Max) (Number t ∷ Number t ∷ []) (Some (Number t))
-  rotate : {t : IntType} → Calls (built_in.Integer integer.Rotate) (Number t ∷ Number t ∷ []) (Some (Number t))
-  abs : {t : IntType} → Calls (built_in.Integer integer.Abs) (Number t ∷ []) (Some (Number (unsigned_of t)))
-  clz : {t : IntType} → Calls (built_in.Integer integer.Clz) (Number t ∷ []) (Some (Number t))
-  popcount : {t : IntType} → Calls (built_in.Integer integer.Popcount) (Number t ∷ []) (Some (Number t))
+-- A built-in function with arguments of these types, and the type of its value (6.12.1, 6.12.3, 6.12.11).
+pub data Calls : BuiltIn → List VariableType → VariableType → Type 0 where
+  work_dim : Calls built_in.WorkDim [] (Number Uint)
+  work_item : {f : WorkItemFunction} {t : IntType} → Calls (built_in.WorkItem f) (Number t ∷ []) (Number Ulong)
+  min : {t : IntType} → Calls (built_in.Integer integer.Min) (Number t ∷ Number t ∷ []) (Number t)
+  max : {t : IntType} → Calls (built_in.Integer integer.Max) (Number t ∷ Number t ∷ []) (Number t)
+  rotate : {t : IntType} → Calls (built_in.Integer integer.Rotate) (Number t ∷ Number t ∷ []) (Number t)
+  abs : {t : IntType} → Calls (built_in.Integer integer.Abs) (Number t ∷ []) (Number (unsigned_of t))
+  clz : {t : IntType} → Calls (built_in.Integer integer.Clz) (Number t ∷ []) (Number t)
+  popcount : {t : IntType} → Calls (built_in.Integer integer.Popcount) (Number t ∷ []) (Number t)
   atomic : {f : AtomicFunction} {p : PointerType} {t : IntType}
-      → has_operand f ≡ true → is_atomic p.element ≡ true → is_writable p ≡ true → Calls (built_in.Atomic f) (Pointer p ∷ Number t ∷ []) None
+      → operands f ≡ 1 → is_atomic p.element ≡ true → is_writable p ≡ true → Calls (built_in.Atomic f) (Pointer p ∷ Number t ∷ []) (Number p.element)
   atomic_alone : {f : AtomicFunction} {p : PointerType}
-      → has_operand f ≡ false → is_atomic p.element ≡ true → is_writable p ≡ true → Calls (built_in.Atomic f) (Pointer p ∷ []) None
+      → operands f ≡ 0 → is_atomic p.element ≡ true → is_writable p ≡ true → Calls (built_in.Atomic f) (Pointer p ∷ []) (Number p.element)
+  atomic_pair : {f : AtomicFunction} {p : PointerType} {t u : IntType}
+      → operands f ≡ 2 → is_atomic p.element ≡ true → is_writable p ≡ true
+      → Calls (built_in.Atomic f) (Pointer p ∷ Number t ∷ Number u ∷ []) (Number p.element)
 
 mutual
   -- An expression and its type.
@@ -101,7 +105,7 @@ mutual
         → meaning c x ≡ Bound d → value_type d ≡ Some (Pointer p) → Types c e (Number u) → Types c (tree.ElementAddress a b x e) (Pointer p)
     dereference : {a : ℕ} {p : PointerType} {e : Term} → Types c e (Pointer p) → Types c (tree.Dereference a e) (Number p.element)
     call : {a x : ℕ} {f : BuiltIn} {es : Terms} {ks : List VariableType} {k : VariableType}
-        → meaning c x ≡ BuiltInFunction f → TypesAll c es ks → Calls f ks (Some k) → Types c (tree.Call a x es) k
+        → meaning c x ≡ BuiltInFunction f → TypesAll c es ks → Calls f ks k → Types c (tree.Call a x es) k
     unary : {a : ℕ} {op : UnaryOperator} {t : IntType} {e : Term} → Types c e (Number t) → Types c (tree.Unary a op e) (Number (unary_kind op t))
     cast : {a : ℕ} {t u : IntType} {e : Term} → Types c e (Number u) → Types c (tree.Cast a t e) (Number t)
     binary : {a : ℕ} {op : InfixOperator} {d e : Term} {j k r : VariableType}
@@ -167,7 +171,7 @@ mutual
     assign_by : {c : Context} {a : ℕ} {p : Place} {op : BinaryOperator} {e : Term} {k j r : VariableType}
         → TypesPlace c p k → Gives c e j → Operates (Arithmetic op) k j r → Passes k r → IsTyped c (tree.Assign a p (Some op) e)
     step : {c : Context} {a : ℕ} {p : Place} {is_increment : Bool} {k : VariableType} → TypesPlace c p k → IsTyped c (tree.Step a p is_increment)
-    call_only : {c : Context} {a x : ℕ} {f : BuiltIn} {es : Terms} {ks : List VariableType} {r : Option VariableType}
+    call_only : {c : Context} {a x : ℕ} {f : BuiltIn} {es : Terms} {ks : List VariableType} {r : VariableType}
         → meaning c x ≡ BuiltInFunction f → TypesAll c es ks → Calls f ks r → IsTyped c (tree.CallOnly a x es)
     -- with the name of a fence, or both names (6.12.8)
     barrier : {c : Context} {a x : ℕ} {es : Terms} {f : Fences} → meaning c x ≡ Barrier → fences es ≡ Some f → IsTyped c (tree.CallOnly a x es)
