@@ -2,10 +2,10 @@
 use Rattle.std.proofs.Common.{◌≡◌, ℕ, zero, suc, ◌+◌, ◌-◌, ◌*◌, ◌^◌, ◌<◌, ◌≤◌, ◌⊎◌, Bool, true, false, nat_lt, nat_le, if◌then◌else◌, Option, None, Some, refl, sym, ap, ap₂, ◌∙◌, subst, inl, inr, arith, ltb-true, lt-ltb, leb-true, le-leb}
 use mathlib.Core.Path.{fun_ext}
 use Rattle.std.proofs.lemmas.Bool.{and_parts, and_from, false≢true, cases_eq}
-use Rattle.clmodel.specs.Cells.{Cells, byte_count, byte_of, joined, number, unset_or, lowest_unset, covers, written, combined, size_of, reads, found, answer_to, effect}
+use Rattle.clmodel.specs.Cells.{Cells, byte_count, byte_of, joined, number, unset_or, lowest_unset, covers, written, combined, fetched, size_of, reads, found, answer_to, effect}
 use Rattle.clmodel.specs.declared.access.Class.{Class}
 use Rattle.clmodel.specs.declared.access.Operation.{Operation}
-use Rattle.clmodel.specs.declared.access.Operation.TheVariants.{Load, Store, Update}
+use Rattle.clmodel.specs.declared.access.Operation.TheVariants.{Load, Store, Update, Fetch}
 use Rattle.clmodel.proofs.Bytes.{combined_below, combined_swap, four_bytes_are}
 use Rattle.clmodel.proofs.Steps.{none_some, some_inj, if_true, if_false}
 
@@ -40,6 +40,7 @@ pub found_frame :
 found_frame (Load width) c d first h = number_frame c d first (byte_count width) h
 found_frame (Store width value) c d first h = refl
 found_frame (Update class operand) c d first h = number_frame c d first 4 h
+found_frame (Fetch op operand) c d first h = number_frame c d first 4 h
 
 -- it leaves the other bytes as they were
 pub effect_out : (op : Operation) (x : ℕ) (c : Cells) (first byte : ℕ) → covers first (size_of op) byte ≡ false → effect op x c first byte ≡ c byte
@@ -48,6 +49,7 @@ effect_out (Load width) x c first byte h = refl
 effect_out (Store width value) x c first byte h = if_false (covers first (byte_count width) byte) (Some (byte_of (byte - first) value)) (c byte) h
 effect_out (Update class operand) x c first byte h =
     if_false (covers first 4 byte) (Some (byte_of (byte - first) (combined class x operand))) (c byte) h
+effect_out (Fetch op operand) x c first byte h = if_false (covers first 4 byte) (Some (byte_of (byte - first) (fetched op x operand))) (c byte) h
 
 -- what it leaves at a byte depends on that byte of the cells alone
 pub effect_at : (op : Operation) (x : ℕ) (c d : Cells) (first byte : ℕ) → c byte ≡ d byte → effect op x c first byte ≡ effect op x d first byte
@@ -56,6 +58,7 @@ effect_at (Load width) x c d first byte h = h
 effect_at (Store width value) x c d first byte h = ap (λ z. if covers first (byte_count width) byte then Some (byte_of (byte - first) value) else z) h
 effect_at (Update class operand) x c d first byte h =
     ap (λ z. if covers first 4 byte then Some (byte_of (byte - first) (combined class x operand)) else z) h
+effect_at (Fetch op operand) x c d first byte h = ap (λ z. if covers first 4 byte then Some (byte_of (byte - first) (fetched op x operand)) else z) h
 
 pub written_in : (c : Cells) (first count value byte : ℕ) → covers first count byte ≡ true → written c first count value byte ≡ Some (byte_of (byte - first) value)
 unfolding written
@@ -226,3 +229,4 @@ pub found_unset :
 found_unset (Load width) c first byte r h = number_unset c first (byte_count width) byte h
 found_unset (Store width value) c first byte r h = absurd (false≢true r)
 found_unset (Update class operand) c first byte r h = number_unset c first 4 byte h
+found_unset (Fetch op operand) c first byte r h = number_unset c first 4 byte h

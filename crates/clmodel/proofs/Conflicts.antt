@@ -17,7 +17,7 @@ use Rattle.clmodel.specs.declared.access.Conflict as conflict_type
 use Rattle.clmodel.specs.declared.access.Operation.{Operation}
 use Rattle.clmodel.specs.declared.access.Region.{Region}
 use Rattle.clmodel.specs.declared.access.Rule.{Rule}
-use Rattle.clmodel.specs.declared.access.Operation.TheVariants.{Load, Store, Update}
+use Rattle.clmodel.specs.declared.access.Operation.TheVariants.{Load, Store, Update, Fetch}
 use Rattle.clmodel.proofs.Steps.{none_some, if_true, or_else_none, region_for, ItemStep}
 use Rattle.clmodel.proofs.CellLaws.{covers_parts, Agree, Compatible}
 use Rattle.clmodel.proofs.Swaps.{same_region_self, same_region-true, Free}
@@ -135,11 +135,17 @@ clash_sym : (a b : AccessKind) → clash a b ≡ None → clash b a ≡ None
 clash_sym kind.Load kind.Load h = refl
 clash_sym kind.Load kind.Store h = absurd (none_some Race (sym h))
 clash_sym kind.Load (kind.Update d) h = absurd (none_some Race (sym h))
+clash_sym kind.Load kind.Fetch h = absurd (none_some Race (sym h))
 clash_sym kind.Store b h = absurd (none_some Race (sym h))
 clash_sym (kind.Update c) kind.Load h = absurd (none_some Race (sym h))
 clash_sym (kind.Update c) kind.Store h = absurd (none_some Race (sym h))
 clash_sym (kind.Update c) (kind.Update d) h =
     if_true (class_number d == class_number c) None (Some Order) (eq-eqb (class_number d) (class_number c) (sym (same_class c d h)))
+clash_sym (kind.Update c) kind.Fetch h = absurd (none_some Order (sym h))
+clash_sym kind.Fetch kind.Load h = absurd (none_some Race (sym h))
+clash_sym kind.Fetch kind.Store h = absurd (none_some Race (sym h))
+clash_sym kind.Fetch (kind.Update d) h = absurd (none_some Order (sym h))
+clash_sym kind.Fetch kind.Fetch h = absurd (none_some Order (sym h))
 
 clash_at_sym : (x y : Access) (byte : ℕ) → clash_at x y byte ≡ None → clash_at y x byte ≡ None
 clash_at_sym x y byte = clash_sym x.kind y.kind
@@ -170,10 +176,16 @@ agree :
 agree l s i r first (Load width) j r2 first2 (Load width2) byte h = tt
 agree l s i r first (Load width) j r2 first2 (Store width2 value) byte h = absurd (none_some Race (sym h))
 agree l s i r first (Load width) j r2 first2 (Update d operand) byte h = absurd (none_some Race (sym h))
+agree l s i r first (Load width) j r2 first2 (Fetch op operand) byte h = absurd (none_some Race (sym h))
 agree l s i r first (Store width value) j r2 first2 op2 byte h = absurd (none_some Race (sym h))
 agree l s i r first (Update c operand) j r2 first2 (Load width) byte h = absurd (none_some Race (sym h))
 agree l s i r first (Update c operand) j r2 first2 (Store width value) byte h = absurd (none_some Race (sym h))
 agree l s i r first (Update c operand) j r2 first2 (Update d operand2) byte h = sym (class_of-number c) ∙ ap class_of (same_class c d h) ∙ class_of-number d
+agree l s i r first (Update c operand) j r2 first2 (Fetch op operand2) byte h = absurd (none_some Order (sym h))
+agree l s i r first (Fetch op operand) j r2 first2 (Load width) byte h = absurd (none_some Race (sym h))
+agree l s i r first (Fetch op operand) j r2 first2 (Store width value) byte h = absurd (none_some Race (sym h))
+agree l s i r first (Fetch op operand) j r2 first2 (Update d operand2) byte h = absurd (none_some Order (sym h))
+agree l s i r first (Fetch op operand) j r2 first2 (Fetch op2 operand2) byte h = absurd (none_some Order (sym h))
 
 -- what an item's access would be logged as
 abbrev pub entry_of : (l : Launch) (s : State) (i : ℕ) (t : State) → ItemStep l s i t → Access
