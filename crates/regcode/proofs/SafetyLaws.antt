@@ -7,7 +7,7 @@ use Rattle.std.specs.List.{All}
 use Rattle.std.specs.Option.{option_map}
 use Rattle.clnum.specs.Integer.{Integer, converted}
 use Rattle.clnum.specs.Builtins.{is_same, builtin_value}
-use Rattle.clnum.specs.Operations.{unary_value, unary_kind, binary_value, binary_kind}
+use Rattle.clnum.specs.Operations.{unary_value, unary_kind, binary_value, binary_kind, wrapped}
 use Rattle.clnum.specs.declared.int_type.IntType.{IntType}
 use Rattle.clnum.specs.declared.int_type.IntType.TheVariants.{Int, Uint, Ulong}
 use Rattle.clnum.specs.declared.operators.ArithFault.{ArithFault}
@@ -209,18 +209,18 @@ module _ (Ends : Type 0) (Next : State → Type 0) (on after : State → Run) wh
 
   fetch_alone_safe : (function : AtomicFunction) (p : Operand) (f : Operand → Run) (r : Option RegisterKind) → Takes r (fetched_kind (Some (operand_kind p)))
       → ((x : Operand) → r ≡ Some (operand_kind x) → Safe (f x)) → Safe (fetch_call function (p ∷ []) f)
-  fetch_alone_safe function (Pointed p) f r takes h = old_safe function p _ _ f r takes h
+  fetch_alone_safe function (Pointed p) f r takes h = old_safe function p (wrapped p.element (pos 0)) (wrapped p.element (pos 1)) f r takes h
   fetch_alone_safe function (Integral n) f r takes h = absurd (takes_nothing r takes)
 
   fetch_number_safe : (function : AtomicFunction) (p v : Operand) (f : Operand → Run) (r : Option RegisterKind) → Takes r (fetched_kind (Some (operand_kind p)))
       → IsTrue (is_integer (Some (operand_kind v))) → ((x : Operand) → r ≡ Some (operand_kind x) → Safe (f x)) → Safe (fetch_call function (p ∷ v ∷ []) f)
-  fetch_number_safe function (Pointed p) v f r takes i h = number_safe v _ i (λ n is. old_safe function p _ _ f r takes h)
+  fetch_number_safe function (Pointed p) v f r takes i h = number_safe v _ i (λ n is. old_safe function p (wrapped p.element (pos 0)) (converted n p.element) f r takes h)
   fetch_number_safe function (Integral n) v f r takes i h = absurd (takes_nothing r takes)
 
   fetch_pair_safe : (function : AtomicFunction) (p c v : Operand) (f : Operand → Run) (r : Option RegisterKind) → Takes r (fetched_kind (Some (operand_kind p)))
       → IsTrue (is_integer (Some (operand_kind c))) → IsTrue (is_integer (Some (operand_kind v)))
       → ((x : Operand) → r ≡ Some (operand_kind x) → Safe (f x)) → Safe (fetch_call function (p ∷ c ∷ v ∷ []) f)
-  fetch_pair_safe function (Pointed p) c v f r takes i j h = number_safe c _ i (λ m is. number_safe v _ j (λ n is'. old_safe function p _ _ f r takes h))
+  fetch_pair_safe function (Pointed p) c v f r takes i j h = number_safe c _ i (λ m is. number_safe v _ j (λ n is'. old_safe function p (converted m p.element) (converted n p.element) f r takes h))
   fetch_pair_safe function (Integral n) c v f r takes i j h = absurd (takes_nothing r takes)
 
 -- The kinds of what is put into registers.
@@ -437,7 +437,7 @@ module _ (code : Listing) (s : State) (suits : Suits code s) where
         known_safe _ _ on after _ _ _ (λ c e'.
         known_safe _ _ on after _ _ _ (λ v e''.
         fetch_pair_safe _ _ on after function p c v _ (kind_at code to) (subst (λ k. Takes (kind_at code to) (fetched_kind k)) (suits.typed pointer p e) fits.0)
-        (subst (λ k. IsTrue (is_integer k)) (suits.typed expected c e') fits.1) (subst (λ k. IsTrue (is_integer k)) (suits.typed value v e'') fits.2)
+        (subst (λ k. IsTrue (is_integer k)) (suits.typed expected c e') fits.1.0) (subst (λ k. IsTrue (is_integer k)) (suits.typed value v e'') fits.1.1)
         (λ x is. after_at _ (put_next to x is goes)))))
     does (instruction.Barrier site depth fences) fits named goes = asked _ _ (λ answer. after_at _ (onward_next _ (omega arith) goes.1))
     does (instruction.Enter depth) fits named goes = on_at _ (turns_next depth 0 goes.0 goes.2)

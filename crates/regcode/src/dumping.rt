@@ -58,11 +58,21 @@ fn parts(place: usize, instruction: &Instruction) -> Parts
     ensures { parts_text result.0 result.1 result.2 result.3 ≡ listed (names_in place instruction.now) }
 {
     match *instruction {
-        Instruction::Unset { to } | Instruction::Dimensions { to } => (register(to), None, None, None),
+        Instruction::Unset { to } | Instruction::Dimensions { to } => (
+            register(to),
+            None,
+            None,
+            None,
+        ),
         Instruction::Constant { to, value } => (register(to), Some(Part::Value(value)), None, None),
         Instruction::Move { to, from, name } => (register(to), register(from), number(name), None),
         Instruction::Hold { to, from, kind } => {
-            (register(to), register(from), Some(Part::Variable(kind)), None)
+            (
+                register(to),
+                register(from),
+                Some(Part::Variable(kind)),
+                None,
+            )
         }
         Instruction::Convert { to, from, kind }
         | Instruction::Common {
@@ -82,18 +92,39 @@ fn parts(place: usize, instruction: &Instruction) -> Parts
             first,
             second,
             ..
-        } => { (register(to), register(first), second.map(Part::Register), None) }
+        } => {
+            (
+                register(to),
+                register(first),
+                second.map(Part::Register),
+                None,
+            )
+        }
         Instruction::Query { to, dimension, .. } => (register(to), register(dimension), None, None),
         Instruction::Argument {
             to,
             number: place,
             kind,
-        } => { (register(to), number(place), Some(Part::Variable(kind)), None) }
+        } => {
+            (
+                register(to),
+                number(place),
+                Some(Part::Variable(kind)),
+                None,
+            )
+        }
         Instruction::Local {
             to,
             number: object,
             element,
-        } => { (register(to), number(object), Some(Part::Type(element)), None) }
+        } => {
+            (
+                register(to),
+                number(object),
+                Some(Part::Type(element)),
+                None,
+            )
+        }
         Instruction::UnsetArray { array, length } => (number(array), number(length), None, None),
         Instruction::PrivateLoad {
             to,
@@ -127,7 +158,12 @@ fn parts(place: usize, instruction: &Instruction) -> Parts
         Instruction::Offset { to, pointer, index } => {
             (register(to), register(pointer), register(index), None)
         }
-        Instruction::Load { to, pointer } => (register(to), Some(Part::Element(pointer)), None, None),
+        Instruction::Load { to, pointer } => (
+            register(to),
+            Some(Part::Element(pointer)),
+            None,
+            None,
+        ),
         Instruction::Store { pointer, value } => {
             (Some(Part::Element(pointer)), register(value), None, None)
         }
@@ -158,8 +194,20 @@ fn parts(place: usize, instruction: &Instruction) -> Parts
             site,
             depth,
             fences,
-        } => { (number(site), number(depth), Some(Part::Fences(fences)), None) }
-        Instruction::Enter { depth } | Instruction::Turn { depth } => (number(depth), None, None, None),
+        } => {
+            (
+                number(site),
+                number(depth),
+                Some(Part::Fences(fences)),
+                None,
+            )
+        }
+        Instruction::Enter { depth } | Instruction::Turn { depth } => (
+            number(depth),
+            None,
+            None,
+            None,
+        ),
         Instruction::Jump { by } => (onward(place, by), None, None, None),
         Instruction::JumpIfZero { test, by } => (register(test), onward(place, by), None, None),
         Instruction::Back { by } => (back(place, by), None, None, None),

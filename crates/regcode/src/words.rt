@@ -153,7 +153,9 @@ pub(crate) fn instruction_word(instruction: &Instruction) -> &'static str
         Instruction::Offset { .. } => "offset",
         Instruction::Load { .. } => "load",
         Instruction::Store { .. } => "store",
-        Instruction::Update { function, .. } | Instruction::Fetch { function, .. } => atomic_word(*function),
+        Instruction::Update { function, .. } | Instruction::Fetch { function, .. } => atomic_word(
+            *function,
+        ),
         Instruction::Barrier { .. } => "barrier",
         Instruction::Enter { .. } => "enter",
         Instruction::Turn { .. } => "turn",
