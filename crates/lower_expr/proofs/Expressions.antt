@@ -25,7 +25,7 @@ use Rattle.regcode.proofs.Registers.{reg_put}
 use Rattle.lower_expr.specs.Scope.{Scope, register_at, register_of, level_of, Sees, free_level}
 use Rattle.lower_expr.specs.Expressions.{expr_code, terms_code, place_code, place_register, register_for, registers_for, kind_of, kind_named, variable_code, type_of_elements, private_load, element_code, address_code, truth_code, infix_code, branch_code, choice_code, call_code, count}
 use Rattle.lower_expr.specs.Agreement.{HasAt, Reached, Hold, HoldsPart, Follows, FollowsAll, FollowsPlace}
-use Rattle.regcode.proofs.Agreement.{Agree, ends, constant_runs, unset_runs, move_runs, jump_runs, convert_runs, common_runs, unary_runs, binary_runs, one_integer_runs, two_integers_run, dimensions_run, query_runs, point_runs, offset_runs, load_runs, private_load_runs, branch_runs}
+use Rattle.regcode.proofs.Agreement.{Agree, ends, constant_runs, unset_runs, move_runs, jump_runs, convert_runs, common_runs, unary_runs, binary_runs, one_integer_runs, two_integers_run, dimensions_run, query_runs, point_runs, offset_runs, load_runs, private_load_runs, fetch_alone_runs, fetch_number_runs, fetch_pair_runs, branch_runs}
 use Rattle.lower_expr.proofs.Lengths.{call_length}
 use Rattle.lower_expr.proofs.Places.{has_left, has_right, has_moved, reached_here, reached_put, reached_then, register_kept, seen_kept, reached_to, reached_passed, reached_onward, found, look_seen, type_seen, array_seen, elements_seen, hold_then, arguments_kept}
 
@@ -200,7 +200,6 @@ module _ (given : Given) (code : List Instruction) (bound : ℕ) where
       → HasAt code s.place (call_code function to numbers) → Hold s.registers numbers values → ((v : Operand) → Agree given code bound (with_put s to (Some v)) (after v))
       → Agree given code bound s (call given.here function values after)
   call_runs None to numbers values s after has held go = ends given code bound s has.0
-  call_runs (Some (built_in_function.Atomic function)) to numbers values s after has held go = ends given code bound s has.0
   call_runs (Some built_in_function.WorkDim) to [] [] s after has held go = dimensions_run given code bound s after to has.0 go
   call_runs (Some built_in_function.WorkDim) to [] (v ∷ values) s after has held go = absurd held
   call_runs (Some built_in_function.WorkDim) to (i ∷ numbers) [] s after has held go = absurd held
@@ -223,6 +222,21 @@ module _ (given : Given) (code : List Instruction) (bound : ℕ) where
   call_runs (Some (built_in_function.Integer function)) to (i ∷ j ∷ []) (v ∷ w ∷ x ∷ values) s after has held go = absurd held.1.1
   call_runs (Some (built_in_function.Integer function)) to (i ∷ j ∷ k ∷ numbers) (v ∷ w ∷ []) s after has held go = absurd held.1.1
   call_runs (Some (built_in_function.Integer function)) to (i ∷ j ∷ k ∷ numbers) (v ∷ w ∷ x ∷ values) s after has held go = ends given code bound s has.0
+  call_runs (Some (built_in_function.Atomic function)) to [] [] s after has held go = ends given code bound s has.0
+  call_runs (Some (built_in_function.Atomic function)) to [] (v ∷ values) s after has held go = absurd held
+  call_runs (Some (built_in_function.Atomic function)) to (i ∷ numbers) [] s after has held go = absurd held
+  call_runs (Some (built_in_function.Atomic function)) to (i ∷ []) (v ∷ []) s after has held go = fetch_alone_runs given code bound bound s after to function i v (omega arith) has.0 held.0 go
+  call_runs (Some (built_in_function.Atomic function)) to (i ∷ []) (v ∷ w ∷ values) s after has held go = absurd held.1
+  call_runs (Some (built_in_function.Atomic function)) to (i ∷ j ∷ numbers) (v ∷ []) s after has held go = absurd held.1
+  call_runs (Some (built_in_function.Atomic function)) to (i ∷ j ∷ []) (v ∷ w ∷ []) s after has held go =
+      fetch_number_runs given code bound bound s after to function i j v w (omega arith) has.0 held.0 held.1.0 go
+  call_runs (Some (built_in_function.Atomic function)) to (i ∷ j ∷ []) (v ∷ w ∷ x ∷ values) s after has held go = absurd held.1.1
+  call_runs (Some (built_in_function.Atomic function)) to (i ∷ j ∷ k ∷ numbers) (v ∷ w ∷ []) s after has held go = absurd held.1.1
+  call_runs (Some (built_in_function.Atomic function)) to (i ∷ j ∷ k ∷ []) (v ∷ w ∷ x ∷ []) s after has held go =
+      fetch_pair_runs given code bound bound s after to function i j k v w x (omega arith) has.0 held.0 held.1.0 held.1.1.0 go
+  call_runs (Some (built_in_function.Atomic function)) to (i ∷ j ∷ k ∷ []) (v ∷ w ∷ x ∷ y ∷ values) s after has held go = absurd held.1.1.1
+  call_runs (Some (built_in_function.Atomic function)) to (i ∷ j ∷ k ∷ l ∷ numbers) (v ∷ w ∷ x ∷ []) s after has held go = absurd held.1.1.1
+  call_runs (Some (built_in_function.Atomic function)) to (i ∷ j ∷ k ∷ l ∷ numbers) (v ∷ w ∷ x ∷ y ∷ values) s after has held go = ends given code bound s has.0
 
   -- an operator behind its left operand
   infix_runs : (scope : Scope) (level : ℕ) (operator : InfixOperator) (left right : Term) (s : State) (middle : ℕ) (now : State) (place : ℕ) (vs : Variables) (v : Operand) (after : Operand → Run)

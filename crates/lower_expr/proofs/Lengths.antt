@@ -2,15 +2,16 @@
 use Rattle.std.proofs.Common.{◌≡◌, ℕ, suc, ◌+◌, ◌==◌, Bool, true, false, Option, None, Some, List, [], ◌∷◌, ◌++◌, length, if◌then◌else◌, refl, sym, ap, ap₂, ◌∙◌}
 use Rattle.std.proofs.lemmas.List.{length-append}
 use Rattle.clmodel.specs.BuiltIns.{built_in}
-use Rattle.clmodel.specs.Next.{Variables, is_private_array}
+use Rattle.clmodel.specs.Next.{Variables, is_private_array, is_update}
 use Rattle.clmodel.specs.Tree.{Term, Number, Variable, Element, ElementAddress, Dereference, Call, Unary, Cast, Binary, Choice, Terms, NoTerm, ThenTerm, Place, Whole, Part, Behind}
+use Rattle.clmodel.specs.declared.setup.AtomicFunction.{AtomicFunction}
 use Rattle.clmodel.specs.declared.setup.BuiltIn.{BuiltIn}
 use Rattle.clmodel.specs.declared.setup.BuiltIn.TheVariants as built_in_function
 use Rattle.clmodel.specs.declared.tree.InfixOperator.{InfixOperator}
 use Rattle.clmodel.specs.declared.tree.InfixOperator.TheVariants.{Arithmetic, LogicalAnd, LogicalOr}
 use Rattle.regcode.specs.declared.instruction.Instruction.{Instruction}
 use Rattle.lower_expr.specs.Scope.{Scope, register_in}
-use Rattle.lower_expr.specs.Expressions.{expr_code, terms_code, place_code, kind_of, registers_for, variable_code, element_code, truth_code, infix_code, choice_code, call_code, call_only_code}
+use Rattle.lower_expr.specs.Expressions.{expr_code, terms_code, place_code, kind_of, registers_for, variable_code, element_code, truth_code, infix_code, choice_code, call_code, update_code, call_only_code}
 
 -- lists of one length
 pub record SameLength {A : Type 0} (xs ys : List A) : Type 0 where
@@ -65,17 +66,29 @@ call_length (Some (built_in_function.Integer function)) to [] = refl
 call_length (Some (built_in_function.Integer function)) to (a ∷ []) = refl
 call_length (Some (built_in_function.Integer function)) to (a ∷ b ∷ []) = refl
 call_length (Some (built_in_function.Integer function)) to (a ∷ b ∷ c ∷ numbers) = refl
-call_length (Some (built_in_function.Atomic function)) to numbers = refl
+call_length (Some (built_in_function.Atomic function)) to [] = refl
+call_length (Some (built_in_function.Atomic function)) to (p ∷ []) = refl
+call_length (Some (built_in_function.Atomic function)) to (p ∷ v ∷ []) = refl
+call_length (Some (built_in_function.Atomic function)) to (p ∷ c ∷ v ∷ []) = refl
+call_length (Some (built_in_function.Atomic function)) to (p ∷ c ∷ v ∷ w ∷ numbers) = refl
+
+update_length : (function : AtomicFunction) (numbers : List ℕ) → length (update_code function numbers) ≡ 1
+update_length function [] = refl
+update_length function (p ∷ []) = refl
+update_length function (p ∷ v ∷ []) = refl
+update_length function (p ∷ v ∷ w ∷ numbers) = refl
+
+either_length : (b : Bool) (xs ys : List Instruction) → length xs ≡ 1 → length ys ≡ 1 → length (if b then xs else ys) ≡ 1
+either_length true xs ys h k = h
+either_length false xs ys h k = k
 
 pub call_only_length : (function : Option BuiltIn) (to : ℕ) (numbers : List ℕ) → length (call_only_code function to numbers) ≡ 1
 call_only_length None to numbers = refl
 call_only_length (Some built_in_function.WorkDim) to numbers = call_length (Some built_in_function.WorkDim) to numbers
 call_only_length (Some (built_in_function.WorkItem function)) to numbers = call_length (Some (built_in_function.WorkItem function)) to numbers
 call_only_length (Some (built_in_function.Integer function)) to numbers = call_length (Some (built_in_function.Integer function)) to numbers
-call_only_length (Some (built_in_function.Atomic function)) to [] = refl
-call_only_length (Some (built_in_function.Atomic function)) to (p ∷ []) = refl
-call_only_length (Some (built_in_function.Atomic function)) to (p ∷ v ∷ []) = refl
-call_only_length (Some (built_in_function.Atomic function)) to (p ∷ v ∷ w ∷ numbers) = refl
+call_only_length (Some (built_in_function.Atomic function)) to numbers =
+    either_length (is_update function) (update_code function numbers) _ (update_length function numbers) (call_length (Some (built_in_function.Atomic function)) to numbers)
 
 pub call_same : (function : Option BuiltIn) (to to2 : ℕ) (numbers numbers2 : List ℕ) → SameLength (call_code function to numbers) (call_code function to2 numbers2)
 call_same function to to2 numbers numbers2 = record { same = call_length function to numbers ∙ sym (call_length function to2 numbers2) }

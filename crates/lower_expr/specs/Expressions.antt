@@ -4,14 +4,16 @@ use Rattle.std.specs.Prelude.{ℕ, ◌+◌, true, false, if◌then◌else◌, Op
 use Rattle.clnum.specs.Operations.{truth}
 use Rattle.clnum.specs.declared.int_type.IntType.{IntType}
 use Rattle.clmodel.specs.BuiltIns.{built_in}
-use Rattle.clmodel.specs.Next.{type_of, declared_type, base_type, is_private_array}
+use Rattle.clmodel.specs.Next.{type_of, declared_type, base_type, is_private_array, is_update}
 use Rattle.clmodel.specs.Tree.{Term, Number, Variable, Element, ElementAddress, Dereference, Call, Unary, Cast, Binary, Choice, Terms, NoTerm, ThenTerm, Place, Whole, Part, Behind}
+use Rattle.clmodel.specs.declared.setup.AtomicFunction.{AtomicFunction}
 use Rattle.clmodel.specs.declared.setup.BuiltIn.{BuiltIn}
 use Rattle.clmodel.specs.declared.setup.BuiltIn.TheVariants as built_in_function
 use Rattle.clmodel.specs.declared.tree.InfixOperator.{InfixOperator}
 use Rattle.clmodel.specs.declared.tree.InfixOperator.TheVariants.{Arithmetic, LogicalAnd, LogicalOr}
 use Rattle.clmodel.specs.declared.tree.VariableType.{VariableType}
 use Rattle.clmodel.specs.declared.tree.VariableType.TheVariants.{Integer}
+use Rattle.regcode.specs.declared.instruction.FetchOperands.TheVariants as operands
 use Rattle.regcode.specs.declared.instruction.Instruction.{Instruction}
 use Rattle.regcode.specs.declared.instruction.Instruction.TheVariants as instruction
 use Rattle.lower_expr.specs.Scope.{Scope, register_at, register_of, level_of}
@@ -75,12 +77,21 @@ call_code (Some built_in_function.WorkDim) to [] = instruction.Dimensions to ∷
 call_code (Some (built_in_function.WorkItem function)) to (a ∷ []) = instruction.Query to function a ∷ []
 call_code (Some (built_in_function.Integer function)) to (a ∷ []) = instruction.Builtin to function a None ∷ []
 call_code (Some (built_in_function.Integer function)) to (a ∷ b ∷ []) = instruction.Builtin to function a (Some b) ∷ []
+call_code (Some (built_in_function.Atomic function)) to (p ∷ []) = instruction.Fetch to function p operands.Alone ∷ []
+call_code (Some (built_in_function.Atomic function)) to (p ∷ v ∷ []) = instruction.Fetch to function p (operands.Number v) ∷ []
+call_code (Some (built_in_function.Atomic function)) to (p ∷ c ∷ v ∷ []) = instruction.Fetch to function p (operands.Pair c v) ∷ []
 call_code _ to registers = instruction.End ∷ []
 
--- the same as a whole statement: atomic functions too
+-- an atomic update
+abbrev pub update_code : AtomicFunction → List ℕ → List Instruction
+update_code function (p ∷ []) = instruction.Update function p None ∷ []
+update_code function (p ∷ v ∷ []) = instruction.Update function p (Some v) ∷ []
+update_code function registers = instruction.End ∷ []
+
+-- the same as a whole statement, whose value isn't used: atomic functions but exchange and compare-exchange are updates
 abbrev pub call_only_code : Option BuiltIn → ℕ → List ℕ → List Instruction
-call_only_code (Some (built_in_function.Atomic function)) to (p ∷ []) = instruction.Update function p None ∷ []
-call_only_code (Some (built_in_function.Atomic function)) to (p ∷ v ∷ []) = instruction.Update function p (Some v) ∷ []
+call_only_code (Some (built_in_function.Atomic function)) to registers =
+    if is_update function then update_code function registers else call_code (Some (built_in_function.Atomic function)) to registers
 call_only_code function to registers = call_code function to registers
 
 abbrev pub count : Terms → ℕ

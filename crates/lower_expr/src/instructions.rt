@@ -17,7 +17,7 @@ use crate::types::{base_type, call_type, infix_type};
 use clmodel::setup::{AtomicFunction, BuiltIn, WorkItemFunction};
 use clmodel::tree::{InfixOperator, VariableType};
 use clnum::{Builtin, IntType, UnaryOperator, Value, unary_kind};
-use regcode::Instruction;
+use regcode::{FetchOperands, Instruction};
 use smallvec::SmallVec;
 use std::alloc::AllocError;
 
@@ -288,7 +288,8 @@ pub fn call_only(
     ensures longer { OnErr result (IsLonger code.old.items code.new.items) }
 {
     let instruction = match function {
-        BuiltIn::Atomic(function) => atomic(to, function, arguments),
+        BuiltIn::Atomic(function) if is_update(function) => update(function, arguments),
+        BuiltIn::Atomic(function) => fetch(to, function, arguments),
         BuiltIn::WorkDim => dimensions(to, arguments),
         BuiltIn::WorkItem(function) => query(to, function, arguments),
         BuiltIn::Integer(function) => builtin(to, function, arguments),
@@ -304,14 +305,54 @@ fn value_call(function: Option<BuiltIn>, to: u32, arguments: &[u32]) -> Instruct
         Some(BuiltIn::WorkDim) => dimensions(to, arguments),
         Some(BuiltIn::WorkItem(function)) => query(to, function, arguments),
         Some(BuiltIn::Integer(function)) => builtin(to, function, arguments),
-        Some(BuiltIn::Atomic(_)) => Instruction::End,
+        Some(BuiltIn::Atomic(function)) => fetch(to, function, arguments),
         None => Instruction::End,
     }
 }
 
-/// The call of an atomic function.
-fn atomic(to: u32, function: AtomicFunction, arguments: &[u32]) -> Instruction
-    ensures { result ∷ [] ≡ expressions.call_only_code (Some (built_in_function.Atomic function)) to arguments.now }
+/// Whether a call of an atomic function that is a whole statement is an update.
+fn is_update(function: AtomicFunction) -> bool
+    ensures { result ≡ next.is_update function }
+{
+    match function {
+        AtomicFunction::Exchange | AtomicFunction::CompareExchange => false,
+        _ => true,
+    }
+}
+
+/// The call of an atomic function whose value is used.
+fn fetch(to: u32, function: AtomicFunction, arguments: &[u32]) -> Instruction
+    ensures { result ∷ [] ≡ expressions.call_code (Some (built_in_function.Atomic function)) to arguments.now }
+{
+    match arguments {
+        [pointer] => Instruction::Fetch {
+            to,
+            function,
+            pointer: *pointer,
+            operands: FetchOperands::Alone,
+        },
+        [pointer, value] => Instruction::Fetch {
+            to,
+            function,
+            pointer: *pointer,
+            operands: FetchOperands::Number(*value),
+        },
+        [pointer, expected, value] => Instruction::Fetch {
+            to,
+            function,
+            pointer: *pointer,
+            operands: FetchOperands::Pair {
+                expected: *expected,
+                value: *value,
+            },
+        },
+        _ => Instruction::End,
+    }
+}
+
+/// An atomic update.
+fn update(function: AtomicFunction, arguments: &[u32]) -> Instruction
+    ensures { result ∷ [] ≡ expressions.update_code function arguments.now }
 {
     match arguments {
         [pointer] => Instruction::Update {

@@ -7,24 +7,24 @@ use Rattle.regcode.specs.declared.instruction.Instruction.{Instruction}
 use Rattle.regcode.specs.Text.{joined, line_of, lines_from}
 
 -- the text of a line, by what is written of it one after another
-abbrev pub written_line : (place word first second third : List ℕ) → List ℕ
-written_line place word first second third = ((((place ++ (codes " " ++ (word ++ []))) ++ first) ++ second) ++ third) ++ codes "\n"
+abbrev pub written_line : (place word first second third fourth : List ℕ) → List ℕ
+written_line place word first second third fourth = (((((place ++ (codes " " ++ (word ++ []))) ++ first) ++ second) ++ third) ++ fourth) ++ codes "\n"
 
-line_appended : (place space word first second third end : List ℕ) → place ++ (space ++ (word ++ ((first ++ (second ++ (third ++ []))) ++ (end ++ [])))) ≡ ((((place ++ (space ++ (word ++ []))) ++ first) ++ second) ++ third) ++ end
-line_appended place space word first second third end = grind (arith, append_assoc, append-nil)
+line_appended : (place space word first second third fourth end : List ℕ) → place ++ (space ++ (word ++ ((first ++ (second ++ (third ++ (fourth ++ [])))) ++ (end ++ [])))) ≡ (((((place ++ (space ++ (word ++ []))) ++ first) ++ second) ++ third) ++ fourth) ++ end
+line_appended place space word first second third fourth end = grind (arith, append_assoc, append-nil)
 
 -- what is known of the text that is written is known of the line
-line_written : (P : List ℕ → Type 0) {word names : List ℕ} (place written first second third : List ℕ) → written ≡ word → joined (first ∷ second ∷ third ∷ []) ≡ names → P (written_line place written first second third) → P (joined (place ∷ codes " " ∷ word ∷ names ∷ codes "\n" ∷ []))
-line_written P {word} {names} place written first second third is same p =
+line_written : (P : List ℕ → Type 0) {word names : List ℕ} (place written first second third fourth : List ℕ) → written ≡ word → joined (first ∷ second ∷ third ∷ fourth ∷ []) ≡ names → P (written_line place written first second third fourth) → P (joined (place ∷ codes " " ∷ word ∷ names ∷ codes "\n" ∷ []))
+line_written P {word} {names} place written first second third fourth is same p =
     let Q : List ℕ → Type 0 = λ names. P (joined (place ∷ codes " " ∷ written ∷ names ∷ codes "\n" ∷ [])) in
     let R : List ℕ → Type 0 = λ word. P (joined (place ∷ codes " " ∷ word ∷ names ∷ codes "\n" ∷ [])) in
-    subst R is (subst Q same (subst P (sym (line_appended place (codes " ") written first second third (codes "\n"))) p))
+    subst R is (subst Q same (subst P (sym (line_appended place (codes " ") written first second third fourth (codes "\n"))) p))
 
-pub puts_line : {A E : Type 0} (a b : Sink) (r : Result A E) {word names : List ℕ} (place written first second third : List ℕ) → written ≡ word → joined (first ∷ second ∷ third ∷ []) ≡ names → Puts a r b (written_line place written first second third) → Puts a r b (joined (place ∷ codes " " ∷ word ∷ names ∷ codes "\n" ∷ []))
-puts_line a b r place written first second third is same p = let P : List ℕ → Type 0 = λ t. Puts a r b t in line_written P place written first second third is same p
+pub puts_line : {A E : Type 0} (a b : Sink) (r : Result A E) {word names : List ℕ} (place written first second third fourth : List ℕ) → written ≡ word → joined (first ∷ second ∷ third ∷ fourth ∷ []) ≡ names → Puts a r b (written_line place written first second third fourth) → Puts a r b (joined (place ∷ codes " " ∷ word ∷ names ∷ codes "\n" ∷ []))
+puts_line a b r place written first second third fourth is same p = let P : List ℕ → Type 0 = λ t. Puts a r b t in line_written P place written first second third fourth is same p
 
-pub stopped_line : {a b : Sink} {word names : List ℕ} (place written first second third : List ℕ) → written ≡ word → joined (first ∷ second ∷ third ∷ []) ≡ names → Stopped a b (written_line place written first second third) → Stopped a b (joined (place ∷ codes " " ∷ word ∷ names ∷ codes "\n" ∷ []))
-stopped_line {a} {b} place written first second third is same p = let P : List ℕ → Type 0 = λ t. Stopped a b t in line_written P place written first second third is same p
+pub stopped_line : {a b : Sink} {word names : List ℕ} (place written first second third fourth : List ℕ) → written ≡ word → joined (first ∷ second ∷ third ∷ fourth ∷ []) ≡ names → Stopped a b (written_line place written first second third fourth) → Stopped a b (joined (place ∷ codes " " ∷ word ∷ names ∷ codes "\n" ∷ []))
+stopped_line {a} {b} place written first second third fourth is same p = let P : List ℕ → Type 0 = λ t. Stopped a b t in line_written P place written first second third fourth is same p
 
 head_appended : (place space word rest : List ℕ) → place ++ (space ++ (word ++ rest)) ≡ (place ++ (space ++ (word ++ []))) ++ rest
 head_appended place space word rest = grind (arith, append_assoc, append-nil)

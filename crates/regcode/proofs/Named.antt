@@ -13,8 +13,10 @@ use Rattle.clnum.specs.declared.operators.UnaryOperator.{UnaryOperator}
 use Rattle.clmodel.specs.declared.tree.VariableType.{VariableType}
 use Rattle.clmodel.specs.declared.tree.VariableType.TheVariants as variable_type
 use Rattle.regcode.specs.Listing.{Listing}
-use Rattle.regcode.specs.Rules.{Fits, Takes, HasType, HasRoom, kind_at, held_kind, number_kind, common_kind, changed_kind, combined_kind, of_one_kind, of_two_kind, offset_kind, loaded_kind, is_integer, is_pointer, is_atomic}
-use Rattle.regcode.specs.Safety.{InTables}
+use Rattle.regcode.specs.Rules.{Fits, Takes, HasType, HasRoom, kind_at, held_kind, number_kind, common_kind, changed_kind, combined_kind, of_one_kind, of_two_kind, offset_kind, loaded_kind, fetched_kind, is_integer, is_pointer, is_atomic, AreIntegers}
+use Rattle.regcode.specs.Safety.{InTables, Below, operand_sources}
+use Rattle.regcode.specs.declared.instruction.FetchOperands.{FetchOperands}
+use Rattle.regcode.specs.declared.instruction.FetchOperands.TheVariants as operands
 use Rattle.regcode.specs.declared.instruction.Instruction.{Instruction}
 use Rattle.regcode.specs.declared.instruction.Instruction.TheVariants as instruction
 use Rattle.regcode.specs.declared.tables.Register.{Register}
@@ -90,6 +92,11 @@ loaded_there : (o r : Option RegisterKind) → Takes r (loaded_kind o) → There
 loaded_there (Some (Pointer element)) r h = tt
 loaded_there _ r h = absurd (takes_nothing r h)
 
+fetched_there : (o r : Option RegisterKind) → Takes r (fetched_kind o) → There o
+fetched_there (Some (Pointer Int)) r h = tt
+fetched_there (Some (Pointer Uint)) r h = tt
+fetched_there _ r h = absurd (takes_nothing r h)
+
 integer_there : (o : Option RegisterKind) → IsTrue (is_integer o) → There o
 integer_there (Some (Integer kind)) h = tt
 integer_there _ h = absurd (false≢true h)
@@ -117,6 +124,11 @@ module _ (code : Listing) where
 
   target : (to : ℕ) (v : Option RegisterKind) → Takes (kind_at code to) v → to < length code.registers
   target to v h = register to (taken (kind_at code to) v h)
+
+  operand_registers : (given : FetchOperands) → AreIntegers code given → Below (length code.registers) (operand_sources given)
+  operand_registers operands.Alone h = tt
+  operand_registers (operands.Number value) h = (register value (integer_there _ h), tt)
+  operand_registers (operands.Pair expected value) h = (register expected (integer_there _ h.0), (register value (integer_there _ h.1), tt))
 
   -- an instruction that keeps the rules
   pub in_tables : (i : Instruction) → Fits code i → InTables code i
@@ -165,6 +177,8 @@ module _ (code : Listing) where
       record { reads = (register pointer (atomic_there _ h), tt); writes = tt; arrays = tt; objects = tt; names = tt; parameters = tt }
   in_tables (instruction.Update function pointer (Some value)) h =
       record { reads = (register pointer (atomic_there _ h.0), (register value (integer_there _ h.1), tt)); writes = tt; arrays = tt; objects = tt; names = tt; parameters = tt }
+  in_tables (instruction.Fetch to function pointer given) h =
+      record { reads = (register pointer (fetched_there _ _ h.0), operand_registers given h.1); writes = (target to _ h.0, tt); arrays = tt; objects = tt; names = tt; parameters = tt }
   in_tables (instruction.Barrier site depth fences) h = record { reads = tt; writes = tt; arrays = tt; objects = tt; names = tt; parameters = tt }
   in_tables (instruction.Enter depth) h = record { reads = tt; writes = tt; arrays = tt; objects = tt; names = tt; parameters = tt }
   in_tables (instruction.Turn depth) h = record { reads = tt; writes = tt; arrays = tt; objects = tt; names = tt; parameters = tt }

@@ -7,9 +7,9 @@ use Rattle.std.specs.List.{All}
 use Rattle.std.specs.Option.{option_map}
 use Rattle.clnum.specs.Integer.{Integer, converted}
 use Rattle.clnum.specs.Builtins.{is_same, builtin_value}
-use Rattle.clnum.specs.Operations.{unary_value, unary_kind, binary_value, binary_kind}
+use Rattle.clnum.specs.Operations.{unary_value, unary_kind, binary_value, binary_kind, wrapped}
 use Rattle.clnum.specs.declared.int_type.IntType.{IntType}
-use Rattle.clnum.specs.declared.int_type.IntType.TheVariants.{Ulong}
+use Rattle.clnum.specs.declared.int_type.IntType.TheVariants.{Int, Uint, Ulong}
 use Rattle.clnum.specs.declared.operators.ArithFault.{ArithFault}
 use Rattle.clnum.specs.declared.operators.ArithFault.TheVariants as arith_fault
 use Rattle.clnum.specs.declared.operators.BinaryOperator.{BinaryOperator}
@@ -18,7 +18,7 @@ use Rattle.clnum.specs.declared.operators.UnaryOperator.{UnaryOperator}
 use Rattle.clnum.specs.declared.operators.UnaryOperator.TheVariants as unary_operator
 use Rattle.clnum.specs.declared.operators.Builtin.{Builtin}
 use Rattle.clnum.specs.declared.operators.Builtin.TheVariants as builtin
-use Rattle.clmodel.specs.Next.{Run, fail, number, pointing, moved, load, store, element_value, read_element, element_set, write_element, atomic_call, combined, arithmetic, test, integer_call, given_value, content, held, known}
+use Rattle.clmodel.specs.Next.{Run, fail, number, pointing, moved, load, store, element_value, read_element, element_set, write_element, atomic_call, fetch_number, fetch_call, combined, arithmetic, test, integer_call, given_value, content, held, known}
 use Rattle.clmodel.specs.declared.action.Cause.{Cause}
 use Rattle.clmodel.specs.declared.operand.Operand.{Operand}
 use Rattle.clmodel.specs.declared.operand.Operand.TheVariants.{Integral, Pointed}
@@ -30,8 +30,9 @@ use Rattle.clmodel.specs.declared.tree.VariableType.{VariableType}
 use Rattle.clmodel.specs.declared.tree.VariableType.TheVariants as variable_type
 use Rattle.regcode.specs.Listing.{Listing}
 use Rattle.regcode.specs.Machine.{State, Given, Registers, reg, put, put_array, array_of, entry_at, act, name_of, with_put, with_array, with_turns, passed, onward, argument_at}
-use Rattle.regcode.specs.Rules.{IsVerified, Fits, Goes, Takes, HasRoom, Leads, kind_at, loops_at, kind_of, held_kind, number_kind, common_kind, changed_kind, combined_kind, of_one_kind, of_two_kind, offset_kind, loaded_kind, is_integer, is_pointer, is_atomic, is_turn}
+use Rattle.regcode.specs.Rules.{IsVerified, Fits, Goes, Takes, HasRoom, Leads, kind_at, loops_at, kind_of, held_kind, number_kind, common_kind, changed_kind, combined_kind, of_one_kind, of_two_kind, offset_kind, loaded_kind, fetched_kind, is_integer, is_pointer, is_atomic, is_turn}
 use Rattle.regcode.specs.Safety.{Suits, operand_kind, InTables, GoesOn, ended, failed, on_at, after_at, asked, ticked, IsNext, NeverSticks}
+use Rattle.regcode.specs.declared.instruction.FetchOperands.TheVariants as operands
 use Rattle.regcode.specs.declared.instruction.Instruction.{Instruction}
 use Rattle.regcode.specs.declared.instruction.Instruction.TheVariants as instruction
 use Rattle.regcode.specs.declared.tables.Register.{Register}
@@ -91,6 +92,11 @@ takes_is None v h = absurd h
 takes_nothing : (r : Option RegisterKind) → Takes r None → ⊥
 takes_nothing (Some r) h = h
 takes_nothing None h = h
+
+fetched_takes : (kind : IntType) (r : Option RegisterKind) → Takes r (fetched_kind (Some (PointerKind kind))) → r ≡ Some (IntegerKind kind)
+fetched_takes Int r h = takes_is r _ h
+fetched_takes Uint r h = takes_is r _ h
+fetched_takes _ r h = absurd (takes_nothing r h)
 
 module _ (Ends : Type 0) (Next : State → Type 0) (on after : State → Run) where
   abbrev Safe : Run → Type 0
@@ -196,6 +202,26 @@ module _ (Ends : Type 0) (Next : State → Type 0) (on after : State → Run) wh
   update_safe : (function : AtomicFunction) (p v : Operand) (run : Run) → IsTrue (is_atomic (Some (operand_kind p))) → IsTrue (is_integer (Some (operand_kind v))) → Safe run
       → Safe (atomic_call function (p ∷ v ∷ []) run)
   update_safe function p v run a i h = pointing_safe p _ (atomic_pointer p a) (λ q is. number_safe v _ i (λ n is'. asked _ _ (λ answer. h)))
+
+  old_safe : (function : AtomicFunction) (p : PointerValue) (c n : Integer) (f : Operand → Run) (r : Option RegisterKind) → Takes r (fetched_kind (Some (PointerKind p.element)))
+      → ((x : Operand) → r ≡ Some (operand_kind x) → Safe (f x)) → Safe (fetch_number function p c n f)
+  old_safe function p c n f r takes h = asked _ _ (λ answer. h _ (fetched_takes p.element r takes))
+
+  fetch_alone_safe : (function : AtomicFunction) (p : Operand) (f : Operand → Run) (r : Option RegisterKind) → Takes r (fetched_kind (Some (operand_kind p)))
+      → ((x : Operand) → r ≡ Some (operand_kind x) → Safe (f x)) → Safe (fetch_call function (p ∷ []) f)
+  fetch_alone_safe function (Pointed p) f r takes h = old_safe function p (wrapped p.element (pos 0)) (wrapped p.element (pos 1)) f r takes h
+  fetch_alone_safe function (Integral n) f r takes h = absurd (takes_nothing r takes)
+
+  fetch_number_safe : (function : AtomicFunction) (p v : Operand) (f : Operand → Run) (r : Option RegisterKind) → Takes r (fetched_kind (Some (operand_kind p)))
+      → IsTrue (is_integer (Some (operand_kind v))) → ((x : Operand) → r ≡ Some (operand_kind x) → Safe (f x)) → Safe (fetch_call function (p ∷ v ∷ []) f)
+  fetch_number_safe function (Pointed p) v f r takes i h = number_safe v _ i (λ n is. old_safe function p (wrapped p.element (pos 0)) (converted n p.element) f r takes h)
+  fetch_number_safe function (Integral n) v f r takes i h = absurd (takes_nothing r takes)
+
+  fetch_pair_safe : (function : AtomicFunction) (p c v : Operand) (f : Operand → Run) (r : Option RegisterKind) → Takes r (fetched_kind (Some (operand_kind p)))
+      → IsTrue (is_integer (Some (operand_kind c))) → IsTrue (is_integer (Some (operand_kind v)))
+      → ((x : Operand) → r ≡ Some (operand_kind x) → Safe (f x)) → Safe (fetch_call function (p ∷ c ∷ v ∷ []) f)
+  fetch_pair_safe function (Pointed p) c v f r takes i j h = number_safe c _ i (λ m is. number_safe v _ j (λ n is'. old_safe function p (converted m p.element) (converted n p.element) f r takes h))
+  fetch_pair_safe function (Integral n) c v f r takes i j h = absurd (takes_nothing r takes)
 
 -- The kinds of what is put into registers.
 number_integer : (kind : IntType) (v : Operand) (r : Option RegisterKind) → Takes r (number_kind kind (Some (operand_kind v))) → IsTrue (is_integer (Some (operand_kind v)))
@@ -397,6 +423,22 @@ module _ (code : Listing) (s : State) (suits : Suits code s) where
         known_safe _ _ on after _ _ _ (λ v e'.
         update_safe _ _ on after function p v _ (subst (λ k. IsTrue (is_atomic k)) (suits.typed pointer p e) fits.0)
         (subst (λ k. IsTrue (is_integer k)) (suits.typed value v e') fits.1) (after_at _ (onward_next _ (omega arith) goes))))
+    does (instruction.Fetch to function pointer operands.Alone) fits named goes =
+        known_safe _ _ on after _ _ _ (λ p e.
+        fetch_alone_safe _ _ on after function p _ (kind_at code to) (subst (λ k. Takes (kind_at code to) (fetched_kind k)) (suits.typed pointer p e) fits.0)
+        (λ x is. after_at _ (put_next to x is goes)))
+    does (instruction.Fetch to function pointer (operands.Number value)) fits named goes =
+        known_safe _ _ on after _ _ _ (λ p e.
+        known_safe _ _ on after _ _ _ (λ v e'.
+        fetch_number_safe _ _ on after function p v _ (kind_at code to) (subst (λ k. Takes (kind_at code to) (fetched_kind k)) (suits.typed pointer p e) fits.0)
+        (subst (λ k. IsTrue (is_integer k)) (suits.typed value v e') fits.1) (λ x is. after_at _ (put_next to x is goes))))
+    does (instruction.Fetch to function pointer (operands.Pair expected value)) fits named goes =
+        known_safe _ _ on after _ _ _ (λ p e.
+        known_safe _ _ on after _ _ _ (λ c e'.
+        known_safe _ _ on after _ _ _ (λ v e''.
+        fetch_pair_safe _ _ on after function p c v _ (kind_at code to) (subst (λ k. Takes (kind_at code to) (fetched_kind k)) (suits.typed pointer p e) fits.0)
+        (subst (λ k. IsTrue (is_integer k)) (suits.typed expected c e') fits.1.0) (subst (λ k. IsTrue (is_integer k)) (suits.typed value v e'') fits.1.1)
+        (λ x is. after_at _ (put_next to x is goes)))))
     does (instruction.Barrier site depth fences) fits named goes = asked _ _ (λ answer. after_at _ (onward_next _ (omega arith) goes.1))
     does (instruction.Enter depth) fits named goes = on_at _ (turns_next depth 0 goes.0 goes.2)
     does (instruction.Turn depth) fits named goes = ticked _ (after_at _ (turns_next depth _ (let within = goes.0 in omega (arith, within)) goes.1))

@@ -28,5 +28,6 @@ behind front None = []
 behind front (Some p) = front ++ part_text p
 
 -- the parts of a line behind its name
-abbrev pub parts_text : (first second third : Option Part) → List ℕ
-parts_text first second third = joined (behind (codes " ") first ∷ behind (codes ", ") second ∷ behind (codes ", ") third ∷ [])
+abbrev pub parts_text : (first second third fourth : Option Part) → List ℕ
+parts_text first second third fourth =
+    joined (behind (codes " ") first ∷ behind (codes ", ") second ∷ behind (codes ", ") third ∷ behind (codes ", ") fourth ∷ [])

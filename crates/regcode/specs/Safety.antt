@@ -10,6 +10,8 @@ use Rattle.clmodel.specs.declared.tree.VariableType.{VariableType}
 use Rattle.regcode.specs.Listing.{Listing}
 use Rattle.regcode.specs.Machine.{State, Given, reg, array_of, name_of, act, at_start}
 use Rattle.regcode.specs.Rules.{kind_at, loops_at, is_turn}
+use Rattle.regcode.specs.declared.instruction.FetchOperands.{FetchOperands}
+use Rattle.regcode.specs.declared.instruction.FetchOperands.TheVariants as operands
 use Rattle.regcode.specs.declared.instruction.Instruction.{Instruction}
 use Rattle.regcode.specs.declared.instruction.Instruction.TheVariants as instruction
 use Rattle.regcode.specs.declared.tables.RegisterKind.{RegisterKind}
@@ -30,6 +32,12 @@ pub record Suits (code : Listing) (s : State) : Type 0 where
   pub room : (a : ℕ) → length (array_of s.registers a) ≤ slice_index code.arrays a
   pub counted : loops_at code s.place ≤ length s.counters
 
+-- the registers of what an atomic operation is given
+abbrev pub operand_sources : FetchOperands → List ℕ
+operand_sources operands.Alone = []
+operand_sources (operands.Number value) = value ∷ []
+operand_sources (operands.Pair expected value) = expected ∷ value ∷ []
+
 -- the registers that an instruction reads
 abbrev pub sources : Instruction → List ℕ
 sources (instruction.Move to from name) = from ∷ []
@@ -49,6 +57,7 @@ sources (instruction.Load to pointer) = pointer ∷ []
 sources (instruction.Store pointer value) = pointer ∷ value ∷ []
 sources (instruction.Update function pointer None) = pointer ∷ []
 sources (instruction.Update function pointer (Some value)) = pointer ∷ value ∷ []
+sources (instruction.Fetch to function pointer given) = pointer ∷ operand_sources given
 sources (instruction.JumpIfZero register by) = register ∷ []
 sources _ = []
 
@@ -71,6 +80,7 @@ targets (instruction.PrivateLoad to array index element name) = to ∷ []
 targets (instruction.Point to from) = to ∷ []
 targets (instruction.Offset to pointer index) = to ∷ []
 targets (instruction.Load to pointer) = to ∷ []
+targets (instruction.Fetch to function pointer given) = to ∷ []
 targets _ = []
 
 -- the private arrays that it names

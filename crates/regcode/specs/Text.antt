@@ -20,6 +20,8 @@ use Rattle.clmodel.specs.declared.tree.AddressSpace.{AddressSpace}
 use Rattle.clmodel.specs.declared.tree.AddressSpace.TheVariants as space
 use Rattle.clmodel.specs.declared.tree.VariableType.{VariableType}
 use Rattle.clmodel.specs.declared.tree.VariableType.TheVariants as variable
+use Rattle.regcode.specs.declared.instruction.FetchOperands.{FetchOperands}
+use Rattle.regcode.specs.declared.instruction.FetchOperands.TheVariants as operands
 use Rattle.regcode.specs.declared.instruction.Instruction.{Instruction}
 use Rattle.regcode.specs.declared.instruction.Instruction.TheVariants as instruction
 
@@ -91,16 +93,18 @@ query_word query.GlobalSize = codes "get_global_size"
 query_word query.LocalSize = codes "get_local_size"
 query_word query.NumGroups = codes "get_num_groups"
 
-abbrev pub update_word : AtomicFunction → List ℕ
-update_word atomic.Add = codes "atomic_add"
-update_word atomic.Sub = codes "atomic_sub"
-update_word atomic.Min = codes "atomic_min"
-update_word atomic.Max = codes "atomic_max"
-update_word atomic.And = codes "atomic_and"
-update_word atomic.Or = codes "atomic_or"
-update_word atomic.Xor = codes "atomic_xor"
-update_word atomic.Inc = codes "atomic_inc"
-update_word atomic.Dec = codes "atomic_dec"
+abbrev pub atomic_word : AtomicFunction → List ℕ
+atomic_word atomic.Add = codes "atomic_add"
+atomic_word atomic.Sub = codes "atomic_sub"
+atomic_word atomic.Min = codes "atomic_min"
+atomic_word atomic.Max = codes "atomic_max"
+atomic_word atomic.And = codes "atomic_and"
+atomic_word atomic.Or = codes "atomic_or"
+atomic_word atomic.Xor = codes "atomic_xor"
+atomic_word atomic.Inc = codes "atomic_inc"
+atomic_word atomic.Dec = codes "atomic_dec"
+atomic_word atomic.Exchange = codes "atomic_xchg"
+atomic_word atomic.CompareExchange = codes "atomic_cmpxchg"
 
 -- the name of an instruction
 abbrev pub word_of : Instruction → List ℕ
@@ -124,7 +128,8 @@ word_of (instruction.Point to from) = codes "point"
 word_of (instruction.Offset to pointer index) = codes "offset"
 word_of (instruction.Load to pointer) = codes "load"
 word_of (instruction.Store pointer value) = codes "store"
-word_of (instruction.Update function pointer value) = update_word function
+word_of (instruction.Update function pointer value) = atomic_word function
+word_of (instruction.Fetch to function pointer given) = atomic_word function
 word_of (instruction.Barrier site depth fences) = codes "barrier"
 word_of (instruction.Enter depth) = codes "enter"
 word_of (instruction.Turn depth) = codes "turn"
@@ -160,6 +165,12 @@ abbrev pub registers : Option ℕ → List (List ℕ)
 registers None = []
 registers (Some r) = register r ∷ []
 
+-- the registers of what an atomic operation is given
+abbrev pub given_registers : FetchOperands → List (List ℕ)
+given_registers operands.Alone = []
+given_registers (operands.Number value) = register value ∷ []
+given_registers (operands.Pair expected value) = register expected ∷ register value ∷ []
+
 -- What the instruction at a place names, what it makes first. Jumps name the place that they lead to.
 abbrev pub names_in : ℕ → Instruction → List (List ℕ)
 names_in place (instruction.Constant to value) = register to ∷ typed value ∷ []
@@ -183,6 +194,7 @@ names_in place (instruction.Offset to pointer index) = register to ∷ register 
 names_in place (instruction.Load to pointer) = register to ∷ pointed pointer ∷ []
 names_in place (instruction.Store pointer value) = pointed pointer ∷ register value ∷ []
 names_in place (instruction.Update function pointer value) = pointed pointer ∷ registers value
+names_in place (instruction.Fetch to function pointer given) = register to ∷ pointed pointer ∷ given_registers given
 names_in place (instruction.Barrier site depth fences) = decimal site ∷ decimal depth ∷ fences_word fences ∷ []
 names_in place (instruction.Enter depth) = decimal depth ∷ []
 names_in place (instruction.Turn depth) = decimal depth ∷ []

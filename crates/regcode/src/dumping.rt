@@ -9,7 +9,7 @@ ghost use Rattle.regcode.specs.Parts.{piece_text, part_text, behind, parts_text}
 ghost use Rattle.regcode.specs.Text.{listed, names_in, line_of, text_of, variable_type};
 
 use crate::code::Code;
-use crate::instruction::Instruction;
+use crate::instruction::{FetchOperands, Instruction};
 use crate::words::{fences_word, instruction_word, space_word, type_word};
 use clmodel::action::Fences;
 use clmodel::tree::VariableType;
@@ -40,7 +40,7 @@ enum Part {
 }
 
 /// What an instruction names, one after another.
-type Parts = (Option<Part>, Option<Part>, Option<Part>);
+type Parts = (Option<Part>, Option<Part>, Option<Part>, Option<Part>);
 
 /// A piece of a line.
 #[derive(Clone, Copy)]
@@ -55,46 +55,77 @@ enum Piece {
 /// What the instruction at a place names. Jumps name the place that they lead to.
 fn parts(place: usize, instruction: &Instruction) -> Parts
     requires { place < 2 ^ 63 }
-    ensures { parts_text result.0 result.1 result.2 ≡ listed (names_in place instruction.now) }
+    ensures { parts_text result.0 result.1 result.2 result.3 ≡ listed (names_in place instruction.now) }
 {
     match *instruction {
-        Instruction::Unset { to } | Instruction::Dimensions { to } => (register(to), None, None),
-        Instruction::Constant { to, value } => (register(to), Some(Part::Value(value)), None),
-        Instruction::Move { to, from, name } => (register(to), register(from), number(name)),
+        Instruction::Unset { to } | Instruction::Dimensions { to } => (
+            register(to),
+            None,
+            None,
+            None,
+        ),
+        Instruction::Constant { to, value } => (register(to), Some(Part::Value(value)), None, None),
+        Instruction::Move { to, from, name } => (register(to), register(from), number(name), None),
         Instruction::Hold { to, from, kind } => {
-            (register(to), register(from), Some(Part::Variable(kind)))
+            (
+                register(to),
+                register(from),
+                Some(Part::Variable(kind)),
+                None,
+            )
         }
         Instruction::Convert { to, from, kind }
         | Instruction::Common {
             to,
             from,
             other: kind,
-        } => { (register(to), register(from), Some(Part::Type(kind))) }
-        Instruction::Unary { to, operand, .. } => (register(to), register(operand), None),
+        } => { (register(to), register(from), Some(Part::Type(kind)), None) }
+        Instruction::Unary { to, operand, .. } => (register(to), register(operand), None, None),
         Instruction::Binary {
             to,
             left,
             right,
             ..
-        } => { (register(to), register(left), register(right)) }
+        } => { (register(to), register(left), register(right), None) }
         Instruction::Builtin {
             to,
             first,
             second,
             ..
-        } => { (register(to), register(first), second.map(Part::Register)) }
-        Instruction::Query { to, dimension, .. } => (register(to), register(dimension), None),
+        } => {
+            (
+                register(to),
+                register(first),
+                second.map(Part::Register),
+                None,
+            )
+        }
+        Instruction::Query { to, dimension, .. } => (register(to), register(dimension), None, None),
         Instruction::Argument {
             to,
             number: place,
             kind,
-        } => { (register(to), number(place), Some(Part::Variable(kind))) }
+        } => {
+            (
+                register(to),
+                number(place),
+                Some(Part::Variable(kind)),
+                None,
+            )
+        }
         Instruction::Local {
             to,
             number: object,
             element,
-        } => { (register(to), number(object), Some(Part::Type(element))) }
-        Instruction::UnsetArray { array, length } => (number(array), number(length), None),
+        } => {
+            (
+                register(to),
+                number(object),
+                Some(Part::Type(element)),
+                None,
+            )
+        }
+        Instruction::UnsetArray { array, length } => (number(array), number(length), None, None),
         Instruction::PrivateLoad {
             to,
             array,
@@ -106,6 +137,7 @@ fn parts(place: usize, instruction: &Instruction) -> Parts
                 register(to),
                 Some(Part::Private { array, index }),
                 Some(Part::Type(element)),
+                None,
             )
         }
         Instruction::PrivateStore {
@@ -119,33 +151,67 @@ fn parts(place: usize, instruction: &Instruction) -> Parts
                 Some(Part::Private { array, index }),
                 register(value),
                 Some(Part::Type(element)),
+                None,
             )
         }
-        Instruction::Point { to, from } => (register(to), register(from), None),
+        Instruction::Point { to, from } => (register(to), register(from), None, None),
         Instruction::Offset { to, pointer, index } => {
-            (register(to), register(pointer), register(index))
+            (register(to), register(pointer), register(index), None)
         }
-        Instruction::Load { to, pointer } => (register(to), Some(Part::Element(pointer)), None),
+        Instruction::Load { to, pointer } => (
+            register(to),
+            Some(Part::Element(pointer)),
+            None,
+            None,
+        ),
         Instruction::Store { pointer, value } => {
-            (Some(Part::Element(pointer)), register(value), None)
+            (Some(Part::Element(pointer)), register(value), None, None)
         }
         Instruction::Update { pointer, value, .. } => {
             (
                 Some(Part::Element(pointer)),
                 value.map(Part::Register),
                 None,
+                None,
             )
+        }
+        Instruction::Fetch {
+            to,
+            pointer,
+            operands,
+            ..
+        } => {
+            let pointed = Some(Part::Element(pointer));
+            match operands {
+                FetchOperands::Alone => (register(to), pointed, None, None),
+                FetchOperands::Number(value) => (register(to), pointed, register(value), None),
+                FetchOperands::Pair { expected, value } => {
+                    (register(to), pointed, register(expected), register(value))
+                }
+            }
         }
         Instruction::Barrier {
             site,
             depth,
             fences,
-        } => { (number(site), number(depth), Some(Part::Fences(fences))) }
-        Instruction::Enter { depth } | Instruction::Turn { depth } => (number(depth), None, None),
-        Instruction::Jump { by } => (onward(place, by), None, None),
-        Instruction::JumpIfZero { test, by } => (register(test), onward(place, by), None),
-        Instruction::Back { by } => (back(place, by), None, None),
-        Instruction::End => (None, None, None),
+        } => {
+            (
+                number(site),
+                number(depth),
+                Some(Part::Fences(fences)),
+                None,
+            )
+        }
+        Instruction::Enter { depth } | Instruction::Turn { depth } => (
+            number(depth),
+            None,
+            None,
+            None,
+        ),
+        Instruction::Jump { by } => (onward(place, by), None, None, None),
+        Instruction::JumpIfZero { test, by } => (register(test), onward(place, by), None, None),
+        Instruction::Back { by } => (back(place, by), None, None, None),
+        Instruction::End => (None, None, None, None),
     }
 }
 
@@ -292,10 +358,11 @@ fn write_line<W: Write>(
         ],
         writer,
     )?;
-    let (first, second, third) = parts(place, instruction);
+    let (first, second, third, fourth) = parts(place, instruction);
     write_behind(Piece::Word(" "), first, writer)?;
     write_behind(Piece::Word(", "), second, writer)?;
     write_behind(Piece::Word(", "), third, writer)?;
+    write_behind(Piece::Word(", "), fourth, writer)?;
     writer.write(b"\n")
 }
 

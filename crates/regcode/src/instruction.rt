@@ -6,6 +6,17 @@ use clmodel::setup::{AtomicFunction, WorkItemFunction};
 use clmodel::tree::VariableType;
 use clnum::{BinaryOperator, Builtin, IntType, UnaryOperator, Value};
 
+/// The registers of what an atomic operation is given beside its pointer (OpenCL 1.2, section 6.12.11).
+#[derive(Clone, Copy)]
+pub enum FetchOperands {
+    /// Nothing: it adds or takes 1
+    Alone,
+    /// A number
+    Number(u32),
+    /// The number to compare with, and the one to put where the old number equals it
+    Pair { expected: u32, value: u32 },
+}
+
 /// An instruction. Registers and private arrays are named by their numbers, variables by their names' places in the tree's table of names, loops by
 /// their depth: 0 is the outermost. `to` is the register that is written.
 #[derive(Clone, Copy)]
@@ -129,6 +140,13 @@ pub enum Instruction {
         function: AtomicFunction,
         pointer: u32,
         value: Option<u32>,
+    },
+    /// An atomic operation whose old number is used
+    Fetch {
+        to: u32,
+        function: AtomicFunction,
+        pointer: u32,
+        operands: FetchOperands,
     },
     /// A barrier: its site, and the number of loops round it
     Barrier {

@@ -14,6 +14,6 @@ mod words;
 
 pub use code::Code;
 pub use dumping::{DumpFault, dump};
-pub use instruction::Instruction;
+pub use instruction::{FetchOperands, Instruction};
 pub use judge::{VerifyFault, verify};
 pub use tables::{Register, RegisterKind, Tables};

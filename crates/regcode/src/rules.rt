@@ -5,10 +5,10 @@ ghost use Rattle.std.specs.Prelude.{◌≡◌, ◌<◌, ◌≤◌, ◌↔◌, Is
 ghost use Rattle.regcode.specs.Listed.{listing};
 ghost use Rattle.regcode.specs.Rules as spec;
 
-use crate::instruction::Instruction;
+use crate::instruction::{FetchOperands, Instruction};
 use crate::kinds::{
-    changed_kind, combined_kind, common_kind, held_kind, is_atomic, is_integer, is_pointer,
-    kind_of, loaded_kind, number_kind, of_one_kind, of_two_kind, offset_kind, takes,
+    changed_kind, combined_kind, common_kind, fetched_kind, held_kind, is_atomic, is_integer,
+    is_pointer, kind_of, loaded_kind, number_kind, of_one_kind, of_two_kind, offset_kind, takes,
 };
 use crate::tables::{RegisterKind, Tables};
 use clmodel::tree::VariableType;
@@ -63,6 +63,18 @@ impl Judged<'_> {
         match self.tables.arrays.get(array as usize) {
             Some(most) => count <= *most,
             None => false,
+        }
+    }
+
+    /// Whether the operands of an atomic operation are numbers.
+    fn are_integers(&self, operands: FetchOperands) -> bool
+        ensures { IsTrue result ↔ spec.AreIntegers (listing self.now.instructions.now self.now.tables.now) operands }
+    {
+        match operands {
+            FetchOperands::Alone => true,
+            FetchOperands::Number(value) => is_integer(self.kind(value)),
+            FetchOperands::Pair { expected, value } => is_integer(self.kind(expected))
+                && is_integer(self.kind(value)),
         }
     }
 
@@ -179,6 +191,12 @@ impl Judged<'_> {
                 value: Some(value),
                 ..
             } => is_atomic(self.kind(*pointer)) && is_integer(self.kind(*value)),
+            Instruction::Fetch {
+                to,
+                pointer,
+                operands,
+                ..
+            } => self.takes(*to, fetched_kind(self.kind(*pointer))) && self.are_integers(*operands),
             Instruction::JumpIfZero { test, .. } => is_integer(self.kind(*test)),
             Instruction::Barrier { .. }
             | Instruction::Enter { .. }

@@ -110,8 +110,8 @@ fn query_word(function: WorkItemFunction) -> &'static str
     }
 }
 
-fn update_word(function: AtomicFunction) -> &'static str
-    ensures { result.now ≡ text.update_word function }
+fn atomic_word(function: AtomicFunction) -> &'static str
+    ensures { result.now ≡ text.atomic_word function }
 {
     match function {
         AtomicFunction::Add => "atomic_add",
@@ -123,6 +123,8 @@ fn update_word(function: AtomicFunction) -> &'static str
         AtomicFunction::Xor => "atomic_xor",
         AtomicFunction::Inc => "atomic_inc",
         AtomicFunction::Dec => "atomic_dec",
+        AtomicFunction::Exchange => "atomic_xchg",
+        AtomicFunction::CompareExchange => "atomic_cmpxchg",
     }
 }
 
@@ -151,7 +153,9 @@ pub(crate) fn instruction_word(instruction: &Instruction) -> &'static str
         Instruction::Offset { .. } => "offset",
         Instruction::Load { .. } => "load",
         Instruction::Store { .. } => "store",
-        Instruction::Update { function, .. } => update_word(*function),
+        Instruction::Update { function, .. } | Instruction::Fetch { function, .. } => atomic_word(
+            *function,
+        ),
         Instruction::Barrier { .. } => "barrier",
         Instruction::Enter { .. } => "enter",
         Instruction::Turn { .. } => "turn",
