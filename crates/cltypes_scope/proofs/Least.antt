@@ -179,6 +179,7 @@ some_first ps i f h e = first_none ps e i f h
 
 -- there is one least fault
 
+-- (no fault has the number 9)
 rebuilt : ℕ → ℕ → TypeFault
 rebuilt n at =
     get_or
@@ -191,7 +192,7 @@ rebuilt n at =
     fault.WrongArgumentCount at ∷
     fault.WrongSpace at ∷
     fault.BadBarrierFlags at ∷
-    fault.AtomicValueUsed at ∷
+    fault.OutOfMemory ∷
     fault.TooManyLoops at ∷
     fault.TooLarge at ∷
     fault.MissingReturn at ∷
@@ -209,7 +210,6 @@ rebuilt_same (fault.Recursion at) = refl
 rebuilt_same (fault.WrongArgumentCount at) = refl
 rebuilt_same (fault.WrongSpace at) = refl
 rebuilt_same (fault.BadBarrierFlags at) = refl
-rebuilt_same (fault.AtomicValueUsed at) = refl
 rebuilt_same (fault.TooManyLoops at) = refl
 rebuilt_same (fault.TooLarge at) = refl
 rebuilt_same (fault.MissingReturn at) = refl

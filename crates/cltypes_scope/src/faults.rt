@@ -1,11 +1,11 @@
 //! The faults of one place: of its faults the one of the least number, and of one number the one of the least offset.
 #![tactic(auto)]
 
-ghost use Rattle.std.specs.Prelude.{◌≡◌, ◌++◌, length, map, option_map};
+ghost use Rattle.std.specs.Prelude.{◌≡◌, ◌≤◌, ◌++◌, nat_eq, length, map, option_map};
 ghost use Rattle.std.specs.List.{slice_get};
 ghost use Rattle.clmodel.specs.Typing.Least.{is_up_to, lesser, least};
-ghost use Rattle.clmodel.specs.Typing.Faults.{is_same_space, moves, takes_pointer, is_sum, integer_faults, pointer_faults, passing_faults, name_faults, front_faults, address_faults, operand_faults, wants, has_value, helper_faults, callee_faults, wanted, ForParameter, same_faults, atomic_faults, argument_faults, integer_wants, atomic_wants};
-ghost use Rattle.clmodel.specs.Typing.Rules.{has_operand};
+ghost use Rattle.clmodel.specs.Typing.Faults.{unless, is_same_space, moves, takes_pointer, is_sum, integer_faults, pointer_faults, passing_faults, name_faults, front_faults, address_faults, operand_faults, wants, helper_faults, callee_faults, wanted, ForParameter, same_faults, atomic_faults, argument_faults, integer_wants, atomic_wants};
+ghost use Rattle.clmodel.specs.Typing.Rules.{operands};
 ghost use Rattle.clnum.specs.Builtins.{is_same};
 ghost use Rattle.clmodel.specs.declared.tree.VariableType.TheVariants.{Pointer};
 ghost use Rattle.clmodel.specs.Typing.Context as typing;
@@ -274,13 +274,15 @@ pub(crate) fn choice_fault(
     )
 }
 
-/// Whether an atomic function has an operand beside its pointer.
-fn has_operand(function: AtomicFunction) -> bool
-    ensures { result ≡ has_operand function }
+/// How many operands an atomic function has beside its pointer.
+fn operands(function: AtomicFunction) -> usize
+    ensures exact { result ≡ operands function }
+    ensures few { result ≤ 2 }
 {
     match function {
-        AtomicFunction::Inc | AtomicFunction::Dec => false,
-        _ => true,
+        AtomicFunction::Inc | AtomicFunction::Dec => 0,
+        AtomicFunction::CompareExchange => 2,
+        _ => 1,
     }
 }
 
@@ -293,17 +295,7 @@ fn argument_count(function: BuiltIn) -> usize
         BuiltIn::WorkItem(_) => 1,
         BuiltIn::Integer(Builtin::Min | Builtin::Max | Builtin::Rotate) => 2,
         BuiltIn::Integer(_) => 1,
-        BuiltIn::Atomic(function) => if has_operand(function) { 2 } else { 1 },
-    }
-}
-
-/// Whether the call of a built-in function has a value.
-fn has_value(function: BuiltIn) -> bool
-    ensures { result ≡ has_value function }
-{
-    match function {
-        BuiltIn::Atomic(_) => false,
-        _ => true,
+        BuiltIn::Atomic(function) => 1 + operands(function),
     }
 }
 
@@ -321,14 +313,12 @@ fn helper_fault(spot: Spot, signature: &Signature, at: u32, arguments: usize) ->
     }
 }
 
-/// A built-in function, called at `at` with n arguments.
-fn built_in_fault(spot: Spot, function: BuiltIn, at: u32, arguments: usize) -> Option<TypeFault>
-    ensures { result ≡ least (callee_faults (spot_of spot) (typing.BuiltInFunction function) at arguments) }
+/// A built-in function, called at `at` with n arguments: it may be called at any spot.
+fn built_in_fault(function: BuiltIn, at: u32, arguments: usize) -> Option<TypeFault>
+    ensures { result ≡ least (unless (nat_eq arguments (length (wants function))) (TypeFault.WrongArgumentCount at)) }
 {
     if arguments != argument_count(function) {
         Some(TypeFault::WrongArgumentCount { at })
-    } else if spot != Spot::WholeStatement && !has_value(function) {
-        Some(TypeFault::AtomicValueUsed { at })
     } else {
         None
     }
@@ -353,7 +343,7 @@ fn callee_fault(spot: Spot, meaning: Meaning<'_>, at: u32, arguments: usize) -> 
     ensures { result ≡ least (callee_faults (spot_of spot) (meaning_of meaning.entry) at arguments) }
 {
     match meaning {
-        Meaning::BuiltInFunction(function) => built_in_fault(spot, function, at, arguments),
+        Meaning::BuiltInFunction(function) => built_in_fault(function, at, arguments),
         Meaning::Barrier => barrier_fault(spot, at, arguments),
         Meaning::Callable(signature) => helper_fault(spot, signature, at, arguments),
         Meaning::Current(signature) => lesser(
@@ -421,11 +411,11 @@ fn integer_wanted(function: Builtin, index: usize) -> Option<Want>
 }
 
 fn atomic_wanted(function: AtomicFunction, index: usize) -> Option<Want>
-    ensures { option_map want_of result ≡ slice_get (atomic_wants (has_operand function)) index }
+    ensures { option_map want_of result ≡ slice_get (atomic_wants (operands function)) index }
 {
     match index {
         0 => Some(Want::AtomicPointer),
-        1 if has_operand(function) => Some(Want::Integer),
+        _ if index <= operands(function) => Some(Want::Integer),
         _ => None,
     }
 }

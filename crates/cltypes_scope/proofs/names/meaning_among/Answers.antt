@@ -1,4 +1,4 @@
-use Rattle.std.proofs.Common.{true, sym, ap, ◌∙◌}
+use Rattle.std.proofs.Common.{sym, ap, ◌∙◌}
 use Rattle.std.specs.Prelude.{cond}
 use Rattle.clmodel.specs.Typing.Context.{meaning, fenced}
 use Rattle.cltypes_scope.proofs.Fenced.{fence_stands}
