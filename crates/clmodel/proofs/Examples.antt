@@ -5,12 +5,14 @@ use Rattle.clnum.specs.Integer as integer
 use Rattle.clnum.specs.Operations as operations
 use Rattle.clnum.specs.declared.int_type.IntType.TheVariants.{Uint, Ulong}
 use Rattle.clmodel.specs.Next.{next}
-use Rattle.clmodel.specs.Examples.{stores, waits, sum_by_helper, three_turns, continues, three_barriers, nested, through_local, kept_in_private, narrowed, unset_element, stored_before, loaded_behind, declared_again, in_local_array, stepped, stepped_unset, put_at, added_at, added_to_unset, unset_index, unset_value, without_ticks, called_again, added_by_helper, shorter_behind, unset_behind, hidden, local_hidden, continued_past, numbered, passed_on}
+use Rattle.clmodel.specs.Examples.{stores, waits, sum_by_helper, three_turns, continues, three_barriers, nested, through_local, kept_in_private, narrowed, unset_element, stored_before, loaded_behind, declared_again, in_local_array, stepped, stepped_unset, put_at, added_at, added_to_unset, unset_index, unset_value, without_ticks, called_again, added_by_helper, shorter_behind, unset_behind, hidden, local_hidden, continued_past, numbered, passed_on, sum_of_fetches, dropped_values}
+use Rattle.clmodel.specs.declared.access.Class.TheVariants as class
+use Rattle.clmodel.specs.declared.access.FetchOp.TheVariants as fetch_op
 use Rattle.clmodel.specs.declared.access.Object.TheVariants as object
 use Rattle.clmodel.specs.declared.access.Operation.TheVariants as operation
 use Rattle.clmodel.specs.declared.access.Width.TheVariants.{One, Four}
 use Rattle.clmodel.specs.declared.action.Action.TheVariants as action
-use Rattle.clmodel.specs.declared.action.Answer.TheVariants.{Done}
+use Rattle.clmodel.specs.declared.action.Answer.TheVariants.{Value, Done}
 use Rattle.clmodel.specs.declared.action.Cause.TheVariants as cause
 
 pub sum_is_stored : next (sum_by_helper 5) 0 [] ≡ stores 10
@@ -196,3 +198,29 @@ array_narrow = refl
 pub array_passed_on : next (passed_on 9) 0 [] ≡ action.Access (object.Local 2) (pos 4) (operation.Store Four 1)
 unfolding next operations.binary_value integer.wrap conversions.common conversions.promoted integer.converted integer.bits_of
 array_passed_on = refl
+
+-- ---- atomic functions whose old number is used; a whole statement is an update, but for an exchange
+
+pub fetches_first : next sum_of_fetches 0 [] ≡ action.Access (object.Buffer 0) (pos 0) (operation.Fetch (fetch_op.Class class.Add) 3)
+unfolding next operations.binary_value operations.unary_value integer.wrap conversions.common conversions.promoted integer.converted integer.bits_of
+fetches_first = refl
+
+pub fetches_then : next sum_of_fetches 0 (Value 0 ∷ []) ≡ action.Access (object.Buffer 0) (pos 0) (operation.Fetch (fetch_op.CompareExchange 3) 9)
+unfolding next operations.binary_value operations.unary_value integer.wrap conversions.common conversions.promoted integer.converted integer.bits_of
+fetches_then = refl
+
+pub fetches_last : next sum_of_fetches 0 (Value 0 ∷ Value 3 ∷ []) ≡ action.Access (object.Buffer 0) (pos 1) (operation.Store Four 3)
+unfolding next operations.binary_value operations.unary_value integer.wrap conversions.common conversions.promoted integer.converted integer.bits_of
+fetches_last = refl
+
+pub dropped_first : next dropped_values 0 [] ≡ action.Access (object.Buffer 0) (pos 0) (operation.Update class.Add 4294967294)
+unfolding next operations.binary_value operations.unary_value integer.wrap conversions.common conversions.promoted integer.converted integer.bits_of
+dropped_first = refl
+
+pub dropped_then : next dropped_values 0 (Done ∷ []) ≡ action.Access (object.Buffer 0) (pos 0) (operation.Fetch fetch_op.Exchange 5)
+unfolding next operations.binary_value operations.unary_value integer.wrap conversions.common conversions.promoted integer.converted integer.bits_of
+dropped_then = refl
+
+pub dropped_end : next dropped_values 0 (Done ∷ Value 7 ∷ []) ≡ action.End
+unfolding next operations.binary_value operations.unary_value integer.wrap conversions.common conversions.promoted integer.converted integer.bits_of
+dropped_end = refl

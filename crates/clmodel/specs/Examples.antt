@@ -6,7 +6,7 @@ use Rattle.clnum.specs.declared.operators.BinaryOperator.TheVariants as operator
 use Rattle.clnum.specs.declared.operators.UnaryOperator.TheVariants.{Negate}
 use Rattle.clmodel.specs.BuiltIns.{local_fence}
 use Rattle.clmodel.specs.Setup.{Setup}
-use Rattle.clmodel.specs.Tree.{Term, Number, Variable, Element, Call, Unary, Binary, NoTerm, then_all, Whole, Part, Stmt, Block, Declare, DeclareAs, DeclareArray, Assign, Step, CallOnly, If, While, DoWhile, For, Break, Continue, ReturnValue, NoStmt, then_stmts, With, Always, While_, Func, NoFunc, then_funcs}
+use Rattle.clmodel.specs.Tree.{Term, Number, Variable, Element, ElementAddress, Call, Unary, Binary, NoTerm, then_all, Whole, Part, Stmt, Block, Declare, DeclareAs, DeclareArray, Assign, Step, CallOnly, If, While, DoWhile, For, Break, Continue, ReturnValue, NoStmt, then_stmts, With, Always, While_, Func, NoFunc, then_funcs}
 use Rattle.clmodel.specs.declared.access.Object.TheVariants as object
 use Rattle.clmodel.specs.declared.access.Operation.TheVariants as operation
 use Rattle.clmodel.specs.declared.access.Width.TheVariants.{Four}
@@ -380,3 +380,21 @@ passed_on =
     ∷ local_ints 4
     ∷ CallOnly 0 102 (then_all NoTerm (Binary 0 (Arithmetic operator.Add) (variable 107) (number 1) ∷ []))
     ∷ [])
+
+-- `&a[i]`
+abbrev pub address : ℕ → Term
+address i = ElementAddress 0 0 101 (number i)
+
+-- `a[1] = atomic_add(&a[0], 3) + atomic_cmpxchg(&a[0], 3, 9);`
+abbrev pub sum_of_fetches : Setup
+sum_of_fetches =
+    launched []
+    (Assign 0 (Part 0 101 (number 1)) None
+    (Binary 0 (Arithmetic operator.Add) (call 15 (address 0 ∷ number 3 ∷ [])) (call 27 (address 0 ∷ number 3 ∷ number 9 ∷ []))) ∷ [])
+    9
+
+-- `atomic_sub(&a[0], 2); atomic_xchg(&a[0], 5);`
+abbrev pub dropped_values : Setup
+dropped_values =
+    launched []
+    (CallOnly 0 16 (then_all NoTerm (address 0 ∷ number 2 ∷ [])) ∷ CallOnly 0 26 (then_all NoTerm (address 0 ∷ number 5 ∷ [])) ∷ []) 9

@@ -92,19 +92,27 @@ clash_writers kind.Load k2 h h2 c = absurd (true≢false (sym h))
 clash_writers kind.Store kind.Load h h2 c = absurd (true≢false (sym h2))
 clash_writers kind.Store kind.Store h h2 c = absurd (some_none _ c)
 clash_writers kind.Store (kind.Update e) h h2 c = absurd (some_none _ c)
+clash_writers kind.Store kind.Fetch h h2 c = absurd (some_none _ c)
 clash_writers (kind.Update d) kind.Load h h2 c = absurd (true≢false (sym h2))
 clash_writers (kind.Update d) kind.Store h h2 c = absurd (some_none _ c)
 clash_writers (kind.Update d) (kind.Update e) h h2 c = (e, ap kind.Update (no_order d e c), refl)
+clash_writers (kind.Update d) kind.Fetch h h2 c = absurd (some_none _ c)
+clash_writers kind.Fetch kind.Load h h2 c = absurd (true≢false (sym h2))
+clash_writers kind.Fetch kind.Store h h2 c = absurd (some_none _ c)
+clash_writers kind.Fetch (kind.Update e) h h2 c = absurd (some_none _ c)
+clash_writers kind.Fetch kind.Fetch h h2 c = absurd (some_none _ c)
 
 pub clash_left : (c : Class) (k : AccessKind) → clash (kind.Update c) k ≡ None → k ≡ kind.Update c
 clash_left c kind.Load h = absurd (some_none _ h)
 clash_left c kind.Store h = absurd (some_none _ h)
 clash_left c (kind.Update d) h = ap kind.Update (sym (no_order c d h))
+clash_left c kind.Fetch h = absurd (some_none _ h)
 
 clash_right : (c : Class) (k : AccessKind) → clash k (kind.Update c) ≡ None → k ≡ kind.Update c
 clash_right c kind.Load h = absurd (some_none _ h)
 clash_right c kind.Store h = absurd (some_none _ h)
 clash_right c (kind.Update d) h = ap kind.Update (no_order d c h)
+clash_right c kind.Fetch h = absurd (some_none _ h)
 
 with_rest : (b w : Bool) → ((b && false) || w) ≡ true → w ≡ true
 with_rest true w h = h

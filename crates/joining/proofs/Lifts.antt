@@ -13,7 +13,7 @@ use Rattle.clmodel.specs.declared.access.Class.{Class}
 use Rattle.clmodel.specs.declared.access.Object.{Object}
 use Rattle.clmodel.specs.declared.access.Object.TheVariants as object_is
 use Rattle.clmodel.specs.declared.access.Operation.{Operation}
-use Rattle.clmodel.specs.declared.access.Operation.TheVariants.{Load, Store, Update}
+use Rattle.clmodel.specs.declared.access.Operation.TheVariants.{Load, Store, Update, Fetch}
 use Rattle.clmodel.specs.declared.access.Region.{Region}
 use Rattle.clmodel.specs.declared.access.Region.TheVariants as region_is
 use Rattle.clmodel.specs.declared.action.Answer.TheVariants.{Done}
@@ -60,6 +60,9 @@ loads_not_updates c h = grind arith
 stores_not_updates : (c : Class) → kind.Store ≡ kind.Update c → ⊥
 stores_not_updates c h = grind arith
 
+fetches_not_updates : (c : Class) → kind.Fetch ≡ kind.Update c → ⊥
+fetches_not_updates c h = grind arith
+
 one_class : (c d : Class) → kind.Update c ≡ kind.Update d → c ≡ d
 one_class c d h = grind arith
 
@@ -67,6 +70,7 @@ fit_of : (i : ℕ) (p : Region) (first : ℕ) (op : Operation) (n : ℕ) → Ali
 fit_of i p first (Load width) n a c k = absurd (loads_not_updates c k)
 fit_of i p first (Store width value) n a c k = absurd (stores_not_updates c k)
 fit_of i p first (Update d v) n a c k = (refl, a.0, a.1)
+fit_of i p first (Fetch o v) n a c k = absurd (fetches_not_updates c k)
 
 -- an update more at a word
 updated_at : (m : Memory) (p q : Region) (d c : Class) (v x first word byte : ℕ) → q ≡ p → first ≡ word → d ≡ c
@@ -89,6 +93,7 @@ folds_hit : (c : Class) (q : Region) (m : ℕ) (log : List Access) (i : ℕ) (p 
     → Folds c (entry_at i p first op n ∷ log) q (m * 4) old (performed bm p op x first q) old2 (performed sm p op x2 first q)
 folds_hit c q m log i p (Load width) first x x2 n bm sm old old2 fx fx2 a is k below at f = absurd (loads_not_updates c is)
 folds_hit c q m log i p (Store width value) first x x2 n bm sm old old2 fx fx2 a is k below at f = absurd (stores_not_updates c is)
+folds_hit c q m log i p (Fetch o v) first x x2 n bm sm old old2 fx fx2 a is k below at f = absurd (fetches_not_updates c is)
 folds_hit c q m log i p (Update d v) first x x2 n bm sm old old2 fx fx2 a is k below at f =
     let r = and_parts (same_region q p) _ at in
     let s = covers_parts first 4 (m * 4 + k) r.1 in

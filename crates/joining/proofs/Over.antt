@@ -2,7 +2,7 @@
 use Rattle.std.proofs.Common.{◌≡◌, ℕ, zero, suc, ◌+◌, ◌-◌, ◌*◌, ◌<◌, ◌≤◌, Bool, true, false, cond, Option, Some, None, refl, sym, ap, ◌∙◌, subst, arith, ◌⊎◌, ⊎_elim, inl, inr, ◌&&◌, ◌||◌, List, [], ◌∷◌, ◌++◌}
 use Rattle.std.proofs.lemmas.Bool.{and_parts, and_from, both_ways, true≢false, cases_Bool, cond-true}
 use Rattle.std.proofs.lemmas.Option.{same_Some}
-use Rattle.clmodel.specs.Cells.{Cells, lowest_unset, unset_or, byte_count, covers, written, byte_of, combined, size_of, width_of, found, answer_to, effect}
+use Rattle.clmodel.specs.Cells.{Cells, lowest_unset, unset_or, byte_count, covers, written, byte_of, combined, fetched, size_of, width_of, found, answer_to, effect}
 use Rattle.clmodel.specs.Launch.{Launch, same_region, region_of, kind_of, group_of, clash, conflict}
 use Rattle.clmodel.specs.Run.{Memory, State, initial, start, with_cells}
 use Rattle.clmodel.specs.Law.{Logged, newest_conflict}
@@ -10,9 +10,10 @@ use Rattle.clmodel.specs.declared.access.Access.{Access}
 use Rattle.clmodel.specs.declared.access.AccessKind.{AccessKind}
 use Rattle.clmodel.specs.declared.access.AccessKind.TheVariants as kind
 use Rattle.clmodel.specs.declared.access.Class.{Class}
+use Rattle.clmodel.specs.declared.access.FetchOp.{FetchOp}
 use Rattle.clmodel.specs.declared.access.Object.{Object}
 use Rattle.clmodel.specs.declared.access.Operation.{Operation}
-use Rattle.clmodel.specs.declared.access.Operation.TheVariants.{Load, Store, Update}
+use Rattle.clmodel.specs.declared.access.Operation.TheVariants.{Load, Store, Update, Fetch}
 use Rattle.clmodel.specs.declared.access.Region.{Region}
 use Rattle.clmodel.specs.declared.access.Width.{Width}
 use Rattle.clmodel.proofs.CellLaws.{covers_parts, covers_from, written_in, effect_out, Aligned}
@@ -52,6 +53,7 @@ effect_set : (op : Operation) (x y : ℕ) (c d : Cells) (first byte : ℕ) → i
 effect_set (Load width) x y c d first byte same = same
 effect_set (Store width value) x y c d first byte same = written_set c d first (byte_count width) value value byte same
 effect_set (Update class operand) x y c d first byte same = written_set c d first 4 _ _ byte same
+effect_set (Fetch op operand) x y c d first byte same = written_set c d first 4 _ _ byte same
 
 written_keeps : (c : Cells) (first width v byte : ℕ) → (covers first width byte ≡ true → is_set (c byte) ≡ true) → is_set (written c first width v byte) ≡ is_set (c byte)
 written_keeps c first width v byte set = go (covers first width byte) refl
@@ -64,6 +66,7 @@ effect_keeps : (op : Operation) (x : ℕ) (c : Cells) (first byte : ℕ) → (co
 effect_keeps (Load width) x c first byte set = refl
 effect_keeps (Store width value) x c first byte set = written_keeps c first (byte_count width) value byte set
 effect_keeps (Update class operand) x c first byte set = written_keeps c first 4 _ byte set
+effect_keeps (Fetch op operand) x c first byte set = written_keeps c first 4 _ byte set
 
 -- an access's effect on a memory
 abbrev pub performed : Memory → Region → Operation → ℕ → ℕ → Memory
@@ -91,6 +94,7 @@ performed_load m p (Load width) x first q byte h = go (same_region q p) refl
     go false e = ap (λ (f : Cells). f byte) (with_there m p _ q e)
 performed_load m p (Store width value) x first q byte h = absurd (true≢false h)
 performed_load m p (Update class operand) x first q byte h = absurd (true≢false h)
+performed_load m p (Fetch o operand) x first q byte h = absurd (true≢false h)
 
 -- what a log wrote
 or_cases : (a b : Bool) → (a || b) ≡ true → (a ≡ true) ⊎ (b ≡ true)
@@ -247,11 +251,19 @@ load_clash : (k : AccessKind) → writes k ≡ true → clash k kind.Load ≡ No
 load_clash kind.Load h c = true≢false (sym h)
 load_clash kind.Store h c = some_none _ c
 load_clash (kind.Update d) h c = some_none _ c
+load_clash kind.Fetch h c = some_none _ c
+
+fetch_clash : (k : AccessKind) → writes k ≡ true → clash k kind.Fetch ≡ None → ⊥
+fetch_clash kind.Load h c = true≢false (sym h)
+fetch_clash kind.Store h c = some_none _ c
+fetch_clash (kind.Update d) h c = some_none _ c
+fetch_clash kind.Fetch h c = some_none _ c
 
 update_clash : (k : AccessKind) (d : Class) → writes k ≡ true → clash k (kind.Update d) ≡ None → k ≡ kind.Update d
 update_clash kind.Load d h c = absurd (true≢false (sym h))
 update_clash kind.Store d h c = absurd (some_none _ c)
 update_clash (kind.Update e) d h c = ap kind.Update (no_order e d c)
+update_clash kind.Fetch d h c = absurd (some_none _ c)
 
 not_wrote : (lower : List Access) (p : Region) (byte : ℕ) → (wrote lower p byte ≡ true → ⊥) → wrote lower p byte ≡ false
 not_wrote lower p byte h = ⊎_elim (λ e. absurd (h e)) (λ e. e) (cases_Bool (wrote lower p byte))
@@ -264,6 +276,15 @@ load_clear l lower bm sm i p width first x x2 n t byte h k =
     let z = wrote_some lower p byte w in
     load_clash z.0.kind z.2 (meet l (entry_at i p first (Load width) n) z.0 p byte (t.apart z.0 z.1).0 z.3
     (and_from _ _ (same_region_self p) (covers_from first (byte_count width) byte h k)) (t.cross z.0 z.1 byte)))
+
+-- nor was what a fetch finds
+fetch_clear : (l : Launch) (lower : List Access) (bm sm : Memory) (i : ℕ) (p : Region) (o : FetchOp) (v first x x2 n : ℕ) → Lift l lower bm sm i p (Fetch o v) first x x2 n
+    → (byte : ℕ) → first ≤ byte → byte < first + 4 → wrote lower p byte ≡ false
+fetch_clear l lower bm sm i p o v first x x2 n t byte h k =
+    not_wrote lower p byte (λ w.
+    let z = wrote_some lower p byte w in
+    fetch_clash z.0.kind z.2 (meet l (entry_at i p first (Fetch o v) n) z.0 p byte (t.apart z.0 z.1).0 z.3
+    (and_from _ _ (same_region_self p) (covers_from first 4 byte h k)) (t.cross z.0 z.1 byte)))
 
 -- a writer at a byte of a word that is updated
 pub record Writer (lower : List Access) (p : Region) (c : Class) (first : ℕ) : Type 0 where
@@ -324,6 +345,8 @@ same_answer l lower bm sm i p (Load width) first x x2 n t =
     ap (answer_to (Load width)) (same_found l lower bm sm i p (Load width) first x x2 n t (load_clear l lower bm sm i p width first x x2 n t))
 same_answer l lower bm sm i p (Store width value) first x x2 n t = refl
 same_answer l lower bm sm i p (Update c v) first x x2 n t = refl
+same_answer l lower bm sm i p (Fetch o v) first x x2 n t =
+    ap (answer_to (Fetch o v)) (same_found l lower bm sm i p (Fetch o v) first x x2 n t (fetch_clear l lower bm sm i p o v first x x2 n t))
 
 effect_inside : (l : Launch) (lower : List Access) (bm sm : Memory) (i : ℕ) (p : Region) (op : Operation) (first x x2 n : ℕ) → Lift l lower bm sm i p op first x x2 n
     → (byte : ℕ) → covers first (size_of op) byte ≡ true → wrote lower p byte ≡ false → effect op x2 (sm p) first byte ≡ effect op x (bm p) first byte
@@ -336,6 +359,11 @@ effect_inside l lower bm sm i p (Update c v) first x x2 n t byte h clear =
     ∙ ap (λ z. Some (byte_of (byte - first) (combined c z v)))
     (same_found l lower bm sm i p (Update c v) first x x2 n t (update_clear l lower bm sm i p c v first x x2 n t byte r.0 r.1 clear))
     ∙ sym (written_in (bm p) first 4 (combined c x v) byte h)
+effect_inside l lower bm sm i p (Fetch o v) first x x2 n t byte h clear =
+    written_in (sm p) first 4 (fetched o x2 v) byte h
+    ∙ ap (λ z. Some (byte_of (byte - first) (fetched o z v)))
+    (same_found l lower bm sm i p (Fetch o v) first x x2 n t (fetch_clear l lower bm sm i p o v first x x2 n t))
+    ∙ sym (written_in (bm p) first 4 (fetched o x v) byte h)
 
 -- bytes that the lower groups did not write stay the same
 pub kept_step : (l : Launch) (lower : List Access) (bm sm : Memory) (i : ℕ) (p : Region) (op : Operation) (first x x2 n : ℕ) → Lift l lower bm sm i p op first x x2 n

@@ -26,12 +26,14 @@ abbrev pub writes : AccessKind → Bool
 writes kind.Load = false
 writes kind.Store = true
 writes (kind.Update _) = true
+writes kind.Fetch = true
 
--- the class of an update (6.12.11)
+-- the class of an update; a fetch is none (6.12.11)
 abbrev pub class_of : AccessKind → Option Class
 class_of kind.Load = None
 class_of kind.Store = None
 class_of (kind.Update class) = Some class
+class_of kind.Fetch = None
 
 -- an access is at a byte of a region (3.3)
 abbrev pub at_byte : Region → ℕ → Access → Bool

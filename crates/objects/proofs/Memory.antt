@@ -9,7 +9,7 @@ use Rattle.clmodel.specs.Run.{Memory, with_cells}
 use Rattle.clmodel.specs.declared.access.Object.{Object}
 use Rattle.clmodel.specs.declared.access.Object.TheVariants as object
 use Rattle.clmodel.specs.declared.access.Operation.{Operation}
-use Rattle.clmodel.specs.declared.access.Operation.TheVariants.{Load, Store, Update}
+use Rattle.clmodel.specs.declared.access.Operation.TheVariants.{Load, Store, Update, Fetch}
 use Rattle.clmodel.specs.declared.access.Region.{Region}
 use Rattle.clmodel.specs.declared.access.Region.TheVariants as region
 use Rattle.clmodel.specs.declared.access.Width.{Width}
@@ -34,6 +34,7 @@ pub size_some : (o : Operation) → 0 < size_of o
 size_some (Load w) = byte_count_some w
 size_some (Store w v) = byte_count_some w
 size_some (Update c v) = omega arith
+size_some (Fetch o v) = omega arith
 
 -- a space that has a byte is there
 there : {S : Type 0} (bytes : S → List (Option ℕ)) (xs : List S) (n : ℕ) → 0 < length (bytes_or bytes (slice_get xs n)) → n < length xs

@@ -101,9 +101,8 @@ fn reads(operation: Operation) -> bool
     ensures { result ≡ reads operation }
 {
     match operation {
-        Operation::Load(_) => true,
+        Operation::Load(_) | Operation::Update(_, _) | Operation::Fetch(_, _) => true,
         Operation::Store(_, _) => false,
-        Operation::Update(_, _) => true,
     }
 }
 

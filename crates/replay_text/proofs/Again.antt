@@ -121,6 +121,7 @@ kind_is_no_private (kind.Update class.SignedMin) more = refl
 kind_is_no_private (kind.Update class.UnsignedMin) more = refl
 kind_is_no_private (kind.Update class.SignedMax) more = refl
 kind_is_no_private (kind.Update class.UnsignedMax) more = refl
+kind_is_no_private kind.Fetch more = refl
 
 kind_is_no_variable : (k : AccessKind) (more : List ℕ) → after (codes "variable ") (kind_text k ++ 32 ∷ more) ≡ None
 unfolding after
@@ -134,6 +135,7 @@ kind_is_no_variable (kind.Update class.SignedMin) more = refl
 kind_is_no_variable (kind.Update class.UnsignedMin) more = refl
 kind_is_no_variable (kind.Update class.SignedMax) more = refl
 kind_is_no_variable (kind.Update class.UnsignedMax) more = refl
+kind_is_no_variable kind.Fetch more = refl
 
 private_is_no_variable : (more : List ℕ) → after (codes "variable ") (codes "private " ++ more) ≡ None
 unfolding after

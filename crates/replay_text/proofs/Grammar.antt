@@ -39,7 +39,7 @@ pick w k read other false is more e = more e
 kind_word : (w : List ℕ) (k : AccessKind) → kind_of w ≡ Some k → w ≡ kind_text k
 unfolding kind_of
 kind_word w k e =
-    pick w kind.Load k _ (same w (kind_text kind.Load)) refl (λ e0. pick w kind.Store k _ (same w (kind_text kind.Store)) refl (λ e1. pick w (kind.Update class.Add) k _ (same w (kind_text (kind.Update class.Add))) refl (λ e2. pick w (kind.Update class.And) k _ (same w (kind_text (kind.Update class.And))) refl (λ e3. pick w (kind.Update class.Or) k _ (same w (kind_text (kind.Update class.Or))) refl (λ e4. pick w (kind.Update class.Xor) k _ (same w (kind_text (kind.Update class.Xor))) refl (λ e5. pick w (kind.Update class.SignedMin) k _ (same w (kind_text (kind.Update class.SignedMin))) refl (λ e6. pick w (kind.Update class.UnsignedMin) k _ (same w (kind_text (kind.Update class.UnsignedMin))) refl (λ e7. pick w (kind.Update class.SignedMax) k _ (same w (kind_text (kind.Update class.SignedMax))) refl (λ e8. pick w (kind.Update class.UnsignedMax) k None (same w (kind_text (kind.Update class.UnsignedMax))) refl (λ n. absurd (cc)) e8) e7) e6) e5) e4) e3) e2) e1) e0) e
+    pick w kind.Load k _ (same w (kind_text kind.Load)) refl (λ e0. pick w kind.Store k _ (same w (kind_text kind.Store)) refl (λ e1. pick w (kind.Update class.Add) k _ (same w (kind_text (kind.Update class.Add))) refl (λ e2. pick w (kind.Update class.And) k _ (same w (kind_text (kind.Update class.And))) refl (λ e3. pick w (kind.Update class.Or) k _ (same w (kind_text (kind.Update class.Or))) refl (λ e4. pick w (kind.Update class.Xor) k _ (same w (kind_text (kind.Update class.Xor))) refl (λ e5. pick w (kind.Update class.SignedMin) k _ (same w (kind_text (kind.Update class.SignedMin))) refl (λ e6. pick w (kind.Update class.UnsignedMin) k _ (same w (kind_text (kind.Update class.UnsignedMin))) refl (λ e7. pick w (kind.Update class.SignedMax) k _ (same w (kind_text (kind.Update class.SignedMax))) refl (λ e8. pick w (kind.Update class.UnsignedMax) k _ (same w (kind_text (kind.Update class.UnsignedMax))) refl (λ e9. pick w kind.Fetch k None (same w (kind_text kind.Fetch)) refl (λ n. absurd (cc)) e9) e8) e7) e6) e5) e4) e3) e2) e1) e0) e
 
 kind_back : (k : AccessKind) → (kind_of (kind_text k) ≡ Some k) × IsTrue (is_name (kind_text k))
 unfolding kind_of
@@ -53,6 +53,7 @@ kind_back (kind.Update class.SignedMin) = (refl, unfold Rattle.replay_text.specs
 kind_back (kind.Update class.UnsignedMin) = (refl, unfold Rattle.replay_text.specs.Fields.is_later in refl)
 kind_back (kind.Update class.SignedMax) = (refl, unfold Rattle.replay_text.specs.Fields.is_later in refl)
 kind_back (kind.Update class.UnsignedMax) = (refl, unfold Rattle.replay_text.specs.Fields.is_later in refl)
+kind_back kind.Fetch = (refl, unfold Rattle.replay_text.specs.Fields.is_later in refl)
 
 kind_takes : (bytes : List ℕ) (x : AccessKind × List ℕ) → kind_at bytes ≡ Some x → bytes ≡ kind_text x.0 ++ 32 ∷ x.1
 unfolding kind_at

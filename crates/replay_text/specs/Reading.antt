@@ -94,7 +94,8 @@ kind_of word =
     if same word (codes "smin") then Some (kind.Update class.SignedMin) else (
     if same word (codes "umin") then Some (kind.Update class.UnsignedMin) else (
     if same word (codes "smax") then Some (kind.Update class.SignedMax) else (
-    if same word (codes "umax") then Some (kind.Update class.UnsignedMax) else None)))))))))
+    if same word (codes "umax") then Some (kind.Update class.UnsignedMax) else (
+    if same word (codes "fetch") then Some kind.Fetch else None))))))))))
 
 -- a kind in front of a space, and what is behind it
 unfoldable pub kind_at : List ℕ → Option (AccessKind × List ℕ)

@@ -32,6 +32,7 @@ abbrev pub kind_text : AccessKind → List ℕ
 kind_text kind.Load = codes "load"
 kind_text kind.Store = codes "store"
 kind_text (kind.Update of) = class_text of
+kind_text kind.Fetch = codes "fetch"
 
 abbrev pub clash_text : Clash → List ℕ
 clash_text Race = codes "fault 1 race item "

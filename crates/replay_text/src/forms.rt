@@ -38,6 +38,8 @@ fn kind_of(word: &[u8]) -> Option<AccessKind>
         Some(AccessKind::Update(Class::SignedMax))
     } else if word == b"umax".as_slice() {
         Some(AccessKind::Update(Class::UnsignedMax))
+    } else if word == b"fetch".as_slice() {
+        Some(AccessKind::Fetch)
     } else {
         None
     }

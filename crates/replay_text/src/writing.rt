@@ -53,6 +53,7 @@ fn kind_word(kind: AccessKind) -> &'static str
         AccessKind::Load => "load",
         AccessKind::Store => "store",
         AccessKind::Update(class) => class_word(class),
+        AccessKind::Fetch => "fetch",
     }
 }
 

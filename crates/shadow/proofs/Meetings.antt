@@ -101,6 +101,7 @@ kind_writes : (k : AccessKind) → writes k ≡ not (kind_number k == 8)
 kind_writes kind.Load = refl
 kind_writes kind.Store = refl
 kind_writes (kind.Update c) = sym (ap not (ne_eqb (class_number c) 8 (not_eight (class_number c) (class_small c))))
+kind_writes kind.Fetch = refl
 
 -- of two kinds one writes
 one_writes : (a b : AccessKind) → (kind_number a == kind_number b) ≡ false → (writes a || writes b) ≡ true

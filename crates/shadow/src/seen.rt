@@ -72,8 +72,7 @@ fn writes(kind: AccessKind) -> bool
 {
     match kind {
         AccessKind::Load => false,
-        AccessKind::Store => true,
-        AccessKind::Update(_) => true,
+        AccessKind::Store | AccessKind::Update(_) | AccessKind::Fetch => true,
     }
 }
 

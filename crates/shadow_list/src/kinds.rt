@@ -23,15 +23,16 @@ fn class_number(class: Class) -> u8
     }
 }
 
-/// The number of a kind: kinds that don't conflict with one another have the same.
+/// The number of a kind: kinds that don't conflict with one another have the same, and of two fetches, which do, too.
 pub fn kind_number(kind: AccessKind) -> u8
     ensures value { result ≡ kind_number kind }
-    ensures small { result < 10 }
+    ensures small { result < 11 }
 {
     match kind {
         AccessKind::Load => 8,
         AccessKind::Store => 9,
         AccessKind::Update(class) => class_number(class),
+        AccessKind::Fetch => 10,
     }
 }
 
@@ -42,13 +43,11 @@ pub fn clash(kind: AccessKind, other: AccessKind) -> Option<Clash>
     match kind {
         AccessKind::Load => match other {
             AccessKind::Load => None,
-            AccessKind::Store => Some(Clash::Race),
-            AccessKind::Update(_) => Some(Clash::Race),
+            AccessKind::Store | AccessKind::Update(_) | AccessKind::Fetch => Some(Clash::Race),
         },
         AccessKind::Store => Some(Clash::Race),
         AccessKind::Update(class) => match other {
-            AccessKind::Load => Some(Clash::Race),
-            AccessKind::Store => Some(Clash::Race),
+            AccessKind::Load | AccessKind::Store => Some(Clash::Race),
             AccessKind::Update(other_class) => {
                 if class_number(class) == class_number(other_class) {
                     None
@@ -56,6 +55,11 @@ pub fn clash(kind: AccessKind, other: AccessKind) -> Option<Clash>
                     Some(Clash::Order)
                 }
             }
+            AccessKind::Fetch => Some(Clash::Order),
+        },
+        AccessKind::Fetch => match other {
+            AccessKind::Load | AccessKind::Store => Some(Clash::Race),
+            AccessKind::Update(_) | AccessKind::Fetch => Some(Clash::Order),
         },
     }
 }

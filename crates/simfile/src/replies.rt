@@ -52,7 +52,6 @@ fn type_words(fault: TypeFault) -> &'static str
         TypeFault::WrongArgumentCount { .. } => "type 6 WrongArgumentCount at ",
         TypeFault::WrongSpace { .. } => "type 7 WrongSpace at ",
         TypeFault::BadBarrierFlags { .. } => "type 8 BadBarrierFlags at ",
-        TypeFault::AtomicValueUsed { .. } => "type 9 AtomicValueUsed at ",
         TypeFault::TooManyLoops { .. } => "type 10 TooManyLoops at ",
         TypeFault::TooLarge { .. } => "type 11 TooLarge at ",
         TypeFault::MissingReturn { .. } => "type 12 MissingReturn at ",

@@ -216,6 +216,7 @@ own_put : (k : AccessKind) (first lower own : Cells) (byte : ℕ) → joined_val
 own_put kind.Load first lower own byte = refl
 own_put kind.Store first lower own byte = refl
 own_put (kind.Update class) first lower own byte = refl
+own_put kind.Fetch first lower own byte = refl
 
 -- a byte that an entry wrote
 put_joined :

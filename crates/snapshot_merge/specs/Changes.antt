@@ -41,6 +41,7 @@ abbrev pub joined_value : AccessKind → Bool → Cells → Cells → Cells → 
 joined_value kind false first lower own byte = number_or_0 own byte 1
 joined_value kind.Load true first lower own byte = number_or_0 own byte 1
 joined_value kind.Store true first lower own byte = number_or_0 own byte 1
+joined_value kind.Fetch true first lower own byte = number_or_0 own byte 1
 joined_value (kind.Update class) true first lower own byte =
     let word = byte / 4 * 4 in byte_of (byte % 4) (joined_number class (number_or_0 first word 4) (number_or_0 lower word 4) (number_or_0 own word 4))
 

@@ -119,8 +119,9 @@ impl Before<'_, '_, '_, '_> {
         ensures { (log : List TheAccess) → IsFootprint self.now.footprint.now log → result ≡ value_of (map (λ row. row.now) self.now.first.now) self.now.lower.now (λ n b. joining.wrote log (region.Buffer n) b) (map (λ space. space.bytes) self.now.own.now) number x.now byte }
     {
         match x.kind {
-            AccessKind::Load => self.own_byte(number, byte),
-            AccessKind::Store => self.own_byte(number, byte),
+            AccessKind::Load | AccessKind::Store | AccessKind::Fetch => {
+                self.own_byte(number, byte)
+            }
             AccessKind::Update(class) => {
                 if self.footprint.is_written(number, byte) {
                     byte_of(self.joined_word(class, number, byte / 4 * 4), byte % 4)

@@ -2,11 +2,11 @@
 
 ghost use Rattle.std.specs.Prelude.{◌≡◌, ◌≢◌, ◌<◌, ◌≤◌, ◌+◌, ◌/◌, ◌^◌, ℕ, Some, length, map, true, false, All, OnOk, OnErr, slice_get, nat_le};
 ghost use Rattle.clmodel.specs.Cells.{cells_of, number, written};
-ghost use Rattle.spaces_base.specs.Space.{Becomes, IsChanged, IsStored, IsUpdated};
+ghost use Rattle.spaces_base.specs.Space.{Becomes, IsChanged, IsStored, IsUpdated, IsFetched};
 
 use crate::pages::Pages;
-use clmodel::access::{Class, Width};
-use spaces_base::cells::{combined, is_inside};
+use clmodel::access::{Class, FetchOp, Width};
+use spaces_base::cells::{combined, fetched, is_inside};
 use spaces_base::{Space, SpaceFault};
 use std::alloc::{AllocError, Global};
 use std::marker::Model;
@@ -133,5 +133,12 @@ impl<'a> Space for Overlay<'a> {
     {
         self.change(at, |found| combined(class, found, operand))?;
         Ok(())
+    }
+
+    fn fetch(&mut self, at: u64, op: FetchOp, operand: u32) -> Result<u32, SpaceFault>
+        ensures fetched { IsFetched false true self.old.bytes at op operand self.new.bytes result }
+        ensures lent { self.new.base ≡ self.old.base }
+    {
+        self.change(at, |found| fetched(op, found, operand))
     }
 }

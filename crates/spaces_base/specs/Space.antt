@@ -1,8 +1,9 @@
 -- The laws of a memory space: a list of bytes, some of which may be unset (OpenCL 1.2, 3.3, 6.12.11; own in the faults).
 use Rattle.std.specs.Prelude.{◌≡◌, ℕ, ◌+◌, ◌<◌, ◌≤◌, ◌^◌, Bool, true, false, Option, Some, List, length, Result, Ok, Err}
-use Rattle.clmodel.specs.Cells.{Cells, cells_of, byte_count, number, lowest_unset, written, combined}
+use Rattle.clmodel.specs.Cells.{Cells, cells_of, byte_count, number, lowest_unset, written, combined, fetched}
 use Rattle.clmodel.specs.declared.access.Width.{Width}
 use Rattle.clmodel.specs.declared.access.Class.{Class}
+use Rattle.clmodel.specs.declared.access.FetchOp.{FetchOp}
 use Rattle.spaces_base.specs.declared.space.SpaceFault.{SpaceFault}
 use Rattle.spaces_base.specs.declared.space.SpaceFault.TheVariants as fault
 
@@ -49,6 +50,17 @@ IsUpdated read_only may_want old at class operand new (Err (fault.Unset byte)) =
     (read_only ≡ false) × InRange old at 4 × (lowest_unset (cells_of old) at 4 ≡ Some byte) × (new ≡ old)
 IsUpdated read_only may_want old at class operand new (Err fault.ReadOnly) = (read_only ≡ true) × (new ≡ old)
 IsUpdated read_only may_want old at class operand new (Err fault.OutOfMemory) =
+    (read_only ≡ false) × (may_want ≡ true) × InRange old at 4 × (new ≡ old)
+
+-- what a fetch leaves and answers: the number that was there (6.12.11: "old"), in whose place is what the operation makes of it
+abbrev pub IsFetched : Bool → Bool → List (Option ℕ) → ℕ → FetchOp → ℕ → List (Option ℕ) → Result ℕ SpaceFault → Type 0
+IsFetched read_only may_want old at op operand new (Ok found) =
+    (read_only ≡ false) × InRange old at 4 × (number (cells_of old) at 4 ≡ Some found) × Becomes old new (written (cells_of old) at 4 (fetched op found operand))
+IsFetched read_only may_want old at op operand new (Err fault.Bounds) = (read_only ≡ false) × Outside old at 4 × (new ≡ old)
+IsFetched read_only may_want old at op operand new (Err (fault.Unset byte)) =
+    (read_only ≡ false) × InRange old at 4 × (lowest_unset (cells_of old) at 4 ≡ Some byte) × (new ≡ old)
+IsFetched read_only may_want old at op operand new (Err fault.ReadOnly) = (read_only ≡ true) × (new ≡ old)
+IsFetched read_only may_want old at op operand new (Err fault.OutOfMemory) =
     (read_only ≡ false) × (may_want ≡ true) × InRange old at 4 × (new ≡ old)
 
 -- what a change of 4 bytes leaves and answers: the number that was there (6.12.11: "old"), in whose place is one that `makes` allows for it

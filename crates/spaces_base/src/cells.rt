@@ -1,9 +1,9 @@
 //! Numbers in rows of bytes, the lowest byte first.
 
 ghost use Rattle.std.specs.Prelude.{◌≡◌, ◌≤◌, ◌<◌, ◌+◌, ◌^◌, ℕ, Option, Some, length, map, nat_le, false, IfOk, IfErr};
-ghost use Rattle.clmodel.specs.Cells.{cells_of, number, lowest_unset, written, combined, signed_place};
+ghost use Rattle.clmodel.specs.Cells.{cells_of, number, lowest_unset, written, combined, fetched, signed_place};
 
-use clmodel::access::Class;
+use clmodel::access::{Class, FetchOp};
 
 /// A byte that may be unset, as it lies in a row.
 pub trait Cell: Copy {
@@ -95,6 +95,23 @@ pub fn combined(class: Class, x: u32, operand: u32) -> u32
         Class::UnsignedMin => x.min(operand),
         Class::SignedMax => signed_place(signed_place(x).max(signed_place(operand))),
         Class::UnsignedMax => x.max(operand),
+    }
+}
+
+/// What an atomic operation whose old number is used leaves of a number.
+pub fn fetched(op: FetchOp, x: u32, operand: u32) -> u32
+    ensures { result ≡ fetched op x operand }
+{
+    match op {
+        FetchOp::Class(class) => combined(class, x, operand),
+        FetchOp::Exchange => operand,
+        FetchOp::CompareExchange(expected) => {
+            if x == expected {
+                operand
+            } else {
+                x
+            }
+        }
     }
 }
 

@@ -3,9 +3,9 @@
 ghost use Rattle.std.specs.Prelude.{◌≡◌, true, false};
 
 use crate::space::{Space, SpaceFault};
-use clmodel::access::{Class, Width};
+use clmodel::access::{Class, FetchOp, Width};
 
-/// A lent space, read as constant memory: it answers every store and update by `ReadOnly` (OpenCL 1.2, section 6.5.3).
+/// A lent space, read as constant memory: it answers every store, update and fetch by `ReadOnly` (OpenCL 1.2, section 6.5.3).
 #[derive(Drop)]
 pub struct ConstView<'a, S: Space> {
     inner: &'a S,
@@ -40,6 +40,10 @@ impl<S: Space> Space for ConstView<'_, S> {
     }
 
     fn update(&mut self, _at: u64, _class: Class, _operand: u32) -> Result<(), SpaceFault> {
+        Err(SpaceFault::ReadOnly)
+    }
+
+    fn fetch(&mut self, _at: u64, _op: FetchOp, _operand: u32) -> Result<u32, SpaceFault> {
         Err(SpaceFault::ReadOnly)
     }
 }

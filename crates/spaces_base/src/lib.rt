@@ -1,4 +1,4 @@
-//! Memory spaces: what a load, a store and an atomic update of a work-item do to the bytes of one object; and the buffers of a device by their names.
+//! Memory spaces: what a load, a store and an atomic operation of a work-item do to the bytes of one object; and the buffers of a device by their names.
 #![tactic(auto)]
 
 mod buffers;

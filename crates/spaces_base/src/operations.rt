@@ -8,8 +8,8 @@ use crate::space::{Space, SpaceFault};
 use clmodel::access::Operation;
 use clmodel::action::Answer;
 
-/// Does an operation at the bytes of a space from `first` on, whole (OpenCL 1.2, section 6.12.11), and answers the item: a load gets the
-/// number that it read. An error says why nothing is done, and leaves the space: a byte of it is out of range, or a byte that it reads is
+/// Does an operation at the bytes of a space from `first` on, whole (OpenCL 1.2, section 6.12.11), and answers the item: a load and a
+/// fetch get the number that they read. An error says why nothing is done, and leaves the space: a byte of it is out of range, or a byte that it reads is
 /// unset, or no memory is left to keep what it stores.
 pub fn perform<S: Space>(
     space: &mut S,
@@ -28,6 +28,9 @@ pub fn perform<S: Space>(
         Operation::Update(class, operand) => {
             space.update(first, class, operand)?;
             Ok(Answer::Done)
+        }
+        Operation::Fetch(op, operand) => {
+            Ok(Answer::Value(space.fetch(first, op, operand)? as u64))
         }
     }
 }

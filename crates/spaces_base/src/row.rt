@@ -3,9 +3,9 @@
 ghost use Rattle.std.specs.Prelude.{◌≡◌, Some, None, map, length, replicate, false, IfOk};
 ghost use Rattle.spaces_base.specs.Space.{IsChanged};
 
-use crate::cells::{Cell, combined, is_inside, put, read};
+use crate::cells::{Cell, combined, fetched, is_inside, put, read};
 use crate::space::{Space, SpaceFault};
-use clmodel::access::{Class, Width};
+use clmodel::access::{Class, FetchOp, Width};
 use std::alloc::{AllocError, Global};
 use std::marker::Model;
 
@@ -127,5 +127,9 @@ impl<C: Cell> Space for Row<C> {
     fn update(&mut self, at: u64, class: Class, operand: u32) -> Result<(), SpaceFault> {
         self.change(at, |found| combined(class, found, operand))?;
         Ok(())
+    }
+
+    fn fetch(&mut self, at: u64, op: FetchOp, operand: u32) -> Result<u32, SpaceFault> {
+        self.change(at, |found| fetched(op, found, operand))
     }
 }

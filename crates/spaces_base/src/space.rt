@@ -1,9 +1,9 @@
 //! What a memory space is.
 
 ghost use Rattle.std.specs.Prelude.{◌≡◌, ℕ, List, Option, Bool, length};
-ghost use Rattle.spaces_base.specs.Space.{IsLoaded, IsStored, IsUpdated};
+ghost use Rattle.spaces_base.specs.Space.{IsLoaded, IsStored, IsUpdated, IsFetched};
 
-use clmodel::access::{Class, Width};
+use clmodel::access::{Class, FetchOp, Width};
 use thiserror::Error;
 
 /// Why an access to a space can't be done. The space is as before then.
@@ -46,4 +46,9 @@ pub trait Space {
     /// Combines a number with that of 4 bytes, by the update's class (OpenCL 1.2, section 6.12.11).
     fn update(&mut self, at: u64, class: Class, operand: u32) -> Result<(), SpaceFault>
         ensures { IsUpdated read_only may_want (bytes self.old) at class operand (bytes self.new) result };
+
+    /// Gives the number of 4 bytes, and leaves in its place what an atomic operation makes of it and an operand (OpenCL 1.2, section
+    /// 6.12.11).
+    fn fetch(&mut self, at: u64, op: FetchOp, operand: u32) -> Result<u32, SpaceFault>
+        ensures { IsFetched read_only may_want (bytes self.old) at op operand (bytes self.new) result };
 }
