@@ -1,4 +1,4 @@
-//! The accesses that items make, and what loads are answered (OpenCL 1.2, sections 6.5 and 6.12.11).
+//! The accesses that items make, and the numbers that they are answered (OpenCL 1.2, sections 6.5 and 6.12.11).
 #![tactic(auto)]
 
 ghost use Rattle.std.specs.Prelude.{◌≡◌, pos};
@@ -10,7 +10,7 @@ ghost use Rattle.clmodel.specs.Next.{element_width, answered};
 ghost use Rattle.clmodel.specs.declared.access.Operation.TheVariants as operation;
 ghost use Rattle.clmodel.specs.declared.operand.Operand.TheVariants as operand;
 
-use clmodel::access::{Class, Operation, Width};
+use clmodel::access::{Class, FetchOp, Operation, Width};
 use clmodel::action::Answer;
 use clmodel::operand::Operand;
 use clmodel::setup::AtomicFunction;
@@ -44,7 +44,7 @@ pub(crate) fn load_of(element: IntType) -> Operation
     Operation::Load(width(element))
 }
 
-/// The value of an element that a load was answered.
+/// The value of an element that an access was answered.
 pub(crate) fn loaded(element: IntType, answer: Answer) -> Operand
     ensures { result ≡ operand.Integral (wrapped element (pos (answered answer))) }
 {
@@ -58,13 +58,17 @@ pub(crate) fn store_of(element: IntType, value: Value) -> Operation
     Operation::Store(width(element), value.bits_in(element))
 }
 
-/// The class of an atomic function at an element type.
+/// The class of an atomic function at an element type. (Exchange and compare-exchange have none: they are no updates.)
 fn class_of(function: AtomicFunction, kind: IntType) -> Class
     ensures { result ≡ next.class_of function kind }
 {
     match function {
-        AtomicFunction::Add | AtomicFunction::Sub | AtomicFunction::Inc | AtomicFunction::Dec =>
-            Class::Add,
+        AtomicFunction::Add
+        | AtomicFunction::Sub
+        | AtomicFunction::Inc
+        | AtomicFunction::Dec
+        | AtomicFunction::Exchange
+        | AtomicFunction::CompareExchange => Class::Add,
         AtomicFunction::Min if kind.is_signed() => Class::SignedMin,
         AtomicFunction::Min => Class::UnsignedMin,
         AtomicFunction::Max if kind.is_signed() => Class::SignedMax,
@@ -91,4 +95,29 @@ pub(crate) fn update_of(function: AtomicFunction, element: IntType, number: Valu
 {
     let bits = amount(function, number).bits_in(IntType::Uint);
     Operation::Update(class_of(function, element), bits as u32)
+}
+
+/// What an atomic function whose old number is used leaves, where the number that it compares with has these bits.
+fn fetch_op_of(function: AtomicFunction, kind: IntType, expected: u32) -> FetchOp
+    ensures { result ≡ next.fetch_op_of function kind expected }
+{
+    match function {
+        AtomicFunction::Exchange => FetchOp::Exchange,
+        AtomicFunction::CompareExchange => FetchOp::CompareExchange(expected),
+        _ => FetchOp::Class(class_of(function, kind)),
+    }
+}
+
+/// An atomic operation on 32 bits whose old number is used.
+pub(crate) fn fetch_of(
+    function: AtomicFunction,
+    element: IntType,
+    expected: Value,
+    number: Value,
+) -> Operation
+    ensures { result ≡ operation.Fetch (next.fetch_op_of function element (bits_of int_type.Uint expected.number)) (bits_of int_type.Uint (next.amount function number).number) }
+{
+    let expected = expected.bits_in(IntType::Uint);
+    let bits = amount(function, number).bits_in(IntType::Uint);
+    Operation::Fetch(fetch_op_of(function, element, expected as u32), bits as u32)
 }

@@ -9,12 +9,13 @@ ghost use Rattle.clmodel.specs.declared.action.Answer.{Answer};
 ghost use Rattle.clmodel.specs.declared.operand.Pointer.{Pointer};
 ghost use Rattle.regcode.specs.Machine.{State, act, read};
 ghost use Rattle.regcode.specs.Rules.{IsVerified};
+ghost use Rattle.regcode.specs.declared.instruction.FetchOperands.TheVariants as operands;
 ghost use Rattle.regcode.specs.declared.instruction.Instruction.TheVariants as instruction;
 ghost use Rattle.item_step.specs.Asking.{asks};
 ghost use Rattle.item_value.specs.Leading.{Leads};
 ghost use Rattle.item_step.specs.Running.{action_of, is_asking};
 
-use crate::accesses::{load_of, store_of, update_of};
+use crate::accesses::{fetch_of, load_of, store_of, update_of};
 use crate::machine::Machine;
 use crate::rest::Wanted;
 use clmodel::operand::Pointer;
@@ -22,7 +23,7 @@ use clmodel::setup::AtomicFunction;
 use clnum::{Value, convert};
 use item_value::pointers::{number, pointing};
 use item_value::termination::Termination;
-use regcode::Instruction;
+use regcode::{FetchOperands, Instruction};
 
 impl<'a> Machine<'a> {
     /// An operand that is a pointer.
@@ -42,6 +43,24 @@ impl<'a> Machine<'a> {
         let pointer = pointing(pointer)?;
         let value = number(value)?;
         Ok((pointer, value))
+    }
+
+    /// Operands that are a pointer and two numbers.
+    fn pointer_and_numbers(
+        &self,
+        pointer: u32,
+        first: u32,
+        second: u32,
+    ) -> Result<(Pointer, Value, Value), Termination>
+        ensures { (after : Pointer → Integer → Integer → Run) → Leads result (read self.now.given self.now.state pointer (λ v. read self.now.given self.now.state first (λ w. read self.now.given self.now.state second (λ x. next.pointing v (λ q. next.number w (λ m. next.number x (λ n. after q m n))))))) (λ three. after three.0 three.1 three.2) }
+    {
+        let pointer = self.operand(pointer)?;
+        let first = self.operand(first)?;
+        let second = self.operand(second)?;
+        let pointer = pointing(pointer)?;
+        let first = number(first)?;
+        let second = number(second)?;
+        Ok((pointer, first, second))
     }
 
     /// What a load asks.
@@ -95,6 +114,64 @@ impl<'a> Machine<'a> {
         })
     }
 
+    /// What an atomic operation by 1 asks whose old number is used.
+    fn fetch_by_one(
+        &self,
+        to: u32,
+        function: AtomicFunction,
+        pointer: u32,
+    ) -> Result<Wanted, Termination>
+        ensures { (on after : State → Run) → Leads result (act self.now.given (Some (instruction.Fetch to function pointer operands.Alone)) on after self.now.state) (asks (instruction.Fetch to function pointer operands.Alone) self.now.state after) }
+    {
+        let pointer = self.pointer(pointer)?;
+        let none = Value::wrapped(pointer.element, 0);
+        let one = Value::wrapped(pointer.element, 1);
+        Ok(Wanted::Access {
+            pointer,
+            operation: fetch_of(function, pointer.element, none, one),
+        })
+    }
+
+    /// What an atomic operation asks whose old number is used.
+    fn fetch(
+        &self,
+        to: u32,
+        function: AtomicFunction,
+        pointer: u32,
+        value: u32,
+    ) -> Result<Wanted, Termination>
+        ensures { (on after : State → Run) → Leads result (act self.now.given (Some (instruction.Fetch to function pointer (operands.Number value))) on after self.now.state) (asks (instruction.Fetch to function pointer (operands.Number value)) self.now.state after) }
+    {
+        let pair = self.pointer_and_number(pointer, value)?;
+        let none = Value::wrapped(pair.0.element, 0);
+        let amount = convert(pair.1, pair.0.element);
+        Ok(Wanted::Access {
+            pointer: pair.0,
+            operation: fetch_of(function, pair.0.element, none, amount),
+        })
+    }
+
+    /// What an atomic operation asks that compares.
+    fn fetch_if_equal(
+        &self,
+        to: u32,
+        function: AtomicFunction,
+        pointer: u32,
+        expected: u32,
+        value: u32,
+    ) -> Result<Wanted, Termination>
+        ensures { (on after : State → Run) → Leads result (act self.now.given (Some (instruction.Fetch to function pointer (operands.Pair expected value))) on after self.now.state) (asks (instruction.Fetch to function pointer (operands.Pair expected value)) self.now.state after) }
+    {
+        let three = self.pointer_and_numbers(pointer, expected, value)?;
+        let element = three.0.element;
+        let wanted = convert(three.1, element);
+        let amount = convert(three.2, element);
+        Ok(Wanted::Access {
+            pointer: three.0,
+            operation: fetch_of(function, element, wanted, amount),
+        })
+    }
+
     /// What an instruction asks; an instruction that asks nothing has ended.
     pub(crate) fn wanted(&self, instruction: &Instruction) -> Result<Wanted, Termination>
         requires { IsTrue (is_asking instruction.now) }
@@ -110,6 +187,18 @@ impl<'a> Machine<'a> {
             } => match value {
                 None => self.update_by_one(*function, *pointer),
                 Some(value) => self.update(*function, *pointer, *value),
+            },
+            Instruction::Fetch {
+                to,
+                function,
+                pointer,
+                operands,
+            } => match operands {
+                FetchOperands::Alone => self.fetch_by_one(*to, *function, *pointer),
+                FetchOperands::Number(value) => self.fetch(*to, *function, *pointer, *value),
+                FetchOperands::Pair { expected, value } => {
+                    self.fetch_if_equal(*to, *function, *pointer, *expected, *value)
+                }
             },
             Instruction::Barrier {
                 site,

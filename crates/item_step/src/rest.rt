@@ -32,8 +32,8 @@ pub(crate) enum Wanted {
 /// How an item goes on with an answer.
 #[derive(Clone, Copy)]
 pub(crate) enum Pending {
-    /// A register gets the number that a load was answered, as one of a type
-    Load { to: u32, element: IntType },
+    /// A register gets the number that was answered, as one of a type
+    Put { to: u32, element: IntType },
     /// The next instruction follows
     Pass,
 }

@@ -69,7 +69,11 @@ call_flat (Some (built_in_function.Integer function)) to [] = (tt, tt)
 call_flat (Some (built_in_function.Integer function)) to (a ∷ []) = (tt, tt)
 call_flat (Some (built_in_function.Integer function)) to (a ∷ b ∷ []) = (tt, tt)
 call_flat (Some (built_in_function.Integer function)) to (a ∷ b ∷ c ∷ numbers) = (tt, tt)
-call_flat (Some (built_in_function.Atomic function)) to numbers = (tt, tt)
+call_flat (Some (built_in_function.Atomic function)) to [] = (tt, tt)
+call_flat (Some (built_in_function.Atomic function)) to (a ∷ []) = (tt, tt)
+call_flat (Some (built_in_function.Atomic function)) to (a ∷ b ∷ []) = (tt, tt)
+call_flat (Some (built_in_function.Atomic function)) to (a ∷ b ∷ c ∷ []) = (tt, tt)
+call_flat (Some (built_in_function.Atomic function)) to (a ∷ b ∷ c ∷ d ∷ numbers) = (tt, tt)
 
 mutual
   pub expression_flat : (scope : Scope) (level : ℕ) (e : Term) → Flat (expr_code scope level e)

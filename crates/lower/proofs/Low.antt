@@ -5,10 +5,11 @@ use Rattle.clnum.specs.declared.int_type.IntType.{IntType}
 use Rattle.clnum.specs.declared.int_type.IntType.TheVariants.{Char, Uchar, Short, Ushort, Int, Uint, Long, Ulong}
 use Rattle.clnum.specs.declared.operators.BinaryOperator.{BinaryOperator}
 use Rattle.clmodel.specs.BuiltIns.{built_in}
-use Rattle.clmodel.specs.Next.{Variables, is_private_array, infix_type}
+use Rattle.clmodel.specs.Next.{Variables, is_private_array, is_update, infix_type}
 use Rattle.clmodel.specs.Tree as tree
 use Rattle.clmodel.specs.Tree.{Term, Terms, NoTerm, ThenTerm, Place, Whole, Part, Behind}
 use Rattle.clmodel.specs.Typing.Sizes.{Sizes, term_size, terms_size, place_size}
+use Rattle.clmodel.specs.declared.setup.AtomicFunction.{AtomicFunction}
 use Rattle.clmodel.specs.declared.setup.BuiltIn.{BuiltIn}
 use Rattle.clmodel.specs.declared.setup.BuiltIn.TheVariants as built_in_function
 use Rattle.clmodel.specs.declared.tree.InfixOperator.{InfixOperator}
@@ -17,7 +18,7 @@ use Rattle.clmodel.specs.declared.tree.VariableType.{VariableType}
 use Rattle.clmodel.specs.declared.tree.VariableType.TheVariants.{Integer, Pointer}
 use Rattle.regcode.specs.declared.instruction.Instruction.{Instruction}
 use Rattle.lower_expr.specs.Scope.{Scope, integer_number, kind_number, register_at, register_in, register_of, free_level}
-use Rattle.lower_expr.specs.Expressions.{count, kind_of, kind_named, type_of_elements, register_for, registers_for, expr_code, terms_code, place_code, place_register, variable_code, element_code, infix_code, call_code, call_only_code}
+use Rattle.lower_expr.specs.Expressions.{count, kind_of, kind_named, type_of_elements, register_for, registers_for, expr_code, terms_code, place_code, place_register, variable_code, element_code, infix_code, call_code, update_code, call_only_code}
 use Rattle.lower_code.specs.Code.{place_type, hold_code, fetch_code, put_code, combine_code}
 use Rattle.lower.specs.Tables.{registers_of, room, register_count}
 use Rattle.lower.proofs.Short.{some_node}
@@ -110,17 +111,25 @@ call_low n (Some (built_in_function.Integer function)) to [] h k = (tt, tt)
 call_low n (Some (built_in_function.Integer function)) to (a ∷ []) h k = ((h, (k.0, tt)), tt)
 call_low n (Some (built_in_function.Integer function)) to (a ∷ b ∷ []) h k = ((h, (k.0, (k.1.0, tt))), tt)
 call_low n (Some (built_in_function.Integer function)) to (a ∷ b ∷ c ∷ numbers) h k = (tt, tt)
-call_low n (Some (built_in_function.Atomic function)) to numbers h k = (tt, tt)
+call_low n (Some (built_in_function.Atomic function)) to [] h k = (tt, tt)
+call_low n (Some (built_in_function.Atomic function)) to (p ∷ []) h k = ((h, (k.0, tt)), tt)
+call_low n (Some (built_in_function.Atomic function)) to (p ∷ v ∷ []) h k = ((h, (k.0, (k.1.0, tt))), tt)
+call_low n (Some (built_in_function.Atomic function)) to (p ∷ c ∷ v ∷ []) h k = ((h, (k.0, (k.1.0, (k.1.1.0, tt)))), tt)
+call_low n (Some (built_in_function.Atomic function)) to (p ∷ c ∷ v ∷ w ∷ numbers) h k = (tt, tt)
+
+update_low : (n : ℕ) (function : AtomicFunction) (numbers : List ℕ) → Few n numbers → Low n (update_code function numbers)
+update_low n function [] k = (tt, tt)
+update_low n function (p ∷ []) k = ((k.0, tt), tt)
+update_low n function (p ∷ v ∷ []) k = ((k.0, (k.1.0, tt)), tt)
+update_low n function (p ∷ v ∷ w ∷ numbers) k = (tt, tt)
 
 pub call_only_low : (n : ℕ) (function : Option BuiltIn) (to : ℕ) (numbers : List ℕ) → to < n → Few n numbers → Low n (call_only_code function to numbers)
 call_only_low n None to numbers h k = (tt, tt)
 call_only_low n (Some built_in_function.WorkDim) to numbers h k = call_low n (Some built_in_function.WorkDim) to numbers h k
 call_only_low n (Some (built_in_function.WorkItem function)) to numbers h k = call_low n (Some (built_in_function.WorkItem function)) to numbers h k
 call_only_low n (Some (built_in_function.Integer function)) to numbers h k = call_low n (Some (built_in_function.Integer function)) to numbers h k
-call_only_low n (Some (built_in_function.Atomic function)) to [] h k = (tt, tt)
-call_only_low n (Some (built_in_function.Atomic function)) to (p ∷ []) h k = ((k.0, tt), tt)
-call_only_low n (Some (built_in_function.Atomic function)) to (p ∷ v ∷ []) h k = ((k.0, (k.1.0, tt)), tt)
-call_only_low n (Some (built_in_function.Atomic function)) to (p ∷ v ∷ w ∷ numbers) h k = (tt, tt)
+call_only_low n (Some (built_in_function.Atomic function)) to numbers h k =
+    low_either n (is_update function) (update_code function numbers) _ (update_low n function numbers k) (call_low n (Some (built_in_function.Atomic function)) to numbers h k)
 
 hold_low : (n : ℕ) (to : Option ℕ) (from : ℕ) (kind : VariableType) → LowOption n to → from < n → Low n (hold_code to from kind)
 hold_low n None from kind h k = ((k, (k, tt)), tt)

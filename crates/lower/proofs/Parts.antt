@@ -3,7 +3,7 @@ use Rattle.std.proofs.Common.{◌≡◌, ℕ, zero, suc, ℤ, pos, negsuc, ◌+�
 use Rattle.clnum.specs.Integer.{bits_of}
 use Rattle.clnum.specs.Integer as numbers
 use Rattle.clnum.specs.declared.int_type.IntType.{IntType}
-use Rattle.clmodel.specs.Next.{Run, finish, fail, ask, Variables, base_type, has_elements, is_private_array, with_elements, index_of, element_set, write_element, store_element, Helpers, assign, declared_type, held, known, look, load, store, combined, reach, fetch, infix_type, HelperCall, value_of, assigned, call, call_only, wait}
+use Rattle.clmodel.specs.Next.{Run, finish, fail, ask, Variables, base_type, has_elements, is_private_array, with_elements, index_of, element_set, write_element, store_element, Helpers, assign, declared_type, held, known, look, load, store, combined, reach, fetch, infix_type, HelperCall, value_of, assigned, atomic_call, is_update, call, call_only, wait}
 use Rattle.clmodel.specs.Next.Expressions.{Destination, Through}
 use Rattle.clmodel.specs.Next as next
 use Rattle.clmodel.specs.Tree.{Variable, Terms, NoTerm, ThenTerm, Place, Whole, Part, Behind}
@@ -13,6 +13,7 @@ use Rattle.clmodel.specs.declared.action.Fences.{Fences}
 use Rattle.clmodel.specs.declared.operand.Operand.{Operand}
 use Rattle.clmodel.specs.declared.operand.Operand.TheVariants.{Pointed}
 use Rattle.clmodel.specs.declared.operand.Pointer.{Pointer}
+use Rattle.clmodel.specs.declared.setup.AtomicFunction.{AtomicFunction}
 use Rattle.clmodel.specs.declared.setup.BuiltIn.{BuiltIn}
 use Rattle.clmodel.specs.declared.setup.BuiltIn.TheVariants as built_in_function
 use Rattle.clmodel.specs.declared.tree.VariableType.{VariableType}
@@ -23,7 +24,7 @@ use Rattle.regcode.specs.declared.instruction.Instruction.TheVariants as instruc
 use Rattle.regcode.proofs.Agreement.{Alike, number_alike, Agree, steps, ends, hold_runs, load_runs, store_runs, update_runs, update_by_one_runs, barrier_runs}
 use Rattle.regcode.proofs.Registers.{reg_put, reg_kept}
 use Rattle.lower_expr.specs.Scope.{Scope, register_at, register_of, level_of, Sees, free_level}
-use Rattle.lower_expr.specs.Expressions.{kind_named, type_of_elements, private_load, private_store, count, place_code, place_register, register_for, registers_for, call_code, call_only_code}
+use Rattle.lower_expr.specs.Expressions.{kind_named, type_of_elements, private_load, private_store, count, place_code, place_register, register_for, registers_for, call_code, update_code, call_only_code}
 use Rattle.lower_expr.specs.Agreement.{HasAt, Reached, Hold, HoldsPart, HoldsPlace}
 use Rattle.lower_expr.proofs.Places.{has_moved, reached_put, array_seen, elements_seen, type_seen}
 use Rattle.lower_code.specs.Code.{hold_code, place_type, fetch_code, put_code, wait_code}
@@ -55,7 +56,11 @@ arguments_placed scope level (ThenTerm es e) =
 -- a call of a built-in function is one instruction
 call_length : (function : Option BuiltIn) (to : ℕ) (numbers : List ℕ) → length (call_code function to numbers) ≡ 1
 call_length None to numbers = refl
-call_length (Some (built_in_function.Atomic function)) to numbers = refl
+call_length (Some (built_in_function.Atomic function)) to [] = refl
+call_length (Some (built_in_function.Atomic function)) to (i ∷ []) = refl
+call_length (Some (built_in_function.Atomic function)) to (i ∷ j ∷ []) = refl
+call_length (Some (built_in_function.Atomic function)) to (i ∷ j ∷ k ∷ []) = refl
+call_length (Some (built_in_function.Atomic function)) to (i ∷ j ∷ k ∷ l ∷ numbers) = refl
 call_length (Some built_in_function.WorkDim) to [] = refl
 call_length (Some built_in_function.WorkDim) to (i ∷ numbers) = refl
 call_length (Some (built_in_function.WorkItem function)) to [] = refl
@@ -258,26 +263,44 @@ module _ (given : Given) (code : List Instruction) (bound : ℕ) where
       (stands_to level s ts (place + 1) _ _ (omega (arith, one)) (put_stands level higher kind s ts place now (Some v) less stands))
       (put_same higher kind higher now.registers (Some v) (omega arith)))
 
-  -- or an atomic function
+  -- an atomic update
+  update_only : (function : AtomicFunction) (level higher : ℕ) (numbers : List ℕ) (values : List Operand) (s : State) (ts : List ℕ) (place : ℕ) (now : State) (run : Run)
+      → Stands level s ts place now → Hold now.registers numbers values → HasAt code place (update_code function numbers)
+      → ((last : State) → Stands level s ts (place + length (update_code function numbers)) last → Same higher now.registers last.registers → Agree given code bound last run)
+      → Agree given code bound now (atomic_call function values run)
+  update_only function level higher [] [] s ts place now run stands held has go = ends given code bound now (here_at code place _ level s ts now stands has.0)
+  update_only function level higher [] (v ∷ values) s ts place now run stands held has go = absurd held
+  update_only function level higher (i ∷ numbers) [] s ts place now run stands held has go = absurd held
+  update_only function level higher (i ∷ []) (v ∷ []) s ts place now run stands held has go =
+      update_by_one_runs given code bound bound now run function i v (omega arith) (here_at code place _ level s ts now stands has.0) held.0
+      (go (passed now) (passed_stands level s ts place now stands) (same_self higher now.registers))
+  update_only function level higher (i ∷ []) (v ∷ w ∷ values) s ts place now run stands held has go = absurd held.1
+  update_only function level higher (i ∷ j ∷ numbers) (v ∷ []) s ts place now run stands held has go = absurd held.1
+  update_only function level higher (i ∷ j ∷ []) (v ∷ w ∷ []) s ts place now run stands held has go =
+      update_runs given code bound bound now run function i j v w (omega arith) (here_at code place _ level s ts now stands has.0) held.0 held.1.0
+      (go (passed now) (passed_stands level s ts place now stands) (same_self higher now.registers))
+  update_only function level higher (i ∷ j ∷ []) (v ∷ w ∷ x ∷ values) s ts place now run stands held has go = absurd held.1.1
+  update_only function level higher (i ∷ j ∷ k ∷ numbers) (v ∷ w ∷ []) s ts place now run stands held has go = absurd held.1.1
+  update_only function level higher (i ∷ j ∷ k ∷ numbers) (v ∷ w ∷ x ∷ values) s ts place now run stands held has go = ends given code bound now (here_at code place _ level s ts now stands has.0)
+
+  -- an atomic function is an update or gives its value
+  atomic_only : (b : Bool) (function : AtomicFunction) (level higher : ℕ) (kind : VariableType) (numbers : List ℕ) (values : List Operand) (s : State) (ts : List ℕ) (place : ℕ) (now : State) (run : Run) → level ≤ higher
+      → Stands level s ts place now → Hold now.registers numbers values
+      → HasAt code place (if b then update_code function numbers else call_code (Some (built_in_function.Atomic function)) (register_at higher kind) numbers)
+      → ((last : State) → Stands level s ts (place + length (if b then update_code function numbers else call_code (Some (built_in_function.Atomic function)) (register_at higher kind) numbers)) last → Same higher now.registers last.registers → Agree given code bound last run)
+      → Agree given code bound now (if b then atomic_call function values run else call given.here (Some (built_in_function.Atomic function)) values (λ _. run))
+  atomic_only true function level higher kind numbers values s ts place now run less stands held has go =
+      update_only function level higher numbers values s ts place now run stands held has go
+  atomic_only false function level higher kind numbers values s ts place now run less stands held has go =
+      value_only (Some (built_in_function.Atomic function)) level higher kind numbers values s ts place now run less stands held has go
+
+  -- a built-in function that is a whole statement
   pub only_runs : (function : BuiltIn) (level higher : ℕ) (kind : VariableType) (numbers : List ℕ) (values : List Operand) (s : State) (ts : List ℕ) (place : ℕ) (now : State) (run : Run) → level ≤ higher
       → Stands level s ts place now → Hold now.registers numbers values → HasAt code place (call_only_code (Some function) (register_at higher kind) numbers)
       → ((last : State) → Stands level s ts (place + length (call_only_code (Some function) (register_at higher kind) numbers)) last → Same higher now.registers last.registers → Agree given code bound last run)
       → Agree given code bound now (call_only given.here (Some function) values run)
-  only_runs (built_in_function.Atomic function) level higher kind [] [] s ts place now run less stands held has go = ends given code bound now (here_at code place _ level s ts now stands has.0)
-  only_runs (built_in_function.Atomic function) level higher kind [] (v ∷ values) s ts place now run less stands held has go = absurd held
-  only_runs (built_in_function.Atomic function) level higher kind (i ∷ numbers) [] s ts place now run less stands held has go = absurd held
-  only_runs (built_in_function.Atomic function) level higher kind (i ∷ []) (v ∷ []) s ts place now run less stands held has go =
-      update_by_one_runs given code bound bound now run function i v (omega arith) (here_at code place _ level s ts now stands has.0) held.0
-      (go (passed now) (passed_stands level s ts place now stands) (same_self higher now.registers))
-  only_runs (built_in_function.Atomic function) level higher kind (i ∷ []) (v ∷ w ∷ values) s ts place now run less stands held has go = absurd held.1
-  only_runs (built_in_function.Atomic function) level higher kind (i ∷ j ∷ numbers) (v ∷ []) s ts place now run less stands held has go = absurd held.1
-  only_runs (built_in_function.Atomic function) level higher kind (i ∷ j ∷ []) (v ∷ w ∷ []) s ts place now run less stands held has go =
-      update_runs given code bound bound now run function i j v w (omega arith) (here_at code place _ level s ts now stands has.0) held.0 held.1.0
-      (go (passed now) (passed_stands level s ts place now stands) (same_self higher now.registers))
-  only_runs (built_in_function.Atomic function) level higher kind (i ∷ j ∷ []) (v ∷ w ∷ x ∷ values) s ts place now run less stands held has go = absurd held.1.1
-  only_runs (built_in_function.Atomic function) level higher kind (i ∷ j ∷ k ∷ numbers) (v ∷ w ∷ []) s ts place now run less stands held has go = absurd held.1.1
-  only_runs (built_in_function.Atomic function) level higher kind (i ∷ j ∷ k ∷ numbers) (v ∷ w ∷ x ∷ values) s ts place now run less stands held has go =
-      ends given code bound now (here_at code place _ level s ts now stands has.0)
+  only_runs (built_in_function.Atomic function) level higher kind numbers values s ts place now run less stands held has go =
+      atomic_only (is_update function) function level higher kind numbers values s ts place now run less stands held has go
   only_runs built_in_function.WorkDim level higher kind numbers values s ts place now run less stands held has go =
       value_only (Some built_in_function.WorkDim) level higher kind numbers values s ts place now run less stands held has go
   only_runs (built_in_function.WorkItem function) level higher kind numbers values s ts place now run less stands held has go =

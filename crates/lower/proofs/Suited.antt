@@ -25,12 +25,14 @@ use Rattle.clmodel.specs.declared.tree.InfixOperator.TheVariants.{Arithmetic}
 use Rattle.clmodel.specs.declared.tree.PointerType.{PointerType}
 use Rattle.clmodel.specs.declared.tree.VariableType.{VariableType}
 use Rattle.clmodel.specs.declared.tree.VariableType.TheVariants.{Integer, Pointer}
+use Rattle.regcode.specs.Rules.{fetched_kind}
 use Rattle.regcode.specs.declared.instruction.Instruction.{Instruction}
 use Rattle.regcode.specs.declared.instruction.Instruction.TheVariants as instruction
+use Rattle.regcode.specs.declared.tables.RegisterKind.TheVariants as register_kinds
 use Rattle.lower_expr.specs.Scope.{Scope, register_at, register_of, level_of}
 use Rattle.lower_expr.specs.Expressions.{kind_of, kind_named, register_for, registers_for, expr_code, terms_code, place_code, variable_code, type_of_elements, private_load, element_code, address_code, infix_code, truth_code, branch_code, call_code, count}
 use Rattle.lower.specs.Accepted.{declared_kind, is_private, Is, Matches, Suits, Suit, ExpressionsSuit, PlacesSuit}
-use Rattle.lower.proofs.Suiting.{same_integer, is_at, is_as, suit_both, constant_suits, move_suits, convert_suits, common_suits, unary_suits, binary_suits, one_suits, two_suit, dimensions_suit, query_suits, point_suits, offset_suits, load_suits, private_load_suits, branch_suits}
+use Rattle.lower.proofs.Suiting.{same_integer, is_at, is_as, suit_both, constant_suits, move_suits, convert_suits, common_suits, unary_suits, binary_suits, one_suits, two_suit, dimensions_suit, query_suits, point_suits, offset_suits, load_suits, fetch_alone_suits, fetch_number_suits, fetch_pair_suits, private_load_suits, branch_suits}
 
 common_either : (a b : IntType) → common a b ≡ common b a
 unfolding common conversions.promoted
@@ -134,17 +136,29 @@ registers_are scope level (ThenTerm terms term) =
     ap₂ (λ rs n. rs ++ register_at (level + n) (kind_of scope term) ∷ []) (registers_are scope level terms) (sym (kinds_counted scope terms))
     ∙ sym (numbered_both level (kinds_of scope terms) (kind_of scope term))
 
-pub call_is : (f : BuiltIn) (ks : List VariableType) (r : Option VariableType) (k : VariableType) → Calls f ks r → r ≡ Some k → Integer (call_type (Some f) (first_of ks)) ≡ k
-call_is _ _ _ k rule.work_dim e = cc
-call_is _ _ _ k rule.work_item e = cc
-call_is _ _ _ k rule.min e = cc
-call_is _ _ _ k rule.max e = cc
-call_is _ _ _ k rule.rotate e = cc
-call_is _ _ _ k rule.abs e = cc
-call_is _ _ _ k rule.clz e = cc
-call_is _ _ _ k rule.popcount e = cc
-call_is _ _ _ k (rule.atomic h a w) e = absurd (cc)
-call_is _ _ _ k (rule.atomic_alone h a w) e = absurd (cc)
+pub call_is : (f : BuiltIn) (ks : List VariableType) (k : VariableType) → Calls f ks k → Integer (call_type (Some f) (first_of ks)) ≡ k
+call_is _ _ _ rule.work_dim = refl
+call_is _ _ _ rule.work_item = refl
+call_is _ _ _ rule.min = refl
+call_is _ _ _ rule.max = refl
+call_is _ _ _ rule.rotate = refl
+call_is _ _ _ rule.abs = refl
+call_is _ _ _ rule.clz = refl
+call_is _ _ _ rule.popcount = refl
+call_is _ _ _ (rule.atomic h a w) = refl
+call_is _ _ _ (rule.atomic_alone h a w) = refl
+call_is _ _ _ (rule.atomic_pair h a w) = refl
+
+-- the types that atomic functions know
+fetched_known : (t : IntType) → rule.is_atomic t ≡ true → fetched_kind (Some (register_kinds.Pointer t)) ≡ Some (register_kinds.Integer t)
+fetched_known Int e = refl
+fetched_known Uint e = refl
+fetched_known Char e = absurd (cc)
+fetched_known Uchar e = absurd (cc)
+fetched_known Short e = absurd (cc)
+fetched_known Ushort e = absurd (cc)
+fetched_known Long e = absurd (cc)
+fetched_known Ulong e = absurd (cc)
 
 -- the type of a name's value, and of its elements
 same_kind : (j k : VariableType) → Some j ≡ Some k → j ≡ k
@@ -173,7 +187,7 @@ module _ (c : Context) (scope : Scope) (m : Matches c scope) where
     type_is _ _ (rule.address {x = x} {d = d} {p = p} is value index) = (m x d is).declared ∙ value_is d (Pointer p) value
     type_is _ _ (rule.dereference {p = p} {e = e} pointer) = ap (λ k. Integer (base_type k)) (type_is e (Pointer p) pointer)
     type_is _ _ (rule.call {x = x} {f = f} {es = es} {ks = ks} {k = k} is arguments calls) =
-        ap₂ (λ g t. Integer (call_type g t)) (built_in_is c x f is) (argument_is scope es ∙ ap first_of (types_are es ks arguments)) ∙ call_is f ks (Some k) k calls refl
+        ap₂ (λ g t. Integer (call_type g t)) (built_in_is c x f is) (argument_is scope es ∙ ap first_of (types_are es ks arguments)) ∙ call_is f ks k calls
     type_is _ _ (rule.unary {op = op} {t = t} {e = e} operand) = ap (λ k. Integer (unary_kind op (base_type k))) (type_is e (Integer t) operand)
     type_is _ _ (rule.cast operand) = refl
     type_is _ _ (rule.binary {op = op} {d = d} {e = e} {j = j} {k = k} {r = r} left right operates) =
@@ -279,21 +293,30 @@ module _ (c : Context) (scope : Scope) (m : Matches c scope) where
         suit_both parameters branch (instruction.Common to from (base_type other) ∷ []) fits
         (subst (λ v. Suits parameters (instruction.Common to from (base_type v))) (sym o) (common_suits parameters to from t u (is_as level kind (Integer (common t u)) e) of), tt)
 
-    pub call_suits : (f : BuiltIn) (ks : List VariableType) (r : Option VariableType) (k : VariableType) → Calls f ks r → r ≡ Some k → (level to : ℕ) → Is to k
-        → Suit parameters (call_code (Some f) to (numbered level ks))
-    call_suits _ _ _ k rule.work_dim e level to is = (dimensions_suit parameters to (is ∙ cc), tt)
-    call_suits _ _ _ k (rule.work_item {f = f} {t = t}) e level to is = (query_suits parameters to (register_at level (Integer t)) f t (is ∙ cc) (is_at level (Integer t)), tt)
-    call_suits _ _ _ k (rule.min {t = t}) e level to is =
-        (two_suit parameters to (register_at level (Integer t)) (register_at (level + 1) (Integer t)) integer.Min t (is ∙ cc) (is_at level (Integer t)) (is_at (level + 1) (Integer t)) (same_integer t), tt)
-    call_suits _ _ _ k (rule.max {t = t}) e level to is =
-        (two_suit parameters to (register_at level (Integer t)) (register_at (level + 1) (Integer t)) integer.Max t (is ∙ cc) (is_at level (Integer t)) (is_at (level + 1) (Integer t)) (same_integer t), tt)
-    call_suits _ _ _ k (rule.rotate {t = t}) e level to is =
-        (two_suit parameters to (register_at level (Integer t)) (register_at (level + 1) (Integer t)) integer.Rotate t (is ∙ cc) (is_at level (Integer t)) (is_at (level + 1) (Integer t)) (same_integer t), tt)
-    call_suits _ _ _ k (rule.abs {t = t}) e level to is = (one_suits parameters to (register_at level (Integer t)) integer.Abs t (unsigned_of t) (is ∙ cc) (is_at level (Integer t)) refl, tt)
-    call_suits _ _ _ k (rule.clz {t = t}) e level to is = (one_suits parameters to (register_at level (Integer t)) integer.Clz t t (is ∙ cc) (is_at level (Integer t)) refl, tt)
-    call_suits _ _ _ k (rule.popcount {t = t}) e level to is = (one_suits parameters to (register_at level (Integer t)) integer.Popcount t t (is ∙ cc) (is_at level (Integer t)) refl, tt)
-    call_suits _ _ _ k (rule.atomic h a w) e level to is = absurd (cc)
-    call_suits _ _ _ k (rule.atomic_alone h a w) e level to is = absurd (cc)
+    pub call_suits : (f : BuiltIn) (ks : List VariableType) (k : VariableType) → Calls f ks k → (level to : ℕ) → Is to k → Suit parameters (call_code (Some f) to (numbered level ks))
+    call_suits _ _ _ rule.work_dim level to is = (dimensions_suit parameters to is, tt)
+    call_suits _ _ _ (rule.work_item {f = f} {t = t}) level to is = (query_suits parameters to (register_at level (Integer t)) f t is (is_at level (Integer t)), tt)
+    call_suits _ _ _ (rule.min {t = t}) level to is =
+        (two_suit parameters to (register_at level (Integer t)) (register_at (level + 1) (Integer t)) integer.Min t is (is_at level (Integer t)) (is_at (level + 1) (Integer t)) (same_integer t), tt)
+    call_suits _ _ _ (rule.max {t = t}) level to is =
+        (two_suit parameters to (register_at level (Integer t)) (register_at (level + 1) (Integer t)) integer.Max t is (is_at level (Integer t)) (is_at (level + 1) (Integer t)) (same_integer t), tt)
+    call_suits _ _ _ (rule.rotate {t = t}) level to is =
+        (two_suit parameters to (register_at level (Integer t)) (register_at (level + 1) (Integer t)) integer.Rotate t is (is_at level (Integer t)) (is_at (level + 1) (Integer t)) (same_integer t), tt)
+    call_suits _ _ _ (rule.abs {t = t}) level to is = (one_suits parameters to (register_at level (Integer t)) integer.Abs t (unsigned_of t) is (is_at level (Integer t)) refl, tt)
+    call_suits _ _ _ (rule.clz {t = t}) level to is = (one_suits parameters to (register_at level (Integer t)) integer.Clz t t is (is_at level (Integer t)) refl, tt)
+    call_suits _ _ _ (rule.popcount {t = t}) level to is = (one_suits parameters to (register_at level (Integer t)) integer.Popcount t t is (is_at level (Integer t)) refl, tt)
+    call_suits _ _ _ (rule.atomic {f = f} {p = p} {t = t} h a w) level to is = (
+      fetch_number_suits parameters to f (register_at level (Pointer p)) (register_at (level + 1) (Integer t)) p.element t is (is_at level (Pointer p)) (fetched_known p.element a)
+          (is_at (level + 1) (Integer t)),
+      tt,
+    )
+    call_suits _ _ _ (rule.atomic_alone {f = f} {p = p} h a w) level to is =
+        (fetch_alone_suits parameters to f (register_at level (Pointer p)) p.element is (is_at level (Pointer p)) (fetched_known p.element a), tt)
+    call_suits _ _ _ (rule.atomic_pair {f = f} {p = p} {t = t} {u = u} h a w) level to is = (
+      fetch_pair_suits parameters to f (register_at level (Pointer p)) (register_at (level + 1) (Integer t)) (register_at (level + 1 + 1) (Integer u)) p.element t u is (is_at level (Pointer p))
+          (fetched_known p.element a) (is_at (level + 1) (Integer t)) (is_at (level + 1 + 1) (Integer u)),
+      tt,
+    )
 
     mutual
       pub expression_suits : (level : ℕ) (e : Term) (k : VariableType) → Types c e k → Suit parameters (expr_code scope level e)
@@ -319,7 +342,7 @@ module _ (c : Context) (scope : Scope) (m : Matches c scope) where
           suit_both parameters (terms_code scope level es) (call_code (built_in x) to (registers_for scope level es)) (terms_suit level es ks arguments)
           (subst (λ g. Suit parameters (call_code g to (registers_for scope level es))) (sym (built_in_is c x f is))
           (subst (λ rs. Suit parameters (call_code (Some f) to rs)) (sym (registers_are scope level es ∙ ap (numbered level) (types_are es ks arguments)))
-          (call_suits f ks (Some k) k calls refl level to (is_as level (kind_of scope (tree.Call a x es)) k (type_is (tree.Call a x es) k (rule.call is arguments calls))))))
+          (call_suits f ks k calls level to (is_as level (kind_of scope (tree.Call a x es)) k (type_is (tree.Call a x es) k (rule.call is arguments calls))))))
       expression_suits level _ _ (rule.unary {a = a} {op = op} {t = t} {e = e} operand) =
           suit_both parameters (expr_code scope level e) (instruction.Unary (register_for scope level (tree.Unary a op e)) op (register_for scope level e) ∷ []) (expression_suits level e (Integer t) operand) (
             unary_suits parameters (register_for scope level (tree.Unary a op e)) (register_for scope level e) op t

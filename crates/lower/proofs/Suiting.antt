@@ -1,5 +1,5 @@
 -- Instructions whose registers are of the kinds that they want, in tables that give each register its kind.
-use Rattle.std.proofs.Common.{◌≡◌, ℕ, ◌+◌, ◌*◌, ◌%◌, IsTrue, if◌then◌else◌, Option, None, Some, List, [], ◌∷◌, ◌++◌, slice_get, get_or, refl, ap, ap₂, sym, subst, ◌∙◌, arith}
+use Rattle.std.proofs.Common.{◌≡◌, ℕ, ◌+◌, ◌*◌, ◌%◌, Bool, true, false, IsTrue, if◌then◌else◌, Option, None, Some, List, [], ◌∷◌, ◌++◌, slice_get, get_or, refl, ap, ap₂, sym, subst, ◌∙◌, arith}
 use Rattle.std.proofs.lemmas.Nat.{mod-mul-add}
 use Rattle.clnum.specs.Builtins.{is_same}
 use Rattle.clnum.specs.Conversions.{common}
@@ -16,7 +16,9 @@ use Rattle.clmodel.specs.declared.tree.VariableType.{VariableType}
 use Rattle.clmodel.specs.declared.tree.VariableType.TheVariants as variable_type
 use Rattle.clmodel.specs.declared.tree.InfixOperator.TheVariants.{Arithmetic}
 use Rattle.clmodel.specs.Typing.Rules.{Passes, integers, pointers, Operates, arithmetic, pointer_sum, pointer_difference, sum_pointer}
-use Rattle.regcode.specs.Rules.{kind_at, kind_of, held_kind, number_kind, common_kind, changed_kind, combined_kind, of_one_kind, of_two_kind, offset_kind, loaded_kind, is_integer, is_pointer, is_atomic, Takes, HasType}
+use Rattle.regcode.specs.Listing.{Listing}
+use Rattle.regcode.specs.Rules.{kind_at, kind_of, held_kind, number_kind, common_kind, changed_kind, combined_kind, of_one_kind, of_two_kind, offset_kind, loaded_kind, fetched_kind, is_integer, is_pointer, is_atomic, Takes, HasType}
+use Rattle.regcode.specs.declared.instruction.FetchOperands.TheVariants as operands
 use Rattle.regcode.specs.declared.instruction.Instruction.{Instruction}
 use Rattle.regcode.specs.declared.instruction.Instruction.TheVariants as instruction
 use Rattle.regcode.specs.declared.tables.RegisterKind.{RegisterKind}
@@ -30,6 +32,10 @@ use Rattle.lower.specs.Accepted.{Suits, Suit, Is}
 pub suit_both : (parameters : List VariableType) (xs ys : List Instruction) → Suit parameters xs → Suit parameters ys → Suit parameters (xs ++ ys)
 suit_both parameters [] ys a b = b
 suit_both parameters (x ∷ xs) ys a b = (a.0, suit_both parameters xs ys a.1 b)
+
+pub suit_either : (parameters : List VariableType) (b : Bool) (xs ys : List Instruction) → Suit parameters xs → Suit parameters ys → Suit parameters (if b then xs else ys)
+suit_either parameters true xs ys a b = a
+suit_either parameters false xs ys a b = b
 
 number_kind_of : (kind : VariableType) → get_or kinds (kind_number kind) (Integer Int) ≡ kind_of kind
 number_kind_of (variable_type.Integer Char) = refl
@@ -212,6 +218,34 @@ module _ (parameters : List VariableType) where
   pub update_by_one_suits : (function : AtomicFunction) (pointer : ℕ) (element : IntType) → register_kind pointer ≡ Pointer element → IsTrue (is_atomic (Some (Pointer element)))
       → Suits parameters (instruction.Update function pointer None)
   update_by_one_suits function pointer element of known code same wide = subst (λ o. IsTrue (is_atomic o)) (sym (wide.registers.0 ∙ ap Some of)) known
+
+  -- an atomic operation whose old number is used
+  fetched : (to pointer : ℕ) (element : IntType) (code : Listing) → kind_at code to ≡ Some (Integer element) → kind_at code pointer ≡ Some (Pointer element)
+      → fetched_kind (Some (Pointer element)) ≡ Some (Integer element) → Takes (kind_at code to) (fetched_kind (kind_at code pointer))
+  fetched to pointer element code is of known = takes (kind_at code to) (fetched_kind (kind_at code pointer)) (Integer element) is (ap fetched_kind of ∙ known)
+
+  number_given : (value : ℕ) (kind : IntType) (code : Listing) → kind_at code value ≡ Some (Integer kind) → IsTrue (is_integer (kind_at code value))
+  number_given value kind code by = subst (λ o. IsTrue (is_integer o)) (sym by) refl
+
+  pub fetch_alone_suits : (to : ℕ) (function : AtomicFunction) (pointer : ℕ) (element : IntType) → Is to (variable_type.Integer element) → register_kind pointer ≡ Pointer element
+      → fetched_kind (Some (Pointer element)) ≡ Some (Integer element) → Suits parameters (instruction.Fetch to function pointer operands.Alone)
+  fetch_alone_suits to function pointer element is of known code same wide =
+      (fetched to pointer element code (wide.registers.0 ∙ ap Some is) (wide.registers.1.0 ∙ ap Some of) known, tt)
+
+  pub fetch_number_suits : (to : ℕ) (function : AtomicFunction) (pointer value : ℕ) (element kind : IntType) → Is to (variable_type.Integer element) → register_kind pointer ≡ Pointer element
+      → fetched_kind (Some (Pointer element)) ≡ Some (Integer element) → Is value (variable_type.Integer kind) → Suits parameters (instruction.Fetch to function pointer (operands.Number value))
+  fetch_number_suits to function pointer value element kind is of known by code same wide = (
+    fetched to pointer element code (wide.registers.0 ∙ ap Some is) (wide.registers.1.0 ∙ ap Some of) known,
+    number_given value kind code (wide.registers.1.1.0 ∙ ap Some by),
+  )
+
+  pub fetch_pair_suits : (to : ℕ) (function : AtomicFunction) (pointer expected value : ℕ) (element kind other : IntType) → Is to (variable_type.Integer element) → register_kind pointer ≡ Pointer element
+      → fetched_kind (Some (Pointer element)) ≡ Some (Integer element) → Is expected (variable_type.Integer kind) → Is value (variable_type.Integer other)
+      → Suits parameters (instruction.Fetch to function pointer (operands.Pair expected value))
+  fetch_pair_suits to function pointer expected value element kind other is of known by by' code same wide = (
+    fetched to pointer element code (wide.registers.0 ∙ ap Some is) (wide.registers.1.0 ∙ ap Some of) known,
+    (number_given expected kind code (wide.registers.1.1.0 ∙ ap Some by), number_given value other code (wide.registers.1.1.1.0 ∙ ap Some by')),
+  )
 
   pub branch_suits : (register by : ℕ) (kind : IntType) → Is register (variable_type.Integer kind) → Suits parameters (instruction.JumpIfZero register by)
   branch_suits register by kind of code same wide = subst (λ o. IsTrue (is_integer o)) (sym (wide.registers.0 ∙ ap Some of)) refl

@@ -6,7 +6,7 @@ use Rattle.clnum.specs.declared.int_type.IntType.TheVariants.{Char, Uchar, Short
 use Rattle.clnum.specs.declared.operators.BinaryOperator.{BinaryOperator}
 use Rattle.clmodel.specs.Barrier.{is_barrier, fences}
 use Rattle.clmodel.specs.BuiltIns.{built_in}
-use Rattle.clmodel.specs.Next.{base_type, infix_type, argument_type, call_type, step_operator, helper_or, helper_call}
+use Rattle.clmodel.specs.Next.{base_type, infix_type, argument_type, call_type, is_update, step_operator, helper_or, helper_call}
 use Rattle.clmodel.specs.Tree as tree
 use Rattle.clmodel.specs.Tree.{Term, Terms, Place, MaybeTerm}
 use Rattle.clmodel.specs.Typing.Context.{Context, Signature, element_type, Bound, signature_of, meaning, BuiltInFunction, Barrier}
@@ -15,7 +15,9 @@ use Rattle.clmodel.specs.Typing.Rules.{Types, TypesAll, TypesPlace, Passes, Oper
 use Rattle.clmodel.specs.declared.action.Fences.{Fences}
 use Rattle.clmodel.specs.declared.declaration.Declaration.{Declaration}
 use Rattle.clmodel.specs.declared.declaration.Declaration.TheVariants.{Single, LocalArray, PrivateArray}
+use Rattle.clmodel.specs.declared.setup.AtomicFunction.{AtomicFunction}
 use Rattle.clmodel.specs.declared.setup.BuiltIn.{BuiltIn}
+use Rattle.clmodel.specs.declared.setup.BuiltIn.TheVariants as built_in_function
 use Rattle.clmodel.specs.declared.tree.AddressSpace.TheVariants.{Local}
 use Rattle.clmodel.specs.declared.tree.PointerType.{PointerType}
 use Rattle.clmodel.specs.declared.tree.InfixOperator.TheVariants.{Arithmetic}
@@ -26,10 +28,10 @@ use Rattle.regcode.specs.declared.instruction.Instruction.{Instruction}
 use Rattle.regcode.specs.declared.instruction.Instruction.TheVariants as instruction
 use Rattle.regcode.specs.declared.tables.RegisterKind.TheVariants as register_kinds
 use Rattle.lower_expr.specs.Scope.{Scope, register_at, level_of, free_level}
-use Rattle.lower_expr.specs.Expressions.{kind_of, kind_named, type_of_elements, private_load, private_store, register_for, registers_for, expr_code, terms_code, place_code, place_register, call_only_code, count}
+use Rattle.lower_expr.specs.Expressions.{kind_of, kind_named, type_of_elements, private_load, private_store, register_for, registers_for, expr_code, terms_code, place_code, place_register, update_code, call_only_code, count}
 use Rattle.lower_code.specs.Code.{Calls, result_type, needed_code, no_value_code, value_code, hold_code, place_type, fetch_code, put_code, combine_code, wait_code, condition_code, turn_code, right_code, right_type, assign_code, compound_code, step_code, call_only_statement}
 use Rattle.lower.specs.Accepted.{declared_kind, is_private, Is, Matches, Suit}
-use Rattle.lower.proofs.Suiting.{is_at, is_as, suit_both, constant_suits, hold_suits, binary_suits, store_suits, load_suits, private_load_suits, private_store_suits, update_suits, update_by_one_suits, branch_suits}
+use Rattle.lower.proofs.Suiting.{is_at, is_as, suit_both, suit_either, constant_suits, hold_suits, binary_suits, store_suits, load_suits, private_load_suits, private_store_suits, update_suits, update_by_one_suits, branch_suits}
 use Rattle.lower.proofs.Suited.{element_is, built_in_is, barrier_is, infix_is, call_is, argument_is, first_of, types_are, type_is, numbered, registers_are, variable_suits, call_suits, expression_suits, terms_suit, place_suits}
 use Rattle.lower.proofs.Scoped.{callable_is}
 
@@ -238,25 +240,33 @@ module _ (c : Context) (scope : Scope) (m : Matches c scope) where
         (branch_suits parameters (register_for scope level e) 1 t (is_as level (kind_of scope e) (Integer t) (type_is c scope m e (Integer t) types)), tt)
 
     -- a built-in function whose value isn't used
-    only_code_suits : (f : BuiltIn) (ks : List VariableType) (r : Option VariableType) → rule.Calls f ks r → (level to : ℕ) → ((k : VariableType) → r ≡ Some k → Is to k)
-        → Suit parameters (call_only_code (Some f) to (numbered level ks))
-    only_code_suits _ _ _ rule.work_dim level to is = call_suits c scope m parameters _ _ _ _ rule.work_dim refl level to (is _ refl)
-    only_code_suits _ _ _ (rule.work_item {f = f} {t = t}) level to is = call_suits c scope m parameters _ _ _ _ (rule.work_item {f = f} {t = t}) refl level to (is _ refl)
-    only_code_suits _ _ _ (rule.min {t = t}) level to is = call_suits c scope m parameters _ _ _ _ (rule.min {t = t}) refl level to (is _ refl)
-    only_code_suits _ _ _ (rule.max {t = t}) level to is = call_suits c scope m parameters _ _ _ _ (rule.max {t = t}) refl level to (is _ refl)
-    only_code_suits _ _ _ (rule.rotate {t = t}) level to is = call_suits c scope m parameters _ _ _ _ (rule.rotate {t = t}) refl level to (is _ refl)
-    only_code_suits _ _ _ (rule.abs {t = t}) level to is = call_suits c scope m parameters _ _ _ _ (rule.abs {t = t}) refl level to (is _ refl)
-    only_code_suits _ _ _ (rule.clz {t = t}) level to is = call_suits c scope m parameters _ _ _ _ (rule.clz {t = t}) refl level to (is _ refl)
-    only_code_suits _ _ _ (rule.popcount {t = t}) level to is = call_suits c scope m parameters _ _ _ _ (rule.popcount {t = t}) refl level to (is _ refl)
-    only_code_suits _ _ _ (rule.atomic {f = f} {p = p} {t = t} h a w) level to is = (
-      update_suits parameters f (register_at level (Pointer p)) (register_at (level + 1) (Integer t)) p.element t (is_at level (Pointer p)) (atomic_known p.element a) (is_at (level + 1) (Integer t)),
-      tt,
-    )
-    only_code_suits _ _ _ (rule.atomic_alone {f = f} {p = p} h a w) level to is =
+    atomic_suits : (f : AtomicFunction) (ks : List VariableType) (k : VariableType) → rule.Calls (built_in_function.Atomic f) ks k → (level to : ℕ) → Is to k → Suit parameters (update_code f (numbered level ks))
+        → Suit parameters (call_only_code (Some (built_in_function.Atomic f)) to (numbered level ks))
+    atomic_suits f ks k by level to is update =
+        suit_either parameters (is_update f) (update_code f (numbered level ks)) _ update (call_suits c scope m parameters (built_in_function.Atomic f) ks k by level to is)
+
+    only_code_suits : (f : BuiltIn) (ks : List VariableType) (k : VariableType) → rule.Calls f ks k → (level to : ℕ) → Is to k → Suit parameters (call_only_code (Some f) to (numbered level ks))
+    only_code_suits _ _ _ rule.work_dim level to is = call_suits c scope m parameters _ _ _ rule.work_dim level to is
+    only_code_suits _ _ _ (rule.work_item {f = f} {t = t}) level to is = call_suits c scope m parameters _ _ _ (rule.work_item {f = f} {t = t}) level to is
+    only_code_suits _ _ _ (rule.min {t = t}) level to is = call_suits c scope m parameters _ _ _ (rule.min {t = t}) level to is
+    only_code_suits _ _ _ (rule.max {t = t}) level to is = call_suits c scope m parameters _ _ _ (rule.max {t = t}) level to is
+    only_code_suits _ _ _ (rule.rotate {t = t}) level to is = call_suits c scope m parameters _ _ _ (rule.rotate {t = t}) level to is
+    only_code_suits _ _ _ (rule.abs {t = t}) level to is = call_suits c scope m parameters _ _ _ (rule.abs {t = t}) level to is
+    only_code_suits _ _ _ (rule.clz {t = t}) level to is = call_suits c scope m parameters _ _ _ (rule.clz {t = t}) level to is
+    only_code_suits _ _ _ (rule.popcount {t = t}) level to is = call_suits c scope m parameters _ _ _ (rule.popcount {t = t}) level to is
+    only_code_suits _ ks k (rule.atomic {f = f} {p = p} {t = t} h a w) level to is =
+        atomic_suits f ks k (rule.atomic {f = f} {p = p} {t = t} h a w) level to is (
+          update_suits parameters f (register_at level (Pointer p)) (register_at (level + 1) (Integer t)) p.element t (is_at level (Pointer p)) (atomic_known p.element a) (is_at (level + 1) (Integer t)),
+          tt,
+        )
+    only_code_suits _ ks k (rule.atomic_alone {f = f} {p = p} h a w) level to is =
+        atomic_suits f ks k (rule.atomic_alone {f = f} {p = p} h a w) level to is
         (update_by_one_suits parameters f (register_at level (Pointer p)) p.element (is_at level (Pointer p)) (atomic_known p.element a), tt)
+    only_code_suits _ ks k (rule.atomic_pair {f = f} {p = p} {t = t} {u = u} h a w) level to is =
+        atomic_suits f ks k (rule.atomic_pair {f = f} {p = p} {t = t} {u = u} h a w) level to is ((λ code same wide. tt), tt)
 
     module _ (calls : Calls) (results : ℕ → Option IntType) (inside : ℕ → ℕ) (result : Option IntType) where
-      only_case : (waits : Bool) (f : BuiltIn) (x : ℕ) (es : Terms) (ks : List VariableType) (r : Option VariableType) → TypesAll c es ks → rule.Calls f ks r → (depth site : ℕ)
+      only_case : (waits : Bool) (f : BuiltIn) (x : ℕ) (es : Terms) (ks : List VariableType) (r : VariableType) → TypesAll c es ks → rule.Calls f ks r → (depth site : ℕ)
           → Suit parameters (call_only_statement calls results inside result scope waits (Some f) x es depth site)
       only_case true f x es ks r arguments by depth site = wait_suits parameters (fences es) site depth
       only_case false f x es ks r arguments by depth site =
@@ -265,9 +275,9 @@ module _ (c : Context) (scope : Scope) (m : Matches c scope) where
           let to = register_at level kind in
           suit_both parameters (terms_code scope level es) (call_only_code (Some f) to (registers_for scope level es)) (terms_suit c scope m parameters level es ks arguments)
           (subst (λ rs. Suit parameters (call_only_code (Some f) to rs)) (sym (registers_are scope level es ∙ ap (numbered level) (types_are c scope m es ks arguments)))
-          (only_code_suits f ks r by level to (λ k e. is_as level kind k (ap (λ t. Integer (call_type (Some f) t)) (argument_is scope es ∙ ap first_of (types_are c scope m es ks arguments)) ∙ call_is f ks r k by e))))
+          (only_code_suits f ks r by level to (is_as level kind r (ap (λ t. Integer (call_type (Some f) t)) (argument_is scope es ∙ ap first_of (types_are c scope m es ks arguments)) ∙ call_is f ks r by))))
 
-      pub only_suits : (f : BuiltIn) (x : ℕ) (es : Terms) (ks : List VariableType) (r : Option VariableType) → meaning c x ≡ BuiltInFunction f → TypesAll c es ks → rule.Calls f ks r → (depth site : ℕ)
+      pub only_suits : (f : BuiltIn) (x : ℕ) (es : Terms) (ks : List VariableType) (r : VariableType) → meaning c x ≡ BuiltInFunction f → TypesAll c es ks → rule.Calls f ks r → (depth site : ℕ)
           → Suit parameters (call_only_statement calls results inside result scope (is_barrier x) (built_in x) x es depth site)
       only_suits f x es ks r is arguments by depth site =
           subst (λ g. Suit parameters (call_only_statement calls results inside result scope (is_barrier x) g x es depth site)) (sym (built_in_is c x f is))

@@ -6,11 +6,12 @@ use Rattle.clnum.specs.declared.int_type.IntType.TheVariants.{Int}
 use Rattle.clnum.specs.declared.operators.BinaryOperator.{BinaryOperator}
 use Rattle.clmodel.specs.Barrier.{is_barrier, fences}
 use Rattle.clmodel.specs.BuiltIns.{built_in}
-use Rattle.clmodel.specs.Next.{is_private_array, helper_call, helper_or, step_operator, sites, part_sites, all_sites}
+use Rattle.clmodel.specs.Next.{is_private_array, helper_call, helper_or, is_update, step_operator, sites, part_sites, all_sites}
 use Rattle.clmodel.specs.Tree as tree
 use Rattle.clmodel.specs.Tree.{array_length, Term, Terms, Place, Whole, Part, Behind, Stmt, Empty, Block, Declare, DeclareAs, DeclareArray, Assign, Step, CallOnly, If, IfElse, While, DoWhile, For, Break, Continue, Return, ReturnValue, Stmts, NoStmt, ThenStmt, MaybeStmt, Without, With, MaybeTerm, Always, While_}
 use Rattle.clmodel.specs.Typing.Sizes.{Sizes, size_in, term_size, terms_size, place_size, condition_size, size, part_size, row_size}
 use Rattle.clmodel.specs.declared.action.Fences.{Fences}
+use Rattle.clmodel.specs.declared.setup.AtomicFunction.{AtomicFunction}
 use Rattle.clmodel.specs.declared.setup.BuiltIn.{BuiltIn}
 use Rattle.clmodel.specs.declared.setup.BuiltIn.TheVariants as built_in_function
 use Rattle.clmodel.specs.declared.tree.VariableType.{VariableType}
@@ -18,7 +19,7 @@ use Rattle.clmodel.specs.declared.tree.VariableType.TheVariants as variable_type
 use Rattle.regcode.specs.declared.instruction.Instruction.{Instruction}
 use Rattle.regcode.specs.declared.instruction.Instruction.TheVariants as instruction
 use Rattle.lower_expr.specs.Scope.{Scope, free_level, register_at, register_of}
-use Rattle.lower_expr.specs.Expressions.{kind_named, register_for, registers_for, expr_code, terms_code, place_code, place_register, call_only_code}
+use Rattle.lower_expr.specs.Expressions.{kind_named, register_for, registers_for, expr_code, terms_code, place_code, place_register, update_code, call_only_code}
 use Rattle.lower_code.specs.Code.{Exits, past, body_exits, Calls, with_variable, scope_after_part, scope_after_all, needed_code, no_value_code, value_code, hold_code, array_code, place_type, fetch_code, put_code, combine_code, wait_code, condition_code, while_code, right_code, right_type, call_only_statement, stmt_code, part_code, stmts_code}
 use Rattle.lower.specs.Accepted.{Flat, Sound}
 use Rattle.lower.proofs.Flat.{flat_both, either_flat, variable_flat, call_flat, expression_flat, terms_flat, place_flat}
@@ -58,14 +59,18 @@ value_flat : (t : Option IntType) (level from : ℕ) → Flat (value_code t leve
 value_flat None level from = tt
 value_flat (Some t) level from = (tt, tt)
 
+update_flat : (function : AtomicFunction) (numbers : List ℕ) → Flat (update_code function numbers)
+update_flat function [] = (tt, tt)
+update_flat function (a ∷ []) = (tt, tt)
+update_flat function (a ∷ b ∷ []) = (tt, tt)
+update_flat function (a ∷ b ∷ c ∷ numbers) = (tt, tt)
+
 call_only_flat : (function : BuiltIn) (to : ℕ) (numbers : List ℕ) → Flat (call_only_code (Some function) to numbers)
 call_only_flat built_in_function.WorkDim to numbers = call_flat (Some built_in_function.WorkDim) to numbers
 call_only_flat (built_in_function.WorkItem function) to numbers = call_flat (Some (built_in_function.WorkItem function)) to numbers
 call_only_flat (built_in_function.Integer function) to numbers = call_flat (Some (built_in_function.Integer function)) to numbers
-call_only_flat (built_in_function.Atomic function) to [] = (tt, tt)
-call_only_flat (built_in_function.Atomic function) to (a ∷ []) = (tt, tt)
-call_only_flat (built_in_function.Atomic function) to (a ∷ b ∷ []) = (tt, tt)
-call_only_flat (built_in_function.Atomic function) to (a ∷ b ∷ c ∷ numbers) = (tt, tt)
+call_only_flat (built_in_function.Atomic function) to numbers =
+    either_flat (is_update function) (update_code function numbers) _ (update_flat function numbers) (call_flat (Some (built_in_function.Atomic function)) to numbers)
 
 module _ (sizes : Sizes) (calls : Calls) (results : ℕ → Option IntType) (inside : ℕ → ℕ) (result : Option IntType)
     (calls_sound : (name : ℕ) (numbers : List ℕ) (level depth site : ℕ) (exits : Exits) → Sound (size_in sizes name).loops depth exits (calls name numbers level depth site)) where

@@ -3,6 +3,7 @@ use Rattle.std.specs.Prelude.{ℕ, zero, suc, ◌+◌, ◌-◌, ◌%◌, max, �
 use Rattle.clnum.specs.declared.int_type.IntType.TheVariants.{Char, Uchar, Short, Ushort, Int, Uint, Long, Ulong}
 use Rattle.clmodel.specs.declared.tree.VariableType.{VariableType}
 use Rattle.regcode.specs.Listing.{Listing}
+use Rattle.regcode.specs.Safety.{operand_sources}
 use Rattle.regcode.specs.declared.instruction.Instruction.{Instruction}
 use Rattle.regcode.specs.declared.instruction.Instruction.TheVariants as instruction
 use Rattle.regcode.specs.declared.tables.Register.{Register}
@@ -48,6 +49,7 @@ registers_of (instruction.Load to pointer) = to ∷ pointer ∷ []
 registers_of (instruction.Store pointer value) = pointer ∷ value ∷ []
 registers_of (instruction.Update function pointer None) = pointer ∷ []
 registers_of (instruction.Update function pointer (Some value)) = pointer ∷ value ∷ []
+registers_of (instruction.Fetch to function pointer given) = to ∷ pointer ∷ operand_sources given
 registers_of (instruction.JumpIfZero register by) = register ∷ []
 registers_of _ = []
 

@@ -3,11 +3,12 @@
 
 ghost use Rattle.std.specs.Prelude.{◌≡◌, ℕ, ◌+◌, ◌≤◌, max, [], ◌∷◌, length, get_or, IfOk};
 ghost use Rattle.regcode.specs.Listed.{listing};
+ghost use Rattle.regcode.specs.Safety.{operand_sources};
 ghost use Rattle.lower.specs.Tables as spec;
 
 use clmodel::tree::VariableType;
 use clnum::IntType;
-use regcode::{Instruction, Register, RegisterKind, Tables};
+use regcode::{FetchOperands, Instruction, Register, RegisterKind, Tables};
 use std::alloc::{AllocError, Global};
 
 /// One more than a number.
@@ -22,6 +23,17 @@ fn past_both(first: u32, second: u32) -> usize
     ensures { result ≡ spec.room (first ∷ second ∷ []) }
 {
     past(first).max(past(second))
+}
+
+/// One more than the greatest register of what an atomic operation is given; 0 where there is none.
+fn past_operands(operands: FetchOperands) -> usize
+    ensures { result ≡ spec.room (operand_sources operands) }
+{
+    match operands {
+        FetchOperands::Alone => 0,
+        FetchOperands::Number(value) => past(value),
+        FetchOperands::Pair { expected, value } => past_both(expected, value),
+    }
 }
 
 /// One more than the greatest register that an instruction names.
@@ -74,6 +86,12 @@ fn registers_wanted(instruction: &Instruction) -> usize
             value: Some(value),
             ..
         } => past_both(pointer, value),
+        Instruction::Fetch {
+            to,
+            pointer,
+            operands,
+            ..
+        } => past(to).max(past(pointer).max(past_operands(operands))),
         Instruction::JumpIfZero { test, .. } => past(test),
         Instruction::UnsetArray { .. }
         | Instruction::Barrier { .. }
