@@ -15,9 +15,24 @@ const MINUS_ONE: u32 = 0xFFFF_FFFF;
 
 const ROWS: [Row; 14] = [
     (FetchOp::Class(Class::Add), 3, MINUS_ONE, 2),
-    (FetchOp::Class(Class::And), 0x0F0F_0F0F, 0x1234_5678, 0x0204_0608),
-    (FetchOp::Class(Class::Or), 0x0F0F_0F0F, 0x1234_5678, 0x1F3F_5F7F),
-    (FetchOp::Class(Class::Xor), 0x0F0F_0F0F, 0x1234_5678, 0x1D3B_5977),
+    (
+        FetchOp::Class(Class::And),
+        0x0F0F_0F0F,
+        0x1234_5678,
+        0x0204_0608,
+    ),
+    (
+        FetchOp::Class(Class::Or),
+        0x0F0F_0F0F,
+        0x1234_5678,
+        0x1F3F_5F7F,
+    ),
+    (
+        FetchOp::Class(Class::Xor),
+        0x0F0F_0F0F,
+        0x1234_5678,
+        0x1D3B_5977,
+    ),
     (FetchOp::Class(Class::SignedMin), 1, MINUS_ONE, MINUS_ONE),
     (FetchOp::Class(Class::UnsignedMin), 1, MINUS_ONE, 1),
     (FetchOp::Class(Class::SignedMax), 1, MINUS_ONE, 1),
@@ -82,10 +97,16 @@ fn refusals(rt: HostRuntime) -> Result<(), Fail> {
     }
     let bytes = vec![in rt.alloc(); 6u8; 6]?;
     let mut overlay = Overlay::new(rt.alloc(), bytes.as_slice());
-    assert_eq!(rt; overlay.fetch(3, FetchOp::Exchange, 1), Err(SpaceFault::Bounds));
+    assert_eq!(rt;
+        overlay.fetch(3, FetchOp::Exchange, 1),
+        Err(SpaceFault::Bounds)
+    );
     assert_eq!(rt; overlay.changed().len(), 0);
     let mut view = ConstView::new(&overlay);
-    assert_eq!(rt; view.fetch(0, FetchOp::Exchange, 1), Err(SpaceFault::ReadOnly));
+    assert_eq!(rt;
+        view.fetch(0, FetchOp::Exchange, 1),
+        Err(SpaceFault::ReadOnly)
+    );
     assert_eq!(rt; view.load(0, Width::Two), Ok(0x0606));
     Ok(())
 }

@@ -86,7 +86,11 @@ const PAIRS: [(Operation, Operation, Option<bool>); 7] = [
     (FETCH, ADD, Some(true)),
     (ADD, FETCH, Some(true)),
     (FETCH, FETCH, Some(true)),
-    (FETCH, Operation::Fetch(FetchOp::CompareExchange(3), 1), Some(true)),
+    (
+        FETCH,
+        Operation::Fetch(FetchOp::CompareExchange(3), 1),
+        Some(true),
+    ),
     (Operation::Load(Width::Four), FETCH, None),
     (FETCH, Operation::Store(Width::One, 7), None),
 ];
