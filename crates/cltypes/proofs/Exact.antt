@@ -1,9 +1,8 @@
 -- An expression is typed exactly where none of its places has a fault.
-use Rattle.std.proofs.Common.{◌≡◌, ℕ, true, ◌||◌, List, [], ◌∷◌, ◌++◌, Option, None, Some, true≢false, refl, sym, ap, ◌∙◌, subst}
+use Rattle.std.proofs.Common.{◌≡◌, ℕ, List, [], ◌∷◌, ◌++◌, None, true≢false, refl, sym, ap, ◌∙◌, subst}
 use Rattle.clnum.specs.declared.int_type.IntType.{IntType}
 use Rattle.clnum.specs.declared.operators.UnaryOperator.{UnaryOperator}
 use Rattle.clmodel.specs.declared.setup.BuiltIn.{BuiltIn}
-use Rattle.clmodel.specs.declared.tree.PointerType.{PointerType}
 use Rattle.clmodel.specs.declared.tree.VariableType.{VariableType}
 use Rattle.clmodel.specs.declared.tree.VariableType.TheVariants.{Integer as Number, Pointer}
 use Rattle.clmodel.specs.declared.type_fault.TypeFault.{TypeFault}
@@ -14,10 +13,10 @@ use Rattle.clmodel.specs.Typing.Context.{Context, meaning, Bound, BuiltInFunctio
 use Rattle.clmodel.specs.Typing.Least.{least, first, node}
 use Rattle.clmodel.specs.Typing.Rules as rule
 use Rattle.clmodel.specs.Typing.Rules.{Calls, Types, TypesAll, count}
-use Rattle.clmodel.specs.Typing.Faults.{start, integer_faults, pointer_faults, name_faults, front_faults, address_faults, operand_faults, Spot, Inside, is_statement, has_value, wanted, type_or_int, name_kind, number_or_int, front_kind, element_kind, unary_type, binary_type, choice_type, call_kind, kind_of, first_kind, arguments_faults, inside_call, call_faults, term_faults, terms_faults}
+use Rattle.clmodel.specs.Typing.Faults.{start, integer_faults, pointer_faults, name_faults, front_faults, address_faults, operand_faults, Spot, Inside, wanted, type_or_int, name_kind, number_or_int, front_kind, element_kind, unary_type, binary_type, choice_type, call_kind, kind_of, first_kind, arguments_faults, inside_call, call_faults, term_faults, terms_faults}
 use Rattle.cltypes.proofs.Splits.{none_split, none_joined, place_then, places_split, places_joined, node_split, node_joined, one_place, some_fault}
 use Rattle.cltypes.proofs.Tables.{integer_sound, name_sound, name_complete, front_sound, front_complete, address_sound, address_complete, operands_sound, operands_complete}
-use Rattle.cltypes.proofs.CallTables.{kinds_of, IsBuiltIn, a_built_in, a_barrier, a_helper, own_sound, calls_sound, IsCalled, calls_complete, own_complete, has_some, some_given}
+use Rattle.cltypes.proofs.CallTables.{kinds_of, IsBuiltIn, a_built_in, a_barrier, a_helper, own_sound, calls_sound, IsCalled, calls_complete, own_complete}
 
 -- typed where there is no fault
 
@@ -60,13 +59,12 @@ choice_sound c a p q r e d f (Pointer o) j k x y z n =
 choice_sound c a p q r e d f (Number s) (Pointer o) k x y z n = absurd (some_fault (fault.TypeMismatch q) (integer_faults k r) n)
 choice_sound c a p q r e d f (Number s) (Number t) (Pointer o) x y z n = absurd (some_fault (fault.TypeMismatch r) [] n)
 
--- a call of a built-in function that has a value
-pub built_in_sound : (c : Context) (spot : Spot) (a x : ℕ) (es : Terms) (f : IsBuiltIn spot (meaning c x) (count es)) → has_value f.function ≡ true → TypesAll c es (kinds_of c es)
+-- a call of a built-in function
+pub built_in_sound : (c : Context) (a x : ℕ) (es : Terms) (f : IsBuiltIn (meaning c x) (count es)) → TypesAll c es (kinds_of c es)
     → least (arguments_faults c (wanted (meaning c x)) es) ≡ None → Types c (tree.Call a x es) (call_kind (meaning c x) (first_kind c es))
-built_in_sound c spot a x es f p all n =
-    let g = calls_sound c f.function es f.counted (subst (λ v. least (arguments_faults c (wanted v) es) ≡ None) f.is n) in
+built_in_sound c a x es f all n =
     subst (λ v. Types c (tree.Call a x es) (call_kind v (first_kind c es))) (sym f.is)
-    (rule.call f.is all (subst (λ o. Calls f.function (kinds_of c es) o) (some_given f.function (first_kind c es) p) g))
+    (rule.call f.is all (calls_sound c f.function es f.counted (subst (λ v. least (arguments_faults c (wanted v) es) ≡ None) f.is n)))
 
 call_sound : (c : Context) (a x : ℕ) (es : Terms) → TypesAll (inside_call (meaning c x) c) es (kinds_of (inside_call (meaning c x) c) es)
     → least (call_faults c Inside (meaning c x) a es) ≡ None → Types c (tree.Call a x es) (call_kind (meaning c x) (first_kind c es))
@@ -75,7 +73,7 @@ call_sound c a x es all n =
     let s = own_sound c Inside m a es n in
     elim s.callee [
       | a_built_in f ↦ let same : inside_call m c ≡ c = ap (λ z. inside_call z c) f.is in
-          built_in_sound c Inside a x es f f.placed (subst (λ d. TypesAll d es (kinds_of d es)) same all) (subst (λ d. least (arguments_faults d (wanted m) es) ≡ None) same s.arguments)
+          built_in_sound c a x es f (subst (λ d. TypesAll d es (kinds_of d es)) same all) (subst (λ d. least (arguments_faults d (wanted m) es) ≡ None) same s.arguments)
       | a_barrier b ↦ absurd (true≢false (sym b.placed))
       | a_helper h ↦ absurd (true≢false (sym h.placed))
     ]
@@ -138,12 +136,12 @@ chosen : (c : Context) (e d f : Term) (s t u : IntType) → kind_of c e ≡ Numb
     → least (integer_faults (kind_of c e) (start e) ++ integer_faults (kind_of c d) (start d) ++ integer_faults (kind_of c f) (start f)) ≡ None
 chosen c e d f s t u x y z = rw (x, y, z) refl
 
-pub call_complete : (c : Context) (spot : Spot) (a x : ℕ) (f : BuiltIn) (es : Terms) (ks : List VariableType) (r : Option VariableType)
-    → meaning c x ≡ BuiltInFunction f → AreOf c es ks → IsCalled c f es r → (is_statement spot || has_value f) ≡ true
+pub call_complete : (c : Context) (spot : Spot) (a x : ℕ) (f : BuiltIn) (es : Terms) (ks : List VariableType) (r : VariableType)
+    → meaning c x ≡ BuiltInFunction f → AreOf c es ks → IsCalled c f es r
     → first (node (terms_faults (inside_call (meaning c x) c) es) (call_faults c spot (meaning c x) a es)) ≡ None
-call_complete c spot a x f es ks r m h g p =
+call_complete c spot a x f es ks r m h g =
     subst (λ v. first (node (terms_faults (inside_call v c) es) (call_faults c spot v a es)) ≡ None) (sym m)
-    (node_joined (terms_faults c es) (call_faults c spot (BuiltInFunction f) a es) h.faultless (own_complete c spot f a es r g p))
+    (node_joined (terms_faults c es) (call_faults c spot (BuiltInFunction f) a es) h.faultless (own_complete c spot f a es r g))
 
 mutual
   pub term_complete : (c : Context) (e : Term) (k : VariableType) → Types c e k → IsOf c e k
@@ -174,11 +172,10 @@ mutual
       }
   term_complete c _ _ (rule.call {a = a} {x = x} {f = f} {es = es} {ks = ks} {k = k} m h g) =
       let r = terms_complete c es ks h in
-      let s = calls_complete c f es ks (Some k) g r.same in
-      let t = has_some f (first_kind c es) k s.gives in
+      let s = calls_complete c f es ks k g r.same in
       record {
-        faultless = call_complete c Inside a x f es ks (Some k) m r s t.0;
-        same = ap (λ v. call_kind v (first_kind c es)) m ∙ t.1;
+        faultless = call_complete c Inside a x f es ks k m r s;
+        same = ap (λ v. call_kind v (first_kind c es)) m ∙ s.gives;
       }
   term_complete c _ _ (rule.unary {a = a} {op = op} {t = t} {e = e} h) =
       let r = term_complete c e (Number t) h in

@@ -253,7 +253,7 @@ mutual
   complete _ _ (rule.step {c = c} {p = p} {k = k} t) = (place_complete c p k t).faultless
   complete _ _ (rule.call_only {c = c} {a = a} {x = x} {f = f} {es = es} {ks = ks} {r = r} m h g) =
       let s = terms_complete c es ks h in
-      call_complete c WholeStatement a x f es ks r m s (calls_complete c f es ks r g s.same) refl
+      call_complete c WholeStatement a x f es ks r m s (calls_complete c f es ks r g s.same)
   complete _ _ (rule.barrier {c = c} {a = a} {x = x} {es = es} {f = f} m h) = barrier_complete c a x es f m h
   complete _ _ (rule.call_helper {c = c} {a = a} {x = x} {es = es} {s = s} h) = helper_faultless c WholeStatement a x es s refl h
   complete _ _ (rule.if {c = c} {e = e} {s = s} {t = t} h k) =

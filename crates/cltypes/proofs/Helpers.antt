@@ -15,7 +15,7 @@ use Rattle.clmodel.specs.Typing.Rules.{count, Passes, Types, AreGiven, CallsHelp
 use Rattle.clmodel.specs.Typing.Faults.{start, Spot, RightSide, takes_helper, ForParameter, argument_faults, passing_faults, callee_faults, wanted, call_kind, result_kind, kind_of, last_kind, first_kind, arguments_faults, inside_call, call_faults, term_faults, terms_faults, value_faults, gives_value, void_faults}
 use Rattle.cltypes.proofs.Splits.{none_split, none_joined, places_split, places_joined, node_split, node_joined, unless_none, unless_true}
 use Rattle.cltypes.proofs.Tables.{passing_sound, passing_complete}
-use Rattle.cltypes.proofs.CallTables.{IsHelper, a_built_in, a_barrier, a_helper, own_sound, helper_complete, calls_complete, has_some}
+use Rattle.cltypes.proofs.CallTables.{IsHelper, a_built_in, a_barrier, a_helper, own_sound, helper_complete, calls_complete}
 use Rattle.cltypes.proofs.Exact.{term_sound, terms_sound, term_complete, terms_complete, built_in_sound, call_complete}
 
 -- arguments for parameters
@@ -92,7 +92,7 @@ called_value c a x es n v =
     let s = own_sound c RightSide m a es r.1 in
     elim s.callee [
       | a_built_in f ↦ let same : inside_call m c ≡ c = ap (λ z. inside_call z c) f.is in
-          rule.expression (built_in_sound c RightSide a x es f f.placed (terms_sound c es (subst (λ d. first (terms_faults d es) ≡ None) same r.0))
+          rule.expression (built_in_sound c a x es f (terms_sound c es (subst (λ d. first (terms_faults d es) ≡ None) same r.0))
           (subst (λ d. least (arguments_faults d (wanted m) es) ≡ None) same s.arguments))
       | a_barrier b ↦ absurd (true≢false (sym b.placed))
       | a_helper h ↦ let same : inside_call m c ≡ c = ap (λ z. inside_call z c) h.is in
@@ -128,12 +128,11 @@ plain c e k p q t =
 expression_value : (c : Context) (e : Term) (k : VariableType) → Types c e k → IsValueOf c e k
 expression_value c _ _ (rule.call {a = a} {x = x} {f = f} {es = es} {ks = ks} {k = k} m h g) =
     let r = terms_complete c es ks h in
-    let s = calls_complete c f es ks (Some k) g r.same in
-    let t = has_some f (first_kind c es) k s.gives in
+    let s = calls_complete c f es ks k g r.same in
     record {
-      faultless = call_complete c RightSide a x f es ks (Some k) m r s t.0;
+      faultless = call_complete c RightSide a x f es ks k m r s;
       given = unless_true (gives_value (meaning c x)) (fault.TypeMismatch a) (ap gives_value m);
-      same = ap (λ v. call_kind v (first_kind c es)) m ∙ t.1;
+      same = ap (λ v. call_kind v (first_kind c es)) m ∙ s.gives;
     }
 expression_value c (tree.Number a v) k t = plain c (tree.Number a v) k refl refl t
 expression_value c (tree.Variable a x) k t = plain c (tree.Variable a x) k refl refl t

@@ -83,7 +83,6 @@ is_fault p (fault.Recursion at) h = h
 is_fault p (fault.WrongArgumentCount at) h = h
 is_fault p (fault.WrongSpace at) h = h
 is_fault p (fault.BadBarrierFlags at) h = h
-is_fault p (fault.AtomicValueUsed at) h = h
 is_fault p (fault.TooManyLoops at) h = h
 is_fault p (fault.TooLarge at) h = h
 is_fault p (fault.MissingReturn at) h = h

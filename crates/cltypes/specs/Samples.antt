@@ -10,7 +10,7 @@ use Rattle.clmodel.specs.declared.tree.Parameter.{Parameter}
 use Rattle.clmodel.specs.declared.tree.VariableType.{VariableType}
 use Rattle.clmodel.specs.declared.tree.VariableType.TheVariants as kind
 use Rattle.clmodel.specs.declared.type_fault.TypeFault.{TypeFault}
-use Rattle.clmodel.specs.declared.type_fault.TypeFault.TheVariants.{UnknownName, Redeclared, TypeMismatch, NotAssignable, Recursion, WrongArgumentCount, WrongSpace, BadBarrierFlags, AtomicValueUsed, TooManyLoops, TooLarge, MissingReturn}
+use Rattle.clmodel.specs.declared.type_fault.TypeFault.TheVariants.{UnknownName, Redeclared, TypeMismatch, NotAssignable, Recursion, WrongArgumentCount, WrongSpace, BadBarrierFlags, TooManyLoops, TooLarge, MissingReturn}
 use Rattle.clmodel.specs.Tree.{Term, NoTerm, Number, Variable, Element, ElementAddress, Dereference, Call, Cast, Binary, Choice, Whole, Part, Behind, Stmt, Stmts, NoStmt, then_all, then_stmts, Func, Funcs, NoFunc, ThenFunc, then_funcs, Empty, Block, Declare, DeclareAs, DeclareArray, Assign, Step, CallOnly, If, IfElse, While, DoWhile, For, Break, Continue, Return, ReturnValue, Without, With, Always, While_}
 use Rattle.clmodel.specs.declared.declaration.Declaration.TheVariants.{Single}
 use Rattle.clmodel.specs.Typing.Context.{Context, Signature}
@@ -145,8 +145,41 @@ samples =
     ∷ (set (call 4 8 (b 8 ∷ one 11 ∷ [])), Some (TypeMismatch 11))
     -- n = min((char)1, b);
     ∷ (set (call 4 8 (Cast 8 Char (one 14) ∷ b 17 ∷ [])), None)
+    -- n = atomic_add(a, 1);  The old number is the value, of each atomic function.
+    ∷ (set (call 4 15 (a 15 ∷ one 18 ∷ [])), None)
+    -- n = atomic_sub(a, 1);
+    ∷ (set (call 4 16 (a 15 ∷ one 18 ∷ [])), None)
+    -- n = atomic_min(a, 1);
+    ∷ (set (call 4 17 (a 15 ∷ one 18 ∷ [])), None)
+    -- n = atomic_max(a, 1);
+    ∷ (set (call 4 18 (a 15 ∷ one 18 ∷ [])), None)
+    -- n = atomic_and(a, 1);
+    ∷ (set (call 4 19 (a 15 ∷ one 18 ∷ [])), None)
+    -- n = atomic_or(a, 1);
+    ∷ (set (call 4 20 (a 14 ∷ one 17 ∷ [])), None)
+    -- n = atomic_xor(a, 1);
+    ∷ (set (call 4 21 (a 15 ∷ one 18 ∷ [])), None)
     -- n = atomic_inc(a);
-    ∷ (set (call 4 22 (a 15 ∷ [])), Some (AtomicValueUsed 4))
+    ∷ (set (call 4 22 (a 15 ∷ [])), None)
+    -- n = atomic_dec(a);
+    ∷ (set (call 4 23 (a 15 ∷ [])), None)
+    -- n = atomic_xchg(a, 1);
+    ∷ (set (call 4 26 (a 16 ∷ one 19 ∷ [])), None)
+    -- n = atomic_cmpxchg(a, 1, n);
+    ∷ (set (call 4 27 (a 19 ∷ one 22 ∷ n 25 ∷ [])), None)
+    -- a[atomic_inc(a)] = atomic_add(&a[1], 1) + 1;
+    ∷ (
+      only (Assign 0 (Part 0 101 (call 2 22 (a 13 ∷ []))) None (Binary 19 (Arithmetic Add) (call 19 15 (ElementAddress 30 31 101 (one 33) ∷ one 37 ∷ [])) (one 42))),
+      None,
+    )
+    -- if (atomic_cmpxchg(a, 1, n)) return;
+    ∷ (only (If 0 (call 4 27 (a 19 ∷ one 22 ∷ n 25 ∷ [])) (Return 29)), None)
+    -- a = atomic_inc(a);  The value is of the element's type, and no pointer.
+    ∷ (only (Assign 0 (Whole 0 101) None (call 4 22 (a 15 ∷ []))), Some (TypeMismatch 4))
+    -- n = min(atomic_xchg(a, b), 1);  The first argument tells the type, and not the last.
+    ∷ (set (call 4 8 (call 8 26 (a 20 ∷ b 23 ∷ []) ∷ one 27 ∷ [])), None)
+    -- n = min(atomic_cmpxchg(a, 1, b), b);
+    ∷ (set (call 4 8 (call 8 27 (a 23 ∷ one 26 ∷ b 29 ∷ []) ∷ b 33 ∷ [])), Some (TypeMismatch 33))
     -- n = atomic_inc();
     ∷ (set (call 4 22 []), Some (WrongArgumentCount 4))
     -- atomic_add(a, 1);
@@ -157,6 +190,40 @@ samples =
     ∷ (only (CallOnly 0 22 (then_all NoTerm (t 11 ∷ []))), Some (WrongSpace 11))
     -- atomic_inc(w);
     ∷ (only (CallOnly 0 22 (then_all NoTerm (w 11 ∷ []))), Some (TypeMismatch 11))
+    -- atomic_xchg(a, 1);
+    ∷ (only (CallOnly 0 26 (then_all NoTerm (a 12 ∷ one 15 ∷ []))), None)
+    -- atomic_cmpxchg(a, 1, b);
+    ∷ (only (CallOnly 0 27 (then_all NoTerm (a 15 ∷ one 18 ∷ b 21 ∷ []))), None)
+    -- atomic_xchg(a);
+    ∷ (only (CallOnly 0 26 (then_all NoTerm (a 12 ∷ []))), Some (WrongArgumentCount 0))
+    -- n = atomic_xchg(a, 1, 1);
+    ∷ (set (call 4 26 (a 16 ∷ one 19 ∷ one 22 ∷ [])), Some (WrongArgumentCount 4))
+    -- n = atomic_cmpxchg(a, 1);
+    ∷ (set (call 4 27 (a 19 ∷ one 22 ∷ [])), Some (WrongArgumentCount 4))
+    -- n = atomic_cmpxchg(a, 1, 1, 1);
+    ∷ (set (call 4 27 (a 19 ∷ one 22 ∷ one 25 ∷ one 28 ∷ [])), Some (WrongArgumentCount 4))
+    -- n = atomic_inc(a, 1);
+    ∷ (set (call 4 22 (a 15 ∷ one 18 ∷ [])), Some (WrongArgumentCount 4))
+    -- n = atomic_xchg(1, a);  Of one node the lowest offset.
+    ∷ (set (call 4 26 (one 16 ∷ a 19 ∷ [])), Some (TypeMismatch 16))
+    -- n = atomic_cmpxchg(a, a, 1);  Each operand is a number.
+    ∷ (set (call 4 27 (a 19 ∷ a 22 ∷ one 25 ∷ [])), Some (TypeMismatch 22))
+    -- n = atomic_cmpxchg(a, 1, a);
+    ∷ (set (call 4 27 (a 19 ∷ one 22 ∷ a 25 ∷ [])), Some (TypeMismatch 25))
+    -- n = atomic_xchg(c, 1);
+    ∷ (set (call 4 26 (c 16 ∷ one 19 ∷ [])), Some (NotAssignable 16))
+    -- n = atomic_cmpxchg(t, 1, 1);
+    ∷ (set (call 4 27 (t 19 ∷ one 22 ∷ one 25 ∷ [])), Some (WrongSpace 19))
+    -- n = atomic_xchg(w, 1);
+    ∷ (set (call 4 26 (w 16 ∷ one 19 ∷ [])), Some (TypeMismatch 16))
+    -- __global char *x; atomic_xchg(x, b);
+    ∷ (then_stmts NoStmt (Declare 0 (global Char) 15 107 ∷ CallOnly 18 26 (then_all NoTerm (x 30 ∷ b 33 ∷ [])) ∷ []), Some (TypeMismatch 30))
+    -- int atomic_xchg;
+    ∷ (only (Declare 0 (kind.Integer Int) 4 26), Some (Redeclared 4))
+    -- int atomic_cmpxchg[2];
+    ∷ (only (array false Int 0 4 27 19 2), Some (Redeclared 4))
+    -- n = atomic_xchg;  A function is no value.
+    ∷ (set (Variable 4 26), Some (TypeMismatch 4))
     -- barrier(1);
     ∷ (only (CallOnly 0 14 (then_all NoTerm (one 8 ∷ []))), Some (BadBarrierFlags 8))
     -- a = c;  A const dropped; then a pointer to another type, to another space, and a const added.
@@ -322,6 +389,8 @@ counted =
     ∷ (CallOnly 0 10 (then_all NoTerm (one 4 ∷ [])), (2, 0))
     -- min(1, 1);
     ∷ (CallOnly 0 8 (then_all NoTerm (one 4 ∷ one 7 ∷ [])), (3, 0))
+    -- n = atomic_cmpxchg(a, 1, 1);
+    ∷ (Assign 0 (Whole 0 105) None (call 4 27 (a 19 ∷ one 22 ∷ one 25 ∷ [])), (6, 0))
     -- ;
     ∷ (Empty 0, (1, 0))
     -- { }
@@ -383,6 +452,10 @@ abbrev pub texts : List (Funcs × Option TypeFault)
 texts =
     -- kernel void f(int f) { }
     (then_funcs NoFunc (kernel 12 100 (parameter 18 100 ∷ []) [] ∷ []), Some (Redeclared 18))
+    -- kernel void atomic_xchg() { }
+    ∷ (then_funcs NoFunc (kernel 12 26 [] [] ∷ []), Some (Redeclared 12))
+    -- kernel void f(int atomic_cmpxchg) { }
+    ∷ (then_funcs NoFunc (kernel 12 100 (parameter 18 27 ∷ []) [] ∷ []), Some (Redeclared 18))
     -- kernel void f() { g(); } kernel void g() { }
     ∷ (then_funcs NoFunc (kernel 12 100 [] (CallOnly 18 101 NoTerm ∷ []) ∷ kernel 37 101 [] [] ∷ []), Some (UnknownName 18))
     -- kernel void f() { } kernel void g() { f(); }
