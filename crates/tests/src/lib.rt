@@ -2,6 +2,8 @@
 #![tactic(auto)]
 
 #[cfg(test)]
+mod fetches;
+#[cfg(test)]
 mod footprints;
 #[cfg(test)]
 mod logs;
