@@ -1,8 +1,8 @@
-use Rattle.std.proofs.Common.{rules, ◌≡◌, ◌++◌, true, inr, sym, ap, ◌∙◌, subst}
+use Rattle.std.proofs.Common.{rules, ◌≡◌, ◌++◌, inr, sym, ap, ◌∙◌, subst}
 use Rattle.std.proofs.lemmas.Result.{err_from_is_err_and}
 use Rattle.clmodel.specs.Tree as tree
 use Rattle.clmodel.specs.Tree.{term, stmt, maybe_term}
-use Rattle.clmodel.specs.Typing.Context.{enter, turning, after, after_part, after_all}
+use Rattle.clmodel.specs.Typing.Context.{enter, turning, after_part, after_all}
 use Rattle.clmodel.specs.Typing.Faults.{integer_faults, kind_of, start, term_faults, condition_parts, condition_faults, part_faults, faults}
 use Rattle.clmodel.specs.Typing.Least.{least, first}
 use Rattle.cltypes_scope.specs.Names.{left}
