@@ -1,5 +1,5 @@
 -- Groups that run apart, and what their results come to.
-use Rattle.std.specs.Prelude.{◌≡◌, ◌⊎◌, ℕ, suc, ◌<◌, ◌≤◌, List, [], ◌∷◌, Bool, true, false, All, Any, Option, Some, slice_get}
+use Rattle.std.specs.Prelude.{◌≡◌, ◌⊎◌, ℕ, suc, ◌<◌, ◌≤◌, List, [], ◌∷◌, ◌++◌, Bool, true, false, All, Any, Option, Some, None, slice_get}
 use Rattle.atomic_table.specs.Seated.{TableId}
 use Rattle.atomic_table.specs.declared.shared.Seat.{Seat}
 use Rattle.workers_draw.specs.declared.worker.Worker.{Worker}
@@ -46,6 +46,16 @@ pub record IsNoted (stops : ℕ → Type 0) (v w : Hand) : Type 0 where
   pub drawn : w.drawn ≡ v.drawn
   pub seen : w.seen ≡ v.seen
   pub stopped : AreStops stops v → AreStops stops w
+
+module _ {T : Type 0} (gives : ℕ → T → Type 0) (group : ℕ) where
+  -- the group's result, or none where it lies above this least fault
+  abbrev pub IsFound : ℕ → Option T → Type 0
+  IsFound least (Some output) = gives group output
+  IsFound least None = least < group
+
+-- a seat has seen the least fault, and has the group's result unless the group lies above it
+abbrev pub IsTried : {T : Type 0} → (ℕ → T → Type 0) → (ℕ → Type 0) → ℕ → Hand → Hand → Option T → Type 0
+IsTried gives stops group v w found = (least : ℕ) × IsNoted stops (hand v.parts v.drawn (v.seen ++ least ∷ []) v.stopped) w × IsFound gives group least found
 
 module _ {T : Type 0} (count : ℕ) (gives : ℕ → T → Type 0) (stops : ℕ → Type 0) where
   -- a worker that has done its part at the table

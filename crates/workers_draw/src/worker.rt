@@ -1,7 +1,7 @@
 //! One worker.
 ghost use Rattle.std.specs.Prelude.{◌≡◌, ℕ, ◌<◌, ◌^◌, [], ◌∷◌, ◌++◌, IfOk};
 ghost use Rattle.workers_draw.specs.Board.{hand, total, is_past};
-ghost use Rattle.workers_draw.specs.Groups.{IsFresh, DidWork, IsNoted};
+ghost use Rattle.workers_draw.specs.Groups.{IsFresh, DidWork, IsNoted, IsTried};
 
 use crate::board::{Board, Draw, Look, Lower, Place};
 use crate::gate::Gate;
@@ -14,22 +14,6 @@ use std::sync::Wait;
 pub struct Worker<T> {
     pub seat: Place,
     pub outputs: Vec<T>,
-}
-
-/// Runs the group between two calls of the gate.
-fn run_at<W: Work, G: Gate>(
-    alloc: Global,
-    work: &W,
-    gate: &G,
-    group: u32,
-) -> Result<W::Output, AllocError>
-    requires { group < W.count work.now }
-    ensures { IfOk result (W.gives work.now group) }
-{
-    gate.enter(group);
-    let output = work.one_group(alloc, group);
-    gate.leave(group);
-    output
 }
 
 /// The next number, which no other draw gives.
@@ -75,7 +59,51 @@ fn note<W: Work>(work: &W, board: &Board, seat: &mut Place, group: u64, output: 
     }
 }
 
-/// Draws groups until none is left, and runs each of them that isn't above the least faulty group that was seen.
+/// Runs a group that was drawn, unless it is above the least faulty group that is seen now.
+fn try_group<W: Work>(
+    alloc: Global,
+    work: &W,
+    board: &Board,
+    seat: &mut Place,
+    group: u32,
+) -> Result<Option<W::Output>, AllocError>
+    requires board { (seat.old.table_id ≡ board.now.table_id) × (board.now.table_id.words ≡ 2) }
+    requires part { 0 < seat.old.me.0.parts }
+    requires there { group < W.count work.now }
+    ensures same { IfOk result (λ _. (seat.new.table_id ≡ seat.old.table_id) × (seat.new.me.1 ≡ seat.old.me.1)) }
+    ensures tried { IfOk result (IsTried (W.gives work.now) (W.stops work.now) group seat.old.me.0 seat.new.me.0) }
+{
+    let least = look(board, seat);
+    if least < u64::from(group) {
+        return Ok(None);
+    }
+    let output = work.one_group(alloc, group)?;
+    note(work, board, seat, u64::from(group), &output);
+    Ok(Some(output))
+}
+
+/// Tries a group that was drawn between two calls of the gate. What its run came to is known to all before the second.
+fn try_at<W: Work, G: Gate>(
+    alloc: Global,
+    work: &W,
+    gate: &G,
+    board: &Board,
+    seat: &mut Place,
+    group: u32,
+) -> Result<Option<W::Output>, AllocError>
+    requires board { (seat.old.table_id ≡ board.now.table_id) × (board.now.table_id.words ≡ 2) }
+    requires part { 0 < seat.old.me.0.parts }
+    requires there { group < W.count work.now }
+    ensures same { IfOk result (λ _. (seat.new.table_id ≡ seat.old.table_id) × (seat.new.me.1 ≡ seat.old.me.1)) }
+    ensures tried { IfOk result (IsTried (W.gives work.now) (W.stops work.now) group seat.old.me.0 seat.new.me.0) }
+{
+    gate.enter(group);
+    let output = try_group(alloc, work, board, seat, group);
+    gate.leave(group);
+    output
+}
+
+/// Draws groups until none is left, and runs each of them that isn't above the least faulty group that is seen then.
 pub(crate) fn work_at<W: Work, G: Gate, R: Wait>(
     rt: &R,
     alloc: Global,
@@ -96,13 +124,10 @@ pub(crate) fn work_at<W: Work, G: Gate, R: Wait>(
         if drawn >= u64::from(count) {
             return Ok(Worker { seat, outputs });
         }
-        let least = look(board, &mut seat);
-        if least < drawn {
-            continue;
+        let tried = try_at(alloc, work, gate, board, &mut seat, drawn as u32)?;
+        if let Some(output) = tried {
+            outputs.push(output)?;
         }
-        let output = run_at(alloc, work, gate, drawn as u32)?;
-        note(work, board, &mut seat, drawn, &output);
-        outputs.push(output)?;
     }
     unreachable!()
 }

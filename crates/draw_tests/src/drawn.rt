@@ -1,0 +1,78 @@
+//! What comes of groups that workers draw.
+use crate::gates::{Counting, HighFirst, Meeting};
+use crate::numbers::{Ended, Numbers};
+use std::test::Fail;
+use workers_draw::run::run_groups;
+
+/// The number of no group.
+const NONE: u32 = 4_000_000_000;
+
+/// Whether these are the results of the groups from 0 on, in their order, none of which stopped.
+fn are_in_order(results: &[Ended]) -> bool {
+    results.iter().enumerate().all(|(number, ended)| ended.group as usize == number
+        && !ended.stopped)
+}
+
+#[test]
+fn all_groups_in_their_order(rt: HostRuntime) -> Result<(), Fail> {
+    for (count, workers) in [(0, 16), (3, 16), (65_536, 1), (65_536, 3), (65_536, 16)] {
+        let groups = Numbers {
+            count,
+            low: NONE,
+            high: NONE,
+        };
+        let gate = Counting::new();
+        let results = run_groups(&rt, rt.alloc(), &groups, workers, &gate)?;
+        assert_eq!(rt; results.len(), count as usize);
+        assert!(rt; are_in_order(results.as_slice()));
+        assert!(rt; gate.calls() == (count as u64, count as u64));
+    }
+    Ok(())
+}
+
+#[test]
+fn two_workers_meet(rt: HostRuntime) -> Result<(), Fail> {
+    let groups = Numbers {
+        count: 2,
+        low: NONE,
+        high: NONE,
+    };
+    let gate = Meeting::new();
+    let results = run_groups(&rt, rt.alloc(), &groups, 2, &gate)?;
+    assert_eq!(rt; results.len(), 2);
+    assert_eq!(rt; gate.met(), 2);
+    Ok(())
+}
+
+/// Group 1 stops before group 0 is run, and is known to stop when group 0 may go on: the answer is that of group 0 all the same.
+#[test]
+fn the_least_group_that_stops(rt: HostRuntime) -> Result<(), Fail> {
+    let groups = Numbers {
+        count: 40,
+        low: 0,
+        high: 1,
+    };
+    let gate = HighFirst::new();
+    let results = run_groups(&rt, rt.alloc(), &groups, 2, &gate)?;
+    assert!(rt; gate.has_waited());
+    assert_eq!(rt; results.len(), 1);
+    assert!(rt; results[0].group == 0 && results[0].stopped);
+    Ok(())
+}
+
+/// Group 1 stops before group 0 is run, which doesn't: both are there, and no other.
+#[test]
+fn the_groups_below_one_that_stops(rt: HostRuntime) -> Result<(), Fail> {
+    let groups = Numbers {
+        count: 40,
+        low: 1,
+        high: 39,
+    };
+    let gate = HighFirst::new();
+    let results = run_groups(&rt, rt.alloc(), &groups, 2, &gate)?;
+    assert!(rt; gate.has_waited());
+    assert_eq!(rt; results.len(), 2);
+    assert!(rt; results[0].group == 0 && !results[0].stopped);
+    assert!(rt; results[1].group == 1 && results[1].stopped);
+    Ok(())
+}
