@@ -209,30 +209,20 @@ pub(crate) fn close(
     let Frames::Inside(frame, frames) = Box::into_inner(stack.frames) else {
         unreachable!()
     };
-    let stack = Stack {
-        alloc: stack.alloc,
-        frames,
-    };
-    match frame {
+    let alloc = stack.alloc;
+    let (from, whole) = match frame {
         Frame::After {
             from,
             operator,
             left,
-        } => {
-            let whole = infix(stack.alloc, from, operator, left, value)?;
-            close(least, from, whole, stack)
-        }
-        Frame::Before { at, prefix } => {
-            close(least, at, prefixed(stack.alloc, prefix, at, value)?, stack)
-        }
+        } => (from, infix(alloc, from, operator, left, value)?),
+        Frame::Before { at, prefix } => (at, prefixed(alloc, prefix, at, value)?),
         Frame::Chosen {
             from,
             condition,
             chosen,
-        } => {
-            let whole = choice(stack.alloc, from, condition, chosen, value)?;
-            close(least, from, whole, stack)
-        }
+        } => (from, choice(alloc, from, condition, chosen, value)?),
         _ => unreachable!(),
-    }
+    };
+    close(least, from, whole, Stack { alloc, frames })
 }

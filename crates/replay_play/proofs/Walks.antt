@@ -1,7 +1,8 @@
 -- Items that are asked or answered one after another.
-use Rattle.std.proofs.Common.{◌≡◌, ℕ, ◌+◌, ◌<◌, ◌≤◌, ◌⊎◌, Bool, true, false, Some, List, [], ◌∷◌, set, refl, sym, ap, ◌∙◌, inl, inr, arith}
+use Rattle.std.proofs.Common.{◌≡◌, ℕ, ◌+◌, ◌<◌, ◌≤◌, ◌⊎◌, Bool, true, false, Some, List, [], ◌∷◌, set, get_or, length, refl, sym, ap, ◌∙◌, inl, inr, arith}
 use Rattle.std.specs.Prelude.{slice_get}
 use Rattle.std.proofs.lemmas.List.{length-set}
+use Rattle.std.proofs.lemmas.Option.{slice_get_read}
 use Rattle.clmodel.specs.Launch.{Launch}
 use Rattle.clmodel.specs.Run.{stop_of, both_stop}
 use Rattle.clmodel.specs.declared.action.Answer.{Answer}
@@ -20,7 +21,7 @@ alike_same l items =
       each = λ k y e. (y, e, λ answers. refl);
     }
 
-pub alike_more :
+alike_more :
     (l : Launch) (old new : List Slot) (k : ℕ) (x y : Slot) → slice_get new k ≡ Some x → ((answers : List Answer) → acts_of l k y answers ≡ acts_of l k x answers)
     → AreAlike l old new → AreAlike l old (set new k y)
 alike_more l old new k x y there same h =
@@ -39,6 +40,17 @@ alike_more l old new k x y there same h =
           λ answers. ap (λ n. acts_of l n z answers) e.0 ∙ ap (λ w. acts_of l k w answers) (sym e.1) ∙ same answers ∙ o.2 answers ∙ ap (λ n. acts_of l n o.0 answers) (sym e.0),
         )
     each j z (inr e) = h.each j z e.1
+
+-- an item below the end of a walk over items that act as before
+pub there_still :
+    (l : Launch) (old new : List Slot) (k end : ℕ) (x : Slot) → k < end → end ≤ length old → x ≡ get_or new k x → AreAlike l old new → slice_get new k ≡ Some x
+there_still l old new k end x below inside is h = let many = h.many in slice_get_read new (length new) k x refl (omega (arith, below, inside, many)) is
+
+-- the walk's next item is asked
+pub alike_next :
+    (l : Launch) (old new : List Slot) (k end : ℕ) (x y : Slot) → k < end → end ≤ length old → x ≡ get_or new k x
+    → ((answers : List Answer) → acts_of l k y answers ≡ acts_of l k x answers) → AreAlike l old new → AreAlike l old (set new k y)
+alike_next l old new k end x y below inside is same h = alike_more l old new k x y (there_still l old new k end x below inside is h) same h
 
 -- an item among others that act as before is at a stop if it was
 at_alike :

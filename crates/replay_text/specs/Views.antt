@@ -36,23 +36,17 @@ divergence_of told = fault.Divergence told.item (stop_of told.stop) told.other_i
 abbrev pub bounds_of : Bounds → Fault
 bounds_of told = fault.Bounds told.item told.kind (location_of told.place) told.element
 
-abbrev pub private_bounds_of : Private → Fault
-private_bounds_of told = fault.PrivateBounds told.item told.array.now told.element
-
 abbrev pub unset_of : Unset → Fault
 unset_of told = fault.Unset told.item told.kind (location_of told.place) told.byte
-
-abbrev pub unset_element_of : Private → Fault
-unset_element_of told = fault.UnsetElement told.item told.array.now told.element
 
 abbrev pub fault_of : Told → Fault
 fault_of (told.Conflict conflict) = conflict_of conflict
 fault_of (told.Divergence divergence) = divergence_of divergence
 fault_of (told.Bounds bounds) = bounds_of bounds
-fault_of (told.PrivateBounds place) = private_bounds_of place
+fault_of (told.PrivateBounds place) = fault.PrivateBounds place.item place.array.now place.element
 fault_of (told.Unset unset) = unset_of unset
 fault_of (told.UnsetVariable item variable) = fault.UnsetVariable item variable.now
-fault_of (told.UnsetElement place) = unset_element_of place
+fault_of (told.UnsetElement place) = fault.UnsetElement place.item place.array.now place.element
 fault_of (told.DivideByZero item) = fault.DivideByZero item
 fault_of (told.DivideOverflow item) = fault.DivideOverflow item
 fault_of (told.Budget item) = fault.Budget item

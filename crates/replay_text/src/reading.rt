@@ -7,7 +7,7 @@ ghost use Rattle.clmodel.specs.declared.fault.Fault.{Fault};
 ghost use Rattle.clmodel.specs.declared.schedule.Run.{Run};
 ghost use Rattle.replay_text.specs.Fields.{between_commas, turn_of, turns_of};
 ghost use Rattle.replay_text.specs.Reading.{file_of, schedule_of};
-ghost use Rattle.replay_text.specs.Views.{location_of, stop_of, conflict_of, divergence_of, bounds_of, private_bounds_of, unset_of, unset_element_of, fault_of};
+ghost use Rattle.replay_text.specs.Views.{location_of, stop_of, conflict_of, divergence_of, bounds_of, unset_of, fault_of};
 ghost use Rattle.replay_text.specs.ScheduleFile.{IsScheduleFile};
 ghost use Rattle.replay_text.specs.Faults.{IsRefused};
 
@@ -114,16 +114,6 @@ fn bounds_of(alloc: Global, told: Bounds<'_>) -> Result<Fault, AllocError>
     })
 }
 
-fn private_bounds_of(alloc: Global, told: Private<'_>) -> Result<Fault, AllocError>
-    ensures { IfOk result (λ fault. fault ≡ private_bounds_of told.entry) }
-{
-    Ok(Fault::PrivateBounds {
-        item: told.item,
-        array: Name::copy_of(alloc, told.array)?,
-        element: told.element,
-    })
-}
-
 fn unset_of(alloc: Global, told: Unset<'_>) -> Result<Fault, AllocError>
     ensures { IfOk result (λ fault. fault ≡ unset_of told.entry) }
 {
@@ -135,16 +125,6 @@ fn unset_of(alloc: Global, told: Unset<'_>) -> Result<Fault, AllocError>
     })
 }
 
-fn unset_element_of(alloc: Global, told: Private<'_>) -> Result<Fault, AllocError>
-    ensures { IfOk result (λ fault. fault ≡ unset_element_of told.entry) }
-{
-    Ok(Fault::UnsetElement {
-        item: told.item,
-        array: Name::copy_of(alloc, told.array)?,
-        element: told.element,
-    })
-}
-
 /// A fault with copies of the names.
 fn fault_of(alloc: Global, told: Told<'_>) -> Result<Fault, AllocError>
     ensures { IfOk result (λ fault. fault ≡ fault_of told.entry) }
@@ -153,13 +133,21 @@ fn fault_of(alloc: Global, told: Told<'_>) -> Result<Fault, AllocError>
         Told::Conflict(conflict) => conflict_of(alloc, conflict),
         Told::Divergence(divergence) => divergence_of(alloc, divergence),
         Told::Bounds(bounds) => bounds_of(alloc, bounds),
-        Told::PrivateBounds(place) => private_bounds_of(alloc, place),
+        Told::PrivateBounds(place) => Ok(Fault::PrivateBounds {
+            item: place.item,
+            array: Name::copy_of(alloc, place.array)?,
+            element: place.element,
+        }),
         Told::Unset(unset) => unset_of(alloc, unset),
-        Told::UnsetVariable { item, variable } => {
-            let variable = Name::copy_of(alloc, variable)?;
-            Ok(Fault::UnsetVariable { item, variable })
-        }
-        Told::UnsetElement(place) => unset_element_of(alloc, place),
+        Told::UnsetVariable { item, variable } => Ok(Fault::UnsetVariable {
+            item,
+            variable: Name::copy_of(alloc, variable)?,
+        }),
+        Told::UnsetElement(place) => Ok(Fault::UnsetElement {
+            item: place.item,
+            array: Name::copy_of(alloc, place.array)?,
+            element: place.element,
+        }),
         Told::DivideByZero { item } => Ok(Fault::DivideByZero { item }),
         Told::DivideOverflow { item } => Ok(Fault::DivideOverflow { item }),
         Told::Budget { item } => Ok(Fault::Budget { item }),

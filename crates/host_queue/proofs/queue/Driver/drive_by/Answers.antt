@@ -6,7 +6,8 @@ use Rattle.host_queue.specs.Views.{entry}
 use Rattle.host_queue.specs.History.{Begins}
 use Rattle.host_queue.proofs.Basics.{begins_more}
 use Rattle.host_queue.proofs.Comings.{tells}
-use Rattle.host_queue.proofs.Clients.{same_head, some_same, asked_same, taken_view, answered_view, runs_after, driver_after}
+use Rattle.host_queue.proofs.Clients.{answered_view, runs_after, driver_after}
+use Rattle.host_queue.proofs.Driven.{taken_served, answer_put}
 use Rattle.host_queue.proofs.queue.Driver.drive_by.Goals as goal
 
 pub compare_exchange-requires : goal.compare_exchange-requires
@@ -18,78 +19,62 @@ exchange-requires g c = let hit = c.compare_exchange.ensures.2.0 (search rules) 
     let has = hit.4 ∙ ap (λ (k : ℕ). (k, Some hit.0) ∷ c.args.self.now.seat.me.1) (sym is) in (search rules, (Some hit.0, has ∙ ap (λ cs. (c.args.self.now.count, Some hit.0) ∷ rest cs) (sym has)))
 
 pub compare_exchange-self-requires : goal.compare_exchange-self-requires
-compare_exchange-self-requires g c = let k = c.args.self.now.driver in let hit = c.compare_exchange.ensures.2.0 (search rules) in let u = c.unwrap-request.ensures in let q = c.exchange.ensures in let did = c.serve.ensures in
-    let got = same_head _ _ _ _ _ _ _ q.2 hit.4 in let is = some_same _ _ (sym u ∙ got) in
-    let cmd = asked_same {R = g.row.R.Denot} hit.1 did.0 (sym hit.2 ∙ (ap box_value (sym is) ∙ (sym c.deref_mut.ensures.value ∙ did.2))) in let h = c.exchange-2.ensures.3 in
-    let e = taken_view g.D.Machine.step c.args.self.now.seat.me.0 c.compare_exchange.new.seat.me.0 c.exchange.new.seat.me.0 c.exchange-2.new.seat.me.0 hit.1 did.0 hit.3 (ap (λ m. m.0) q.3) (ap (λ m. m.0) h) cmd in
-    let d = k.driving in let words = c.args.queue.now.sized.1 in let drives : c.exchange-2.new.seat.me.0.driving ≡ c.args.self.now.seat.me.0.driving = ap (λ z. z.driving) e in (
+compare_exchange-self-requires g c =
+    let step = g.D.Machine.step in let was = c.args.self.now.seat.me in let did = c.serve.ensures in let back = c.exchange-2.ensures.3 in
+    let e = taken_served step box_value was c.compare_exchange.new.seat.me c.exchange.new.seat.me c.exchange-2.new.seat.me _ _ _ c.unwrap-request.result did.0 (c.compare_exchange.ensures.2.0 (search rules)) c.unwrap-request.ensures c.exchange.ensures.2 c.exchange.ensures.3 back (sym c.deref_mut.ensures.value ∙ did.2) in
+    let k = c.args.self.now.driver in let d = k.driving in let words = c.args.queue.now.sized.1 in let drives : c.exchange-2.new.seat.me.0.driving ≡ was.0.driving = ap (λ z. z.driving) e in (
       search rules,
       (first_of (omega arith, search rules)),
-      answers_at g.D.Machine.step box_value _ _ _ _ c.args.self.now.count _ did.0 did.1 _ (c.args.self.now.counted ∙ ap length (sym (ap (λ z. z.known) e))) (omega arith)
-          (runs_after g.D.Machine.step c.args.self.now.seat.me.0 c.exchange-2.new.seat.me.0 c.args.self.now.machine c.serve.new.machine did.0 did.1 k did.4 (ap (λ z. z.start) e) (ap (λ z. z.known) e))
-          (ap (λ z. z.stage) e) did.3 (ap (λ m. m.1) h),
+      answers_at step box_value _ _ _ _ c.args.self.now.count _ did.0 did.1 _ (c.args.self.now.counted ∙ ap length (sym (ap (λ z. z.known) e))) (omega arith)
+          (runs_after step was.0 c.exchange-2.new.seat.me.0 c.args.self.now.machine c.serve.new.machine did.0 did.1 k did.4 (ap (λ z. z.start) e) (ap (λ z. z.known) e))
+          (ap (λ z. z.stage) e) did.3 (ap (λ m. m.1) back),
     )
 
 pub split_seat-seat-requires : goal.split_seat-seat-requires
-split_seat-seat-requires g c = let k = c.args.self.now.driver in let hit = c.compare_exchange.ensures.2.0 (search rules) in let u = c.unwrap-request.ensures in let q = c.exchange.ensures in let did = c.serve.ensures in
-    let got = same_head _ _ _ _ _ _ _ q.2 hit.4 in let is = some_same _ _ (sym u ∙ got) in
-    let cmd = asked_same {R = g.row.R.Denot} hit.1 did.0 (sym hit.2 ∙ (ap box_value (sym is) ∙ (sym c.deref_mut.ensures.value ∙ did.2))) in let h = c.exchange-2.ensures.3 in
-    let e = taken_view g.D.Machine.step c.args.self.now.seat.me.0 c.compare_exchange.new.seat.me.0 c.exchange.new.seat.me.0 c.exchange-2.new.seat.me.0 hit.1 did.0 hit.3 (ap (λ m. m.0) q.3) (ap (λ m. m.0) h) cmd in
-    let n = c.args.self.now.counted ∙ ap length (sym (ap (λ z. z.known) e)) in
-    let put = c.compare_exchange-self.ensures.2 (with_value c.unwrap-request.result c.serve.new.request) did.0 did.1 (rest c.exchange.new.seat.me.1) (ap (λ z. z.stage) e)
-    (ap (λ m. m.1) h ∙ ap (λ (j : ℕ). (j, Some (with_value c.unwrap-request.result c.serve.new.request)) ∷ rest c.exchange.new.seat.me.1) n) did.3 in
-    let words = c.args.queue.now.sized.1 in (
+split_seat-seat-requires g c =
+    let step = g.D.Machine.step in let was = c.args.self.now.seat.me in let did = c.serve.ensures in let back = c.exchange-2.ensures.3 in
+    let e = taken_served step box_value was c.compare_exchange.new.seat.me c.exchange.new.seat.me c.exchange-2.new.seat.me _ _ _ c.unwrap-request.result did.0 (c.compare_exchange.ensures.2.0 (search rules)) c.unwrap-request.ensures c.exchange.ensures.2 c.exchange.ensures.3 back (sym c.deref_mut.ensures.value ∙ did.2) in
+    let put = answer_put step box_value was c.exchange.new.seat.me c.exchange-2.new.seat.me c.compare_exchange-self.new.seat.me _ (with_value c.unwrap-request.result c.serve.new.request) did.0 did.1 c.args.self.now.counted e back did.3 c.compare_exchange-self.ensures.2 in
+    let k = c.args.self.now.driver in let words = c.args.queue.now.sized.1 in (
       search rules,
       (first_of (omega arith, search rules)),
-      tells g.D.Machine.step box_value _ _ _ (ap (λ z. z.stage) put.0)
+      tells step box_value _ _ _ (ap (λ z. z.stage) put.0)
           (λ none. ap (λ z. z.count) put.0 ∙ (ap (λ z. z.count) e ∙ k.left (sym (ap (λ z. z.share) put.0 ∙ ap (λ z. z.share) e) ∙ none))),
     )
 
 pub invariant_of-self-2 : goal.invariant_of-self-2
-invariant_of-self-2 g c = let k = c.args.self.now.driver in let hit = c.compare_exchange.ensures.2.0 (search rules) in let u = c.unwrap-request.ensures in let q = c.exchange.ensures in let did = c.serve.ensures in
-    let got = same_head _ _ _ _ _ _ _ q.2 hit.4 in let is = some_same _ _ (sym u ∙ got) in
-    let cmd = asked_same {R = g.row.R.Denot} hit.1 did.0 (sym hit.2 ∙ (ap box_value (sym is) ∙ (sym c.deref_mut.ensures.value ∙ did.2))) in let h = c.exchange-2.ensures.3 in
-    let e = taken_view g.D.Machine.step c.args.self.now.seat.me.0 c.compare_exchange.new.seat.me.0 c.exchange.new.seat.me.0 c.exchange-2.new.seat.me.0 hit.1 did.0 hit.3 (ap (λ m. m.0) q.3) (ap (λ m. m.0) h) cmd in
-    let n = c.args.self.now.counted ∙ ap length (sym (ap (λ z. z.known) e)) in
-    let put = c.compare_exchange-self.ensures.2 (with_value c.unwrap-request.result c.serve.new.request) did.0 did.1 (rest c.exchange.new.seat.me.1) (ap (λ z. z.stage) e)
-    (ap (λ m. m.1) h ∙ ap (λ (j : ℕ). (j, Some (with_value c.unwrap-request.result c.serve.new.request)) ∷ rest c.exchange.new.seat.me.1) n) did.3 in
-    let f = answered_view g.D.Machine.step c.args.self.now.seat.me.0 c.exchange-2.new.seat.me.0 c.compare_exchange-self.new.seat.me.0 c.split_seat-seat.new.seat.me.0 did.0 did.1 e put.0 (ap (λ m. m.0) c.split_seat-seat.ensures.2) in
+invariant_of-self-2 g c =
+    let step = g.D.Machine.step in let was = c.args.self.now.seat.me in let did = c.serve.ensures in let back = c.exchange-2.ensures.3 in
+    let e = taken_served step box_value was c.compare_exchange.new.seat.me c.exchange.new.seat.me c.exchange-2.new.seat.me _ _ _ c.unwrap-request.result did.0 (c.compare_exchange.ensures.2.0 (search rules)) c.unwrap-request.ensures c.exchange.ensures.2 c.exchange.ensures.3 back (sym c.deref_mut.ensures.value ∙ did.2) in
+    let put = answer_put step box_value was c.exchange.new.seat.me c.exchange-2.new.seat.me c.compare_exchange-self.new.seat.me _ (with_value c.unwrap-request.result c.serve.new.request) did.0 did.1 c.args.self.now.counted e back did.3 c.compare_exchange-self.ensures.2 in
+    let f = answered_view step was.0 c.exchange-2.new.seat.me.0 c.compare_exchange-self.new.seat.me.0 c.split_seat-seat.new.seat.me.0 did.0 did.1 e put.0 (ap (λ m. m.0) c.split_seat-seat.ensures.2) in
     record {
-      driver = driver_after g.D.Machine.step c.args.self.now.seat.me.0 c.split_seat-seat.new.seat.me.0 c.args.self.now.machine c.serve.new.machine did.0 did.1 k did.4 f;
-      counted = ap (λ (j : ℕ). j + 1) c.args.self.now.counted ∙ (sym (length-append c.args.self.now.seat.me.0.known (entry did.0 did.1 ∷ [])) ∙ sym (ap length (ap (λ z. z.known) f)));
+      driver = driver_after step was.0 c.split_seat-seat.new.seat.me.0 c.args.self.now.machine c.serve.new.machine did.0 did.1 c.args.self.now.driver did.4 f;
+      counted = ap (λ (j : ℕ). j + 1) c.args.self.now.counted ∙ (sym (length-append was.0.known (entry did.0 did.1 ∷ [])) ∙ sym (ap length (ap (λ z. z.known) f)));
       short = (let low : c.args.self.now.count < 4096 = search rules in omega arith);
     }
 
 pub returns-clause-some : goal.returns-clause-some
-returns-clause-some g c = let k = c.args.self.now.driver in let hit = c.compare_exchange.ensures.2.0 (search rules) in let u = c.unwrap-request.ensures in let q = c.exchange.ensures in let did = c.serve.ensures in
-    let got = same_head _ _ _ _ _ _ _ q.2 hit.4 in let is = some_same _ _ (sym u ∙ got) in
-    let cmd = asked_same {R = g.row.R.Denot} hit.1 did.0 (sym hit.2 ∙ (ap box_value (sym is) ∙ (sym c.deref_mut.ensures.value ∙ did.2))) in let h = c.exchange-2.ensures.3 in
-    let e = taken_view g.D.Machine.step c.args.self.now.seat.me.0 c.compare_exchange.new.seat.me.0 c.exchange.new.seat.me.0 c.exchange-2.new.seat.me.0 hit.1 did.0 hit.3 (ap (λ m. m.0) q.3) (ap (λ m. m.0) h) cmd in
-    let n = c.args.self.now.counted ∙ ap length (sym (ap (λ z. z.known) e)) in
-    let put = c.compare_exchange-self.ensures.2 (with_value c.unwrap-request.result c.serve.new.request) did.0 did.1 (rest c.exchange.new.seat.me.1) (ap (λ z. z.stage) e)
-    (ap (λ m. m.1) h ∙ ap (λ (j : ℕ). (j, Some (with_value c.unwrap-request.result c.serve.new.request)) ∷ rest c.exchange.new.seat.me.1) n) did.3 in
-    let f = answered_view g.D.Machine.step c.args.self.now.seat.me.0 c.exchange-2.new.seat.me.0 c.compare_exchange-self.new.seat.me.0 c.split_seat-seat.new.seat.me.0 did.0 did.1 e put.0 (ap (λ m. m.0) c.split_seat-seat.ensures.2) in
+returns-clause-some g c =
+    let step = g.D.Machine.step in let was = c.args.self.now.seat.me in let did = c.serve.ensures in let back = c.exchange-2.ensures.3 in
+    let e = taken_served step box_value was c.compare_exchange.new.seat.me c.exchange.new.seat.me c.exchange-2.new.seat.me _ _ _ c.unwrap-request.result did.0 (c.compare_exchange.ensures.2.0 (search rules)) c.unwrap-request.ensures c.exchange.ensures.2 c.exchange.ensures.3 back (sym c.deref_mut.ensures.value ∙ did.2) in
+    let put = answer_put step box_value was c.exchange.new.seat.me c.exchange-2.new.seat.me c.compare_exchange-self.new.seat.me _ (with_value c.unwrap-request.result c.serve.new.request) did.0 did.1 c.args.self.now.counted e back did.3 c.compare_exchange-self.ensures.2 in
+    let f = answered_view step was.0 c.exchange-2.new.seat.me.0 c.compare_exchange-self.new.seat.me.0 c.split_seat-seat.new.seat.me.0 did.0 did.1 e put.0 (ap (λ m. m.0) c.split_seat-seat.ensures.2) in
     (search rules, ap (λ (j : ℕ). j + 1) c.args.self.now.counted, ap (λ m. m.0.known) c.split_seat-seat.ensures.4 ∙ sym (ap (λ m. m.0.known) c.split_seat-seat.ensures.2), (entry did.0 did.1, ap (λ z. z.known) f, did.4))
 
 pub returns-clause-same : goal.returns-clause-same
-returns-clause-same g c = let k = c.args.self.now.driver in let hit = c.compare_exchange.ensures.2.0 (search rules) in let u = c.unwrap-request.ensures in let q = c.exchange.ensures in let did = c.serve.ensures in
-    let got = same_head _ _ _ _ _ _ _ q.2 hit.4 in let is = some_same _ _ (sym u ∙ got) in
-    let cmd = asked_same {R = g.row.R.Denot} hit.1 did.0 (sym hit.2 ∙ (ap box_value (sym is) ∙ (sym c.deref_mut.ensures.value ∙ did.2))) in let h = c.exchange-2.ensures.3 in
-    let e = taken_view g.D.Machine.step c.args.self.now.seat.me.0 c.compare_exchange.new.seat.me.0 c.exchange.new.seat.me.0 c.exchange-2.new.seat.me.0 hit.1 did.0 hit.3 (ap (λ m. m.0) q.3) (ap (λ m. m.0) h) cmd in
-    let n = c.args.self.now.counted ∙ ap length (sym (ap (λ z. z.known) e)) in
-    let put = c.compare_exchange-self.ensures.2 (with_value c.unwrap-request.result c.serve.new.request) did.0 did.1 (rest c.exchange.new.seat.me.1) (ap (λ z. z.stage) e)
-    (ap (λ m. m.1) h ∙ ap (λ (j : ℕ). (j, Some (with_value c.unwrap-request.result c.serve.new.request)) ∷ rest c.exchange.new.seat.me.1) n) did.3 in
-    let f = answered_view g.D.Machine.step c.args.self.now.seat.me.0 c.exchange-2.new.seat.me.0 c.compare_exchange-self.new.seat.me.0 c.split_seat-seat.new.seat.me.0 did.0 did.1 e put.0 (ap (λ m. m.0) c.split_seat-seat.ensures.2) in
+returns-clause-same g c =
+    let step = g.D.Machine.step in let was = c.args.self.now.seat.me in let did = c.serve.ensures in let back = c.exchange-2.ensures.3 in
+    let e = taken_served step box_value was c.compare_exchange.new.seat.me c.exchange.new.seat.me c.exchange-2.new.seat.me _ _ _ c.unwrap-request.result did.0 (c.compare_exchange.ensures.2.0 (search rules)) c.unwrap-request.ensures c.exchange.ensures.2 c.exchange.ensures.3 back (sym c.deref_mut.ensures.value ∙ did.2) in
+    let put = answer_put step box_value was c.exchange.new.seat.me c.exchange-2.new.seat.me c.compare_exchange-self.new.seat.me _ (with_value c.unwrap-request.result c.serve.new.request) did.0 did.1 c.args.self.now.counted e back did.3 c.compare_exchange-self.ensures.2 in
+    let f = answered_view step was.0 c.exchange-2.new.seat.me.0 c.compare_exchange-self.new.seat.me.0 c.split_seat-seat.new.seat.me.0 did.0 did.1 e put.0 (ap (λ m. m.0) c.split_seat-seat.ensures.2) in
     (ap (λ z. z.start) f, ap (λ z. z.admitted) f, ap (λ z. z.share) f, ap (λ z. z.count) f)
 
 pub returns-clause-grows : goal.returns-clause-grows
-returns-clause-grows g c = let k = c.args.self.now.driver in let hit = c.compare_exchange.ensures.2.0 (search rules) in let u = c.unwrap-request.ensures in let q = c.exchange.ensures in let did = c.serve.ensures in
-    let got = same_head _ _ _ _ _ _ _ q.2 hit.4 in let is = some_same _ _ (sym u ∙ got) in
-    let cmd = asked_same {R = g.row.R.Denot} hit.1 did.0 (sym hit.2 ∙ (ap box_value (sym is) ∙ (sym c.deref_mut.ensures.value ∙ did.2))) in let h = c.exchange-2.ensures.3 in
-    let e = taken_view g.D.Machine.step c.args.self.now.seat.me.0 c.compare_exchange.new.seat.me.0 c.exchange.new.seat.me.0 c.exchange-2.new.seat.me.0 hit.1 did.0 hit.3 (ap (λ m. m.0) q.3) (ap (λ m. m.0) h) cmd in
-    let n = c.args.self.now.counted ∙ ap length (sym (ap (λ z. z.known) e)) in
-    let put = c.compare_exchange-self.ensures.2 (with_value c.unwrap-request.result c.serve.new.request) did.0 did.1 (rest c.exchange.new.seat.me.1) (ap (λ z. z.stage) e)
-    (ap (λ m. m.1) h ∙ ap (λ (j : ℕ). (j, Some (with_value c.unwrap-request.result c.serve.new.request)) ∷ rest c.exchange.new.seat.me.1) n) did.3 in
-    let f = answered_view g.D.Machine.step c.args.self.now.seat.me.0 c.exchange-2.new.seat.me.0 c.compare_exchange-self.new.seat.me.0 c.split_seat-seat.new.seat.me.0 did.0 did.1 e put.0 (ap (λ m. m.0) c.split_seat-seat.ensures.2) in
-    let long : length c.split_seat-seat.new.seat.me.0.known ≡ length c.args.self.now.seat.me.0.known + 1 = ap (λ z. length z.known) f ∙ length-append c.args.self.now.seat.me.0.known (entry did.0 did.1 ∷ []) in
-    (subst (λ l. Begins c.args.self.now.seat.me.0.known l) (sym (ap (λ z. z.known) f)) (begins_more c.args.self.now.seat.me.0.known (entry did.0 did.1 ∷ [])), omega arith)
+returns-clause-grows g c =
+    let step = g.D.Machine.step in let was = c.args.self.now.seat.me in let did = c.serve.ensures in let back = c.exchange-2.ensures.3 in
+    let e = taken_served step box_value was c.compare_exchange.new.seat.me c.exchange.new.seat.me c.exchange-2.new.seat.me _ _ _ c.unwrap-request.result did.0 (c.compare_exchange.ensures.2.0 (search rules)) c.unwrap-request.ensures c.exchange.ensures.2 c.exchange.ensures.3 back (sym c.deref_mut.ensures.value ∙ did.2) in
+    let put = answer_put step box_value was c.exchange.new.seat.me c.exchange-2.new.seat.me c.compare_exchange-self.new.seat.me _ (with_value c.unwrap-request.result c.serve.new.request) did.0 did.1 c.args.self.now.counted e back did.3 c.compare_exchange-self.ensures.2 in
+    let f = answered_view step was.0 c.exchange-2.new.seat.me.0 c.compare_exchange-self.new.seat.me.0 c.split_seat-seat.new.seat.me.0 did.0 did.1 e put.0 (ap (λ m. m.0) c.split_seat-seat.ensures.2) in
+    let long : length c.split_seat-seat.new.seat.me.0.known ≡ length was.0.known + 1 = ap (λ z. length z.known) f ∙ length-append was.0.known (entry did.0 did.1 ∷ []) in
+    (subst (λ l. Begins was.0.known l) (sym (ap (λ z. z.known) f)) (begins_more was.0.known (entry did.0 did.1 ∷ [])), omega arith)
