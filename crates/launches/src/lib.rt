@@ -2,10 +2,12 @@
 #![tactic(auto)]
 
 mod described;
+mod groups;
 pub mod laws;
 mod loaded;
 mod runnable;
 
 pub use described::{Described, location_of};
+pub use groups::group_count;
 pub use loaded::LoadedLaunch;
 pub use runnable::Runnable;

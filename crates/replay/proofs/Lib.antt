@@ -1,4 +1,3 @@
-pub mod Counting
 pub mod Played
 pub mod Reaching
 pub mod Showing

@@ -146,6 +146,11 @@ fails l s item c f answer tells there = (
 pub no_failure : (l : Launch) (s : State) (item : ℕ) (f : Fault) → TellsNext cause_of l s item None → Fails l s item f → ⊥
 no_failure l s item f none (d, below, acts, e) = none_some d (sym (none below) ∙ ap cause_of acts)
 
+-- a fault of an item that can do nothing more is shown where it fails so
+pub fails_shown :
+    (l : Launch) (s : State) (f g : Fault) (item : ℕ) (answer : Bool) → f ≡ g → Shows l s g ≡ Fails l s item g → Decides answer (Fails l s item f) → Decides answer (Shows l s f)
+fails_shown l s f g item answer is same h = subst (λ z. Decides answer (Shows l s z)) (sym is) (subst (Decides answer) (sym same) (subst (λ z. Decides answer (Fails l s item z)) is h))
+
 -- a number that may be there is this one
 pub same_byte : (found : Option ℕ) (byte : ℕ) (answer : Bool) → answer ≡ option_eq nat_eq found (Some byte) → Decides answer (found ≡ Some byte)
 same_byte None byte answer e = (λ h. absurd (false≢true (sym e ∙ h)), λ h. absurd (none_some byte h))

@@ -11,7 +11,7 @@ ghost use Rattle.replay_play.specs.States.{IsAt};
 ghost use Rattle.replay.specs.Nexts.{StopsAt, ReadsUnset};
 
 use crate::conflicts::{Partner, Place, ToldConflict, shows_conflict};
-use crate::nexts::{NextAccess, next_access, next_cause, next_stop};
+use crate::nexts::{NextAccess, access_of, cause_of, stop_of};
 use crate::places::{is_at, is_fault_of};
 use clmodel::access::{AccessKind, Operation};
 use clmodel::action::Stop;
@@ -30,7 +30,7 @@ fn stops_at<D: Runnable>(
     ensures same { (launch : Launch) (state : State) → IsAt D.launch launch player.old state → IsAt D.launch launch player.new state }
     ensures value { IfOk result (λ yes. (launch : Launch) (state : State) → IsAt D.launch launch player.old state → Decides yes (StopsAt launch state item told.now)) }
 {
-    match next_stop(player, item)? {
+    match player.action(item)?.and_then(stop_of) {
         Some(stop) => Ok(same_stop(&stop, told)),
         None => Ok(false),
     }
@@ -79,7 +79,7 @@ fn shows_bounds<D: Runnable>(
 ) -> Result<bool, AllocError>
     ensures { IfOk result (λ yes. (state : State) → IsAt D.launch (D.launch launch.now) player.old state → Decides yes (Shows (D.launch launch.now) state (faults.Bounds item kind location.now element))) }
 {
-    let Some(next) = next_access(player, item)? else {
+    let Some(next) = player.action(item)?.and_then(access_of) else {
         return Ok(false);
     };
     if next.element != element {
@@ -133,7 +133,7 @@ fn shows_unset<D: Runnable>(
     requires { (state : State) × IsAt D.launch (D.launch launch.now) player.old state }
     ensures { IfOk result (λ yes. (state : State) → IsAt D.launch (D.launch launch.now) player.old state → Decides yes (Shows (D.launch launch.now) state (faults.Unset item kind location.now byte))) }
 {
-    let Some(next) = next_access(player, item)? else {
+    let Some(next) = player.action(item)?.and_then(access_of) else {
         return Ok(false);
     };
     if !is_of_kind(next.operation, kind) {
@@ -155,7 +155,7 @@ fn shows_failure<D: Runnable>(
 ) -> Result<bool, AllocError>
     ensures { IfOk result (λ yes. (state : State) → IsAt D.launch (D.launch launch.now) player.old state → Decides yes (Fails (D.launch launch.now) state item fault.now)) }
 {
-    match next_cause(player, item)? {
+    match player.action(item)?.and_then(cause_of) {
         Some(cause) => is_fault_of(launch, item, cause, fault),
         None => Ok(false),
     }
@@ -216,11 +216,11 @@ pub fn shows<D: Runnable>(
             location,
             byte,
         } => shows_unset(launch, player, *item, *kind, location, *byte),
-        Fault::PrivateBounds { item, .. } => shows_failure(launch, player, *item, fault),
-        Fault::UnsetVariable { item, .. } => shows_failure(launch, player, *item, fault),
-        Fault::UnsetElement { item, .. } => shows_failure(launch, player, *item, fault),
-        Fault::DivideByZero { item } => shows_failure(launch, player, *item, fault),
-        Fault::DivideOverflow { item } => shows_failure(launch, player, *item, fault),
-        Fault::Budget { item } => shows_failure(launch, player, *item, fault),
+        Fault::PrivateBounds { item, .. }
+        | Fault::UnsetVariable { item, .. }
+        | Fault::UnsetElement { item, .. }
+        | Fault::DivideByZero { item }
+        | Fault::DivideOverflow { item }
+        | Fault::Budget { item } => shows_failure(launch, player, *item, fault),
     }
 }

@@ -13,21 +13,19 @@ ghost use Rattle.spaces_base.specs.Buffers.{bytes_in};
 
 mod buffers;
 mod conflicts;
-mod counts;
 mod events;
 mod faults;
 mod nexts;
 mod places;
 
 use crate::buffers::copies;
-use crate::counts::group_count;
 use crate::events::play_schedule;
 use crate::faults::shows;
 use clmodel::fault::Fault;
 use clmodel::schedule::Schedule;
 use item_step::Launch;
-use launches::LoadedLaunch;
 use launches::laws::setups_are_runnable;
+use launches::{LoadedLaunch, group_count};
 use replay_play::Player;
 pub use replay_text::{ReadFault, read, write};
 use spaces_base::Buffers;

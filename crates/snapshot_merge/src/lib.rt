@@ -12,6 +12,7 @@ mod run;
 mod words;
 
 pub use joined_groups::JoinedGroups;
+pub use launches::group_count;
 pub use merging::merge;
 pub use rounds::{RoundEnd, join_round, joined_groups_conclude};
-pub use run::{group_count, run_launch};
+pub use run::run_launch;

@@ -11,11 +11,10 @@ ghost use Rattle.snapshot_merge.specs.Rounds.{CameOfRound};
 
 use crate::joined_groups::{GroupPlace, JoinEnd, JoinedGroups};
 use crate::laws::laws;
-use crate::run::group_count;
 use clmodel::outcome::Outcome;
 use group_run::GroupResult;
 use item_step::Launch;
-use launches::LoadedLaunch;
+use launches::{LoadedLaunch, group_count};
 use shadow_list::AccessLog;
 use spaces::Overlay;
 use spaces_base::Buffers;

@@ -1,8 +1,9 @@
-use Rattle.std.proofs.Common.{rules, to_z, of_z, w64, ◌≡◌, ◌∙◌, ap, sym, subst}
+use Rattle.std.proofs.Common.{rules, to_z, of_z, w64, ◌≡◌, ◌∙◌, inl, inr, refl, ap, sym, subst}
 use Rattle.std.specs.Bool.{Decides}
 use Rattle.std.proofs.lemmas.Result.{IfOk-weaker}
-use Rattle.clmodel.specs.Law.{Fails, Shows}
+use Rattle.clmodel.specs.Law.{Shows}
 use Rattle.clmodel.specs.declared.fault.Fault.TheVariants as fault
+use Rattle.replay.proofs.Showing.{fails_shown}
 use Rattle.replay.proofs.faults.shows.Goals as goal
 
 pub returns-in-Conflict : goal.returns-in-Conflict
@@ -32,41 +33,15 @@ returns-in-Bounds g c =
 pub returns-in-PrivateBounds : goal.returns-in-PrivateBounds
 returns-in-PrivateBounds g c =
     let l = g.D.Described.launch c.args.launch.now in
+    let f = c.args.fault.now in
     IfOk-weaker c.shows_failure.result _ _
-    (λ answer h. λ s at. subst (λ f. Decides answer (Shows l s f)) (sym c.in-PrivateBounds.is) (subst (λ f. Decides answer (Fails l s c.in-PrivateBounds.item f)) c.in-PrivateBounds.is (h s at)))
+    (λ answer h. λ s at.
+    elim c.in-PrivateBounds.is [
+      | inl w ↦ fails_shown l s f _ _ answer w.2 refl (h s at)
+      | inr (inl w) ↦ fails_shown l s f _ _ answer w.1 refl (h s at)
+      | inr (inr (inl w)) ↦ fails_shown l s f _ _ answer w.2 refl (h s at)
+      | inr (inr (inr (inl w))) ↦ fails_shown l s f _ _ answer w refl (h s at)
+      | inr (inr (inr (inr (inl w)))) ↦ fails_shown l s f _ _ answer w refl (h s at)
+      | inr (inr (inr (inr (inr w)))) ↦ fails_shown l s f _ _ answer w refl (h s at)
+    ])
     c.shows_failure.ensures
-
-pub returns-in-UnsetVariable : goal.returns-in-UnsetVariable
-returns-in-UnsetVariable g c =
-    let l = g.D.Described.launch c.args.launch.now in
-    IfOk-weaker c.shows_failure-in-UnsetVariable.result _ _
-    (λ answer h. λ s at. subst (λ f. Decides answer (Shows l s f)) (sym c.in-UnsetVariable.is) (subst (λ f. Decides answer (Fails l s c.in-UnsetVariable.item f)) c.in-UnsetVariable.is (h s at)))
-    c.shows_failure-in-UnsetVariable.ensures
-
-pub returns-in-UnsetElement : goal.returns-in-UnsetElement
-returns-in-UnsetElement g c =
-    let l = g.D.Described.launch c.args.launch.now in
-    IfOk-weaker c.shows_failure-in-UnsetElement.result _ _
-    (λ answer h. λ s at. subst (λ f. Decides answer (Shows l s f)) (sym c.in-UnsetElement.is) (subst (λ f. Decides answer (Fails l s c.in-UnsetElement.item f)) c.in-UnsetElement.is (h s at)))
-    c.shows_failure-in-UnsetElement.ensures
-
-pub returns-in-DivideByZero : goal.returns-in-DivideByZero
-returns-in-DivideByZero g c =
-    let l = g.D.Described.launch c.args.launch.now in
-    IfOk-weaker c.shows_failure-in-DivideByZero.result _ _
-    (λ answer h. λ s at. subst (λ f. Decides answer (Shows l s f)) (sym c.in-DivideByZero.is) (subst (λ f. Decides answer (Fails l s c.in-DivideByZero.item f)) c.in-DivideByZero.is (h s at)))
-    c.shows_failure-in-DivideByZero.ensures
-
-pub returns-in-DivideOverflow : goal.returns-in-DivideOverflow
-returns-in-DivideOverflow g c =
-    let l = g.D.Described.launch c.args.launch.now in
-    IfOk-weaker c.shows_failure-in-DivideOverflow.result _ _
-    (λ answer h. λ s at. subst (λ f. Decides answer (Shows l s f)) (sym c.in-DivideOverflow.is) (subst (λ f. Decides answer (Fails l s c.in-DivideOverflow.item f)) c.in-DivideOverflow.is (h s at)))
-    c.shows_failure-in-DivideOverflow.ensures
-
-pub returns-in-Budget : goal.returns-in-Budget
-returns-in-Budget g c =
-    let l = g.D.Described.launch c.args.launch.now in
-    IfOk-weaker c.shows_failure-in-Budget.result _ _
-    (λ answer h. λ s at. subst (λ f. Decides answer (Shows l s f)) (sym c.in-Budget.is) (subst (λ f. Decides answer (Fails l s c.in-Budget.item f)) c.in-Budget.is (h s at)))
-    c.shows_failure-in-Budget.ensures

@@ -1,5 +1,5 @@
 use Rattle.std.proofs.Common.{length}
-use Rattle.snapshot_merge.proofs.run.+product.Given as goal
+use Rattle.launches.proofs.groups.+product.Given as goal
 
 abbrev pub decreases-product : goal.decreases-product
 decreases-product l = length l.sizes.now
