@@ -105,13 +105,8 @@ pub fn fetched(op: FetchOp, x: u32, operand: u32) -> u32
     match op {
         FetchOp::Class(class) => combined(class, x, operand),
         FetchOp::Exchange => operand,
-        FetchOp::CompareExchange(expected) => {
-            if x == expected {
-                operand
-            } else {
-                x
-            }
-        }
+        FetchOp::CompareExchange(expected) if x == expected => operand,
+        FetchOp::CompareExchange(_) => x,
     }
 }
 
