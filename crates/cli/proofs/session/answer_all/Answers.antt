@@ -23,7 +23,7 @@ loop-command-preserved g c = record {
   split = c.loop-command.invariant.split ∙ (ap (λ l. c.loop-command.yielded ++ l) c.in-Some.ensures.steps.0 ∙ sym (append_assoc c.loop-command.yielded (c.in-Some.command ∷ []) (into_iter_items c.next.new.self)));
   counts = c.ask.ensures.counts ∙ (ap (λ n. n + 1) c.loop-command.invariant.counts ∙ sym (length-append c.loop-command.yielded (c.in-Some.command ∷ [])));
   answered = λ budget first. answered_more c.in-Some.command (c.loop-command.invariant.answered budget first)
-    (let a = c.ask.ensures.answered in let w = c.in_ok-end.ensures.ok a.0 a.1 in record { answer = a.0; step = a.2; wrote = w.0; counts = w.1 });
+      (let a = c.ask.ensures.answered in let w = c.in_ok-end.ensures.ok a.0 a.1 in record { answer = a.0; step = a.2; wrote = w.0; counts = w.1 });
 }
 
 pub returns-in_err-end-clause-err : goal.returns-in_err-end-clause-err
