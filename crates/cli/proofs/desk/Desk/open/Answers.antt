@@ -8,12 +8,12 @@ at_last : {A : Type 0} (xs : List A) (x : A) → get_elem? (xs ++ x ∷ []) (len
 at_last [] x = refl
 at_last (y ∷ ys) x = at_last ys x
 
-pub returns-clause-one : goal.returns-clause-one
-returns-clause-one c = let rest = c.pop.new.self.items in let items = c.pop.ensures.items ∙ ap (λ o. rest ++ option_to_list o) c.unwrap-client.ensures in let opened = c.in_ok-queue.ensures in
+pub invariant_of-result-clause-one : goal.invariant_of-result-clause-one
+invariant_of-result-clause-one c = let rest = c.pop.new.self.items in let items = c.pop.ensures.items ∙ ap (λ o. rest ++ option_to_list o) c.unwrap-client.ensures in let opened = c.in_ok-queue.ensures in
     let guest = opened.clients.1 (length rest) c.unwrap-client.result (ap (λ l. get_elem? l (length rest)) items ∙ at_last rest c.unwrap-client.result) in (guest.0, opened.driver.0)
 
-pub returns-clause-only : goal.returns-clause-only
-returns-clause-only c = let rest = c.pop.new.self.items in let items = c.pop.ensures.items ∙ ap (λ o. rest ++ option_to_list o) c.unwrap-client.ensures in let opened = c.in_ok-queue.ensures in
+pub invariant_of-result-clause-only : goal.invariant_of-result-clause-only
+invariant_of-result-clause-only c = let rest = c.pop.new.self.items in let items = c.pop.ensures.items ∙ ap (λ o. rest ++ option_to_list o) c.unwrap-client.ensures in let opened = c.in_ok-queue.ensures in
     let guest = (opened.clients.1 (length rest) c.unwrap-client.result (ap (λ l. get_elem? l (length rest)) items ∙ at_last rest c.unwrap-client.result)).1 in record {
       admitted = opened.driver.4;
       share = opened.driver.5;
