@@ -48,6 +48,12 @@ def sizes():
 def scripts():
     yield dict(title="4,096 commands, each refused", text="read a 0 1\n" * 4096, output="refused 2 NoSuchName\n" * 4096, status=2)
     yield dict(title="4,097 commands", text="read a 0 4\n" * 4097, output="", error="clsim: line 4097: bad line\n", status=2)
+    # two groups each change an int of their own
+    kernel = "__kernel void f(__global int *a) { a[get_global_id(0)]++; }"
+    head = f"buffer a 8\nprogram p 1\n{kernel}\nkernel k p f\narg k 0 buffer a\n"
+    text = head + "launch k 2 1\nread a 0 8\n" * 2046
+    reads = "".join(f"clean\ndata {(number.to_bytes(4, 'little') * 2).hex()}\n" for number in range(1, 2047))
+    yield dict(title="4,096 commands, 2,046 of them launches", text=text, output="ok\n" * 4 + reads)
     buffers = "".join(f"buffer b{number} 1\n" for number in range(65))
     yield dict(title="65 buffers", text=buffers, output="ok\n" * 64 + "refused 5 TooManyBuffers\n", status=2)
 

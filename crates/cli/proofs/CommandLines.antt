@@ -7,27 +7,27 @@ use Rattle.clap.specs.declared.parser.matches.ArgMatches.{ArgMatches}
 use Rattle.clap.specs.declared.parser.matches.SubCommand.{SubCommand}
 use Rattle.clap.specs.declared.parser.matches.ArgMatches.TheViews.{out-ArgMatches, out-SubCommand}
 use Rattle.cli.specs.declared.command_line.Invocation.{Invocation}
-use Rattle.cli.specs.CommandLine.{IsBudget, IsRun, IsCheck, IsDump, IsReplay, Holds}
+use Rattle.cli.specs.CommandLine.{IsNumber, IsRun, IsCheck, IsDump, IsReplay, Holds}
 
 -- no option was read where it isn't there
-pub no_option : {E : Type 0} (G : List ℕ → Result ℕ E → Type 0) (o : Option Text) (read : Option ℕ) → read ≡ None
-    → ((t : Text) → o ≡ Some t → TriesOne G t (Ok read)) → IsBudget o 100000
-no_option G None read is reads = refl
-no_option G (Some t) None is reads = absurd (reads t refl)
-no_option G (Some t) (Some n) is reads = cc
+pub no_option : {E : Type 0} (absent most : ℕ) (G : List ℕ → Result ℕ E → Type 0) (o : Option Text) (read : Option ℕ) → read ≡ None
+    → ((t : Text) → o ≡ Some t → TriesOne G t (Ok read)) → IsNumber absent most o absent
+no_option absent most G None read is reads = refl
+no_option absent most G (Some t) None is reads = absurd (reads t refl)
+no_option absent most G (Some t) (Some n) is reads = cc
 
 -- the number that was read is the option's
-pub the_option : {E : Type 0} (G : List ℕ → Result ℕ E → Type 0) (o : Option Text) (n : ℕ) (read : Option ℕ) → read ≡ Some n
+pub the_option : {E : Type 0} (absent most : ℕ) (G : List ℕ → Result ℕ E → Type 0) (o : Option Text) (n : ℕ) (read : Option ℕ) → read ≡ Some n
     → (o ≡ None → ◌≡◌ {A = Result (Option ℕ) E} (Ok read) (Ok None)) → ((t : Text) → o ≡ Some t → TriesOne G t (Ok read))
-    → ((t : Text) (r : Result ℕ E) → G t r → ParsesUnsigned 32 10 t r) → 1 ≤ n → n ≤ 1000000 → IsBudget o n
-the_option G o n None is none reads only least most = cc
-the_option G None n (Some k) is none reads only least most =
+    → ((t : Text) (r : Result ℕ E) → G t r → ParsesUnsigned 32 10 t r) → 1 ≤ n → n ≤ most → IsNumber absent most o n
+the_option absent most G o n None is none reads only least greatest = cc
+the_option absent most G None n (Some k) is none reads only least greatest =
     let bad = none refl in
     cc
-the_option G (Some t) n (Some k) is none reads only least most =
+the_option absent most G (Some t) n (Some k) is none reads only least greatest =
     let same : n ≡ k = cc in
     let parsed = only t (Ok k) (reads t refl) in
-    (parsed.0.0, same ∙ parsed.1, least, most)
+    (parsed.0.0, same ∙ parsed.1, least, greatest)
 
 -- the name and the matches of a subcommand are those of its rows
 rows_named : (m : ArgMatches) (name : Text) (rows : List Row) → subcommand_name_of m ≡ Some name → option_map (λ p. p.1) (subcommand_rows_of m) ≡ Some rows

@@ -9,8 +9,22 @@ use Rattle.device_store.specs.declared.command.Reply.{Reply}
 use Rattle.cli.specs.declared.session.RunEnd.{RunEnd}
 use Rattle.ends.specs.Sink.{Sink, Wrote, Stopped}
 use Rattle.simfile.specs.Lines.{line, lines}
-use Rattle.cli.specs.Session.{Plays, one_end, end_of, AnswersOne, BreaksOne, Answered, Broken}
+use Rattle.cli.specs.Session.{Plays, one_end, end_of, Answered, Broken}
 use Rattle.ends.proofs.Puts.{wrote_none, wrote_then, stopped_then}
+
+-- a command was answered: the machine made a step, and the reply's line was written
+pub record AnswersOne (old : Machine) (command : Command) (new : Machine) (before after : Sink) (end next : RunEnd) : Type 0 where
+  pub answer : Reply
+  pub step : Step old command answer new
+  pub wrote : Wrote before after (line answer)
+  pub counts : next ≡ one_end answer end
+
+-- a write failed at the answer to a command
+pub record BreaksOne (old : Machine) (command : Command) (before after : Sink) : Type 0 where
+  pub answer : Reply
+  pub last : Machine
+  pub step : Step old command answer last
+  pub stopped : Stopped before after (line answer)
 
 -- the commands so far were answered
 pub record HasAnswered (budget : ℕ) (done : List Command) (now : Machine) (old new : Sink) (end : RunEnd) : Type 0 where

@@ -11,6 +11,14 @@ use Rattle.cli.specs.declared.command_line.Invocation.TheVariants as invocation
 abbrev pub file : Rule
 file = record (new_rule (codes "FILE")) { required = true }
 
+-- `--workers N`, a number from 1 to 16
+abbrev pub workers : Rule
+workers = record (new_rule (codes "workers")) {
+  long = Some (codes "workers");
+  value_names = 1;
+  parser = Some (parser.Unsigned 1 16);
+}
+
 -- `--budget N`, a number from 1 to 1,000,000
 abbrev pub budget : Rule
 budget = record (new_rule (codes "budget")) {
@@ -20,7 +28,7 @@ budget = record (new_rule (codes "budget")) {
 }
 
 abbrev pub run_form : App
-run_form = with_rule (with_rule (new_app (codes "run")) file) budget
+run_form = with_rule (with_rule (with_rule (new_app (codes "run")) file) workers) budget
 
 abbrev pub check_form : App
 check_form = with_rule (new_app (codes "check")) file
@@ -43,26 +51,32 @@ schedule = record (new_rule (codes "SCHEDULE")) { required = true }
 abbrev pub replay_form : App
 replay_form = with_rule (with_rule (new_app (codes "replay")) script) schedule
 
--- `clsim run FILE [--budget N]`
+-- `clsim run FILE [--workers N] [--budget N]`
 abbrev pub runs : App
 runs = with_subcommand (on_top (λ top. record top { subcommand_required = true }) (new_app (codes "clsim"))) run_form.top
 
--- `clsim run FILE [--budget N]`, `clsim check FILE`, `clsim dump FILE KERNEL` or `clsim replay SCRIPT SCHEDULE`
+-- `clsim run FILE [--workers N] [--budget N]`, `clsim check FILE`, `clsim dump FILE KERNEL` or `clsim replay SCRIPT SCHEDULE`
 abbrev pub program : App
 program = with_subcommand (with_subcommand (with_subcommand runs check_form.top) dump_form.top) replay_form.top
 
+-- the number of an option, from 1 to the most, or what it is where the option isn't there
+abbrev pub IsNumber : ℕ → ℕ → Option Text → ℕ → Type 0
+IsNumber absent most None n = n ≡ absent
+IsNumber absent most (Some text) n = IsNumeral 10 (without_leading_plus text)
+    × (n ≡ digits_value 10 (without_leading_plus text)) × (1 ≤ n) × (n ≤ most)
+
+-- the number of `--workers`, or 1 where it isn't there
+abbrev pub GivesWorkers : List Row → ℕ → Type 0
+GivesWorkers rows n = IsNumber 1 16 (one_of (codes "workers") rows) n
+
 -- the number of `--budget`, or 100,000 where it isn't there
-abbrev pub IsBudget : Option Text → ℕ → Type 0
-IsBudget None n = n ≡ 100000
-IsBudget (Some text) n = IsNumeral 10 (without_leading_plus text)
-    × (n ≡ digits_value 10 (without_leading_plus text)) × (1 ≤ n) × (n ≤ 1000000)
-
 abbrev pub GivesBudget : List Row → ℕ → Type 0
-GivesBudget rows n = IsBudget (one_of (codes "budget") rows) n
+GivesBudget rows n = IsNumber 100000 1000000 (one_of (codes "budget") rows) n
 
--- a run of the file of these matches, under their budget
+-- a run of the file of these matches, by their workers and under their budget
 abbrev pub IsRun : List Row → Invocation → Type 0
-IsRun rows (invocation.Run path options) = (first_of (codes "FILE") rows ≡ Some path.now) × GivesBudget rows options.budget
+IsRun rows (invocation.Run path options) =
+    (first_of (codes "FILE") rows ≡ Some path.now) × GivesWorkers rows options.workers × GivesBudget rows options.budget
 IsRun rows (invocation.Check path) = ⊥
 IsRun rows (invocation.Dump path name) = ⊥
 IsRun rows (invocation.Replay script schedule) = ⊥

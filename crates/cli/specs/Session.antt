@@ -52,6 +52,17 @@ pub record Broken (budget : ℕ) (commands : List Command) (old new : Sink) : Ty
   pub plays : Plays (opening budget) done replies last
   pub stopped : Stopped old new (lines replies)
 
+-- why the commands weren't answered, and what was written
+abbrev pub Unanswered : ℕ → List Command → Sink → Sink → RunFault → Type 0
+Unanswered budget commands old new (fault.Read by) = ⊥
+Unanswered budget commands old new (fault.BadLine n) = ⊥
+Unanswered budget commands old new fault.OutOfMemory = new ≡ old
+Unanswered budget commands old new fault.Write = Broken budget commands old new
+Unanswered budget commands old new fault.NoSuchKernel = ⊥
+Unanswered budget commands old new fault.BadSchedule = ⊥
+Unanswered budget commands old new (fault.NotALaunch ticket) = ⊥
+Unanswered budget commands old new (fault.CommandRefused ticket) = ⊥
+
 -- the bytes are a script, and each command was answered
 pub record Ran (rest : Option (List ℕ)) (budget : ℕ) (old new : Sink) (end : RunEnd) : Type 0 where
   pub bytes : List ℕ
@@ -91,17 +102,3 @@ Failed rest failures failures' budget old new (fault.CommandRefused ticket) = �
 abbrev pub status_of : Result RunEnd RunFault → ℕ
 status_of (Ok end) = if end.refused then 2 else (if end.faulted then 1 else 0)
 status_of (Err fault) = 2
-
--- a command was answered: the machine made a step, and the reply's line was written
-pub record AnswersOne (old : Machine) (command : Command) (new : Machine) (before after : Sink) (end next : RunEnd) : Type 0 where
-  pub answer : Reply
-  pub step : Step old command answer new
-  pub wrote : Wrote before after (line answer)
-  pub counts : next ≡ one_end answer end
-
--- a write failed at the answer to a command
-pub record BreaksOne (old : Machine) (command : Command) (before after : Sink) : Type 0 where
-  pub answer : Reply
-  pub last : Machine
-  pub step : Step old command answer last
-  pub stopped : Stopped before after (line answer)

@@ -5,7 +5,7 @@ ghost use Rattle.std.specs.Prelude.{◌≡◌, ◌≤◌, false, map, Ok, IfOk, 
 ghost use Rattle.clap.specs.Words.{AddsSubcommand, app_of, new_app, rule_of, found_of, rows_of, subcommand_rows_of};
 ghost use Rattle.clap.specs.declared.builder.command.Command.{Command};
 ghost use Rattle.clap.specs.declared.builder.command.Command.TheViews.{out-Command};
-ghost use Rattle.cli.specs.CommandLine.{file, budget, kernel, script, schedule, run_form, check_form, dump_form, replay_form, runs, program, GivesBudget, IsRun, IsCheck, IsDump, IsReplay, Holds, AsksFor};
+ghost use Rattle.cli.specs.CommandLine.{file, workers, budget, kernel, script, schedule, run_form, check_form, dump_form, replay_form, runs, program, GivesWorkers, GivesBudget, IsRun, IsCheck, IsDump, IsReplay, Holds, AsksFor};
 
 use crate::session::Options;
 use clap::builder::ValueParser;
@@ -29,12 +29,27 @@ pub enum Invocation<'a> {
 /// The greatest budget of a run.
 const MAX_BUDGET: u32 = 1_000_000;
 
+/// The most workers of a run.
+const MAX_WORKERS: u32 = 16;
+
 /// The argument `FILE`, and what help says of it.
 fn file<'a>(alloc: Global, help: &'a str) -> Arg<'a>
     ensures rule { rule_of result ≡ file }
     ensures local { result.global ≡ false }
 {
     Arg::new(alloc, "FILE").required(true).help(help)
+}
+
+/// The option `--workers N`.
+fn workers<'a>(alloc: Global) -> Arg<'a>
+    ensures rule { rule_of result ≡ workers }
+    ensures local { result.global ≡ false }
+{
+    Arg::new(alloc, "workers")
+        .long("workers")
+        .value_name("N")
+        .value_parser(ValueParser::unsigned(1, MAX_WORKERS as u64))
+        .help("How many workers run the groups of a launch")
 }
 
 /// The option `--budget N`.
@@ -85,7 +100,7 @@ fn named<'a>(alloc: Global, name: &'a str, about: &'a str) -> Command<'a>
     Command::new(alloc, name).about(about)
 }
 
-/// The form `run FILE [--budget N]`.
+/// The form `run FILE [--workers N] [--budget N]`.
 fn run_form<'a>(alloc: Global) -> Result<Command<'a>, AllocError>
     ensures form { IfOk result (λ form. app_of form ≡ run_form) }
     ensures local { IfOk result (λ form. (out-Command form).has_globals ≡ false) }
@@ -94,7 +109,8 @@ fn run_form<'a>(alloc: Global) -> Result<Command<'a>, AllocError>
         alloc,
         "The script",
     ))?;
-    form.arg(budget(alloc))
+    let with_workers = form.arg(workers(alloc))?;
+    with_workers.arg(budget(alloc))
 }
 
 /// The form `check FILE`.
@@ -148,15 +164,28 @@ fn budget_of(run: &ArgMatches<'_>) -> Option<u32>
     }
 }
 
+/// The number of workers of a run, the default where the option isn't there, and `None` where it is none.
+fn workers_of(run: &ArgMatches<'_>) -> Option<u32>
+    ensures given { IfSome result (λ n. GivesWorkers (rows_of (found_of run.now)) n) }
+    ensures limited { IfSome result (λ n. (1 ≤ n) × (n ≤ 16)) }
+{
+    match run.try_get_one::<u32>("workers") {
+        Ok(None) => Some(Options::DEFAULT_WORKERS),
+        Ok(Some(workers)) if workers >= 1 && workers <= MAX_WORKERS => Some(workers),
+        Ok(Some(_)) | Err(_) => None,
+    }
+}
+
 /// What the matches of `run` ask for.
 fn run_of<'a>(run: &ArgMatches<'a>) -> Option<Invocation<'a>>
     ensures { IfSome result (λ asked. IsRun (rows_of (found_of run.now)) asked) }
 {
     let file = run.get_str("FILE")?;
+    let workers = workers_of(run)?;
     let budget = budget_of(run)?;
     Some(Invocation::Run {
         file,
-        options: Options { budget },
+        options: Options { budget, workers },
     })
 }
 
@@ -255,8 +284,8 @@ fn command_by<'a>(forms: &mut Command<'a>, words: &'a [&'a str]) -> Result<Invoc
     }
 }
 
-/// Reads the words of a command line, the program's name first. The forms are `clsim run FILE [--budget N]`, `clsim check FILE`,
-/// `clsim dump FILE KERNEL` and `clsim replay SCRIPT SCHEDULE`.
+/// Reads the words of a command line, the program's name first. The forms are `clsim run FILE [--workers N] [--budget N]`,
+/// `clsim check FILE`, `clsim dump FILE KERNEL` and `clsim replay SCRIPT SCHEDULE`.
 pub fn command<'a>(alloc: Global, words: &'a [&'a str]) -> Result<Invocation<'a>, Error>
     ensures { IfOk result (λ asked. AsksFor (map (λ word. word.now) words.entry.now) asked) }
 {

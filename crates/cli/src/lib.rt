@@ -3,6 +3,7 @@
 
 pub mod checking;
 pub mod command_line;
+mod desk;
 pub mod dumping;
 pub mod replaying;
 pub mod session;

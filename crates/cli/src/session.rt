@@ -1,18 +1,24 @@
 //! A whole run: a script in, its replies out.
 #![tactic(auto)]
 
-ghost use Rattle.std.specs.Prelude.{◌≡◌, ◌≤◌, ℕ, IfOk, IfErr, OnErr};
+ghost use Rattle.std.specs.Prelude.{◌≡◌, ◌≤◌, ℕ, IfOk, IfErr, OnErr, length};
 ghost use Rattle.device.specs.Machine.{machine_of, opening};
+ghost use Rattle.device_store.specs.declared.command.Reply.{Reply as ReplyOf};
+ghost use Rattle.host_queue.specs.declared.view.Request.TheVariants.{Answered as AnsweredBy};
 ghost use Rattle.ends.specs.Sink.{Wrote, Stopped};
 ghost use Rattle.simfile.specs.Lines.{line};
-ghost use Rattle.cli.specs.Session.{one_end, AnswersOne, BreaksOne, Answered, Broken, Ran, Failed, status_of};
+ghost use Rattle.cli.specs.Session.{one_end, Answered, Broken, Unanswered, Ran, Failed, status_of};
 
-use device::Device;
+use crate::desk::Desk;
 use device_store::command::{Command, Reply};
 use ends::{Read, ReadFault, Write, WriteFailed};
+use host_queue::Request;
 use simfile::replies::write_reply;
 use simfile::script::{ScriptFault, read_script};
 use std::alloc::Global;
+use std::marker::Sync;
+use std::sync::Wait;
+use std::thread::Threads;
 use thiserror::Error;
 
 /// What is given to a run beside its script.
@@ -20,20 +26,27 @@ use thiserror::Error;
 pub struct Options {
     /// The most ticks of a work-item of a launch, from 1 to 1,000,000
     pub budget: u32,
+    /// How many workers run a launch, from 1 to 16. No reply depends on it
+    pub workers: u32,
     pub ghost limited: { budget ≤ 1000000 },
+    pub ghost counted: { (1 ≤ workers) × (workers ≤ 16) },
 }
 
 impl Options {
     /// The budget where none is given.
     pub const DEFAULT_BUDGET: u32 = 100_000;
+
+    /// The number of workers where none is given.
+    pub const DEFAULT_WORKERS: u32 = 1;
 }
 
 impl Default for Options {
-    ghost is_default = { λ options. options.budget ≡ 100000 };
+    ghost is_default = { λ options. (options.budget ≡ 100000) × (options.workers ≡ 1) };
 
     fn default() -> Self {
         Options {
             budget: Self::DEFAULT_BUDGET,
+            workers: Self::DEFAULT_WORKERS,
         }
     }
 }
@@ -110,58 +123,76 @@ fn write_answer<W: Write>(reply: &Reply, end: RunEnd, writer: &mut W) -> Result<
     Ok(one_end(reply, end))
 }
 
-/// Performs a command and writes its reply's line.
-fn answer<W: Write>(
-    device: &mut Device,
-    command: Command,
+/// Writes the line of the reply in a box.
+fn write_answered<W: Write>(
+    request: &Request<Command, Reply>,
     end: RunEnd,
     writer: &mut W,
 ) -> Result<RunEnd, WriteFailed>
-    ensures ok { IfOk result
-        (λ next. AnswersOne (machine_of device.old) command (machine_of device.new) (W.sink writer.old) (W.sink writer.new) end next) }
-    ensures err { OnErr result (BreaksOne (machine_of device.old) command (W.sink writer.old) (W.sink writer.new)) }
+    requires answered { (r : ReplyOf) × (request.now ≡ AnsweredBy r) }
+    ensures ok { (r : ReplyOf) → request.now ≡ AnsweredBy r → IfOk result (λ next. Wrote (W.sink writer.old) (W.sink writer.new) (line r) × (next ≡ one_end r end)) }
+    ensures err { (r : ReplyOf) → request.now ≡ AnsweredBy r → OnErr result (Stopped (W.sink writer.old) (W.sink writer.new) (line r)) }
 {
-    let reply = device.apply(command);
-    write_answer(&reply, end, writer)
+    match request {
+        Request::Answered(reply) => write_answer(reply, end, writer),
+        Request::Asked(_) => unreachable!(),
+    }
 }
 
-/// Performs the commands in order on a device, and writes a line for each reply.
-fn answer_all<W: Write>(
-    device: &mut Device,
+/// Performs the commands in order, all in the one box, and writes a line for each reply.
+fn answer_all<T: Threads + Wait + Sync, W: Write>(
+    rt: &T,
+    desk: &mut Desk,
+    mut request: Box<Request<Command, Reply>>,
     commands: Vec<Command>,
     writer: &mut W,
 ) -> Result<RunEnd, WriteFailed>
-    ensures ok { IfOk result (λ end. (budget : ℕ) → machine_of device.old ≡ opening budget → Answered budget commands.items (W.sink writer.old) (W.sink writer.new) end) }
-    ensures err { OnErr result ((budget : ℕ) → machine_of device.old ≡ opening budget → Broken budget commands.items (W.sink writer.old) (W.sink writer.new)) }
+    requires new { length desk.old.driver.seat.me.0.known ≡ 0 }
+    requires few { length commands.items ≤ 4096 }
+    ensures ok { IfOk result (λ end. (budget : ℕ) → machine_of desk.old.driver.machine ≡ opening budget → Answered budget commands.items (W.sink writer.old) (W.sink writer.new) end) }
+    ensures err { OnErr result ((budget : ℕ) → machine_of desk.old.driver.machine ≡ opening budget → Broken budget commands.items (W.sink writer.old) (W.sink writer.new)) }
 {
     let mut end = RunEnd {
         faulted: false,
         refused: false,
     };
     for command in commands {
-        end = answer(device, command, end, writer)?;
+        request = desk.ask(rt, request, command);
+        end = write_answered(&request, end, writer)?;
     }
     writer.flush()?;
     Ok(end)
 }
 
-/// Performs the commands in order on a new device, and writes a line for each reply.
-fn perform<W: Write>(
+/// Performs the commands in order through the queue of a new device, and writes a line for each reply. The queue and the box of all
+/// requests are made before anything is written.
+fn perform<T: Threads + Wait + Sync, W: Write>(
+    rt: &T,
     alloc: Global,
-    budget: u32,
+    options: Options,
     commands: Vec<Command>,
     writer: &mut W,
-) -> Result<RunEnd, WriteFailed>
-    requires { budget ≤ 1000000 }
-    ensures ok { IfOk result (λ end. Answered budget commands.items (W.sink writer.old) (W.sink writer.new) end) }
-    ensures err { OnErr result (Broken budget commands.items (W.sink writer.old) (W.sink writer.new)) }
+) -> Result<RunEnd, RunFault>
+    requires few { length commands.items ≤ 4096 }
+    ensures ok { IfOk result (λ end. Answered options.budget commands.items (W.sink writer.old) (W.sink writer.new) end) }
+    ensures err { IfErr result (Unanswered options.budget commands.items (W.sink writer.old) (W.sink writer.new)) }
 {
-    let mut device = Device::new(alloc, budget);
-    answer_all(&mut device, commands, writer)
+    let Ok(mut desk) = Desk::open(alloc, options) else {
+        return Err(RunFault::OutOfMemory);
+    };
+    let Ok(request) = Box::new(alloc, Request::Answered(Reply::Done)) else {
+        return Err(RunFault::OutOfMemory);
+    };
+    match answer_all(rt, &mut desk, request, commands, writer) {
+        Ok(end) => Ok(end),
+        Err(WriteFailed) => Err(RunFault::Write),
+    }
 }
 
-/// Reads a script, performs its commands on a new device and writes a line for each reply, in order and nothing else.
-pub fn run<R: Read, W: Write>(
+/// Reads a script, hands its commands to the queue of a new device, each for the next ticket, and writes a line for each reply, in order
+/// and nothing else.
+pub fn run<T: Threads + Wait + Sync, R: Read, W: Write>(
+    rt: &T,
     alloc: Global,
     reader: &mut R,
     writer: &mut W,
@@ -181,10 +212,7 @@ pub fn run<R: Read, W: Write>(
         Err(ScriptFault::BadLine(number)) => return Err(RunFault::BadLine(number)),
         Err(ScriptFault::OutOfMemory) => return Err(RunFault::OutOfMemory),
     };
-    match perform(alloc, options.budget, commands, writer) {
-        Ok(end) => Ok(end),
-        Err(WriteFailed) => Err(RunFault::Write),
-    }
+    perform(rt, alloc, options, commands, writer)
 }
 
 /// The status of a run: 2 where a command was refused or the run failed, else 1 where a launch faulted, else 0.

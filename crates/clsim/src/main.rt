@@ -15,9 +15,13 @@ use cli::command_line::{Invocation, command};
 use cli::dumping::dump_file;
 use cli::replaying::{replay_files, replay_status};
 use cli::session::{Options, Reader, RunEnd, RunFault, run, status};
+use std::env::Env;
 use std::io::{BufWriter, Printer};
+use std::marker::Sync;
 use std::process::ExitCode;
 use std::rt::Files;
+use std::sync::Wait;
+use std::thread::Threads;
 use std::{env, fs, io};
 use streams::{Input, Output};
 
@@ -36,13 +40,13 @@ fn open<'a, R: Files + Print + AllocGlobal>(
 }
 
 /// Runs the script of a file, with the replies on standard output.
-fn run_script<R: Files + Print + AllocGlobal>(
+fn run_script<R: Files + Print + AllocGlobal + Threads + Wait + Sync>(
     rt: &R,
     file: &str,
     options: Options,
 ) -> Result<RunEnd, RunFault> {
     let (mut reader, mut writer) = open(rt, file)?;
-    run(rt.alloc(), &mut reader, &mut writer, options)
+    run(rt, rt.alloc(), &mut reader, &mut writer, options)
 }
 
 /// Checks the source of a file, with the line that tells what was found on standard output.
@@ -114,7 +118,10 @@ fn end_replay(rt: &impl Eprint, outcome: Result<bool, RunFault>, script: &str, s
 }
 
 /// Does what the words of the command line ask for, and gives the status.
-fn perform<R: Files + Print + Eprint + AllocGlobal>(rt: &R, words: &[&str]) -> u8
+fn perform<R: Files + Print + Eprint + AllocGlobal + Threads + Wait + Sync>(
+    rt: &R,
+    words: &[&str],
+) -> u8
     ensures { result ≤ 2 }
 {
     match command(rt.alloc(), words) {
@@ -135,7 +142,9 @@ fn perform<R: Files + Print + Eprint + AllocGlobal>(rt: &R, words: &[&str]) -> u
 }
 
 /// Does what the command line asks for, and gives the status. No memory may be left for its words.
-fn ask(rt: &HostRuntime) -> io::Result<u8>
+fn ask<R: Env + Files + Print + Eprint + AllocGlobal + Threads + Wait + Sync>(
+    rt: &R,
+) -> io::Result<u8>
     ensures { IfOk result (λ status. status ≤ 2) }
 {
     let words: Vec<String> = env::args(rt)?.collect(rt.alloc())?;
@@ -149,7 +158,7 @@ fn ask(rt: &HostRuntime) -> io::Result<u8>
 
 /// Does what the command line asks for, and gives the status of the process: where anything is told on standard error, it is 2,
 /// whatever that takes.
-fn end(rt: &HostRuntime) -> ExitCode
+fn end<R: Env + Files + Print + Eprint + AllocGlobal + Threads + Wait + Sync>(rt: &R) -> ExitCode
     ensures { exit_status result ≤ 2 }
 {
     match ask(rt) {

@@ -2,17 +2,17 @@ use Rattle.std.proofs.Common.{rules, arith, subst, codes, Option}
 use Rattle.std.specs.Str.Parse.{ParsesUnsigned, ExplainsUnsignedError, HasUnsignedDigitsIfOk}
 use Rattle.clap.specs.Words.{Text, found_of}
 use Rattle.clap.proofs.WalkLemmas.{one_text-rows}
-use Rattle.cli.specs.CommandLine.{IsBudget}
+use Rattle.cli.specs.CommandLine.{IsNumber}
 use Rattle.cli.proofs.CommandLines.{no_option, the_option}
 use Rattle.cli.proofs.command_line.budget_of.Goals as goal
 
 pub returns-in-Ok-None-clause-given : goal.returns-in-Ok-None-clause-given
 returns-in-Ok-None-clause-given c =
-    subst (λ (o : Option Text). IsBudget o 100000) (one_text-rows (found_of c.args.run.now) (codes "budget"))
-    (no_option (λ bs r. ParsesUnsigned 32 10 bs r × ExplainsUnsignedError 10 bs r × HasUnsignedDigitsIfOk bs r) _ c.in-Ok-None.field-0 (search rules) c.in-Ok-None.ensures.value)
+    subst (λ (o : Option Text). IsNumber 100000 1000000 o 100000) (one_text-rows (found_of c.args.run.now) (codes "budget"))
+    (no_option 100000 1000000 (λ bs r. ParsesUnsigned 32 10 bs r × ExplainsUnsignedError 10 bs r × HasUnsignedDigitsIfOk bs r) _ c.in-Ok-None.field-0 (search rules) c.in-Ok-None.ensures.value)
 
 pub returns-in-Ok-Some-clause-given : goal.returns-in-Ok-Some-clause-given
 returns-in-Ok-Some-clause-given c =
-    subst (λ (o : Option Text). IsBudget o c.in-Ok-Some.budget) (one_text-rows (found_of c.args.run.now) (codes "budget"))
-    (the_option (λ bs r. ParsesUnsigned 32 10 bs r × ExplainsUnsignedError 10 bs r × HasUnsignedDigitsIfOk bs r) _ c.in-Ok-Some.budget c.in-Ok-Some.field-0 (search rules)
+    subst (λ (o : Option Text). IsNumber 100000 1000000 o c.in-Ok-Some.budget) (one_text-rows (found_of c.args.run.now) (codes "budget"))
+    (the_option 100000 1000000 (λ bs r. ParsesUnsigned 32 10 bs r × ExplainsUnsignedError 10 bs r × HasUnsignedDigitsIfOk bs r) _ c.in-Ok-Some.budget c.in-Ok-Some.field-0 (search rules)
     c.in-Ok-Some.ensures.none c.in-Ok-Some.ensures.value (λ t r g. g.0) (omega arith) (omega arith))

@@ -1,4 +1,4 @@
-use Rattle.std.proofs.Common.{◌≡◌, [], ◌∷◌, ◌++◌, refl, ap, sym, ◌∙◌, append_assoc, rules, arith, List, length}
+use Rattle.std.proofs.Common.{◌≡◌, [], ◌∷◌, ◌++◌, refl, ap, sym, ◌∙◌, append_assoc, length-append, rules, arith, ◌+◌, List, length}
 use Rattle.std.specs.Vec.Iter.{into_iter_items}
 use Rattle.std.proofs.lemmas.List.{append-nil}
 use Rattle.std.proofs.lemmas.Result.{err_from_is_err_and}
@@ -10,19 +10,28 @@ nothing_left [] h = refl
 nothing_left (x ∷ xs) h = absurd (omega (arith, h))
 
 pub loop-command-init : goal.loop-command-init
-loop-command-init g c = record { split = search rules; answered = λ budget first. answered_none budget _ _ first }
+loop-command-init g c = record { split = search rules; counts = search rules; answered = λ budget first. answered_none budget _ _ first }
+
+pub ask-request-requires-clause-room : goal.ask-request-requires-clause-room
+ask-request-requires-clause-room g c =
+    let split = c.loop-command.invariant.split ∙ ap (λ l. c.loop-command.yielded ++ l) c.in-Some.ensures.steps.0 in
+    let long : length c.args.commands.items ≡ length c.loop-command.yielded + length (c.in-Some.command ∷ into_iter_items c.next.new.self) = ap length split ∙ length-append c.loop-command.yielded (c.in-Some.command ∷ into_iter_items c.next.new.self) in
+    omega (arith, long, c.loop-command.invariant.counts, c.requires.few)
 
 pub loop-command-preserved : goal.loop-command-preserved
 loop-command-preserved g c = record {
   split = c.loop-command.invariant.split ∙ (ap (λ l. c.loop-command.yielded ++ l) c.in-Some.ensures.steps.0 ∙ sym (append_assoc c.loop-command.yielded (c.in-Some.command ∷ []) (into_iter_items c.next.new.self)));
-  answered = λ budget first. answered_more c.in-Some.command (c.loop-command.invariant.answered budget first) c.in_ok-end.ensures.ok;
+  counts = c.ask-request.ensures.counts ∙ (ap (λ n. n + 1) c.loop-command.invariant.counts ∙ sym (length-append c.loop-command.yielded (c.in-Some.command ∷ [])));
+  answered = λ budget first. answered_more c.in-Some.command (c.loop-command.invariant.answered budget first)
+      (let a = c.ask-request.ensures.answered in let w = c.in_ok-end.ensures.ok a.0 (c.deref.ensures ∙ a.1) in record { answer = a.0; step = a.2; wrote = w.0; counts = w.1 });
 }
 
 pub returns-in_err-end-clause-err : goal.returns-in_err-end-clause-err
 returns-in_err-end-clause-err g c =
     let p = err_from_is_err_and c.from_residual.result c.from_residual.ensures.1 in
     let split = c.loop-command.invariant.split ∙ ap (λ l. c.loop-command.yielded ++ l) c.in-Some.ensures.steps.0 in
-    rw p.1 (λ budget first. broken_at c.args.commands.items (into_iter_items c.next.new.self) c.in-Some.command split (c.loop-command.invariant.answered budget first) c.in_err-end.ensures.err)
+    rw p.1 (λ budget first. broken_at c.args.commands.items (into_iter_items c.next.new.self) c.in-Some.command split (c.loop-command.invariant.answered budget first)
+    (let a = c.ask-request.ensures.answered in record { answer = a.0; last = _; step = a.2; stopped = c.in_err-end.ensures.err a.0 (c.deref.ensures ∙ a.1) }))
 
 pub returns-in_err-flush-clause-err : goal.returns-in_err-flush-clause-err
 returns-in_err-flush-clause-err g c =
