@@ -16,10 +16,49 @@ use clsyntax_terms::closing::{begin_condition, begin_turns};
 use clsyntax_terms::state::{Frame, Frames, Mode, Moved, Purpose, Stack, Step, Turns, deeper};
 use std::alloc::AllocError;
 
-/// The bracket behind `for`.
-pub(crate) fn open_for(nesting: u32, at: u32, stack: Stack) -> Moved
-    ensures { Steps result (machine.go nesting (machine.Initial (suc nesting)) (machine.InInitial at ∷ opened stack)) }
+/// After `if`.
+pub(crate) fn on_after_if(nesting: u32, at: u32, stack: Stack, kind: TokenKind) -> Moved
+    ensures { Steps result (machine.on_after_if nesting at (opened stack) kind) }
 {
+    match kind {
+        TokenKind::OpenRound => stack.open(nesting, Frame::InIf { at, nesting }),
+        _ => Ok(Step::Refused),
+    }
+}
+
+/// After `while`.
+pub(crate) fn on_after_while(nesting: u32, at: u32, stack: Stack, kind: TokenKind) -> Moved
+    ensures { Steps result (machine.on_after_while nesting at (opened stack) kind) }
+{
+    match kind {
+        TokenKind::OpenRound => stack.open(nesting, Frame::InWhile { at, nesting }),
+        _ => Ok(Step::Refused),
+    }
+}
+
+/// After the `while` of a `do`.
+pub(crate) fn on_after_do(
+    nesting: u32,
+    at: u32,
+    body: Box<Statement>,
+    stack: Stack,
+    kind: TokenKind,
+) -> Moved
+    ensures { Steps result (machine.on_after_do nesting at (stmt body.value) (opened stack) kind) }
+{
+    match kind {
+        TokenKind::OpenRound => stack.open(nesting, Frame::InDo { at, nesting, body }),
+        _ => Ok(Step::Refused),
+    }
+}
+
+/// After `for`.
+pub(crate) fn on_after_for(nesting: u32, at: u32, stack: Stack, kind: TokenKind) -> Moved
+    ensures { Steps result (machine.on_after_for nesting at (opened stack) kind) }
+{
+    if !matches!(kind, TokenKind::OpenRound) {
+        return Ok(Step::Refused);
+    }
     let stack = stack.push(Frame::InInitial { at })?;
     match deeper(nesting) {
         Some(inner) => stack.go(nesting, Mode::Initial { nesting: inner }),
@@ -150,11 +189,8 @@ fn settle(before_else: bool, statement: Box<Statement>, stack: Stack) -> Result<
         Frame::ForTurns(turns) => for_of(Box::into_inner(turns), statement),
         _ => unreachable!(),
     };
-    settle(
-        before_else,
-        Box::new(alloc, whole)?,
-        Stack { alloc, frames },
-    )
+    let whole = Box::new(alloc, whole)?;
+    settle(before_else, whole, Stack { alloc, frames })
 }
 
 /// The `else` behind the statement that an `if` chooses.

@@ -196,31 +196,50 @@ fn open_head(
         .go(0, Mode::Head(HeadMode::HeadOpen { takes_size }))
 }
 
+/// After what a function returns.
+fn on_after_returning(
+    is_kernel: bool,
+    returned: Option<IntType>,
+    stack: Stack,
+    token: Token,
+) -> Moved
+    ensures { Steps result (machine.on_after_returning is_kernel returned (opened stack) token) }
+{
+    let TokenKind::Name(name) = token.kind else {
+        return Ok(Step::Refused);
+    };
+    let named = HeadMode::AfterName {
+        is_kernel,
+        result: returned,
+        at: token.at,
+        name,
+    };
+    stack.go(0, Mode::Head(named))
+}
+
+/// After `kernel`.
+fn on_after_kernel(stack: Stack, token: Token) -> Moved
+    ensures { Steps result (machine.on_after_kernel (opened stack) token) }
+{
+    let TokenKind::Void = token.kind else {
+        return Ok(Step::Refused);
+    };
+    let returning = HeadMode::AfterReturning {
+        is_kernel: true,
+        result: None,
+    };
+    stack.go(0, Mode::Head(returning))
+}
+
 /// In the head of a function.
 pub(crate) fn on_head(mode: HeadMode, stack: Stack, token: Token) -> Moved
     ensures { Steps result (machine.step_in (head_mode_of mode) (opened stack) token) }
 {
     match (mode, token.kind) {
         (HeadMode::Top, _) => on_top(stack, token),
-        (HeadMode::AfterKernel, TokenKind::Void) => {
-            stack.go(
-                0,
-                Mode::Head(HeadMode::AfterReturning {
-                    is_kernel: true,
-                    result: None,
-                }),
-            )
-        }
-        (HeadMode::AfterReturning { is_kernel, result }, TokenKind::Name(name)) => {
-            stack.go(
-                0,
-                Mode::Head(HeadMode::AfterName {
-                    is_kernel,
-                    result,
-                    at: token.at,
-                    name,
-                }),
-            )
+        (HeadMode::AfterKernel, _) => on_after_kernel(stack, token),
+        (HeadMode::AfterReturning { is_kernel, result }, _) => {
+            on_after_returning(is_kernel, result, stack, token)
         }
         (
             HeadMode::AfterName {

@@ -1,18 +1,19 @@
 //! One step of the parser.
 #![tactic(auto)]
 
-ghost use Rattle.std.specs.Prelude.{◌∷◌, suc};
-ghost use Rattle.clsyntax_terms.specs.Grammar as grammar;
+ghost use Rattle.clmodel.specs.Tree.{stmt};
 ghost use Rattle.clsyntax_terms.specs.Machine as machine;
 ghost use Rattle.clsyntax_terms.specs.Views.{opened, state_of, Steps};
 
 use crate::arrays::on_array_mode;
-use crate::control::{on_did, on_final, on_initial, open_for};
+use crate::control::{
+    on_after_do, on_after_for, on_after_if, on_after_while, on_did, on_final, on_initial,
+};
 use crate::heads::{on_head, on_type};
 use crate::statements::{
     on_aim, on_aimed, on_begin, on_begin_name, on_declared, on_item, open_call,
 };
-use clmodel::tree::Expression;
+use clmodel::tree::{Expression, Statement};
 use clsyntax_lex::token::{Token, TokenKind};
 use clsyntax_terms::closing::on_ended;
 use clsyntax_terms::expressions::{on_call_open, on_have, on_opened, on_operand, on_optional};
@@ -40,10 +41,13 @@ fn on_named(nesting: u32, at: u32, name: u32, stack: Stack, token: Token) -> Mov
     }
 }
 
-/// The bracket behind the type of a cast.
-fn on_cast_type(cast: Cast, stack: Stack) -> Moved
-    ensures { Steps result (machine.go (suc cast.nesting) (machine.Operand (suc cast.nesting)) (machine.Before cast.at (grammar.Convert cast.target) ∷ opened stack)) }
+/// After the type of a cast.
+fn on_cast_type(cast: Cast, stack: Stack, token: Token) -> Moved
+    ensures { Steps result (machine.on_cast_type cast.nesting cast.at cast.target (opened stack) token) }
 {
+    if !matches!(token.kind, TokenKind::CloseRound) {
+        return Ok(Step::Refused);
+    }
     let prefix = Prefix::Convert(cast.target);
     match deeper(cast.nesting) {
         Some(inner) => stack.want(
@@ -57,17 +61,40 @@ fn on_cast_type(cast: Cast, stack: Stack) -> Moved
     }
 }
 
-/// After `&` and a name.
-fn on_and_name(nesting: u32, at: u32, name_at: u32, name: u32, stack: Stack) -> Moved
-    ensures { Steps result (machine.go nesting (machine.AndName nesting at name_at name) (opened stack)) }
+/// After `&`.
+fn on_after_and(nesting: u32, at: u32, stack: Stack, token: Token) -> Moved
+    ensures { Steps result (machine.on_after_and nesting at (opened stack) token) }
 {
+    let TokenKind::Name(name) = token.kind else {
+        return Ok(Step::Refused);
+    };
     let address = Address {
         nesting,
         at,
-        name_at,
+        name_at: token.at,
         name,
     };
     stack.go(nesting, Mode::AndName(address))
+}
+
+/// After `&` and a name.
+fn on_and_name(address: Address, stack: Stack, token: Token) -> Moved
+    ensures { Steps result (machine.on_and_name address.nesting address.at address.name_at address.name (opened stack) token) }
+{
+    match token.kind {
+        TokenKind::OpenSquare => stack.open(address.nesting, Frame::InAddress(address)),
+        _ => Ok(Step::Refused),
+    }
+}
+
+/// After a statement that only lacks its semicolon.
+fn on_closing(nesting: u32, statement: Box<Statement>, stack: Stack, token: Token) -> Moved
+    ensures { Steps result (machine.on_closing nesting (stmt statement.value) (opened stack) token) }
+{
+    match token.kind {
+        TokenKind::Semicolon => stack.go(nesting, Mode::Did(statement)),
+        _ => Ok(Step::Refused),
+    }
 }
 
 /// What a token does.
@@ -76,46 +103,33 @@ pub(crate) fn step(alloc: Global, state: Box<State>, token: Token) -> Moved
 {
     let State { mode, frames } = Box::into_inner(state);
     let stack = Stack { alloc, frames };
-    match (mode, token.kind) {
-        (Mode::Operand { nesting }, _) => on_operand(nesting, stack, token),
-        (Mode::Have(have), _) => on_have(have, stack, token),
-        (Mode::Named { nesting, at, name }, _) => on_named(nesting, at, name, stack, token),
-        (Mode::Opened { nesting, at }, _) => on_opened(nesting, at, stack, token),
-        (Mode::CastType(cast), TokenKind::CloseRound) => on_cast_type(cast, stack),
-        (Mode::AfterAnd { nesting, at }, TokenKind::Name(name)) => {
-            on_and_name(nesting, at, token.at, name, stack)
-        }
-        (Mode::AndName(address), TokenKind::OpenSquare) => {
-            stack.open(address.nesting, Frame::InAddress(address))
-        }
-        (Mode::CallOpen { nesting }, _) => on_call_open(nesting, stack, token),
-        (Mode::Optional { nesting }, _) => on_optional(nesting, stack, token),
-        (Mode::Item { nesting }, _) => on_item(nesting, stack, token),
-        (Mode::Begin { nesting }, _) => on_begin(nesting, stack, token),
-        (Mode::Initial { nesting }, _) => on_initial(nesting, stack, token),
-        (Mode::Final { nesting }, _) => on_final(nesting, stack, token),
-        (Mode::Aim { nesting }, _) => on_aim(nesting, stack, token),
-        (Mode::BeginName(name), _) => on_begin_name(name, stack, token),
-        (Mode::Aimed(aimed), _) => on_aimed(aimed, stack, token),
-        (Mode::Ended { nesting, statement }, kind) => on_ended(nesting, statement, stack, kind),
-        (Mode::Closing { nesting, statement }, TokenKind::Semicolon) => {
-            stack.go(nesting, Mode::Did(statement))
-        }
-        (Mode::Did(statement), _) => on_did(statement, stack, token),
-        (Mode::AfterIf { nesting, at }, TokenKind::OpenRound) => {
-            stack.open(nesting, Frame::InIf { at, nesting })
-        }
-        (Mode::AfterWhile { nesting, at }, TokenKind::OpenRound) => {
-            stack.open(nesting, Frame::InWhile { at, nesting })
-        }
-        (Mode::AfterFor { nesting, at }, TokenKind::OpenRound) => open_for(nesting, at, stack),
-        (Mode::AfterDo { nesting, at, body }, TokenKind::OpenRound) => {
-            stack.open(nesting, Frame::InDo { at, nesting, body })
-        }
-        (Mode::Typing { wanted, mode }, _) => on_type(wanted, mode, stack, token),
-        (Mode::Declared(declared), _) => on_declared(declared, stack, token),
-        (Mode::Array(mode), _) => on_array_mode(mode, stack, token),
-        (Mode::Head(head), _) => on_head(head, stack, token),
-        _ => Ok(Step::Refused),
+    match mode {
+        Mode::Operand { nesting } => on_operand(nesting, stack, token),
+        Mode::Have(have) => on_have(have, stack, token),
+        Mode::Named { nesting, at, name } => on_named(nesting, at, name, stack, token),
+        Mode::Opened { nesting, at } => on_opened(nesting, at, stack, token),
+        Mode::CastType(cast) => on_cast_type(cast, stack, token),
+        Mode::AfterAnd { nesting, at } => on_after_and(nesting, at, stack, token),
+        Mode::AndName(address) => on_and_name(address, stack, token),
+        Mode::CallOpen { nesting } => on_call_open(nesting, stack, token),
+        Mode::Optional { nesting } => on_optional(nesting, stack, token),
+        Mode::Item { nesting } => on_item(nesting, stack, token),
+        Mode::Begin { nesting } => on_begin(nesting, stack, token),
+        Mode::Initial { nesting } => on_initial(nesting, stack, token),
+        Mode::Final { nesting } => on_final(nesting, stack, token),
+        Mode::Aim { nesting } => on_aim(nesting, stack, token),
+        Mode::BeginName(name) => on_begin_name(name, stack, token),
+        Mode::Aimed(aimed) => on_aimed(aimed, stack, token),
+        Mode::Ended { nesting, statement } => on_ended(nesting, statement, stack, token.kind),
+        Mode::Closing { nesting, statement } => on_closing(nesting, statement, stack, token),
+        Mode::Did(statement) => on_did(statement, stack, token),
+        Mode::AfterIf { nesting, at } => on_after_if(nesting, at, stack, token.kind),
+        Mode::AfterWhile { nesting, at } => on_after_while(nesting, at, stack, token.kind),
+        Mode::AfterFor { nesting, at } => on_after_for(nesting, at, stack, token.kind),
+        Mode::AfterDo { nesting, at, body } => on_after_do(nesting, at, body, stack, token.kind),
+        Mode::Typing { wanted, mode } => on_type(wanted, mode, stack, token),
+        Mode::Declared(declared) => on_declared(declared, stack, token),
+        Mode::Array(mode) => on_array_mode(mode, stack, token),
+        Mode::Head(head) => on_head(head, stack, token),
     }
 }
