@@ -1,5 +1,5 @@
 -- The commands before a launch, one by one, and what a replay comes to.
-use Rattle.std.proofs.Common.{◌≡◌, ℕ, ◌<◌, zero, suc, Bool, true, false, Option, Some, List, [], ◌∷◌, ◌++◌, length, take, refl, sym, subst, arith}
+use Rattle.std.proofs.Common.{◌≡◌, ℕ, ◌<◌, zero, suc, Bool, Option, Some, List, [], ◌∷◌, ◌++◌, length, take, refl, sym, subst, arith}
 use Rattle.std.specs.Prelude.{Decides, slice_get}
 use Rattle.std.proofs.lemmas.List.Elements.{All-push}
 use Rattle.clmodel.specs.Law.{Reaches}
@@ -9,10 +9,9 @@ use Rattle.clmodel.specs.Setup.{Setup}
 use Rattle.clmodel.specs.declared.fault.Fault.{Fault}
 use Rattle.clmodel.specs.declared.schedule.Run.{Run}
 use Rattle.clmodel.specs.declared.setup.Range.{Range}
-use Rattle.device.specs.Machine.{Machine, Step, kernel_of, setup_of}
+use Rattle.device.specs.Machine.{Machine, kernel_of, setup_of}
 use Rattle.device.specs.Prepared.{IsPrepared}
 use Rattle.device_store.specs.declared.command.Command.{Command}
-use Rattle.device_store.specs.declared.command.Reply.{Reply}
 use Rattle.ends.specs.Sink.{Sink}
 use Rattle.item_step.specs.Launches as launches
 use Rattle.item_step.specs.declared.launch.Launch.{Launch}

@@ -12,7 +12,7 @@ use Rattle.cli.specs.declared.session.RunFault.TheVariants as fault
 use Rattle.ends.specs.Sink.{Sink, Wrote, Stopped, CountsUp}
 use Rattle.ends.specs.Source.{Are}
 use Rattle.simfile.specs.Script.{IsScript, IsBadLine}
-use Rattle.simfile.specs.Lines.{line, lines}
+use Rattle.simfile.specs.Lines.{lines}
 
 -- the machine may give these replies to these commands, one step after another
 abbrev pub Plays : Machine → List Command → List Reply → Machine → Type 0
