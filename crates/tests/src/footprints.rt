@@ -12,16 +12,15 @@ type Row = (u32, u32, u16, AccessKind);
 
 const ADD: AccessKind = AccessKind::Update(Class::Add);
 
-const KEPT: [Row; 5] = [
+const KEPT: [Row; 4] = [
     (0, 3, 254, AccessKind::Load),
     (1, 3, 256, AccessKind::Load),
     (2, 3, 600, ADD),
     (3, 3, 600, ADD),
-    (4, 3, 900, AccessKind::Fetch),
 ];
 
 /// Accesses of an item of another group, with the item that each meets and the byte where.
-const ASKED: [(Row, Option<(u32, u64)>); 11] = [
+const ASKED: [(Row, Option<(u32, u64)>); 8] = [
     ((9, 3, 256, AccessKind::Load), None),
     ((9, 3, 256, AccessKind::Store), Some((0, 256))),
     ((9, 3, 258, AccessKind::Store), Some((1, 258))),
@@ -30,9 +29,6 @@ const ASKED: [(Row, Option<(u32, u64)>); 11] = [
     ((9, 3, 603, AccessKind::Update(Class::Or)), Some((2, 603))),
     ((9, 2, 256, AccessKind::Store), None),
     ((9, 4, 256, AccessKind::Store), None),
-    ((9, 3, 903, AccessKind::Fetch), Some((4, 903))),
-    ((9, 3, 897, ADD), Some((4, 900))),
-    ((9, 3, 601, AccessKind::Fetch), Some((2, 601))),
 ];
 
 fn access(row: Row) -> Access

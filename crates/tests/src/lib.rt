@@ -2,8 +2,6 @@
 #![tactic(auto)]
 
 #[cfg(test)]
-mod fetches;
-#[cfg(test)]
 mod footprints;
 #[cfg(test)]
 mod logs;

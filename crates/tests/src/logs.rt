@@ -3,7 +3,7 @@
 ghost use Rattle.std.specs.Prelude.{◌<◌};
 ghost use Rattle.shadow_list.specs.Log.{IsPlaced};
 
-use clmodel::access::{Access, AccessKind, Clash, Class, FetchOp, Operation, Region, Width};
+use clmodel::access::{Access, AccessKind, Class, Operation, Region, Width};
 use shadow_list::{AccessLog, Accesses, Entry, Fenced, ListLog};
 use std::test::Fail;
 
@@ -73,46 +73,6 @@ fn groups_conflict_on_buffers(rt: HostRuntime) -> Result<(), Fail> {
         None => None,
     };
     assert_eq!(rt; found, Some(11));
-    Ok(())
-}
-
-const ADD: Operation = Operation::Update(Class::Add, 1);
-
-const FETCH: Operation = Operation::Fetch(FetchOp::Class(Class::Add), 1);
-
-/// The operations of two items on four bytes, and whether the order of the two matters; none where they race.
-const PAIRS: [(Operation, Operation, Option<bool>); 7] = [
-    (ADD, ADD, Some(false)),
-    (FETCH, ADD, Some(true)),
-    (ADD, FETCH, Some(true)),
-    (FETCH, FETCH, Some(true)),
-    (
-        FETCH,
-        Operation::Fetch(FetchOp::CompareExchange(3), 1),
-        Some(true),
-    ),
-    (Operation::Load(Width::Four), FETCH, None),
-    (FETCH, Operation::Store(Width::One, 7), None),
-];
-
-// A fetch of a class is no update of that class: its old number tells the order.
-#[test]
-fn fetches_tell_the_order(rt: HostRuntime) -> Result<(), Fail> {
-    for (one, other, order) in PAIRS {
-        let mut log = ListLog::new(rt.alloc());
-        let region = Region::Buffer(0);
-        assert!(rt; log.note(Entry::of(0, region, 8, one, 0))?.is_none());
-        assert!(rt; log.note(Entry::of(0, region, 8, one, 1))?.is_none());
-        assert_eq!(rt; log.len(), 1);
-        let found = match log.note(Entry::of(1, region, 8, other, 2))? {
-            None => Some(false),
-            Some(hit) => match hit.clash {
-                Clash::Order => Some(true),
-                Clash::Race => None,
-            },
-        };
-        assert_eq!(rt; found, order);
-    }
     Ok(())
 }
 

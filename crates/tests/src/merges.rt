@@ -42,7 +42,7 @@ enum Expected {
 }
 
 /// A kernel `k` with a buffer of four bytes, which three groups of one item run, and what it comes to.
-const ROWS: [(&str, [u8; 4], Expected); 5] = [
+const ROWS: [(&str, [u8; 4], Expected); 4] = [
     // Alone the groups leave 251, 252 and 253; the sum passes a byte.
     (
         "__kernel void k(__global uint *a) { atomic_add(a, get_group_id(0) + 1); }",
@@ -73,12 +73,6 @@ const ROWS: [(&str, [u8; 4], Expected); 5] = [
         "__kernel void k(__global uchar *a) { int i = get_group_id(0); a[i] = 6 / a[i]; }",
         [2, 1, 3, 9],
         Expected::Clean([3, 6, 2, 9]),
-    ),
-    // What group 1 leaves by a compare-exchange is its own: no other group touches it.
-    (
-        "__kernel void k(__global uint *a) { if (get_group_id(0) == 1) a[0] = atomic_cmpxchg(a, 250, 257) + a[0]; }",
-        [250, 0, 0, 0],
-        Expected::Clean([251, 1, 0, 0]),
     ),
 ];
 

@@ -5,11 +5,11 @@ use clmodel::setup::{AtomicFunction, WorkItemFunction};
 use clmodel::tree::{AddressSpace, PointerType, VariableType};
 use clnum::{BinaryOperator, Builtin, IntType, UnaryOperator, Value};
 use regcode::Instruction::{
-    Argument, Back, Barrier, Binary, Common, Constant, Dimensions, End, Enter, Fetch, Hold, Jump,
+    Argument, Back, Barrier, Binary, Common, Constant, Dimensions, End, Enter, Hold, Jump,
     JumpIfZero, Load, Local, Move, Offset, Point, PrivateLoad, PrivateStore, Query, Store, Turn,
     Unary, Unset, UnsetArray, Update,
 };
-use regcode::{FetchOperands, Instruction, Register, RegisterKind, Tables, VerifyFault, verify};
+use regcode::{Instruction, Register, RegisterKind, Tables, VerifyFault, verify};
 use std::alloc::{AllocError, Global};
 use std::test::Fail;
 
@@ -148,7 +148,7 @@ fn ways(rt: HostRuntime) -> Result<(), Fail> {
 
 /// Instructions each of which names a register or an entry of a table that isn't there, or one of a kind that it doesn't want.
 /// Changed in one number or one operator, each would fit.
-const MISFITS: [Instruction; 29] = [
+const MISFITS: [Instruction; 24] = [
     Unset { to: 5 },
     Move {
         to: 0,
@@ -252,42 +252,6 @@ const MISFITS: [Instruction; 29] = [
         pointer: 2,
         value: Some(4),
     },
-    Fetch {
-        to: 1,
-        function: AtomicFunction::Inc,
-        pointer: 2,
-        operands: FetchOperands::Alone,
-    },
-    Fetch {
-        to: 3,
-        function: AtomicFunction::Inc,
-        pointer: 4,
-        operands: FetchOperands::Alone,
-    },
-    Fetch {
-        to: 0,
-        function: AtomicFunction::Exchange,
-        pointer: 2,
-        operands: FetchOperands::Number(4),
-    },
-    Fetch {
-        to: 0,
-        function: AtomicFunction::CompareExchange,
-        pointer: 2,
-        operands: FetchOperands::Pair {
-            expected: 2,
-            value: 0,
-        },
-    },
-    Fetch {
-        to: 0,
-        function: AtomicFunction::CompareExchange,
-        pointer: 2,
-        operands: FetchOperands::Pair {
-            expected: 3,
-            value: 5,
-        },
-    },
     JumpIfZero { test: 2, by: 0 },
 ];
 
@@ -296,40 +260,6 @@ fn operands(rt: HostRuntime) -> Result<(), Fail> {
     for (row, instruction) in MISFITS.into_iter().enumerate() {
         let fault = fault_of(rt.alloc(), &[instruction, End], &[0, 0])?;
         assert_eq!(rt; fault, Some(VerifyFault::Rejected), "{row}");
-    }
-    Ok(())
-}
-
-/// Atomic operations on an `int` whose old number is used, with operands of other integer types.
-const FETCHES: [Instruction; 3] = [
-    Fetch {
-        to: 0,
-        function: AtomicFunction::Inc,
-        pointer: 2,
-        operands: FetchOperands::Alone,
-    },
-    Fetch {
-        to: 0,
-        function: AtomicFunction::Exchange,
-        pointer: 2,
-        operands: FetchOperands::Number(3),
-    },
-    Fetch {
-        to: 0,
-        function: AtomicFunction::CompareExchange,
-        pointer: 2,
-        operands: FetchOperands::Pair {
-            expected: 1,
-            value: 3,
-        },
-    },
-];
-
-#[test]
-fn old_numbers(rt: HostRuntime) -> Result<(), Fail> {
-    for (row, instruction) in FETCHES.into_iter().enumerate() {
-        let fault = fault_of(rt.alloc(), &[instruction, End], &[0, 0])?;
-        assert_eq!(rt; fault, None, "{row}");
     }
     Ok(())
 }
