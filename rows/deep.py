@@ -11,6 +11,10 @@ MOST_BYTES = 65_536
 UPPER = "ABCDEFGHIJKLMNOPQRSTUVWXYZ"
 
 
+# how many names stand in a table of names before those of the text
+PREDEFINED = 28
+
+
 def names():
     """Short names, none of them a word of the language: A .. Z, AA .. Z9, AAA .."""
     for length in count(1):
@@ -37,7 +41,7 @@ def replies(data):
 def stored(name):
     """The code of the store of 7, where `a` is the name at `name` behind the built-in ones."""
     return f"""0 argument r12, 0, __global int *
-1 move r28, r12, {26 + name}
+1 move r28, r12, {PREDEFINED + name}
 2 constant r36, int 0
 3 offset r28, r28, r36
 4 constant r36, int 7

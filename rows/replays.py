@@ -74,7 +74,7 @@ def never(line):
         yield "one item twice", changed(7, item)
         if "load" in kinds:
             yield "two loads", changed(8 if kinds[0] == "load" else 5, "load")
-        elif number == "2":
+        elif number == "2" and kinds[0] != "fetch":
             yield "two updates of one class", changed(8, kinds[0])
         if schedule != "-":
             yield "without the last event", f"{fault} schedule {without_last_event(schedule)}"

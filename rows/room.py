@@ -13,7 +13,7 @@ read a 0 8
 STORE = "__kernel void f(__global int *a) { a[0] = 7; }"
 
 CODE = """0 argument r12, 0, __global int *
-1 move r28, r12, 27
+1 move r28, r12, 29
 2 constant r36, int 0
 3 offset r28, r28, r36
 4 constant r36, int 7
