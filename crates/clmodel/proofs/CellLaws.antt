@@ -121,6 +121,38 @@ apart_swap op op2 c first first2 v v2 apart finds finds2 =
         effect_at op2 v2 (effect op v c first) c first2 byte (effect_out op v c first byte p)
         ∙ sym (effect_out op v (effect op2 v2 c first2) first byte p)
 
+-- ---- two stores of the same bytes
+
+written_out : (c : Cells) (first count value byte : ℕ) → covers first count byte ≡ false → written c first count value byte ≡ c byte
+unfolding written
+written_out c first count value byte h = if_false (covers first count byte) (Some (byte_of (byte - first) value)) (c byte) h
+
+-- two stores that leave the same byte where they meet leave the same in either order
+stores_at :
+    (c : Cells) (first count v first2 count2 w byte : ℕ)
+    → (covers first count byte ≡ true → covers first2 count2 byte ≡ true → byte_of (byte - first) v ≡ byte_of (byte - first2) w)
+    → written (written c first count v) first2 count2 w byte ≡ written (written c first2 count2 w) first count v byte
+stores_at c first count v first2 count2 w byte same = go (covers first count byte) (covers first2 count2 byte) refl refl
+  where
+    go :
+        (a b : Bool) → covers first count byte ≡ a → covers first2 count2 byte ≡ b
+        → written (written c first count v) first2 count2 w byte ≡ written (written c first2 count2 w) first count v byte
+    go true true p q =
+        written_in (written c first count v) first2 count2 w byte q ∙ ap Some (sym (same p q)) ∙ sym (written_in (written c first2 count2 w) first count v byte p)
+    go true false p q =
+        written_out (written c first count v) first2 count2 w byte q
+        ∙ written_in c first count v byte p
+        ∙ sym (written_in (written c first2 count2 w) first count v byte p)
+    go false true p q =
+        written_in (written c first count v) first2 count2 w byte q
+        ∙ sym (written_in c first2 count2 w byte q)
+        ∙ sym (written_out (written c first2 count2 w) first count v byte p)
+    go false false p q =
+        written_out (written c first count v) first2 count2 w byte q
+        ∙ written_out c first count v byte p
+        ∙ sym (written_out c first2 count2 w byte q)
+        ∙ sym (written_out (written c first2 count2 w) first count v byte p)
+
 -- ---- two updates on the same bytes
 
 pub number_of_written : (c : Cells) (first v : ℕ) → v < 2 ^ 32 → number (written c first 4 v) first 4 ≡ Some v
@@ -156,8 +188,9 @@ updates_swap class a b c first v finds =
 
 -- two operations, at the bytes from `first` and from `first2` on, that don't conflict on a byte
 abbrev pub Agree : Operation → ℕ → Operation → ℕ → ℕ → Type 0
-Agree (Load _) _ (Load _) _ _ = Unit {0}
-Agree (Update c _) _ (Update d _) _ _ = c ≡ d
+Agree (Load _) first (Load _) first2 byte = Unit {0}
+Agree (Store _ v) first (Store _ w) first2 byte = byte_of (byte - first) v ≡ byte_of (byte - first2) w
+Agree (Update c _) first (Update d _) first2 byte = c ≡ d
 Agree _ _ _ _ _ = ⊥
 
 -- they agree on each byte that both cover
@@ -187,6 +220,16 @@ swap (Load width) (Load width2) c first first2 v v2 al al2 compatible finds find
       answers_earlier = refl;
       same_cells = refl;
     }
+swap (Store width a) (Store width2 b) c first first2 v v2 al al2 compatible finds finds2 =
+    record {
+      later = v2;
+      earlier = v;
+      finds_later = finds2;
+      finds_earlier = finds;
+      answers_later = refl;
+      answers_earlier = refl;
+      same_cells = fun_ext (λ byte. stores_at c first (byte_count width) a first2 (byte_count width2) b byte (compatible byte));
+    }
 swap (Update class a) (Update class2 b) c first first2 v v2 al al2 compatible finds finds2 = go (cases_eq first first2)
   where
     go : (first ≡ first2) ⊎ (first ≡ first2 → ⊥) → Swapped (Update class a) (Update class2 b) c first first2 v v2
@@ -204,6 +247,7 @@ pub unset_stays :
     (op op2 : Operation) (c : Cells) (first first2 v2 : ℕ) → Aligned op first → Aligned op2 first2 → Compatible op first op2 first2
     → found op c first ≡ None → found op2 c first2 ≡ Some v2 → found op (effect op2 v2 c first2) first ≡ None
 unset_stays (Load width) (Load width2) c first first2 v2 al al2 compatible finds finds2 = finds
+unset_stays (Store width a) (Store width2 b) c first first2 v2 al al2 compatible finds finds2 = finds
 unset_stays (Update class a) (Update class2 b) c first first2 v2 al al2 compatible finds finds2 = go (cases_eq first first2)
   where
     go : (first ≡ first2) ⊎ (first ≡ first2 → ⊥) → found (Update class a) (effect (Update class2 b) v2 c first2) first ≡ None

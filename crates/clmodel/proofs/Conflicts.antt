@@ -1,9 +1,9 @@
 -- What it says of two accesses that they have no conflict.
-use Rattle.std.proofs.Common.{◌≡◌, ℕ, zero, suc, ◌+◌, ◌<◌, ◌≤◌, ◌⊎◌, Bool, true, false, not, ◌&&◌, ◌||◌, ◌==◌, if◌then◌else◌, Option, None, Some, List, [], ◌∷◌, refl, sym, ap, ap₂, ◌∙◌, subst, inl, inr, arith, eqb-true, eq-eqb}
+use Rattle.std.proofs.Common.{◌≡◌, ℕ, zero, suc, ◌+◌, ◌-◌, ◌<◌, ◌≤◌, ◌⊎◌, Bool, true, false, not, ◌&&◌, ◌||◌, ◌==◌, if◌then◌else◌, Option, None, Some, List, [], ◌∷◌, refl, sym, ap, ap₂, ◌∙◌, subst, inl, inr, arith, eqb-true, eq-eqb, ne_eqb}
 use Rattle.std.specs.Option.{option_map}
 use Rattle.std.proofs.lemmas.Bool.{and_parts, and_from, false≢true, cases_eq}
-use Rattle.clmodel.specs.Cells.{byte_count, covers}
-use Rattle.clmodel.specs.Launch.{Launch, same_region, kind_of, class_number, clash, clash_at, group_of, rule_of, unordered, share, conflict_between, conflict}
+use Rattle.clmodel.specs.Cells.{byte_count, byte_of, covers}
+use Rattle.clmodel.specs.Launch.{Launch, same_region, class_number, clash, both_store, left_at, same_store, clash_at, group_of, rule_of, unordered, share, conflict_between, conflict}
 use Rattle.clmodel.specs.Run.{State, interval_of, access_of}
 use Rattle.clmodel.specs.Law.{Logged, conflict_on, conflict_from}
 use Rattle.clmodel.specs.declared.access.Access.{Access}
@@ -92,14 +92,14 @@ meet_from rule x y byte m =
     (ap (same_region x.region) (sym m.regions) ∙ same_region_self x.region) m.first_covers m.second_covers)
 
 -- two accesses that meet without a conflict don't clash
-pub no_clash : (l : Launch) (x y : Access) (byte : ℕ) → conflict l x y byte ≡ None → Meet (rule_of l x y) x y byte → clash_at x y byte ≡ None
+pub no_clash : (l : Launch) (x y : Access) (byte : ℕ) → conflict l x y byte ≡ None → Meet (rule_of l x y) x y byte → clash_at (rule_of l x y) x y byte ≡ None
 unfolding conflict conflict_between
-no_clash l x y byte h m = none_if (unordered (rule_of l x y) x y && share x y byte) (clash_at x y byte) h (meet_from (rule_of l x y) x y byte m)
+no_clash l x y byte h m = none_if (unordered (rule_of l x y) x y && share x y byte) (clash_at (rule_of l x y) x y byte) h (meet_from (rule_of l x y) x y byte m)
 
 -- two accesses have no conflict if they don't clash where they meet
-pub no_conflict : (l : Launch) (x y : Access) (byte : ℕ) → (Meet (rule_of l x y) x y byte → clash_at x y byte ≡ None) → conflict l x y byte ≡ None
+pub no_conflict : (l : Launch) (x y : Access) (byte : ℕ) → (Meet (rule_of l x y) x y byte → clash_at (rule_of l x y) x y byte ≡ None) → conflict l x y byte ≡ None
 unfolding conflict conflict_between
-no_conflict l x y byte h = if_none (unordered (rule_of l x y) x y && share x y byte) (clash_at x y byte) (λ e. h (meet_parts (rule_of l x y) x y byte e))
+no_conflict l x y byte h = if_none (unordered (rule_of l x y) x y && share x y byte) (clash_at (rule_of l x y) x y byte) (λ e. h (meet_parts (rule_of l x y) x y byte e))
 
 -- ---- both ways round
 
@@ -147,8 +147,50 @@ clash_sym kind.Fetch kind.Store h = absurd (none_some Race (sym h))
 clash_sym kind.Fetch (kind.Update d) h = absurd (none_some Order (sym h))
 clash_sym kind.Fetch kind.Fetch h = absurd (none_some Order (sym h))
 
-clash_at_sym : (x y : Access) (byte : ℕ) → clash_at x y byte ≡ None → clash_at y x byte ≡ None
-clash_at_sym x y byte = clash_sym x.kind y.kind
+eqb_sym : (a b : ℕ) → (a == b) ≡ (b == a)
+eqb_sym a b = go (cases_eq a b)
+  where
+    go : (a ≡ b) ⊎ (a ≡ b → ⊥) → (a == b) ≡ (b == a)
+    go (inl e) = eq-eqb a b e ∙ sym (eq-eqb b a (sym e))
+    go (inr ne) = ne_eqb a b ne ∙ sym (ne_eqb b a (λ e. ne (sym e)))
+
+both_store_sym : (a b : AccessKind) → both_store a b ≡ both_store b a
+both_store_sym kind.Load kind.Load = refl
+both_store_sym kind.Load kind.Store = refl
+both_store_sym kind.Load (kind.Update d) = refl
+both_store_sym kind.Load kind.Fetch = refl
+both_store_sym kind.Store kind.Load = refl
+both_store_sym kind.Store kind.Store = refl
+both_store_sym kind.Store (kind.Update d) = refl
+both_store_sym kind.Store kind.Fetch = refl
+both_store_sym (kind.Update c) kind.Load = refl
+both_store_sym (kind.Update c) kind.Store = refl
+both_store_sym (kind.Update c) (kind.Update d) = refl
+both_store_sym (kind.Update c) kind.Fetch = refl
+both_store_sym kind.Fetch kind.Load = refl
+both_store_sym kind.Fetch kind.Store = refl
+both_store_sym kind.Fetch (kind.Update d) = refl
+both_store_sym kind.Fetch kind.Fetch = refl
+
+none_either : {A : Type 0} (b : Bool) (o : Option A) → (if b then None else o) ≡ None → (b ≡ true) ⊎ (o ≡ None)
+none_either true o h = inl refl
+none_either false o h = inr h
+
+none_made : {A : Type 0} (b : Bool) (o : Option A) → (b ≡ true) ⊎ (o ≡ None) → (if b then None else o) ≡ None
+none_made true o h = refl
+none_made false o (inl e) = absurd (false≢true e)
+none_made false o (inr e) = e
+
+-- rules of one launch hold for both ways round
+same_store_sym : (l : Launch) (x y : Access) (byte : ℕ) → same_store (rule_of l x y) x y byte ≡ same_store (rule_of l y x) y x byte
+same_store_sym l x y byte = ap₂ (λ a b. a && l.uniform && b) (both_store_sym x.kind y.kind) (eqb_sym (left_at x byte) (left_at y byte))
+
+clash_at_sym : (l : Launch) (x y : Access) (byte : ℕ) → clash_at (rule_of l x y) x y byte ≡ None → clash_at (rule_of l y x) y x byte ≡ None
+clash_at_sym l x y byte h = none_made (same_store (rule_of l y x) y x byte) (clash y.kind x.kind) (go (none_either (same_store (rule_of l x y) x y byte) (clash x.kind y.kind) h))
+  where
+    go : (same_store (rule_of l x y) x y byte ≡ true) ⊎ (clash x.kind y.kind ≡ None) → (same_store (rule_of l y x) y x byte ≡ true) ⊎ (clash y.kind x.kind ≡ None)
+    go (inl e) = inl (sym (same_store_sym l x y byte) ∙ e)
+    go (inr e) = inr (clash_sym x.kind y.kind e)
 
 meet_sym : (l : Launch) (x y : Access) (byte : ℕ) → Meet (rule_of l x y) x y byte → Meet (rule_of l y x) y x byte
 meet_sym l x y byte m =
@@ -162,7 +204,7 @@ meet_sym l x y byte m =
     }
 
 pub conflict_sym : (l : Launch) (x y : Access) (byte : ℕ) → conflict l x y byte ≡ None → conflict l y x byte ≡ None
-conflict_sym l x y byte h = no_conflict l y x byte (λ m. clash_at_sym x y byte (no_clash l x y byte h (meet_sym l y x byte m)))
+conflict_sym l x y byte h = no_conflict l y x byte (λ m. clash_at_sym l x y byte (no_clash l x y byte h (meet_sym l y x byte m)))
 
 pub no_conflict_self : (l : Launch) (x : Access) (byte : ℕ) → conflict l x x byte ≡ None
 no_conflict_self l x byte = no_conflict l x x byte (λ m. absurd (m.items refl))
@@ -172,12 +214,25 @@ no_conflict_self l x byte = no_conflict l x x byte (λ m. absurd (m.items refl))
 -- operations whose accesses don't conflict on a byte agree on it
 agree :
     (l : Launch) (s : State) (i : ℕ) (r : Region) (first : ℕ) (op : Operation) (j : ℕ) (r2 : Region) (first2 : ℕ) (op2 : Operation) (byte : ℕ)
-    → clash_at (access_of l s i r first op) (access_of l s j r2 first2 op2) byte ≡ None → Agree op first op2 first2 byte
+    → clash_at (rule_of l (access_of l s i r first op) (access_of l s j r2 first2 op2)) (access_of l s i r first op) (access_of l s j r2 first2 op2) byte ≡ None
+    → Agree op first op2 first2 byte
 agree l s i r first (Load width) j r2 first2 (Load width2) byte h = tt
 agree l s i r first (Load width) j r2 first2 (Store width2 value) byte h = absurd (none_some Race (sym h))
 agree l s i r first (Load width) j r2 first2 (Update d operand) byte h = absurd (none_some Race (sym h))
 agree l s i r first (Load width) j r2 first2 (Fetch op operand) byte h = absurd (none_some Race (sym h))
-agree l s i r first (Store width value) j r2 first2 op2 byte h = absurd (none_some Race (sym h))
+agree l s i r first (Store width value) j r2 first2 (Load width2) byte h = absurd (none_some Race (sym h))
+agree l s i r first (Store width value) j r2 first2 (Store width2 value2) byte h =
+    go (none_either (l.uniform && (byte_of (byte - first) value == byte_of (byte - first2) value2)) (Some Race) h)
+  where
+    go :
+        ((l.uniform && (byte_of (byte - first) value == byte_of (byte - first2) value2)) ≡ true) ⊎ (◌≡◌ {A = Option Clash} (Some Race) None)
+        → byte_of (byte - first) value ≡ byte_of (byte - first2) value2
+    go (inl e) =
+        eqb-true (byte_of (byte - first) value) (byte_of (byte - first2) value2)
+        (and_parts l.uniform (byte_of (byte - first) value == byte_of (byte - first2) value2) e).1
+    go (inr e) = absurd (none_some Race (sym e))
+agree l s i r first (Store width value) j r2 first2 (Update d operand) byte h = absurd (none_some Race (sym h))
+agree l s i r first (Store width value) j r2 first2 (Fetch op operand) byte h = absurd (none_some Race (sym h))
 agree l s i r first (Update c operand) j r2 first2 (Load width) byte h = absurd (none_some Race (sym h))
 agree l s i r first (Update c operand) j r2 first2 (Store width value) byte h = absurd (none_some Race (sym h))
 agree l s i r first (Update c operand) j r2 first2 (Update d operand2) byte h = sym (class_of-number c) ∙ ap class_of (same_class c d h) ∙ class_of-number d

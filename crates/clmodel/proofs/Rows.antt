@@ -95,6 +95,7 @@ launch next =
       buffer_names = (97 ∷ []) ∷ [];
       local_names = (98 ∷ []) ∷ [];
       source_names = [];
+      uniform = false;
     }
 
 pub barrier : Instance

@@ -86,7 +86,7 @@ launched_with parameters arguments helpers body budget =
         names = [];
       };
       kernel = 100;
-      range = record { global = 1 ∷ []; local = 1 ∷ []; offset = 0 ∷ [] };
+      range = record { global = 1 ∷ []; local = 1 ∷ []; offset = 0 ∷ []; uniform = false };
       arguments = arguments;
       budget = budget;
     }

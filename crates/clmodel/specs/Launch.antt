@@ -1,7 +1,7 @@
 -- A launch: what its items do next, which places there are, and what is kept of an access.
 -- Numbers of sections are those of OpenCL 1.2, or of C99 where that is said; "own" is what this project decided.
-use Rattle.std.specs.Prelude.{ℕ, ◌+◌, ◌*◌, ◌/◌, ◌==◌, ℤ, pos, negsuc, Bool, true, false, not, ◌&&◌, ◌||◌, nat_le, if◌then◌else◌, Option, None, Some, List, [], length, slice_index, slice_index_or}
-use Rattle.clmodel.specs.Cells.{byte_count, covers, width_of}
+use Rattle.std.specs.Prelude.{ℕ, ◌+◌, ◌-◌, ◌*◌, ◌/◌, ◌==◌, ℤ, pos, negsuc, Bool, true, false, not, ◌&&◌, ◌||◌, nat_le, if◌then◌else◌, Option, None, Some, List, [], length, slice_index, slice_index_or}
+use Rattle.clmodel.specs.Cells.{byte_count, byte_of, covers, width_of}
 use Rattle.clmodel.specs.declared.access.Class.{Class}
 use Rattle.clmodel.specs.declared.access.Class.TheVariants as class
 use Rattle.clmodel.specs.declared.access.AccessKind.{AccessKind}
@@ -22,7 +22,8 @@ use Rattle.clmodel.specs.declared.fault.Location.{Location}
 use Rattle.clmodel.specs.declared.fault.Location.TheVariants as location
 
 -- A launch of `items` items, `group_size` to a group (3.2, 5.8). `next` gives an item's action once the listed answers are used up, one
--- for each earlier action. The names are those that a reply gives to buffers, to local objects, and to what the source names.
+-- for each earlier action. The names are those that a reply gives to buffers, to local objects, and to what the source names. In a uniform
+-- launch two stores that leave the same byte don't conflict (own).
 pub record Launch : Type 0 where
   pub items : ℕ
   pub group_size : ℕ
@@ -32,6 +33,7 @@ pub record Launch : Type 0 where
   pub buffer_names : List (List ℕ)
   pub local_names : List (List ℕ)
   pub source_names : List (List ℕ)
+  pub uniform : Bool
 
 -- two regions are one: local objects of different groups are different (3.3)
 abbrev pub same_region : Region → Region → Bool
@@ -67,10 +69,25 @@ kind_of (operation.Store _ _) = kind.Store
 kind_of (operation.Update class _) = kind.Update class
 kind_of (operation.Fetch _ _) = kind.Fetch
 
+-- what is kept of the value of an operation: that of a store (own)
+abbrev pub value_of : Operation → ℕ
+value_of (operation.Load _) = 0
+value_of (operation.Store _ value) = value
+value_of (operation.Update _ _) = 0
+value_of (operation.Fetch _ _) = 0
+
 -- what is kept of an item's operation at the bytes from `first` on, made in an interval of its group (own)
 abbrev pub access_in : ℕ → Region → ℕ → Operation → ℕ → Access
 access_in item region first operation interval =
-    record { item = item; region = region; first = first; width = width_of operation; kind = kind_of operation; interval = interval }
+    record {
+      item = item;
+      region = region;
+      first = first;
+      width = width_of operation;
+      kind = kind_of operation;
+      value = value_of operation;
+      interval = interval;
+    }
 
 -- a number for each class of updates (own)
 abbrev pub class_number : Class → ℕ
@@ -98,16 +115,16 @@ abbrev pub group_of : Launch → ℕ → ℕ
 group_of launch item = item / launch.group_size
 
 -- the rule for two accesses of one group: its barriers order those of two intervals (6.12.8)
-abbrev pub within_group : Rule
-within_group = record { one_group = true }
+abbrev pub within_group : Bool → Rule
+within_group uniform = record { one_group = true; uniform = uniform }
 
 -- the rule for accesses of two groups: no barrier orders them (3.3.1, 6.12.8)
-abbrev pub across_groups : Rule
-across_groups = record { one_group = false }
+abbrev pub across_groups : Bool → Rule
+across_groups uniform = record { one_group = false; uniform = uniform }
 
--- by which rule two accesses of a launch are judged: by whether their items are of one group (3.2)
+-- by which rule two accesses of a launch are judged: by whether their items are of one group (3.2), and whether the launch is uniform
 abbrev pub rule_of : Launch → Access → Access → Rule
-rule_of launch x y = record { one_group = group_of launch x.item == group_of launch y.item }
+rule_of launch x y = record { one_group = group_of launch x.item == group_of launch y.item; uniform = launch.uniform }
 
 -- two accesses of different items that no barrier orders, by their rule (3.3.1, 6.12.8)
 abbrev pub unordered : Rule → Access → Access → Bool
@@ -117,13 +134,26 @@ unordered rule x y = not (x.item == y.item) && (not rule.one_group || (x.interva
 abbrev pub share : Access → Access → ℕ → Bool
 share x y byte = same_region x.region y.region && covers x.first (byte_count x.width) byte && covers y.first (byte_count y.width) byte
 
--- how two accesses conflict on a byte that both are at, if no barrier orders them (3.3.1, own): by their kinds, on each byte alike
-abbrev pub clash_at : Access → Access → ℕ → Option Clash
-clash_at x y byte = clash x.kind y.kind
+-- both are stores (own)
+abbrev pub both_store : AccessKind → AccessKind → Bool
+both_store kind.Store kind.Store = true
+both_store _ _ = false
+
+-- what a store that is at this byte leaves there (C99 6.5.16.1)
+abbrev pub left_at : Access → ℕ → ℕ
+left_at x byte = byte_of (byte - x.first) x.value
+
+-- stores of a uniform launch that leave the same byte (own)
+abbrev pub same_store : Rule → Access → Access → ℕ → Bool
+same_store rule x y byte = both_store x.kind y.kind && rule.uniform && (left_at x byte == left_at y byte)
+
+-- how two accesses conflict on a byte that both are at, if no barrier orders them (3.3.1, own): by their kinds
+abbrev pub clash_at : Rule → Access → Access → ℕ → Option Clash
+clash_at rule x y byte = if same_store rule x y byte then None else clash x.kind y.kind
 
 -- how two accesses conflict on a byte by their rule, if they do (3.3.1, own)
 unfoldable pub conflict_between : Rule → Access → Access → ℕ → Option Clash
-conflict_between rule x y byte = if unordered rule x y && share x y byte then clash_at x y byte else None
+conflict_between rule x y byte = if unordered rule x y && share x y byte then clash_at rule x y byte else None
 
 -- how two accesses of a launch conflict on a byte, if they do (3.3.1, own)
 unfoldable pub conflict : Launch → Access → Access → ℕ → Option Clash

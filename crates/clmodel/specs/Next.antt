@@ -69,4 +69,5 @@ launch_of setup bytes =
       buffer_names = buffer_names setup;
       local_names = map (λ o. slice_index_or setup.program.names o.name []) (local_objects setup);
       source_names = setup.program.names;
+      uniform = setup.range.uniform;
     }

@@ -3,7 +3,7 @@
 
 ghost use Rattle.std.specs.Prelude.{◌≡◌, ◌<◌, ◌≤◌};
 ghost use Rattle.clmodel.specs.Cells.{byte_count, width_of};
-ghost use Rattle.clmodel.specs.Launch.{kind_of, region_of};
+ghost use Rattle.clmodel.specs.Launch.{kind_of, value_of, region_of, within_group, across_groups};
 
 /// How many bytes an element has.
 #[derive(Clone, Copy, PartialEq, Eq)]
@@ -124,9 +124,20 @@ impl Operation {
             Operation::Fetch(_, _) => AccessKind::Fetch,
         }
     }
+
+    /// The value of a store, and 0 of all others.
+    pub fn value(self) -> u64
+        ensures { result ≡ value_of self }
+    {
+        match self {
+            Operation::Store(_, value) => value,
+            Operation::Load(_) | Operation::Update(_, _) | Operation::Fetch(_, _) => 0,
+        }
+    }
 }
 
-/// What is kept of an access: the item, the bytes that it touched, its kind, and the interval of its group in which it was made.
+/// What is kept of an access: the item, the bytes that it touched, its kind, the value of a store, and the interval of its group in which it
+/// was made.
 #[derive(Clone, Copy, PartialEq, Eq)]
 pub struct Access {
     pub item: u32,
@@ -134,23 +145,41 @@ pub struct Access {
     pub first: u64,
     pub width: Width,
     pub kind: AccessKind,
+    /// What a store writes the low bytes of; 0 of all others
+    pub value: u64,
     pub interval: u32,
 }
 
 /// The rule by which two accesses of different items are judged: whether a barrier can order them (OpenCL 1.2, sections 3.3.1
-/// and 6.12.8).
+/// and 6.12.8), and whether stores of the same byte may meet.
 #[derive(Clone, Copy, PartialEq, Eq)]
 pub struct Rule {
     /// Whether both items are of one group, whose barriers order accesses of two intervals.
     pub one_group: bool,
+    /// Whether the launch is uniform: two stores that leave the same byte don't conflict there.
+    pub uniform: bool,
 }
 
 impl Rule {
     /// The rule for two accesses of one group.
-    pub const WITHIN_GROUP: Rule = Rule { one_group: true };
+    pub fn within_group(uniform: bool) -> Self
+        ensures { result ≡ within_group uniform }
+    {
+        Rule {
+            one_group: true,
+            uniform,
+        }
+    }
 
     /// The rule for accesses of two groups.
-    pub const ACROSS_GROUPS: Rule = Rule { one_group: false };
+    pub fn across_groups(uniform: bool) -> Self
+        ensures { result ≡ across_groups uniform }
+    {
+        Rule {
+            one_group: false,
+            uniform,
+        }
+    }
 }
 
 /// How two accesses conflict.

@@ -15,12 +15,14 @@ use crate::text::{Name, Numbers};
 use clnum::Builtin;
 
 /// An index space (OpenCL 1.2, section 3.2): in each dimension the number of work-items, the number in a work-group, and the
-/// offset that is added to the global ids.
+/// offset that is added to the global ids. And whether the launch is uniform: two stores of different items that leave the same byte don't
+/// conflict there.
 #[derive(Drop)]
 pub struct Range {
     pub global: Numbers,
     pub local: Numbers,
     pub offset: Numbers,
+    pub uniform: bool,
 }
 
 /// An argument of a kernel: a buffer for a pointer to global or constant memory, a number for an integer, a size in bytes for a

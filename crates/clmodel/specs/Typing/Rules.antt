@@ -1,5 +1,5 @@
 -- The rules of types (OpenCL 1.2, 6.1 to 6.12; C99 6.5, 6.7 and 6.8).
-use Rattle.std.specs.Prelude.{◌≡◌, ℕ, suc, ◌≤◌, Bool, true, false, not, ◌&&◌, List, [], ◌∷◌, ◌++◌, length, Option, None, Some}
+use Rattle.std.specs.Prelude.{◌≡◌, ℕ, suc, ◌≤◌, Bool, true, false, not, ◌&&◌, List, [], ◌∷◌, ◌++◌, length, None, Some}
 use Rattle.std.specs.List.{slice_get}
 use Rattle.clnum.specs.Integer.{Integer}
 use Rattle.clnum.specs.Conversions.{common, unsigned_of}
