@@ -1,5 +1,5 @@
 -- Commands: what is read of a line is the text of a command, and that text is read.
-use Rattle.std.proofs.Common.{◌≡◌, ℕ, ◌<◌, ◌≤◌, ◌^◌, false, List, [], ◌∷◌, ◌++◌, Option, None, Some, inl, inr, refl, ap, sym, ◌∙◌, subst, arith, decimal, codes, IsTrue, append_assoc}
+use Rattle.std.proofs.Common.{◌≡◌, ℕ, ◌<◌, ◌≤◌, ◌^◌, Bool, true, false, List, [], ◌∷◌, ◌++◌, Option, None, Some, inl, inr, refl, ap, sym, ◌∙◌, subst, arith, decimal, codes, IsTrue, append_assoc}
 use Rattle.std.specs.Fmt.{signed_decimal}
 use Rattle.clmodel.specs.declared.setup.Argument.{Argument}
 use Rattle.clmodel.specs.declared.setup.Argument.TheVariants as argument
@@ -7,9 +7,11 @@ use Rattle.clmodel.specs.declared.setup.Range.{Range}
 use Rattle.device_store.specs.declared.command.Command.{Command}
 use Rattle.device_store.specs.declared.command.Command.TheVariants as command
 use Rattle.replay_text.specs.Pieces.{joined}
+use Rattle.simfile.specs.declared.lines.Version.{Version}
+use Rattle.simfile.specs.declared.lines.Version.TheVariants as version
 use Rattle.simfile.specs.Fields.{is_name, is_listed, IsList, list_text, numbers_of, AreBytes, hex, bytes_of}
-use Rattle.simfile.specs.Reading.{after, name_at, number_at, list_at, hex_at, before, value_at, source_at, buffer_at, write_at, fill_at, copy_at, read_at, release_at, buffer_argument_at, value_argument_at, local_argument_at, argument_at, listed_offset_at, offset_at, offsets_of, range_of, program_at, kernel_at, arg_at, launch_at, command_at, or_else, ◌>>=◌}
-use Rattle.simfile.specs.Script.{IsText, IsSetting, IsOffset, AreLines, space, line_feed}
+use Rattle.simfile.specs.Reading.{after, name_at, number_at, list_at, hex_at, before, value_at, source_at, buffer_at, write_at, fill_at, copy_at, read_at, release_at, buffer_argument_at, value_argument_at, local_argument_at, argument_at, listed_offset_at, offset_at, uniform_at, offsets_of, range_of, program_at, kernel_at, arg_at, launch_at, command_at, or_else, ◌>>=◌}
+use Rattle.simfile.specs.Script.{IsText, IsSetting, IsOffset, IsUniform, AreLines, space, line_feed}
 use Rattle.simfile.specs.Laws.{Takes, Again}
 use Rattle.simfile.proofs.FieldLaws.{after_takes, after_again, name_takes, name_again, number_takes, number_again, list_takes, list_again, list_back, hex_takes, hex_again, hex_back, value_takes, value_again, source_takes, source_again, space_ends, feed_ends, space_ends_list, feed_ends_list, feed_ends_hex}
 
@@ -42,18 +44,18 @@ joined-append [] rest = refl
 joined-append (part ∷ parts) rest = append_assoc part (joined parts) rest ∙ ap (λ l. part ++ l) (joined-append parts rest)
 
 -- the text of a command that begins with a word lies in front
-abbrev Behind : List ℕ → List ℕ → Command → List ℕ → Type 0
-Behind word bytes c rest = (text : List ℕ) × (word ++ bytes ≡ text ++ rest) × IsText text c
+abbrev Behind : Version → List ℕ → List ℕ → Command → List ℕ → Type 0
+Behind version word bytes c rest = (text : List ℕ) × (word ++ bytes ≡ text ++ rest) × IsText version text c
 
-behind : (word bytes : List ℕ) (parts : List (List ℕ)) (x y : Command × List ℕ) → Some x ≡ Some y → word ++ bytes ≡ joined_onto parts x.1 → IsText (joined parts) x.0 → Behind word bytes y.0 y.1
-behind word bytes parts x y e split text =
-    let P : Command × List ℕ → Type 0 = λ z. Behind word bytes z.0 z.1 in
+behind : (v : Version) (word bytes : List ℕ) (parts : List (List ℕ)) (x y : Command × List ℕ) → Some x ≡ Some y → word ++ bytes ≡ joined_onto parts x.1 → IsText v (joined parts) x.0 → Behind v word bytes y.0 y.1
+behind v word bytes parts x y e split text =
+    let P : Command × List ℕ → Type 0 = λ z. Behind v word bytes z.0 z.1 in
     let same : x ≡ y = cc in
     subst P same (joined parts, split ∙ sym (joined-append parts x.1), text)
 
-buffer_takes : (bytes : List ℕ) (c : Command) (rest : List ℕ) → buffer_at bytes ≡ Some (c, rest) → Behind (codes "buffer ") bytes c rest
+buffer_takes : (v : Version) (bytes : List ℕ) (c : Command) (rest : List ℕ) → buffer_at bytes ≡ Some (c, rest) → Behind v (codes "buffer ") bytes c rest
 unfolding buffer_at
-buffer_takes bytes c rest e =
+buffer_takes v bytes c rest e =
     let s1 = bind_some (before 32 (name_at bytes)) _ (c, rest) e in
     let t1 = name_takes bytes (s1.0.0, 32 ∷ s1.0.1) (before_is 32 (name_at bytes) s1.0 s1.1) in
     let p1 : bytes ≡ s1.0.0 ++ 32 ∷ s1.0.1 = t1.0 in
@@ -61,11 +63,11 @@ buffer_takes bytes c rest e =
     let t2 = number_takes s1.0.1 (s2.0.0, 10 ∷ s2.0.1) (before_is 10 (number_at s1.0.1) s2.0 s2.1) in
     let p2 : s1.0.1 ≡ decimal s2.0.0 ++ 10 ∷ s2.0.1 = t2.0 in
     let parts = codes "buffer " ∷ s1.0.0 ∷ space ∷ decimal s2.0.0 ∷ line_feed ∷ [] in
-    behind (codes "buffer ") bytes parts (command.Buffer s1.0.0 s2.0.0, s2.0.1) (c, rest) s2.2 (ap (λ l. codes "buffer " ++ l) (p1 ∙ ap (λ l. s1.0.0 ++ 32 ∷ l) p2)) (t1.1, t2.1, refl)
+    behind v (codes "buffer ") bytes parts (command.Buffer s1.0.0 s2.0.0, s2.0.1) (c, rest) s2.2 (ap (λ l. codes "buffer " ++ l) (p1 ∙ ap (λ l. s1.0.0 ++ 32 ∷ l) p2)) (t1.1, t2.1, refl)
 
-write_takes : (bytes : List ℕ) (c : Command) (rest : List ℕ) → write_at bytes ≡ Some (c, rest) → Behind (codes "write ") bytes c rest
+write_takes : (v : Version) (bytes : List ℕ) (c : Command) (rest : List ℕ) → write_at bytes ≡ Some (c, rest) → Behind v (codes "write ") bytes c rest
 unfolding write_at
-write_takes bytes c rest e =
+write_takes v bytes c rest e =
     let s1 = bind_some (before 32 (name_at bytes)) _ (c, rest) e in
     let t1 = name_takes bytes (s1.0.0, 32 ∷ s1.0.1) (before_is 32 (name_at bytes) s1.0 s1.1) in
     let p1 : bytes ≡ s1.0.0 ++ 32 ∷ s1.0.1 = t1.0 in
@@ -76,11 +78,11 @@ write_takes bytes c rest e =
     let t3 = hex_takes s2.0.1 (s3.0.0, 10 ∷ s3.0.1) (before_is 10 (hex_at s2.0.1) s3.0 s3.1) in
     let p3 : s2.0.1 ≡ hex (bytes_of s3.0.0) ++ 10 ∷ s3.0.1 = t3.0 in
     let parts = codes "write " ∷ s1.0.0 ∷ space ∷ decimal s2.0.0 ∷ space ∷ hex (bytes_of s3.0.0) ∷ line_feed ∷ [] in
-    behind (codes "write ") bytes parts (command.Write s1.0.0 s2.0.0 (bytes_of s3.0.0), s3.0.1) (c, rest) s3.2 (ap (λ l. codes "write " ++ l) (p1 ∙ ap (λ l. s1.0.0 ++ 32 ∷ l) (p2 ∙ ap (λ l. decimal s2.0.0 ++ 32 ∷ l) p3))) (t1.1, t2.1, t3.1, refl)
+    behind v (codes "write ") bytes parts (command.Write s1.0.0 s2.0.0 (bytes_of s3.0.0), s3.0.1) (c, rest) s3.2 (ap (λ l. codes "write " ++ l) (p1 ∙ ap (λ l. s1.0.0 ++ 32 ∷ l) (p2 ∙ ap (λ l. decimal s2.0.0 ++ 32 ∷ l) p3))) (t1.1, t2.1, t3.1, refl)
 
-fill_takes : (bytes : List ℕ) (c : Command) (rest : List ℕ) → fill_at bytes ≡ Some (c, rest) → Behind (codes "fill ") bytes c rest
+fill_takes : (v : Version) (bytes : List ℕ) (c : Command) (rest : List ℕ) → fill_at bytes ≡ Some (c, rest) → Behind v (codes "fill ") bytes c rest
 unfolding fill_at
-fill_takes bytes c rest e =
+fill_takes v bytes c rest e =
     let s1 = bind_some (before 32 (name_at bytes)) _ (c, rest) e in
     let t1 = name_takes bytes (s1.0.0, 32 ∷ s1.0.1) (before_is 32 (name_at bytes) s1.0 s1.1) in
     let p1 : bytes ≡ s1.0.0 ++ 32 ∷ s1.0.1 = t1.0 in
@@ -94,11 +96,11 @@ fill_takes bytes c rest e =
     let t4 = hex_takes s3.0.1 (s4.0.0, 10 ∷ s4.0.1) (before_is 10 (hex_at s3.0.1) s4.0 s4.1) in
     let p4 : s3.0.1 ≡ hex (bytes_of s4.0.0) ++ 10 ∷ s4.0.1 = t4.0 in
     let parts = codes "fill " ∷ s1.0.0 ∷ space ∷ decimal s2.0.0 ∷ space ∷ decimal s3.0.0 ∷ space ∷ hex (bytes_of s4.0.0) ∷ line_feed ∷ [] in
-    behind (codes "fill ") bytes parts (command.Fill s1.0.0 s2.0.0 s3.0.0 (bytes_of s4.0.0), s4.0.1) (c, rest) s4.2 (ap (λ l. codes "fill " ++ l) (p1 ∙ ap (λ l. s1.0.0 ++ 32 ∷ l) (p2 ∙ ap (λ l. decimal s2.0.0 ++ 32 ∷ l) (p3 ∙ ap (λ l. decimal s3.0.0 ++ 32 ∷ l) p4)))) (t1.1, t2.1, t3.1, t4.1, refl)
+    behind v (codes "fill ") bytes parts (command.Fill s1.0.0 s2.0.0 s3.0.0 (bytes_of s4.0.0), s4.0.1) (c, rest) s4.2 (ap (λ l. codes "fill " ++ l) (p1 ∙ ap (λ l. s1.0.0 ++ 32 ∷ l) (p2 ∙ ap (λ l. decimal s2.0.0 ++ 32 ∷ l) (p3 ∙ ap (λ l. decimal s3.0.0 ++ 32 ∷ l) p4)))) (t1.1, t2.1, t3.1, t4.1, refl)
 
-copy_takes : (bytes : List ℕ) (c : Command) (rest : List ℕ) → copy_at bytes ≡ Some (c, rest) → Behind (codes "copy ") bytes c rest
+copy_takes : (v : Version) (bytes : List ℕ) (c : Command) (rest : List ℕ) → copy_at bytes ≡ Some (c, rest) → Behind v (codes "copy ") bytes c rest
 unfolding copy_at
-copy_takes bytes c rest e =
+copy_takes v bytes c rest e =
     let s1 = bind_some (before 32 (name_at bytes)) _ (c, rest) e in
     let t1 = name_takes bytes (s1.0.0, 32 ∷ s1.0.1) (before_is 32 (name_at bytes) s1.0 s1.1) in
     let p1 : bytes ≡ s1.0.0 ++ 32 ∷ s1.0.1 = t1.0 in
@@ -115,11 +117,11 @@ copy_takes bytes c rest e =
     let t5 = number_takes s4.0.1 (s5.0.0, 10 ∷ s5.0.1) (before_is 10 (number_at s4.0.1) s5.0 s5.1) in
     let p5 : s4.0.1 ≡ decimal s5.0.0 ++ 10 ∷ s5.0.1 = t5.0 in
     let parts = codes "copy " ∷ s1.0.0 ∷ space ∷ decimal s2.0.0 ∷ space ∷ s3.0.0 ∷ space ∷ decimal s4.0.0 ∷ space ∷ decimal s5.0.0 ∷ line_feed ∷ [] in
-    behind (codes "copy ") bytes parts (command.Copy s1.0.0 s2.0.0 s3.0.0 s4.0.0 s5.0.0, s5.0.1) (c, rest) s5.2 (ap (λ l. codes "copy " ++ l) (p1 ∙ ap (λ l. s1.0.0 ++ 32 ∷ l) (p2 ∙ ap (λ l. decimal s2.0.0 ++ 32 ∷ l) (p3 ∙ ap (λ l. s3.0.0 ++ 32 ∷ l) (p4 ∙ ap (λ l. decimal s4.0.0 ++ 32 ∷ l) p5))))) (t1.1, t2.1, t3.1, t4.1, t5.1, refl)
+    behind v (codes "copy ") bytes parts (command.Copy s1.0.0 s2.0.0 s3.0.0 s4.0.0 s5.0.0, s5.0.1) (c, rest) s5.2 (ap (λ l. codes "copy " ++ l) (p1 ∙ ap (λ l. s1.0.0 ++ 32 ∷ l) (p2 ∙ ap (λ l. decimal s2.0.0 ++ 32 ∷ l) (p3 ∙ ap (λ l. s3.0.0 ++ 32 ∷ l) (p4 ∙ ap (λ l. decimal s4.0.0 ++ 32 ∷ l) p5))))) (t1.1, t2.1, t3.1, t4.1, t5.1, refl)
 
-read_takes : (bytes : List ℕ) (c : Command) (rest : List ℕ) → read_at bytes ≡ Some (c, rest) → Behind (codes "read ") bytes c rest
+read_takes : (v : Version) (bytes : List ℕ) (c : Command) (rest : List ℕ) → read_at bytes ≡ Some (c, rest) → Behind v (codes "read ") bytes c rest
 unfolding read_at
-read_takes bytes c rest e =
+read_takes v bytes c rest e =
     let s1 = bind_some (before 32 (name_at bytes)) _ (c, rest) e in
     let t1 = name_takes bytes (s1.0.0, 32 ∷ s1.0.1) (before_is 32 (name_at bytes) s1.0 s1.1) in
     let p1 : bytes ≡ s1.0.0 ++ 32 ∷ s1.0.1 = t1.0 in
@@ -130,20 +132,20 @@ read_takes bytes c rest e =
     let t3 = number_takes s2.0.1 (s3.0.0, 10 ∷ s3.0.1) (before_is 10 (number_at s2.0.1) s3.0 s3.1) in
     let p3 : s2.0.1 ≡ decimal s3.0.0 ++ 10 ∷ s3.0.1 = t3.0 in
     let parts = codes "read " ∷ s1.0.0 ∷ space ∷ decimal s2.0.0 ∷ space ∷ decimal s3.0.0 ∷ line_feed ∷ [] in
-    behind (codes "read ") bytes parts (command.Read s1.0.0 s2.0.0 s3.0.0, s3.0.1) (c, rest) s3.2 (ap (λ l. codes "read " ++ l) (p1 ∙ ap (λ l. s1.0.0 ++ 32 ∷ l) (p2 ∙ ap (λ l. decimal s2.0.0 ++ 32 ∷ l) p3))) (t1.1, t2.1, t3.1, refl)
+    behind v (codes "read ") bytes parts (command.Read s1.0.0 s2.0.0 s3.0.0, s3.0.1) (c, rest) s3.2 (ap (λ l. codes "read " ++ l) (p1 ∙ ap (λ l. s1.0.0 ++ 32 ∷ l) (p2 ∙ ap (λ l. decimal s2.0.0 ++ 32 ∷ l) p3))) (t1.1, t2.1, t3.1, refl)
 
-release_takes : (bytes : List ℕ) (c : Command) (rest : List ℕ) → release_at bytes ≡ Some (c, rest) → Behind (codes "release ") bytes c rest
+release_takes : (v : Version) (bytes : List ℕ) (c : Command) (rest : List ℕ) → release_at bytes ≡ Some (c, rest) → Behind v (codes "release ") bytes c rest
 unfolding release_at
-release_takes bytes c rest e =
+release_takes v bytes c rest e =
     let s1 = bind_some (before 10 (name_at bytes)) _ (c, rest) e in
     let t1 = name_takes bytes (s1.0.0, 10 ∷ s1.0.1) (before_is 10 (name_at bytes) s1.0 s1.1) in
     let p1 : bytes ≡ s1.0.0 ++ 10 ∷ s1.0.1 = t1.0 in
     let parts = codes "release " ∷ s1.0.0 ∷ line_feed ∷ [] in
-    behind (codes "release ") bytes parts (command.Release s1.0.0, s1.0.1) (c, rest) s1.2 (ap (λ l. codes "release " ++ l) (p1)) (t1.1, refl)
+    behind v (codes "release ") bytes parts (command.Release s1.0.0, s1.0.1) (c, rest) s1.2 (ap (λ l. codes "release " ++ l) (p1)) (t1.1, refl)
 
-kernel_takes : (bytes : List ℕ) (c : Command) (rest : List ℕ) → kernel_at bytes ≡ Some (c, rest) → Behind (codes "kernel ") bytes c rest
+kernel_takes : (v : Version) (bytes : List ℕ) (c : Command) (rest : List ℕ) → kernel_at bytes ≡ Some (c, rest) → Behind v (codes "kernel ") bytes c rest
 unfolding kernel_at
-kernel_takes bytes c rest e =
+kernel_takes v bytes c rest e =
     let s1 = bind_some (before 32 (name_at bytes)) _ (c, rest) e in
     let t1 = name_takes bytes (s1.0.0, 32 ∷ s1.0.1) (before_is 32 (name_at bytes) s1.0 s1.1) in
     let p1 : bytes ≡ s1.0.0 ++ 32 ∷ s1.0.1 = t1.0 in
@@ -154,11 +156,11 @@ kernel_takes bytes c rest e =
     let t3 = name_takes s2.0.1 (s3.0.0, 10 ∷ s3.0.1) (before_is 10 (name_at s2.0.1) s3.0 s3.1) in
     let p3 : s2.0.1 ≡ s3.0.0 ++ 10 ∷ s3.0.1 = t3.0 in
     let parts = codes "kernel " ∷ s1.0.0 ∷ space ∷ s2.0.0 ∷ space ∷ s3.0.0 ∷ line_feed ∷ [] in
-    behind (codes "kernel ") bytes parts (command.Kernel s1.0.0 s2.0.0 s3.0.0, s3.0.1) (c, rest) s3.2 (ap (λ l. codes "kernel " ++ l) (p1 ∙ ap (λ l. s1.0.0 ++ 32 ∷ l) (p2 ∙ ap (λ l. s2.0.0 ++ 32 ∷ l) p3))) (t1.1, t2.1, t3.1, refl)
+    behind v (codes "kernel ") bytes parts (command.Kernel s1.0.0 s2.0.0 s3.0.0, s3.0.1) (c, rest) s3.2 (ap (λ l. codes "kernel " ++ l) (p1 ∙ ap (λ l. s1.0.0 ++ 32 ∷ l) (p2 ∙ ap (λ l. s2.0.0 ++ 32 ∷ l) p3))) (t1.1, t2.1, t3.1, refl)
 
-program_takes : (bytes : List ℕ) (c : Command) (rest : List ℕ) → program_at bytes ≡ Some (c, rest) → Behind (codes "program ") bytes c rest
+program_takes : (v : Version) (bytes : List ℕ) (c : Command) (rest : List ℕ) → program_at bytes ≡ Some (c, rest) → Behind v (codes "program ") bytes c rest
 unfolding program_at
-program_takes bytes c rest e =
+program_takes v bytes c rest e =
     let s1 = bind_some (before 32 (name_at bytes)) _ (c, rest) e in
     let t1 = name_takes bytes (s1.0.0, 32 ∷ s1.0.1) (before_is 32 (name_at bytes) s1.0 s1.1) in
     let p1 : bytes ≡ s1.0.0 ++ 32 ∷ s1.0.1 = t1.0 in
@@ -169,7 +171,7 @@ program_takes bytes c rest e =
     let t3 = source_takes s2.0.0 s2.0.1 s3.0 s3.1 in
     let p3 : s2.0.1 ≡ s3.0.0 ++ s3.0.1 = t3.0 in
     let parts = codes "program " ∷ s1.0.0 ∷ space ∷ decimal s2.0.0 ∷ line_feed ∷ s3.0.0 ∷ [] in
-    behind (codes "program ") bytes parts (command.Program s1.0.0 s3.0.0, s3.0.1) (c, rest) s3.2 (ap (λ l. codes "program " ++ l) (p1 ∙ ap (λ l. s1.0.0 ++ 32 ∷ l) (p2 ∙ ap (λ l. decimal s2.0.0 ++ 10 ∷ l) p3))) (t1.1, (s2.0.0, t3.1, t3.2, refl))
+    behind v (codes "program ") bytes parts (command.Program s1.0.0 s3.0.0, s3.0.1) (c, rest) s3.2 (ap (λ l. codes "program " ++ l) (p1 ∙ ap (λ l. s1.0.0 ++ 32 ∷ l) (p2 ∙ ap (λ l. decimal s2.0.0 ++ 10 ∷ l) p3))) (t1.1, (s2.0.0, t3.1, t3.2, refl))
 
 -- the words of an argument lie in front
 abbrev SettingBehind : List ℕ → Argument → List ℕ → Type 0
@@ -216,9 +218,9 @@ argument_takes : (bytes : List ℕ) (x : Argument × List ℕ) → argument_at b
 unfolding argument_at
 argument_takes bytes x e = argument_by bytes x (after (codes " buffer ") bytes) (after (codes " value ") bytes) (after (codes " local ") bytes) refl refl refl e
 
-arg_takes : (bytes : List ℕ) (c : Command) (rest : List ℕ) → arg_at bytes ≡ Some (c, rest) → Behind (codes "arg ") bytes c rest
+arg_takes : (v : Version) (bytes : List ℕ) (c : Command) (rest : List ℕ) → arg_at bytes ≡ Some (c, rest) → Behind v (codes "arg ") bytes c rest
 unfolding arg_at
-arg_takes bytes c rest e =
+arg_takes v bytes c rest e =
     let s1 = bind_some (before 32 (name_at bytes)) _ (c, rest) e in
     let t1 = name_takes bytes (s1.0.0, 32 ∷ s1.0.1) (before_is 32 (name_at bytes) s1.0 s1.1) in
     let p1 : bytes ≡ s1.0.0 ++ 32 ∷ s1.0.1 = t1.0 in
@@ -231,40 +233,60 @@ arg_takes bytes c rest e =
     let s4 = bind_some (after (10 ∷ []) s3.0.1) _ (c, rest) s3.2 in
     let t4 : s3.0.1 ≡ (10 ∷ []) ++ s4.0 = after_takes (10 ∷ []) s3.0.1 s4.0 s4.1 in
     let parts = codes "arg " ∷ s1.0.0 ∷ space ∷ decimal s2.0.0 ∷ t3.0 ∷ line_feed ∷ [] in
-    behind (codes "arg ") bytes parts (command.Arg s1.0.0 s2.0.0 s3.0.0, s4.0) (c, rest) s4.2 (ap (λ l. codes "arg " ++ l) (p1 ∙ ap (λ l. s1.0.0 ++ 32 ∷ l) (p2 ∙ ap (λ l. decimal s2.0.0 ++ l) (p3 ∙ ap (λ l. t3.0 ++ l) t4)))) (t1.1, t2.1, (t3.0, t3.2, refl))
+    behind v (codes "arg ") bytes parts (command.Arg s1.0.0 s2.0.0 s3.0.0, s4.0) (c, rest) s4.2 (ap (λ l. codes "arg " ++ l) (p1 ∙ ap (λ l. s1.0.0 ++ 32 ∷ l) (p2 ∙ ap (λ l. decimal s2.0.0 ++ l) (p3 ∙ ap (λ l. t3.0 ++ l) t4)))) (t1.1, t2.1, (t3.0, t3.2, refl))
 
--- the offsets lie in front, or none do, and then the line feed
+-- the offsets lie in front, or none do
 abbrev OffsetBehind : List ℕ → Option (List ℕ) → List ℕ → Type 0
-OffsetBehind bytes offset rest = (text : List ℕ) × (bytes ≡ text ++ (10 ∷ rest)) × ((sizes : List ℕ) → IsOffset text sizes (offsets_of offset sizes))
+OffsetBehind bytes offset rest = (text : List ℕ) × (bytes ≡ text ++ rest) × ((sizes : List ℕ) → IsOffset text sizes (offsets_of offset sizes))
 
-listed_offset_takes : (bytes : List ℕ) (x : Option (List ℕ) × List ℕ) → listed_offset_at bytes ≡ Some x → OffsetBehind bytes x.0 x.1
+listed_offset_takes : (bytes : List ℕ) (x : List ℕ × List ℕ) → listed_offset_at bytes ≡ Some x → OffsetBehind bytes (Some x.0) x.1
 unfolding listed_offset_at
 listed_offset_takes bytes x e =
-    let s1 = bind_some (after (32 ∷ []) bytes) _ x e in
-    let t1 : bytes ≡ (32 ∷ []) ++ s1.0 = after_takes (32 ∷ []) bytes s1.0 s1.1 in
-    let s2 = bind_some (before 10 (list_at s1.0)) _ x s1.2 in
-    let t2 = list_takes s1.0 (s2.0.0, 10 ∷ s2.0.1) (before_is 10 (list_at s1.0) s2.0 s2.1) in
-    let p2 : s1.0 ≡ list_text (numbers_of s2.0.0) ++ 10 ∷ s2.0.1 = t2.0 in
-    let same : (Some s2.0.0, s2.0.1) ≡ x = let f = s2.2 in cc in
-    let text = space ++ list_text (numbers_of s2.0.0) in
-    let split : bytes ≡ text ++ (10 ∷ s2.0.1) = t1 ∙ ap (λ l. (32 ∷ []) ++ l) p2 in
-    let P : Option (List ℕ) × List ℕ → Type 0 = λ y. OffsetBehind bytes y.0 y.1 in
-    subst P same (text, split, λ sizes. inr (t2.1, refl))
+    let s = bind_some (after (32 ∷ []) bytes) list_at x e in
+    let t : bytes ≡ (32 ∷ []) ++ s.0 = after_takes (32 ∷ []) bytes s.0 s.1 in
+    let u = list_takes s.0 x s.2 in
+    let split : bytes ≡ (space ++ list_text (numbers_of x.0)) ++ x.1 = t ∙ ap (λ l. (32 ∷ []) ++ l) u.0 in
+    (space ++ list_text (numbers_of x.0), split, λ sizes. inr (u.1, refl))
 
-offset_by : (bytes : List ℕ) (x : Option (List ℕ) × List ℕ) (o : Option (List ℕ)) → after (10 ∷ []) bytes ≡ o → or_else o (λ rest. Some (None, rest)) (listed_offset_at bytes) ≡ Some x → OffsetBehind bytes x.0 x.1
-offset_by bytes x None is e = listed_offset_takes bytes x e
-offset_by bytes x (Some rest) is e =
-    let same : (None, rest) ≡ x = cc in
-    let P : Option (List ℕ) × List ℕ → Type 0 = λ y. OffsetBehind bytes y.0 y.1 in
-    subst P same ([], after_takes (10 ∷ []) bytes rest is, λ sizes. inl (refl, refl))
+offset_by : (bytes : List ℕ) (x : Option (List ℕ) × List ℕ) (o : Option (List ℕ × List ℕ)) → listed_offset_at bytes ≡ o → or_else o (λ offset. Some (Some offset.0, offset.1)) (Some (None, bytes)) ≡ Some x → OffsetBehind bytes x.0 x.1
+offset_by bytes x (Some y) is e =
+    let same : (Some y.0, y.1) ≡ x = cc in
+    let P : Option (List ℕ) × List ℕ → Type 0 = λ z. OffsetBehind bytes z.0 z.1 in
+    subst P same (listed_offset_takes bytes y is)
+offset_by bytes x None is e =
+    let same : (None, bytes) ≡ x = cc in
+    let P : Option (List ℕ) × List ℕ → Type 0 = λ z. OffsetBehind bytes z.0 z.1 in
+    subst P same ([], refl, λ sizes. inl (refl, refl))
 
 offset_takes : (bytes : List ℕ) (x : Option (List ℕ) × List ℕ) → offset_at bytes ≡ Some x → OffsetBehind bytes x.0 x.1
 unfolding offset_at
-offset_takes bytes x e = offset_by bytes x (after (10 ∷ []) bytes) refl e
+offset_takes bytes x e = offset_by bytes x (listed_offset_at bytes) refl e
 
-launch_takes : (bytes : List ℕ) (c : Command) (rest : List ℕ) → launch_at bytes ≡ Some (c, rest) → Behind (codes "launch ") bytes c rest
+-- the word of a uniform launch lies in front, or nothing does
+abbrev MarkBehind : Version → List ℕ → Bool → List ℕ → Type 0
+MarkBehind version bytes uniform rest = (text : List ℕ) × (bytes ≡ text ++ rest) × IsUniform version text uniform
+
+mark_by : (bytes : List ℕ) (x : Bool × List ℕ) (o : Option (List ℕ)) → after (codes " uniform") bytes ≡ o → or_else o (λ rest. Some (true, rest)) (Some (false, bytes)) ≡ Some x → MarkBehind version.Two bytes x.0 x.1
+mark_by bytes x (Some rest) is e =
+    let same : (true, rest) ≡ x = cc in
+    let P : Bool × List ℕ → Type 0 = λ z. MarkBehind version.Two bytes z.0 z.1 in
+    subst P same (codes " uniform", after_takes (codes " uniform") bytes rest is, refl)
+mark_by bytes x None is e =
+    let same : (false, bytes) ≡ x = cc in
+    let P : Bool × List ℕ → Type 0 = λ z. MarkBehind version.Two bytes z.0 z.1 in
+    subst P same ([], refl, refl)
+
+mark_takes : (v : Version) (bytes : List ℕ) (x : Bool × List ℕ) → uniform_at v bytes ≡ Some x → MarkBehind v bytes x.0 x.1
+unfolding uniform_at
+mark_takes version.One bytes x e =
+    let same : (false, bytes) ≡ x = cc in
+    let P : Bool × List ℕ → Type 0 = λ z. MarkBehind version.One bytes z.0 z.1 in
+    subst P same ([], refl, (refl, refl))
+mark_takes version.Two bytes x e = mark_by bytes x (after (codes " uniform") bytes) refl e
+
+launch_takes : (v : Version) (bytes : List ℕ) (c : Command) (rest : List ℕ) → launch_at v bytes ≡ Some (c, rest) → Behind v (codes "launch ") bytes c rest
 unfolding launch_at
-launch_takes bytes c rest e =
+launch_takes v bytes c rest e =
     let s1 = bind_some (before 32 (name_at bytes)) _ (c, rest) e in
     let t1 = name_takes bytes (s1.0.0, 32 ∷ s1.0.1) (before_is 32 (name_at bytes) s1.0 s1.1) in
     let p1 : bytes ≡ s1.0.0 ++ 32 ∷ s1.0.1 = t1.0 in
@@ -278,31 +300,34 @@ launch_takes bytes c rest e =
     let p3 : s2.0.1 ≡ local ++ s3.0.1 = t3.0 in
     let s4 = bind_some (offset_at s3.0.1) _ (c, rest) s3.2 in
     let t4 = offset_takes s3.0.1 s4.0 s4.1 in
-    let p4 : s3.0.1 ≡ t4.0 ++ (10 ∷ s4.0.1) = t4.1 in
-    let parts = codes "launch " ∷ s1.0.0 ∷ space ∷ global ∷ space ∷ local ∷ t4.0 ∷ line_feed ∷ [] in
-    behind (codes "launch ") bytes parts (command.Launch s1.0.0 (range_of s2.0.0 s3.0.0 s4.0.0), s4.0.1) (c, rest) s4.2 (ap (λ l. codes "launch " ++ l) (p1 ∙ ap (λ l. s1.0.0 ++ 32 ∷ l) (p2 ∙ ap (λ l. global ++ 32 ∷ l) (p3 ∙ ap (λ l. local ++ l) p4)))) (t1.1, t2.1, t3.1, (t4.0, t4.2 (numbers_of s2.0.0), refl))
+    let p4 : s3.0.1 ≡ t4.0 ++ s4.0.1 = t4.1 in
+    let s5 = bind_some (before 10 (uniform_at v s4.0.1)) _ (c, rest) s4.2 in
+    let t5 = mark_takes v s4.0.1 (s5.0.0, 10 ∷ s5.0.1) (before_is 10 (uniform_at v s4.0.1) s5.0 s5.1) in
+    let p5 : s4.0.1 ≡ t5.0 ++ (10 ∷ s5.0.1) = t5.1 in
+    let parts = codes "launch " ∷ s1.0.0 ∷ space ∷ global ∷ space ∷ local ∷ t4.0 ∷ t5.0 ∷ line_feed ∷ [] in
+    behind v (codes "launch ") bytes parts (command.Launch s1.0.0 (range_of s2.0.0 s3.0.0 s4.0.0 s5.0.0), s5.0.1) (c, rest) s5.2 (ap (λ l. codes "launch " ++ l) (p1 ∙ ap (λ l. s1.0.0 ++ 32 ∷ l) (p2 ∙ ap (λ l. global ++ 32 ∷ l) (p3 ∙ ap (λ l. local ++ l) (p4 ∙ ap (λ l. t4.0 ++ l) p5))))) (t1.1, t2.1, t3.1, (t4.0, t5.0, t4.2 (numbers_of s2.0.0), t5.2, refl {a = joined parts}))
 
 -- the command in front, by its first word
-by_word : (word bytes : List ℕ) (f : List ℕ → Option (Command × List ℕ)) (other : Option (Command × List ℕ)) (c : Command) (rest : List ℕ) → ((b : List ℕ) (d : Command) (r : List ℕ) → f b ≡ Some (d, r) → Behind word b d r)
-    → (other ≡ Some (c, rest) → (text : List ℕ) × (bytes ≡ text ++ rest) × IsText text c) → (o : Option (List ℕ)) → after word bytes ≡ o → or_else o f other ≡ Some (c, rest) → (text : List ℕ) × (bytes ≡ text ++ rest) × IsText text c
-by_word word bytes f other c rest takes more None is e = more e
-by_word word bytes f other c rest takes more (Some b) is e =
+by_word : (v : Version) (word bytes : List ℕ) (f : List ℕ → Option (Command × List ℕ)) (other : Option (Command × List ℕ)) (c : Command) (rest : List ℕ) → ((b : List ℕ) (d : Command) (r : List ℕ) → f b ≡ Some (d, r) → Behind v word b d r)
+    → (other ≡ Some (c, rest) → (text : List ℕ) × (bytes ≡ text ++ rest) × IsText v text c) → (o : Option (List ℕ)) → after word bytes ≡ o → or_else o f other ≡ Some (c, rest) → (text : List ℕ) × (bytes ≡ text ++ rest) × IsText v text c
+by_word v word bytes f other c rest takes more None is e = more e
+by_word v word bytes f other c rest takes more (Some b) is e =
     let h = takes b c rest e in
     (h.0, after_takes word bytes b is ∙ h.1, h.2)
 
 pub command_takes : Takes
 unfolding command_at
-command_takes bytes c rest e =
-    by_word (codes "buffer ") bytes buffer_at _ c rest buffer_takes
-    (by_word (codes "write ") bytes write_at _ c rest write_takes
-    (by_word (codes "program ") bytes program_at _ c rest program_takes
-    (by_word (codes "kernel ") bytes kernel_at _ c rest kernel_takes
-    (by_word (codes "arg ") bytes arg_at _ c rest arg_takes
-    (by_word (codes "launch ") bytes launch_at _ c rest launch_takes
-    (by_word (codes "read ") bytes read_at _ c rest read_takes
-    (by_word (codes "fill ") bytes fill_at _ c rest fill_takes
-    (by_word (codes "copy ") bytes copy_at _ c rest copy_takes
-    (by_word (codes "release ") bytes release_at None c rest release_takes (λ h. absurd (cc)) (after (codes "release ") bytes) refl)
+command_takes v bytes c rest e =
+    by_word v (codes "buffer ") bytes buffer_at _ c rest (buffer_takes v)
+    (by_word v (codes "write ") bytes write_at _ c rest (write_takes v)
+    (by_word v (codes "program ") bytes program_at _ c rest (program_takes v)
+    (by_word v (codes "kernel ") bytes kernel_at _ c rest (kernel_takes v)
+    (by_word v (codes "arg ") bytes arg_at _ c rest (arg_takes v)
+    (by_word v (codes "launch ") bytes (launch_at v) _ c rest (launch_takes v)
+    (by_word v (codes "read ") bytes read_at _ c rest (read_takes v)
+    (by_word v (codes "fill ") bytes fill_at _ c rest (fill_takes v)
+    (by_word v (codes "copy ") bytes copy_at _ c rest (copy_takes v)
+    (by_word v (codes "release ") bytes release_at None c rest (release_takes v) (λ h. absurd (cc)) (after (codes "release ") bytes) refl)
     (after (codes "copy ") bytes) refl)
     (after (codes "fill ") bytes) refl)
     (after (codes "read ") bytes) refl)
@@ -443,39 +468,94 @@ arg_again kernel index setting a rest h k m =
       after_again line_feed rest,
     ) refl
 
+-- what follows a list: no part of one, and no list behind a space
+record EndsList (rest : List ℕ) : Type 0 where
+  first : ℕ
+  more : List ℕ
+  split : rest ≡ first ∷ more
+  ends : is_listed first ≡ false
+  none : listed_offset_at rest ≡ None
+
+-- what is read of the word of a uniform launch, and what follows a list
+record MarkRead (v : Version) (text : List ℕ) (uniform : Bool) (rest : List ℕ) : Type 0 where
+  read : uniform_at v (text ++ 10 ∷ rest) ≡ Some (uniform, 10 ∷ rest)
+  ends : EndsList (text ++ 10 ∷ rest)
+
+feed_ends_all : (rest : List ℕ) → EndsList (10 ∷ rest)
+feed_ends_all rest = record { first = 10; more = rest; split = refl; ends = feed_ends_list; none = unfold listed_offset_at in unfold after in refl }
+
+mark_again : (v : Version) (text : List ℕ) (uniform : Bool) (rest : List ℕ) → IsUniform v text uniform → MarkRead v text uniform rest
+unfolding is_listed
+mark_again version.One text uniform rest h = record {
+  read = rw (h.0, h.1) (unfold uniform_at in refl);
+  ends = rw h.0 (feed_ends_all rest);
+}
+mark_again version.Two text false rest h = record {
+  read = rw h (unfold uniform_at in unfold after in refl);
+  ends = rw h (feed_ends_all rest);
+}
+mark_again version.Two text true rest h = record {
+  read = rw h (unfold uniform_at in unfold after in refl);
+  ends = rw h (record {
+    first = 32;
+    more = codes "uniform" ++ 10 ∷ rest;
+    split = refl;
+    ends = space_ends_list;
+    none = unfold listed_offset_at in unfold after in unfold list_at in refl;
+  });
+}
+
 -- what is read of the offsets
 record OffsetRead (text sizes offsets rest : List ℕ) : Type 0 where
   offset : Option (List ℕ)
-  read : offset_at (text ++ 10 ∷ rest) ≡ Some (offset, rest)
+  read : offset_at (text ++ rest) ≡ Some (offset, rest)
   same : offsets_of offset sizes ≡ offsets
-  ends : (b : ℕ) × (more : List ℕ) × (text ++ 10 ∷ rest ≡ b ∷ more) × (is_listed b ≡ false)
+  first : ℕ
+  more : List ℕ
+  split : text ++ rest ≡ first ∷ more
+  ends : is_listed first ≡ false
 
-offset_again : (text sizes offsets rest : List ℕ) → IsOffset text sizes offsets → OffsetRead text sizes offsets rest
-offset_again text sizes offsets rest (inl h) = record {
+listed_again : (offsets rest : List ℕ) → IsList offsets → EndsList rest → offset_at (space ++ (list_text offsets ++ rest)) ≡ Some (Some (list_text offsets), rest)
+unfolding offset_at listed_offset_at after
+listed_again offsets rest h k =
+    let read : list_at (list_text offsets ++ rest) ≡ Some (list_text offsets, rest) = rw k.split (list_again offsets h k.first k.more k.ends) in
+    rw read refl
+
+offset_again : (text sizes offsets rest : List ℕ) → IsOffset text sizes offsets → EndsList rest → OffsetRead text sizes offsets rest
+offset_again text sizes offsets rest (inl h) k = record {
   offset = None;
-  read = rw h.0 (unfold offset_at in unfold after in refl);
+  read = rw h.0 (unfold offset_at in rw k.none refl);
   same = sym h.1;
-  ends = (10, rest, rw h.0 refl, feed_ends_list);
+  first = k.first;
+  more = k.more;
+  split = rw h.0 k.split;
+  ends = k.ends;
 }
-offset_again text sizes offsets rest (inr h) = record {
+offset_again text sizes offsets rest (inr h) k = record {
   offset = Some (list_text offsets);
-  read = rw h.1 (unfold offset_at in unfold after in unfold listed_offset_at in rw (list_again offsets h.0 10 rest feed_ends_list, before_again (list_text offsets) 10 rest) refl);
+  read = rw h.1 (listed_again offsets rest h.0 k);
   same = list_back offsets h.0;
-  ends = (32, list_text offsets ++ 10 ∷ rest, rw h.1 refl, space_ends_list);
+  first = 32;
+  more = list_text offsets ++ rest;
+  split = rw h.1 refl;
+  ends = space_ends_list;
 }
 
-launch_again : (kernel : List ℕ) (range : Range) (offset rest : List ℕ) → IsTrue (is_name kernel) → IsList range.global → IsList range.local → IsOffset offset range.global range.offset → launch_at (joined_onto (kernel ∷ space ∷ list_text range.global ∷ space ∷ list_text range.local ∷ offset ∷ line_feed ∷ []) rest) ≡ Some (command.Launch kernel range, rest)
+launch_again : (v : Version) (kernel : List ℕ) (range : Range) (offset mark rest : List ℕ) → IsTrue (is_name kernel) → IsList range.global → IsList range.local → IsOffset offset range.global range.offset → IsUniform v mark range.uniform → launch_at v (joined_onto (kernel ∷ space ∷ list_text range.global ∷ space ∷ list_text range.local ∷ offset ∷ mark ∷ line_feed ∷ []) rest) ≡ Some (command.Launch kernel range, rest)
 unfolding launch_at
-launch_again kernel range offset rest h k m o =
-    let t = offset_again offset range.global range.offset rest o in
-    let local : list_at (list_text range.local ++ (offset ++ 10 ∷ rest)) ≡ Some (list_text range.local, offset ++ 10 ∷ rest) = rw t.ends.2 (list_again range.local m t.ends.0 t.ends.1 t.ends.3) in
+launch_again v kernel range offset mark rest h k m o u =
+    let w = mark_again v mark range.uniform rest u in
+    let t = offset_again offset range.global range.offset (mark ++ 10 ∷ rest) o w.ends in
+    let local : list_at (list_text range.local ++ (offset ++ (mark ++ 10 ∷ rest))) ≡ Some (list_text range.local, offset ++ (mark ++ 10 ∷ rest)) = rw t.split (list_again range.local m t.first t.more t.ends) in
     rw (
-      name_again kernel h 32 (joined_onto (list_text range.global ∷ space ∷ list_text range.local ∷ offset ∷ line_feed ∷ []) rest) space_ends,
-      before_again kernel 32 (joined_onto (list_text range.global ∷ space ∷ list_text range.local ∷ offset ∷ line_feed ∷ []) rest),
-      list_again range.global k 32 (joined_onto (list_text range.local ∷ offset ∷ line_feed ∷ []) rest) space_ends_list,
-      before_again (list_text range.global) 32 (joined_onto (list_text range.local ∷ offset ∷ line_feed ∷ []) rest),
+      name_again kernel h 32 (joined_onto (list_text range.global ∷ space ∷ list_text range.local ∷ offset ∷ mark ∷ line_feed ∷ []) rest) space_ends,
+      before_again kernel 32 (joined_onto (list_text range.global ∷ space ∷ list_text range.local ∷ offset ∷ mark ∷ line_feed ∷ []) rest),
+      list_again range.global k 32 (joined_onto (list_text range.local ∷ offset ∷ mark ∷ line_feed ∷ []) rest) space_ends_list,
+      before_again (list_text range.global) 32 (joined_onto (list_text range.local ∷ offset ∷ mark ∷ line_feed ∷ []) rest),
       local,
       t.read,
+      w.read,
+      before_again range.uniform 10 rest,
       list_back range.global k,
       list_back range.local m,
       t.same,
@@ -483,74 +563,74 @@ launch_again kernel range offset rest h k m o =
 
 -- a command by its first word
 
-buffer_word : (bytes onto : List ℕ) (c : Command) (rest : List ℕ) → bytes ≡ codes "buffer " ++ onto → buffer_at onto ≡ Some (c, rest) → command_at bytes ≡ Some (c, rest)
-buffer_word bytes onto c rest e h = rw e (unfold command_at in unfold after in h)
+buffer_word : (v : Version) (bytes onto : List ℕ) (c : Command) (rest : List ℕ) → bytes ≡ codes "buffer " ++ onto → buffer_at onto ≡ Some (c, rest) → command_at v bytes ≡ Some (c, rest)
+buffer_word v bytes onto c rest e h = rw e (unfold command_at in unfold after in h)
 
-write_word : (bytes onto : List ℕ) (c : Command) (rest : List ℕ) → bytes ≡ codes "write " ++ onto → write_at onto ≡ Some (c, rest) → command_at bytes ≡ Some (c, rest)
-write_word bytes onto c rest e h = rw e (unfold command_at in unfold after in h)
+write_word : (v : Version) (bytes onto : List ℕ) (c : Command) (rest : List ℕ) → bytes ≡ codes "write " ++ onto → write_at onto ≡ Some (c, rest) → command_at v bytes ≡ Some (c, rest)
+write_word v bytes onto c rest e h = rw e (unfold command_at in unfold after in h)
 
-program_word : (bytes onto : List ℕ) (c : Command) (rest : List ℕ) → bytes ≡ codes "program " ++ onto → program_at onto ≡ Some (c, rest) → command_at bytes ≡ Some (c, rest)
-program_word bytes onto c rest e h = rw e (unfold command_at in unfold after in h)
+program_word : (v : Version) (bytes onto : List ℕ) (c : Command) (rest : List ℕ) → bytes ≡ codes "program " ++ onto → program_at onto ≡ Some (c, rest) → command_at v bytes ≡ Some (c, rest)
+program_word v bytes onto c rest e h = rw e (unfold command_at in unfold after in h)
 
-kernel_word : (bytes onto : List ℕ) (c : Command) (rest : List ℕ) → bytes ≡ codes "kernel " ++ onto → kernel_at onto ≡ Some (c, rest) → command_at bytes ≡ Some (c, rest)
-kernel_word bytes onto c rest e h = rw e (unfold command_at in unfold after in h)
+kernel_word : (v : Version) (bytes onto : List ℕ) (c : Command) (rest : List ℕ) → bytes ≡ codes "kernel " ++ onto → kernel_at onto ≡ Some (c, rest) → command_at v bytes ≡ Some (c, rest)
+kernel_word v bytes onto c rest e h = rw e (unfold command_at in unfold after in h)
 
-arg_word : (bytes onto : List ℕ) (c : Command) (rest : List ℕ) → bytes ≡ codes "arg " ++ onto → arg_at onto ≡ Some (c, rest) → command_at bytes ≡ Some (c, rest)
-arg_word bytes onto c rest e h = rw e (unfold command_at in unfold after in h)
+arg_word : (v : Version) (bytes onto : List ℕ) (c : Command) (rest : List ℕ) → bytes ≡ codes "arg " ++ onto → arg_at onto ≡ Some (c, rest) → command_at v bytes ≡ Some (c, rest)
+arg_word v bytes onto c rest e h = rw e (unfold command_at in unfold after in h)
 
-launch_word : (bytes onto : List ℕ) (c : Command) (rest : List ℕ) → bytes ≡ codes "launch " ++ onto → launch_at onto ≡ Some (c, rest) → command_at bytes ≡ Some (c, rest)
-launch_word bytes onto c rest e h = rw e (unfold command_at in unfold after in h)
+launch_word : (v : Version) (bytes onto : List ℕ) (c : Command) (rest : List ℕ) → bytes ≡ codes "launch " ++ onto → launch_at v onto ≡ Some (c, rest) → command_at v bytes ≡ Some (c, rest)
+launch_word v bytes onto c rest e h = rw e (unfold command_at in unfold after in h)
 
-read_word : (bytes onto : List ℕ) (c : Command) (rest : List ℕ) → bytes ≡ codes "read " ++ onto → read_at onto ≡ Some (c, rest) → command_at bytes ≡ Some (c, rest)
-read_word bytes onto c rest e h = rw e (unfold command_at in unfold after in h)
+read_word : (v : Version) (bytes onto : List ℕ) (c : Command) (rest : List ℕ) → bytes ≡ codes "read " ++ onto → read_at onto ≡ Some (c, rest) → command_at v bytes ≡ Some (c, rest)
+read_word v bytes onto c rest e h = rw e (unfold command_at in unfold after in h)
 
-fill_word : (bytes onto : List ℕ) (c : Command) (rest : List ℕ) → bytes ≡ codes "fill " ++ onto → fill_at onto ≡ Some (c, rest) → command_at bytes ≡ Some (c, rest)
-fill_word bytes onto c rest e h = rw e (unfold command_at in unfold after in h)
+fill_word : (v : Version) (bytes onto : List ℕ) (c : Command) (rest : List ℕ) → bytes ≡ codes "fill " ++ onto → fill_at onto ≡ Some (c, rest) → command_at v bytes ≡ Some (c, rest)
+fill_word v bytes onto c rest e h = rw e (unfold command_at in unfold after in h)
 
-copy_word : (bytes onto : List ℕ) (c : Command) (rest : List ℕ) → bytes ≡ codes "copy " ++ onto → copy_at onto ≡ Some (c, rest) → command_at bytes ≡ Some (c, rest)
-copy_word bytes onto c rest e h = rw e (unfold command_at in unfold after in h)
+copy_word : (v : Version) (bytes onto : List ℕ) (c : Command) (rest : List ℕ) → bytes ≡ codes "copy " ++ onto → copy_at onto ≡ Some (c, rest) → command_at v bytes ≡ Some (c, rest)
+copy_word v bytes onto c rest e h = rw e (unfold command_at in unfold after in h)
 
-release_word : (bytes onto : List ℕ) (c : Command) (rest : List ℕ) → bytes ≡ codes "release " ++ onto → release_at onto ≡ Some (c, rest) → command_at bytes ≡ Some (c, rest)
-release_word bytes onto c rest e h = rw e (unfold command_at in unfold after in h)
+release_word : (v : Version) (bytes onto : List ℕ) (c : Command) (rest : List ℕ) → bytes ≡ codes "release " ++ onto → release_at onto ≡ Some (c, rest) → command_at v bytes ≡ Some (c, rest)
+release_word v bytes onto c rest e h = rw e (unfold command_at in unfold after in h)
 
 pub command_again : Again
-command_again text (command.Buffer name size) rest h =
+command_again v text (command.Buffer name size) rest h =
     let parts = codes "buffer " ∷ name ∷ space ∷ decimal size ∷ line_feed ∷ [] in
     let split : text ++ rest ≡ joined_onto parts rest = ap (λ l. l ++ rest) h.2 ∙ joined-append parts rest in
-    (buffer_word (text ++ rest) (joined_onto (name ∷ space ∷ decimal size ∷ line_feed ∷ []) rest) _ rest split (buffer_again name size rest h.0 h.1))
-command_again text (command.Write buffer offset bytes) rest h =
+    (buffer_word v (text ++ rest) (joined_onto (name ∷ space ∷ decimal size ∷ line_feed ∷ []) rest) _ rest split (buffer_again name size rest h.0 h.1))
+command_again v text (command.Write buffer offset bytes) rest h =
     let parts = codes "write " ∷ buffer ∷ space ∷ decimal offset ∷ space ∷ hex bytes ∷ line_feed ∷ [] in
     let split : text ++ rest ≡ joined_onto parts rest = ap (λ l. l ++ rest) h.3 ∙ joined-append parts rest in
-    (write_word (text ++ rest) (joined_onto (buffer ∷ space ∷ decimal offset ∷ space ∷ hex bytes ∷ line_feed ∷ []) rest) _ rest split (write_again buffer offset bytes rest h.0 h.1 h.2))
-command_again text (command.Fill buffer offset count pattern) rest h =
+    (write_word v (text ++ rest) (joined_onto (buffer ∷ space ∷ decimal offset ∷ space ∷ hex bytes ∷ line_feed ∷ []) rest) _ rest split (write_again buffer offset bytes rest h.0 h.1 h.2))
+command_again v text (command.Fill buffer offset count pattern) rest h =
     let parts = codes "fill " ∷ buffer ∷ space ∷ decimal offset ∷ space ∷ decimal count ∷ space ∷ hex pattern ∷ line_feed ∷ [] in
     let split : text ++ rest ≡ joined_onto parts rest = ap (λ l. l ++ rest) h.4 ∙ joined-append parts rest in
-    (fill_word (text ++ rest) (joined_onto (buffer ∷ space ∷ decimal offset ∷ space ∷ decimal count ∷ space ∷ hex pattern ∷ line_feed ∷ []) rest) _ rest split (fill_again buffer offset count pattern rest h.0 h.1 h.2 h.3))
-command_again text (command.Copy source offset target target_offset count) rest h =
+    (fill_word v (text ++ rest) (joined_onto (buffer ∷ space ∷ decimal offset ∷ space ∷ decimal count ∷ space ∷ hex pattern ∷ line_feed ∷ []) rest) _ rest split (fill_again buffer offset count pattern rest h.0 h.1 h.2 h.3))
+command_again v text (command.Copy source offset target target_offset count) rest h =
     let parts = codes "copy " ∷ source ∷ space ∷ decimal offset ∷ space ∷ target ∷ space ∷ decimal target_offset ∷ space ∷ decimal count ∷ line_feed ∷ [] in
     let split : text ++ rest ≡ joined_onto parts rest = ap (λ l. l ++ rest) h.5 ∙ joined-append parts rest in
-    (copy_word (text ++ rest) (joined_onto (source ∷ space ∷ decimal offset ∷ space ∷ target ∷ space ∷ decimal target_offset ∷ space ∷ decimal count ∷ line_feed ∷ []) rest) _ rest split (copy_again source offset target target_offset count rest h.0 h.1 h.2 h.3 h.4))
-command_again text (command.Read buffer offset count) rest h =
+    (copy_word v (text ++ rest) (joined_onto (source ∷ space ∷ decimal offset ∷ space ∷ target ∷ space ∷ decimal target_offset ∷ space ∷ decimal count ∷ line_feed ∷ []) rest) _ rest split (copy_again source offset target target_offset count rest h.0 h.1 h.2 h.3 h.4))
+command_again v text (command.Read buffer offset count) rest h =
     let parts = codes "read " ∷ buffer ∷ space ∷ decimal offset ∷ space ∷ decimal count ∷ line_feed ∷ [] in
     let split : text ++ rest ≡ joined_onto parts rest = ap (λ l. l ++ rest) h.3 ∙ joined-append parts rest in
-    (read_word (text ++ rest) (joined_onto (buffer ∷ space ∷ decimal offset ∷ space ∷ decimal count ∷ line_feed ∷ []) rest) _ rest split (read_again buffer offset count rest h.0 h.1 h.2))
-command_again text (command.Release name) rest h =
+    (read_word v (text ++ rest) (joined_onto (buffer ∷ space ∷ decimal offset ∷ space ∷ decimal count ∷ line_feed ∷ []) rest) _ rest split (read_again buffer offset count rest h.0 h.1 h.2))
+command_again v text (command.Release name) rest h =
     let parts = codes "release " ∷ name ∷ line_feed ∷ [] in
     let split : text ++ rest ≡ joined_onto parts rest = ap (λ l. l ++ rest) h.1 ∙ joined-append parts rest in
-    (release_word (text ++ rest) (joined_onto (name ∷ line_feed ∷ []) rest) _ rest split (release_again name rest h.0))
-command_again text (command.Kernel name program function) rest h =
+    (release_word v (text ++ rest) (joined_onto (name ∷ line_feed ∷ []) rest) _ rest split (release_again name rest h.0))
+command_again v text (command.Kernel name program function) rest h =
     let parts = codes "kernel " ∷ name ∷ space ∷ program ∷ space ∷ function ∷ line_feed ∷ [] in
     let split : text ++ rest ≡ joined_onto parts rest = ap (λ l. l ++ rest) h.3 ∙ joined-append parts rest in
-    (kernel_word (text ++ rest) (joined_onto (name ∷ space ∷ program ∷ space ∷ function ∷ line_feed ∷ []) rest) _ rest split (kernel_again name program function rest h.0 h.1 h.2))
-command_again text (command.Program name source) rest h =
+    (kernel_word v (text ++ rest) (joined_onto (name ∷ space ∷ program ∷ space ∷ function ∷ line_feed ∷ []) rest) _ rest split (kernel_again name program function rest h.0 h.1 h.2))
+command_again v text (command.Program name source) rest h =
     let parts = codes "program " ∷ name ∷ space ∷ decimal h.1.0 ∷ line_feed ∷ source ∷ [] in
     let split : text ++ rest ≡ joined_onto parts rest = ap (λ l. l ++ rest) h.1.3 ∙ joined-append parts rest in
-    (program_word (text ++ rest) (joined_onto (name ∷ space ∷ decimal h.1.0 ∷ line_feed ∷ source ∷ []) rest) _ rest split (program_again name source h.1.0 rest h.0 (omega (arith, h.1.1)) h.1.1 h.1.2))
-command_again text (command.Arg kernel index argument) rest h =
+    (program_word v (text ++ rest) (joined_onto (name ∷ space ∷ decimal h.1.0 ∷ line_feed ∷ source ∷ []) rest) _ rest split (program_again name source h.1.0 rest h.0 (omega (arith, h.1.1)) h.1.1 h.1.2))
+command_again v text (command.Arg kernel index argument) rest h =
     let parts = codes "arg " ∷ kernel ∷ space ∷ decimal index ∷ h.2.0 ∷ line_feed ∷ [] in
     let split : text ++ rest ≡ joined_onto parts rest = ap (λ l. l ++ rest) h.2.2 ∙ joined-append parts rest in
-    (arg_word (text ++ rest) (joined_onto (kernel ∷ space ∷ decimal index ∷ h.2.0 ∷ line_feed ∷ []) rest) _ rest split (arg_again kernel index h.2.0 argument rest h.0 h.1 h.2.1))
-command_again text (command.Launch kernel range) rest h =
-    let parts = codes "launch " ∷ kernel ∷ space ∷ list_text range.global ∷ space ∷ list_text range.local ∷ h.3.0 ∷ line_feed ∷ [] in
-    let split : text ++ rest ≡ joined_onto parts rest = ap (λ l. l ++ rest) h.3.2 ∙ joined-append parts rest in
-    (launch_word (text ++ rest) (joined_onto (kernel ∷ space ∷ list_text range.global ∷ space ∷ list_text range.local ∷ h.3.0 ∷ line_feed ∷ []) rest) _ rest split (launch_again kernel range h.3.0 rest h.0 h.1 h.2 h.3.1))
+    (arg_word v (text ++ rest) (joined_onto (kernel ∷ space ∷ decimal index ∷ h.2.0 ∷ line_feed ∷ []) rest) _ rest split (arg_again kernel index h.2.0 argument rest h.0 h.1 h.2.1))
+command_again v text (command.Launch kernel range) rest h =
+    let parts = codes "launch " ∷ kernel ∷ space ∷ list_text range.global ∷ space ∷ list_text range.local ∷ h.3.0 ∷ h.3.1 ∷ line_feed ∷ [] in
+    let split : text ++ rest ≡ joined_onto parts rest = ap (λ l. l ++ rest) h.3.4 ∙ joined-append parts rest in
+    (launch_word v (text ++ rest) (joined_onto (kernel ∷ space ∷ list_text range.global ∷ space ∷ list_text range.local ∷ h.3.0 ∷ h.3.1 ∷ line_feed ∷ []) rest) _ rest split (launch_again v kernel range h.3.0 h.3.1 rest h.0 h.1 h.2 h.3.2 h.3.3))

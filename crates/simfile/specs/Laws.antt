@@ -1,21 +1,31 @@
 -- What the grammar and the reader have to do with one another.
 use Rattle.std.specs.Prelude.{◌≡◌, ℕ, Some, List, ◌++◌}
 use Rattle.device_store.specs.declared.command.Command.{Command}
-use Rattle.simfile.specs.Script.{IsText, IsScript, IsBadLine}
+use Rattle.simfile.specs.declared.lines.Version.{Version}
+use Rattle.simfile.specs.declared.lines.Version.TheVariants as version
+use Rattle.simfile.specs.Script.{IsText, Begins, IsScript, IsBadLine}
 use Rattle.simfile.specs.Reading.{command_at}
 
 -- what is read is the text of a command
 abbrev pub Takes : Type 0
-Takes = (bytes : List ℕ) (c : Command) (rest : List ℕ) → command_at bytes ≡ Some (c, rest) → (text : List ℕ) × (bytes ≡ text ++ rest) × IsText text c
+Takes = (version : Version) (bytes : List ℕ) (c : Command) (rest : List ℕ) → command_at version bytes ≡ Some (c, rest) → (text : List ℕ) × (bytes ≡ text ++ rest) × IsText version text c
 
 -- the text of a command is read, whatever follows
 abbrev pub Again : Type 0
-Again = (text : List ℕ) (c : Command) (rest : List ℕ) → IsText text c → command_at (text ++ rest) ≡ Some (c, rest)
+Again = (version : Version) (text : List ℕ) (c : Command) (rest : List ℕ) → IsText version text c → command_at version (text ++ rest) ≡ Some (c, rest)
 
 -- one text has one list of commands
 abbrev pub OneScript : Type 0
 OneScript = (bytes : List ℕ) (cs ds : List Command) → IsScript bytes cs → IsScript bytes ds → cs ≡ ds
 
+-- lines that tell commands in version 1 tell the same in version 2
+abbrev pub Keeps : Type 0
+Keeps = (lines rest : List ℕ) (cs : List Command) → Begins version.One lines cs rest → Begins version.Two lines cs rest
+
 -- a text is a script or has a lowest bad line, and not both
 abbrev pub NotBoth : Type 0
 NotBoth = (bytes : List ℕ) (cs : List Command) (n : ℕ) → IsScript bytes cs → IsBadLine bytes n → ⊥
+
+-- a text has one lowest bad line
+abbrev pub OneBadLine : Type 0
+OneBadLine = (bytes : List ℕ) (m n : ℕ) → IsBadLine bytes m → IsBadLine bytes n → m ≡ n

@@ -1,5 +1,5 @@
 -- Reading a command from the front of the bytes, as a function: what it gives is the command and the bytes after it.
-use Rattle.std.specs.Prelude.{ℕ, ◌+◌, ◌-◌, ◌%◌, ◌==◌, ℤ, pos, negsuc, Bool, ◌&&◌, nat_lt, nat_le, nat_eq, Option, None, Some, List, [], ◌∷◌, length, take, drop, replicate, codes, if◌then◌else◌}
+use Rattle.std.specs.Prelude.{ℕ, ◌+◌, ◌-◌, ◌%◌, ◌==◌, ℤ, pos, negsuc, Bool, true, false, ◌&&◌, nat_lt, nat_le, nat_eq, Option, None, Some, List, [], ◌∷◌, length, take, drop, replicate, codes, if◌then◌else◌}
 use lib.Pointwise.{pointwise}
 use Rattle.std.specs.Char.{is_ascii_digit}
 use Rattle.clmodel.specs.declared.setup.Argument.{Argument}
@@ -7,6 +7,9 @@ use Rattle.clmodel.specs.declared.setup.Argument.TheVariants as argument
 use Rattle.clmodel.specs.declared.setup.Range.{Range}
 use Rattle.device_store.specs.declared.command.Command.{Command}
 use Rattle.device_store.specs.declared.command.Command.TheVariants as command
+use Rattle.simfile.specs.declared.lines.Version.{Version}
+use Rattle.simfile.specs.declared.lines.Version.TheVariants as version
+use Rattle.simfile.specs.Script.{head}
 use Rattle.simfile.specs.Fields.{is_later, is_name, is_number, value_of, is_listed, is_list, numbers_of, is_hex_digit, bytes_of}
 
 infixl 10 ◌>>=◌
@@ -50,7 +53,7 @@ positive_at bytes = do
   number ← number_at bytes
   Some (pos number.0, number.1)
 
-abbrev pub or_else : {A B : Type 0} → Option A → (A → Option B) → Option B → Option B
+abbrev pub or_else : {A B : Type 0} → Option A → (A → B) → B → B
 or_else None f o = o
 or_else (Some x) f o = f x
 
@@ -166,42 +169,56 @@ arg_at bytes = do
   rest ← after (10 ∷ []) argument.1
   Some (command.Arg kernel.0 index.0 argument.0, rest)
 
-unfoldable pub listed_offset_at : List ℕ → Option (Option (List ℕ) × List ℕ)
-listed_offset_at bytes = do
-  rest ← after (32 ∷ []) bytes
-  offset ← before 10 (list_at rest)
-  Some (Some offset.0, offset.1)
+-- a list behind a space, and the rest
+unfoldable pub listed_offset_at : List ℕ → Option (List ℕ × List ℕ)
+listed_offset_at bytes = after (32 ∷ []) bytes >>= list_at
 
--- the list of the offsets, where there is one, and the rest behind the line feed
+-- the list of the offsets, where there is one, and the rest
 unfoldable pub offset_at : List ℕ → Option (Option (List ℕ) × List ℕ)
-offset_at bytes = or_else (after (10 ∷ []) bytes) (λ rest. Some (None, rest)) (listed_offset_at bytes)
+offset_at bytes = or_else (listed_offset_at bytes) (λ offset. Some (Some offset.0, offset.1)) (Some (None, bytes))
+
+-- whether the word of a uniform launch stands in front, which only version 2 has, and the rest
+unfoldable pub uniform_at : Version → List ℕ → Option (Bool × List ℕ)
+uniform_at version.One bytes = Some (false, bytes)
+uniform_at version.Two bytes = or_else (after (codes " uniform") bytes) (λ rest. Some (true, rest)) (Some (false, bytes))
 
 -- the offsets of a list, or as many zeros as there are sizes
 abbrev pub offsets_of : Option (List ℕ) → List ℕ → List ℕ
 offsets_of None sizes = replicate (length sizes) 0
 offsets_of (Some text) sizes = numbers_of text
 
--- the range that a line's lists tell
-abbrev pub range_of : List ℕ → List ℕ → Option (List ℕ) → Range
-range_of global local offset = record { global = numbers_of global; local = numbers_of local; offset = offsets_of offset (numbers_of global) }
+-- the range that a launch's line tells
+abbrev pub range_of : List ℕ → List ℕ → Option (List ℕ) → Bool → Range
+range_of global local offset uniform =
+    record {
+      global = numbers_of global;
+      local = numbers_of local;
+      offset = offsets_of offset (numbers_of global);
+      uniform = uniform;
+    }
 
-unfoldable pub launch_at : List ℕ → Option (Command × List ℕ)
-launch_at bytes = do
+unfoldable pub launch_at : Version → List ℕ → Option (Command × List ℕ)
+launch_at version bytes = do
   kernel ← before 32 (name_at bytes)
   global ← before 32 (list_at kernel.1)
   local ← list_at global.1
   offset ← offset_at local.1
-  Some (command.Launch kernel.0 (range_of global.0 local.0 offset.0), offset.1)
+  uniform ← before 10 (uniform_at version offset.1)
+  Some (command.Launch kernel.0 (range_of global.0 local.0 offset.0 uniform.0), uniform.1)
+
+-- the version that the first line tells, and the lines behind it
+unfoldable pub version_at : List ℕ → Version × List ℕ
+version_at bytes = or_else (after (head version.Two) bytes) (λ lines. (version.Two, lines)) (version.One, bytes)
 
 -- a command by its first word
-unfoldable pub command_at : List ℕ → Option (Command × List ℕ)
-command_at bytes =
+unfoldable pub command_at : Version → List ℕ → Option (Command × List ℕ)
+command_at version bytes =
     or_else (after (codes "buffer ") bytes) buffer_at
     (or_else (after (codes "write ") bytes) write_at
     (or_else (after (codes "program ") bytes) program_at
     (or_else (after (codes "kernel ") bytes) kernel_at
     (or_else (after (codes "arg ") bytes) arg_at
-    (or_else (after (codes "launch ") bytes) launch_at
+    (or_else (after (codes "launch ") bytes) (launch_at version)
     (or_else (after (codes "read ") bytes) read_at
     (or_else (after (codes "fill ") bytes) fill_at
     (or_else (after (codes "copy ") bytes) copy_at

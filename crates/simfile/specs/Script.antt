@@ -1,11 +1,13 @@
--- The text of a script. A script is the texts of its commands, one after another.
-use Rattle.std.specs.Prelude.{◌≡◌, ℕ, ◌+◌, ◌<◌, ◌≤◌, ◌^◌, ◌==◌, IsTrue, List, [], ◌∷◌, ◌++◌, length, replicate, codes, decimal, if◌then◌else◌, ◌⊎◌}
+-- The text of a script. A script is the texts of its commands, one after another, in version 2 behind a line that says so.
+use Rattle.std.specs.Prelude.{◌≡◌, ℕ, ◌+◌, ◌<◌, ◌≤◌, ◌^◌, ◌==◌, Bool, true, false, IsTrue, List, [], ◌∷◌, ◌++◌, length, replicate, codes, decimal, if◌then◌else◌, ◌⊎◌}
 use Rattle.std.specs.Fmt.{signed_decimal}
 use Rattle.clmodel.specs.declared.setup.Argument.{Argument}
 use Rattle.clmodel.specs.declared.setup.Argument.TheVariants as argument
 use Rattle.device_store.specs.declared.command.Command.{Command}
 use Rattle.device_store.specs.declared.command.Command.TheVariants as command
 use Rattle.replay_text.specs.Pieces.{joined}
+use Rattle.simfile.specs.declared.lines.Version.{Version}
+use Rattle.simfile.specs.declared.lines.Version.TheVariants as version
 use Rattle.simfile.specs.Fields.{is_name, IsList, list_text, AreBytes, hex, IsValue}
 
 abbrev pub line_feeds : List ℕ → ℕ
@@ -34,61 +36,68 @@ IsSetting text (argument.Local size) = (size < 2 ^ 64) × (text ≡ codes " loca
 abbrev pub IsOffset : List ℕ → List ℕ → List ℕ → Type 0
 IsOffset text sizes offsets = (text ≡ []) × (offsets ≡ replicate (length sizes) 0) ⊎ IsList offsets × (text ≡ space ++ list_text offsets)
 
+-- the word that makes a launch uniform, with the space before it, or nothing; only version 2 has the word
+abbrev pub IsUniform : Version → List ℕ → Bool → Type 0
+IsUniform version.One text uniform = (text ≡ []) × (uniform ≡ false)
+IsUniform version.Two text false = text ≡ []
+IsUniform version.Two text true = text ≡ codes " uniform"
+
 -- the text of a command
-abbrev pub IsText : List ℕ → Command → Type 0
-IsText text (command.Buffer name size) =
+abbrev pub IsText : Version → List ℕ → Command → Type 0
+IsText version text (command.Buffer name size) =
     IsTrue (is_name name) × (size < 2 ^ 64)
     × (text ≡ joined (codes "buffer " ∷ name ∷ space ∷ decimal size ∷ line_feed ∷ []))
-IsText text (command.Write buffer offset bytes) =
+IsText version text (command.Write buffer offset bytes) =
     IsTrue (is_name buffer) × (offset < 2 ^ 64) × AreBytes bytes
     × (text ≡ joined (codes "write " ∷ buffer ∷ space ∷ decimal offset ∷ space ∷ hex bytes ∷ line_feed ∷ []))
-IsText text (command.Read buffer offset count) =
+IsText version text (command.Read buffer offset count) =
     IsTrue (is_name buffer) × (offset < 2 ^ 64) × (count < 2 ^ 64)
     × (text ≡ joined (codes "read " ∷ buffer ∷ space ∷ decimal offset ∷ space ∷ decimal count ∷ line_feed ∷ []))
-IsText text (command.Fill buffer offset count pattern) =
+IsText version text (command.Fill buffer offset count pattern) =
     IsTrue (is_name buffer) × (offset < 2 ^ 64) × (count < 2 ^ 64) × AreBytes pattern
     × (text ≡ joined (codes "fill " ∷ buffer ∷ space ∷ decimal offset ∷ space ∷ decimal count ∷ space ∷ hex pattern ∷ line_feed ∷ []))
-IsText text (command.Copy source offset target target_offset count) =
+IsText version text (command.Copy source offset target target_offset count) =
     IsTrue (is_name source) × (offset < 2 ^ 64) × IsTrue (is_name target) × (target_offset < 2 ^ 64) × (count < 2 ^ 64)
     × (text ≡ joined (codes "copy " ∷ source ∷ space ∷ decimal offset ∷ space ∷ target ∷ space ∷ decimal target_offset ∷ space ∷ decimal count ∷ line_feed ∷ []))
-IsText text (command.Release name) =
+IsText version text (command.Release name) =
     IsTrue (is_name name) × (text ≡ joined (codes "release " ∷ name ∷ line_feed ∷ []))
-IsText text (command.Program name source) =
+IsText version text (command.Program name source) =
     IsTrue (is_name name)
     × ((n : ℕ) × (n ≤ 65536) × AreLines source n
     × (text ≡ joined (codes "program " ∷ name ∷ space ∷ decimal n ∷ line_feed ∷ source ∷ [])))
-IsText text (command.Kernel name program function) =
+IsText version text (command.Kernel name program function) =
     IsTrue (is_name name) × IsTrue (is_name program) × IsTrue (is_name function)
     × (text ≡ joined (codes "kernel " ∷ name ∷ space ∷ program ∷ space ∷ function ∷ line_feed ∷ []))
-IsText text (command.Arg kernel index argument) =
+IsText version text (command.Arg kernel index argument) =
     IsTrue (is_name kernel) × (index < 2 ^ 64)
     × ((setting : List ℕ) × IsSetting setting argument
     × (text ≡ joined (codes "arg " ∷ kernel ∷ space ∷ decimal index ∷ setting ∷ line_feed ∷ [])))
-IsText text (command.Launch kernel range) =
+IsText version text (command.Launch kernel range) =
     IsTrue (is_name kernel) × IsList range.global × IsList range.local
-    × ((offset : List ℕ) × IsOffset offset range.global range.offset
-    × (text ≡ joined (codes "launch " ∷ kernel ∷ space ∷ list_text range.global ∷ space ∷ list_text range.local ∷ offset ∷ line_feed ∷ [])))
+    × ((offset word : List ℕ) × IsOffset offset range.global range.offset × IsUniform version word range.uniform
+    × (text ≡ joined (codes "launch " ∷ kernel ∷ space ∷ list_text range.global ∷ space ∷ list_text range.local ∷ offset ∷ word ∷ line_feed ∷ [])))
 
 -- the bytes are the texts of the commands, in order, and then the rest
-abbrev pub Begins : List ℕ → List Command → List ℕ → Type 0
-Begins bytes [] rest = bytes ≡ rest
-Begins bytes (c ∷ cs) rest = (text mid : List ℕ) × (bytes ≡ text ++ mid) × IsText text c × Begins mid cs rest
+abbrev pub Begins : Version → List ℕ → List Command → List ℕ → Type 0
+Begins version bytes [] rest = bytes ≡ rest
+Begins version bytes (c ∷ cs) rest = (text mid : List ℕ) × (bytes ≡ text ++ mid) × IsText version text c × Begins version mid cs rest
 
--- a script has at most 4,096 commands
+-- what stands before the commands of a script: in version 2 its first line
+abbrev pub head : Version → List ℕ
+head version.One = []
+head version.Two = codes "clsim 2\n"
+
+-- a script has at most 4,096 commands, behind what its version begins with
 abbrev pub IsScript : List ℕ → List Command → Type 0
-IsScript bytes commands = Begins bytes commands [] × (length commands ≤ 4096)
+IsScript bytes commands = (version : Version) × (lines : List ℕ) × (bytes ≡ head version ++ lines) × Begins version lines commands [] × (length commands ≤ 4096)
 
--- no command's text begins the bytes
-abbrev pub NoText : List ℕ → Type 0
-NoText bytes = (c : Command) (text more : List ℕ) → bytes ≡ text ++ more → IsText text c → ⊥
-
--- the line n is the lowest bad one: the lines before it are a script's, there is a line, and no command's text begins there, or the script is full
+-- the line n is the lowest bad one: the lines before it are a script, and no longer beginning of the bytes is one
 pub record IsBadLine (bytes : List ℕ) (n : ℕ) : Type 0 where
   pub commands : List Command
   pub front : List ℕ
   pub rest : List ℕ
   pub split : bytes ≡ front ++ rest
   pub script : IsScript front commands
+  pub longest : (other more : List ℕ) (cs : List Command) → bytes ≡ other ++ more → IsScript other cs → length other ≤ length front
   pub number : n ≡ line_feeds front + 1
   pub some : 0 < length rest
-  pub why : NoText rest ⊎ (length commands ≡ 4096)

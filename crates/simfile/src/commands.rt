@@ -17,24 +17,20 @@ use clmodel::text::{Bytes, Name, Numbers};
 use device_store::command::Command;
 use std::alloc::{AllocError, Global};
 
-/// The range that a line's lists tell: where no offsets are given, as many zeros as there are sizes.
-fn range_of(
-    alloc: Global,
-    global: &[u8],
-    local: &[u8],
-    offset: Option<&[u8]>,
-) -> Result<Range, AllocError>
-    ensures { IfOk result (λ range. range ≡ range_of global.now local.now (option_map (λ list. list.now) offset.entry)) }
+/// The range that a launch's line tells: where no offsets are given, as many zeros as there are sizes.
+fn range_of(alloc: Global, line: LaunchLine<'_>) -> Result<Range, AllocError>
+    ensures { IfOk result (λ range. range ≡ range_of line.entry.global.now line.entry.local.now (option_map (λ list. list.now) line.entry.offset) line.entry.uniform) }
 {
-    let global = numbers_of(alloc, global)?;
-    let offset = match offset {
+    let global = numbers_of(alloc, line.global)?;
+    let offset = match line.offset {
         Some(offset) => numbers_of(alloc, offset)?,
         None => Numbers::new(vec![in alloc; 0; global.as_slice().len()]?),
     };
     Ok(Range {
         global,
-        local: numbers_of(alloc, local)?,
+        local: numbers_of(alloc, line.local)?,
         offset,
+        uniform: line.uniform,
     })
 }
 
@@ -138,7 +134,7 @@ fn launch(alloc: Global, line: LaunchLine<'_>) -> Result<Command, AllocError>
 {
     Ok(Command::Launch {
         kernel: Name::copy_of(alloc, line.kernel)?,
-        range: range_of(alloc, line.global, line.local, line.offset)?,
+        range: range_of(alloc, line)?,
     })
 }
 

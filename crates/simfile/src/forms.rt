@@ -3,7 +3,7 @@
 
 ghost use Rattle.std.specs.Prelude.{◌≡◌};
 ghost use Rattle.std.specs.Option.{option_map};
-ghost use Rattle.simfile.specs.Reading.{buffer_at, write_at, fill_at, copy_at, read_at, release_at, program_at, source_at, kernel_at, buffer_argument_at, value_argument_at, local_argument_at, argument_at, arg_at, offset_at, launch_at, command_at};
+ghost use Rattle.simfile.specs.Reading.{buffer_at, write_at, fill_at, copy_at, read_at, release_at, program_at, source_at, kernel_at, buffer_argument_at, value_argument_at, local_argument_at, argument_at, arg_at, listed_offset_at, offset_at, uniform_at, launch_at, version_at, command_at};
 ghost use Rattle.simfile.specs.Views.{argument_of, command_of};
 
 use crate::fields::{
@@ -11,7 +11,8 @@ use crate::fields::{
     number_before, value_at,
 };
 use crate::lines::{
-    ArgLine, CopyLine, FillLine, KernelLine, LaunchLine, Line, ReadLine, Setting, WriteLine,
+    ArgLine, CopyLine, FillLine, KernelLine, LaunchLine, Line, ReadLine, Setting, Version,
+    WriteLine,
 };
 
 #[tactic(auto, unfolding(crate::specs::Reading::buffer_at))]
@@ -187,40 +188,74 @@ fn arg_at(bytes: &[u8]) -> Option<(Line<'_>, &[u8])>
     Some((Line::Arg(line), rest))
 }
 
-/// The list of the offsets, where there is one, and the rest behind the line feed.
-#[tactic(auto, unfolding(crate::specs::Reading::offset_at, crate::specs::Reading::listed_offset_at))]
-fn offset_at(bytes: &[u8]) -> Option<(Option<&[u8]>, &[u8])>
-    ensures { option_map (λ read. (option_map (λ list. list.now) read.0, read.1.now)) result ≡ offset_at bytes.now }
+/// A list behind a space, and the rest.
+#[tactic(auto, unfolding(crate::specs::Reading::listed_offset_at))]
+fn listed_offset_at(bytes: &[u8]) -> Option<(&[u8], &[u8])>
+    ensures { option_map (λ read. (read.0.now, read.1.now)) result ≡ listed_offset_at bytes.now }
 {
-    if let Some(rest) = after(b"\n", bytes) {
-        return Some((None, rest));
-    }
-    let rest = after(b" ", bytes)?;
-    let (offset, rest) = list_before(b'\n', rest)?;
-    Some((Some(offset), rest))
+    list_at(after(b" ", bytes)?)
 }
 
-#[tactic(auto, unfolding(crate::specs::Reading::launch_at))]
-fn launch_at(bytes: &[u8]) -> Option<(Line<'_>, &[u8])>
-    ensures { option_map (λ read. (command_of read.0, read.1.now)) result ≡ launch_at bytes.now }
+/// The list of the offsets, where there is one, and the rest.
+#[tactic(auto, unfolding(crate::specs::Reading::offset_at))]
+fn offset_at(bytes: &[u8]) -> (Option<&[u8]>, &[u8])
+    ensures { Some (option_map (λ list. list.now) result.0, result.1.now) ≡ offset_at bytes.now }
+{
+    match listed_offset_at(bytes) {
+        Some((offset, rest)) => (Some(offset), rest),
+        None => (None, bytes),
+    }
+}
+
+/// Whether the word of a uniform launch stands in front, which only version 2 has, and the rest.
+#[tactic(auto, unfolding(crate::specs::Reading::uniform_at))]
+fn uniform_at(version: Version, bytes: &[u8]) -> (bool, &[u8])
+    ensures { Some (result.0, result.1.now) ≡ uniform_at version bytes.now }
+{
+    match version {
+        Version::One => (false, bytes),
+        Version::Two => match after(b" uniform", bytes) {
+            Some(rest) => (true, rest),
+            None => (false, bytes),
+        },
+    }
+}
+
+#[tactic(auto, unfolding(crate::specs::Reading::launch_at, crate::specs::Reading::before))]
+fn launch_at(version: Version, bytes: &[u8]) -> Option<(Line<'_>, &[u8])>
+    ensures { option_map (λ read. (command_of read.0, read.1.now)) result ≡ launch_at version bytes.now }
 {
     let (kernel, rest) = name_before(b' ', bytes)?;
     let (global, rest) = list_before(b' ', rest)?;
     let (local, rest) = list_at(rest)?;
-    let (offset, rest) = offset_at(rest)?;
+    let (offset, rest) = offset_at(rest);
+    let (uniform, rest) = uniform_at(version, rest);
+    let rest = after(b"\n", rest)?;
     let line = LaunchLine {
         kernel,
         global,
         local,
         offset,
+        uniform,
     };
     Some((Line::Launch(line), rest))
 }
 
-/// The line of a command in front, and the rest.
+/// The version of a script, which its first line tells, and its lines behind that one. Without such a line it is of version 1.
+#[tactic(auto, unfolding(crate::specs::Reading::version_at))]
+pub fn version_at(bytes: &[u8]) -> (Version, &[u8])
+    ensures { (result.0, result.1.now) ≡ version_at bytes.now }
+{
+    match after(b"clsim 2\n", bytes) {
+        Some(rest) => (Version::Two, rest),
+        None => (Version::One, bytes),
+    }
+}
+
+/// The line of a command in front, as the version has it, and the rest.
 #[tactic(auto, unfolding(crate::specs::Reading::command_at))]
-pub fn line_at(bytes: &[u8]) -> Option<(Line<'_>, &[u8])>
-    ensures { option_map (λ read. (command_of read.0, read.1.now)) result ≡ command_at bytes.now }
+pub fn line_at(version: Version, bytes: &[u8]) -> Option<(Line<'_>, &[u8])>
+    ensures { option_map (λ read. (command_of read.0, read.1.now)) result ≡ command_at version bytes.now }
 {
     if let Some(rest) = after(b"buffer ", bytes) {
         return buffer_at(rest);
@@ -238,7 +273,7 @@ pub fn line_at(bytes: &[u8]) -> Option<(Line<'_>, &[u8])>
         return arg_at(rest);
     }
     if let Some(rest) = after(b"launch ", bytes) {
-        return launch_at(rest);
+        return launch_at(version, rest);
     }
     if let Some(rest) = after(b"read ", bytes) {
         return read_at(rest);

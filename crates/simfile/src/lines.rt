@@ -1,6 +1,14 @@
 //! What the lines of a script tell, with names and bytes that are lent.
 #![tactic(auto)]
 
+/// A version of the script's text.
+#[derive(Clone, Copy)]
+pub enum Version {
+    One,
+    /// A launch may be uniform
+    Two,
+}
+
 /// What a line sets an argument to.
 #[derive(Clone, Copy)]
 pub enum Setting<'a> {
@@ -68,6 +76,7 @@ pub struct LaunchLine<'a> {
     pub global: &'a [u8],
     pub local: &'a [u8],
     pub offset: Option<&'a [u8]>,
+    pub uniform: bool,
 }
 
 /// A line of a script, with the source that follows a program's.

@@ -8,7 +8,7 @@ ghost use Rattle.simfile.specs.Faults.{NoScript};
 ghost use Rattle.device_store.specs.declared.command.Command.{Command};
 
 use crate::commands::command_of;
-use crate::forms::line_at;
+use crate::forms::{line_at, version_at};
 use crate::lines::Line;
 use device_store::command::Command;
 use std::alloc::{AllocError, Global};
@@ -50,22 +50,23 @@ fn add(alloc: Global, line: Line<'_>, commands: &mut Vec<Command>) -> Result<(),
     Ok(())
 }
 
-/// The commands of a script. A text that is none has a bad line: one that is no command's, is without its
-/// line feed, has too few source
-/// lines after it, or is that of the 4,097th command.
+/// The commands of a script. One whose first line is `clsim 2` is of version 2, which has uniform launches, and this line is no command.
+/// A text that is no script has a bad line: one that is no command's of its version, is without its line feed, has too few source lines
+/// after it, or is that of the 4,097th command.
 pub fn read_script(alloc: Global, bytes: &[u8]) -> Result<Vec<Command>, ScriptFault>
     ensures found { IfOk result (λ commands. IsScript bytes.now commands.items) }
     ensures only { (commands : List Command) → IsScript bytes.now commands →
         IfOk result (λ found. found.items ≡ commands) }
     ensures bad { IfErr result (NoScript bytes.now) }
 {
+    let (version, lines) = version_at(bytes);
     let mut commands = Vec::new(alloc);
-    let mut rest = bytes;
+    let mut rest = lines;
     for _ in 0..MAX_COMMANDS {
         if rest.is_empty() {
             return Ok(commands);
         }
-        let Some((line, others)) = line_at(rest) else {
+        let Some((line, others)) = line_at(version, rest) else {
             return Err(ScriptFault::BadLine(line_number(bytes, rest)));
         };
         match add(alloc, line, &mut commands) {

@@ -1,5 +1,5 @@
 use Rattle.simfile.proofs.Grammar.{command_takes, command_again}
-use Rattle.simfile.proofs.Scripts.{one_script, not_both}
+use Rattle.simfile.proofs.Scripts.{one_script, keeps, not_both, one_bad_line}
 use Rattle.simfile.proofs.laws.script_laws.Goals as goal
 
 pub returns-clause-takes : goal.returns-clause-takes
@@ -11,5 +11,11 @@ returns-clause-again c = command_again
 pub returns-clause-one_script : goal.returns-clause-one_script
 returns-clause-one_script c = one_script
 
+pub returns-clause-keeps : goal.returns-clause-keeps
+returns-clause-keeps c = keeps
+
 pub returns-clause-not_both : goal.returns-clause-not_both
 returns-clause-not_both c = not_both
+
+pub returns-clause-one_bad_line : goal.returns-clause-one_bad_line
+returns-clause-one_bad_line c = one_bad_line
