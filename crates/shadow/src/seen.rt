@@ -1,13 +1,11 @@
 //! What is kept of the accesses to one byte.
 
 ghost use Rattle.std.specs.Prelude.{◌≡◌};
-ghost use Rattle.clmodel.specs.Cells.{byte_of};
-ghost use Rattle.clmodel.specs.Launch.{both_store, left_at};
 ghost use Rattle.joining.specs.Memory.{writes};
 ghost use Rattle.shadow.specs.Seen.{one_sort, mark_of, seen_with, is_written, mark_clash, met, against, conflict_with};
 
 use clmodel::access::{Access, AccessKind, Clash, Conflict};
-use shadow_list::{clash, kind_number};
+use shadow_list::{both_store, clash, kind_number, left_at};
 
 /// Who accessed a byte, and how.
 #[derive(Clone, Copy)]
@@ -53,24 +51,6 @@ impl Meeting {
             clash: self.clash,
         }
     }
-}
-
-/// Byte k of a number, the lowest first.
-fn byte_of(k: u64, value: u64) -> u8
-    ensures { result ≡ byte_of k value }
-{
-    if k < 8 {
-        ((value >> (8 * k)) % 256) as u8
-    } else {
-        0
-    }
-}
-
-/// What a store that is at this byte leaves there (C99, section 6.5.16.1).
-fn left_at(x: &Access, byte: u64) -> u8
-    ensures { result ≡ left_at x.now byte }
-{
-    byte_of(byte.saturating_sub(x.first), x.value)
 }
 
 /// Who made an access, how, and what a store leaves at this byte.
@@ -129,19 +109,6 @@ pub(crate) fn is_written(seen: Seen) -> bool
         Seen::Untouched => false,
         Seen::Touched(first) => writes(first.kind),
         Seen::Mixed(first, other) => writes(first.kind) || writes(other.kind),
-    }
-}
-
-/// Whether both are stores.
-fn both_store(kind: AccessKind, other: AccessKind) -> bool
-    ensures { result ≡ both_store kind other }
-{
-    match kind {
-        AccessKind::Store => match other {
-            AccessKind::Store => true,
-            AccessKind::Load | AccessKind::Update(_) | AccessKind::Fetch => false,
-        },
-        AccessKind::Load | AccessKind::Update(_) | AccessKind::Fetch => false,
     }
 }
 
