@@ -90,9 +90,9 @@ conflict_on-append judge x byte (y ∷ later) earlier =
     ap (λ o. or_else o (one_conflict judge x byte y)) (conflict_on-append judge x byte later earlier)
     ∙ or_else_assoc (conflict_on judge x byte earlier) (conflict_on judge x byte later) (one_conflict judge x byte y)
 
-one_judge : (l : Launch) (g : ℕ) (y x : Access) (byte : ℕ) → group_of l y.item ≡ g → group_of l x.item ≡ g → conflict l y x byte ≡ conflict_between within_group y x byte
+one_judge : (l : Launch) (g : ℕ) (y x : Access) (byte : ℕ) → group_of l y.item ≡ g → group_of l x.item ≡ g → conflict l y x byte ≡ conflict_between (within_group l.uniform) y x byte
 unfolding conflict
-one_judge l g y x byte a b = ap (λ b. conflict_between (record { one_group = b }) y x byte) (eq-eqb (group_of l y.item) (group_of l x.item) (a ∙ sym b))
+one_judge l g y x byte a b = ap (λ b. conflict_between (record { one_group = b; uniform = l.uniform }) y x byte) (eq-eqb (group_of l y.item) (group_of l x.item) (a ∙ sym b))
 
 abbrev told_as : Entry → Entry → ℕ → Option Clash → Option conflict_type.Conflict
 told_as y x byte o = option_map (λ clash. record { earlier = y.access; later = x.access; byte = byte; clash = clash }) o
@@ -106,29 +106,29 @@ told_hit y x byte (Some clash) = refl
 
 on_is_hit :
     (l : Launch) (g : ℕ) (x : Entry) (byte : ℕ) (es : List Entry) → group_of l x.access.item ≡ g → AreMine l g es
-    → conflict_on (conflict l) x.access byte (accesses_of es) ≡ option_map conflict_of (hit_on within_group x byte es)
+    → conflict_on (conflict l) x.access byte (accesses_of es) ≡ option_map conflict_of (hit_on (within_group l.uniform) x byte es)
 on_is_hit l g x byte [] m h = refl
 on_is_hit l g x byte (y ∷ es) m h =
     ap (conflict_on (conflict l) x.access byte) (accesses_cons y es)
     ∙ conflict_on-append (conflict l) x.access byte (accesses_of es) (y.access ∷ [])
     ∙ ap₂ or_else
     (ap (told_as y x byte) (one_judge l g y.access x.access byte h.0 m)
-    ∙ told_hit y x byte (conflict_between within_group y.access x.access byte))
+    ∙ told_hit y x byte (conflict_between (within_group l.uniform) y.access x.access byte))
     (on_is_hit l g x byte es m h.1)
-    ∙ sym (or_else_map conflict_of (hit_between within_group y x byte) (hit_on within_group x byte es))
+    ∙ sym (or_else_map conflict_of (hit_between (within_group l.uniform) y x byte) (hit_on (within_group l.uniform) x byte es))
 
 from_is_hit :
     (l : Launch) (g : ℕ) (x : Entry) (es : List Entry) → group_of l x.access.item ≡ g → AreMine l g es → (byte count : ℕ)
-    → conflict_from (conflict l) x.access (accesses_of es) byte count ≡ option_map conflict_of (hit_from within_group x es byte count)
+    → conflict_from (conflict l) x.access (accesses_of es) byte count ≡ option_map conflict_of (hit_from (within_group l.uniform) x es byte count)
 from_is_hit l g x es m h byte zero = refl
 from_is_hit l g x es m h byte (suc count) =
     ap₂ or_else (on_is_hit l g x byte es m h) (from_is_hit l g x es m h (suc byte) count)
-    ∙ sym (or_else_map conflict_of (hit_on within_group x byte es) (hit_from within_group x es (suc byte) count))
+    ∙ sym (or_else_map conflict_of (hit_on (within_group l.uniform) x byte es) (hit_from (within_group l.uniform) x es (suc byte) count))
 
 -- the newest access of a log conflicts as the code's log says
 pub newest_is_hit :
     (l : Launch) (g : ℕ) (log : List Access) (x : Entry) (es : List Entry) → group_of l x.access.item ≡ g → AreMine l g es → Keeps log (accesses_of es)
-    → newest_conflict l (x.access ∷ log) ≡ option_map conflict_of (hit within_group x es)
+    → newest_conflict l (x.access ∷ log) ≡ option_map conflict_of (hit (within_group l.uniform) x es)
 unfolding hit
 newest_is_hit l g log x es m h k =
     conflict_from-same (conflict l) x.access log (accesses_of es) (λ byte. conflict_on-kept (conflict l) x.access byte log (accesses_of es) k) x.access.first (byte_count x.access.width)

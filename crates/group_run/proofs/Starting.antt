@@ -133,18 +133,18 @@ from_none a b h = omega (arith, h)
 pub start_fits :
     {I G : Type 0} (acts : I → List Answer → Action) (bytes : G → List (Option ℕ)) (ro : Bool) (l : Launch) (group : ℕ) (items : List I) (globals : List G) (locals : List (List (Option ℕ))) (log : Log)
     → IsRunnable l → group * l.group_size < l.items → ro ≡ false → map bytes globals ≡ filled l → locals ≡ map (λ size. replicate size None) l.local_sizes
-    → log ≡ fresh_log → AreStarted acts l (group * l.group_size) l.group_size items
+    → log ≡ fresh_log l.uniform → AreStarted acts l (group * l.group_size) l.group_size items
     → Fits acts bytes ro (plan_of l group) items 0 globals locals log [] (start l)
 start_fits acts bytes ro l group items globals locals log ready there writable full unset fresh started =
     let bound = ready.bounded.0 in
     subst (λ z. Fits acts bytes ro (plan_of l group) items 0 globals locals z [] (start l)) (sym fresh)
-    (subst (λ z. Fits acts bytes ro (plan_of l group) items 0 globals z (fresh_log) [] (start l)) (sym unset)
+    (subst (λ z. Fits acts bytes ro (plan_of l group) items 0 globals z (fresh_log l.uniform) [] (start l)) (sym unset)
     (record {
       whole = group_is l group (groups_whole l ready) there;
       writable = writable;
       acting = started.each;
       holds = (buffers_hold bytes l globals full, locals_hold l group);
-      logged = record { keeps = refl; noted = refl; mine = tt; local_interval = refl; global_interval = refl };
+      logged = record { keeps = refl; noted = refl; mine = tt; local_interval = refl; global_interval = refl; uniform = refl };
       counts = record {
         counted = refl;
         bound = bound;
@@ -176,7 +176,7 @@ pub record Begins (p : Plan) (fits : Events → State → Type 0) (origin : Stat
 pub begins :
     {I G : Type 0} (acts : I → List Answer → Action) (bytes : G → List (Option ℕ)) (ro : Bool) (l : Launch) (group first count : ℕ) (items : List I) (globals : List G) (locals : List (List (Option ℕ))) (log : Log)
     → IsRunnable l → group * l.group_size < l.items → ro ≡ false → map bytes globals ≡ filled l → locals ≡ map (λ size. replicate size None) l.local_sizes
-    → log ≡ fresh_log → first ≡ group * l.group_size → count ≡ l.group_size → AreStarted acts l first count items
+    → log ≡ fresh_log l.uniform → first ≡ group * l.group_size → count ≡ l.group_size → AreStarted acts l first count items
     → Begins (record { launch = l; group = group; first = first; count = length items })
     (Fits acts bytes ro (record { launch = l; group = group; first = first; count = length items }) items 0 globals locals log) (start l)
 begins acts bytes ro l group first count items globals locals log ready there writable full unset fresh e h started =

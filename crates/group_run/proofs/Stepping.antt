@@ -158,6 +158,7 @@ logged_more p log new events s item at first op x number hit e mine h noted =
       mine = mine_noted p.launch p.group log.accesses new.accesses y h.mine mine kept;
       local_interval = noted.2 ∙ h.local_interval;
       global_interval = noted.3 ∙ h.global_interval;
+      uniform = noted.4 ∙ h.uniform;
     }
 
 -- what an access finds, answers and leaves, in the region of its item
@@ -245,7 +246,7 @@ accessed_fits acts bytes ro p items number globals globals2 locals locals2 log l
           };
       conflict =
           newest_is_hit l p.group s.log y log.accesses mine f.logged.mine f.logged.keeps
-          ∙ ap (λ z. option_map conflict_of (hit within_group z log.accesses)) (sym is)
+          ∙ ap₂ (λ u z. option_map conflict_of (hit (within_group u) z log.accesses)) (sym f.logged.uniform) (sym is)
           ∙ ap (option_map conflict_of) (sym kept.0);
     }
 
@@ -306,6 +307,7 @@ released_fits acts bytes ro p items items2 number globals locals log log2 events
                   mine = f.logged.mine;
                   local_interval = raised_here fences.local log.local_interval p.group s.local_interval f.logged.local_interval;
                   global_interval = raised_here fences.global log.global_interval p.group s.global_interval f.logged.global_interval;
+                  uniform = f.logged.uniform;
                 };
             counts =
                 counts_more p number events s next 0 (Release p.group) f.whole f.counts f.whole.some

@@ -51,6 +51,7 @@ after_fences log fences =
       accesses = log.accesses;
       local_interval = if fences.local then log.local_interval + 1 else log.local_interval;
       global_interval = if fences.global then log.global_interval + 1 else log.global_interval;
+      uniform = log.uniform;
     }
 
 -- a program's log after these events of a group, which lead to a state
@@ -60,3 +61,4 @@ pub record IsLogged (plan : Plan) (log : Log) (events : Events) (state : State) 
   pub mine : AreMine plan.launch plan.group log.accesses
   pub local_interval : log.local_interval ≡ state.local_interval plan.group
   pub global_interval : log.global_interval ≡ state.global_interval plan.group
+  pub uniform : log.uniform ≡ plan.launch.uniform

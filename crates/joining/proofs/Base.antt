@@ -2,8 +2,8 @@
 use Rattle.std.proofs.Common.{◌≡◌, ℕ, ◌+◌, ◌<◌, ◌≤◌, ◌==◌, false, Option, None, Some, refl, sym, ap, ap₂, ◌∙◌, ◌-◌, ℤ, nat_lt, lt-ltb, arith}
 use Rattle.std.proofs.lemmas.Bool.{ne_eqb}
 use Rattle.std.specs.Option.{option_map}
-use Rattle.clmodel.specs.Cells.{Cells, Outcome, covers, written, byte_of, found, size_of, width_of, answer_to, effect, perform}
-use Rattle.clmodel.specs.Launch.{Launch, same_region, clash, group_of, kind_of}
+use Rattle.clmodel.specs.Cells.{Cells, Outcome, covers, written, byte_of, found, size_of, answer_to, effect, perform}
+use Rattle.clmodel.specs.Launch.{Launch, same_region, clash, group_of, kind_of, access_in}
 use Rattle.clmodel.specs.Run.{Memory, State, with_cells, changed, access_of, by_region, accessed, access_at, item_step, step, next_action, byte_at, first_item, straggler, stop_of}
 use Rattle.clmodel.specs.Law.{Makes, Reports, Finishes, unset_turn, access_turn, divergence, item_turn}
 use Rattle.clmodel.specs.declared.fault.Fault.{Fault}
@@ -52,7 +52,7 @@ changed_there f i a k h = if_false (k == i) a (f k) (ne_eqb k i h)
 pub entry_same : (l : Launch) (b s : State) (i : ℕ) (p : Region) (first : ℕ) (op : Operation) → s.global_interval (group_of l i) ≡ b.global_interval (group_of l i)
     → s.local_interval (group_of l i) ≡ b.local_interval (group_of l i) → access_of l s i p first op ≡ access_of l b i p first op
 entry_same l b s i p first op g h =
-    ap₂ (λ x y. record { item = i; region = p; first = first; width = width_of op; kind = kind_of op; interval = by_region p x y }) g h
+    ap₂ (λ x y. access_in i p first op (by_region p x y)) g h
 
 abbrev pub made_at : Launch → State → ℕ → Object → Operation → ℕ → ℕ → State
 made_at l s i object op first x = made l s i (region_for l i object) first op x

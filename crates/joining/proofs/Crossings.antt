@@ -1,12 +1,14 @@
 -- Conflicts of a group's accesses with those of the groups below.
-use Rattle.std.proofs.Common.{◌≡◌, ℕ, zero, suc, true, Option, Some, None, refl, sym, ap, ap₂, ◌∙◌, subst, inl, inr, List, [], ◌∷◌, ◌++◌}
-use Rattle.std.proofs.lemmas.Bool.{and_parts, eqb-true}
+use Rattle.std.proofs.Common.{◌≡◌, ℕ, zero, suc, Bool, true, false, ◌&&◌, ◌==◌, if◌then◌else◌, ◌⊎◌, Option, Some, None, refl, sym, ap, ap₂, ◌∙◌, subst, inl, inr, List, [], ◌∷◌, ◌++◌}
+use Rattle.std.proofs.lemmas.Bool.{and_parts, eqb-true, true≢false}
 use Rattle.std.specs.Option.{option_map}
 use Rattle.clmodel.specs.Cells.{byte_count, covers}
-use Rattle.clmodel.specs.Launch.{Launch, same_region, group_of, clash_at, conflict}
+use Rattle.clmodel.specs.Launch.{Launch, same_region, group_of, clash, both_store, left_at, conflict}
 use Rattle.clmodel.specs.Run.{or_else}
 use Rattle.clmodel.specs.Law.{Logged, conflict_on, conflict_from, newest_conflict}
 use Rattle.clmodel.specs.declared.access.Access.{Access}
+use Rattle.clmodel.specs.declared.access.AccessKind.{AccessKind}
+use Rattle.clmodel.specs.declared.access.AccessKind.TheVariants as kind
 use Rattle.clmodel.specs.declared.access.Region.{Region}
 use Rattle.clmodel.specs.declared.access.Clash.{Clash}
 use Rattle.clmodel.specs.declared.access.Conflict as conflict_type
@@ -71,17 +73,42 @@ no_cross l lower (z ∷ own) h x y (inl p) q byte =
     subst (λ e. conflict l y e byte ≡ None) p (no_newest l z lower (map_none _ (conflict_from (conflict l) z lower z.first (byte_count z.width)) r.1) y q byte)
 no_cross l lower (z ∷ own) h x y (inr p) q byte = no_cross l lower own (or_else_none (crossing l lower own) _ h).0 x y p q byte
 
+-- both are stores of a uniform launch
+abbrev pub BothStores : Launch → AccessKind → AccessKind → Type 0
+BothStores l k k2 = (l.uniform ≡ true) × (k ≡ kind.Store) × (k2 ≡ kind.Store)
+
+both_stores : (k k2 : AccessKind) → both_store k k2 ≡ true → (k ≡ kind.Store) × (k2 ≡ kind.Store)
+both_stores kind.Load k2 h = absurd (true≢false (sym h))
+both_stores kind.Store kind.Load h = absurd (true≢false (sym h))
+both_stores kind.Store kind.Store h = (refl, refl)
+both_stores kind.Store (kind.Update d) h = absurd (true≢false (sym h))
+both_stores kind.Store kind.Fetch h = absurd (true≢false (sym h))
+both_stores (kind.Update c) k2 h = absurd (true≢false (sym h))
+both_stores kind.Fetch k2 h = absurd (true≢false (sym h))
+
+-- they are stores of a uniform launch, or don't clash
+stores_or : (l : Launch) (k k2 : AccessKind) (same : Bool) → (if both_store k k2 && l.uniform && same then None else clash k k2) ≡ None → BothStores l k k2 ⊎ (clash k k2 ≡ None)
+stores_or l k k2 same h = go (both_store k k2 && l.uniform && same) refl h
+  where
+    go : (b : Bool) → (both_store k k2 && l.uniform && same) ≡ b → (if b then None else clash k k2) ≡ None → BothStores l k k2 ⊎ (clash k k2 ≡ None)
+    go false e none = inr none
+    go true e none =
+        let p = and_parts (both_store k k2) l.uniform (and_parts (both_store k k2 && l.uniform) same e).0 in
+        let q = both_stores k k2 p.0 in
+        inl (p.1, q.0, q.1)
+
 -- two accesses of different groups at one byte that do not conflict
 pub meet : (l : Launch) (x y : Access) (space : Region) (byte : ℕ) → (group_of l y.item ≡ group_of l x.item → ⊥) → at_byte space byte y ≡ true → at_byte space byte x ≡ true
-    → conflict l y x byte ≡ None → clash_at y x byte ≡ None
+    → conflict l y x byte ≡ None → BothStores l y.kind x.kind ⊎ (clash y.kind x.kind ≡ None)
 meet l x y space byte ne a b h =
     let p : (same_region space y.region ≡ true) × (covers y.first (byte_count y.width) byte ≡ true) = and_parts (same_region space y.region) (covers y.first (byte_count y.width) byte) a in
     let q : (same_region space x.region ≡ true) × (covers x.first (byte_count x.width) byte ≡ true) = and_parts (same_region space x.region) (covers x.first (byte_count x.width) byte) b in
-    no_clash l y x byte h
+    stores_or l y.kind x.kind (left_at y byte == left_at x byte)
+    (no_clash l y x byte h
     (record {
       items = λ e. ne (ap (group_of l) e);
       intervals = λ e. absurd (ne (eqb-true (group_of l y.item) (group_of l x.item) e));
       regions = sym (same_region-true space y.region p.0) ∙ same_region-true space x.region q.0;
       first_covers = p.1;
       second_covers = q.1;
-    })
+    }))

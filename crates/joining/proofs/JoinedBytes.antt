@@ -1,5 +1,5 @@
 -- The bytes that a further group wrote, joined.
-use Rattle.std.proofs.Common.{◌≡◌, ℕ, ◌+◌, ◌*◌, ◌/◌, ◌%◌, ◌<◌, ◌≤◌, true, false, None, Some, refl, sym, ap, ap₂, ◌∙◌, subst, arith, ⊎_elim, List}
+use Rattle.std.proofs.Common.{◌≡◌, ℕ, ◌+◌, ◌*◌, ◌/◌, ◌%◌, ◌<◌, ◌≤◌, ◌⊎◌, true, false, None, Some, refl, sym, ap, ap₂, ◌∙◌, subst, arith, ⊎_elim, inl, inr, List}
 use Rattle.std.proofs.lemmas.Bool.{cond-true, cond-false}
 use Rattle.clmodel.specs.Cells.{number, byte_of}
 use Rattle.clmodel.specs.Launch.{Launch}
@@ -14,12 +14,12 @@ use Rattle.joining.specs.Parts.{Part, IsGrouped, IsPart}
 use Rattle.joining.specs.Memory.{joined_number, at_byte, wrote, class_at, joined_update, joined_memory}
 use Rattle.joining.specs.Crossings.{crossing}
 use Rattle.joining.specs.Join.{Joined}
-use Rattle.joining.specs.Steps.{HasGroup, BytesAreJoined}
+use Rattle.joining.specs.Steps.{HasGroup, IsOwnByte, IsUpdatedByte, BytesAreJoined}
 use Rattle.joining.proofs.Grouped.{group_is}
 use Rattle.joining.proofs.Words.{Updated, folded}
 use Rattle.joining.proofs.Over.{wrote_from, some_operand, Folds, over_start}
 use Rattle.joining.proofs.Ride.{Through, ride}
-use Rattle.joining.proofs.Joins.{So_far, three_words, three_numbers, Both, both_wrote, byte_in, class_there}
+use Rattle.joining.proofs.Joins.{So_far, three_words, three_numbers, Both, both_wrote, byte_in, class_there, class_none}
 use Rattle.joining.proofs.Steps.{so_far}
 
 -- where nothing crosses, the group's run goes through after the groups below
@@ -36,6 +36,13 @@ alone_there : (l : Launch) (lower : Joined) (b : State) (p : Region) (byte : ℕ
 unfolding joined_memory
 alone_there l lower b p byte h k = cond-true _ _ _ h ∙ cond-false _ _ _ k
 
+-- a byte that both wrote, by stores alone
+stores_there : (l : Launch) (lower : Joined) (b : State) (p : Region) (byte : ℕ) → wrote b.log p byte ≡ true → wrote lower.log p byte ≡ true → class_at b.log p byte ≡ None
+    → joined_memory (initial l) lower.memory lower.log b.memory b.log p byte ≡ b.memory p byte
+unfolding joined_memory
+stores_there l lower b p byte h k is =
+    cond-true _ _ _ h ∙ cond-true _ _ _ k ∙ ap (λ o. joined_update o (initial l p) (lower.memory p) (b.memory p) byte) is
+
 -- a byte that both wrote, by updates of a class
 update_there : (l : Launch) (lower : Joined) (b : State) (p : Region) (byte : ℕ) (c : Class) → wrote b.log p byte ≡ true → wrote lower.log p byte ≡ true → class_at b.log p byte ≡ Some c
     → joined_memory (initial l) lower.memory lower.log b.memory b.log p byte ≡ joined_update (Some c) (initial l p) (lower.memory p) (b.memory p) byte
@@ -43,25 +50,16 @@ unfolding joined_memory
 update_there l lower b p byte c h k is =
     cond-true _ _ _ h ∙ cond-true _ _ _ k ∙ ap (λ o. joined_update o (initial l p) (lower.memory p) (b.memory p) byte) is
 
--- the byte of the joined number, whose three numbers are set
-abbrev Numbers : Launch → Joined → Part → Access → ℕ → Type 0
-Numbers l lower part x byte =
-    (class : Class) × (s : ℕ) × (a : ℕ) × (b : ℕ) × (x.kind ≡ kind.Update class) × (number (initial l x.region) (byte / 4 * 4) 4 ≡ Some s)
-    × (number (lower.memory x.region) (byte / 4 * 4) 4 ≡ Some a) × (number (part.end.memory x.region) (byte / 4 * 4) 4 ≡ Some b)
-    × (joined_memory (initial l) lower.memory lower.log part.end.memory part.end.log x.region byte ≡ Some (byte_of (byte % 4) (joined_number class s a b)))
-
 word_at : (n byte : ℕ) → n * 4 ≤ byte → byte < n * 4 + 4 → byte / 4 * 4 ≡ n * 4
 word_at n byte h k = omega arith
 
 both_numbers : (l : Launch) (group : ℕ) (lower : Joined) (part : Part) (far : So_far l group lower) → Through l group far.a far.a part.events part.end
-    → (x : Access) → Logged part.end.log x → (byte : ℕ) → at_byte x.region byte x ≡ true → wrote part.end.log x.region byte ≡ true → wrote lower.log x.region byte ≡ true → Numbers l lower part x byte
-both_numbers l group lower part far t x logged byte at h k = (w.c, q.0, folded w.c r.0 q.0, folded w.c f.0 q.0, updates x logged at, s, a, b, joined)
+    → (x : Access) → Logged part.end.log x → (byte : ℕ) → at_byte x.region byte x ≡ true → wrote part.end.log x.region byte ≡ true → wrote lower.log x.region byte ≡ true
+    → Both l group far.a part.end x.region byte → IsUpdatedByte l lower part x byte
+both_numbers l group lower part far t x logged byte at h k w = (w.c, q.0, folded w.c r.0 q.0, folded w.c f.0 q.0, updates x logged at, s, a, b, joined)
   where
     p : Region
     p = x.region
-
-    w : Both l group far.a part.end p byte
-    w = both_wrote l group far.a part.end t.0 far.ready t.2 t.3 p byte h (ap (λ z. wrote z p byte) (sym far.log) ∙ k)
 
     updates : (y : Access) → Logged part.end.log y → at_byte p byte y ≡ true → y.kind ≡ kind.Update w.c
     updates y m e = let i = byte_in w.n byte w.from w.below in w.own y m i.0 i.2 (subst (λ z. at_byte p z y ≡ true) i.1 e)
@@ -95,11 +93,20 @@ both_numbers l group lower part far t x logged byte at h k = (w.c, q.0, folded w
         ∙ three_numbers w.c (byte % 4) (number (initial l p) (byte / 4 * 4) 4) (number (lower.memory p) (byte / 4 * 4) 4) (number (part.end.memory p) (byte / 4 * 4) 4)
         q.0 (folded w.c r.0 q.0) (folded w.c f.0 q.0) s a b
 
+-- a byte that both wrote
+both_there : (l : Launch) (group : ℕ) (lower : Joined) (part : Part) (far : So_far l group lower) → Through l group far.a far.a part.events part.end
+    → (x : Access) → Logged part.end.log x → (byte : ℕ) → at_byte x.region byte x ≡ true → wrote part.end.log x.region byte ≡ true → wrote lower.log x.region byte ≡ true
+    → IsUpdatedByte l lower part x byte ⊎ ((l.uniform ≡ true) × (x.kind ≡ kind.Store) × IsOwnByte l lower part x byte)
+both_there l group lower part far t x logged byte at h k = ⊎_elim
+    (λ s. inr (s.0, s.1 x logged at, stores_there l lower part.end x.region byte h k (class_none part.end.log x.region byte s.1)))
+    (λ w. inl (both_numbers l group lower part far t x logged byte at h k w))
+    (both_wrote l group far.a part.end t.0 far.ready t.2 t.3 x.region byte h (ap (λ z. wrote z x.region byte) (sym far.log) ∙ k))
+
 pub bytes_are_joined : BytesAreJoined
 bytes_are_joined l group lower part grouped h there is none x logged writing byte at =
     let far = so_far l grouped group lower h in
     let own = wrote_from part.end.log x.region byte x logged writing at in
     record {
       alone = alone_there l lower part.end x.region byte own;
-      both = both_numbers l group lower part far (through l group lower part grouped far there is none) x logged byte at own;
+      both = both_there l group lower part far (through l group lower part grouped far there is none) x logged byte at own;
     }

@@ -24,8 +24,8 @@ use Rattle.joining.proofs.Base.{some_none, no_order, finishes_not_reports}
 use Rattle.joining.proofs.Grouped.{group_is}
 use Rattle.joining.proofs.GroupTurns.{finish_parts, all_finish, newest_reports}
 use Rattle.joining.proofs.Words.{Updated, folded, joined_folds, updated_number, updated_byte, updated_old, updated_further}
-use Rattle.joining.proofs.Crossings.{no_cross, meet}
-use Rattle.joining.proofs.Over.{wrote_some, wrote_from, wrote_append, logged_append, logged_own, logged_lower, or_false, OnlyUpdates, some_operand, Ready, Over, ready_start, over_start}
+use Rattle.joining.proofs.Crossings.{BothStores, no_cross, meet}
+use Rattle.joining.proofs.Over.{OnlyStores, update_not_store, wrote_some, wrote_from, wrote_append, logged_append, logged_own, logged_lower, or_false, OnlyUpdates, some_operand, Ready, Over, ready_start, over_start}
 use Rattle.joining.proofs.Ride.{Through, Crossed, ride, newest_here, turn_here}
 
 -- canonical runs one after the other
@@ -114,6 +114,21 @@ clash_right c kind.Store h = absurd (some_none _ h)
 clash_right c (kind.Update d) h = ap kind.Update (no_order d c h)
 clash_right c kind.Fetch h = absurd (some_none _ h)
 
+store_left : (k : AccessKind) → clash kind.Store k ≡ None → ⊥
+store_left kind.Load h = some_none _ h
+store_left kind.Store h = some_none _ h
+store_left (kind.Update d) h = some_none _ h
+store_left kind.Fetch h = some_none _ h
+
+-- no class where all accesses are stores
+pub class_none : (log : List Access) (p : Region) (byte : ℕ) → OnlyStores log p byte → class_at log p byte ≡ None
+class_none [] p byte only = refl
+class_none (x ∷ log) p byte only = go (at_byte p byte x) refl (class_none log p byte (λ z k. only z (inr k)))
+  where
+    go : (b : Bool) → at_byte p byte x ≡ b → class_at log p byte ≡ None → class_at (x ∷ log) p byte ≡ None
+    go true e ih = ap (λ o. or_else o (class_at log p byte)) (cond-true (at_byte p byte x) (class_of x.kind) None e ∙ ap class_of (only x (inl refl) e)) ∙ ih
+    go false e ih = ap (λ o. or_else o (class_at log p byte)) (cond-false (at_byte p byte x) (class_of x.kind) None e) ∙ ih
+
 with_rest : (b w : Bool) → ((b && false) || w) ≡ true → w ≡ true
 with_rest true w h = h
 with_rest false w h = h
@@ -167,14 +182,23 @@ in_word a w n byte p r h i = (omega (arith, p, r, h, i), omega (arith, p, r, h, 
 other_group : (g a b : ℕ) → a < g → b ≡ g → a ≡ b → ⊥
 other_group g a b h e k = omega arith
 
-pub both_wrote : (l : Launch) (g : ℕ) (a b u : State) → Ready l g a → Over l g a b u → crossing l a.log b.log ≡ None → (p : Region) (byte : ℕ) → wrote b.log p byte ≡ true → wrote a.log p byte ≡ true
-    → Both l g a b p byte
-both_wrote l g a b u ready over none p byte h k =
-    let z = wrote_some b.log p byte h in
-    let y = wrote_some a.log p byte k in
+no_stores_left : (l : Launch) (c : Class) (k k2 : AccessKind) → k ≡ kind.Update c → BothStores l k k2 ⊎ (clash k k2 ≡ None) → clash k k2 ≡ None
+no_stores_left l c k k2 e (inl r) = absurd (update_not_store c (sym e ∙ r.1))
+no_stores_left l c k k2 e (inr h) = h
+
+no_stores_right : (l : Launch) (c : Class) (k k2 : AccessKind) → k2 ≡ kind.Update c → BothStores l k k2 ⊎ (clash k k2 ≡ None) → clash k k2 ≡ None
+no_stores_right l c k k2 e (inl r) = absurd (update_not_store c (sym e ∙ r.2))
+no_stores_right l c k k2 e (inr h) = h
+
+-- an access of a log that wrote a byte
+abbrev WriterAt : List Access → Region → ℕ → Type 0
+WriterAt log p byte = (x : Access) × Logged log x × (writes x.kind ≡ true) × (at_byte p byte x ≡ true)
+
+both_updated : (l : Launch) (g : ℕ) (a b u : State) → Ready l g a → Over l g a b u → crossing l a.log b.log ≡ None → (p : Region) (byte : ℕ)
+    → (z : WriterAt b.log p byte) (y : WriterAt a.log p byte) → (c : (d : Class) × (y.0.kind ≡ kind.Update d) × (z.0.kind ≡ kind.Update d)) → Both l g a b p byte
+both_updated l g a b u ready over none p byte z y c =
     let apart : (e f : Access) → Logged a.log e → Logged b.log f → group_of l e.item ≡ group_of l f.item → ⊥ =
     λ e f i j. other_group g (group_of l e.item) (group_of l f.item) (ready.lower e i).0 (over.own f j).0 in
-    let c = clash_writers y.0.kind z.0.kind y.2 z.2 (meet l z.0 y.0 p byte (apart y.0 z.0 y.1 z.1) y.3 z.3 (no_cross l a.log b.log none z.0 y.0 z.1 y.1 byte)) in
     let fz = (over.own z.0 z.1).1 c.0 c.2 in
     let fy = (ready.lower y.0 y.1).1 c.0 c.1 in
     let sz = and_parts (same_region p z.0.region) _ z.3 in
@@ -186,15 +210,32 @@ both_wrote l g a b u ready over none p byte h k =
     record {
       c = c.0;
       n = fz.1;
-      own = λ e i j below at. clash_left c.0 e.kind (subst (λ q. clash q e.kind ≡ None) c.1
-          (meet l e y.0 p (fz.1 * 4 + j) (apart y.0 e y.1 i) (word_covered y.0 p fz.1 j sy.0 fy.0 first_y below) at (no_cross l a.log b.log none e y.0 i y.1 (fz.1 * 4 + j))));
-      lower = λ e i j below at. clash_right c.0 e.kind (subst (λ q. clash e.kind q ≡ None) c.2
-          (meet l z.0 e p (fz.1 * 4 + j) (apart e z.0 i z.1) at (word_covered z.0 p fz.1 j sz.0 fz.0 fz.2 below) (no_cross l a.log b.log none z.0 e z.1 i (fz.1 * 4 + j))));
+      own = λ e i j below at. clash_left c.0 e.kind (subst (λ q. clash q e.kind ≡ None) c.1 (no_stores_left l c.0 y.0.kind e.kind c.1
+          (meet l e y.0 p (fz.1 * 4 + j) (apart y.0 e y.1 i) (word_covered y.0 p fz.1 j sy.0 fy.0 first_y below) at (no_cross l a.log b.log none e y.0 i y.1 (fz.1 * 4 + j)))));
+      lower = λ e i j below at. clash_right c.0 e.kind (subst (λ q. clash e.kind q ≡ None) c.2 (no_stores_right l c.0 e.kind z.0.kind c.2
+          (meet l z.0 e p (fz.1 * 4 + j) (apart e z.0 i z.1) at (word_covered z.0 p fz.1 j sz.0 fz.0 fz.2 below) (no_cross l a.log b.log none z.0 e z.1 i (fz.1 * 4 + j)))));
       from = w.0;
       below = w.1;
       own_wrote = word_wrote z.0 b.log p fz.1 z.1 z.2 sz.0 fz.0 fz.2;
       lower_wrote = word_wrote y.0 a.log p fz.1 y.1 y.2 sy.0 fy.0 first_y;
     }
+
+-- what both wrote: stores alone in a uniform launch, or updates of one class
+pub both_wrote : (l : Launch) (g : ℕ) (a b u : State) → Ready l g a → Over l g a b u → crossing l a.log b.log ≡ None → (p : Region) (byte : ℕ) → wrote b.log p byte ≡ true → wrote a.log p byte ≡ true
+    → ((l.uniform ≡ true) × OnlyStores b.log p byte) ⊎ Both l g a b p byte
+both_wrote l g a b u ready over none p byte h k =
+    let z = wrote_some b.log p byte h in
+    let y = wrote_some a.log p byte k in
+    let apart : (f : Access) → Logged b.log f → group_of l y.0.item ≡ group_of l f.item → ⊥ =
+    λ f j. other_group g (group_of l y.0.item) (group_of l f.item) (ready.lower y.0 y.1).0 (over.own f j).0 in
+    ⊎_elim
+    (λ r. inl (
+      r.0,
+      λ x i at. ⊎_elim (λ s. s.2) (λ c. absurd (store_left x.kind (subst (λ q. clash q x.kind ≡ None) r.1 c)))
+          (meet l x y.0 p byte (apart x i) y.3 at (no_cross l a.log b.log none x y.0 i y.1 byte)),
+    ))
+    (λ c. inr (both_updated l g a b u ready over none p byte z y (clash_writers y.0.kind z.0.kind y.2 z.2 c)))
+    (meet l z.0 y.0 p byte (apart z.0 z.1) y.3 z.3 (no_cross l a.log b.log none z.0 y.0 z.1 y.1 byte))
 
 pub three_numbers : (c : Class) (k : ℕ) (o p q : Option ℕ) (s a b : ℕ) → o ≡ Some s → p ≡ Some a → q ≡ Some b → joined_numbers c k o p q ≡ Some (byte_of k (joined_number c s a b))
 three_numbers c k o p q s a b h i j = ap₂ (λ x y. joined_numbers c k x y q) h i ∙ ap (joined_numbers c k (Some s) (Some a)) j
@@ -235,6 +276,11 @@ both_joined l g a b u ready over p byte h w =
     ∙ ap (λ o. joined_update o (initial l p) (a.memory p) (b.memory p) byte)
     (sym (class_there b.log w.c p byte (λ x i at. w.own x i k.0 k.2 (subst (λ z. at_byte p z x ≡ true) k.1 at)) h))
 
+stores_joined : (l : Launch) (g : ℕ) (a b u : State) → Over l g a b u → (p : Region) (byte : ℕ) → wrote b.log p byte ≡ true → OnlyStores b.log p byte
+    → u.memory p byte ≡ joined_update (class_at b.log p byte) (initial l p) (a.memory p) (b.memory p) byte
+stores_joined l g a b u over p byte h only =
+    over.stored p byte h only ∙ sym (ap (λ o. joined_update o (initial l p) (a.memory p) (b.memory p) byte) (class_none b.log p byte only))
+
 memory_joined : (l : Launch) (g : ℕ) (a b u : State) → Ready l g a → Over l g a b u → crossing l a.log b.log ≡ None
     → u.memory ≡ joined_memory (initial l) a.memory a.log b.memory b.log
 unfolding joined_memory
@@ -243,7 +289,9 @@ memory_joined l g a b u ready over none = fun_ext (λ p. fun_ext (λ byte. go p 
     go : (p : Region) (byte : ℕ) (x : Bool) → wrote b.log p byte ≡ x → (y : Bool) → wrote a.log p byte ≡ y → u.memory p byte ≡ joined_memory (initial l) a.memory a.log b.memory b.log p byte
     go p byte false h y k = over.unchanged p byte h ∙ sym (cond-false _ _ _ h)
     go p byte true h false k = over.kept p byte k ∙ sym (cond-true _ _ _ h ∙ cond-false _ _ _ k)
-    go p byte true h true k = both_joined l g a b u ready over p byte h (both_wrote l g a b u ready over none p byte h k) ∙ sym (cond-true _ _ _ h ∙ cond-true _ _ _ k)
+    go p byte true h true k =
+        ⊎_elim (λ s. stores_joined l g a b u over p byte h s.1) (both_joined l g a b u ready over p byte h) (both_wrote l g a b u ready over none p byte h k)
+        ∙ sym (cond-true _ _ _ h ∙ cond-true _ _ _ k)
 
 -- what is known of the groups joined so far
 pub record So_far (l : Launch) (g : ℕ) (lower : Joined) : Type 0 where

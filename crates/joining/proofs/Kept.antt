@@ -58,14 +58,14 @@ from_alike : (judge other : Access → Access → ℕ → Option Clash) (x : Acc
 from_alike judge other x log h byte zero = refl
 from_alike judge other x log h byte (suc count) = ap₂ or_else (on_alike judge other x byte log h) (from_alike judge other x log h (suc byte) count)
 
-of_two_groups : (l : Launch) (y x : Access) (byte : ℕ) → group_of l y.item ≢ group_of l x.item → conflict l y x byte ≡ conflict_between across_groups y x byte
+of_two_groups : (l : Launch) (y x : Access) (byte : ℕ) → group_of l y.item ≢ group_of l x.item → conflict l y x byte ≡ conflict_between (across_groups l.uniform) y x byte
 unfolding conflict
-of_two_groups l y x byte ne = ap (λ b. conflict_between (record { one_group = b }) y x byte) (ne_eqb (group_of l y.item) (group_of l x.item) ne)
+of_two_groups l y x byte ne = ap (λ b. conflict_between (record { one_group = b; uniform = l.uniform }) y x byte) (ne_eqb (group_of l y.item) (group_of l x.item) ne)
 
 pub kept_conflicts : KeptConflicts
 kept_conflicts l x log kept byte count keeps apart =
-    from_alike (conflict l) (conflict_between across_groups) x log (λ y h at. of_two_groups l y x at (apart y h)) byte count
-    ∙ from_kept (conflict_between across_groups) x log kept keeps byte count
+    from_alike (conflict l) (conflict_between (across_groups l.uniform)) x log (λ y h at. of_two_groups l y x at (apart y h)) byte count
+    ∙ from_kept (conflict_between (across_groups l.uniform)) x log kept keeps byte count
 
 pub kept_both : KeptBoth
 kept_both [] log kept_later kept h k = subst (λ z. Keeps log (z ++ kept)) (sym h) k

@@ -24,7 +24,7 @@ use Rattle.clmodel.proofs.Swaps.{same_region_self, same_region-true, byte_at_ali
 use Rattle.joining.specs.Memory.{writes, at_byte, wrote}
 use Rattle.joining.proofs.Base.{changed_there, entry_same, made_at}
 use Rattle.joining.proofs.Words.{Updated, updated_same}
-use Rattle.joining.proofs.Over.{is_set, cond_some, performed, performed_in, performed_out, Fit, OnlyUpdates, Folds, entry_at, or_here, Ready, Over, Lift, same_answer, kept_step, unchanged_step, older_clear, set_step, set_keeps}
+use Rattle.joining.proofs.Over.{is_set, cond_some, performed, performed_in, performed_out, Fit, OnlyUpdates, Folds, entry_at, or_here, Ready, Over, Lift, same_answer, kept_step, unchanged_step, stored_step, older_clear, set_step, set_keeps}
 
 -- a byte of a buffer that is in range is set from the start
 pub buffer_set : (l : Launch) (number : ℕ) (element : ℤ) (width first byte : ℕ) → first_byte (bytes_of l (region_is.Buffer number)) element width ≡ Some first
@@ -174,6 +174,7 @@ item_over l g a b s ready over i object element op first x x2 mine at fx fx2 cro
       own = λ z h. ⊎_elim (λ same. subst (λ w. (group_of l w.item ≡ g) × Fit w) same (mine, fit_of i p first op e.interval aligned)) (over.own z) h;
       kept = kept_step l a.log b.memory s.memory i p op first x x2 e.interval t;
       unchanged = λ q byte h. unchanged_step s.memory b.log i p op first x2 e.interval q byte h ∙ over.unchanged q byte (older_clear b.log e q byte h);
+      stored = λ q byte w only. stored_step b.memory s.memory b.log i p op first x x2 e.interval q byte (over.stored q byte) w only;
       set = λ h same o byte. set_step b.memory s.memory p op first x x2 (region_of h o) byte (over.set (group_of l i) mine object byte) (over.set h same o byte);
       set_later = λ h k o byte. set_keeps s.memory p op first x2 (region_of h o) byte
           (λ same c.
@@ -200,6 +201,7 @@ release_over l g a b s over f =
       own = over.own;
       kept = over.kept;
       unchanged = over.unchanged;
+      stored = over.stored;
       set = over.set;
       set_later = over.set_later;
       folds = over.folds;

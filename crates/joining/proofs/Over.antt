@@ -2,8 +2,8 @@
 use Rattle.std.proofs.Common.{◌≡◌, ℕ, zero, suc, ◌+◌, ◌-◌, ◌*◌, ◌<◌, ◌≤◌, Bool, true, false, cond, Option, Some, None, refl, sym, ap, ◌∙◌, subst, arith, ◌⊎◌, ⊎_elim, inl, inr, ◌&&◌, ◌||◌, List, [], ◌∷◌, ◌++◌}
 use Rattle.std.proofs.lemmas.Bool.{and_parts, and_from, both_ways, true≢false, cases_Bool, cond-true}
 use Rattle.std.proofs.lemmas.Option.{same_Some}
-use Rattle.clmodel.specs.Cells.{Cells, lowest_unset, unset_or, byte_count, covers, written, byte_of, combined, fetched, size_of, width_of, found, answer_to, effect}
-use Rattle.clmodel.specs.Launch.{Launch, same_region, region_of, kind_of, group_of, clash, conflict}
+use Rattle.clmodel.specs.Cells.{Cells, lowest_unset, unset_or, byte_count, covers, written, byte_of, combined, fetched, size_of, found, answer_to, effect}
+use Rattle.clmodel.specs.Launch.{Launch, same_region, region_of, kind_of, access_in, group_of, clash, conflict}
 use Rattle.clmodel.specs.Run.{Memory, State, initial, start, with_cells}
 use Rattle.clmodel.specs.Law.{Logged, newest_conflict}
 use Rattle.clmodel.specs.declared.access.Access.{Access}
@@ -162,6 +162,10 @@ Fit x = (c : Class) → x.kind ≡ kind.Update c → (byte_count x.width ≡ 4) 
 abbrev pub OnlyUpdates : Class → List Access → Region → ℕ → Type 0
 OnlyUpdates c log p word = (x : Access) → Logged log x → (k : ℕ) → k < 4 → at_byte p (word + k) x ≡ true → x.kind ≡ kind.Update c
 
+-- all accesses at a byte are stores
+abbrev pub OnlyStores : List Access → Region → ℕ → Type 0
+OnlyStores log p byte = (x : Access) → Logged log x → at_byte p byte x ≡ true → x.kind ≡ kind.Store
+
 abbrev pub some_operand : List ℕ → Bool
 some_operand [] = false
 some_operand (v ∷ vs) = true
@@ -195,6 +199,7 @@ pub record Over (l : Launch) (g : ℕ) (a b s : State) : Type 0 where
   pub own : (x : Access) → Logged b.log x → (group_of l x.item ≡ g) × Fit x
   pub kept : (p : Region) (byte : ℕ) → wrote a.log p byte ≡ false → s.memory p byte ≡ b.memory p byte
   pub unchanged : (p : Region) (byte : ℕ) → wrote b.log p byte ≡ false → s.memory p byte ≡ a.memory p byte
+  pub stored : (p : Region) (byte : ℕ) → wrote b.log p byte ≡ true → OnlyStores b.log p byte → s.memory p byte ≡ b.memory p byte
   pub set : (h : ℕ) → h ≡ g → (o : Object) (byte : ℕ) → is_set (s.memory (region_of h o) byte) ≡ is_set (b.memory (region_of h o) byte)
   pub set_later : (h : ℕ) → g < h → (o : Object) (byte : ℕ) → is_set (s.memory (region_of h o) byte) ≡ is_set (a.memory (region_of h o) byte)
   pub folds : (c : Class) (p : Region) (n : ℕ) → OnlyUpdates c b.log p (n * 4) → Folds c b.log p (n * 4) (initial l p) (b.memory p) (a.memory p) (s.memory p)
@@ -229,6 +234,7 @@ over_start l g a r =
       own = λ x h. absurd h;
       kept = r.base;
       unchanged = λ p byte h. refl;
+      stored = λ p byte h only. absurd (true≢false (sym h));
       set = λ h k o byte. r.set h (not_less g h k) o byte;
       set_later = λ h k o byte. refl;
       folds = λ c p n only. ([], (λ k b. refl), (λ k b. refl), refl);
@@ -236,7 +242,7 @@ over_start l g a r =
 
 -- an access as the log has it
 abbrev pub entry_at : ℕ → Region → ℕ → Operation → ℕ → Access
-entry_at i p first op n = record { item = i; region = p; first = first; width = width_of op; kind = kind_of op; interval = n }
+entry_at = access_in
 
 -- an access of a group in both memories, that does not conflict with the lower groups' log
 pub record Lift (l : Launch) (lower : List Access) (bm sm : Memory) (i : ℕ) (p : Region) (op : Operation) (first x x2 n : ℕ) : Type 0 where
@@ -259,6 +265,15 @@ fetch_clash kind.Store h c = some_none _ c
 fetch_clash (kind.Update d) h c = some_none _ c
 fetch_clash kind.Fetch h c = some_none _ c
 
+load_not_store : kind.Load ≡ kind.Store → ⊥
+load_not_store h = grind arith
+
+pub update_not_store : (c : Class) → kind.Update c ≡ kind.Store → ⊥
+update_not_store c h = grind arith
+
+fetch_not_store : kind.Fetch ≡ kind.Store → ⊥
+fetch_not_store h = grind arith
+
 update_clash : (k : AccessKind) (d : Class) → writes k ≡ true → clash k (kind.Update d) ≡ None → k ≡ kind.Update d
 update_clash kind.Load d h c = absurd (true≢false (sym h))
 update_clash kind.Store d h c = absurd (some_none _ c)
@@ -274,7 +289,7 @@ load_clear : (l : Launch) (lower : List Access) (bm sm : Memory) (i : ℕ) (p : 
 load_clear l lower bm sm i p width first x x2 n t byte h k =
     not_wrote lower p byte (λ w.
     let z = wrote_some lower p byte w in
-    load_clash z.0.kind z.2 (meet l (entry_at i p first (Load width) n) z.0 p byte (t.apart z.0 z.1).0 z.3
+    ⊎_elim (λ r. load_not_store r.2) (load_clash z.0.kind z.2) (meet l (entry_at i p first (Load width) n) z.0 p byte (t.apart z.0 z.1).0 z.3
     (and_from _ _ (same_region_self p) (covers_from first (byte_count width) byte h k)) (t.cross z.0 z.1 byte)))
 
 -- nor was what a fetch finds
@@ -283,7 +298,7 @@ fetch_clear : (l : Launch) (lower : List Access) (bm sm : Memory) (i : ℕ) (p :
 fetch_clear l lower bm sm i p o v first x x2 n t byte h k =
     not_wrote lower p byte (λ w.
     let z = wrote_some lower p byte w in
-    fetch_clash z.0.kind z.2 (meet l (entry_at i p first (Fetch o v) n) z.0 p byte (t.apart z.0 z.1).0 z.3
+    ⊎_elim (λ r. fetch_not_store r.2) (fetch_clash z.0.kind z.2) (meet l (entry_at i p first (Fetch o v) n) z.0 p byte (t.apart z.0 z.1).0 z.3
     (and_from _ _ (same_region_self p) (covers_from first 4 byte h k)) (t.cross z.0 z.1 byte)))
 
 -- a writer at a byte of a word that is updated
@@ -300,7 +315,7 @@ update_writer : (l : Launch) (lower : List Access) (bm sm : Memory) (i : ℕ) (p
 update_writer l lower bm sm i p c v first x x2 n t byte h k w =
     let z = wrote_some lower p byte w in
     let is : z.0.kind ≡ kind.Update c =
-    update_clash z.0.kind c z.2 (meet l (entry_at i p first (Update c v) n) z.0 p byte (t.apart z.0 z.1).0 z.3
+    ⊎_elim (λ r. absurd (update_not_store c r.2)) (update_clash z.0.kind c z.2) (meet l (entry_at i p first (Update c v) n) z.0 p byte (t.apart z.0 z.1).0 z.3
     (and_from _ _ (same_region_self p) (covers_from first 4 byte h k)) (t.cross z.0 z.1 byte)) in
     let fit = (t.apart z.0 z.1).1 c is in
     let q = and_parts (same_region p z.0.region) _ z.3 in
@@ -364,6 +379,39 @@ effect_inside l lower bm sm i p (Fetch o v) first x x2 n t byte h clear =
     ∙ ap (λ z. Some (byte_of (byte - first) (fetched o z v)))
     (same_found l lower bm sm i p (Fetch o v) first x x2 n t (fetch_clear l lower bm sm i p o v first x x2 n t))
     ∙ sym (written_in (bm p) first 4 (fetched o x v) byte h)
+
+-- a store leaves the same byte whatever was there
+store_leaves : (op : Operation) (k : AccessKind) → kind_of op ≡ k → k ≡ kind.Store → (c d : Cells) (first x x2 byte : ℕ) → covers first (size_of op) byte ≡ true
+    → effect op x2 d first byte ≡ effect op x c first byte
+store_leaves (Load width) k e h c d first x x2 byte a = absurd (load_not_store (e ∙ h))
+store_leaves (Store width value) k e h c d first x x2 byte a =
+    written_in d first (byte_count width) value byte a ∙ sym (written_in c first (byte_count width) value byte a)
+store_leaves (Update class v) k e h c d first x x2 byte a = absurd (update_not_store class (e ∙ h))
+store_leaves (Fetch o v) k e h c d first x x2 byte a = absurd (fetch_not_store (e ∙ h))
+
+rest_wrote : (b a w : Bool) → a ≡ false → ((b && a) || w) ≡ true → w ≡ true
+rest_wrote b true w e h = absurd (true≢false e)
+rest_wrote true false w e h = h
+rest_wrote false false w e h = h
+
+-- bytes that the group wrote by stores alone stay the same
+pub stored_step : (bm sm : Memory) (log : List Access) (i : ℕ) (p : Region) (op : Operation) (first x x2 n : ℕ) (q : Region) (byte : ℕ)
+    → (wrote log q byte ≡ true → OnlyStores log q byte → sm q byte ≡ bm q byte) → wrote (entry_at i p first op n ∷ log) q byte ≡ true
+    → OnlyStores (entry_at i p first op n ∷ log) q byte → performed sm p op x2 first q byte ≡ performed bm p op x first q byte
+stored_step bm sm log i p op first x x2 n q byte ih w only = go (same_region q p && covers first (size_of op) byte) refl
+  where
+    go : (b : Bool) → (same_region q p && covers first (size_of op) byte) ≡ b → performed sm p op x2 first q byte ≡ performed bm p op x first q byte
+    go false h =
+        performed_out sm p op x2 first q byte h
+        ∙ ih (rest_wrote (writes (kind_of op)) (same_region q p && covers first (size_of op) byte) (wrote log q byte) h w) (λ y k. only y (inr k))
+        ∙ sym (performed_out bm p op x first q byte h)
+    go true h =
+        let r = and_parts (same_region q p) _ h in
+        let e : q ≡ p = same_region-true q p r.0 in
+        subst (λ z. performed sm p op x2 first z byte ≡ performed bm p op x first z byte) (sym e)
+        (performed_in sm p op x2 first byte
+        ∙ store_leaves op (kind_of op) refl (only (entry_at i p first op n) (inl refl) h) (bm p) (sm p) first x x2 byte r.1
+        ∙ sym (performed_in bm p op x first byte))
 
 -- bytes that the lower groups did not write stay the same
 pub kept_step : (l : Launch) (lower : List Access) (bm sm : Memory) (i : ℕ) (p : Region) (op : Operation) (first x x2 n : ℕ) → Lift l lower bm sm i p op first x x2 n

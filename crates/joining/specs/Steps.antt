@@ -1,5 +1,5 @@
 -- The groups of a launch joined one by one, as code joins them (OpenCL 1.2, 3.2; own).
-use Rattle.std.specs.Prelude.{◌≡◌, ◌≢◌, ℕ, zero, suc, ◌*◌, ◌/◌, ◌%◌, ◌<◌, ◌≤◌, true, false, None, Some, List, ◌++◌}
+use Rattle.std.specs.Prelude.{◌≡◌, ◌≢◌, ℕ, zero, suc, ◌*◌, ◌/◌, ◌%◌, ◌<◌, ◌≤◌, ◌⊎◌, true, false, None, Some, List, ◌++◌}
 use Rattle.clmodel.specs.Cells.{byte_of, number}
 use Rattle.clmodel.specs.Launch.{Launch, group_of, region_of, across_groups, conflict, conflict_between}
 use Rattle.clmodel.specs.Law.{Keeps, Logged, conflict_from, RunsClean, RunsIntoFault}
@@ -49,15 +49,25 @@ AreLower =
     (launch : Launch) (group : ℕ) (lower : Joined) → IsGrouped launch → IsJoined launch group lower
     → (x : Access) → Logged lower.log x → (group_of launch x.item < group) × (object : Object) × (x.region ≡ region_of (group_of launch x.item) object)
 
+-- the byte of an access of a further group is the further group's own (3.3)
+abbrev pub IsOwnByte : Launch → Joined → Part → Access → ℕ → Type 0
+IsOwnByte launch lower part x byte =
+    joined_memory (initial launch) lower.memory lower.log part.end.memory part.end.log x.region byte ≡ part.end.memory x.region byte
+
+-- the access is an update, and the byte is one of the joined number, whose three numbers are set (6.12.11)
+abbrev pub IsUpdatedByte : Launch → Joined → Part → Access → ℕ → Type 0
+IsUpdatedByte launch lower part x byte =
+    (class : Class) × (s : ℕ) × (a : ℕ) × (b : ℕ) × (x.kind ≡ kind.Update class) × (number (initial launch x.region) (byte / 4 * 4) 4 ≡ Some s)
+    × (number (lower.memory x.region) (byte / 4 * 4) 4 ≡ Some a) × (number (part.end.memory x.region) (byte / 4 * 4) 4 ≡ Some b)
+    × (joined_memory (initial launch) lower.memory lower.log part.end.memory part.end.log x.region byte ≡ Some (byte_of (byte % 4) (joined_number class s a b)))
+
 -- A byte that an access of a further group wrote, where nothing crosses: it is the further group's own where no lower group wrote it; else
--- the access is an update, and it is a byte of the joined number, whose three numbers are set (6.12.11).
+-- the access is an update, and it is a byte of the joined number, or the launch is uniform and the access a store, and it is the further
+-- group's own (6.12.11, own).
 pub record IsJoinedByte (launch : Launch) (lower : Joined) (part : Part) (x : Access) (byte : ℕ) : Type 0 where
-  pub alone : wrote lower.log x.region byte ≡ false
-      → joined_memory (initial launch) lower.memory lower.log part.end.memory part.end.log x.region byte ≡ part.end.memory x.region byte
+  pub alone : wrote lower.log x.region byte ≡ false → IsOwnByte launch lower part x byte
   pub both : wrote lower.log x.region byte ≡ true
-      → (class : Class) × (s : ℕ) × (a : ℕ) × (b : ℕ) × (x.kind ≡ kind.Update class) × (number (initial launch x.region) (byte / 4 * 4) 4 ≡ Some s)
-      × (number (lower.memory x.region) (byte / 4 * 4) 4 ≡ Some a) × (number (part.end.memory x.region) (byte / 4 * 4) 4 ≡ Some b)
-      × (joined_memory (initial launch) lower.memory lower.log part.end.memory part.end.log x.region byte ≡ Some (byte_of (byte % 4) (joined_number class s a b)))
+      → IsUpdatedByte launch lower part x byte ⊎ ((launch.uniform ≡ true) × (x.kind ≡ kind.Store) × IsOwnByte launch lower part x byte)
 
 -- each byte that a further group wrote is so (own)
 abbrev pub BytesAreJoined : Type 0
@@ -71,7 +81,7 @@ abbrev pub KeptConflicts : Type 0
 KeptConflicts =
     (launch : Launch) (x : Access) (log kept : List Access) (byte count : ℕ) → Keeps log kept
     → ((y : Access) → Logged log y → group_of launch y.item ≢ group_of launch x.item)
-    → conflict_from (conflict launch) x log byte count ≡ conflict_from (conflict_between across_groups) x kept byte count
+    → conflict_from (conflict launch) x log byte count ≡ conflict_from (conflict_between (across_groups launch.uniform)) x kept byte count
 
 -- what is kept of two logs, one after the other, keeps both (own)
 abbrev pub KeptBoth : Type 0

@@ -48,8 +48,8 @@ pub fn accesses_are_lower()
     ensures { AreLower }
 {}
 
-/// A byte that a further group wrote, where nothing crosses, is the group's own where no lower group wrote it, and else one of the joined
-/// number of its word.
+/// A byte that a further group wrote, where nothing crosses, is the group's own where no lower group wrote it, and where both stored it in a
+/// uniform launch; else it is one of the joined number of its word.
 pub fn bytes_are_joined()
     ensures { BytesAreJoined }
 {}

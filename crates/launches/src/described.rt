@@ -12,6 +12,10 @@ use std::alloc::AllocError;
 pub trait Described {
     ghost launch: { Self → Launch };
 
+    /// Whether two stores that leave the same byte may meet in it.
+    fn uniform(&self) -> bool
+        ensures { result ≡ (launch self.now).uniform };
+
     /// A copy of a buffer's name.
     fn buffer_name(&self, number: u32) -> Result<Name, AllocError>
         ensures { IfOk result (λ name. name ≡ slice_index_or (launch self.now).buffer_names number []) };

@@ -48,6 +48,10 @@ impl<'a> LoadedLaunch<'a> {
 impl Described for LoadedLaunch<'_> {
     ghost launch = { λ loaded. launch_of (setup_of loaded.launch.now) (bytes_in loaded.buffers.now) };
 
+    fn uniform(&self) -> bool {
+        self.launch.range().uniform
+    }
+
     fn buffer_name(&self, number: u32) -> Result<Name, AllocError> {
         name_of(self.alloc, self.launch.buffer_names(), number)
     }

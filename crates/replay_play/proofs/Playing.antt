@@ -384,6 +384,7 @@ no_launch =
       buffer_names = [];
       local_names = [];
       source_names = [];
+      uniform = false;
     }
 
 pub never_out :

@@ -167,6 +167,7 @@ impl Group {
             first,
             width: operation.width(),
             kind: operation.kind(),
+            value: operation.value(),
             interval,
         }
     }

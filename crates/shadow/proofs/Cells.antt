@@ -120,8 +120,8 @@ marked_byte pages v w s mark byte b e is inside told other = go (cases_eq other 
 
 -- many bytes are marked as the first and the others
 pub marked_more :
-    (f : Seen → Seen) (new mid old : Seen) (first count byte : ℕ) → 0 < count → new ≡ (if covers (first + 1) (count - 1) byte then f mid else mid) → mid ≡ (if first == byte then f old else old)
-    → new ≡ (if covers first count byte then f old else old)
+    (f : ℕ → Seen → Seen) (new mid old : Seen) (first count byte : ℕ) → 0 < count → new ≡ (if covers (first + 1) (count - 1) byte then f byte mid else mid)
+    → mid ≡ (if first == byte then f first old else old) → new ≡ (if covers first count byte then f byte old else old)
 marked_more f new mid old first count byte some later here = go (cases_eq byte first)
   where
     same : (byte ≡ first → ⊥) → (a : Bool) → covers first count byte ≡ a → (b : Bool) → covers (first + 1) (count - 1) byte ≡ b → b ≡ a
@@ -138,18 +138,19 @@ marked_more f new mid old first count byte some later here = go (cases_eq byte f
     past e false k = refl
     past e true k = let r : (first + 1 ≤ byte) × (byte < first + 1 + (count - 1)) = covers_parts (first + 1) (count - 1) byte k in absurd (omega (arith, r.0, e))
 
-    go : (byte ≡ first) ⊎ (byte ≡ first → ⊥) → new ≡ (if covers first count byte then f old else old)
+    go : (byte ≡ first) ⊎ (byte ≡ first → ⊥) → new ≡ (if covers first count byte then f byte old else old)
     go (inl e) =
         later
-        ∙ ap (λ (z : Bool). if z then f mid else mid) (past e (covers (first + 1) (count - 1) byte) refl)
+        ∙ ap (λ (z : Bool). if z then f byte mid else mid) (past e (covers (first + 1) (count - 1) byte) refl)
         ∙ here
-        ∙ ap (λ (z : Bool). if z then f old else old) (eq-eqb first byte (sym e))
-        ∙ sym (ap (λ (z : Bool). if z then f old else old) (covers_from first count byte (omega (arith, e)) (omega (arith, e, some))))
+        ∙ ap (λ (z : Bool). if z then f first old else old) (eq-eqb first byte (sym e))
+        ∙ ap (λ z. f z old) (sym e)
+        ∙ sym (ap (λ (z : Bool). if z then f byte old else old) (covers_from first count byte (omega (arith, e)) (omega (arith, e, some))))
     go (inr ne) =
-        let is : mid ≡ old = here ∙ ap (λ (z : Bool). if z then f old else old) (ne_eqb first byte (λ k. ne (sym k))) in
+        let is : mid ≡ old = here ∙ ap (λ (z : Bool). if z then f first old else old) (ne_eqb first byte (λ k. ne (sym k))) in
         later
-        ∙ ap (λ z. if covers (first + 1) (count - 1) byte then f z else z) is
-        ∙ ap (λ (z : Bool). if z then f old else old) (same ne (covers first count byte) refl (covers (first + 1) (count - 1) byte) refl)
+        ∙ ap (λ z. if covers (first + 1) (count - 1) byte then f byte z else z) is
+        ∙ ap (λ (z : Bool). if z then f byte old else old) (same ne (covers first count byte) refl (covers (first + 1) (count - 1) byte) refl)
 
 pub none_marked : (f : Seen → Seen) (old : Seen) (first count byte : ℕ) → count ≡ 0 → old ≡ (if covers first count byte then f old else old)
 none_marked f old first count byte e = sym (ap (λ (z : Bool). if z then f old else old) (none (covers first count byte) refl))
@@ -208,20 +209,20 @@ same_cells buffers n v w b e same m byte = go (cases_eq m n)
 
 -- bytes of one buffer that are marked
 pub marked_cells :
-    (buffers : List Pages) (n : ℕ) (v w : Pages) (mark : Mark) (first count : ℕ) → n < length buffers → w ≡ get_or buffers n w
-    → ((byte : ℕ) → cell_in v.pages.items byte ≡ (if covers first count byte then seen_with (cell_in w.pages.items byte) mark else cell_in w.pages.items byte))
-    → (m byte : ℕ) → cell (buffer_cells (set buffers n v)) m byte ≡ (if (m == n) && covers first count byte then seen_with (cell (buffer_cells buffers) m byte) mark else cell (buffer_cells buffers) m byte)
+    (buffers : List Pages) (n : ℕ) (v w : Pages) (mark : ℕ → Mark) (first count : ℕ) → n < length buffers → w ≡ get_or buffers n w
+    → ((byte : ℕ) → cell_in v.pages.items byte ≡ (if covers first count byte then seen_with (cell_in w.pages.items byte) (mark byte) else cell_in w.pages.items byte))
+    → (m byte : ℕ) → cell (buffer_cells (set buffers n v)) m byte ≡ (if (m == n) && covers first count byte then seen_with (cell (buffer_cells buffers) m byte) (mark byte) else cell (buffer_cells buffers) m byte)
 marked_cells buffers n v w mark first count b e marked m byte = go (cases_eq m n)
   where
     go : (m ≡ n) ⊎ (m ≡ n → ⊥)
-        → cell (buffer_cells (set buffers n v)) m byte ≡ (if (m == n) && covers first count byte then seen_with (cell (buffer_cells buffers) m byte) mark else cell (buffer_cells buffers) m byte)
+        → cell (buffer_cells (set buffers n v)) m byte ≡ (if (m == n) && covers first count byte then seen_with (cell (buffer_cells buffers) m byte) (mark byte) else cell (buffer_cells buffers) m byte)
     go (inl h) =
-        subst (λ k. cell (buffer_cells (set buffers n v)) k byte ≡ (if (k == n) && covers first count byte then seen_with (cell (buffer_cells buffers) k byte) mark else cell (buffer_cells buffers) k byte)) (sym h)
+        subst (λ k. cell (buffer_cells (set buffers n v)) k byte ≡ (if (k == n) && covers first count byte then seen_with (cell (buffer_cells buffers) k byte) (mark byte) else cell (buffer_cells buffers) k byte)) (sym h)
         (changed_here buffers n v byte b ∙ marked byte
-        ∙ sym (ap₂ (λ (z : Bool) c. if z && covers first count byte then seen_with c mark else c) (eq-eqb n n refl) (was_here buffers n w byte b e)))
+        ∙ sym (ap₂ (λ (z : Bool) c. if z && covers first count byte then seen_with c (mark byte) else c) (eq-eqb n n refl) (was_here buffers n w byte b e)))
     go (inr h) =
         unchanged_there buffers n v m byte h
-        ∙ sym (ap (λ (z : Bool). if z && covers first count byte then seen_with (cell (buffer_cells buffers) m byte) mark else cell (buffer_cells buffers) m byte) (ne_eqb m n h))
+        ∙ sym (ap (λ (z : Bool). if z && covers first count byte then seen_with (cell (buffer_cells buffers) m byte) (mark byte) else cell (buffer_cells buffers) m byte) (ne_eqb m n h))
 
 pub on_err : {T E P : Type 0} (r : Result T E) → P → OnErr r P
 on_err (Ok t) p = tt

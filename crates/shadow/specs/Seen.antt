@@ -1,13 +1,15 @@
 -- What is kept of the accesses to the bytes of a launch's buffers, and the conflicts that it tells (OpenCL 1.2, 3.3.1, 6.12.8; own in what is kept).
-use Rattle.std.specs.Prelude.{◌≡◌, ℕ, zero, suc, ◌/◌, ◌%◌, ◌<◌, ◌≤◌, ◌==◌, Bool, false, ◌||◌, Option, None, List, [], ◌∷◌, if◌then◌else◌, slice_index_or, length, map, Vec}
+use Rattle.std.specs.Prelude.{◌≡◌, ℕ, zero, suc, ◌/◌, ◌%◌, ◌<◌, ◌≤◌, ◌==◌, Bool, false, ◌&&◌, ◌||◌, Option, None, List, [], ◌∷◌, if◌then◌else◌, slice_index_or, length, map, Vec}
 use Rattle.std.specs.declared.alloc.Global.{Global}
 use Rattle.std.specs.Option.{option_map}
 use Rattle.clmodel.specs.Cells.{byte_count}
-use Rattle.clmodel.specs.Launch.{clash, across_groups, conflict_between}
+use Rattle.clmodel.specs.Launch.{clash, both_store, left_at, across_groups, conflict_between}
 use Rattle.clmodel.specs.Run.{or_else}
 use Rattle.clmodel.specs.Law.{Logged, conflict_from}
 use Rattle.clmodel.specs.declared.access.Access.{Access}
 use Rattle.clmodel.specs.declared.access.AccessKind.{AccessKind}
+use Rattle.clmodel.specs.declared.access.AccessKind.TheVariants as kind
+use Rattle.clmodel.specs.declared.access.Clash.{Clash}
 use Rattle.clmodel.specs.declared.access.Region.{Region}
 use Rattle.clmodel.specs.declared.access.Region.TheVariants as region
 use Rattle.clmodel.specs.declared.access.Conflict as conflict_type
@@ -20,20 +22,31 @@ use Rattle.shadow.specs.declared.footprint.Footprint.{Footprint}
 use Rattle.shadow.specs.declared.seen.Seen.{Seen}
 use Rattle.shadow.specs.declared.seen.Seen.TheVariants.{Untouched, Touched, Mixed}
 
--- a byte with one access more: the first access is kept, and the first of another kind than it (own)
+-- two accesses to a byte are of one sort: of one kind, and stores leave the same byte (own)
+abbrev pub one_sort : Mark → Mark → Bool
+one_sort a b = (kind_number a.kind == kind_number b.kind) && (a.left == b.left)
+
+-- a byte with one access more: the first access is kept, and the first of another sort than it (own)
 abbrev pub seen_with : Seen → Mark → Seen
 seen_with Untouched m = Touched m
-seen_with (Touched a) m = if kind_number a.kind == kind_number m.kind then Touched a else Mixed a m
+seen_with (Touched a) m = if one_sort a m then Touched a else Mixed a m
 seen_with (Mixed a b) m = Mixed a b
 
--- who made an access, and how (own)
-abbrev pub mark_of : Access → Mark
-mark_of x = record { item = x.item; kind = x.kind }
+-- the byte that a store leaves, 0 for each other kind (own)
+abbrev pub left_by : AccessKind → ℕ → ℕ
+left_by kind.Load left = 0
+left_by kind.Store left = left
+left_by (kind.Update class) left = 0
+left_by kind.Fetch left = 0
+
+-- who made an access, how, and what a store leaves at this byte (C99 6.5.16.1, own)
+abbrev pub mark_of : Access → ℕ → Mark
+mark_of x byte = record { item = x.item; kind = x.kind; left = left_by x.kind (left_at x byte) }
 
 -- what is kept of a byte, of a log that has the newest access first (own)
 abbrev pub seen : Region → ℕ → List Access → Seen
 seen at byte [] = Untouched
-seen at byte (x ∷ log) = if at_byte at byte x then seen_with (seen at byte log) (mark_of x) else seen at byte log
+seen at byte (x ∷ log) = if at_byte at byte x then seen_with (seen at byte log) (mark_of x byte) else seen at byte log
 
 -- whether one of the accesses to a byte wrote (C99 6.5.16.1, 6.12.11)
 abbrev pub is_written : Seen → Bool
@@ -41,24 +54,29 @@ is_written Untouched = false
 is_written (Touched a) = writes a.kind
 is_written (Mixed a b) = writes a.kind || writes b.kind
 
--- how an access of a kind conflicts with a mark on a byte (3.3.1)
-abbrev pub met : AccessKind → ℕ → Mark → Option Meeting
-met k byte m = option_map (λ c. record { clash = c; mark = m; byte = byte }) (clash m.kind k)
+-- how two accesses to a byte conflict, by whether the launch is uniform (3.3.1, own)
+abbrev pub mark_clash : Bool → Mark → Mark → Option Clash
+mark_clash uniform a b = if both_store a.kind b.kind && uniform && (a.left == b.left) then None else clash a.kind b.kind
 
--- the earliest of what is kept of a byte that an access of a kind conflicts with (3.3.1, own in which)
-abbrev pub against : AccessKind → ℕ → Seen → Option Meeting
-against k byte Untouched = None
-against k byte (Touched a) = met k byte a
-against k byte (Mixed a b) = or_else (met k byte a) (met k byte b)
+-- how an access with the mark `mine` conflicts with an earlier one on a byte (3.3.1)
+abbrev pub met : Bool → Mark → ℕ → Mark → Option Meeting
+met uniform mine byte m = option_map (λ c. record { clash = c; mark = m; byte = byte }) (mark_clash uniform m mine)
+
+-- the earliest of what is kept of a byte that an access conflicts with (3.3.1, own in which)
+abbrev pub against : Bool → Mark → ℕ → Seen → Option Meeting
+against uniform mine byte Untouched = None
+against uniform mine byte (Touched a) = met uniform mine byte a
+against uniform mine byte (Mixed a b) = or_else (met uniform mine byte a) (met uniform mine byte b)
 
 -- the same on the lowest of n bytes (own)
-abbrev pub against_from : AccessKind → (ℕ → Seen) → ℕ → ℕ → Option Meeting
-against_from k cells byte zero = None
-against_from k cells byte (suc count) = or_else (against k byte (cells byte)) (against_from k cells (suc byte) count)
+abbrev pub against_from : Bool → Access → (ℕ → Seen) → ℕ → ℕ → Option Meeting
+against_from uniform x cells byte zero = None
+against_from uniform x cells byte (suc count) =
+    or_else (against uniform (mark_of x byte) byte (cells byte)) (against_from uniform x cells (suc byte) count)
 
 -- a conflict as far as a report names it (own)
 abbrev pub meeting_of : conflict_type.Conflict → Meeting
-meeting_of c = record { clash = c.clash; mark = mark_of c.earlier; byte = c.byte }
+meeting_of c = record { clash = c.clash; mark = mark_of c.earlier c.byte; byte = c.byte }
 
 -- the cells of a page, none where it has none (own)
 abbrev pub row_of : List (Vec Seen Global) → ℕ → List Seen
@@ -88,14 +106,15 @@ Remembers buffers log = (number byte : ℕ) → cell buffers number byte ≡ see
 abbrev pub OfOthers : ℕ → List Access → Type 0
 OfOthers item log = (y : Access) → Logged log y → y.item ≡ item → ⊥
 
--- the conflict of an access of another group's item with these, on its lowest byte that has one, with the earliest access there (3.3.1)
-abbrev pub meeting : Access → List Access → Option Meeting
-meeting x log = option_map meeting_of (conflict_from (conflict_between across_groups) x log x.first (byte_count x.width))
+-- the conflict of an access of another group's item with these, on its lowest byte that has one, with the earliest access there, by whether
+-- the launch is uniform (3.3.1, own)
+abbrev pub meeting : Bool → Access → List Access → Option Meeting
+meeting uniform x log = option_map meeting_of (conflict_from (conflict_between (across_groups uniform)) x log x.first (byte_count x.width))
 
 -- the same by the region of the access: groups share buffers alone, and a local object is of one group (3.3, 6.5.2)
-abbrev pub met_at : Region → Access → List Access → Option Meeting
-met_at (region.Buffer number) x log = meeting x log
-met_at (region.Local group number) x log = None
+abbrev pub met_at : Bool → Region → Access → List Access → Option Meeting
+met_at uniform (region.Buffer number) x log = meeting uniform x log
+met_at uniform (region.Local group number) x log = None
 
 -- a meeting of an access as a conflict with it: of the earlier access item and kind are kept, and it is told at the bytes of the later (own)
 abbrev pub conflict_with : Meeting → Access → conflict_type.Conflict

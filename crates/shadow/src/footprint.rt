@@ -8,12 +8,13 @@ ghost use Rattle.joining.specs.Memory.{wrote};
 ghost use Rattle.shadow.specs.Seen.{cell, buffer_cells, OfOthers, met_at};
 
 use crate::pages::{Pages, mark_all};
-use crate::seen::{Mark, Meeting, is_written};
+use crate::seen::{Meeting, is_written};
 use clmodel::access::{Access, Region};
 use std::alloc::{AllocError, Global};
 
-/// What is kept of the accesses of work-groups so far to each byte of the launch's buffers: the first access, and the first of another kind.
-/// An access costs some steps for each of its bytes, and memory grows by pages of 256 bytes that were touched.
+/// What is kept of the accesses of work-groups so far to each byte of the launch's buffers: the first access, and the first of another kind,
+/// or of a store that left another byte. An access costs some steps for each of its bytes, and memory grows by pages of 256 bytes that were
+/// touched.
 #[derive(Drop)]
 pub struct Footprint {
     buffers: Vec<Pages>,
@@ -46,17 +47,17 @@ impl Footprint {
 
     /// The conflict of an access of another group's item with these, on its lowest byte that has one, with the earliest access there
     /// (OpenCL 1.2, section 3.3.1). `None` where it has none, and for each access of a local object, which no other group shares
-    /// (section 6.5.2).
-    pub fn meeting(&self, x: &Access) -> Option<Meeting>
+    /// (section 6.5.2). `uniform` is the launch's: there stores that leave the same byte don't conflict. What is kept doesn't depend on it.
+    pub fn meeting(&self, uniform: bool, x: &Access) -> Option<Meeting>
         requires { x.now.first + byte_count x.now.width < 2 ^ 64 }
-        ensures { (log : List TheAccess) → IsFootprint self.now log → OfOthers x.now.item log → result ≡ met_at x.now.region x.now log }
+        ensures { (log : List TheAccess) → IsFootprint self.now log → OfOthers x.now.item log → result ≡ met_at uniform x.now.region x.now log }
     {
         let Region::Buffer(number) = x.region else {
             return None;
         };
         match self.buffers.get(number as usize) {
             None => None,
-            Some(pages) => pages.against(x.kind, x.first as usize, x.width.bytes() as usize),
+            Some(pages) => { pages.against(uniform, x, x.first as usize, x.width.bytes() as usize) }
         }
     }
 
@@ -85,11 +86,7 @@ impl Footprint {
         let touched = &mut self.buffers[number as usize];
         touched.make(alloc, first / 256)?;
         touched.make(alloc, (first + count - 1) / 256)?;
-        let mark = Mark {
-            item: x.item,
-            kind: x.kind,
-        };
-        mark_all(&mut touched.pages, mark, first, count);
+        mark_all(&mut touched.pages, x, first, count);
         Ok(())
     }
 }

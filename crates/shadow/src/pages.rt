@@ -2,11 +2,11 @@
 
 ghost use Rattle.std.specs.Prelude.{◌≡◌, ◌+◌, ◌<◌, ◌≤◌, ◌/◌, ◌==◌, ◌^◌, ℕ, [], length, slice_index_or, if◌then◌else◌, OnOk};
 ghost use Rattle.clmodel.specs.Cells.{covers};
-ghost use Rattle.shadow.specs.Seen.{seen_with, against_from, row_of, cell_in, IsPage};
+ghost use Rattle.shadow.specs.Seen.{seen_with, mark_of, against_from, row_of, cell_in, IsPage};
 ghost use Rattle.shadow.specs.declared.seen.Seen.TheVariants as seen;
 
-use crate::seen::{Mark, Meeting, Seen, against, seen_with};
-use clmodel::access::AccessKind;
+use crate::seen::{Mark, Meeting, Seen, against, mark_of, seen_with};
+use clmodel::access::Access;
 use std::alloc::{AllocError, Global};
 
 /// Cells for the bytes of a buffer, in pages of 256 bytes, of which those have cells that were touched.
@@ -49,15 +49,15 @@ fn mark_byte(pages: &mut Vec<Vec<Seen>>, byte: usize, mark: Mark)
     row[byte % 256] = seen_with(row[byte % 256], mark);
 }
 
-/// Marks `count` bytes from the first on.
-pub(crate) fn mark_all(pages: &mut Vec<Vec<Seen>>, mark: Mark, first: usize, count: usize)
+/// Marks `count` bytes from the first on, which an access is at.
+pub(crate) fn mark_all(pages: &mut Vec<Vec<Seen>>, x: &Access, first: usize, count: usize)
     requires inside { first + count < 2 ^ 64 }
     requires there { (byte : ℕ) → first ≤ byte → byte < first + count → IsPage pages.old.items (byte / 256) }
-    ensures { (byte : ℕ) → cell_in pages.new.items byte ≡ (if covers first count byte then seen_with (cell_in pages.old.items byte) mark else cell_in pages.old.items byte) }
+    ensures { (byte : ℕ) → cell_in pages.new.items byte ≡ (if covers first count byte then seen_with (cell_in pages.old.items byte) (mark_of x.now byte) else cell_in pages.old.items byte) }
 {
     if count > 0 {
-        mark_byte(pages, first, mark);
-        mark_all(pages, mark, first + 1, count - 1);
+        mark_byte(pages, first, mark_of(x, first as u64));
+        mark_all(pages, x, first + 1, count - 1);
     }
 }
 
@@ -84,17 +84,24 @@ impl Pages {
         }
     }
 
-    /// The conflict of an access of a kind on the lowest of n bytes that has one.
-    pub(crate) fn against(&self, kind: AccessKind, first: usize, count: usize) -> Option<Meeting>
+    /// The conflict of an access on the lowest of n bytes that has one, by whether the launch is uniform.
+    pub(crate) fn against(
+        &self,
+        uniform: bool,
+        x: &Access,
+        first: usize,
+        count: usize,
+    ) -> Option<Meeting>
         requires { first + count < 2 ^ 64 }
-        ensures { result ≡ against_from kind (cell_in self.now.pages.items) first count }
+        ensures { result ≡ against_from uniform x.now (cell_in self.now.pages.items) first count }
     {
         if count == 0 {
             return None;
         }
-        match against(kind, first as u64, self.cell(first)) {
+        let byte = first as u64;
+        match against(uniform, mark_of(x, byte), byte, self.cell(first)) {
             Some(meeting) => Some(meeting),
-            None => self.against(kind, first + 1, count - 1),
+            None => self.against(uniform, x, first + 1, count - 1),
         }
     }
 

@@ -1,8 +1,10 @@
 //! What is kept of the accesses to one byte.
 
 ghost use Rattle.std.specs.Prelude.{◌≡◌};
+ghost use Rattle.clmodel.specs.Cells.{byte_of};
+ghost use Rattle.clmodel.specs.Launch.{both_store, left_at};
 ghost use Rattle.joining.specs.Memory.{writes};
-ghost use Rattle.shadow.specs.Seen.{seen_with, is_written, met, against, conflict_with};
+ghost use Rattle.shadow.specs.Seen.{one_sort, mark_of, seen_with, is_written, mark_clash, met, against, conflict_with};
 
 use clmodel::access::{Access, AccessKind, Clash, Conflict};
 use shadow_list::{clash, kind_number};
@@ -12,9 +14,13 @@ use shadow_list::{clash, kind_number};
 pub struct Mark {
     pub item: u32,
     pub kind: AccessKind,
+    /// The byte that a store left; 0 of all others
+    pub left: u8,
 }
 
-/// What is kept of the accesses to a byte: the first, and the first of another kind than it.
+/// What is kept of the accesses to a byte: the first, and the first of another sort than it, of another kind or a store that left another
+/// byte. In a uniform launch or not, each access conflicts with those of one sort alike, and one that passes the first sort conflicts with
+/// all others.
 #[derive(Clone, Copy)]
 pub enum Seen {
     Untouched,
@@ -49,6 +55,45 @@ impl Meeting {
     }
 }
 
+/// Byte k of a number, the lowest first.
+fn byte_of(k: u64, value: u64) -> u8
+    ensures { result ≡ byte_of k value }
+{
+    if k < 8 {
+        ((value >> (8 * k)) % 256) as u8
+    } else {
+        0
+    }
+}
+
+/// What a store that is at this byte leaves there (C99, section 6.5.16.1).
+fn left_at(x: &Access, byte: u64) -> u8
+    ensures { result ≡ left_at x.now byte }
+{
+    byte_of(byte.saturating_sub(x.first), x.value)
+}
+
+/// Who made an access, how, and what a store leaves at this byte.
+pub(crate) fn mark_of(x: &Access, byte: u64) -> Mark
+    ensures { result ≡ mark_of x.now byte }
+{
+    Mark {
+        item: x.item,
+        kind: x.kind,
+        left: match x.kind {
+            AccessKind::Store => left_at(x, byte),
+            AccessKind::Load | AccessKind::Update(_) | AccessKind::Fetch => 0,
+        },
+    }
+}
+
+/// Whether two accesses to a byte are of one sort.
+fn one_sort(a: Mark, b: Mark) -> bool
+    ensures { result ≡ one_sort a b }
+{
+    kind_number(a.kind) == kind_number(b.kind) && a.left == b.left
+}
+
 /// A byte with one access more.
 pub(crate) fn seen_with(seen: Seen, mark: Mark) -> Seen
     ensures { result ≡ seen_with seen mark }
@@ -56,7 +101,7 @@ pub(crate) fn seen_with(seen: Seen, mark: Mark) -> Seen
     match seen {
         Seen::Untouched => Seen::Touched(mark),
         Seen::Touched(first) => {
-            if kind_number(first.kind) == kind_number(mark.kind) {
+            if one_sort(first, mark) {
                 seen
             } else {
                 Seen::Mixed(first, mark)
@@ -87,24 +132,48 @@ pub(crate) fn is_written(seen: Seen) -> bool
     }
 }
 
-/// How an access of a kind conflicts with a mark on a byte.
-fn met(kind: AccessKind, byte: u64, mark: Mark) -> Option<Meeting>
-    ensures { result ≡ met kind byte mark }
+/// Whether both are stores.
+fn both_store(kind: AccessKind, other: AccessKind) -> bool
+    ensures { result ≡ both_store kind other }
 {
-    let clash = clash(mark.kind, kind)?;
+    match kind {
+        AccessKind::Store => match other {
+            AccessKind::Store => true,
+            AccessKind::Load | AccessKind::Update(_) | AccessKind::Fetch => false,
+        },
+        AccessKind::Load | AccessKind::Update(_) | AccessKind::Fetch => false,
+    }
+}
+
+/// How two accesses to a byte conflict, by whether the launch is uniform.
+fn mark_clash(uniform: bool, a: Mark, b: Mark) -> Option<Clash>
+    ensures { result ≡ mark_clash uniform a b }
+{
+    if both_store(a.kind, b.kind) && uniform && a.left == b.left {
+        None
+    } else {
+        clash(a.kind, b.kind)
+    }
+}
+
+/// How an access with the mark `mine` conflicts with an earlier one on a byte.
+fn met(uniform: bool, mine: Mark, byte: u64, mark: Mark) -> Option<Meeting>
+    ensures { result ≡ met uniform mine byte mark }
+{
+    let clash = mark_clash(uniform, mark, mine)?;
     Some(Meeting { clash, mark, byte })
 }
 
-/// The earliest of what is kept of a byte that an access of a kind conflicts with.
-pub(crate) fn against(kind: AccessKind, byte: u64, seen: Seen) -> Option<Meeting>
-    ensures { result ≡ against kind byte seen }
+/// The earliest of what is kept of a byte that an access with the mark `mine` conflicts with.
+pub(crate) fn against(uniform: bool, mine: Mark, byte: u64, seen: Seen) -> Option<Meeting>
+    ensures { result ≡ against uniform mine byte seen }
 {
     match seen {
         Seen::Untouched => None,
-        Seen::Touched(first) => met(kind, byte, first),
-        Seen::Mixed(first, other) => match met(kind, byte, first) {
+        Seen::Touched(first) => met(uniform, mine, byte, first),
+        Seen::Mixed(first, other) => match met(uniform, mine, byte, first) {
             Some(meeting) => Some(meeting),
-            None => met(kind, byte, other),
+            None => met(uniform, mine, byte, other),
         },
     }
 }

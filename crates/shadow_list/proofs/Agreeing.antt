@@ -1,6 +1,7 @@
 -- Kinds of accesses that agree, by their numbers.
 use Rattle.std.proofs.Common.{◌≡◌, ℕ, ◌<◌, ◌==◌, Bool, true, false, if◌then◌else◌, Option, None, Some, refl, sym, ap, arith, eqb-true, eq-eqb}
-use Rattle.clmodel.specs.Launch.{class_number, clash}
+use Rattle.std.proofs.lemmas.Bool.{false≢true}
+use Rattle.clmodel.specs.Launch.{class_number, clash, both_store}
 use Rattle.clmodel.specs.declared.access.AccessKind.{AccessKind}
 use Rattle.clmodel.specs.declared.access.AccessKind.TheVariants as kind
 use Rattle.clmodel.specs.declared.access.Class.{Class}
@@ -79,3 +80,13 @@ number_agrees a kind.Fetch kind.Load h e = absurd (omega (arith, e))
 number_agrees a kind.Fetch kind.Store h e = absurd (omega (arith, e))
 number_agrees a kind.Fetch (kind.Update d) h e = absurd (not_ten (class_number d) (class_small d) (sym e))
 number_agrees a m kind.Fetch h e = absurd (fetch_clashes a h)
+
+-- a kind of the number of a store is one
+pub stores_by_number : (a b k : AccessKind) → both_store a k ≡ true → kind_number b ≡ kind_number a → both_store b k ≡ true
+stores_by_number kind.Store kind.Store k h e = h
+stores_by_number kind.Store kind.Load k h e = absurd (omega (arith, e))
+stores_by_number kind.Store (kind.Update c) k h e = absurd (not_nine (class_number c) (class_small c) e)
+stores_by_number kind.Store kind.Fetch k h e = absurd (omega (arith, e))
+stores_by_number kind.Load b k h e = absurd (false≢true h)
+stores_by_number (kind.Update c) b k h e = absurd (false≢true h)
+stores_by_number kind.Fetch b k h e = absurd (false≢true h)

@@ -4,7 +4,7 @@ use Rattle.std.specs.Prelude.{is_some}
 use Rattle.std.specs.Option.{option_map}
 use Rattle.std.proofs.lemmas.Bool.{and_parts, false≢true}
 use Rattle.clmodel.specs.Cells.{byte_count, covers}
-use Rattle.clmodel.specs.Launch.{unordered, same_region, share, clash, clash_at, conflict_between}
+use Rattle.clmodel.specs.Launch.{unordered, same_region, share, clash, same_store, clash_at, conflict_between}
 use Rattle.clmodel.specs.Run.{or_else}
 use Rattle.clmodel.specs.declared.access.Access.{Access}
 use Rattle.clmodel.specs.declared.access.Rule.{Rule}
@@ -29,7 +29,7 @@ and_left false b h = refl
 
 unless_both : (g : Rule) (x y : Access) (byte : ℕ) → (unordered g x y && share x y byte) ≡ false → conflict_between g x y byte ≡ None
 unfolding conflict_between
-unless_both g x y byte h = ap (λ z. if z then clash_at x y byte else None) h
+unless_both g x y byte h = ap (λ z. if z then clash_at g x y byte else None) h
 
 pub ordered : (g : Rule) (x y : Access) (byte : ℕ) → unordered g x y ≡ false → conflict_between g x y byte ≡ None
 ordered g x y byte h = unless_both g x y byte (and_left (unordered g x y) (share x y byte) h)
@@ -62,13 +62,25 @@ apart g x y byte h = decided (share x y byte) (λ p. absurd (never p h)) (not_sh
         both a b (inl h) = omega (arith, a.0, b.1, h)
         both a b (inr h) = omega (arith, a.1, b.0, h)
 
-pub no_clash : (g : Rule) (x y : Access) (byte : ℕ) → clash_at x y byte ≡ None → conflict_between g x y byte ≡ None
+pub no_clash : (g : Rule) (x y : Access) (byte : ℕ) → clash_at g x y byte ≡ None → conflict_between g x y byte ≡ None
 unfolding conflict_between
 no_clash g x y byte h = go (unordered g x y && share x y byte)
   where
-    go : (b : Bool) → (if b then clash_at x y byte else None) ≡ None
+    go : (b : Bool) → (if b then clash_at g x y byte else None) ≡ None
     go true = h
     go false = refl
+
+-- accesses of kinds that agree don't clash on any byte
+pub kinds_agree : (g : Rule) (x y : Access) (byte : ℕ) → clash x.kind y.kind ≡ None → clash_at g x y byte ≡ None
+kinds_agree g x y byte h = go (same_store g x y byte)
+  where
+    go : (b : Bool) → (if b then None else clash x.kind y.kind) ≡ None
+    go true = refl
+    go false = h
+
+-- stores that leave the same byte in a uniform launch don't clash there
+pub stores_agree : (g : Rule) (x y : Access) (byte : ℕ) → same_store g x y byte ≡ true → clash_at g x y byte ≡ None
+stores_agree g x y byte h = ap (λ b. if b then None else clash x.kind y.kind) h
 
 -- ---- searches
 

@@ -1,57 +1,78 @@
 -- What is kept of accesses at each byte tells whether one conflicts, and the places of their keys whether it is there.
-use Rattle.std.proofs.Common.{◌≡◌, ℕ, zero, suc, ◌+◌, ◌*◌, ◌/◌, ◌%◌, ◌<◌, ◌≤◌, ◌⊎◌, true, false, nat_eq, not, ◌&&◌, ◌||◌, ◌==◌, ◌^◌, Option, None, Some, List, [], ◌∷◌, ◌++◌, length, drop, set, refl, sym, ap, ◌∙◌, subst, inl, inr, arith, eqb-true, eq-eqb}
+use Rattle.std.proofs.Common.{◌≡◌, ℕ, zero, suc, ◌+◌, ◌-◌, ◌*◌, ◌/◌, ◌%◌, ◌<◌, ◌≤◌, ◌⊎◌, Bool, true, false, nat_eq, not, ◌&&◌, ◌||◌, ◌==◌, ◌^◌, Option, None, Some, List, [], ◌∷◌, ◌++◌, length, drop, set, refl, sym, ap, ap₂, ◌∙◌, subst, inl, inr, arith, eqb-true, eq-eqb}
 use Rattle.std.specs.Prelude.{All, slice_get, slice_index_or}
 use Rattle.std.proofs.lemmas.List.{get_or_past, get_or-set_same, get_or-set_other}
 use Rattle.std.specs.Option.{unwrap_or}
 use Rattle.std.specs.HashMap.{HashMap, get, IsUnchanged}
 use Rattle.std.specs.Map.{lookup}
-use Rattle.std.proofs.lemmas.Bool.{false≢true, and_parts, cases_eq, cases_lt}
+use Rattle.std.proofs.lemmas.Bool.{false≢true, and_parts, and_from, cases_eq, cases_lt}
 use Rattle.std.proofs.lemmas.List.Elements.{All-head, All-tail}
 use Rattle.std.proofs.lemmas.Option.{none-some, same_Some, slice_get_within}
 use Rattle.clmodel.specs.Cells.{byte_count, covers}
-use Rattle.clmodel.specs.Launch.{same_region, share, clash, within_group, conflict_between}
+use Rattle.clmodel.specs.Launch.{same_region, share, clash, both_store, left_at, clash_at, within_group, conflict_between}
 use Rattle.clmodel.specs.declared.access.Access.{Access}
 use Rattle.clmodel.specs.declared.access.AccessKind.{AccessKind}
 use Rattle.clmodel.specs.declared.access.Region.{Region}
 use Rattle.clmodel.specs.declared.access.Region.TheVariants as region
 use Rattle.shadow_list.specs.Cells.{object, cell_key, in_cell, Passes}
-use Rattle.shadow_list.specs.Index.{access_key, newest_of}
+use Rattle.shadow_list.specs.Index.{access_key, same_key, newest_of}
 use Rattle.shadow_list.specs.Kinds.{kind_number}
 use Rattle.shadow_list.specs.Log.{hit_on, hit, IsThere}
-use Rattle.shadow_list.specs.Recent.{is_item, is_kind, nothing, Describes}
+use Rattle.shadow_list.specs.Recent.{is_item, is_how, nothing, Describes}
+use Rattle.shadow_list.specs.declared.index.AccessKey.{AccessKey}
 use Rattle.shadow_list.specs.declared.log.Entry.{Entry}
+use Rattle.shadow_list.specs.declared.recent.How.TheVariants as how
 use Rattle.shadow_list.specs.declared.recent.Recent.{Recent}
-use Rattle.shadow_list.proofs.Agreeing.{agree_number, number_agrees}
-use Rattle.shadow_list.proofs.Hits.{decided, ordered, not_shared, no_clash, past_over, clear, and_left}
+use Rattle.shadow_list.proofs.Agreeing.{agree_number, number_agrees, stores_by_number}
+use Rattle.shadow_list.proofs.Hits.{decided, ordered, not_shared, no_clash, kinds_agree, stores_agree, past_over, clear, and_left}
 use Rattle.shadow_list.proofs.Past.{other_interval}
 
 -- ---- accesses that pass
 
 -- an access of the same item doesn't conflict
-own_item : (x y : Access) (byte : ℕ) → y.item ≡ x.item → conflict_between within_group y x byte ≡ None
-own_item x y byte e =
-    ordered within_group y x byte (and_left (not (nat_eq y.item x.item)) (not true || nat_eq y.interval x.interval) (ap not (eq-eqb y.item x.item e)))
+own_item : (u : Bool) (x y : Access) (byte : ℕ) → y.item ≡ x.item → conflict_between (within_group u) y x byte ≡ None
+own_item u x y byte e =
+    ordered (within_group u) y x byte
+    (and_left (not (nat_eq y.item x.item)) (not true || nat_eq y.interval x.interval) (ap not (eq-eqb y.item x.item e)))
 
 -- an access that agrees with those of its interval passes
-pub passed : (r : Recent) (x : Access) → r.interval ≡ x.interval
-    → ((y : Access) → is_item r.who y.item ≡ true → is_kind r.how y.kind ≡ true → (y.item ≡ x.item) ⊎ (clash y.kind x.kind ≡ None)) → Passes r x
-passed r x e f y byte d = go (cases_eq y.interval x.interval)
+pub passed :
+    (u : Bool) (r : Recent) (x : Access) (byte : ℕ) → r.interval ≡ x.interval
+    → ((y : Access) → is_item r.who y.item ≡ true → is_how r.how y byte ≡ true → (y.item ≡ x.item) ⊎ (clash_at (within_group u) y x byte ≡ None)) → Passes u r x byte
+passed u r x byte e f y d = go (cases_eq y.interval x.interval)
   where
-    either : (y.item ≡ x.item) ⊎ (clash y.kind x.kind ≡ None) → conflict_between within_group y x byte ≡ None
-    either (inl i) = own_item x y byte i
-    either (inr k) = no_clash within_group y x byte k
+    either : (y.item ≡ x.item) ⊎ (clash_at (within_group u) y x byte ≡ None) → conflict_between (within_group u) y x byte ≡ None
+    either (inl i) = own_item u x y byte i
+    either (inr k) = no_clash (within_group u) y x byte k
 
-    go : (y.interval ≡ x.interval) ⊎ (y.interval ≡ x.interval → ⊥) → conflict_between within_group y x byte ≡ None
-    go (inl s) = let p : (is_item r.who y.item ≡ true) × (is_kind r.how y.kind ≡ true) = d.1 (s ∙ sym e) in either (f y p.0 p.1)
-    go (inr n) = other_interval x y byte n
+    go : (y.interval ≡ x.interval) ⊎ (y.interval ≡ x.interval → ⊥) → conflict_between (within_group u) y x byte ≡ None
+    go (inl s) = let p : (is_item r.who y.item ≡ true) × (is_how r.how y byte ≡ true) = d.1 (s ∙ sym e) in either (f y p.0 p.1)
+    go (inr n) = other_interval u x y byte n
 
 -- an access of a later interval passes
-pub passed_later : (r : Recent) (x : Access) → r.interval < x.interval → Passes r x
-passed_later r x b y byte d = other_interval x y byte (λ s. omega (arith, b, d.0, s))
+pub passed_later : (u : Bool) (r : Recent) (x : Access) (byte : ℕ) → r.interval < x.interval → Passes u r x byte
+passed_later u r x byte b y d = other_interval u x y byte (λ s. omega (arith, b, d.0, s))
 
 -- a kind that is of the number of one that agrees agrees
-pub agrees_all : (first kind : AccessKind) → clash first kind ≡ None → (other : AccessKind) → (kind_number other == kind_number first) ≡ true → clash other kind ≡ None
+agrees_all : (first kind : AccessKind) → clash first kind ≡ None → (other : AccessKind) → (kind_number other == kind_number first) ≡ true → clash other kind ≡ None
 agrees_all first kind h other e = number_agrees first other kind h (eqb-true (kind_number other) (kind_number first) e ∙ agree_number first kind h)
+
+-- an access doesn't clash with those of a kind that agrees with its own
+pub agreed : (u : Bool) (kind : AccessKind) (left : ℕ) (x y : Access) (byte : ℕ) → clash kind x.kind ≡ None → is_how (how.One kind left) y byte ≡ true
+    → clash_at (within_group u) y x byte ≡ None
+agreed u kind left x y byte h d =
+    kinds_agree (within_group u) y x byte (agrees_all kind x.kind h y.kind (and_parts (kind_number y.kind == kind_number kind) (left_at y byte == left) d).0)
+
+-- a store of a uniform launch doesn't clash with those that leave the byte that it leaves
+pub agreed_stores :
+    (u : Bool) (kind : AccessKind) (left : ℕ) (x y : Access) (byte : ℕ) → u ≡ true → both_store kind x.kind ≡ true → left_at x byte ≡ left
+    → is_how (how.One kind left) y byte ≡ true → clash_at (within_group u) y x byte ≡ None
+agreed_stores u kind left x y byte is_uniform stores same d =
+    let r : ((kind_number y.kind == kind_number kind) ≡ true) × ((left_at y byte == left) ≡ true) = and_parts (kind_number y.kind == kind_number kind) (left_at y byte == left) d in
+    stores_agree (within_group u) y x byte
+    (and_from (both_store y.kind x.kind && u) (left_at y byte == left_at x byte)
+    (and_from (both_store y.kind x.kind) u (stores_by_number kind y.kind x.kind stores (eqb-true (kind_number y.kind) (kind_number kind) r.0)) is_uniform)
+    (eq-eqb (left_at y byte) (left_at x byte) (eqb-true (left_at y byte) left r.1 ∙ sym same)))
 
 -- ---- accesses that are kept at their bytes
 
@@ -63,59 +84,62 @@ one_object (region.Local g a) (region.Local h b) e =
     let r : (nat_eq g h ≡ true) × (nat_eq a b ≡ true) = and_parts (nat_eq g h) (nat_eq a b) e in ap (λ n. object (region.Local g n)) (eqb-true a b r.1)
 
 -- an access that passes at each of its bytes conflicts with none that is kept
-pub marked_clear : (x y : Access) (f : ℕ → ℕ → Recent) → ((byte : ℕ) → covers x.first (byte_count x.width) byte ≡ true → Passes (f (cell_key x.region byte) byte) x)
-    → ((byte : ℕ) → covers y.first (byte_count y.width) byte ≡ true → Describes (f (cell_key y.region byte) byte) y) → (byte : ℕ) → conflict_between within_group y x byte ≡ None
-marked_clear x y f passes kept byte = decided (share y x byte) shared (not_shared within_group y x byte)
+pub marked_clear :
+    (u : Bool) (x y : Access) (f : ℕ → ℕ → Recent) → ((byte : ℕ) → covers x.first (byte_count x.width) byte ≡ true → Passes u (f (cell_key x.region byte) byte) x byte)
+    → ((byte : ℕ) → covers y.first (byte_count y.width) byte ≡ true → Describes (f (cell_key y.region byte) byte) y byte)
+    → (byte : ℕ) → conflict_between (within_group u) y x byte ≡ None
+marked_clear u x y f passes kept byte = decided (share y x byte) shared (not_shared (within_group u) y x byte)
   where
-    shared : share y x byte ≡ true → conflict_between within_group y x byte ≡ None
+    shared : share y x byte ≡ true → conflict_between (within_group u) y x byte ≡ None
     shared p =
         let r : ((same_region y.region x.region && covers y.first (byte_count y.width) byte) ≡ true) × (covers x.first (byte_count x.width) byte ≡ true) = and_parts _ _ p in
         let s : (same_region y.region x.region ≡ true) × (covers y.first (byte_count y.width) byte ≡ true) = and_parts _ _ r.0 in
-        passes byte r.1 y byte
-        (subst (λ o. Describes (f (byte / 8 % 2 ^ 48 * 2 ^ 16 + o) byte) y) (one_object y.region x.region s.0) (kept byte s.1))
+        passes byte r.1 y
+        (subst (λ o. Describes (f (byte / 8 % 2 ^ 48 * 2 ^ 16 + o) byte) y byte) (one_object y.region x.region s.0) (kept byte s.1))
 
 -- an entry that doesn't conflict with one on a byte
-abbrev pub Misses : Entry → ℕ → Entry → Type 0
-Misses x byte y = conflict_between within_group y.access x.access byte ≡ None
+abbrev pub Misses : Bool → Entry → ℕ → Entry → Type 0
+Misses u x byte y = conflict_between (within_group u) y.access x.access byte ≡ None
 
-all_clear : (x : Entry) (byte : ℕ) (log : List Entry) → All (Misses x byte) log → (n : ℕ) → hit_on within_group x byte (drop n log) ≡ None
-all_clear x byte [] h zero = refl
-all_clear x byte [] h (suc n) = refl
-all_clear x byte (y ∷ log) h zero = past_over within_group x byte y log (All-head (Misses x byte) y log h) ∙ all_clear x byte log (All-tail (Misses x byte) y log h) zero
-all_clear x byte (y ∷ log) h (suc n) = all_clear x byte log (All-tail (Misses x byte) y log h) n
+all_clear : (u : Bool) (x : Entry) (byte : ℕ) (log : List Entry) → All (Misses u x byte) log → (n : ℕ) → hit_on (within_group u) x byte (drop n log) ≡ None
+all_clear u x byte [] h zero = refl
+all_clear u x byte [] h (suc n) = refl
+all_clear u x byte (y ∷ log) h zero =
+    past_over (within_group u) x byte y log (All-head (Misses u x byte) y log h) ∙ all_clear u x byte log (All-tail (Misses u x byte) y log h) zero
+all_clear u x byte (y ∷ log) h (suc n) = all_clear u x byte log (All-tail (Misses u x byte) y log h) n
 
 -- P of each is Q of each
 pub all_as : (P Q : Entry → Type 0) → ((y : Entry) → P y → Q y) → (log : List Entry) → All P log → All Q log
 all_as P Q f log h k d lt = f _ (h k d lt)
 
 -- a log none of whose accesses conflicts has no conflict
-pub none_hit : (x : Entry) (log : List Entry) (n : ℕ) → ((byte : ℕ) → All (Misses x byte) log) → hit within_group x (drop n log) ≡ None
-none_hit x log n h = clear within_group x (drop n log) (λ byte. all_clear x byte log (h byte) n)
+pub none_hit : (u : Bool) (x : Entry) (log : List Entry) (n : ℕ) → ((byte : ℕ) → All (Misses u x byte) log) → hit (within_group u) x (drop n log) ≡ None
+none_hit u x log n h = clear (within_group u) x (drop n log) (λ byte. all_clear u x byte log (h byte) n)
 
 -- ---- what is kept stays
 
-pub nothing_described : (y : Access) → Describes nothing y → ⊥
-nothing_described y d = false≢true (d.1 (omega (arith, d.0))).0
+pub nothing_described : (y : Access) (byte : ℕ) → Describes nothing y byte → ⊥
+nothing_described y byte d = false≢true (d.1 (omega (arith, d.0))).0
 
 -- what is kept at each place stays, where each place is as it was
 pub places_kept : (old new : List Recent) → ((p : ℕ) → p < length old → slice_index_or new p nothing ≡ slice_index_or old p nothing)
-    → (p : ℕ) (y : Access) → Describes (slice_index_or old p nothing) y → Describes (slice_index_or new p nothing) y
-places_kept old new same p y d = go (cases_lt p (length old))
+    → (p : ℕ) (y : Access) (byte : ℕ) → Describes (slice_index_or old p nothing) y byte → Describes (slice_index_or new p nothing) y byte
+places_kept old new same p y byte d = go (cases_lt p (length old))
   where
-    go : (p < length old) ⊎ (length old ≤ p) → Describes (slice_index_or new p nothing) y
-    go (inl b) = subst (λ r. Describes r y) (sym (same p b)) d
-    go (inr b) = absurd (nothing_described y (subst (λ r. Describes r y) (get_or_past old p nothing b) d))
+    go : (p < length old) ⊎ (length old ≤ p) → Describes (slice_index_or new p nothing) y byte
+    go (inl b) = subst (λ r. Describes r y byte) (sym (same p b)) d
+    go (inr b) = absurd (nothing_described y byte (subst (λ r. Describes r y byte) (get_or_past old p nothing b) d))
 
 -- what is kept at each key stays, where each place keeps what it had, and each cell is where it was
 pub cells_kept : {S : Type 0} (m n : HashMap ℕ ℕ S) (old new : List Recent) → ((q start : ℕ) → get nat_eq m q ≡ Some start → get nat_eq n q ≡ Some start)
-    → ((p : ℕ) (y : Access) → Describes (slice_index_or old p nothing) y → Describes (slice_index_or new p nothing) y)
-    → (key k : ℕ) (y : Access) → k < 8 → Describes (in_cell old k (get nat_eq m key)) y → Describes (in_cell new k (get nat_eq n key)) y
-cells_kept m n old new there same key k y b d = go (get nat_eq m key) refl
+    → ((p : ℕ) (y : Access) (byte : ℕ) → Describes (slice_index_or old p nothing) y byte → Describes (slice_index_or new p nothing) y byte)
+    → (key k : ℕ) (y : Access) (byte : ℕ) → k < 8 → Describes (in_cell old k (get nat_eq m key)) y byte → Describes (in_cell new k (get nat_eq n key)) y byte
+cells_kept m n old new there same key k y byte b d = go (get nat_eq m key) refl
   where
-    go : (o : Option ℕ) → get nat_eq m key ≡ o → Describes (in_cell new k (get nat_eq n key)) y
-    go None e = absurd (nothing_described y (subst (λ o. Describes (in_cell old k o) y) e d))
+    go : (o : Option ℕ) → get nat_eq m key ≡ o → Describes (in_cell new k (get nat_eq n key)) y byte
+    go None e = absurd (nothing_described y byte (subst (λ o. Describes (in_cell old k o) y byte) e d))
     go (Some start) e =
-        subst (λ o. Describes (in_cell new k o) y) (sym (there key start e)) (same (start + k) y (subst (λ o. Describes (in_cell old k o) y) e d))
+        subst (λ o. Describes (in_cell new k o) y byte) (sym (there key start e)) (same (start + k) y byte (subst (λ o. Describes (in_cell old k o) y byte) e d))
 
 -- a cell that is added leaves the others where they were
 pub start_added : {S : Type 0} (m n : HashMap ℕ ℕ S) (key : ℕ) → get nat_eq m key ≡ None → ((q : ℕ) → nat_eq key q ≡ false → get nat_eq n q ≡ get nat_eq m q)
@@ -151,12 +175,9 @@ pub at_start : {S : Type 0} (m : HashMap ℕ ℕ S) (bytes : List Recent) (r : R
 at_start m bytes r first count byte start a b d e =
     ap (λ q. in_cell bytes (byte % 8) (get nat_eq m (q % 2 ^ 48 * 2 ^ 16 + object r))) (cell_once first count byte a b d) ∙ ap (in_cell bytes (byte % 8)) e
 
--- that place is among those of the first bytes
-pub start_below : (first count byte start : ℕ) → first % 8 + count ≤ 8 → first ≤ byte → byte < first + count → start + first % 8 ≤ start + byte % 8
-start_below first count byte start a b d = omega (arith, a, b, d)
-
-pub start_above : (first count byte start : ℕ) → first % 8 + count ≤ 8 → first ≤ byte → byte < first + count → start + byte % 8 < start + first % 8 + count
-start_above first count byte start a b d = omega (arith, a, b, d)
+-- that place, counted from that of the first of them
+pub start_on : (first count byte start : ℕ) → first % 8 + count ≤ 8 → first ≤ byte → byte < first + count → start + first % 8 + (byte - first) ≡ start + byte % 8
+start_on first count byte start a b d = omega (arith, a, b, d)
 
 -- ---- an access more at a place
 
@@ -166,23 +187,28 @@ other_place old p k w ne = get_or-set_other old p k w nothing ne
 pub this_place : (old : List Recent) (p : ℕ) (w : Recent) → p < length old → slice_index_or (set old p w) p nothing ≡ w
 this_place old p w b = get_or-set_same old p w nothing b
 
-pub place_kept : (old : List Recent) (p : ℕ) (w : Recent) → p < length old → ((y : Access) → Describes (slice_index_or old p nothing) y → Describes w y)
-    → (k : ℕ) (y : Access) → Describes (slice_index_or old k nothing) y → Describes (slice_index_or (set old p w) k nothing) y
-place_kept old p w b f k y d = go (cases_eq k p)
+pub place_kept :
+    (old : List Recent) (p : ℕ) (w : Recent) → p < length old → ((y : Access) (byte : ℕ) → Describes (slice_index_or old p nothing) y byte → Describes w y byte)
+    → (k : ℕ) (y : Access) (byte : ℕ) → Describes (slice_index_or old k nothing) y byte → Describes (slice_index_or (set old p w) k nothing) y byte
+place_kept old p w b f k y byte d = go (cases_eq k p)
   where
-    go : (k ≡ p) ⊎ (k ≡ p → ⊥) → Describes (slice_index_or (set old p w) k nothing) y
+    go : (k ≡ p) ⊎ (k ≡ p → ⊥) → Describes (slice_index_or (set old p w) k nothing) y byte
     go (inl e) =
-        subst (λ j. Describes (slice_index_or (set old p w) j nothing) y) (sym e)
-        (subst (λ r. Describes r y) (sym (this_place old p w b)) (f y (subst (λ j. Describes (slice_index_or old j nothing) y) e d)))
-    go (inr ne) = subst (λ r. Describes r y) (sym (other_place old p k w ne)) d
+        subst (λ j. Describes (slice_index_or (set old p w) j nothing) y byte) (sym e)
+        (subst (λ r. Describes r y byte) (sym (this_place old p w b)) (f y byte (subst (λ j. Describes (slice_index_or old j nothing) y byte) e d)))
+    go (inr ne) = subst (λ r. Describes r y byte) (sym (other_place old p k w ne)) d
 
-pub place_added : (old : List Recent) (from p : ℕ) (w : Recent) (x : Access) → p < length old → Describes w x
-    → ((k : ℕ) → from ≤ k → k < p → Describes (slice_index_or old k nothing) x) → (k : ℕ) → from ≤ k → k < p + 1 → Describes (slice_index_or (set old p w) k nothing) x
-place_added old from p w x b d h k lo hi = go (cases_eq k p)
+pub place_added :
+    (old : List Recent) (from n first : ℕ) (w : Recent) (x : Access) → from + n < length old → Describes w x (first + n)
+    → ((k : ℕ) → k < n → Describes (slice_index_or old (from + k) nothing) x (first + k))
+    → (k : ℕ) → k < n + 1 → Describes (slice_index_or (set old (from + n) w) (from + k) nothing) x (first + k)
+place_added old from n first w x b d h k hi = go (cases_eq k n)
   where
-    go : (k ≡ p) ⊎ (k ≡ p → ⊥) → Describes (slice_index_or (set old p w) k nothing) x
-    go (inl e) = subst (λ j. Describes (slice_index_or (set old p w) j nothing) x) (sym e) (subst (λ r. Describes r x) (sym (this_place old p w b)) d)
-    go (inr ne) = subst (λ r. Describes r x) (sym (other_place old p k w ne)) (h k lo (omega (arith, hi, ne)))
+    go : (k ≡ n) ⊎ (k ≡ n → ⊥) → Describes (slice_index_or (set old (from + n) w) (from + k) nothing) x (first + k)
+    go (inl e) =
+        subst (λ j. Describes (slice_index_or (set old (from + n) w) (from + j) nothing) x (first + j)) (sym e)
+        (subst (λ r. Describes r x (first + n)) (sym (this_place old (from + n) w b)) d)
+    go (inr ne) = subst (λ r. Describes r x (first + k)) (sym (other_place old (from + n) (from + k) w (λ e. ne (omega (arith, e))))) (h k (omega (arith, hi, ne)))
 
 -- ---- a log with one more
 
@@ -197,24 +223,36 @@ grown_get (y ∷ xs) x z (suc j) e = shifted (grown_get xs x z j e)
     shifted (inl h) = inl h
     shifted (inr h) = inr (ap suc h.0, h.1)
 
--- the places of keys, once an access is added
-pub below_more : {S : Type 0} (log : List Entry) (x : Entry) (m n : HashMap ℕ ℕ S) (h place : ℕ) → ((j : ℕ) (y : Entry) → slice_get log j ≡ Some y → j < newest_of m (access_key y.access))
-    → h ≡ access_key x.access → place ≡ length log + 1 → get nat_eq n h ≡ Some place → ((q : ℕ) → nat_eq h q ≡ false → get nat_eq n q ≡ get nat_eq m q)
-    → (j : ℕ) (y : Entry) → slice_get (log ++ x ∷ []) j ≡ Some y → j < newest_of n (access_key y.access)
-below_more log x m n h place below k p own others j y e = go (grown_get log x y j e)
-  where
-    here : (q : ℕ) → h ≡ q → newest_of n q ≡ length log + 1
-    here q t = ap (newest_of n) (sym t) ∙ ap (λ o. unwrap_or o 0) own ∙ p
+one_key : (a b : AccessKey) → same_key a b ≡ true → a ≡ b
+one_key a b h =
+    let r : ((a.place == b.place) ≡ true) × ((a.value == b.value) ≡ true) = and_parts (a.place == b.place) (a.value == b.value) h in
+    ap₂ (λ (p v : ℕ). record { place = p; value = v }) (eqb-true a.place b.place r.0) (eqb-true a.value b.value r.1)
 
+-- the places of keys, once that of an access is added, and once the access is
+pub below_kept :
+    {S : Type 0} (log : List Entry) (m n : HashMap AccessKey ℕ S) (h : AccessKey) → ((j : ℕ) (y : Entry) → slice_get log j ≡ Some y → j < newest_of m (access_key y.access))
+    → get same_key n h ≡ Some (length log + 1) → ((q : AccessKey) → same_key h q ≡ false → get same_key n q ≡ get same_key m q)
+    → (j : ℕ) (y : Entry) → slice_get log j ≡ Some y → j < newest_of n (access_key y.access)
+below_kept log m n h below own others j y a =
+    decided (same_key h (access_key y.access))
+    (λ t.
+    let q : newest_of n (access_key y.access) ≡ length log + 1 =
+    ap (newest_of n) (sym (one_key h (access_key y.access) t)) ∙ ap (λ o. unwrap_or o 0) own in
+    omega (arith, q, slice_get_within log j y a))
+    (λ t.
+    let q : newest_of n (access_key y.access) ≡ newest_of m (access_key y.access) = ap (λ o. unwrap_or o 0) (others (access_key y.access) t) in
+    omega (arith, q, below j y a))
+
+pub below_more :
+    {S : Type 0} (log : List Entry) (x : Entry) (m n : HashMap AccessKey ℕ S) (h : AccessKey)
+    → ((j : ℕ) (y : Entry) → slice_get log j ≡ Some y → j < newest_of m (access_key y.access))
+    → h ≡ access_key x.access → get same_key n h ≡ Some (length log + 1) → ((q : AccessKey) → same_key h q ≡ false → get same_key n q ≡ get same_key m q)
+    → (j : ℕ) (y : Entry) → slice_get (log ++ x ∷ []) j ≡ Some y → j < newest_of n (access_key y.access)
+below_more log x m n h below k own others j y e = go (grown_get log x y j e)
+  where
     go : (slice_get log j ≡ Some y) ⊎ ((j ≡ length log) × (x ≡ y)) → j < newest_of n (access_key y.access)
+    go (inl a) = below_kept log m n h below own others j y a
     go (inr a) =
-        let q : newest_of n (access_key y.access) ≡ length log + 1 = here (access_key y.access) (k ∙ ap (λ (z : Entry). access_key z.access) a.1) in
+        let q : newest_of n (access_key y.access) ≡ length log + 1 =
+        ap (newest_of n) (sym (k ∙ ap (λ (z : Entry). access_key z.access) a.1)) ∙ ap (λ o. unwrap_or o 0) own in
         omega (arith, q, a.0)
-    go (inl a) =
-        decided (nat_eq h (access_key y.access))
-        (λ t.
-        let q : newest_of n (access_key y.access) ≡ length log + 1 = here (access_key y.access) (eqb-true h (access_key y.access) t) in
-        omega (arith, q, slice_get_within log j y a))
-        (λ t.
-        let q : newest_of n (access_key y.access) ≡ newest_of m (access_key y.access) = ap (λ o. unwrap_or o 0) (others (access_key y.access) t) in
-        omega (arith, q, below j y a))

@@ -1,4 +1,5 @@
 pub mod Agreeing
+pub mod Bytes
 pub mod Hits
 pub mod Indexed
 pub mod Past

@@ -26,31 +26,33 @@ one_memory (region.Local g a) (region.Buffer b) e = absurd (false≢true e)
 one_memory (region.Local g a) (region.Local h b) e = refl
 
 -- accesses of two intervals don't conflict
-pub other_interval : (x y : Access) (byte : ℕ) → (y.interval ≡ x.interval → ⊥) → conflict_between within_group y x byte ≡ None
-other_interval x y byte n =
-    ordered within_group y x byte (and_right (not (nat_eq y.item x.item)) (nat_eq y.interval x.interval) (ne_eqb y.interval x.interval n))
+pub other_interval : (u : Bool) (x y : Access) (byte : ℕ) → (y.interval ≡ x.interval → ⊥) → conflict_between (within_group u) y x byte ≡ None
+other_interval u x y byte n =
+    ordered (within_group u) y x byte (and_right (not (nat_eq y.item x.item)) (nat_eq y.interval x.interval) (ne_eqb y.interval x.interval n))
 
-no_conflict : (x y : Entry) (byte : ℕ) → IsPast x y → conflict_between within_group y.access x.access byte ≡ None
-no_conflict x y byte h =
+no_conflict : (u : Bool) (x y : Entry) (byte : ℕ) → IsPast x y → conflict_between (within_group u) y.access x.access byte ≡ None
+no_conflict u x y byte h =
     decided (same_region y.access.region x.access.region)
-    (λ e. other_interval x.access y.access byte (λ s. omega (arith, s, h (one_memory y.access.region x.access.region e))))
-    (other_region within_group y.access x.access byte)
+    (λ e. other_interval u x.access y.access byte (λ s. omega (arith, s, h (one_memory y.access.region x.access.region e))))
+    (other_region (within_group u) y.access x.access byte)
 
-same_on : (x : Entry) (byte n : ℕ) (log : List Entry) → All (IsPast x) (take n log) → hit_on within_group x byte log ≡ hit_on within_group x byte (drop n log)
-same_on x byte zero log h = refl
-same_on x byte (suc n) [] h = refl
-same_on x byte (suc n) (y ∷ log) h =
-    past_over within_group x byte y log (no_conflict x y byte (All-head (IsPast x) y (take n log) h)) ∙ same_on x byte n log (All-tail (IsPast x) y (take n log) h)
+same_on :
+    (u : Bool) (x : Entry) (byte n : ℕ) (log : List Entry) → All (IsPast x) (take n log)
+    → hit_on (within_group u) x byte log ≡ hit_on (within_group u) x byte (drop n log)
+same_on u x byte zero log h = refl
+same_on u x byte (suc n) [] h = refl
+same_on u x byte (suc n) (y ∷ log) h =
+    past_over (within_group u) x byte y log (no_conflict u x y byte (All-head (IsPast x) y (take n log) h)) ∙ same_on u x byte n log (All-tail (IsPast x) y (take n log) h)
 
 -- the conflict is that with the entries behind
-same_hit : (x : Entry) (n : ℕ) (log : List Entry) → All (IsPast x) (take n log) → hit within_group x log ≡ hit within_group x (drop n log)
+same_hit : (u : Bool) (x : Entry) (n : ℕ) (log : List Entry) → All (IsPast x) (take n log) → hit (within_group u) x log ≡ hit (within_group u) x (drop n log)
 unfolding hit
-same_hit x n log h = go x.access.first (byte_count x.access.width)
+same_hit u x n log h = go x.access.first (byte_count x.access.width)
   where
-    go : (byte count : ℕ) → hit_from within_group x log byte count ≡ hit_from within_group x (drop n log) byte count
+    go : (byte count : ℕ) → hit_from (within_group u) x log byte count ≡ hit_from (within_group u) x (drop n log) byte count
     go byte zero = refl
     go byte (suc count) =
-        ap (λ o. or_else o (hit_from within_group x log (suc byte) count)) (same_on x byte n log h) ∙ ap (or_else (hit_on within_group x byte (drop n log))) (go (suc byte) count)
+        ap (λ o. or_else o (hit_from (within_group u) x log (suc byte) count)) (same_on u x byte n log h) ∙ ap (or_else (hit_on (within_group u) x byte (drop n log))) (go (suc byte) count)
 
 not_same : (x y : Entry) → IsPast x y → y.access ≡ x.access → ⊥
 not_same x y h e = omega (arith, ap (λ (a : Access). a.interval) e, h (ap (λ (a : Access). in_buffer a.region) e))
@@ -68,8 +70,8 @@ pub record Walk (e x : Entry) (n : ℕ) (log rest : List Entry) : Type 0 where
   pub rest_is : rest ≡ drop n log
   pub past : All (IsPast x) (take n log)
 
-pub walk_finds : (e x : Entry) (n : ℕ) (log rest : List Entry) → Walk e x n log rest → hit within_group e rest ≡ hit within_group x log
-walk_finds e x n log rest w = ap (λ y. hit within_group y rest) w.kept ∙ ap (hit within_group x) w.rest_is ∙ sym (same_hit x n log w.past)
+pub walk_finds : (u : Bool) (e x : Entry) (n : ℕ) (log rest : List Entry) → Walk e x n log rest → hit (within_group u) e rest ≡ hit (within_group u) x log
+walk_finds u e x n log rest w = ap (λ y. hit (within_group u) y rest) w.kept ∙ ap (hit (within_group u) x) w.rest_is ∙ sym (same_hit u x n log w.past)
 
 pub walk_sees : (e x : Entry) (n : ℕ) (log rest : List Entry) → Walk e x n log rest → (all : List Entry) → all ≡ log → IsThere all e.access → IsThere log x.access
 walk_sees e x n log rest w all a t = subst (λ (y : Entry). IsThere log y.access) w.kept (subst (λ l. IsThere l e.access) a t)

@@ -1,5 +1,5 @@
 -- How the bytes of each cell were accessed last: what is kept of each byte, in cells of eight (own, on OpenCL 1.2, 3.3.1).
-use Rattle.std.specs.Prelude.{◌≡◌, ℕ, ◌+◌, ◌*◌, ◌/◌, ◌%◌, ◌^◌, ◌<◌, true, nat_eq, Option, None, Some, List, slice_index_or}
+use Rattle.std.specs.Prelude.{◌≡◌, ℕ, ◌+◌, ◌*◌, ◌/◌, ◌%◌, ◌^◌, ◌<◌, Bool, true, nat_eq, Option, None, Some, List, slice_index_or}
 use Rattle.std.specs.HashMap.{get}
 use Rattle.clmodel.specs.Cells.{byte_count, covers}
 use Rattle.clmodel.specs.Launch.{within_group, conflict_between}
@@ -34,12 +34,12 @@ cell_of cells r byte = at_key cells (cell_key r byte) (byte % 8)
 
 -- an access is kept at each of its bytes (own)
 abbrev pub IsMarked : Cells → Access → Type 0
-IsMarked cells y = (byte : ℕ) → covers y.first (byte_count y.width) byte ≡ true → Describes (cell_of cells y.region byte) y
+IsMarked cells y = (byte : ℕ) → covers y.first (byte_count y.width) byte ≡ true → Describes (cell_of cells y.region byte) y byte
 
--- an access conflicts with none of those of which this is kept (3.3.1, 6.12.8)
-abbrev pub Passes : Recent → Access → Type 0
-Passes r x = (y : Access) (byte : ℕ) → Describes r y → conflict_between within_group y x byte ≡ None
+-- an access at a byte conflicts there with none of those of which this is kept, in a launch that is uniform or not (3.3.1, 6.12.8)
+abbrev pub Passes : Bool → Recent → Access → ℕ → Type 0
+Passes uniform r x byte = (y : Access) → Describes r y byte → conflict_between (within_group uniform) y x byte ≡ None
 
 -- what is kept before is kept after (own)
 abbrev pub KeepsAll : Cells → Cells → Type 0
-KeepsAll old new = (key k : ℕ) (y : Access) → k < 8 → Describes (at_key old key k) y → Describes (at_key new key k) y
+KeepsAll old new = (key k : ℕ) (y : Access) (byte : ℕ) → k < 8 → Describes (at_key old key k) y byte → Describes (at_key new key k) y byte

@@ -15,12 +15,13 @@ use Rattle.shadow_list.specs.declared.log.Hit.{Hit}
 use Rattle.shadow_list.specs.declared.log.Fenced.{Fenced}
 use Rattle.shadow_list.specs.declared.log.Fenced.TheVariants as fenced
 
--- the accesses, the oldest first, and how many barriers the group has passed that fenced local and that fenced global
--- memory (6.12.8, own)
+-- the accesses, the oldest first, how many barriers the group has passed that fenced local and that fenced global
+-- memory (6.12.8, own), and whether the launch is uniform (own)
 pub record Log : Type 0 where
   pub accesses : List Entry
   pub local_interval : ℕ
   pub global_interval : ℕ
+  pub uniform : Bool
 
 -- what a log is given of an item's operation at the bytes from `first` on: it gives the access its interval itself (own)
 abbrev pub entry_of : ℕ → Region → ℕ → Operation → ℕ → Entry
@@ -61,8 +62,8 @@ IsKept log x new = (IsThere log x.access × (new ≡ log)) ⊎ ((IsThere log x.a
 -- what a new access leaves of the log of its group, and the conflict that it answers (3.3.1, 6.12.8, own in what is kept)
 abbrev pub IsNoted : Log → Entry → Log → Result (Option Hit) AllocError → Type 0
 IsNoted old x new (Ok found) =
-    (found ≡ hit within_group (stamped old x) old.accesses) × IsKept old.accesses (stamped old x) new.accesses
-    × (new.local_interval ≡ old.local_interval) × (new.global_interval ≡ old.global_interval)
+    (found ≡ hit (within_group old.uniform) (stamped old x) old.accesses) × IsKept old.accesses (stamped old x) new.accesses
+    × (new.local_interval ≡ old.local_interval) × (new.global_interval ≡ old.global_interval) × (new.uniform ≡ old.uniform)
 IsNoted old x new (Err _) = new ≡ old
 
 -- the number of the running interval of an address space (6.12.8)
@@ -81,18 +82,19 @@ in_buffer (region.Buffer number) = true
 in_buffer (region.Local group number) = false
 
 -- the conflict of the first access of another group's log that has one with a log: only buffers are shared between groups (6.5.2)
-abbrev pub across : List Entry → List Entry → Option Hit
-across log [] = None
-across log (x ∷ later) = or_else (if in_buffer x.access.region then hit across_groups x log else None) (across log later)
+abbrev pub across : Bool → List Entry → List Entry → Option Hit
+across uniform log [] = None
+across uniform log (x ∷ later) = or_else (if in_buffer x.access.region then hit (across_groups uniform) x log else None) (across uniform log later)
 
 -- its bytes are numbers of 64 bits (own)
 abbrev pub IsPlaced : Entry → Type 0
 IsPlaced x = x.access.first + byte_count x.access.width < 2 ^ 64
 
 -- a log by its parts (own)
-abbrev pub logged : List Entry → ℕ → ℕ → Log
-logged accesses local_interval global_interval = record { accesses = accesses; local_interval = local_interval; global_interval = global_interval }
+abbrev pub logged : List Entry → ℕ → ℕ → Bool → Log
+logged accesses local_interval global_interval uniform =
+    record { accesses = accesses; local_interval = local_interval; global_interval = global_interval; uniform = uniform }
 
--- the log of a group that has made no access and passed no barrier (own)
-abbrev pub fresh_log : Log
+-- the log of a group that has made no access and passed no barrier, in a launch that is uniform or not (own)
+abbrev pub fresh_log : Bool → Log
 fresh_log = logged [] 0 0

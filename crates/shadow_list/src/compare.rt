@@ -1,11 +1,11 @@
 //! How two accesses conflict.
 
 ghost use Rattle.std.specs.Prelude.{◌≡◌, ◌+◌, ◌<◌, ◌^◌, ℕ, false, None};
-ghost use Rattle.clmodel.specs.Cells.{byte_count, covers};
-ghost use Rattle.clmodel.specs.Launch.{unordered, share, same_region, conflict_between};
+ghost use Rattle.clmodel.specs.Cells.{byte_count, byte_of, covers};
+ghost use Rattle.clmodel.specs.Launch.{unordered, share, same_region, left_at, same_store, clash_at, conflict_between};
 ghost use Rattle.shadow_list.specs.Log.{IsPlaced, hit_between};
 
-use crate::kinds::clash;
+use crate::kinds::{both_store, clash};
 use crate::log::{Entry, Hit};
 use clmodel::access::{Access, Clash, Region, Rule};
 
@@ -51,13 +51,49 @@ fn share(x: &Access, y: &Access, byte: u64) -> bool
         && covers(y.first, y.width.bytes(), byte)
 }
 
+/// Byte k of a number, the lowest first.
+fn byte_of(k: u64, value: u64) -> u8
+    ensures { result ≡ byte_of k value }
+{
+    if k < 8 {
+        ((value >> (8 * k)) % 256) as u8
+    } else {
+        0
+    }
+}
+
+/// What a store that is at this byte leaves there (C99, section 6.5.16.1).
+pub(crate) fn left_at(x: &Access, byte: u64) -> u8
+    ensures { result ≡ left_at x.now byte }
+{
+    byte_of(byte.saturating_sub(x.first), x.value)
+}
+
+/// Whether both are stores of a uniform launch that leave the same byte.
+fn same_store(rule: Rule, x: &Access, y: &Access, byte: u64) -> bool
+    ensures { result ≡ same_store rule x.now y.now byte }
+{
+    both_store(x.kind, y.kind) && rule.uniform && left_at(x, byte) == left_at(y, byte)
+}
+
+/// How two accesses conflict on a byte that both are at, if no barrier orders them.
+fn clash_at(rule: Rule, x: &Access, y: &Access, byte: u64) -> Option<Clash>
+    ensures { result ≡ clash_at rule x.now y.now byte }
+{
+    if same_store(rule, x, y, byte) {
+        None
+    } else {
+        clash(x.kind, y.kind)
+    }
+}
+
 /// How two accesses conflict on a byte by their rule, if they do.
 #[tactic(auto, unfolding(clmodel::specs::Launch::conflict_between))]
 fn conflict_between(rule: Rule, x: &Access, y: &Access, byte: u64) -> Option<Clash>
     ensures { result ≡ conflict_between rule x.now y.now byte }
 {
     if unordered(rule, x, y) && share(x, y, byte) {
-        clash(x.kind, y.kind)
+        clash_at(rule, x, y, byte)
     } else {
         None
     }

@@ -16,22 +16,33 @@ use clmodel::access::{Access, Rule};
 use std::alloc::{AllocError, Global};
 use std::collections::HashMap;
 
+/// The key of an access, which no other has of its group and its interval: as long as buffers and local objects have at most 2^24 bytes,
+/// groups at most 2^16 items, and a launch at most 2^15 buffers and 2^15 local objects.
+#[derive(Clone, Copy, PartialEq, Eq, Hash)]
+pub(crate) struct AccessKey {
+    /// Of the item, the region, the first byte, the width and the kind.
+    pub(crate) place: u64,
+    pub(crate) value: u64,
+}
+
 /// The place of the newest access of each key in a log, and what is kept of the accesses at each byte. A place counts the accesses up
 /// to one and with it, and 0 stands for none.
 #[derive(Drop)]
 pub(crate) struct Index {
-    pub(crate) newest: HashMap<u64, usize>,
+    pub(crate) newest: HashMap<AccessKey, usize>,
     pub(crate) cells: Cells,
 }
 
-/// The key of an access, which no other has of its group and its interval: as long as buffers and local objects have at most 2^24 bytes,
-/// groups at most 2^16 items, and a launch at most 2^15 buffers and 2^15 local objects.
-fn access_key(x: &Access) -> u64
+/// The key of an access.
+fn access_key(x: &Access) -> AccessKey
     ensures { result ≡ access_key x.now }
 {
     let start = x.first % 16777216 * 65536 + (x.item % 65536) as u64;
     let kind = kind_number(x.kind) as u64 * 16 + x.width.bytes();
-    start * 16777216 + object(x.region) * 256 + kind
+    AccessKey {
+        place: start * 16777216 + object(x.region) * 256 + kind,
+        value: x.value,
+    }
 }
 
 impl Index {
@@ -60,25 +71,32 @@ impl Index {
     }
 
     /// The place of the newest access of a key.
-    fn newest(&self, key: u64) -> usize
+    fn newest(&self, key: AccessKey) -> usize
         ensures { result ≡ newest_of self.now.newest key }
     {
         self.newest.get(&key).copied().unwrap_or(0)
     }
 }
 
-/// The conflict of an access with those of a log from a place on. Only where there may be one are all of them walked.
-pub(crate) fn hit_from(x: &Entry, log: &[Entry], index: &Index, from: usize) -> Option<Hit>
+/// The conflict of an access with those of a log from a place on, in a launch that is uniform or not. Only where there may be one are all
+/// of them walked.
+pub(crate) fn hit_from(
+    uniform: bool,
+    x: &Entry,
+    log: &[Entry],
+    index: &Index,
+    from: usize,
+) -> Option<Hit>
     requires placed { IsPlaced x.now }
     requires all_placed { All IsPlaced log.now }
     requires indexed { IsIndexed log.now index.now }
     requires within { from ≤ length log.now }
-    ensures { result ≡ hit within_group x.now (drop from log.now) }
+    ensures { result ≡ hit (within_group uniform) x.now (drop from log.now) }
 {
-    if index.cells.is_clear(&x.access) {
+    if index.cells.is_clear(uniform, &x.access) {
         None
     } else {
-        hit(Rule::WITHIN_GROUP, x, &log[from..])
+        hit(Rule::within_group(uniform), x, &log[from..])
     }
 }
 

@@ -1,7 +1,7 @@
 //! Kinds of accesses.
 
 ghost use Rattle.std.specs.Prelude.{◌≡◌, ◌<◌};
-ghost use Rattle.clmodel.specs.Launch.{class_number, clash};
+ghost use Rattle.clmodel.specs.Launch.{class_number, clash, both_store};
 ghost use Rattle.shadow_list.specs.Kinds.{kind_number};
 
 use clmodel::access::{AccessKind, Clash, Class};
@@ -33,6 +33,19 @@ pub fn kind_number(kind: AccessKind) -> u8
         AccessKind::Store => 9,
         AccessKind::Update(class) => class_number(class),
         AccessKind::Fetch => 10,
+    }
+}
+
+/// Whether both are stores.
+pub(crate) fn both_store(kind: AccessKind, other: AccessKind) -> bool
+    ensures { result ≡ both_store kind other }
+{
+    match kind {
+        AccessKind::Store => match other {
+            AccessKind::Store => true,
+            AccessKind::Load | AccessKind::Update(_) | AccessKind::Fetch => false,
+        },
+        AccessKind::Load | AccessKind::Update(_) | AccessKind::Fetch => false,
     }
 }
 

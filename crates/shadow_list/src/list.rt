@@ -23,6 +23,8 @@ pub struct ListLog {
     entries: Vec<Entry>,
     local_interval: u32,
     global_interval: u32,
+    /// Whether the launch is uniform.
+    uniform: bool,
     /// How many entries there were when the running interval of local memory began.
     local_first: usize,
     /// How many entries there were when the running interval of global memory began.
@@ -39,14 +41,15 @@ pub struct ListLog {
 }
 
 impl ListLog {
-    /// A log without accesses, in the first interval of both address spaces. It takes no memory.
-    pub fn new(alloc: Global) -> Self
-        ensures { logged result.entries.items result.local_interval result.global_interval ≡ fresh_log }
+    /// A log without accesses, in the first interval of both address spaces, of a launch that is uniform or not. It takes no memory.
+    pub fn new(alloc: Global, uniform: bool) -> Self
+        ensures { logged result.entries.items result.local_interval result.global_interval result.uniform ≡ fresh_log uniform }
     {
         ListLog {
             entries: Vec::new(alloc),
             local_interval: 0,
             global_interval: 0,
+            uniform,
             local_first: 0,
             global_first: 0,
             index: Index::new(alloc),
@@ -55,7 +58,7 @@ impl ListLog {
 
     /// Forgets all accesses, as `new` begins, and keeps the memory.
     fn clear(&mut self)
-        ensures { logged self.new.entries.items self.new.local_interval self.new.global_interval ≡ fresh_log }
+        ensures { logged self.new.entries.items self.new.local_interval self.new.global_interval self.new.uniform ≡ fresh_log self.old.uniform }
     {
         self.entries.clear();
         self.local_interval = 0;
@@ -65,13 +68,13 @@ impl ListLog {
         self.index.clear();
     }
 
-    /// A log without accesses, in the first interval of both address spaces, in the memory of this one. The memory is given back where
-    /// less than an eighth of it was in use: to clear it takes time in proportion to all of it.
+    /// A log without accesses, in the first interval of both address spaces, of the same launch and in the memory of this one. The memory
+    /// is given back where less than an eighth of it was in use: to clear it takes time in proportion to all of it.
     pub fn cleared(self, alloc: Global) -> Self
-        ensures { logged result.entries.items result.local_interval result.global_interval ≡ fresh_log }
+        ensures { logged result.entries.items result.local_interval result.global_interval result.uniform ≡ fresh_log self.uniform }
     {
         if self.entries.len() < self.entries.capacity() / 8 {
-            return ListLog::new(alloc);
+            return ListLog::new(alloc, self.uniform);
         }
         let mut log = self;
         log.clear();
@@ -80,7 +83,7 @@ impl ListLog {
 
     /// An access with the running interval of its address space.
     fn stamped(&self, entry: Entry) -> Entry
-        ensures { result ≡ stamped (logged self.now.entries.items self.now.local_interval self.now.global_interval) entry }
+        ensures { result ≡ stamped (logged self.now.entries.items self.now.local_interval self.now.global_interval self.now.uniform) entry }
     {
         let interval = match entry.access.region {
             Region::Buffer(_) => self.global_interval,
@@ -109,7 +112,7 @@ impl ListLog {
 }
 
 impl Accesses for ListLog {
-    ghost log = { λ l. logged l.entries.items l.local_interval l.global_interval };
+    ghost log = { λ l. logged l.entries.items l.local_interval l.global_interval l.uniform };
 
     fn len(&self) -> usize {
         self.entries.len()
@@ -125,7 +128,7 @@ impl AccessLog for ListLog {
         let from = self.first(entry.access.region);
         let entry = self.stamped(entry);
         let log = self.entries.as_slice();
-        let found = hit_from(&entry, log, &self.index, from);
+        let found = hit_from(self.uniform, &entry, log, &self.index, from);
         if !is_there(&entry, log, &self.index, from) {
             keep(&mut self.entries, &mut self.index, entry)?;
         }
@@ -146,10 +149,11 @@ impl AccessLog for ListLog {
     }
 
     fn conflicts_with<M: Accesses>(&self, later: &M) -> Option<Hit> {
+        let rule = Rule::across_groups(self.uniform);
         for i in 0..later.len() {
             let entry = later.get(i);
             if let Region::Buffer(_) = entry.access.region {
-                if let Some(found) = hit(Rule::ACROSS_GROUPS, &entry, self.entries.as_slice()) {
+                if let Some(found) = hit(rule, &entry, self.entries.as_slice()) {
                     return Some(found);
                 }
             }

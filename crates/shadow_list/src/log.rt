@@ -25,6 +25,7 @@ impl Entry {
             first,
             width: operation.width(),
             kind: operation.kind(),
+            value: operation.value(),
             interval: 0,
         };
         Entry { access, event }
@@ -47,7 +48,7 @@ pub enum Fenced {
     Global,
 }
 
-/// Accesses in their order, the oldest first, seen as their list with the numbers of the running intervals.
+/// Accesses in their order, the oldest first, seen as their list with the numbers of the running intervals and whether the launch is uniform.
 pub trait Accesses {
     ghost log: { Self → Log };
 
@@ -75,7 +76,8 @@ pub trait AccessLog: Accesses {
         requires { running (Self.log self.old) space < 2 ^ 32 - 1 }
         ensures { Self.log self.new ≡ after_fence (Self.log self.old) space };
 
-    /// The conflict with a later group's log, of its first access that has one.
+    /// The conflict with the log of a later group of the launch, of its first access that has one.
     fn conflicts_with<M: Accesses>(&self, later: &M) -> Option<Hit>
-        ensures { result ≡ across (Self.log self.now).accesses (M.log later.now).accesses };
+        requires { (M.log later.now).uniform ≡ (Self.log self.now).uniform }
+        ensures { result ≡ across (Self.log self.now).uniform (Self.log self.now).accesses (M.log later.now).accesses };
 }

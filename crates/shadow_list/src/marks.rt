@@ -31,56 +31,59 @@ fn cell_key(region: Region, byte: u64) -> u64
     byte / 8 % 281474976710656 * 65536 + object(region)
 }
 
-/// Whether an access passes each of the bytes from a place up to another.
-fn pass(bytes: &[Recent], from: usize, to: usize, x: &Access) -> bool
-    requires { to ≤ length bytes.now }
-    ensures { IsTrue result → (k : ℕ) → from ≤ k → k < to → Passes (slice_index_or bytes.now k nothing) x.now }
+/// Whether an access passes at so many bytes from the first on, of which is kept what stands from a place on.
+fn pass(bytes: &[Recent], from: usize, uniform: bool, x: &Access, first: u64, count: u64) -> bool
+    requires there { from + count ≤ length bytes.now }
+    requires short { first + count < 2 ^ 64 }
+    ensures { IsTrue result → (k : ℕ) → k < count → Passes uniform (slice_index_or bytes.now (from + k) nothing) x.now (first + k) }
 {
-    for place in from..to {
-        if !bytes[place].passes(x) {
+    for k in 0..count {
+        if !bytes[from + k as usize].passes(uniform, x, first + k) {
             return false;
         }
     }
     true
 }
 
-/// Adds an access to those of the bytes from a place up to another.
-fn add(bytes: &mut Vec<Recent>, from: usize, to: usize, x: &Access)
-    requires { to ≤ length bytes.old.items }
+/// Adds an access to those of so many bytes from the first on, of which is kept what stands from a place on.
+fn add(bytes: &mut Vec<Recent>, from: usize, x: &Access, first: u64, count: u64)
+    requires there { from + count ≤ length bytes.old.items }
+    requires short { first + count < 2 ^ 64 }
     ensures long { length bytes.new.items ≡ length bytes.old.items }
-    ensures kept { (k : ℕ) (y : TheAccess) → Describes (slice_index_or bytes.old.items k nothing) y → Describes (slice_index_or bytes.new.items k nothing) y }
-    ensures added { (k : ℕ) → from ≤ k → k < to → Describes (slice_index_or bytes.new.items k nothing) x.now }
+    ensures kept { (k : ℕ) (y : TheAccess) (byte : ℕ) → Describes (slice_index_or bytes.old.items k nothing) y byte → Describes (slice_index_or bytes.new.items k nothing) y byte }
+    ensures added { (k : ℕ) → k < count → Describes (slice_index_or bytes.new.items (from + k) nothing) x.now (first + k) }
 {
-    for place in from..to {
-        bytes[place] = bytes[place].with(x);
+    for k in 0..count {
+        let place = from + k as usize;
+        bytes[place] = bytes[place].with(x, first + k);
     }
 }
 
 impl Cells {
-    /// Whether an access passes the accesses to some bytes of one cell.
-    fn passes(&self, x: &Access, first: u64, count: u64) -> bool
+    /// Whether an access passes the accesses to some bytes of one cell, in a launch that is uniform or not.
+    fn passes(&self, uniform: bool, x: &Access, first: u64, count: u64) -> bool
         requires one_cell { first % 8 + count ≤ 8 }
         requires short { first + count < 2 ^ 64 }
-        ensures { IsTrue result → (byte : ℕ) → first ≤ byte → byte < first + count → Passes (cell_of self.now x.now.region byte) x.now }
+        ensures { IsTrue result → (byte : ℕ) → first ≤ byte → byte < first + count → Passes uniform (cell_of self.now x.now.region byte) x.now byte }
     {
         match self.starts.get(&cell_key(x.region, first)) {
             None => true,
             Some(start) => {
                 let from = *start + (first % 8) as usize;
-                pass(&self.bytes, from, from + count as usize, x)
+                pass(&self.bytes, from, uniform, x, first, count)
             }
         }
     }
 
-    /// Whether an access conflicts with none of those that are kept.
-    pub(crate) fn is_clear(&self, x: &Access) -> bool
+    /// Whether an access conflicts with none of those that are kept, in a launch that is uniform or not.
+    pub(crate) fn is_clear(&self, uniform: bool, x: &Access) -> bool
         requires { x.now.first + byte_count x.now.width < 2 ^ 64 }
-        ensures { IsTrue result → (y : TheAccess) (byte : ℕ) → IsMarked self.now y → conflict_between within_group y x.now byte ≡ None }
+        ensures { IsTrue result → (y : TheAccess) (byte : ℕ) → IsMarked self.now y → conflict_between (within_group uniform) y x.now byte ≡ None }
     {
         let count = x.width.bytes();
         let here = count.min(8 - x.first % 8);
-        self.passes(x, x.first, here)
-            && (here == count || self.passes(x, x.first + here, count - here))
+        self.passes(uniform, x, x.first, here)
+            && (here == count || self.passes(uniform, x, x.first + here, count - here))
     }
 
     /// Where the bytes of the cell of a byte start, which is made if it isn't there.
@@ -102,10 +105,10 @@ impl Cells {
         requires one_cell { first % 8 + count ≤ 8 }
         requires short { first + count < 2 ^ 64 }
         ensures kept { KeepsAll self.old self.new }
-        ensures added { OnOk result ((byte : ℕ) → first ≤ byte → byte < first + count → Describes (cell_of self.new x.now.region byte) x.now) }
+        ensures added { OnOk result ((byte : ℕ) → first ≤ byte → byte < first + count → Describes (cell_of self.new x.now.region byte) x.now byte) }
     {
         let from = self.start(cell_key(x.region, first))? + (first % 8) as usize;
-        add(&mut self.bytes, from, from + count as usize, x);
+        add(&mut self.bytes, from, x, first, count);
         Ok(())
     }
 

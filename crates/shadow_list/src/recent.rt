@@ -1,12 +1,13 @@
 //! What is kept of the accesses to a byte.
 
 ghost use Rattle.std.specs.Prelude.{◌≡◌, ℕ, IsTrue, None, true};
-ghost use Rattle.clmodel.specs.Launch.{clash, within_group, conflict_between};
+ghost use Rattle.clmodel.specs.Launch.{left_at, within_group, clash_at};
 ghost use Rattle.clmodel.specs.declared.access.Access.{Access as TheAccess};
-ghost use Rattle.clmodel.specs.declared.access.AccessKind.{AccessKind as TheKind};
-ghost use Rattle.shadow_list.specs.Recent.{is_kind, Describes, nothing};
+ghost use Rattle.shadow_list.specs.Cells.{Passes};
+ghost use Rattle.shadow_list.specs.Recent.{is_how, Describes, nothing};
 
-use crate::kinds::{clash, kind_number};
+use crate::compare::left_at;
+use crate::kinds::{both_store, clash, kind_number};
 use clmodel::access::{Access, AccessKind};
 
 /// Whose accesses a byte had in an interval.
@@ -17,10 +18,10 @@ pub(crate) enum Who {
     Many,
 }
 
-/// Of which kind they were.
+/// Of which kind they were, and which byte they left: 0 where none is a store.
 #[derive(Clone, Copy)]
 pub(crate) enum How {
-    One(AccessKind),
+    One(AccessKind, u8),
     Mixed,
 }
 
@@ -33,23 +34,27 @@ pub(crate) struct Recent {
 }
 
 impl How {
-    /// The same with an access of a kind more.
-    fn with(self, kind: AccessKind) -> Self
-        ensures kept { (other : TheKind) → is_kind self other ≡ true → is_kind result other ≡ true }
-        ensures added { is_kind result kind ≡ true }
+    /// The same with an access at the byte more.
+    fn with(self, x: &Access, byte: u64) -> Self
+        ensures kept { (y : TheAccess) (at : ℕ) → is_how self y at ≡ true → is_how result y at ≡ true }
+        ensures added { is_how result x.now byte ≡ true }
     {
         match self {
-            How::One(first) if kind_number(first) == kind_number(kind) => self,
+            How::One(kind, left)
+                if kind_number(x.kind) == kind_number(kind) && left_at(x, byte) == left => { self }
             _ => How::Mixed,
         }
     }
 
-    /// Whether an access of a kind conflicts with none of them.
-    fn agrees(self, kind: AccessKind) -> bool
-        ensures { IsTrue result → (other : TheKind) → is_kind self other ≡ true → clash other kind ≡ None }
+    /// Whether an access at the byte conflicts with none of them, in a launch that is uniform or not.
+    fn agrees(self, uniform: bool, x: &Access, byte: u64) -> bool
+        ensures { IsTrue result → (y : TheAccess) → is_how self y byte ≡ true → clash_at (within_group uniform) y x.now byte ≡ None }
     {
         match self {
-            How::One(first) => clash(first, kind).is_none(),
+            How::One(kind, left) => {
+                clash(kind, x.kind).is_none()
+                    || uniform && both_store(kind, x.kind) && left_at(x, byte) == left
+            }
             How::Mixed => false,
         }
     }
@@ -67,10 +72,10 @@ impl Recent {
         }
     }
 
-    /// The same with one access more. One of an interval that is over isn't kept.
-    pub(crate) fn with(self, x: &Access) -> Self
-        ensures kept { (y : TheAccess) → Describes self y → Describes result y }
-        ensures added { Describes result x.now }
+    /// The same with one access at the byte more. One of an interval that is over isn't kept.
+    pub(crate) fn with(self, x: &Access, byte: u64) -> Self
+        ensures kept { (y : TheAccess) (at : ℕ) → Describes self y at → Describes result y at }
+        ensures added { Describes result x.now byte }
     {
         if x.interval < self.interval {
             return self;
@@ -78,12 +83,12 @@ impl Recent {
         let alone = Recent {
             interval: x.interval,
             who: Who::One(x.item),
-            how: How::One(x.kind),
+            how: How::One(x.kind, left_at(x, byte)),
         };
         if self.interval < x.interval {
             return alone;
         }
-        let how = self.how.with(x.kind);
+        let how = self.how.with(x, byte);
         match self.who {
             Who::Nobody => alone,
             Who::One(item) if item == x.item => Recent { how, ..self },
@@ -95,10 +100,10 @@ impl Recent {
         }
     }
 
-    /// Whether an access conflicts with none of them: it is of a later interval, all are of its own item, or all are of one kind that agrees
-    /// with its own.
-    pub(crate) fn passes(self, x: &Access) -> bool
-        ensures { IsTrue result → (y : TheAccess) (byte : ℕ) → Describes self y → conflict_between within_group y x.now byte ≡ None }
+    /// Whether an access at the byte conflicts with none of them, in a launch that is uniform or not: it is of a later interval, all are of
+    /// its own item, all are of one kind that agrees with its own, or all are stores that leave the byte that it leaves.
+    pub(crate) fn passes(self, uniform: bool, x: &Access, byte: u64) -> bool
+        ensures { IsTrue result → Passes uniform self x.now byte }
     {
         if self.interval != x.interval {
             return self.interval < x.interval;
@@ -106,7 +111,7 @@ impl Recent {
         match self.who {
             Who::Nobody => true,
             Who::One(item) if item == x.item => true,
-            _ => self.how.agrees(x.kind),
+            _ => self.how.agrees(uniform, x, byte),
         }
     }
 }

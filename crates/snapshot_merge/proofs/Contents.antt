@@ -21,7 +21,7 @@ use Rattle.joining.specs.Memory.{joined_number, joined_update, joined_memory, cl
 use Rattle.joining.specs.Crossings.{crossing}
 use Rattle.joining.specs.Parts.{Part, IsGrouped, IsPart}
 use Rattle.joining.specs.Join.{Joined}
-use Rattle.joining.specs.Steps.{HasGroup, IsJoined, IsJoinedByte, BytesAreJoined}
+use Rattle.joining.specs.Steps.{HasGroup, IsJoined, IsOwnByte, IsUpdatedByte, IsJoinedByte, BytesAreJoined}
 use Rattle.joining.proofs.Over.{wrote_some, wrote_from}
 use Rattle.group_run.specs.Logs.{accesses_of}
 use Rattle.shadow_list.specs.declared.log.Entry.{Entry}
@@ -237,21 +237,23 @@ put_joined l g lower part old entries kept first spaces c x n byte logged w insi
     same : wrote kept (region.Buffer n) byte ≡ wrote lower.log (region.Buffer n) byte
     same = kept_wrote lower.log kept (region.Buffer n) byte c.keeps
 
-    go : (b : Bool) → wrote lower.log (region.Buffer n) byte ≡ b → joined_of l lower part (region.Buffer n) byte ≡ Some (put_of first old kept spaces n x byte)
-    go false e =
+    put : ℕ
+    put = put_of first old kept spaces n x byte
+
+    -- the group's own byte is put
+    own_byte : IsOwnByte l lower part x byte → put ≡ number_or_0 (cells_at spaces n) byte 1 → joined_of l lower part (region.Buffer n) byte ≡ Some put
+    own_byte own told =
         let v = own_set l g part c.runs n byte inside in
-        let own : cells_at spaces n byte ≡ Some v.0 = own_cells l part.end.memory spaces c.leaves n byte inside ∙ v.1 in
+        let there : cells_at spaces n byte ≡ Some v.0 = own_cells l part.end.memory spaces c.leaves n byte inside ∙ v.1 in
         ap (λ r. joined_of l lower part r byte) here
-        ∙ is.alone (ap (λ r. wrote lower.log r byte) (sym here) ∙ e)
+        ∙ own
         ∙ ap (λ r. part.end.memory r byte) (sym here)
         ∙ v.1
-        ∙ ap Some
-        (sym
-        (ap (λ t. joined_value x.kind t (filled_at first n) (filled_at old n) (cells_at spaces n) byte) (same ∙ e)
-        ∙ own_put x.kind (filled_at first n) (filled_at old n) (cells_at spaces n) byte
-        ∙ one_byte (cells_at spaces n) byte v.0 own))
-    go true e =
-        let q = is.both (ap (λ r. wrote lower.log r byte) (sym here) ∙ e) in
+        ∙ ap Some (sym (told ∙ one_byte (cells_at spaces n) byte v.0 there))
+
+    -- a byte of the joined number is put
+    updated : wrote lower.log (region.Buffer n) byte ≡ true → IsUpdatedByte l lower part x byte → joined_of l lower part (region.Buffer n) byte ≡ Some put
+    updated e q =
         let word = byte / 4 * 4 in
         let s : number (initial l (region.Buffer n)) word 4 ≡ Some q.1 = subst (λ r. number (initial l r) word 4 ≡ Some q.1) (sym here) q.5 in
         let a : number (lower.memory (region.Buffer n)) word 4 ≡ Some q.2 = subst (λ r. number (lower.memory r) word 4 ≡ Some q.2) (sym here) q.6 in
@@ -263,6 +265,15 @@ put_joined l g lower part old entries kept first spaces c x n byte logged w insi
         (ap₂ (λ k t. joined_value k t (filled_at first n) (filled_at old n) (cells_at spaces n) byte) q.4 (same ∙ e)
         ∙ ap (λ z. byte_of (byte % 4) (joined_number q.0 z (number_or_0 (filled_at old n) word 4) (number_or_0 (cells_at spaces n) word 4))) (word_first l first n word q.1 c.opening s)
         ∙ ap₂ (λ y z. byte_of (byte % 4) (joined_number q.0 q.1 y z)) (word_lower l lower.memory old n word q.1 q.2 c.holds s a) (word_own l part.end.memory spaces n word q.1 q.3 c.leaves s b)))
+
+    go : (b : Bool) → wrote lower.log (region.Buffer n) byte ≡ b → joined_of l lower part (region.Buffer n) byte ≡ Some put
+    go false e =
+        own_byte (is.alone (ap (λ r. wrote lower.log r byte) (sym here) ∙ e))
+        (ap (λ t. joined_value x.kind t (filled_at first n) (filled_at old n) (cells_at spaces n) byte) (same ∙ e)
+        ∙ own_put x.kind (filled_at first n) (filled_at old n) (cells_at spaces n) byte)
+    go true e = ⊎_elim (updated e)
+        (λ s. own_byte s.2 (ap₂ (λ k t. joined_value k t (filled_at first n) (filled_at old n) (cells_at spaces n) byte) s.1 (same ∙ e)))
+        (is.both (ap (λ r. wrote lower.log r byte) (sym here) ∙ e))
 
 -- what the changes leave is the joined memory
 pub joined_contents :

@@ -58,8 +58,8 @@ pub record IsFurther (launch : Launch) (group : ℕ) (lower : Joined) (part : Pa
   pub keeps : Keeps lower.log kept
 
 -- none of the first entries meets what is kept of the lower groups
-abbrev pub Misses : List Entry → List Access → ℕ → Type 0
-Misses entries kept count = (k : ℕ) (e : Entry) → k < count → slice_get entries k ≡ Some e → meeting e.access kept ≡ None
+abbrev pub Misses : Bool → List Entry → List Access → ℕ → Type 0
+Misses uniform entries kept count = (k : ℕ) (e : Entry) → k < count → slice_get entries k ≡ Some e → meeting uniform e.access kept ≡ None
 
 -- What the join comes to where an entry is the first that meets: the group's events up to its own, and the meeting as the report, unless
 -- the entry is the last and the group stopped with a conflict on a lower byte.
@@ -72,13 +72,13 @@ pub record Crosses (launch : Launch) (lower : Joined) (part : Part) (e : Entry) 
 abbrev pub NotCrossed : Type 0
 NotCrossed =
     (laws : Laws) (launch : Launch) (group : ℕ) (lower : Joined) (part : Part) (log : Log) (kept : List Access) → IsFurther launch group lower part log kept
-    → Misses log.accesses kept (length log.accesses) → crossing launch lower.log part.end.log ≡ None
+    → Misses launch.uniform log.accesses kept (length log.accesses) → crossing launch lower.log part.end.log ≡ None
 
 -- where an entry is the first that meets, its access is the first that crosses
 abbrev pub IsCrossed : Type 0
 IsCrossed =
     (laws : Laws) (launch : Launch) (group : ℕ) (lower : Joined) (part : Part) (log : Log) (kept : List Access) → IsFurther launch group lower part log kept
-    → (k : ℕ) (e : Entry) (met : Meeting) → slice_get log.accesses k ≡ Some e → Misses log.accesses kept k → meeting e.access kept ≡ Some met
+    → (k : ℕ) (e : Entry) (met : Meeting) → slice_get log.accesses k ≡ Some e → Misses launch.uniform log.accesses kept k → meeting launch.uniform e.access kept ≡ Some met
     → Crosses launch lower part e met (k + 1 == length log.accesses)
 
 -- the entries are of other items than what is kept of the lower groups
@@ -91,7 +91,7 @@ EntriesOfOthers =
 abbrev pub LocalsMiss : Type 0
 LocalsMiss =
     (laws : Laws) (launch : Launch) (group : ℕ) (lower : Joined) (part : Part) (log : Log) (kept : List Access) → IsFurther launch group lower part log kept
-    → (k : ℕ) (e : Entry) (owner number : ℕ) → slice_get log.accesses k ≡ Some e → e.access.region ≡ region.Local owner number → meeting e.access kept ≡ None
+    → (k : ℕ) (e : Entry) (owner number : ℕ) → slice_get log.accesses k ≡ Some e → e.access.region ≡ region.Local owner number → meeting launch.uniform e.access kept ≡ None
 
 -- ---- the group's own report
 
@@ -259,14 +259,14 @@ lower_than laws launch group lower part log kept h x y a b e =
 -- an access of the run conflicts with the lower groups as with what is kept of them
 kept_conflict : (laws : Laws) (launch : Launch) (group : ℕ) (lower : Joined) (part : Part) (log : Log) (kept : List Access) → IsFurther launch group lower part log kept
     → (x : Access) → Logged part.end.log x
-    → conflict_from (conflict launch) x lower.log x.first (byte_count x.width) ≡ conflict_from (conflict_between across_groups) x kept x.first (byte_count x.width)
+    → conflict_from (conflict launch) x lower.log x.first (byte_count x.width) ≡ conflict_from (conflict_between (across_groups launch.uniform)) x kept x.first (byte_count x.width)
 kept_conflict laws launch group lower part log kept h x a =
     laws.kept launch x lower.log kept x.first (byte_count x.width) h.keeps (λ y b e. lower_than laws launch group lower part log kept h x y a b e)
 
 missed : (laws : Laws) (launch : Launch) (group : ℕ) (lower : Joined) (part : Part) (log : Log) (kept : List Access) → IsFurther launch group lower part log kept
-    → (x : Access) → Logged part.end.log x → meeting x kept ≡ None → conflict_from (conflict launch) x lower.log x.first (byte_count x.width) ≡ None
+    → (x : Access) → Logged part.end.log x → meeting launch.uniform x kept ≡ None → conflict_from (conflict launch) x lower.log x.first (byte_count x.width) ≡ None
 missed laws launch group lower part log kept h x a none =
-    kept_conflict laws launch group lower part log kept h x a ∙ map_none meeting_of (conflict_from (conflict_between across_groups) x kept x.first (byte_count x.width)) none
+    kept_conflict laws launch group lower part log kept h x a ∙ map_none meeting_of (conflict_from (conflict_between (across_groups launch.uniform)) x kept x.first (byte_count x.width)) none
 
 pub entries_of_others : EntriesOfOthers
 entries_of_others laws launch group lower part log kept h k e at y b same =
@@ -276,7 +276,7 @@ entries_of_others laws launch group lower part log kept h k e at y b same =
 pub locals_miss : LocalsMiss
 locals_miss laws launch group lower part log kept h k e owner number at mine =
     ap (option_map meeting_of)
-    (none_from (conflict_between across_groups) e.access kept (λ y b byte. apart_between across_groups y e.access byte (λ same. apart y (logged_kept lower.log kept y h.keeps b) same)) e.access.first (byte_count e.access.width))
+    (none_from (conflict_between (across_groups launch.uniform)) e.access kept (λ y b byte. apart_between (across_groups launch.uniform) y e.access byte (λ same. apart y (logged_kept lower.log kept y h.keeps b) same)) e.access.first (byte_count e.access.width))
   where
     own : (object : Object) × (e.access.region ≡ region_of group object)
     own = let r = laws.own launch group part h.grouped h.there h.runs e.access (entry_logged launch group lower part log kept h k e at) in (r.1, r.2)
@@ -294,11 +294,11 @@ not_crossed laws launch group lower part log kept h misses = crossing_none launc
         let r = there_at log.accesses y
         (made_there (numbered (reverse part.events) part.end.log) log.accesses y h.logged.noted (subst (λ z. Logged z y) (sym (made_all launch group part h.runs)) a)) in
         missed laws launch group lower part log kept h y a
-        (subst (λ z. meeting z kept ≡ None) r.3 (misses r.0 r.1 (get_below log.accesses r.0 r.1 r.2) r.2))
+        (subst (λ z. meeting launch.uniform z kept ≡ None) r.3 (misses r.0 r.1 (get_below log.accesses r.0 r.1 r.2) r.2))
 
 -- ---- the first entry that meets
 
-met_fault : (l : Launch) (x : Access) (kept : List Access) (met : Meeting) (m : IsMet x kept met) → conflict_fault l m.conflict ≡ meeting_fault l x met
+met_fault : (l : Launch) (x : Access) (kept : List Access) (met : Meeting) (m : IsMet l.uniform x kept met) → conflict_fault l m.conflict ≡ meeting_fault l x met
 met_fault l x kept met m =
     ap₂ (λ (y : Access) r. fault.Conflict m.conflict.clash m.conflict.earlier.item m.conflict.earlier.kind y.item y.kind (location_of l r) m.conflict.byte) m.later m.regions
     ∙ ap (meeting_fault l x) m.told
@@ -328,8 +328,8 @@ crossed laws launch group lower part log kept h k e met at misses meets =
     c : Cut part.events e f.rest
     c = cut launch part.events e f.rest (placed launch (reverse part.events) part.end.log f.later f.rest e follows f.parts)
 
-    m : IsMet e.access kept met
-    m = met_conflict e.access kept met meets
+    m : IsMet launch.uniform e.access kept met
+    m = met_conflict launch.uniform e.access kept met meets
 
     conflicts : conflict_from (conflict launch) e.access lower.log e.access.first (byte_count e.access.width) ≡ Some m.conflict
     conflicts = kept_conflict laws launch group lower part log kept h e.access (entry_logged launch group lower part log kept h k e at) ∙ m.there
@@ -340,7 +340,7 @@ crossed laws launch group lower part log kept h k e met at misses meets =
         let q = f.begins r.0 r.1 r.2 in
         missed laws launch group lower part log kept h y
         (subst (λ z. Logged part.end.log z) r.3 (entry_logged launch group lower part log kept h r.0 r.1 q.1))
-        (subst (λ z. meeting z kept ≡ None) r.3 (misses r.0 r.1 q.0 q.1))
+        (subst (λ z. meeting launch.uniform z kept ≡ None) r.3 (misses r.0 r.1 q.0 q.1))
 
     cross : crossing launch lower.log part.end.log ≡ Some (e.access ∷ accesses f.rest)
     cross =

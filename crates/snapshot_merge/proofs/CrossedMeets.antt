@@ -3,7 +3,7 @@ use Rattle.std.proofs.Common.{◌≡◌, ℕ, zero, suc, ◌<◌, Bool, true, fa
 use Rattle.std.specs.Option.{option_map}
 use Rattle.std.proofs.lemmas.Bool.{and_parts, false≢true}
 use Rattle.clmodel.specs.Cells.{byte_count}
-use Rattle.clmodel.specs.Launch.{Launch, same_region, region_of, clash, unordered, share, across_groups, conflict_between, conflict}
+use Rattle.clmodel.specs.Launch.{Launch, same_region, region_of, clash_at, unordered, share, across_groups, conflict_between, conflict}
 use Rattle.clmodel.specs.Run.{or_else}
 use Rattle.clmodel.specs.Law.{Logged, Keeps, conflict_on, conflict_from}
 use Rattle.clmodel.specs.declared.access.Access.{Access}
@@ -68,7 +68,7 @@ and_first false b c h = absurd (false≢true h)
 pub one_region : (rule : Rule) (y x : Access) (byte : ℕ) (c : Clash) → conflict_between rule y x byte ≡ Some c → y.region ≡ x.region
 unfolding conflict_between
 one_region rule y x byte c h =
-    let r : ((unordered rule y x && share y x byte) ≡ true) × (clash y.kind x.kind ≡ Some c) = if_some (unordered rule y x && share y x byte) (clash y.kind x.kind) c h in
+    let r : ((unordered rule y x && share y x byte) ≡ true) × (clash_at rule y x byte ≡ Some c) = if_some (unordered rule y x && share y x byte) (clash_at rule y x byte) c h in
     let s : (unordered rule y x ≡ true) × (share y x byte ≡ true) = and_parts (unordered rule y x) (share y x byte) r.0 in
     same_region-true y.region x.region (and_first (same_region y.region x.region) _ _ s.1)
 
@@ -113,15 +113,15 @@ crossing_at l lower (z ∷ later) log x c none h =
 -- ---- a meeting as a conflict
 
 -- a conflict with what is kept of the lower groups, as it is met
-pub record IsMet (x : Access) (kept : List Access) (met : Meeting) : Type 0 where
+pub record IsMet (u : Bool) (x : Access) (kept : List Access) (met : Meeting) : Type 0 where
   pub conflict : conflict_type.Conflict
-  pub there : conflict_from (conflict_between across_groups) x kept x.first (byte_count x.width) ≡ Some conflict
+  pub there : conflict_from (conflict_between (across_groups u)) x kept x.first (byte_count x.width) ≡ Some conflict
   pub later : conflict.later ≡ x
   pub regions : conflict.earlier.region ≡ x.region
   pub told : meeting_of conflict ≡ met
 
-pub met_conflict : (x : Access) (kept : List Access) (met : Meeting) → meeting x kept ≡ Some met → IsMet x kept met
-met_conflict x kept met h =
-    let r = option_map_some meeting_of (conflict_from (conflict_between across_groups) x kept x.first (byte_count x.width)) met h in
-    let o : IsOf (conflict_between across_groups) x r.0 = from_of (conflict_between across_groups) x kept x.first (byte_count x.width) r.0 r.1 in
-    record { conflict = r.0; there = r.1; later = o.0; regions = one_region across_groups r.0.earlier x r.0.byte r.0.clash o.1; told = r.2 }
+pub met_conflict : (u : Bool) (x : Access) (kept : List Access) (met : Meeting) → meeting u x kept ≡ Some met → IsMet u x kept met
+met_conflict u x kept met h =
+    let r = option_map_some meeting_of (conflict_from (conflict_between (across_groups u)) x kept x.first (byte_count x.width)) met h in
+    let o : IsOf (conflict_between (across_groups u)) x r.0 = from_of (conflict_between (across_groups u)) x kept x.first (byte_count x.width) r.0 r.1 in
+    record { conflict = r.0; there = r.1; later = o.0; regions = one_region (across_groups u) r.0.earlier x r.0.byte r.0.clash o.1; told = r.2 }

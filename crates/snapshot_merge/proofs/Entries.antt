@@ -1,5 +1,5 @@
 -- The entries of a log, one after another.
-use Rattle.std.proofs.Common.{◌≡◌, ℕ, zero, suc, ◌+◌, ◌-◌, ◌<◌, ◌≤◌, ◌⊎◌, None, Some, List, [], ◌∷◌, ◌++◌, length, take, map, sym, ap, ap₂, ◌∙◌, subst, inl, inr, arith, add-one, get_or}
+use Rattle.std.proofs.Common.{◌≡◌, Bool, ℕ, zero, suc, ◌+◌, ◌-◌, ◌<◌, ◌≤◌, ◌⊎◌, None, Some, List, [], ◌∷◌, ◌++◌, length, take, map, sym, ap, ap₂, ◌∙◌, subst, inl, inr, arith, add-one, get_or}
 use Rattle.std.specs.Prelude.{slice_get}
 use Rattle.std.specs.List.{range_with_len}
 use Rattle.std.proofs.lemmas.Bool.{cases_lt}
@@ -27,14 +27,15 @@ take_one : (xs : List Entry) (i : ℕ) (x : Entry) → slice_get xs i ≡ Some x
 take_one xs i x h = ap (λ n. take n xs) (add-one i) ∙ take_next xs i x h
 
 pub miss_more :
-    (xs : List Entry) (kept : List Access) (i : ℕ) (x : Entry) → slice_get xs i ≡ Some x → met_at x.access.region x.access kept ≡ None → MissUpTo xs kept i → MissUpTo xs kept (i + 1)
-miss_more xs kept i x h n m k e b q = go (cases_lt k i)
+    (u : Bool) (xs : List Entry) (kept : List Access) (i : ℕ) (x : Entry) → slice_get xs i ≡ Some x → met_at u x.access.region x.access kept ≡ None → MissUpTo u xs kept i
+    → MissUpTo u xs kept (i + 1)
+miss_more u xs kept i x h n m k e b q = go (cases_lt k i)
   where
-    go : (k < i) ⊎ (i ≤ k) → met_at e.access.region e.access kept ≡ None
+    go : (k < i) ⊎ (i ≤ k) → met_at u e.access.region e.access kept ≡ None
     go (inl a) = m k e a q
     go (inr a) =
         let s : k ≡ i = omega (arith, a, b) in
-        let y : x ≡ e = some_inj x e (sym h ∙ ap (slice_get xs) (sym s) ∙ q) in subst (λ (z : Entry). met_at z.access.region z.access kept ≡ None) y n
+        let y : x ≡ e = some_inj x e (sym h ∙ ap (slice_get xs) (sym s) ∙ q) in subst (λ (z : Entry). met_at u z.access.region z.access kept ≡ None) y n
 
 pub accesses_more : (xs : List Entry) (i : ℕ) (x : Entry) → slice_get xs i ≡ Some x → accesses_of (take (i + 1) xs) ≡ x.access ∷ accesses_of (take i xs)
 accesses_more xs i x h = ap accesses_of (take_one xs i x h) ∙ ap (map (λ (y : Entry). y.access)) (reverse-append (take i xs) (x ∷ []))

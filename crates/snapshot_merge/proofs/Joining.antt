@@ -1,5 +1,5 @@
 -- One more group joined to the groups so far, as code does it.
-use Rattle.std.proofs.Common.{◌≡◌, ℕ, zero, suc, ◌+◌, ◌==◌, ◌&&◌, if◌then◌else◌, Option, None, Some, List, [], ◌∷◌, ◌++◌, length, take, map, refl, sym, ap, ap₂, ◌∙◌, subst, arith}
+use Rattle.std.proofs.Common.{◌≡◌, Bool, ℕ, zero, suc, ◌+◌, ◌==◌, ◌&&◌, if◌then◌else◌, Option, None, Some, List, [], ◌∷◌, ◌++◌, length, take, map, refl, sym, ap, ap₂, ◌∙◌, subst, arith}
 use Rattle.std.specs.Prelude.{Vec, Result, Ok, Err, IfOk}
 use Rattle.std.specs.declared.alloc.Global.{Global}
 use denote.Bor.{Bor}
@@ -84,36 +84,37 @@ pub first_none : (l : Launch) (g : ℕ) (lower : Joined) (part : Part) (log : Lo
 first_none l g lower part log footprint old more r e = none_kept l g lower r.held.kept e r.joined r.held.keeps
 
 -- nothing meets where nothing is kept
-pub none_met : (entries : List Entry) (kept : List Access) → kept ≡ [] → IsFirstMet entries kept None
-none_met entries kept z k e b q = subst (λ w. met_at e.access.region e.access w ≡ None) (sym z) (go e.access.region)
+pub none_met : (u : Bool) (entries : List Entry) (kept : List Access) → kept ≡ [] → IsFirstMet u entries kept None
+none_met u entries kept z k e b q = subst (λ w. met_at u e.access.region e.access w ≡ None) (sym z) (go e.access.region)
   where
-    go : (r : Region) → met_at r e.access [] ≡ None
-    go (region.Buffer n) = ap (option_map meeting_of) (none_from (conflict_between across_groups) e.access [] (λ y m. absurd m) e.access.first (byte_count e.access.width))
+    go : (r : Region) → met_at u r e.access [] ≡ None
+    go (region.Buffer n) = ap (option_map meeting_of) (none_from (conflict_between (across_groups u)) e.access [] (λ y m. absurd m) e.access.first (byte_count e.access.width))
     go (region.Local h n) = refl
 
-misses : (l : Launch) (g : ℕ) (lower : Joined) (part : Part) (log : Log) (kept : List Access) (n : ℕ) → Laws → IsFurther l g lower part log kept → MissUpTo log.accesses kept n → Misses log.accesses kept n
+misses : (l : Launch) (g : ℕ) (lower : Joined) (part : Part) (log : Log) (kept : List Access) (n : ℕ) → Laws → IsFurther l g lower part log kept → MissUpTo l.uniform log.accesses kept n
+    → Misses l.uniform log.accesses kept n
 misses l g lower part log kept n laws far m k e b q = go e.access.region refl (m k e b q)
   where
-    go : (r : Region) → e.access.region ≡ r → met_at r e.access kept ≡ None → meeting e.access kept ≡ None
+    go : (r : Region) → e.access.region ≡ r → met_at l.uniform r e.access kept ≡ None → meeting l.uniform e.access kept ≡ None
     go (region.Buffer i) s h = h
     go (region.Local owner i) s h = locals_miss laws l g lower part log kept far k e owner i q s
 
 -- only an access of a buffer meets
-met_is : (r : Region) (x : Access) (kept : List Access) (m : Meeting) → met_at r x kept ≡ Some m → meeting x kept ≡ Some m
-met_is (region.Buffer i) x kept m h = h
-met_is (region.Local owner i) x kept m h = absurd (none_some m h)
+met_is : (u : Bool) (r : Region) (x : Access) (kept : List Access) (m : Meeting) → met_at u r x kept ≡ Some m → meeting u x kept ≡ Some m
+met_is u (region.Buffer i) x kept m h = h
+met_is u (region.Local owner i) x kept m h = absurd (none_some m h)
 
 -- an access of the group meets the lower groups'
 pub meets_stopped :
     (l : Launch) (g : ℕ) (lower : Joined) (part : Part) (log : Log) (footprint : Footprint) (old more new : List Run) (r : IsRunning l g lower part log footprint old more)
-    (met : Met) (fault : Fault) → IsFirstMet log.accesses r.held.kept (Some met) → Adds old new more (take (met.entry.event + 1) (events_of more))
+    (met : Met) (fault : Fault) → IsFirstMet l.uniform log.accesses r.held.kept (Some met) → Adds old new more (take (met.entry.event + 1) (events_of more))
     → Some fault ≡ report_at l met part.stopped → IsStopped l fault new
 meets_stopped l g lower part log footprint old more new r met fault first adds told =
     let far = further l g lower part log footprint old more r in
     let laws = crossing_laws r.laws in
     let at : Crosses l lower part met.entry met.meeting (first.0 + 1 == length log.accesses)
     = crossed laws l g lower part log r.held.kept far first.0 met.entry met.meeting first.1 (misses l g lower part log r.held.kept first.0 laws far first.2)
-    (met_is met.entry.access.region met.entry.access r.held.kept met.meeting first.3) in
+    (met_is l.uniform met.entry.access.region met.entry.access r.held.kept met.meeting first.3) in
     let report : (join l lower part).report ≡ Some fault
     = at.report ∙ ap (λ b. if b && is_below part.stopped met.meeting.byte then part.stopped else Some (meeting_fault l met.entry.access met.meeting)) (sym first.4) ∙ sym told in
     let events : events_of new ≡ (join l lower part).events
@@ -123,7 +124,7 @@ meets_stopped l g lower part log footprint old more new r met fault first adds t
 
 -- nothing crosses where nothing is met
 pub none_crosses : (l : Launch) (g : ℕ) (lower : Joined) (part : Part) (log : Log) (footprint : Footprint) (old more : List Run) (r : IsRunning l g lower part log footprint old more)
-    → IsFirstMet log.accesses r.held.kept None → crossing l lower.log part.end.log ≡ None
+    → IsFirstMet l.uniform log.accesses r.held.kept None → crossing l lower.log part.end.log ≡ None
 none_crosses l g lower part log footprint old more r first =
     let far = further l g lower part log footprint old more r in
     let laws = crossing_laws r.laws in not_crossed laws l g lower part log r.held.kept far (misses l g lower part log r.held.kept (length log.accesses) laws far first)
@@ -134,7 +135,7 @@ joined_whole l lower part none = ap (join_at l lower part) none
 -- a group stops of itself
 pub own_stopped :
     (l : Launch) (g : ℕ) (lower : Joined) (part : Part) (log : Log) (footprint : Footprint) (old more new : List Run) (r : IsRunning l g lower part log footprint old more) (fault : Fault)
-    → IsFirstMet log.accesses r.held.kept None → Adds old new more (events_of more) → part.stopped ≡ Some fault → IsStopped l fault new
+    → IsFirstMet l.uniform log.accesses r.held.kept None → Adds old new more (events_of more) → part.stopped ≡ Some fault → IsStopped l fault new
 own_stopped l g lower part log footprint old more new r fault first adds told =
     let whole = joined_whole l lower part (none_crosses l g lower part log footprint old more r first) in
     let events : events_of new ≡ (join l lower part).events
@@ -145,7 +146,7 @@ own_stopped l g lower part log footprint old more new r fault first adds told =
 -- a group that has ended is joined to the groups so far
 pub is_joined :
     (l : Launch) (g : ℕ) (lower : Joined) (part : Part) (log : Log) (footprint : Footprint) (old more : List Run) (r : IsRunning l g lower part log footprint old more)
-    → IsFirstMet log.accesses r.held.kept None → part.stopped ≡ None → IsJoined l (suc g) (join l lower part)
+    → IsFirstMet l.uniform log.accesses r.held.kept None → part.stopped ≡ None → IsJoined l (suc g) (join l lower part)
 is_joined l g lower part log footprint old more r first told =
     let whole = joined_whole l lower part (none_crosses l g lower part log footprint old more r first) in
     (lower, part, r.joined, r.there, r.runs, refl, ap (λ (j : Joined). j.report) whole ∙ told)
@@ -153,7 +154,7 @@ is_joined l g lower part log footprint old more r first told =
 -- and its accesses and events
 pub log_joined :
     (l : Launch) (g : ℕ) (lower : Joined) (part : Part) (log : Log) (footprint : Footprint) (old more : List Run) (r : IsRunning l g lower part log footprint old more)
-    (next : Footprint) (new : List Run) → IsFirstMet log.accesses r.held.kept None → IsFootprint next (accesses_of log.accesses ++ r.held.kept) → Adds old new more (events_of more)
+    (next : Footprint) (new : List Run) → IsFirstMet l.uniform log.accesses r.held.kept None → IsFootprint next (accesses_of log.accesses ++ r.held.kept) → Adds old new more (events_of more)
     → HoldsLog (join l lower part) next new
 log_joined l g lower part log footprint old more r next new first remembers adds =
     let whole = joined_whole l lower part (none_crosses l g lower part log footprint old more r first) in
@@ -176,9 +177,9 @@ pub record IsGiven (l : Launch) (g : ℕ) (so_far : JoinedGroups) (more : List R
   pub merged : IsMerged more
 
 -- what it finds to be met first, whatever is kept
-abbrev pub Finds : ℕ → JoinedGroups → Log → Option Met → Type 0
-Finds g so_far log found =
-    (kept : List Access) → IsFootprint so_far.footprint kept → (g ≡ 0 → kept ≡ []) → AreOthers log.accesses kept → IsFirstMet log.accesses kept found
+abbrev pub Finds : Bool → ℕ → JoinedGroups → Log → Option Met → Type 0
+Finds u g so_far log found =
+    (kept : List Access) → IsFootprint so_far.footprint kept → (g ≡ 0 → kept ≡ []) → AreOthers log.accesses kept → IsFirstMet u log.accesses kept found
 
 stopped_running :
     (l : Launch) (g : ℕ) (so_far : JoinedGroups) (log : Log) (more : List Run) (fault : Fault) (c : IsGiven l g so_far more) (run : IsRun (plan_of l g) (IsLogged (plan_of l g) log) (start l) (events_of more) (Some fault))
@@ -218,14 +219,14 @@ done_running l g so_far log more spaces c run =
 
 found_first :
     (l : Launch) (g : ℕ) (lower : Joined) (part : Part) (log : Log) (so_far : JoinedGroups) (more : List Run) (r : IsRunning l g lower part log so_far.footprint so_far.runs.items more) (found : Option Met)
-    → Finds g so_far log found → IsFirstMet log.accesses r.held.kept found
+    → Finds l.uniform g so_far log found → IsFirstMet l.uniform log.accesses r.held.kept found
 found_first l g lower part log so_far more r found finds =
     finds r.held.kept r.held.remembers (first_none l g lower part log so_far.footprint so_far.runs.items more r) (others l g lower part log so_far.footprint so_far.runs.items more r)
 
 -- a group that stopped meets the lower groups
 pub stop_meets :
     (l : Launch) (g : ℕ) (so_far : JoinedGroups) (log : Log) (more new : List Run) (fault : Fault) (c : IsGiven l g so_far more)
-    → IsRun (plan_of l g) (IsLogged (plan_of l g) log) (start l) (events_of more) (Some fault) → (met : Met) (report : Fault) → Finds g so_far log (Some met)
+    → IsRun (plan_of l g) (IsLogged (plan_of l g) log) (start l) (events_of more) (Some fault) → (met : Met) (report : Fault) → Finds l.uniform g so_far log (Some met)
     → Adds so_far.runs.items new more (take (met.entry.event + 1) (events_of more)) → Some report ≡ report_at l met (Some fault) → IsStopped l report new
 stop_meets l g so_far log more new fault c run met report finds adds told =
     let part : Part = stopped_part l g (IsLogged (plan_of l g) log) (events_of more) fault run in
@@ -235,7 +236,7 @@ stop_meets l g so_far log more new fault c run met report finds adds told =
 -- a group that stopped meets none of them
 pub stop_alone :
     (l : Launch) (g : ℕ) (so_far : JoinedGroups) (log : Log) (more new : List Run) (fault : Fault) (c : IsGiven l g so_far more)
-    → IsRun (plan_of l g) (IsLogged (plan_of l g) log) (start l) (events_of more) (Some fault) → Finds g so_far log None → Adds so_far.runs.items new more (events_of more) → IsStopped l fault new
+    → IsRun (plan_of l g) (IsLogged (plan_of l g) log) (start l) (events_of more) (Some fault) → Finds l.uniform g so_far log None → Adds so_far.runs.items new more (events_of more) → IsStopped l fault new
 stop_alone l g so_far log more new fault c run finds adds =
     let part : Part = stopped_part l g (IsLogged (plan_of l g) log) (events_of more) fault run in
     let r : IsRunning l g c.holds.joined part log so_far.footprint so_far.runs.items more = stopped_running l g so_far log more fault c run in
@@ -244,7 +245,7 @@ stop_alone l g so_far log more new fault c run finds adds =
 -- a group that has ended meets the lower groups
 pub done_meets :
     (l : Launch) (g : ℕ) (so_far : JoinedGroups) (log : Log) (more new : List Run) (spaces : List Overlaid) (c : IsGiven l g so_far more)
-    → IsRun (plan_of l g) (Left l g spaces log) (start l) (events_of more) None → (met : Met) (report : Fault) → Finds g so_far log (Some met)
+    → IsRun (plan_of l g) (Left l g spaces log) (start l) (events_of more) None → (met : Met) (report : Fault) → Finds l.uniform g so_far log (Some met)
     → Adds so_far.runs.items new more (take (met.entry.event + 1) (events_of more)) → Some report ≡ report_at l met None → IsStopped l report new
 done_meets l g so_far log more new spaces c run met report finds adds told =
     let part : Part = done_part l g (Left l g spaces log) (events_of more) run in
@@ -260,14 +261,14 @@ Changes so_far spaces log new =
 -- a group that has ended is joined, where a further group may follow
 pub done_joined :
     (l : Launch) (g : ℕ) (so_far : JoinedGroups) (log : Log) (more : List Run) (spaces : List Overlaid) (c : IsGiven l g so_far more)
-    → IsRun (plan_of l g) (Left l g spaces log) (start l) (events_of more) None → Finds g so_far log None → (new : JoinedGroups) → Changes so_far spaces log new.contents.items → new.first ≡ so_far.first
+    → IsRun (plan_of l g) (Left l g spaces log) (start l) (events_of more) None → Finds l.uniform g so_far log None → (new : JoinedGroups) → Changes so_far spaces log new.contents.items → new.first ≡ so_far.first
     → (HasGroup l (suc g) → ((kept : List Access) → IsFootprint so_far.footprint kept → IsFootprint new.footprint (accesses_of log.accesses ++ kept)) × Adds so_far.runs.items new.runs.items more (events_of more))
     → HoldsGroups l (suc g) new
 done_joined l g so_far log more spaces c run finds new changes first further_held =
     let part : Part = done_part l g (Left l g spaces log) (events_of more) run in
     let lower = c.holds.joined in
     let r : IsRunning l g lower part log so_far.footprint so_far.runs.items more = done_running l g so_far log more spaces c run in
-    let met : IsFirstMet log.accesses r.held.kept None = found_first l g lower part log so_far more r None finds in
+    let met : IsFirstMet l.uniform log.accesses r.held.kept None = found_first l g lower part log so_far more r None finds in
     let none = none_crosses l g lower part log so_far.footprint so_far.runs.items more r met in
     let clear : IsClear l g lower part so_far.contents.items log.accesses r.held.kept (map (λ row. row.now) so_far.first.items) (map (λ (space : Overlaid). space.bytes) spaces)
     = record {
@@ -299,7 +300,7 @@ both_ok P Q R (Err e) p q f = tt
 -- a group that has ended is joined and its accesses and events added
 pub done_added :
     (l : Launch) (g : ℕ) (so_far : JoinedGroups) (log : Log) (more : List Run) (spaces : List Overlaid) (c : IsGiven l g so_far more)
-    → IsRun (plan_of l g) (Left l g spaces log) (start l) (events_of more) None → Finds g so_far log None → (mid new : JoinedGroups) → Changes so_far spaces log mid.contents.items → mid.first ≡ so_far.first
+    → IsRun (plan_of l g) (Left l g spaces log) (start l) (events_of more) None → Finds l.uniform g so_far log None → (mid new : JoinedGroups) → Changes so_far spaces log mid.contents.items → mid.first ≡ so_far.first
     → mid.footprint ≡ so_far.footprint → mid.runs ≡ so_far.runs → new.first ≡ mid.first → new.contents ≡ mid.contents
     → ((kept : List Access) → IsFootprint mid.footprint kept → IsFootprint new.footprint (accesses_of log.accesses ++ kept)) → Adds mid.runs.items new.runs.items more (events_of more)
     → HoldsGroups l (suc g) new
@@ -314,7 +315,7 @@ done_added l g so_far log more spaces c run finds mid new changes first footprin
 -- the last group is joined
 pub done_last :
     (l : Launch) (g : ℕ) (so_far : JoinedGroups) (log : Log) (more : List Run) (spaces : List Overlaid) (c : IsGiven l g so_far more)
-    → IsRun (plan_of l g) (Left l g spaces log) (start l) (events_of more) None → Finds g so_far log None → (mid : JoinedGroups) → Changes so_far spaces log mid.contents.items → mid.first ≡ so_far.first
+    → IsRun (plan_of l g) (Left l g spaces log) (start l) (events_of more) None → Finds l.uniform g so_far log None → (mid : JoinedGroups) → Changes so_far spaces log mid.contents.items → mid.first ≡ so_far.first
     → (HasGroup l (suc g) → ⊥) → HoldsGroups l (suc g) mid
 done_last l g so_far log more spaces c run finds mid changes first last = done_joined l g so_far log more spaces c run finds mid changes first (λ h. absurd (last h))
 

@@ -14,6 +14,7 @@ use Rattle.joining.specs.Join.{Joined}
 use Rattle.joining.specs.Parts.{IsGrouped}
 use Rattle.joining.specs.Steps.{HasGroup, IsJoined}
 use Rattle.shadow.specs.Seen.{IsFootprint}
+use Rattle.shadow_list.specs.Log.{Log}
 use Rattle.shadow.specs.declared.footprint.Footprint.{Footprint}
 use Rattle.snapshot_merge.specs.Memory.{HoldsBytes}
 use Rattle.snapshot_merge.specs.declared.joined_groups.JoinEnd.{JoinEnd}
@@ -56,6 +57,11 @@ abbrev pub CameOfNext : {G L : Type 0} → Launch → ℕ → GroupResult G L �
 CameOfNext launch group (Done number spaces log runs) report so_far = CameOfDone launch group report so_far
 CameOfNext launch group (Stopped number fault log runs) (Some report) so_far = IsStopped launch report so_far.runs.items
 CameOfNext launch group (Stopped number fault log runs) None so_far = ⊥
+
+-- the log that a join hands back is of the launch's flag (own)
+abbrev pub HandsBack : {L : Type 0} → (L → Log) → Launch → JoinEnd L → Type 0
+HandsBack log_of launch (Goes log) = (log_of log).uniform ≡ launch.uniform
+HandsBack log_of launch (Reports fault) = Unit {0}
 
 -- where all groups of a launch are joined without a report, the launch ends clean with what they leave (3.2)
 abbrev pub JoinedConclude : Type 0

@@ -22,15 +22,17 @@ is_below _ byte = false
 abbrev pub AreOthers : List Entry → List Access → Type 0
 AreOthers entries kept = (k : ℕ) (e : Entry) → slice_get entries k ≡ Some e → OfOthers e.access.item kept
 
--- none of the first entries meets these accesses (own)
-abbrev pub MissUpTo : List Entry → List Access → ℕ → Type 0
-MissUpTo entries kept count = (k : ℕ) (e : Entry) → k < count → slice_get entries k ≡ Some e → met_at e.access.region e.access kept ≡ None
+-- none of the first entries meets these accesses, by whether the launch is uniform (own)
+abbrev pub MissUpTo : Bool → List Entry → List Access → ℕ → Type 0
+MissUpTo uniform entries kept count =
+    (k : ℕ) (e : Entry) → k < count → slice_get entries k ≡ Some e → met_at uniform e.access.region e.access kept ≡ None
 
 -- the first of the entries that meets these accesses, if there is one, and whether it is the last of them (own)
-abbrev pub IsFirstMet : List Entry → List Access → Option Met → Type 0
-IsFirstMet entries kept None = MissUpTo entries kept (length entries)
-IsFirstMet entries kept (Some met) =
-    (k : ℕ) × (slice_get entries k ≡ Some met.entry) × MissUpTo entries kept k × (met_at met.entry.access.region met.entry.access kept ≡ Some met.meeting)
+abbrev pub IsFirstMet : Bool → List Entry → List Access → Option Met → Type 0
+IsFirstMet uniform entries kept None = MissUpTo uniform entries kept (length entries)
+IsFirstMet uniform entries kept (Some met) =
+    (k : ℕ) × (slice_get entries k ≡ Some met.entry) × MissUpTo uniform entries kept k
+    × (met_at uniform met.entry.access.region met.entry.access kept ≡ Some met.meeting)
     × (met.last ≡ (k + 1 == length entries))
 
 -- the report where an access meets those of the lower groups: the group's own, if the access is its last and it stopped with a conflict on

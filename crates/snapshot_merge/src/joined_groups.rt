@@ -18,7 +18,7 @@ ghost use Rattle.spaces_base.specs.Buffers.{bytes_in};
 ghost use Rattle.snapshot_merge.specs.Changes.{AreChanged, changes_of, value_of};
 ghost use Rattle.snapshot_merge.specs.Meetings.{AreOthers, IsFirstMet, report_at};
 ghost use Rattle.snapshot_merge.specs.Runs.{Adds};
-ghost use Rattle.snapshot_merge.specs.JoinedGroups.{HoldsGroups, IsStopped, CameOfDone, CameOfNext, report_of};
+ghost use Rattle.snapshot_merge.specs.JoinedGroups.{HoldsGroups, IsStopped, CameOfDone, CameOfNext, HandsBack, report_of};
 
 use crate::changes::{Before, make_changes};
 use crate::cutting::{add_all, add_first};
@@ -103,14 +103,14 @@ impl<'a> JoinedGroups<'a> {
         })
     }
 
-    /// The first access of a group's log that conflicts with the lower groups': group 0 has none.
-    fn first_met<L: Accesses>(&self, group: u32, log: &L) -> Option<Met>
-        ensures { (kept : List TheAccess) → IsFootprint self.now.footprint kept → (group ≡ 0 → kept ≡ []) → AreOthers (L.log log.now).accesses kept → IsFirstMet (L.log log.now).accesses kept result }
+    /// The first access of a group's log that conflicts with the lower groups', by whether the launch is uniform: group 0 has none.
+    fn first_met<L: Accesses>(&self, uniform: bool, group: u32, log: &L) -> Option<Met>
+        ensures { (kept : List TheAccess) → IsFootprint self.now.footprint kept → (group ≡ 0 → kept ≡ []) → AreOthers (L.log log.now).accesses kept → IsFirstMet uniform (L.log log.now).accesses kept result }
     {
         if group == 0 {
             return None;
         }
-        first_met(&self.footprint, log)
+        first_met(uniform, &self.footprint, log)
     }
 
     /// Leaves in the contents what a further group, of which nothing crosses, leaves.
@@ -186,7 +186,7 @@ impl<'a> JoinedGroups<'a> {
         ensures { IfOk result (λ report. CameOfDone (D.launch launch.now) number.group report self.new) }
     {
         laws();
-        match self.first_met(number.group, log) {
+        match self.first_met(launch.uniform(), number.group, log) {
             Some(met) => Ok(Some(self.cross(launch, &met, None, runs)?)),
             None => {
                 self.change(alloc, spaces, log)?;
@@ -215,7 +215,7 @@ impl<'a> JoinedGroups<'a> {
         ensures { IfOk result (λ report. IsStopped (D.launch launch.now) report self.new.runs.items) }
     {
         laws();
-        match self.first_met(group, log) {
+        match self.first_met(launch.uniform(), group, log) {
             Some(met) => self.cross(launch, &met, Some(fault), runs),
             None => {
                 add_all(&mut self.runs, runs.as_slice())?;
@@ -238,7 +238,8 @@ impl<'a> JoinedGroups<'a> {
         requires further { HasGroup (D.launch launch.now) (suc number.group) → number.further ≡ true }
         requires so_far { HoldsGroups (D.launch launch.now) number.group self.old }
         requires result { IsResult (λ overlay. overlay.bytes) L.log (D.launch launch.now) number.group came }
-        ensures { IfOk result (λ end. CameOfNext (D.launch launch.now) number.group came.entry (report_of end) self.new) }
+        ensures came { IfOk result (λ end. CameOfNext (D.launch launch.now) number.group came.entry (report_of end) self.new) }
+        ensures log { IfOk result (HandsBack L.log (D.launch launch.now)) }
     {
         match came {
             GroupResult::Done {

@@ -22,14 +22,14 @@ pub(crate) struct Met {
     pub(crate) last: bool,
 }
 
-/// The first access of a log that conflicts with those of lower groups.
-pub(crate) fn first_met<L: Accesses>(footprint: &Footprint, log: &L) -> Option<Met>
-    ensures { (kept : List TheAccess) → IsFootprint footprint.now kept → AreOthers (L.log log.now).accesses kept → IsFirstMet (L.log log.now).accesses kept result }
+/// The first access of a log that conflicts with those of lower groups, by whether the launch is uniform.
+pub(crate) fn first_met<L: Accesses>(uniform: bool, footprint: &Footprint, log: &L) -> Option<Met>
+    ensures { (kept : List TheAccess) → IsFootprint footprint.now kept → AreOthers (L.log log.now).accesses kept → IsFirstMet uniform (L.log log.now).accesses kept result }
 {
     let count = log.len();
     for i in 0..count {
         let entry = log.get(i);
-        if let Some(meeting) = footprint.meeting(&entry.access) {
+        if let Some(meeting) = footprint.meeting(uniform, &entry.access) {
             return Some(Met {
                 entry,
                 meeting,

@@ -36,8 +36,8 @@ fn overlays_of<'a>(
 }
 
 /// The canonical run of one work-group of a launch on the buffers as they are (OpenCL 1.2, sections 3.2 and 5.8), whatever other groups
-/// do: the overlays hold what the group leaves, and the buffers stay. The log is one without accesses, in whose memory the group's are
-/// kept. An error is out of memory.
+/// do: the overlays hold what the group leaves, and the buffers stay. The log is one without accesses, of the launch's flag, in whose memory
+/// the group's are kept. An error is out of memory.
 pub fn one_group<'a>(
     alloc: Global,
     launch: &Launch<'_>,
@@ -47,7 +47,7 @@ pub fn one_group<'a>(
 ) -> Result<GroupResult<Overlay<'a>, ListLog>, AllocError>
     requires whole { HasGroups (setup_of launch.now) }
     requires there { HasGroup (launch_of (setup_of launch.now) (bytes_in buffers.now)) group }
-    requires fresh { list_log log ≡ fresh_log }
+    requires fresh { list_log log ≡ fresh_log (setup_of launch.now).range.uniform }
     ensures { IfOk result (IsResult (λ overlay. overlay.bytes) list_log (launch_of (setup_of launch.now) (bytes_in buffers.now)) group) }
 {
     setups_are_runnable();

@@ -41,6 +41,7 @@ fn access(row: Row) -> Access
         first: first as u64,
         width: Width::Four,
         kind,
+        value: 0,
         interval: 0,
     }
 }
@@ -52,7 +53,7 @@ fn the_lowest_byte_and_there_the_earliest(rt: HostRuntime) -> Result<(), Fail> {
         footprint.add(rt.alloc(), &access(row))?;
     }
     for (row, expected) in ASKED {
-        let met = match footprint.meeting(&access(row)) {
+        let met = match footprint.meeting(false, &access(row)) {
             Some(meeting) => Some((meeting.mark.item, meeting.byte)),
             None => None,
         };
@@ -75,6 +76,49 @@ fn a_local_object_meets_nothing(rt: HostRuntime) -> Result<(), Fail> {
         },
         ..access((9, 3, 600, AccessKind::Store))
     };
-    assert!(rt; footprint.meeting(&local).is_none());
+    assert!(rt; footprint.meeting(false, &local).is_none());
+    Ok(())
+}
+
+/// A store by an item to buffer 0: its first byte, its width and its value.
+fn store(item: u32, first: u8, width: Width, value: u64) -> Access
+    ensures { result.first + byte_count result.width < 2 ^ 64 }
+{
+    Access {
+        item,
+        region: Region::Buffer(0),
+        first: first as u64,
+        width,
+        kind: AccessKind::Store,
+        value,
+        interval: 0,
+    }
+}
+
+/// The first byte, the width and the value of a store of another group's item, with the item that it meets and the byte where.
+const STORES: [(u8, Width, u64, Option<(u32, u64)>); 6] = [
+    (0, Width::Four, 7, None),
+    (0, Width::One, 7, None),
+    (1, Width::One, 7, Some((0, 1))),
+    (8, Width::One, 6, Some((2, 8))),
+    (8, Width::One, 7, Some((1, 8))),
+    (9, Width::One, 7, None),
+];
+
+// In a uniform launch a store meets the first access that left another byte, and passes where all left its own.
+#[test]
+fn stores_of_the_same_byte_pass(rt: HostRuntime) -> Result<(), Fail> {
+    let mut footprint = Footprint::new(rt.alloc());
+    footprint.add(rt.alloc(), &store(0, 0, Width::Four, 7))?;
+    footprint.add(rt.alloc(), &store(1, 8, Width::One, 6))?;
+    footprint.add(rt.alloc(), &store(2, 8, Width::One, 7))?;
+    for (first, width, value, expected) in STORES {
+        let met = match footprint.meeting(true, &store(9, first, width, value)) {
+            Some(meeting) => Some((meeting.mark.item, meeting.byte)),
+            None => None,
+        };
+        assert_eq!(rt; met, expected);
+    }
+    assert!(rt; footprint.meeting(false, &store(9, 0, Width::Four, 7)).is_some());
     Ok(())
 }

@@ -29,6 +29,7 @@ fn entry(item: u32, first: u8, kind: AccessKind) -> Entry
         first: first as u64,
         width: Width::Four,
         kind,
+        value: 0,
         interval: 0,
     };
     Entry { access, event: 0 }
@@ -37,7 +38,7 @@ fn entry(item: u32, first: u8, kind: AccessKind) -> Entry
 // An access that is there in the running interval isn't kept again. One of another interval is, and is no conflict.
 #[test]
 fn accesses_are_noted(rt: HostRuntime) -> Result<(), Fail> {
-    let mut log = ListLog::new(rt.alloc());
+    let mut log = ListLog::new(rt.alloc(), false);
     assert!(rt; log.note(entry(5, 6, AccessKind::Store))?.is_none());
     log.fence(Fenced::Global);
     for (item, first, kind, byte, kept) in ROWS {
@@ -53,8 +54,8 @@ fn accesses_are_noted(rt: HostRuntime) -> Result<(), Fail> {
 
 #[test]
 fn groups_conflict_on_buffers(rt: HostRuntime) -> Result<(), Fail> {
-    let mut one = ListLog::new(rt.alloc());
-    let mut two = ListLog::new(rt.alloc());
+    let mut one = ListLog::new(rt.alloc(), false);
+    let mut two = ListLog::new(rt.alloc(), false);
     assert!(rt;
         one.note(entry(0, 8, AccessKind::Update(Class::Add)))?
             .is_none()
@@ -82,7 +83,7 @@ const OBJECTS: u32 = 32768;
 // Stores to as many local objects are kept apart, and each again is found without a walk.
 #[test]
 fn local_objects_are_told_apart(rt: HostRuntime) -> Result<(), Fail> {
-    let mut log = ListLog::new(rt.alloc());
+    let mut log = ListLog::new(rt.alloc(), false);
     for turn in 0..2u32 {
         for number in 0..OBJECTS {
             let region = Region::Local { group: 0, number };
@@ -93,6 +94,37 @@ fn local_objects_are_told_apart(rt: HostRuntime) -> Result<(), Fail> {
             );
         }
         assert_eq!(rt; log.len(), OBJECTS as usize);
+    }
+    Ok(())
+}
+
+/// The item, the first byte of buffer 0, and the operation of an access; the byte of its conflict in a uniform launch, and in another.
+const STORES: [(u32, u8, Operation, Option<u64>, Option<u64>); 9] = [
+    (0, 0, Operation::Store(Width::Four, 7), None, None),
+    (1, 0, Operation::Store(Width::Four, 7), None, Some(0)),
+    (2, 0, Operation::Store(Width::One, 7), None, Some(0)),
+    (3, 1, Operation::Store(Width::One, 7), Some(1), Some(1)),
+    (4, 8, Operation::Store(Width::One, 6), None, None),
+    (4, 8, Operation::Store(Width::One, 7), None, None),
+    (5, 8, Operation::Store(Width::One, 7), Some(8), Some(8)),
+    (6, 16, Operation::Store(Width::Two, 1799), None, None),
+    (7, 16, Operation::Load(Width::One), Some(16), Some(16)),
+];
+
+// In a uniform launch two stores conflict where they leave different bytes: not by their numbers, and whichever store of an item it is.
+#[test]
+fn stores_of_the_same_byte_pass_in_a_uniform_launch(rt: HostRuntime) -> Result<(), Fail> {
+    for uniform in [true, false] {
+        let mut log = ListLog::new(rt.alloc(), uniform);
+        for (item, first, operation, with, without) in STORES {
+            let entry = Entry::of(item, Region::Buffer(0), first as u64, operation, 0);
+            let found = match log.note(entry)? {
+                Some(hit) => Some(hit.byte),
+                None => None,
+            };
+            assert_eq!(rt; found, if uniform { with } else { without });
+        }
+        assert_eq!(rt; log.len(), STORES.len());
     }
     Ok(())
 }

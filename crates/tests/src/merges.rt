@@ -98,7 +98,7 @@ fn merged(
 {
     let mut results = Vec::new(alloc);
     for group in 0..groups {
-        let came = one_group(alloc, launch, buffers, group, ListLog::new(alloc))?;
+        let came = one_group(alloc, launch, buffers, group, ListLog::new(alloc, launch.range().uniform))?;
         let stopped = has_stopped(&came);
         results.push(came)?;
         if stopped {
@@ -129,6 +129,7 @@ fn outcomes(
         global: Numbers::new(vec![in alloc; groups as u64]?),
         local: Numbers::new(vec![in alloc; 1]?),
         offset: Numbers::new(vec![in alloc; 0]?),
+        uniform: false,
     };
     if is_bad_dimension(&range) || is_bad_group(&range) || is_too_many(&range) {
         return Ok(None);

@@ -1,5 +1,5 @@
 use Rattle.std.proofs.Common.{sym, ◌∙◌, inl, inr, arith}
-use Rattle.shadow_list.proofs.Hits.{ordered, other_region, apart, no_clash, none_if}
+use Rattle.shadow_list.proofs.Hits.{ordered, other_region, apart, no_clash, kinds_agree, none_if}
 use Rattle.shadow_list.proofs.compare.may_conflict.Goals as goal
 
 pub returns-then-not-unordered : goal.returns-then-not-unordered
@@ -15,4 +15,7 @@ pub returns-then-x-bytes : goal.returns-then-x-bytes
 returns-then-x-bytes c h byte = apart c.args.rule c.args.x.now c.args.y.now byte (inr (omega (arith, c.if-x-bytes.true, c.bytes-2.ensures.value)))
 
 pub returns : goal.returns
-returns c h byte = no_clash c.args.rule c.args.x.now c.args.y.now byte (sym c.clash.ensures ∙ none_if c.clash.result (sym c.is_some.ensures ∙ h))
+returns c h byte =
+    let x = c.args.x.now in
+    let y = c.args.y.now in
+    no_clash c.args.rule x y byte (kinds_agree c.args.rule x y byte (sym c.clash.ensures ∙ none_if c.clash.result (sym c.is_some.ensures ∙ h)))

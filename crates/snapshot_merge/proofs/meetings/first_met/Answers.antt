@@ -7,7 +7,7 @@ pub loop-i-preserved : goal.loop-i-preserved
 loop-i-preserved g c = λ kept h others.
     let entries = (g.L.Accesses.log c.args.log.now).accesses in
     let at : slice_get entries c.loop-i.i ≡ Some c.get-entry.result = entry_at entries c.loop-i.i c.get-entry.result (omega (arith, c.loop-i-test.true, c.len-count.ensures)) c.get-entry.ensures.value in
-    miss_more entries kept c.loop-i.i c.get-entry.result at (sym (c.meeting.ensures kept h (others c.loop-i.i c.get-entry.result at)) ∙ c.in_default.is) (c.loop-i.invariant kept h others)
+    miss_more c.args.uniform entries kept c.loop-i.i c.get-entry.result at (sym (c.meeting.ensures kept h (others c.loop-i.i c.get-entry.result at)) ∙ c.in_default.is) (c.loop-i.invariant kept h others)
 
 pub returns-in-Some : goal.returns-in-Some
 returns-in-Some g c = λ kept h others.

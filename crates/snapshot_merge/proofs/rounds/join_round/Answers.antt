@@ -38,7 +38,7 @@ returns-in-Reports g c =
     let group = c.loop-group.group in
     let next : CameOfNext l group c.in-Some.result (Some c.in-Reports.fault) c.join.new.self
     = subst (λ (end : JoinEnd g.row.L.Denot). CameOfNext l group c.in-Some.result (report_of end) c.join.new.self) c.in-Reports.is
-    (subst (λ (z : model.Launch). CameOfNext z group c.in-Some.result (report_of c.in_ok-log.field-0) c.join.new.self) same c.in_ok-log.ensures) in
+    (subst (λ (z : model.Launch). CameOfNext z group c.in-Some.result (report_of c.in_ok-log.field-0) c.join.new.self) same c.in_ok-log.ensures.came) in
     concludes_fault l c.in-Reports.fault c.into_schedule.result
     (subst (IsStopped l c.in-Reports.fault) (sym c.into_schedule.ensures) (next_stopped l group c.in-Some.result c.in-Reports.fault c.join.new.self next))
 
@@ -50,7 +50,7 @@ loop-group-preserved g c =
     let now = subst (AreResultsTo bytes_of g.L.Accesses.log l c.args.last group) c.in-Some.ensures.items c.loop-group.invariant.rest in
     let next : CameOfNext l group c.in-Some.result None c.join.new.self
     = subst (λ (end : JoinEnd g.row.L.Denot). CameOfNext l group c.in-Some.result (report_of end) c.join.new.self) c.in-Goes.is
-    (subst (λ (z : model.Launch). CameOfNext z group c.in-Some.result (report_of c.in_ok-log.field-0) c.join.new.self) same c.in_ok-log.ensures) in
+    (subst (λ (z : model.Launch). CameOfNext z group c.in-Some.result (report_of c.in_ok-log.field-0) c.join.new.self) same c.in_ok-log.ensures.came) in
     record {
       held = subst (λ n. HoldsGroups l n c.join.new.self) (sym (add-one group)) (next_held l group c.in-Some.result c.join.new.self next);
       rest = subst (λ n. AreResultsTo bytes_of g.L.Accesses.log l c.args.last n (into_iter_items c.next.new.self)) (sym (add-one group))

@@ -11,5 +11,5 @@ abbrev pub invariant-loop-group : goal.invariant-loop-group
 invariant-loop-group l =
     record {
       held : HoldsGroups (launch_of (setup_of l.launch) (bytes_in l.buffers)) l.group l.so_far;
-      fresh : list_log l.log ≡ fresh_log;
+      fresh : list_log l.log ≡ fresh_log (setup_of l.launch).range.uniform;
     }

@@ -37,5 +37,5 @@ returns-clause-added c log keeps m byte =
     ap₂ (λ a k. same_region (region.Buffer m) a && covers x.first k byte) c.in-Buffer.is (sym c.bytes-count.ensures.value) in
     marked_cells old n (record { pages = c.mark_all.new.pages }) c.index_mut-touched.result.now (mark_of x) x.first c.bytes-count.result c.in_ok-make_room.ensures.long c.index_mut-touched.ensures.value
     (λ k. c.mark_all.ensures k
-    ∙ ap (λ z. if covers x.first c.bytes-count.result k then seen_with z (mark_of x) else z) (c.make-2.ensures.same k ∙ c.make.ensures.same k)) m byte
-    ∙ ap₂ (λ (z : Bool) a. if z then seen_with a (mark_of x) else a) (sym test) (c.make_room.ensures.same m byte ∙ keeps m byte)
+    ∙ ap (λ z. if covers x.first c.bytes-count.result k then seen_with z (mark_of x k) else z) (c.make-2.ensures.same k ∙ c.make.ensures.same k)) m byte
+    ∙ ap₂ (λ (z : Bool) a. if z then seen_with a (mark_of x byte) else a) (sym test) (c.make_room.ensures.same m byte ∙ keeps m byte)

@@ -10,12 +10,12 @@ pub returns-in-None : goal.returns-in-None
 returns-in-None c log keeps others =
     let x = c.args.x.now in
     let cells : ℕ → Seen = λ byte. Untouched in
-    sym (nothing_met x.kind cells (λ byte. refl) x.first (byte_count x.width))
-    ∙ met_whole x log cells (byte_count x.width) others
+    sym (nothing_met c.args.uniform x cells (λ byte. refl) x.first (byte_count x.width))
+    ∙ met_whole c.args.uniform x log cells (byte_count x.width) others
     (keeps_at c.args.self.now.buffers.items log c.in-Buffer.number x.region cells keeps c.in-Buffer.is
     (cells_gone c.args.self.now.buffers.items c.in-Buffer.number (subst (λ z. length z ≤ c.in-Buffer.number) c.deref.ensures.value c.in-None.ensures.lookup.3)))
     refl
-    ∙ ap (λ r. met_at r x log) (sym c.in-Buffer.is)
+    ∙ ap (λ r. met_at c.args.uniform r x log) (sym c.in-Buffer.is)
 
 pub returns-in-Some : goal.returns-in-Some
 returns-in-Some c log keeps others =
@@ -23,9 +23,9 @@ returns-in-Some c log keeps others =
     let buffers = c.args.self.now.buffers.items in
     let v = c.in-Some.pages.now in
     c.against.ensures
-    ∙ met_whole x log (cell_in v.pages.items) c.bytes.result others
+    ∙ met_whole c.args.uniform x log (cell_in v.pages.items) c.bytes.result others
     (keeps_at buffers log c.in-Buffer.number x.region (cell_in v.pages.items) keeps c.in-Buffer.is
     (cells_there buffers c.in-Buffer.number v (subst (λ z. c.in-Buffer.number < length z) c.deref.ensures.value c.in-Some.ensures.lookup.3.0)
     (subst (λ z. v ≡ get_or z c.in-Buffer.number v) c.deref.ensures.value c.in-Some.ensures.lookup.1)))
     c.bytes.ensures.value
-    ∙ ap (λ r. met_at r x log) (sym c.in-Buffer.is)
+    ∙ ap (λ r. met_at c.args.uniform r x log) (sym c.in-Buffer.is)

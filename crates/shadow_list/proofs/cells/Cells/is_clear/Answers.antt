@@ -8,7 +8,7 @@ use Rattle.shadow_list.proofs.cells.Cells.is_clear.Goals as goal
 pub returns-then-here-count : goal.returns-then-here-count
 returns-then-here-count c h y byte kept =
     let x = c.args.x.now in
-    marked_clear x y (λ key b. at_key c.args.self.now key (b % 8))
+    marked_clear c.args.uniform x y (λ key b. at_key c.args.self.now key (b % 8))
     (λ b on.
     let r = covered x.first (byte_count x.width) b on in
     c.passes.ensures c.if-passes.true b r.0 (omega (arith, r.1, eqb-true c.min-here.result c.bytes-count.result h, c.bytes-count.ensures.value)))
@@ -17,7 +17,7 @@ returns-then-here-count c h y byte kept =
 pub returns-else-here-count : goal.returns-else-here-count
 returns-else-here-count c h y byte kept =
     let x = c.args.x.now in
-    marked_clear x y (λ key b. at_key c.args.self.now key (b % 8))
+    marked_clear c.args.uniform x y (λ key b. at_key c.args.self.now key (b % 8))
     (λ b on.
     let r = covered x.first (byte_count x.width) b on in
     decided (nat_lt b (x.first + c.min-here.result)) (λ t. c.passes.ensures c.if-passes.true b r.0 (ltb-true b (x.first + c.min-here.result) t))

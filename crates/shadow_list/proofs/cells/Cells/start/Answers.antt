@@ -4,7 +4,7 @@ use Rattle.shadow_list.proofs.Indexed.{places_kept, cells_kept, start_added, sta
 use Rattle.shadow_list.proofs.cells.Cells.start.Goals as goal
 
 pub returns-in-Some-clause-same : goal.returns-in-Some-clause-same
-returns-in-Some-clause-same c key k y b d = d
+returns-in-Some-clause-same c key k y byte b d = d
 
 pub returns-in_err-resize-clause-same : goal.returns-in_err-resize-clause-same
 returns-in_err-resize-clause-same c =

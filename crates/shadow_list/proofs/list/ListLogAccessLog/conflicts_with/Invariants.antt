@@ -5,4 +5,5 @@ use Rattle.shadow_list.proofs.list.ListLogAccessLog.conflicts_with.Given as goal
 
 abbrev pub invariant-loop-i : goal.invariant-loop-i
 invariant-loop-i g l =
-    across l.self.entries.items (g.M.Accesses.log l.later).accesses ≡ across l.self.entries.items (drop l.i (g.M.Accesses.log l.later).accesses)
+    across l.self.uniform l.self.entries.items (g.M.Accesses.log l.later).accesses
+    ≡ across l.self.uniform l.self.entries.items (drop l.i (g.M.Accesses.log l.later).accesses)

@@ -9,7 +9,7 @@ use Rattle.shadow_list.proofs.list.ListLogAccessLog.note.Goals as goal
 
 -- the access as it is kept
 abbrev kept : ListLog → Entry → Entry
-kept l x = stamped (logged l.entries.items l.local_interval l.global_interval) x
+kept l x = stamped (logged l.entries.items l.local_interval l.global_interval l.uniform) x
 
 pub invariant_of-self-clause-local_made : goal.invariant_of-self-clause-local_made
 invariant_of-self-clause-local_made c =
@@ -45,11 +45,12 @@ returns-in_ok-keep c =
     let e : Entry = c.stamped-entry.result in
     let rest : List Entry = drop n c.as_slice-log.result.now in
     let w : Walk e x n l.entries.items rest = record { kept = c.stamped-entry.ensures; rest_is = ap (drop n) c.as_slice-log.ensures.value; past = c.first-from.ensures.past } in (
-      c.hit_from-found.ensures ∙ walk_finds e x n l.entries.items rest w,
+      c.hit_from-found.ensures ∙ walk_finds l.uniform e x n l.entries.items rest w,
       inr (
         λ t. c.is_there.ensures.new c.if-not-is_there.true (walk_misses e x n l.entries.items rest w t),
         c.in_ok-keep.ensures.items ∙ ap (λ (y : Entry). l.entries.items ++ y ∷ []) c.stamped-entry.ensures,
       ),
+      refl,
       refl,
       refl,
     )
@@ -62,8 +63,9 @@ returns-else-not-is_there c =
     let e : Entry = c.stamped-entry.result in
     let rest : List Entry = drop n c.as_slice-log.result.now in
     let w : Walk e x n l.entries.items rest = record { kept = c.stamped-entry.ensures; rest_is = ap (drop n) c.as_slice-log.ensures.value; past = c.first-from.ensures.past } in (
-      c.hit_from-found.ensures ∙ walk_finds e x n l.entries.items rest w,
+      c.hit_from-found.ensures ∙ walk_finds l.uniform e x n l.entries.items rest w,
       inl (walk_sees e x n l.entries.items rest w c.as_slice-log.result.now c.as_slice-log.ensures.value (c.is_there.ensures.there c.if-not-is_there.false), refl),
+      refl,
       refl,
       refl,
     )
