@@ -5,7 +5,7 @@ use Rattle.std.specs.Bool.{Decides}
 use Rattle.std.proofs.lemmas.Bool.{and_parts, and_from, false≢true}
 use Rattle.std.proofs.lemmas.List.{reverse-reverse, reverse-append}
 use Rattle.clmodel.specs.Cells.{byte_count, covers}
-use Rattle.clmodel.specs.Launch.{Launch, same_region, clash, clash_at, group_of, location_of, rule_of, unordered, share, conflict_between, conflict}
+use Rattle.clmodel.specs.Launch.{Launch, same_region, clash, both_store, left_at, same_store, clash_at, group_of, location_of, rule_of, unordered, share, conflict_between, conflict}
 use Rattle.clmodel.specs.Law.{Logged, Shows}
 use Rattle.clmodel.specs.Run.{State}
 use Rattle.clmodel.specs.declared.access.Access.{Access}
@@ -20,7 +20,7 @@ use Rattle.clmodel.specs.declared.fault.Location.TheVariants as location
 use Rattle.clmodel.proofs.Conflicts.{Meet}
 use Rattle.clmodel.proofs.Steps.{none_some, some_inj, if_some, if_true}
 use Rattle.clmodel.proofs.Swaps.{same_region_self, same_region-true}
-use Rattle.replay.specs.Spots.{number_in, HasSpot, AnyMeets}
+use Rattle.replay.specs.Spots.{number_in, HasOther, AnyMeets}
 use Rattle.replay.specs.declared.conflicts.Spot.{Spot}
 
 -- ---- a log by places
@@ -101,17 +101,54 @@ meet_from rule x y byte m =
     (and_three_from (same_region x.region y.region) (covers x.first (byte_count x.width) byte) (covers y.first (byte_count y.width) byte)
     (ap (same_region x.region) (sym m.regions) ∙ same_region_self x.region) m.first_covers m.second_covers)
 
--- a conflict is a clash of two accesses that meet
-conflict_is : (l : Launch) (x y : Access) (byte : ℕ) (c : Clash) → conflict l x y byte ≡ Some c → Meet (rule_of l x y) x y byte × (clash x.kind y.kind ≡ Some c)
+-- two accesses that clash aren't stores that may meet
+clashing : (same : Bool) (o : Option Clash) (c : Clash) → (if same then None else o) ≡ Some c → (o ≡ Some c) × (same ≡ false)
+clashing true o c h = absurd (none_some c h)
+clashing false o c h = (h, refl)
+
+clash_made : (same : Bool) (o : Option Clash) (c : Clash) → o ≡ Some c → same ≡ false → (if same then None else o) ≡ Some c
+clash_made true o c h e = absurd (false≢true (sym e))
+clash_made false o c h e = h
+
+-- a conflict is a clash of two accesses that meet, unless both are stores that may
+conflict_is :
+    (l : Launch) (x y : Access) (byte : ℕ) (c : Clash) → conflict l x y byte ≡ Some c
+    → Meet (rule_of l x y) x y byte × (clash x.kind y.kind ≡ Some c) × (same_store (rule_of l x y) x y byte ≡ false)
 unfolding conflict conflict_between
 conflict_is l x y byte c h =
-    let r : ((unordered (rule_of l x y) x y && share x y byte) ≡ true) × (clash_at x y byte ≡ Some c) = if_some (unordered (rule_of l x y) x y && share x y byte) (clash_at x y byte) c h in
+    let r : ((unordered (rule_of l x y) x y && share x y byte) ≡ true) × (clash_at (rule_of l x y) x y byte ≡ Some c) =
+    if_some (unordered (rule_of l x y) x y && share x y byte) (clash_at (rule_of l x y) x y byte) c h in
     let p : (unordered (rule_of l x y) x y ≡ true) × (share x y byte ≡ true) = and_parts (unordered (rule_of l x y) x y) (share x y byte) r.0 in
-    (meet_parts (rule_of l x y) x y byte p.0 p.1, r.1)
+    let q : (clash x.kind y.kind ≡ Some c) × (same_store (rule_of l x y) x y byte ≡ false) = clashing (same_store (rule_of l x y) x y byte) (clash x.kind y.kind) c r.1 in
+    (meet_parts (rule_of l x y) x y byte p.0 p.1, q.0, q.1)
 
-conflict_made : (l : Launch) (x y : Access) (byte : ℕ) (c : Clash) → Meet (rule_of l x y) x y byte → clash x.kind y.kind ≡ Some c → conflict l x y byte ≡ Some c
+conflict_made :
+    (l : Launch) (x y : Access) (byte : ℕ) (c : Clash) → Meet (rule_of l x y) x y byte → clash x.kind y.kind ≡ Some c → same_store (rule_of l x y) x y byte ≡ false
+    → conflict l x y byte ≡ Some c
 unfolding conflict conflict_between
-conflict_made l x y byte c m e = if_true (unordered (rule_of l x y) x y && share x y byte) (clash_at x y byte) None (meet_from (rule_of l x y) x y byte m) ∙ e
+conflict_made l x y byte c m e apart =
+    if_true (unordered (rule_of l x y) x y && share x y byte) (clash_at (rule_of l x y) x y byte) None (meet_from (rule_of l x y) x y byte m)
+    ∙ clash_made (same_store (rule_of l x y) x y byte) (clash x.kind y.kind) c e apart
+
+-- stores that may meet are those that left the same byte, where the two partners are stores of a uniform launch
+apart_stores :
+    (l : Launch) (x y : Access) (byte : ℕ) (u : Bool) → u ≡ (both_store x.kind y.kind && l.uniform) → (u ≡ true → left_at x byte ≡ left_at y byte → ⊥)
+    → same_store (rule_of l x y) x y byte ≡ false
+apart_stores l x y byte u is other = go (same_store (rule_of l x y) x y byte) refl
+  where
+    go : (b : Bool) → same_store (rule_of l x y) x y byte ≡ b → b ≡ false
+    go true e =
+        let r : ((both_store x.kind y.kind && l.uniform) ≡ true) × ((left_at x byte == left_at y byte) ≡ true) =
+        and_parts (both_store x.kind y.kind && l.uniform) (left_at x byte == left_at y byte) e in
+        absurd (other (is ∙ r.0) (eqb-true (left_at x byte) (left_at y byte) r.1))
+    go false e = refl
+
+other_stores :
+    (l : Launch) (x y : Access) (byte : ℕ) (u : Bool) → u ≡ (both_store x.kind y.kind && l.uniform) → same_store (rule_of l x y) x y byte ≡ false
+    → u ≡ true → left_at x byte ≡ left_at y byte → ⊥
+other_stores l x y byte u is apart e q =
+    false≢true (sym apart
+    ∙ and_from (both_store x.kind y.kind && l.uniform) (left_at x byte == left_at y byte) (sym is ∙ e) (eq-eqb (left_at x byte) (left_at y byte) q))
 
 -- what two accesses that are shown have alike
 pub shown_needs :
@@ -156,11 +193,11 @@ at_both false n m h = refl
 
 -- the spots of the one partner, and an access of the other at one of them, say whether the conflict is shown
 pub shown :
-    (l : Launch) (log : List Access) (s : State) (c : Clash) (item : ℕ) (kind : AccessKind) (other : ℕ) (other_kind : AccessKind) (place : Location) (byte : ℕ) (one : Bool)
-    (among : Spot → Bool) (answer : Bool) → one ≡ (group_of l item == group_of l other) → log ≡ reverse s.log → (item ≡ other → ⊥) → clash kind other_kind ≡ Some c
-    → ((q : Spot) → Decides (among q) (HasSpot item kind place byte one log (length log) q)) → Decides answer (AnyMeets l other other_kind place byte one among log)
+    (l : Launch) (log : List Access) (s : State) (c : Clash) (item : ℕ) (kind : AccessKind) (other : ℕ) (other_kind : AccessKind) (place : Location) (byte : ℕ) (rule : Rule)
+    (among : Spot → ℕ → Bool) (answer : Bool) → rule.one_group ≡ (group_of l item == group_of l other) → rule.uniform ≡ (both_store kind other_kind && l.uniform) → log ≡ reverse s.log → (item ≡ other → ⊥) → clash kind other_kind ≡ Some c
+    → ((q : Spot) (w : ℕ) → Decides (among q w) (HasOther item kind place byte rule log (length log) q w)) → Decides answer (AnyMeets l other other_kind place byte rule among log)
     → Decides answer (Shows l s (fault.Conflict c item kind other other_kind place byte))
-shown l log s c item kind other other_kind place byte one among answer rule order apart clashes spots meets = (λ e. forth (meets.0 e), λ h. meets.1 (back h))
+shown l log s c item kind other other_kind place byte rule among answer groups stores order apart clashes spots meets = (λ e. forth (meets.0 e), λ h. meets.1 (back h))
   where
     in_log : (k : ℕ) (x : Access) → slice_get log k ≡ Some x → Logged s.log x
     in_log k x e = subst (λ z. Logged z x) (ap reverse order ∙ reverse-reverse s.log) (logged_reverse log x (logged_at log k x e))
@@ -168,11 +205,11 @@ shown l log s c item kind other other_kind place byte one among answer rule orde
     place_in : (x : Access) → Logged s.log x → (k : ℕ) × (slice_get log k ≡ Some x)
     place_in x h = logged_in log x (subst (λ z. Logged z x) (sym order) (logged_reverse s.log x h))
 
-    forth : AnyMeets l other other_kind place byte one among log → Shows l s (fault.Conflict c item kind other other_kind place byte)
-    forth (k, (y, at_y, (q, found, is_y, lies))) = pair ((spots q).0 found)
+    forth : AnyMeets l other other_kind place byte rule among log → Shows l s (fault.Conflict c item kind other other_kind place byte)
+    forth (k, (y, at_y, (q, found, is_y, lies))) = pair ((spots q (left_at y byte)).0 found)
       where
-        pair : HasSpot item kind place byte one log (length log) q → Shows l s (fault.Conflict c item kind other other_kind place byte)
-        pair (j, (x, below, at_x, is_x)) =
+        pair : HasOther item kind place byte rule log (length log) q (left_at y byte) → Shows l s (fault.Conflict c item kind other other_kind place byte)
+        pair (j, (x, below, at_x, is_x, left)) =
             let regions : x.region ≡ y.region = one_region place x.region y.region q.number is_x.numbered is_y.numbered in (
               x,
               y,
@@ -186,18 +223,19 @@ shown l log s c item kind other other_kind place byte one among answer rule orde
               conflict_made l x y byte c
                   (record {
                     items = λ e. apart (sym is_x.of_item ∙ e ∙ is_y.of_item);
-                    intervals = λ e. at_true one x.interval y.interval q.interval (rule ∙ ap₂ (λ a b. group_of l a == group_of l b) (sym is_x.of_item) (sym is_y.of_item) ∙ e) is_x.in_interval is_y.in_interval;
+                    intervals = λ e. at_true rule.one_group x.interval y.interval q.interval (groups ∙ ap₂ (λ a b. group_of l a == group_of l b) (sym is_x.of_item) (sym is_y.of_item) ∙ e) is_x.in_interval is_y.in_interval;
                     regions = regions;
                     first_covers = is_x.on_byte;
                     second_covers = is_y.on_byte;
                   })
-                  (ap₂ clash is_x.of_kind is_y.of_kind ∙ clashes),
+                  (ap₂ clash is_x.of_kind is_y.of_kind ∙ clashes)
+                  (apart_stores l x y byte rule.uniform (stores ∙ ap₂ (λ a b. both_store a b && l.uniform) (sym is_x.of_kind) (sym is_y.of_kind)) left),
             )
 
-    back : Shows l s (fault.Conflict c item kind other other_kind place byte) → AnyMeets l other other_kind place byte one among log
+    back : Shows l s (fault.Conflict c item kind other other_kind place byte) → AnyMeets l other other_kind place byte rule among log
     back (x, y, in_x, in_y, item_x, kind_x, item_y, kind_y, at, conflicts) =
         let r = conflict_is l x y byte c conflicts in
-        let q : Spot = record { number = number_of x.region; interval = if one then x.interval else 0 } in
+        let q : Spot = record { number = number_of x.region; interval = if rule.one_group then x.interval else 0 } in
         let number : number_in place x.region ≡ Some (number_of x.region) = ap (λ z. number_in z x.region) (sym at) ∙ numbered l x.region in
         let px = place_in x in_x in
         let py = place_in y in_y in (
@@ -207,16 +245,17 @@ shown l log s c item kind other other_kind place byte one among answer rule orde
             py.1,
             (
               q,
-              (spots q).1 (
+              (spots q (left_at y byte)).1 (
                 px.0,
-                (x, at_length log px.0 x px.1, px.1, record { of_item = item_x; of_kind = kind_x; on_byte = r.0.first_covers; numbered = number; in_interval = refl }),
+                (x, at_length log px.0 x px.1, px.1, record { of_item = item_x; of_kind = kind_x; on_byte = r.0.first_covers; numbered = number; in_interval = refl },
+                  other_stores l x y byte rule.uniform (stores ∙ ap₂ (λ a b. both_store a b && l.uniform) (sym kind_x) (sym kind_y)) r.2),
               ),
               record {
                 of_item = item_y;
                 of_kind = kind_y;
                 on_byte = r.0.second_covers;
                 numbered = ap (number_in place) (sym r.0.regions) ∙ number;
-                in_interval = at_both one x.interval y.interval (λ e. r.0.intervals (ap₂ (λ a b. group_of l a == group_of l b) item_x item_y ∙ sym rule ∙ e));
+                in_interval = at_both rule.one_group x.interval y.interval (λ e. r.0.intervals (ap₂ (λ a b. group_of l a == group_of l b) item_x item_y ∙ sym groups ∙ e));
               },
               ap (location_of l) (sym r.0.regions) ∙ at,
             ),

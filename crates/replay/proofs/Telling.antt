@@ -1,5 +1,5 @@
 -- What an item does next, by its kind.
-use Rattle.std.proofs.Common.{◌≡◌, ℕ, ◌≤◌, Option, None, Some, sym, ap, ◌∙◌, arith}
+use Rattle.std.proofs.Common.{◌≡◌, ℕ, Option, None, Some, sym, ap, ◌∙◌, arith}
 use Rattle.std.specs.Prelude.{MatchOption}
 use Rattle.clmodel.specs.Launch.{Launch}
 use Rattle.clmodel.specs.Run.{State}

@@ -1,18 +1,27 @@
 -- Where the accesses lie that a fault tells of (own).
-use Rattle.std.specs.Prelude.{◌≡◌, ℕ, ◌<◌, ◌==◌, ◌&&◌, Bool, true, Option, None, Some, List, if◌then◌else◌, slice_get}
+use Rattle.std.specs.Prelude.{◌≡◌, ℕ, ◌<◌, ◌==◌, ◌&&◌, not, Bool, true, false, Option, None, Some, List, if◌then◌else◌, slice_get}
 use Rattle.clmodel.specs.Cells.{byte_count, covers}
-use Rattle.clmodel.specs.Launch.{Launch, location_of}
+use Rattle.clmodel.specs.Launch.{Launch, location_of, left_at}
 use Rattle.clmodel.specs.declared.access.Access.{Access}
 use Rattle.clmodel.specs.declared.access.AccessKind.{AccessKind}
 use Rattle.clmodel.specs.declared.access.Region.{Region}
 use Rattle.clmodel.specs.declared.access.Region.TheVariants as region
+use Rattle.clmodel.specs.declared.access.Rule.{Rule}
 use Rattle.clmodel.specs.declared.fault.Location.{Location}
 use Rattle.clmodel.specs.declared.fault.Location.TheVariants as location
 use Rattle.replay.specs.declared.conflicts.Spot.{Spot}
+use Rattle.replay.specs.declared.conflicts.Left.{Left}
+use Rattle.replay.specs.declared.conflicts.Left.TheVariants as left
 
 -- two spots are one
 abbrev pub same_spot : Spot → Spot → Bool
 same_spot a b = (a.number == b.number) && (a.interval == b.interval)
+
+-- whether an access left another byte than this at a spot, of which this is known
+abbrev pub differs : Option Left → ℕ → Bool
+differs None byte = false
+differs (Some (left.One one)) byte = not (one == byte)
+differs (Some left.Any) byte = true
 
 -- the number of a region's object, where a location of its kind and group is told
 abbrev pub number_in : Location → Region → Option ℕ
@@ -29,17 +38,17 @@ pub record IsSpot (item : ℕ) (kind : AccessKind) (place : Location) (byte : �
   pub numbered : number_in place x.region ≡ Some spot.number
   pub in_interval : (if one_group then x.interval else 0) ≡ spot.interval
 
--- such an access is among the first of a log
-abbrev pub HasSpot : ℕ → AccessKind → Location → ℕ → Bool → List Access → ℕ → Spot → Type 0
-HasSpot item kind place byte one_group log count spot =
-    (k : ℕ) × ((x : Access) × (k < count) × (slice_get log k ≡ Some x) × IsSpot item kind place byte one_group x spot)
+-- such an access is among the first of a log, and left another byte than this, if the rule asks for bytes
+abbrev pub HasOther : ℕ → AccessKind → Location → ℕ → Rule → List Access → ℕ → Spot → ℕ → Type 0
+HasOther item kind place byte rule log count spot left =
+    (k : ℕ) × ((x : Access) × (k < count) × (slice_get log k ≡ Some x) × IsSpot item kind place byte rule.one_group x spot × (rule.uniform ≡ true → left_at x byte ≡ left → ⊥))
 
--- an access is such an access at the told location, and at one of the spots that pass a test
-abbrev pub Meets : Launch → ℕ → AccessKind → Location → ℕ → Bool → (Spot → Bool) → Access → Type 0
-Meets launch item kind place byte one_group among x =
-    (spot : Spot) × (among spot ≡ true) × IsSpot item kind place byte one_group x spot × (location_of launch x.region ≡ place)
+-- an access is such an access at the told location, and what it left passes a test of its spot
+abbrev pub Meets : Launch → ℕ → AccessKind → Location → ℕ → Rule → (Spot → ℕ → Bool) → Access → Type 0
+Meets launch item kind place byte rule among x =
+    (spot : Spot) × (among spot (left_at x byte) ≡ true) × IsSpot item kind place byte rule.one_group x spot × (location_of launch x.region ≡ place)
 
 -- a log has such an access
-abbrev pub AnyMeets : Launch → ℕ → AccessKind → Location → ℕ → Bool → (Spot → Bool) → List Access → Type 0
-AnyMeets launch item kind place byte one_group among log =
-    (k : ℕ) × ((x : Access) × (slice_get log k ≡ Some x) × Meets launch item kind place byte one_group among x)
+abbrev pub AnyMeets : Launch → ℕ → AccessKind → Location → ℕ → Rule → (Spot → ℕ → Bool) → List Access → Type 0
+AnyMeets launch item kind place byte rule among log =
+    (k : ℕ) × ((x : Access) × (slice_get log k ≡ Some x) × Meets launch item kind place byte rule among x)

@@ -1,22 +1,22 @@
 //! Whether a log has a conflict that a fault tells.
 
-ghost use Rattle.std.specs.Prelude.{◌≡◌, length, IfOk, MatchOption, reverse};
+ghost use Rattle.std.specs.Prelude.{◌≡◌, ◌==◌, ◌&&◌, ◌||◌, not, Some, ℕ, length, IfOk, MatchOption, reverse};
 ghost use Rattle.std.specs.Bool.{Decides};
-ghost use Rattle.std.specs.HashSet.{contains};
+ghost use Rattle.std.specs.HashMap.{get};
 ghost use Rattle.clmodel.specs.Cells.{byte_count, covers};
-ghost use Rattle.clmodel.specs.Launch.{clash};
+ghost use Rattle.clmodel.specs.Launch.{both_store, clash, group_of};
 ghost use Rattle.clmodel.specs.Law.{Shows};
 ghost use Rattle.clmodel.specs.Run.{State};
 ghost use Rattle.clmodel.specs.declared.fault.Fault.TheVariants as faults;
-ghost use Rattle.replay.specs.Spots.{number_in, same_spot, IsSpot, HasSpot, Meets, AnyMeets};
+ghost use Rattle.replay.specs.Spots.{number_in, same_spot, differs, IsSpot, HasOther, Meets, AnyMeets};
 
 use crate::places::is_at;
-use clmodel::access::{Access, AccessKind, Clash, Region};
+use clmodel::access::{Access, AccessKind, Clash, Region, Rule};
 use clmodel::fault::Location;
 use launches::{Described, Runnable};
-use shadow_list::clash;
+use shadow_list::{both_store, clash, left_at};
 use std::alloc::{AllocError, Global};
-use std::collections::HashSet;
+use std::collections::HashMap;
 
 /// One of the two accesses that conflict, as a fault tells it.
 #[derive(Clone, Copy)]
@@ -37,6 +37,40 @@ pub struct Place<'a> {
 pub struct Spot {
     pub number: u32,
     pub interval: u32,
+}
+
+/// What the accesses of a spot left at the told byte.
+#[derive(Clone, Copy)]
+pub enum Left {
+    /// This byte alone
+    One(u8),
+    /// Several bytes, or it doesn't matter which
+    Any,
+}
+
+/// What is left at a spot with an access more that left this byte there, where bytes matter.
+fn with(known: Option<Left>, by_byte: bool, byte: u8) -> Left
+    ensures { (other : ℕ) → differs (Some result) other ≡ (differs known other || (not by_byte || not (byte == other))) }
+{
+    if !by_byte {
+        return Left::Any;
+    }
+    match known {
+        None => Left::One(byte),
+        Some(Left::One(one)) if one == byte => Left::One(one),
+        Some(_) => Left::Any,
+    }
+}
+
+/// Whether an access left another byte than this at a spot.
+fn differs(known: Option<Left>, byte: u8) -> bool
+    ensures { result ≡ differs known byte }
+{
+    match known {
+        None => false,
+        Some(Left::One(one)) => one != byte,
+        Some(Left::Any) => true,
+    }
 }
 
 /// The number of a region's object, where a location of this kind and group is told.
@@ -75,40 +109,46 @@ fn spot_of(partner: Partner, place: &Place<'_>, one_group: bool, access: &Access
     Some(Spot { number, interval })
 }
 
-/// Where the accesses of a log lie that are a partner's at the told byte. An error is out of memory.
+/// Where the accesses of a log lie that are a partner's at the told byte, and what they left there. An error is out of memory.
 fn spots_of(
     alloc: Global,
     partner: Partner,
     place: &Place<'_>,
-    one_group: bool,
+    rule: Rule,
     log: &[Access],
-) -> Result<HashSet<Spot>, AllocError>
-    ensures { IfOk result (λ spots. (spot : Spot) → Decides (contains same_spot spots spot) (HasSpot partner.item partner.kind place.now.location.now place.now.byte one_group log.now (length log.now) spot)) }
+) -> Result<HashMap<Spot, Left>, AllocError>
+    ensures { IfOk result (λ spots. (spot : Spot) (byte : ℕ) → Decides (differs (get same_spot spots spot) byte) (HasOther partner.item partner.kind place.now.location.now place.now.byte rule log.now (length log.now) spot byte)) }
 {
-    let mut spots = HashSet::new(alloc);
+    let mut spots = HashMap::new(alloc);
     for access in log {
-        if let Some(spot) = spot_of(partner, place, one_group, access) {
-            spots.insert(spot)?;
+        if let Some(spot) = spot_of(partner, place, rule.one_group, access) {
+            let known = spots.get(&spot).copied();
+            let left = with(known, rule.uniform, left_at(access, place.byte));
+            spots.insert(spot, left)?;
         }
     }
     Ok(spots)
 }
 
-/// Whether an access is a partner's at the told location and byte, and lies at one of these spots. An error is out of memory.
+/// Whether an access is a partner's at the told location and byte, and lies at one of these spots, where another byte was left. An error is
+/// out of memory.
 fn meets<D: Described>(
     launch: &D,
     partner: Partner,
     place: &Place<'_>,
-    one_group: bool,
-    spots: &HashSet<Spot>,
+    rule: Rule,
+    spots: &HashMap<Spot, Left>,
     access: &Access,
 ) -> Result<bool, AllocError>
-    ensures { IfOk result (λ yes. Decides yes (Meets (D.launch launch.now) partner.item partner.kind place.now.location.now place.now.byte one_group (contains same_spot spots.now) access.now)) }
+    ensures { IfOk result (λ yes. Decides yes (Meets (D.launch launch.now) partner.item partner.kind place.now.location.now place.now.byte rule (λ spot. differs (get same_spot spots.now spot)) access.now)) }
 {
-    match spot_of(partner, place, one_group, access) {
-        Some(spot) if spots.contains(&spot) => is_at(launch, access.region, place.location),
-        _ => Ok(false),
+    let Some(spot) = spot_of(partner, place, rule.one_group, access) else {
+        return Ok(false);
+    };
+    if !differs(spots.get(&spot).copied(), left_at(access, place.byte)) {
+        return Ok(false);
     }
+    is_at(launch, access.region, place.location)
 }
 
 /// Whether a log has such an access. An error is out of memory.
@@ -116,14 +156,14 @@ fn any_meets<D: Described>(
     launch: &D,
     partner: Partner,
     place: &Place<'_>,
-    one_group: bool,
-    spots: &HashSet<Spot>,
+    rule: Rule,
+    spots: &HashMap<Spot, Left>,
     log: &[Access],
 ) -> Result<bool, AllocError>
-    ensures { IfOk result (λ yes. Decides yes (AnyMeets (D.launch launch.now) partner.item partner.kind place.now.location.now place.now.byte one_group (contains same_spot spots.now) log.now)) }
+    ensures { IfOk result (λ yes. Decides yes (AnyMeets (D.launch launch.now) partner.item partner.kind place.now.location.now place.now.byte rule (λ spot. differs (get same_spot spots.now spot)) log.now)) }
 {
     for access in log {
-        if meets(launch, partner, place, one_group, spots, access)? {
+        if meets(launch, partner, place, rule, spots, access)? {
             return Ok(true);
         }
     }
@@ -149,8 +189,20 @@ fn clashes(kind: AccessKind, other: AccessKind, told: Clash) -> bool
     }
 }
 
+/// The rule by which accesses of two partners are judged: stores may meet only where both are.
+fn rule_of<D: Runnable>(launch: &D, first: Partner, second: Partner) -> Rule
+    ensures groups { result.one_group ≡ (group_of (D.Described.launch launch.now) first.item == group_of (D.Described.launch launch.now) second.item) }
+    ensures stores { result.uniform ≡ (both_store first.kind second.kind && (D.Described.launch launch.now).uniform) }
+{
+    let size = launch.group_size();
+    Rule {
+        one_group: first.item / size == second.item / size,
+        uniform: both_store(first.kind, second.kind) && launch.uniform(),
+    }
+}
+
 /// Whether a log, the oldest access first, has a conflict (OpenCL 1.2, sections 3.3.1 and 6.12.8). It goes over the log twice, whatever
-/// conflicts there are. An error is out of memory.
+/// conflicts there are; in a uniform launch two stores conflict where they left different bytes. An error is out of memory.
 pub fn shows_conflict<D: Runnable>(
     alloc: Global,
     launch: &D,
@@ -166,8 +218,7 @@ pub fn shows_conflict<D: Runnable>(
     if !clashes(told.first.kind, told.second.kind, told.clash) {
         return Ok(false);
     }
-    let size = launch.group_size();
-    let one_group = told.first.item / size == told.second.item / size;
-    let spots = spots_of(alloc, told.first, &told.place, one_group, log)?;
-    any_meets(launch, told.second, &told.place, one_group, &spots, log)
+    let rule = rule_of(launch, told.first, told.second);
+    let spots = spots_of(alloc, told.first, &told.place, rule, log)?;
+    any_meets(launch, told.second, &told.place, rule, &spots, log)
 }

@@ -63,7 +63,7 @@ fn byte_of(k: u64, value: u64) -> u8
 }
 
 /// What a store that is at this byte leaves there (C99, section 6.5.16.1).
-pub(crate) fn left_at(x: &Access, byte: u64) -> u8
+pub fn left_at(x: &Access, byte: u64) -> u8
     ensures { result ≡ left_at x.now byte }
 {
     byte_of(byte.saturating_sub(x.first), x.value)

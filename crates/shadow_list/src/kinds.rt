@@ -37,7 +37,7 @@ pub fn kind_number(kind: AccessKind) -> u8
 }
 
 /// Whether both are stores.
-pub(crate) fn both_store(kind: AccessKind, other: AccessKind) -> bool
+pub fn both_store(kind: AccessKind, other: AccessKind) -> bool
     ensures { result ≡ both_store kind other }
 {
     match kind {

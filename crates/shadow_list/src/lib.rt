@@ -11,6 +11,7 @@ mod marks;
 mod recent;
 mod search;
 
-pub use kinds::{clash, kind_number};
+pub use compare::left_at;
+pub use kinds::{both_store, clash, kind_number};
 pub use list::ListLog;
 pub use log::{AccessLog, Accesses, Entry, Fenced, Hit};

@@ -74,7 +74,7 @@ impl<'a> Work for Round<'a> {
         alloc: Global,
         group: u32,
     ) -> Result<GroupResult<Overlay<'a>, ListLog>, AllocError> {
-        let log = ListLog::new(alloc);
+        let log = ListLog::new(alloc, self.launch.range().uniform);
         one_group(alloc, self.launch, self.buffers, self.first + group, log)
     }
 

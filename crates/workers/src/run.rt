@@ -23,10 +23,11 @@ use std::thread::Threads;
 use workers_draw::gate::Gate;
 use workers_draw::run::run_groups;
 
-/// About how many work-items are in a round, beside four groups for each worker.
-const ROUND_ITEMS: u32 = 8192;
+/// About how many work-items are in a round of small groups.
+const ROUND_ITEMS: u32 = 2048;
 
-/// How many groups are in a round. Their results wait until the round is done, each with its log, so a single worker joins group by group.
+/// How many groups are in a round: three for each worker, and more where they are small. Their results wait until the round is done, each
+/// with its log, so a single worker joins group by group.
 fn round_size(launch: &Launch<'_>, workers: u32) -> u32
     requires { (1 ≤ workers) × (workers ≤ 16) }
     ensures { 1 ≤ result }
@@ -34,7 +35,7 @@ fn round_size(launch: &Launch<'_>, workers: u32) -> u32
     if workers == 1 {
         return 1;
     }
-    4 * workers + ROUND_ITEMS / launch.group_size()
+    (3 * workers).max(ROUND_ITEMS / launch.group_size())
 }
 
 /// Runs the groups from one on up to another, which isn't among them, and joins them to what is joined.

@@ -1,8 +1,8 @@
-use Rattle.std.proofs.Common.{◌==◌, ◌/◌, sym, ap, ◌∙◌}
+use Rattle.std.proofs.Common.{sym, ◌∙◌}
 use Rattle.std.proofs.lemmas.Result.{IfOk-weaker}
-use Rattle.std.specs.HashSet.{contains}
+use Rattle.std.specs.HashMap.{get}
 use Rattle.std.proofs.lemmas.Bool.{false≢true}
-use Rattle.replay.specs.Spots.{same_spot}
+use Rattle.replay.specs.Spots.{same_spot, differs}
 use Rattle.replay.proofs.Shown.{shown, shown_needs}
 use Rattle.replay.proofs.conflicts.shows_conflict.Goals as goal
 
@@ -27,9 +27,8 @@ pub returns : goal.returns
 returns g c =
     let told = c.args.told.now in
     let l = g.D.Described.launch c.args.launch.now in
-    let size = c.group_size-size.result in
     IfOk-weaker c.any_meets.result _ _
     (λ yes h. λ s order.
-    shown l c.args.log.now s told.clash told.first.item told.first.kind told.second.item told.second.kind told.place.location.now told.place.byte _
-    (contains same_spot c.in_ok-spots.spots) yes (ap (λ n. (told.first.item / n) == (told.second.item / n)) c.group_size-size.ensures.value) order c.if-told.false (c.clashes.ensures.0 c.if-not-clashes.false) c.in_ok-spots.ensures h)
+    shown l c.args.log.now s told.clash told.first.item told.first.kind told.second.item told.second.kind told.place.location.now told.place.byte c.rule_of-rule.result
+    (λ spot. differs (get same_spot c.in_ok-spots.spots spot)) yes c.rule_of-rule.ensures.groups c.rule_of-rule.ensures.stores order c.if-told.false (c.clashes.ensures.0 c.if-not-clashes.false) c.in_ok-spots.ensures h)
     c.any_meets.ensures
