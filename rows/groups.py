@@ -2,7 +2,7 @@
 
 The run is worked out here, from docs/definitions.md alone: the groups in their order, in a group the lowest item that isn't at the stop of the first,
 each access done on one memory and compared with all accesses before it. `rows` gives the rows of the first 300 seeds to tools/rows, or of as many as
-the environment's SEEDS says."""
+the environment's SEEDS says, and half as many of uniform launches."""
 import os
 import random
 
@@ -26,8 +26,10 @@ def signed(number):
     return number - 2**32 if number >= 2**31 else number
 
 
-def clash(first, second):
-    """How two kinds of access conflict: not at all, as `order` or as `race`."""
+def clash(first, second, same=False):
+    """How two kinds of access conflict: not at all, as `order` or as `race`. `same` are stores that leave the same byte, in a uniform launch."""
+    if same and first == second == "store":
+        return ""
     if first in CLASSES and second in CLASSES:
         return "" if first == second else "order"
     return "" if first == second == "load" else "race"
@@ -59,6 +61,30 @@ def any_access(rng):
     return (kind, pointer, element) + ((rng.randrange(2**8),) if kind == "store" else ())
 
 
+def uniform_access(rng, numbers):
+    """A store that is likely to leave what others leave there: one byte of a few, in as many bytes as the pointer has."""
+    pointer = rng.choice(list(POINTERS))
+    width = width_of(pointer)
+    element = rng.randrange(SIZE // width)
+    return ("store", pointer, element, int.from_bytes(bytes(numbers[byte] for byte in range(element * width, element * width + width)), "little"))
+
+
+def uniform_actions_of(rng, items, size):
+    """The same of a uniform launch: most stores are of the bytes that all leave there, and the parts beside are few."""
+    numbers = [rng.choice([0, 0, 1, 255]) for _ in range(SIZE)]
+    parts = [[[uniform_access(rng, numbers) for _ in range(rng.randrange(3))] for item in range(items)] for _ in range(rng.randrange(1, 3))]
+    for _ in range(rng.choice([0, 0, 1, 1, 2])):
+        does = rng.choice(rng.choice(parts))
+        others = [rng.choice([number, number, number ^ 1]) for number in numbers]
+        what = rng.choice([uniform_access(rng, others), uniform_access(rng, others), any_access(rng)])
+        does.insert(rng.randrange(len(does) + 1), what)
+    for part in parts:
+        if rng.random() < 0.3:
+            for does in part:
+                does.insert(0, ("store", "t", rng.randrange(size), 7 if rng.random() < 0.95 else 263))
+    return parts
+
+
 def local_access(rng, size):
     """A load or a store of local memory."""
     kind = rng.choice(["load", "store", "store"])
@@ -79,6 +105,11 @@ def actions_of(rng, items, size):
 # ---- the source
 
 
+def literal(number):
+    """A number as a source may have it."""
+    return f"{number}ul" if number >= 2**63 else str(number)
+
+
 def statement(action, sites):
     """The text of an action; a barrier's number is that of its place among the barriers so far."""
     kind, *rest = action
@@ -91,7 +122,7 @@ def statement(action, sites):
     if kind in CLASSES:
         name, typed, _ = CLASSES[kind]
         return f"{name}(&{typed}[{element}], {value[0]});"
-    return f"x = {pointer}[{element}];" if kind == "load" else f"{pointer}[{element}] = {value[0]};"
+    return f"x = {pointer}[{element}];" if kind == "load" else f"{pointer}[{element}] = {literal(value[0])};"
 
 
 def source_of(parts):
@@ -121,8 +152,8 @@ def source_of(parts):
 class Run:
     """The memory, the accesses so far and the events of a launch."""
 
-    def __init__(self, data, items, size):
-        self.buffer, self.items, self.size = bytearray(data), items, size
+    def __init__(self, data, items, size, uniform):
+        self.buffer, self.items, self.size, self.uniform = bytearray(data), items, size, uniform
         self.log, self.events = [], []
 
     def group(self, group):
@@ -169,13 +200,13 @@ class Run:
         self.events.append(item)
         region = (space, group if space == "local" else 0)
         for byte in touched:
-            for other, other_kind, other_region, other_byte, other_group, other_interval in self.log:
+            for other, other_kind, other_region, other_byte, other_group, other_interval, other_left in self.log:
                 ordered = other_group == group and other_interval != interval[space]
-                if other_region == region and other_byte == byte and other != item and not ordered and clash(other_kind, kind):
-                    name = clash(other_kind, kind)
+                name = clash(other_kind, kind, self.uniform and other_left == cells[byte])
+                if other_region == region and other_byte == byte and other != item and not ordered and name:
                     number = 1 if name == "race" else 2
                     return f"{number} {name} item {other} {other_kind} item {item} {kind} {place} byte {byte}"
-        self.log += [(item, kind, region, byte, group, interval[space]) for byte in touched]
+        self.log += [(item, kind, region, byte, group, interval[space], cells[byte]) for byte in touched]
         return None
 
     def write(self, kind, cells, touched, value):
@@ -198,20 +229,32 @@ class Run:
         return " ".join(f"{event}*{count}" if isinstance(event, int) else event for event, count in runs) or "-"
 
 
-def row(seed):
-    """The row of a seed."""
-    rng = random.Random(seed)
+def launch_of(seed, uniform):
+    """The bytes, the source, the items' actions, the size of a group and the number of groups of a seed."""
+    rng = random.Random(f"uniform {seed}" if uniform else seed)
     size, groups = rng.randrange(1, 5), rng.randrange(2, 5)
     data = bytes(rng.randrange(256) for _ in range(SIZE))
-    source, items = source_of(actions_of(rng, size * groups, size))
-    run = Run(data, items, size)
+    parts = (uniform_actions_of if uniform else actions_of)(rng, size * groups, size)
+    return data, *source_of(parts), size, groups
+
+
+def row(seed, uniform):
+    """The row of a seed."""
+    data, source, items, size, groups = launch_of(seed, uniform)
+    run = Run(data, items, size, uniform)
     fault = next((fault for fault in map(run.group, range(groups)) if fault), None)
     pointers = "".join(f"arg k {index} buffer m\n" for index in range(5))
     text = f"buffer m {SIZE}\nwrite m 0 {data.hex()}\nprogram p 1\n{source}\nkernel k p f\n{pointers}arg k 5 local {4 * size}\n"
-    text += f"launch k {size * groups} {size}\nread m 0 {SIZE}\n"
+    text += f"launch k {size * groups} {size}{' uniform' if uniform else ''}\nread m 0 {SIZE}\n"
     reply = f"fault {fault} schedule {run.schedule()}\ndata {data.hex()}\n" if fault else f"clean\ndata {run.buffer.hex()}\n"
-    return dict(title=f"groups by chance {seed}", text=text, output="ok\n" * 10 + reply, status=1 if fault else 0)
+    return dict(title=f"{'uniform ' if uniform else ''}groups by chance {seed}", text="clsim 2\n" * uniform + text, output="ok\n" * 10 + reply,
+                status=1 if fault else 0)
+
+
+def launches():
+    """Each seed, and whether its launch is uniform."""
+    return [(seed, False) for seed in range(SEEDS)] + [(seed, True) for seed in range(SEEDS // 2)]
 
 
 def rows():
-    return [row(seed) for seed in range(SEEDS)]
+    return [row(seed, uniform) for seed, uniform in launches()]

@@ -48,6 +48,8 @@ def sizes():
 def scripts():
     yield dict(title="4,096 commands, each refused", text="read a 0 1\n" * 4096, output="refused 2 NoSuchName\n" * 4096, status=2)
     yield dict(title="4,097 commands", text="read a 0 4\n" * 4097, output="", error="clsim: line 4097: bad line\n", status=2)
+    yield dict(title="4,096 commands of version 2", text="clsim 2\n" + "read a 0 1\n" * 4096, output="refused 2 NoSuchName\n" * 4096, status=2)
+    yield dict(title="4,097 commands of version 2", text="clsim 2\n" + "read a 0 4\n" * 4097, output="", error="clsim: line 4098: bad line\n", status=2)
     # two groups each change an int of their own
     kernel = "__kernel void f(__global int *a) { a[get_global_id(0)]++; }"
     head = f"buffer a 8\nprogram p 1\n{kernel}\nkernel k p f\narg k 0 buffer a\n"

@@ -106,8 +106,8 @@ def replayed():
 class Player:
     """The state of a launch: its memory, what each item has done, and the accesses so far."""
 
-    def __init__(self, groups, data, items, size):
-        self.groups, self.items, self.size = groups, items, size
+    def __init__(self, groups, uniform, data, items, size):
+        self.groups, self.uniform, self.items, self.size = groups, uniform, items, size
         self.buffer = bytearray(data)
         self.locals = [[None] * (4 * size) for _ in range(len(items) // size)]
         self.intervals = [{"buffer": 0, "local": 0} for _ in self.locals]
@@ -140,7 +140,8 @@ class Player:
             return False
         self.groups["Run"].write(self, kind, cells, touched, value)
         group = item // self.size
-        self.log.append((item, kind, place, touched, group, self.intervals[group]["local" if place[0] == "l" else "buffer"]))
+        left = {byte: cells[byte] for byte in touched}
+        self.log.append((item, kind, place, left, group, self.intervals[group]["local" if place[0] == "l" else "buffer"]))
         self.at[item] += 1
         return True
 
@@ -186,8 +187,11 @@ class Player:
         """Whether the log has two such accesses of different items, which nothing orders."""
         def of(who, what):
             return [access for access in self.log if access[0] == who and access[1] == what and access[2] == place and byte in access[3]]
-        return item != other and self.groups["clash"](kind, other_kind) == name and any(
-            one[4] != two[4] or one[5] == two[5] for one in of(item, kind) for two in of(other, other_kind))
+
+        def clash(one, two):
+            return self.groups["clash"](kind, other_kind, self.uniform and one[3][byte] == two[3][byte])
+        return item != other and any(
+            clash(one, two) == name and (one[4] != two[4] or one[5] == two[5]) for one in of(item, kind) for two in of(other, other_kind))
 
     def diverges(self, item, text):
         """Whether two items of a group stop so."""
@@ -201,10 +205,10 @@ class Player:
                 and is_at(item, stop) and is_at(int(other), other_stop))
 
 
-def says(groups, launch, line):
+def says(groups, uniform, launch, line):
     """Whether a fault's line is true of a launch."""
     fault, _, schedule = line.partition(" schedule ")
-    player = Player(groups, *launch)
+    player = Player(groups, uniform, *launch)
     for run in [] if schedule == "-" else schedule.split(" "):
         event, _, count = run.partition("*")
         if not all(player.play(event) for _ in range(int(count or 1))):
@@ -241,29 +245,27 @@ def shuffled(rng, line):
     return f"{fault} schedule {' '.join(runs)}"
 
 
-def launch_of(groups, seed):
-    """The bytes, the items' actions and the size of a group of the launch of a seed, as groups.py makes it."""
-    rng = random.Random(seed)
-    size, count = rng.randrange(1, 5), rng.randrange(2, 5)
-    data = bytes(rng.randrange(256) for _ in range(groups["SIZE"]))
-    return data, groups["source_of"](groups["actions_of"](rng, size * count, size))[1], size
-
-
 def played():
     """Faults of the launches of groups.py, changed by chance in a word or in the order of two runs, or in several."""
     groups = runpy.run_path(os.path.join(HERE, "groups.py"))
-    for seed in range(groups["SEEDS"]):
-        row = groups["row"](seed)
-        launch, rng, lines = launch_of(groups, seed), random.Random(-1 - seed), set()
-        for ticket, line in enumerate(row["output"].splitlines()):
-            if line.startswith("fault "):
-                assert says(groups, launch, line), (seed, line)
-                other = line
-                for _ in range(CHANGES):
-                    other = rng.choice([varied(rng, line, len(launch[1])), varied(rng, other, len(launch[1])), shuffled(rng, line)])
-                    lines.add(other)
-                for other in sorted(lines - {line}):
-                    yield answered(f"groups by chance {seed}: {other}", row["text"], ticket, other.encode(), says(groups, launch, other))
+    for seed, uniform in groups["launches"]():
+        yield from played_of(groups, seed, uniform)
+
+
+def played_of(groups, seed, uniform):
+    """The same of one seed."""
+    row = groups["row"](seed, uniform)
+    data, _, items, size, _ = groups["launch_of"](seed, uniform)
+    launch, rng, lines = (data, items, size), random.Random(-1 - seed), set()
+    for ticket, line in enumerate(row["output"].splitlines()):
+        if line.startswith("fault "):
+            assert says(groups, uniform, launch, line), (seed, line)
+            other = line
+            for _ in range(CHANGES):
+                other = rng.choice([varied(rng, line, len(items)), varied(rng, other, len(items)), shuffled(rng, line)])
+                lines.add(other)
+            for other in sorted(lines - {line}):
+                yield answered(f"{row['title']}: {other}", row["text"], ticket, other.encode(), says(groups, uniform, launch, other))
 
 
 # ---- files that are cut
