@@ -247,8 +247,13 @@ shown l log s c item kind other other_kind place byte rule among answer groups s
               q,
               (spots q (left_at y byte)).1 (
                 px.0,
-                (x, at_length log px.0 x px.1, px.1, record { of_item = item_x; of_kind = kind_x; on_byte = r.0.first_covers; numbered = number; in_interval = refl },
-                  other_stores l x y byte rule.uniform (stores ∙ ap₂ (λ a b. both_store a b && l.uniform) (sym kind_x) (sym kind_y)) r.2),
+                (
+                  x,
+                  at_length log px.0 x px.1,
+                  px.1,
+                  record { of_item = item_x; of_kind = kind_x; on_byte = r.0.first_covers; numbered = number; in_interval = refl },
+                  other_stores l x y byte rule.uniform (stores ∙ ap₂ (λ a b. both_store a b && l.uniform) (sym kind_x) (sym kind_y)) r.2,
+                ),
               ),
               record {
                 of_item = item_y;
