@@ -119,6 +119,10 @@ fn stores_of_the_same_byte_pass(rt: HostRuntime) -> Result<(), Fail> {
         };
         assert_eq!(rt; met, expected);
     }
-    assert!(rt; footprint.meeting(false, &store(9, 0, Width::Four, 7)).is_some());
+    assert!(rt;
+        footprint
+            .meeting(false, &store(9, 0, Width::Four, 7))
+            .is_some()
+    );
     Ok(())
 }

@@ -98,7 +98,13 @@ fn merged(
 {
     let mut results = Vec::new(alloc);
     for group in 0..groups {
-        let came = one_group(alloc, launch, buffers, group, ListLog::new(alloc, launch.range().uniform))?;
+        let came = one_group(
+            alloc,
+            launch,
+            buffers,
+            group,
+            ListLog::new(alloc, launch.range().uniform),
+        )?;
         let stopped = has_stopped(&came);
         results.push(came)?;
         if stopped {
