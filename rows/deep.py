@@ -51,10 +51,14 @@ def stored(name):
 
 
 def tried(title, source, data="07000000", code=None):
-    """A source that builds: it is checked, run on one item, and dumped; without `code` the text of its code isn't compared."""
+    """A source that builds: it is checked, run on one item, and dumped; without `code` the text of its code isn't compared. Where it
+    stores nothing but the 7, it is also run by 64 groups on 16 workers, whose stores are all the same."""
     script = f"buffer a 4\nprogram p 1\n{source}\nkernel k p f\narg k 0 buffer a\nlaunch k 1 1\nread a 0 4\n"
     yield dict(title=f"{title}: check", text=source, output="ok\n", command=f"{STACK}clsim check FILE")
     yield dict(title=f"{title}: run", text=script, output=replies(data), command=f"{STACK}clsim run FILE")
+    if data == "07000000":
+        groups = "clsim 2\n" + script.replace("launch k 1 1", "launch k 64 1 uniform")
+        yield dict(title=f"{title}: 64 groups on 16 workers", text=groups, output=replies(data), command=f"{STACK}clsim run --workers 16 FILE")
     if code is None:
         yield dict(title=f"{title}: dump", text=source, output="", command=f"{STACK}clsim dump FILE f > /dev/null")
     else:

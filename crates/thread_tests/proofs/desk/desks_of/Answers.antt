@@ -1,7 +1,7 @@
 use Rattle.std.proofs.Common.{refl, ap, ◌∙◌, length, [], ◌∷◌}
 use lib.ListN.{get_elem?}
 use Rattle.atomic_table.proofs.Lists.{at_last, at_longer}
-use Rattle.queue_tests.proofs.desk.desks_of.Goals as goal
+use Rattle.thread_tests.proofs.desk.desks_of.Goals as goal
 
 pub open_desk-requires : goal.open_desk-requires
 open_desk-requires c = let n = length c.pop.new.self.items in

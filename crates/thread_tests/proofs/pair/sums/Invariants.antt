@@ -1,6 +1,6 @@
 use Rattle.std.proofs.Common.{◌≡◌}
 use Rattle.host_queue.specs.Clients.{IsOnly}
-use Rattle.queue_tests.proofs.pair.sums.Given as goal
+use Rattle.thread_tests.proofs.pair.sums.Given as goal
 
 abbrev pub invariant-loop-add : goal.invariant-loop-add
 invariant-loop-add l = record {

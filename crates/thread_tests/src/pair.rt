@@ -4,22 +4,26 @@ ghost use Rattle.std.specs.Box.{box_value};
 ghost use Rattle.host_queue.specs.declared.view.Request.TheVariants.{Asked};
 ghost use Rattle.host_queue.specs.Clients.{IsOnly};
 
-use crate::desk::Tallies;
 use crate::tally::Tally;
-use host_queue::{Client, Driver, Request, close, open};
+use host_queue::{Client, Driver, Machine, Queue, Request, close, open};
 use std::alloc::{AllocError, Global};
 use std::test::Fail;
+
+type Tallies = Queue<Tally, u32, u32>;
 
 type Member = Client<Tally, u32, u32>;
 
 type Runner = Driver<Tally, u32, u32>;
 
 /// A queue with one client.
-fn open_one(alloc: Global) -> Result<(Tallies, Member, Runner), AllocError>
+pub fn open_one<D: Machine<C, R>, C: Drop, R: Drop>(
+    alloc: Global,
+    machine: D,
+) -> Result<(Queue<D, C, R>, Client<D, C, R>, Driver<D, C, R>), AllocError>
     ensures one { IfOk result (λ r. (r.1.seat.table_id ≡ r.0.table.shared.table_id) × (r.2.seat.table_id ≡ r.0.table.shared.table_id)) }
     ensures only { IfOk result (λ r. IsOnly r.2.seat.me.0 r.1.seat.me.0) }
 {
-    let (queue, mut clients, driver) = open(alloc, Tally { total: 0 }, 1)?;
+    let (queue, mut clients, driver) = open(alloc, machine, 1)?;
     let client = clients.pop().unwrap();
     Ok((queue, client, driver))
 }
@@ -35,15 +39,16 @@ fn open_two(alloc: Global) -> Result<(Tallies, Member, Member, Runner), AllocErr
     Ok((queue, first, second, driver))
 }
 
-fn boxed(alloc: Global, add: u32) -> Result<Box<Request<u32, u32>>, AllocError>
-    ensures { IfOk result (λ b. box_value b ≡ Asked add) }
+/// A request in its box.
+pub fn boxed<C: Drop, R: Drop>(alloc: Global, question: C) -> Result<Box<Request<C, R>>, AllocError>
+    ensures { IfOk result (λ b. box_value b ≡ Asked question) }
 {
-    Ok(Box::new(alloc, Request::Asked(add))?)
+    Ok(Box::new(alloc, Request::Asked(question))?)
 }
 
 /// The reply in a box.
-fn reply(request: Box<Request<u32, u32>>) -> Option<u32> {
-    match *request {
+pub fn reply<C: Drop, R: Drop>(request: Box<Request<C, R>>) -> Option<R> {
+    match Box::into_inner(request) {
         Request::Answered(reply) => Some(reply),
         Request::Asked(_) => None,
     }
@@ -78,7 +83,7 @@ fn sums(
 #[test]
 fn one_client_is_answered_at_once(rt: HostRuntime) -> Result<(), Fail> {
     let alloc: Global = rt.alloc();
-    let (queue, mut client, mut driver) = open_one(alloc)?;
+    let (queue, mut client, mut driver) = open_one(alloc, Tally { total: 0 })?;
     assert_eq!(rt; sums(alloc, &queue, &mut driver, &mut client, 5000)?, 4096);
     let machine = close(&rt, queue, Vec::new(alloc), driver);
     assert_eq!(rt; machine.total, 4095 * 2048);
@@ -111,7 +116,7 @@ fn agreed_tickets_rise(rt: HostRuntime) -> Result<(), Fail> {
 #[test]
 fn polls_hand_everything_back(rt: HostRuntime) -> Result<(), Fail> {
     let alloc: Global = rt.alloc();
-    let (queue, mut client, mut driver) = open_one(alloc)?;
+    let (queue, mut client, mut driver) = open_one(alloc, Tally { total: 0 })?;
     assert!(rt; driver.drive_one(&queue).is_none());
     let Ok(ticket) = client.submit(&queue, boxed(alloc, 3)?) else {
         panic!(rt; "full")

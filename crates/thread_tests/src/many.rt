@@ -1,54 +1,42 @@
-//! Sixteen clients in threads of their own, and a driver in another.
-ghost use Rattle.std.specs.Prelude.{◌≡◌, IfOk};
-
-use crate::desk::{Desk, Line, Tallies, desks_of, drive};
+//! Sixteen clients in threads of their own, and a driver in another: a machine that adds up what it is given shows that the replies are those of
+//! one history.
+use crate::desk::{Desk, desks_of, serve};
 use crate::tally::Tally;
-use host_queue::{Client, Driver, close, open};
+use host_queue::{close, open};
 use std::alloc::{AllocError, Global};
 use std::sync::Wait;
 use std::test::Fail;
-use std::thread;
-use std::thread::Threads;
+
+/// What was asked for under a ticket, and the reply.
+#[derive(Drop)]
+struct Line {
+    ticket: u64,
+    add: u32,
+    reply: u32,
+}
 
 /// A desk after its thread's work.
 #[derive(Drop)]
 struct Report<'a> {
-    desk: Desk<'a>,
+    desk: Desk<'a, Tally, u32, u32>,
     lines: Vec<Line>,
 }
 
-/// Asks 256 times.
-fn work<'a, R: Wait>(rt: &R, alloc: Global, desk: Desk<'a>) -> Result<Report<'a>, AllocError> {
+/// Asks 256 times for the desk's number to be added.
+fn work<'a, W: Wait>(
+    rt: &W,
+    alloc: Global,
+    desk: Desk<'a, Tally, u32, u32>,
+) -> Result<Report<'a>, AllocError> {
     let mut desk = desk;
+    let add = u32::from(desk.number);
     let mut lines = Vec::new(alloc);
     for _ in 0..256 {
-        if let Some(line) = desk.ask(rt, alloc)? {
-            lines.push(line)?;
+        if let Some((ticket, reply)) = desk.ask(rt, alloc, add)? {
+            lines.push(Line { ticket, add, reply })?;
         }
     }
     Ok(Report { desk, lines })
-}
-
-/// Lets all desks work, each in a thread of its own, while another drives.
-fn serve<'a, R: Threads + Wait + Sync>(
-    rt: &R,
-    alloc: Global,
-    queue: &'a Tallies,
-    desks: Vec<Desk<'a>>,
-    driver: Driver<Tally, u32, u32>,
-) -> Result<(Vec<Result<Report<'a>, AllocError>>, Driver<Tally, u32, u32>), AllocError>
-    requires one { driver.seat.table_id ≡ queue.now.table.shared.table_id }
-    ensures { IfOk result (λ r. r.1.seat.table_id ≡ queue.now.table.shared.table_id) }
-{
-    let (reports, driver) = thread::join(
-        rt,
-        || thread::map_vec(rt, desks, &|desk| work(rt, alloc, desk)),
-        move || -> Driver<Tally, u32, u32>
-            requires { driver.seat.table_id ≡ queue.now.table.shared.table_id }
-            ensures { result.seat.table_id ≡ queue.entry.now.table.shared.table_id }
-        { drive(rt, queue, driver, 4096) },
-    );
-    Ok((reports?, driver))
 }
 
 /// Puts the lines at their tickets.
@@ -79,13 +67,21 @@ fn sixteen_clients_have_one_history(rt: HostRuntime) -> Result<(), Fail> {
     let alloc: Global = rt.alloc();
     let (queue, clients, driver) = open(alloc, Tally { total: 0 }, 16)?;
     let desks = desks_of(alloc, &queue, clients)?;
-    let (reports, driver) = serve(&rt, alloc, &queue, desks, driver)?;
+    let (reports, driver) = serve(
+        &rt,
+        alloc,
+        &queue,
+        desks,
+        driver,
+        4096,
+        &|desk| work(&rt, alloc, desk),
+    )?;
     let mut history = Vec::from_elem(alloc, 0u32, 4096)?;
     let mut replies = Vec::from_elem(alloc, 0u32, 4096)?;
     for report in reports {
         let mut report = report?;
         assert_eq!(rt; report.lines.len(), 256);
-        assert!(rt; report.desk.is_full(alloc)?);
+        assert!(rt; report.desk.is_full(alloc, 1)?);
         gather(&mut history, &mut replies, &report.lines);
     }
     assert_eq!(rt; exact(&history, &replies), 4096);

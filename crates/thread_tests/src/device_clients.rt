@@ -1,0 +1,114 @@
+//! Sixteen clients of one device in threads of their own, and a driver in another: 4,096 commands, all that a queue takes.
+use crate::desk::{Desk, desks_of, serve};
+use clmodel::text::{Bytes, Name};
+use device::{Command, Device, Reply};
+use host_queue::{close, open};
+use spaces_base::Buffers;
+use std::alloc::{AllocError, Global};
+use std::sync::Wait;
+use std::test::Fail;
+
+/// A client at the device's queue.
+type Guest<'a> = Desk<'a, Device, Command, Reply>;
+
+/// The name of a client's buffer: b with the client's number.
+fn buffer_of(alloc: Global, number: u8) -> Result<Name, AllocError> {
+    let mut text = Vec::new(alloc);
+    text.push(b'b')?;
+    if number >= 10 {
+        text.push(b'0' + number / 10)?;
+    }
+    text.push(b'0' + number % 10)?;
+    Ok(Name::new(text))
+}
+
+/// A client's command: the first makes its buffer, the second writes its number to each byte there, and all others read these.
+fn command(alloc: Global, number: u8, place: u32) -> Result<Command, AllocError> {
+    let buffer = buffer_of(alloc, number)?;
+    Ok(match place {
+        0 => Command::Buffer {
+            name: buffer,
+            size: 4,
+        },
+        1 => Command::Write {
+            buffer,
+            offset: 0,
+            bytes: Bytes::copy_of(alloc, &[number; 4])?,
+        },
+        _ => Command::Read {
+            buffer,
+            offset: 0,
+            count: 4,
+        },
+    })
+}
+
+/// Whether that is the reply to a client's command.
+fn is_right(number: u8, place: u32, reply: &Reply) -> bool {
+    match reply {
+        Reply::Done => place < 2,
+        Reply::Data(bytes) => place >= 2 && bytes.as_slice() == [number; 4].as_slice(),
+        _ => false,
+    }
+}
+
+/// A client after its thread's work.
+#[derive(Drop)]
+struct Report<'a> {
+    guest: Guest<'a>,
+    /// Of the commands with the right reply
+    tickets: Vec<u64>,
+}
+
+/// Gives the client's 256 commands.
+fn work<'a, W: Wait>(rt: &W, alloc: Global, guest: Guest<'a>) -> Result<Report<'a>, AllocError> {
+    let mut guest = guest;
+    let number = guest.number;
+    let mut tickets = Vec::new(alloc);
+    for place in 0..256 {
+        let asked = command(alloc, number, place)?;
+        if let Some((ticket, reply)) = guest.ask(rt, alloc, asked)? {
+            if is_right(number, place, &reply) {
+                tickets.push(ticket)?;
+            }
+        }
+    }
+    Ok(Report { guest, tickets })
+}
+
+/// Whether a client's buffer holds what the client wrote.
+fn is_written(alloc: Global, buffers: &Buffers, number: u8) -> Result<bool, AllocError> {
+    Ok(buffers.bytes_in(&buffer_of(alloc, number)?) == [number; 4].as_slice())
+}
+
+#[test]
+fn sixteen_clients_share_a_device(rt: HostRuntime) -> Result<(), Fail> {
+    let alloc: Global = rt.alloc();
+    let (queue, clients, driver) = open(alloc, Device::new(alloc, 1000000), 16)?;
+    let guests = desks_of(alloc, &queue, clients)?;
+    let (reports, driver) = serve(
+        &rt,
+        alloc,
+        &queue,
+        guests,
+        driver,
+        4096,
+        &|guest| work(&rt, alloc, guest),
+    )?;
+    let mut drawn = Vec::from_elem(alloc, false, 4096)?;
+    for report in reports {
+        let mut report = report?;
+        assert_eq!(rt; report.tickets.len(), 256);
+        for ticket in report.tickets.iter() {
+            drawn[*ticket as usize % 4096] = true;
+        }
+        assert!(rt; report.guest.is_full(alloc, command(alloc, 1, 2)?)?);
+    }
+    assert!(rt; drawn.iter().all(|is_drawn| *is_drawn));
+    let device = close(&rt, queue, Vec::new(alloc), driver);
+    assert_eq!(rt; device.buffers().len(), 16);
+    for number in 1..=16 {
+        assert!(rt; is_written(alloc, device.buffers(), number)?);
+    }
+    Ok(())
+}
