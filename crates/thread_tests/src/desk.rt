@@ -9,7 +9,6 @@ use host_queue::{Client, Driver, Machine, Queue, Request, Ticket};
 use std::alloc::{AllocError, Global};
 use std::sync::Wait;
 use std::thread;
-use std::thread::Threads;
 
 /// A client at its queue, with its number.
 #[derive(Drop)]
@@ -104,8 +103,26 @@ pub fn desks_of<'a, D: Machine<C, R>, C: Drop, R: Drop>(
     Ok(desks)
 }
 
+/// Drives once, and tells how many tickets are answered then: 0 where no request was there.
+fn answered<D: Machine<C, R>, C: Drop, R: Drop>(
+    queue: &Queue<D, C, R>,
+    driver: &mut Driver<D, C, R>,
+) -> u64
+    requires one { driver.old.seat.table_id ≡ queue.now.table.shared.table_id }
+    ensures one { driver.new.seat.table_id ≡ driver.old.seat.table_id }
+{
+    match driver.drive_one(queue) {
+        None => 0,
+        Some(answered) => {
+            let count = answered.count();
+            drop(answered);
+            count
+        }
+    }
+}
+
 /// Drives until so many tickets are answered.
-fn drive<W: Wait, D: Machine<C, R>, C: Drop, R: Drop>(
+pub fn drive<W: Wait, D: Machine<C, R>, C: Drop, R: Drop>(
     rt: &W,
     queue: &Queue<D, C, R>,
     driver: Driver<D, C, R>,
@@ -116,49 +133,10 @@ fn drive<W: Wait, D: Machine<C, R>, C: Drop, R: Drop>(
 {
     let mut driver = driver;
     for _ in rt.forever() {
-        match driver.drive_one(queue) {
-            None => thread::yield_now(),
-            Some(answered) => {
-                if answered.count() >= count {
-                    return driver;
-                }
-            }
+        if answered(queue, &mut driver) >= count {
+            return driver;
         }
+        thread::yield_now();
     }
     unreachable!()
-}
-
-/// Lets all desks work, each in a thread of its own, while another drives until so many tickets are answered.
-pub fn serve<
-    'a,
-    D: Machine<C, R> + Send,
-    C: Drop + Send,
-    R: Drop + Send,
-    X: Drop + Send,
-    F: Fn(Desk<'a, D, C, R>) -> X + Sync,
-    W: Threads + Wait + Sync,
->(
-    rt: &W,
-    alloc: Global,
-    queue: &'a Queue<D, C, R>,
-    desks: Vec<Desk<'a, D, C, R>>,
-    driver: Driver<D, C, R>,
-    count: u64,
-    work: &F,
-) -> Result<(Vec<X>, Driver<D, C, R>), AllocError>
-    requires one { driver.seat.table_id ≡ queue.now.table.shared.table_id }
-    requires jobs { AcceptsJobs F.Fn work.now desks.items }
-    ensures { IfOk result (λ r. r.1.seat.table_id ≡ queue.now.table.shared.table_id) }
-{
-    let (done, driver) = thread::join(
-        rt,
-        || -> Result<Vec<X>, AllocError>
-            requires { AcceptsJobs F.Fn work.entry.now desks.items }
-        { thread::map_vec(rt, desks, work) },
-        move || -> Driver<D, C, R>
-            requires { driver.seat.table_id ≡ queue.now.table.shared.table_id }
-            ensures { result.seat.table_id ≡ queue.entry.now.table.shared.table_id }
-        { drive(rt, queue, driver, count) },
-    );
-    Ok((done?, driver))
 }

@@ -1,12 +1,16 @@
 //! Sixteen clients of one device in threads of their own, and a driver in another: 4,096 commands, all that a queue takes.
-use crate::desk::{Desk, desks_of, serve};
+ghost use Rattle.std.specs.Prelude.{◌≡◌, IfOk};
+
+use crate::desk::{Desk, desks_of, drive};
 use clmodel::text::{Bytes, Name};
 use device::{Command, Device, Reply};
-use host_queue::{close, open};
+use host_queue::{Driver, Queue, close, open};
 use spaces_base::Buffers;
 use std::alloc::{AllocError, Global};
 use std::sync::Wait;
 use std::test::Fail;
+use std::thread;
+use std::thread::Threads;
 
 /// A client at the device's queue.
 type Guest<'a> = Desk<'a, Device, Command, Reply>;
@@ -76,6 +80,34 @@ fn work<'a, W: Wait>(rt: &W, alloc: Global, guest: Guest<'a>) -> Result<Report<'
     Ok(Report { guest, tickets })
 }
 
+/// Lets all guests work, each in a thread of its own, while another drives.
+fn serve<'a, W: Threads + Wait + Sync>(
+    rt: &W,
+    alloc: Global,
+    queue: &'a Queue<Device, Command, Reply>,
+    guests: Vec<Guest<'a>>,
+    driver: Driver<Device, Command, Reply>,
+) -> Result<
+    (
+        Vec<Result<Report<'a>, AllocError>>,
+        Driver<Device, Command, Reply>,
+    ),
+    AllocError,
+>
+    requires one { driver.seat.table_id ≡ queue.now.table.shared.table_id }
+    ensures { IfOk result (λ r. r.1.seat.table_id ≡ queue.now.table.shared.table_id) }
+{
+    let (reports, driver) = thread::join(
+        rt,
+        || thread::map_vec(rt, guests, &|guest| work(rt, alloc, guest)),
+        move || -> Driver<Device, Command, Reply>
+            requires { driver.seat.table_id ≡ queue.now.table.shared.table_id }
+            ensures { result.seat.table_id ≡ queue.entry.now.table.shared.table_id }
+        { drive(rt, queue, driver, 4096) },
+    );
+    Ok((reports?, driver))
+}
+
 /// Whether a client's buffer holds what the client wrote.
 fn is_written(alloc: Global, buffers: &Buffers, number: u8) -> Result<bool, AllocError> {
     Ok(buffers.bytes_in(&buffer_of(alloc, number)?) == [number; 4].as_slice())
@@ -86,15 +118,7 @@ fn sixteen_clients_share_a_device(rt: HostRuntime) -> Result<(), Fail> {
     let alloc: Global = rt.alloc();
     let (queue, clients, driver) = open(alloc, Device::new(alloc, 1000000), 16)?;
     let guests = desks_of(alloc, &queue, clients)?;
-    let (reports, driver) = serve(
-        &rt,
-        alloc,
-        &queue,
-        guests,
-        driver,
-        4096,
-        &|guest| work(&rt, alloc, guest),
-    )?;
+    let (reports, driver) = serve(&rt, alloc, &queue, guests, driver)?;
     let mut drawn = Vec::from_elem(alloc, false, 4096)?;
     for report in reports {
         let mut report = report?;

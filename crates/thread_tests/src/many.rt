@@ -1,11 +1,18 @@
 //! Sixteen clients in threads of their own, and a driver in another: a machine that adds up what it is given shows that the replies are those of
 //! one history.
-use crate::desk::{Desk, desks_of, serve};
+ghost use Rattle.std.specs.Prelude.{◌≡◌, IfOk};
+
+use crate::desk::{Desk, desks_of, drive};
 use crate::tally::Tally;
-use host_queue::{close, open};
+use host_queue::{Driver, Queue, close, open};
 use std::alloc::{AllocError, Global};
 use std::sync::Wait;
 use std::test::Fail;
+use std::thread;
+use std::thread::Threads;
+
+/// A client at the queue of a machine that adds.
+type Seated<'a> = Desk<'a, Tally, u32, u32>;
 
 /// What was asked for under a ticket, and the reply.
 #[derive(Drop)]
@@ -18,16 +25,12 @@ struct Line {
 /// A desk after its thread's work.
 #[derive(Drop)]
 struct Report<'a> {
-    desk: Desk<'a, Tally, u32, u32>,
+    desk: Seated<'a>,
     lines: Vec<Line>,
 }
 
 /// Asks 256 times for the desk's number to be added.
-fn work<'a, W: Wait>(
-    rt: &W,
-    alloc: Global,
-    desk: Desk<'a, Tally, u32, u32>,
-) -> Result<Report<'a>, AllocError> {
+fn work<'a, W: Wait>(rt: &W, alloc: Global, desk: Seated<'a>) -> Result<Report<'a>, AllocError> {
     let mut desk = desk;
     let add = u32::from(desk.number);
     let mut lines = Vec::new(alloc);
@@ -37,6 +40,28 @@ fn work<'a, W: Wait>(
         }
     }
     Ok(Report { desk, lines })
+}
+
+/// Lets all desks work, each in a thread of its own, while another drives.
+fn serve<'a, W: Threads + Wait + Sync>(
+    rt: &W,
+    alloc: Global,
+    queue: &'a Queue<Tally, u32, u32>,
+    desks: Vec<Seated<'a>>,
+    driver: Driver<Tally, u32, u32>,
+) -> Result<(Vec<Result<Report<'a>, AllocError>>, Driver<Tally, u32, u32>), AllocError>
+    requires one { driver.seat.table_id ≡ queue.now.table.shared.table_id }
+    ensures { IfOk result (λ r. r.1.seat.table_id ≡ queue.now.table.shared.table_id) }
+{
+    let (reports, driver) = thread::join(
+        rt,
+        || thread::map_vec(rt, desks, &|desk| work(rt, alloc, desk)),
+        move || -> Driver<Tally, u32, u32>
+            requires { driver.seat.table_id ≡ queue.now.table.shared.table_id }
+            ensures { result.seat.table_id ≡ queue.entry.now.table.shared.table_id }
+        { drive(rt, queue, driver, 4096) },
+    );
+    Ok((reports?, driver))
 }
 
 /// Puts the lines at their tickets.
@@ -67,15 +92,7 @@ fn sixteen_clients_have_one_history(rt: HostRuntime) -> Result<(), Fail> {
     let alloc: Global = rt.alloc();
     let (queue, clients, driver) = open(alloc, Tally { total: 0 }, 16)?;
     let desks = desks_of(alloc, &queue, clients)?;
-    let (reports, driver) = serve(
-        &rt,
-        alloc,
-        &queue,
-        desks,
-        driver,
-        4096,
-        &|desk| work(&rt, alloc, desk),
-    )?;
+    let (reports, driver) = serve(&rt, alloc, &queue, desks, driver)?;
     let mut history = Vec::from_elem(alloc, 0u32, 4096)?;
     let mut replies = Vec::from_elem(alloc, 0u32, 4096)?;
     for report in reports {
