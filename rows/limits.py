@@ -48,6 +48,10 @@ def sizes():
 def scripts():
     yield dict(title="4,096 commands, each refused", text="read a 0 1\n" * 4096, output="refused 2 NoSuchName\n" * 4096, status=2)
     yield dict(title="4,097 commands", text="read a 0 4\n" * 4097, output="", error="clsim: line 4097: bad line\n", status=2)
+    yield dict(title="4,096 commands and an empty line", text="read a 0 4\n" * 4096 + "\n", output="", error="clsim: line 4097: bad line\n", status=2)
+    yield dict(title="4,096 commands and a letter", text="read a 0 4\n" * 4096 + "x", output="", error="clsim: line 4097: bad line\n", status=2)
+    yield dict(title="4,096 commands and a version", text="clsim 2\n" + "read a 0 4\n" * 4096 + "clsim 2\n", output="",
+               error="clsim: line 4098: bad line\n", status=2)
     yield dict(title="4,096 commands of version 2", text="clsim 2\n" + "read a 0 1\n" * 4096, output="refused 2 NoSuchName\n" * 4096, status=2)
     yield dict(title="4,097 commands of version 2", text="clsim 2\n" + "read a 0 4\n" * 4097, output="", error="clsim: line 4098: bad line\n", status=2)
     # two groups each change an int of their own
