@@ -118,29 +118,65 @@ fn mark(drawn: &mut Vec<bool>, tickets: &Vec<u64>) {
     }
 }
 
-/// Whether a client's buffer holds what the client wrote.
-fn is_written(alloc: Global, buffers: &Buffers, number: u8) -> Result<bool, AllocError> {
-    Ok(buffers.bytes_in(&buffer_of(alloc, number)?) == [number; 4].as_slice())
+/// How many commands were right, how many clients were answered Full, and which tickets were drawn.
+#[derive(Drop)]
+struct Count {
+    right: usize,
+    full: usize,
+    drawn: Vec<bool>,
+}
+
+/// Counts what came of all clients, and lets each submit once more.
+fn counted(
+    alloc: Global,
+    reports: Vec<Result<Report<'_>, AllocError>>,
+) -> Result<Count, AllocError> {
+    let mut drawn = Vec::from_elem(alloc, false, 4096)?;
+    let mut full = Vec::new(alloc);
+    let mut right = 0usize;
+    for report in reports {
+        let mut report = report?;
+        right = right.wrapping_add(report.tickets.len());
+        mark(&mut drawn, &report.tickets);
+        if report.guest.is_full(alloc, command(alloc, 1, 2)?)? {
+            full.push(())?;
+        }
+    }
+    Ok(Count {
+        right,
+        full: full.len(),
+        drawn,
+    })
+}
+
+/// How many of the sixteen buffers hold what their clients wrote.
+fn written(alloc: Global, buffers: &Buffers) -> Result<usize, AllocError> {
+    let mut written = Vec::new(alloc);
+    for number in 1..=16 {
+        if buffers.bytes_in(&buffer_of(alloc, number)?) == [number; 4].as_slice() {
+            written.push(number)?;
+        }
+    }
+    Ok(written.len())
+}
+
+/// Sixteen clients give their commands to a device: what came of them, and the device as it is then.
+fn shared<W: Threads + Wait + Sync>(rt: &W, alloc: Global) -> Result<(Count, Device), AllocError> {
+    let (queue, clients, driver) = open(alloc, Device::new(alloc, 1000000), 16)?;
+    let guests = desks_of(alloc, &queue, clients)?;
+    let (reports, driver) = serve(rt, alloc, &queue, guests, driver)?;
+    let count = counted(alloc, reports)?;
+    Ok((count, close(rt, queue, Vec::new(alloc), driver)))
 }
 
 #[test]
 fn sixteen_clients_share_a_device(rt: HostRuntime) -> Result<(), Fail> {
     let alloc: Global = rt.alloc();
-    let (queue, clients, driver) = open(alloc, Device::new(alloc, 1000000), 16)?;
-    let guests = desks_of(alloc, &queue, clients)?;
-    let (reports, driver) = serve(&rt, alloc, &queue, guests, driver)?;
-    let mut drawn = Vec::from_elem(alloc, false, 4096)?;
-    for report in reports {
-        let mut report = report?;
-        assert_eq!(rt; report.tickets.len(), 256);
-        mark(&mut drawn, &report.tickets);
-        assert!(rt; report.guest.is_full(alloc, command(alloc, 1, 2)?)?);
-    }
-    assert!(rt; drawn.iter().all(|is_drawn| *is_drawn));
-    let device = close(&rt, queue, Vec::new(alloc), driver);
+    let (count, device) = shared(&rt, alloc)?;
+    assert_eq!(rt; count.right, 4096);
+    assert_eq!(rt; count.full, 16);
+    assert!(rt; count.drawn.iter().all(|is_drawn| *is_drawn));
     assert_eq!(rt; device.buffers().len(), 16);
-    for number in 1..=16 {
-        assert!(rt; is_written(alloc, device.buffers(), number)?);
-    }
+    assert_eq!(rt; written(alloc, device.buffers())?, 16);
     Ok(())
 }

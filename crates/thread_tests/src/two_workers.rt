@@ -4,11 +4,13 @@ use crate::pair::{boxed, open_one, reply};
 use crate::scripts::{SUM, SUMS, all_but_the_last};
 use clmodel::outcome::Outcome;
 use clmodel::text::Name;
-use device::{Command, Reply, drive_with};
+use device::{Command, Device, Reply, drive_with};
 use host_queue::close;
 use spaces_base::Buffers;
 use std::alloc::{AllocError, Global};
+use std::sync::Wait;
 use std::test::Fail;
+use std::thread::Threads;
 use workers::run_parallel;
 
 /// Whether buffer c holds the sums.
@@ -25,62 +27,100 @@ fn is_clean(reply: &Reply) -> bool {
     }
 }
 
+/// Whether an outcome is clean, and its third buffer holds the sums.
+fn has_sums(outcome: &Outcome) -> bool {
+    match outcome {
+        Outcome::Clean(contents) => contents
+            .get(2)
+            .is_some_and(|bytes| bytes.as_slice() == SUMS.as_slice()),
+        _ => false,
+    }
+}
+
+/// Whether a launch on a device gives the sums by `run_parallel`, on two workers. The device isn't changed.
+fn is_run<W: Threads + Wait + Sync>(
+    rt: &W,
+    alloc: Global,
+    device: &Device,
+    command: &Command,
+    gate: &Meeting,
+) -> Result<bool, AllocError> {
+    let Command::Launch { kernel, range } = command else {
+        return Ok(false);
+    };
+    let Ok(launch) = device.prepare(kernel, range) else {
+        return Ok(false);
+    };
+    let outcome = run_parallel(rt, alloc, &launch, device.buffers(), 2, gate)?;
+    Ok(has_sums(&outcome))
+}
+
 #[test]
 fn they_meet_in_run_parallel(rt: HostRuntime) -> Result<(), Fail> {
     let Some((device, command)) = all_but_the_last(rt.alloc(), SUM) else {
         panic!(rt; "no script")
     };
-    let Command::Launch { kernel, range } = command else {
-        panic!(rt; "no launch")
-    };
-    let Ok(launch) = device.prepare(&kernel, &range) else {
-        panic!(rt; "refused")
-    };
     let gate = Meeting::new();
-    let outcome = run_parallel(&rt, rt.alloc(), &launch, device.buffers(), 2, &gate)?;
+    assert!(rt; is_run(&rt, rt.alloc(), &device, &command, &gate)?);
     assert_eq!(rt; gate.met(), 2);
-    let Outcome::Clean(contents) = outcome else {
-        panic!(rt; "a fault")
-    };
-    assert!(rt;
-        contents
-            .get(2)
-            .is_some_and(|bytes| bytes.as_slice() == SUMS.as_slice())
-    );
     Ok(())
+}
+
+/// Whether a device does a command by `apply_with`, on two workers, and holds the sums.
+fn is_applied<W: Threads + Wait + Sync>(
+    rt: &W,
+    alloc: Global,
+    device: Device,
+    command: Command,
+    gate: &Meeting,
+) -> Result<bool, AllocError> {
+    let mut device = device;
+    let reply = device.apply_with(rt, command, 2, gate);
+    Ok(is_clean(&reply) && holds_sums(alloc, device.buffers())?)
 }
 
 #[test]
 fn they_meet_in_apply_with(rt: HostRuntime) -> Result<(), Fail> {
-    let Some((mut device, command)) = all_but_the_last(rt.alloc(), SUM) else {
+    let Some((device, command)) = all_but_the_last(rt.alloc(), SUM) else {
         panic!(rt; "no script")
     };
     let gate = Meeting::new();
-    let reply = device.apply_with(&rt, command, 2, &gate);
+    assert!(rt; is_applied(&rt, rt.alloc(), device, command, &gate)?);
     assert_eq!(rt; gate.met(), 2);
-    assert!(rt; is_clean(&reply));
-    assert!(rt; holds_sums(rt.alloc(), device.buffers())?);
     Ok(())
+}
+
+/// The reply to a command by `drive_with`, on two workers, and the device as it is then.
+fn driven<W: Threads + Wait + Sync>(
+    rt: &W,
+    alloc: Global,
+    device: Device,
+    command: Command,
+    gate: &Meeting,
+) -> Result<Option<(Reply, Device)>, AllocError> {
+    let (queue, mut client, mut driver) = open_one(alloc, device)?;
+    let Ok(ticket) = client.submit(&queue, boxed(alloc, command)?) else {
+        return Ok(None);
+    };
+    drop(drive_with(&mut driver, rt, &queue, 2, gate));
+    let Ok(request) = client.poll(&queue, ticket) else {
+        return Ok(None);
+    };
+    let device = close(rt, queue, Vec::new(alloc), driver);
+    Ok(reply(request).map(|reply| (reply, device)))
 }
 
 #[test]
 fn they_meet_in_drive_with(rt: HostRuntime) -> Result<(), Fail> {
-    let alloc: Global = rt.alloc();
-    let Some((device, command)) = all_but_the_last(alloc, SUM) else {
+    let Some((device, command)) = all_but_the_last(rt.alloc(), SUM) else {
         panic!(rt; "no script")
     };
-    let (queue, mut client, mut driver) = open_one(alloc, device)?;
-    let Ok(ticket) = client.submit(&queue, boxed(alloc, command)?) else {
-        panic!(rt; "full")
-    };
     let gate = Meeting::new();
-    assert!(rt; drive_with(&mut driver, &rt, &queue, 2, &gate).is_some());
-    assert_eq!(rt; gate.met(), 2);
-    let Ok(request) = client.poll(&queue, ticket) else {
+    let Some((reply, device)) = driven(&rt, rt.alloc(), device, command, &gate)? else {
         panic!(rt; "no reply")
     };
-    assert!(rt; reply(request).is_some_and(|reply| is_clean(&reply)));
-    let device = close(&rt, queue, Vec::new(alloc), driver);
-    assert!(rt; holds_sums(alloc, device.buffers())?);
+    assert_eq!(rt; gate.met(), 2);
+    assert!(rt; is_clean(&reply));
+    assert!(rt; holds_sums(rt.alloc(), device.buffers())?);
     Ok(())
 }
