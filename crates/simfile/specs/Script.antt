@@ -91,7 +91,7 @@ head version.Two = codes "clsim 2\n"
 abbrev pub IsScript : List ℕ → List Command → Type 0
 IsScript bytes commands = (version : Version) × (lines : List ℕ) × (bytes ≡ head version ++ lines) × Begins version lines commands [] × (length commands ≤ 4096)
 
--- the line n is the lowest bad one: the lines before it are a script, and no longer beginning of the bytes is one
+-- the line n is the lowest bad one: it follows the longest beginning of the bytes that is a script, and that isn't all of them
 pub record IsBadLine (bytes : List ℕ) (n : ℕ) : Type 0 where
   pub commands : List Command
   pub front : List ℕ
