@@ -11,7 +11,7 @@ use Rattle.simfile.specs.declared.lines.Version.{Version}
 use Rattle.simfile.specs.declared.lines.Version.TheVariants as version
 use Rattle.simfile_fields.specs.Texts.{is_listed, list_text}
 use Rattle.simfile.specs.Fields.{is_name, IsList, numbers_of, AreBytes, hex, bytes_of}
-use Rattle.simfile_fields.specs.Fronts.{after, number_at, before, value_at, or_else, ◌>>=◌}
+use Rattle.simfile_fields.specs.Fronts.{list_below, after, number_at, before, value_at, or_else, ◌>>=◌}
 use Rattle.simfile.specs.Reading.{name_at, list_at, hex_at, source_at, buffer_at, write_at, fill_at, copy_at, read_at, release_at, buffer_argument_at, value_argument_at, local_argument_at, argument_at, listed_offset_at, offset_at, uniform_at, offsets_of, range_of, program_at, kernel_at, arg_at, launch_at, command_at}
 use Rattle.simfile.specs.Script.{IsText, IsSetting, IsOffset, IsUniform, AreLines, space, line_feed}
 use Rattle.simfile.specs.Laws.{Takes, Again}
@@ -477,7 +477,7 @@ mark_again version.Two text true rest h = record {
     more = codes "uniform" ++ 10 ∷ rest;
     split = refl;
     ends = space_ends_list;
-    none = unfold listed_offset_at in unfold after in unfold list_at in refl;
+    none = unfold listed_offset_at in unfold after in unfold list_below in refl;
   });
 }
 
