@@ -8,7 +8,8 @@ use Rattle.device_store.specs.declared.command.Command.TheVariants as command
 use Rattle.replay_text.specs.Pieces.{joined}
 use Rattle.simfile.specs.declared.lines.Version.{Version}
 use Rattle.simfile.specs.declared.lines.Version.TheVariants as version
-use Rattle.simfile.specs.Fields.{is_name, IsList, list_text, AreBytes, hex, IsValue}
+use Rattle.simfile_fields.specs.Texts.{list_text, IsValue}
+use Rattle.simfile.specs.Fields.{is_name, IsList, AreBytes, hex}
 
 abbrev pub line_feeds : List ℕ → ℕ
 line_feeds [] = 0
