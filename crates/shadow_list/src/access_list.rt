@@ -5,8 +5,8 @@ ghost use Rattle.shadow_list.specs.Log.{IsPlaced, logged};
 
 use crate::log::{Accesses, Entry};
 
-/// The accesses of a log in their order, with the numbers of its running intervals and whether the launch is uniform. It takes 48 bytes
-/// for each access, and is asked by place alone: what waits to be joined needs no more.
+/// The accesses of a log in their order, with the numbers of its running intervals and whether the launch is uniform. It takes some 56 bytes
+/// for each access, and is asked by place alone: a result that waits to be joined needs no more.
 #[derive(Drop)]
 pub struct AccessList {
     pub(crate) entries: Vec<Entry>,
