@@ -27,8 +27,11 @@ fn is_clean(reply: &Reply) -> bool {
 
 #[test]
 fn they_meet_in_run_parallel(rt: HostRuntime) -> Result<(), Fail> {
-    let Some((device, Command::Launch { kernel, range })) = all_but_the_last(rt.alloc(), SUM) else {
-        panic!(rt; "no script that ends with a launch")
+    let Some((device, command)) = all_but_the_last(rt.alloc(), SUM) else {
+        panic!(rt; "no script")
+    };
+    let Command::Launch { kernel, range } = command else {
+        panic!(rt; "no launch")
     };
     let Ok(launch) = device.prepare(&kernel, &range) else {
         panic!(rt; "refused")
