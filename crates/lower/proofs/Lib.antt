@@ -28,6 +28,7 @@ pub mod Places
 pub mod Lent
 pub mod Short
 pub mod FewSites
+pub mod Fronts
 pub mod Low
 pub mod LowStatements
 pub mod LowKernels

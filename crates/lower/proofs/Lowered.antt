@@ -1,8 +1,10 @@
 -- The kernel of a name, its code with tables, and what is promised of it.
-use Rattle.std.proofs.Common.{◌≡◌, ℕ, ◌==◌, ◌&&◌, Bool, true, false, if◌then◌else◌, Option, None, Some, List, position, refl, ap, ap₂, sym, ◌∙◌, subst, arith}
+use Rattle.std.proofs.Common.{◌≡◌, ℕ, ◌==◌, ◌<◌, ◌≤◌, ◌^◌, ◌⊎◌, inl, inr, ◌&&◌, Bool, true, false, if◌then◌else◌, Option, None, Some, List, position, refl, ap, ap₂, sym, ◌∙◌, subst, arith}
 use Rattle.std.proofs.Math.Logic.{∥∥₁_elim}
+use Rattle.std.proofs.lemmas.Bool.{cases_lt}
 use Rattle.std.proofs.lemmas.Bool.Decides.{nat_tests}
 use Rattle.std.specs.Option.{option_map, option_and_then}
+use Rattle.clmodel.specs.Next.{all_sites, sites_in}
 use Rattle.clmodel.specs.Setup.{kernel_in, functions_before, same_text}
 use Rattle.clmodel.specs.Tree.{Program, Func, Funcs, NoFunc, ThenFunc}
 use Rattle.clmodel.specs.Typing.{IsTypedProgram}
@@ -10,6 +12,7 @@ use Rattle.regcode.specs.Listing.{Listing}
 use Rattle.regcode.specs.Rules.{IsVerified}
 use Rattle.lower_code.specs.Code.{kernel_code}
 use Rattle.lower.specs.Accepted.{TypedKernelsVerified}
+use Rattle.lower.specs.Bounds.{FewBarriers, TypedKernelsFewBarriers}
 use Rattle.lower.specs.Correct.{ActsAsTheTree}
 use Rattle.lower.specs.Lists.{Lists}
 use Rattle.lower.specs.Lowers.{IsLowered}
@@ -22,6 +25,16 @@ lists_verified p number code law typed lists = subst IsVerified (sym lists.same)
 
 pub never_rejected : (p : Program) (number : ℕ) (code : Listing) → TypedKernelsVerified → ∥ IsTypedProgram p ∥₁ → Lists p.functions number code → (IsVerified code → ⊥) → ⊥
 never_rejected p number code law typed lists rejected = ∥∥₁_elim typed (λ x y. absurd x) (λ t. rejected (lists_verified p number code law t lists))
+
+-- a typed program's kernel has few barriers
+pub few_barriers : (p : Program) (number : ℕ) → TypedKernelsFewBarriers → ∥ IsTypedProgram p ∥₁ → FewBarriers p.functions number
+unfolding TypedKernelsFewBarriers
+few_barriers p number law typed f is = go (cases_lt (all_sites (sites_in (functions_before p.functions number)) f.body) (2 ^ 32))
+  where
+    go : (all_sites (sites_in (functions_before p.functions number)) f.body < 2 ^ 32) ⊎ (2 ^ 32 ≤ all_sites (sites_in (functions_before p.functions number)) f.body)
+        → all_sites (sites_in (functions_before p.functions number)) f.body < 2 ^ 32
+    go (inl few) = few
+    go (inr many) = absurd (∥∥₁_elim typed (λ x y. absurd x) (λ t. let most = law p number f t is in omega (arith, most, many)))
 
 -- it is the code that is defined for the kernel
 pub lists_same : (p : Program) (number : ℕ) (code made : Listing) → code ≡ made → Lists p.functions number made → Lists p.functions number code

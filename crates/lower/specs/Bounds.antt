@@ -1,8 +1,8 @@
 -- How long a kernel's code is, and how many barriers it has (own).
-use Rattle.std.specs.Prelude.{◌≡◌, ℕ, ◌+◌, ◌*◌, ◌≤◌, Some, length}
+use Rattle.std.specs.Prelude.{◌≡◌, ℕ, ◌+◌, ◌*◌, ◌<◌, ◌≤◌, ◌^◌, Some, length}
 use Rattle.clmodel.specs.Next.{all_sites, sites_in}
 use Rattle.clmodel.specs.Setup.{kernel_in, functions_before}
-use Rattle.clmodel.specs.Tree.{Program, Func}
+use Rattle.clmodel.specs.Tree.{Program, Func, Funcs}
 use Rattle.clmodel.specs.Typing.{IsTypedProgram}
 use Rattle.clmodel.specs.Typing.Functions.{size_of}
 use Rattle.clmodel.specs.Typing.Sizes.{node_limit}
@@ -32,3 +32,8 @@ unfoldable pub TypedKernelsFewRegisters : Type 0
 TypedKernelsFewRegisters =
     (program : Program) (name : ℕ) (f : Func) → IsTypedProgram program → kernel_in program.functions name ≡ Some f →
     register_count (kernel_code (functions_before program.functions name) f) ≤ 16 * (length f.parameters + node_limit + 1)
+
+-- The kernel of a name's number, if there is one, has so few barriers, those in the helpers that it calls among them, that each has a number of 32 bits.
+abbrev pub FewBarriers : Funcs → ℕ → Type 0
+FewBarriers functions number =
+    (f : Func) → kernel_in functions number ≡ Some f → all_sites (sites_in (functions_before functions number)) f.body < 2 ^ 32

@@ -1,11 +1,14 @@
 //! The code of kernels.
 #![tactic(auto)]
 
-ghost use Rattle.std.specs.Prelude.{◌≡◌, None, Some, map, IfOk, IfSome};
+ghost use Rattle.std.specs.Prelude.{◌≡◌, ◌<◌, ◌^◌, None, Some, map, IfOk, IfSome};
+ghost use Rattle.clmodel.specs.Next.{all_sites};
 ghost use Rattle.clmodel.specs.Setup.{kernel_in, functions_before};
 ghost use Rattle.clmodel.specs.Tree.{Func, NoFunc, func, then_funcs};
 ghost use Rattle.lower_code.specs.Code.{kernel_code};
-ghost use Rattle.lower_code.specs.Emission.{functions_of};
+ghost use Rattle.lower.specs.Bounds.{FewBarriers};
+ghost use Rattle.lower_code.specs.Emission.{functions_of, inside};
+ghost use Rattle.lower_code.specs.Trees.{all_of};
 
 use crate::expansion::expand;
 use crate::lookup::kernel_named;
@@ -24,6 +27,7 @@ fn emit_function(
     helpers: Helpers<'_>,
     kernel: &Function,
 ) -> Result<Vec<Instruction>, AllocError>
+    requires { all_sites (inside helpers.functions.now) (all_of kernel.now.body.items) < 2 ^ 32 }
     ensures { IfOk result (λ code. code.items ≡ kernel_code (functions_of helpers.entry.functions.now) (func kernel.now)) }
 {
     let mut code = Draft::new(alloc);
@@ -39,6 +43,7 @@ pub fn emit_kernel(
     functions: &[Function],
     number: u32,
 ) -> Result<Option<Vec<Instruction>>, AllocError>
+    requires { FewBarriers (then_funcs NoFunc (map func functions.now)) number }
     ensures code { IfOk result (λ found. IfSome found (λ code. (f : Func) × (kernel_in (then_funcs NoFunc (map func functions.now)) number ≡ Some f)
         × (code.items ≡ kernel_code (functions_before (then_funcs NoFunc (map func functions.now)) number) f))) }
     ensures none { IfOk result (λ found. found ≡ None → kernel_in (then_funcs NoFunc (map func functions.now)) number ≡ None) }

@@ -1,7 +1,7 @@
 //! How many barriers are in a statement, with those in the helper functions that it calls, which are looked up.
 #![tactic(auto)]
 
-ghost use Rattle.std.specs.Prelude.{◌≡◌, ℕ, ◌+◌, ◌<◌, Some, length, get_or, IfOk, IfSome};
+ghost use Rattle.std.specs.Prelude.{◌≡◌, ℕ, ◌+◌, ◌<◌, ◌≤◌, ◌^◌, None, Some, length, get_or, IfSome};
 ghost use Rattle.clmodel.specs.BuiltIns.{built_in};
 ghost use Rattle.clmodel.specs.Barrier as barrier;
 ghost use Rattle.clmodel.specs.Next as next;
@@ -15,7 +15,6 @@ use clmodel::setup::built_in_named;
 use clmodel::tree::{Expression, Statement};
 use lower_code::functions::{Found, find};
 use lower_code::holes::Helpers;
-use std::alloc::AllocError;
 
 /// What is called: nothing that can meet a barrier, the barrier itself, or the helper function of a name.
 #[derive(Clone, Copy)]
@@ -51,10 +50,11 @@ fn callee_in(value: &Expression) -> Callee
     }
 }
 
-/// The barriers in a statement; None where there are too many to count.
+/// The barriers in a statement; None where there are 2^32 or more.
 #[cycle(sites)]
 fn sites(helpers: Helpers<'_>, statement: &Statement) -> Option<u32>
-    ensures { IfSome result (λ n. n ≡ next.sites (inside helpers.entry.functions.now) (stmt statement.now)) }
+    ensures some { IfSome result (λ n. n ≡ next.sites (inside helpers.entry.functions.now) (stmt statement.now)) }
+    ensures none { result ≡ None → 2 ^ 32 ≤ next.sites (inside helpers.entry.functions.now) (stmt statement.now) }
 {
     match statement {
         Statement::Block { body, .. } => sites_in_all(helpers, body),
@@ -95,10 +95,11 @@ fn sites(helpers: Helpers<'_>, statement: &Statement) -> Option<u32>
     }
 }
 
-/// The barriers in statements.
+/// The barriers in statements; None where there are 2^32 or more.
 #[cycle(sites)]
 pub fn sites_in_all(helpers: Helpers<'_>, statements: &[Statement]) -> Option<u32>
-    ensures { IfSome result (λ n. n ≡ next.all_sites (inside helpers.entry.functions.now) (all_of statements.now)) }
+    ensures some { IfSome result (λ n. n ≡ next.all_sites (inside helpers.entry.functions.now) (all_of statements.now)) }
+    ensures none { result ≡ None → 2 ^ 32 ≤ next.all_sites (inside helpers.entry.functions.now) (all_of statements.now) }
 {
     let mut all: u32 = 0;
     for i in 0..statements.len() {
@@ -107,21 +108,20 @@ pub fn sites_in_all(helpers: Helpers<'_>, statements: &[Statement]) -> Option<u3
     Some(all)
 }
 
-/// The barriers in a helper; None where they are not known.
+/// The barriers in a helper; None where there are 2^32 or more.
 fn sites_in_helper(helpers: Helpers<'_>, found: Found<'_>) -> Option<u32>
     requires within { found.place < length helpers.functions.now }
     requires there { found.function.now ≡ get_or helpers.functions.now found.place found.function.now }
-    ensures { IfSome result (λ n. n ≡ found_sites helpers.entry.functions.now (Some found.entry)) }
+    ensures some { IfSome result (λ n. n ≡ found_sites helpers.entry.functions.now (Some found.entry)) }
+    ensures none { result ≡ None → 2 ^ 32 ≤ found_sites helpers.entry.functions.now (Some found.entry) }
 {
-    if found.place >= helpers.known.len() {
-        return None;
-    }
     helpers.known[found.place].barriers
 }
 
-/// The barriers in what is called.
+/// The barriers in what is called; None where there are 2^32 or more.
 fn sites_in_call(helpers: Helpers<'_>, callee: Callee) -> Option<u32>
-    ensures { IfSome result (λ n. n ≡ callee_sites (inside helpers.entry.functions.now) callee) }
+    ensures some { IfSome result (λ n. n ≡ callee_sites (inside helpers.entry.functions.now) callee) }
+    ensures none { result ≡ None → 2 ^ 32 ≤ callee_sites (inside helpers.entry.functions.now) callee }
 {
     match callee {
         Callee::Nothing => Some(0),
@@ -133,26 +133,24 @@ fn sites_in_call(helpers: Helpers<'_>, callee: Callee) -> Option<u32>
     }
 }
 
-/// The number of the first barrier behind statements, by that of their first one. Err if there are too many.
-pub fn site_behind_all(
-    helpers: Helpers<'_>,
-    site: u32,
-    statements: &[Statement],
-) -> Result<u32, AllocError>
-    ensures { IfOk result (λ behind. behind ≡ site + next.all_sites (inside helpers.entry.functions.now) (all_of statements.now)) }
+/// The number of the first barrier behind statements, by that of their first one.
+pub fn site_behind_all(helpers: Helpers<'_>, site: u32, statements: &[Statement]) -> u32
+    requires { site + next.all_sites (inside helpers.functions.now) (all_of statements.now) < 2 ^ 32 }
+    ensures { result ≡ site + next.all_sites (inside helpers.entry.functions.now) (all_of statements.now) }
 {
-    let count = sites_in_all(helpers, statements).ok_or(AllocError)?;
-    site.checked_add(count).ok_or(AllocError)
+    match sites_in_all(helpers, statements) {
+        Some(count) => site + count,
+        None => unreachable!(),
+    }
 }
 
-/// The number of the first barrier of a statement, by that of the first one behind it. Err if there are too many.
-pub fn site_before(
-    helpers: Helpers<'_>,
-    behind: u32,
-    statement: &Statement,
-) -> Result<u32, AllocError>
-    ensures { IfOk result (λ site. site + next.sites (inside helpers.entry.functions.now) (stmt statement.now) ≡ behind) }
+/// The number of the first barrier of a statement, by that of the first one behind it.
+pub fn site_before(helpers: Helpers<'_>, behind: u32, statement: &Statement) -> u32
+    requires { next.sites (inside helpers.functions.now) (stmt statement.now) ≤ behind }
+    ensures { result + next.sites (inside helpers.entry.functions.now) (stmt statement.now) ≡ behind }
 {
-    let count = sites(helpers, statement).ok_or(AllocError)?;
-    behind.checked_sub(count).ok_or(AllocError)
+    match sites(helpers, statement) {
+        Some(count) => behind - count,
+        None => unreachable!(),
+    }
 }

@@ -7,7 +7,7 @@
 //! put together before the loop is; a statement inside n such loops is so gone through n times more (8 at most in a checked kernel).
 #![tactic(auto, using(lower_code::proofs::Growth::unchanged, lower_code::proofs::Growth::before, lower_code::proofs::Growth::one_before, lower_code::proofs::Growth::same_scope, lower_code::proofs::Growth::inner_scope))]
 
-ghost use Rattle.std.specs.Prelude.{◌≡◌, ◌+◌, ◌++◌, true, length, IfOk, OnOk, OnErr};
+ghost use Rattle.std.specs.Prelude.{◌≡◌, ◌+◌, ◌<◌, ◌≤◌, ◌^◌, ◌++◌, true, length, IfOk, OnOk, OnErr};
 ghost use Rattle.std.specs.Option.{option_map};
 ghost use Rattle.clmodel.specs.Next.{sites, part_sites, all_sites};
 ghost use Rattle.clmodel.specs.Tree as tree;
@@ -66,13 +66,14 @@ fn emit_single<'a>(
     ending: Ending,
     code: &mut Draft<'a>,
 ) -> Result<u32, AllocError>
-    requires { is_single statement.now ≡ true }
+    requires kind { is_single statement.now ≡ true }
+    requires few { sites (inside setting.now.helpers.functions.now) (stmt statement.now) ≤ ending.behind }
     ensures code { IfOk result (λ site. code.new ≡ statement_code setting.now scope.old (stmt statement.now) (begun_at ending site) ++ code.old) }
     ensures site { IfOk result (λ site. site + sites (inside setting.now.helpers.functions.now) (stmt statement.now) ≡ ending.behind) }
     ensures scope { scope.new ≡ scope.old }
     ensures longer { OnErr result (GrowsBefore code.old code.new) }
 {
-    let site = site_before(setting.helpers, ending.behind, statement)?;
+    let site = site_before(setting.helpers, ending.behind, statement);
     let position = Position {
         depth: ending.depth,
         site,
@@ -90,7 +91,8 @@ fn put_single<'a>(
     position: Position,
     code: &mut Draft<'a>,
 ) -> Result<(), AllocError>
-    requires { is_single statement.now ≡ true }
+    requires kind { is_single statement.now ≡ true }
+    requires few { position.site + sites (inside setting.now.helpers.functions.now) (stmt statement.now) < 2 ^ 32 }
     ensures code { OnOk result (code.new ≡ statement_code setting.now scope.old (stmt statement.now) position ++ code.old) }
     ensures scope { scope.new ≡ scope.old }
     ensures longer { OnErr result (GrowsBefore code.old code.new) }
@@ -110,6 +112,13 @@ fn put_single<'a>(
     }
 }
 
+/// The barriers of statements have numbers from 0 on where the first one behind them has its own. This is the contract of a function
+/// that does nothing: what it asks is shown at its call.
+fn numbers_suffice(setting: &Setting<'_>, statements: &[Statement], ending: Ending)
+    requires { all_sites (inside setting.now.helpers.functions.now) (all_of statements.now) ≤ ending.behind }
+    ensures { all_sites (inside setting.now.helpers.functions.now) (all_of statements.now) ≤ ending.behind }
+{}
+
 /// Puts a statement before the code, and gives the number of its first barrier, or of the first behind it if it has none. Err if out
 /// of memory, or if a number of 32 bits is too small.
 #[cycle(emission)]
@@ -120,6 +129,7 @@ fn emit_statement<'a>(
     ending: Ending,
     code: &mut Draft<'a>,
 ) -> Result<u32, AllocError>
+    requires few { sites (inside setting.now.helpers.functions.now) (stmt statement.now) ≤ ending.behind }
     ensures code { IfOk result (λ site. code.new ≡ statement_code setting.now scope.old (stmt statement.now) (begun_at ending site) ++ code.old) }
     ensures site { IfOk result (λ site. site + sites (inside setting.now.helpers.functions.now) (stmt statement.now) ≡ ending.behind) }
     ensures scope { OnOk result (scope.new ≡ scope.old) }
@@ -127,7 +137,11 @@ fn emit_statement<'a>(
     ensures kept { OnErr result (KeepsOuter scope.old scope.new) }
 {
     match statement {
-        Statement::Block { body, .. } => emit_all(setting, scope, body, ending, code),
+        Statement::Block { body, .. } => {
+            let body = body.as_slice();
+            numbers_suffice(setting, body, ending);
+            emit_all(setting, scope, body, ending, code)
+        }
         Statement::If {
             condition,
             chosen,
@@ -163,7 +177,8 @@ fn emit_loop<'a>(
     ending: Ending,
     code: &mut Draft<'a>,
 ) -> Result<u32, AllocError>
-    requires { is_loop statement.now ≡ true }
+    requires kind { is_loop statement.now ≡ true }
+    requires few { sites (inside setting.now.helpers.functions.now) (stmt statement.now) ≤ ending.behind }
     ensures code { IfOk result (λ site. code.new ≡ statement_code setting.now scope.old (stmt statement.now) (begun_at ending site) ++ code.old) }
     ensures site { IfOk result (λ site. site + sites (inside setting.now.helpers.functions.now) (stmt statement.now) ≡ ending.behind) }
     ensures scope { OnOk result (scope.new ≡ scope.old) }
@@ -219,6 +234,7 @@ fn emit_all<'a>(
     ending: Ending,
     code: &mut Draft<'a>,
 ) -> Result<u32, AllocError>
+    requires few { all_sites (inside setting.now.helpers.functions.now) (all_of statements.now) ≤ ending.behind }
     ensures code { IfOk result (λ site. code.new ≡ row_code setting.now scope.old (all_of statements.now) (begun_at ending site) ++ code.old) }
     ensures site { IfOk result (λ site. site + all_sites (inside setting.now.helpers.functions.now) (all_of statements.now) ≡ ending.behind) }
     ensures scope { OnOk result (scope.new ≡ scope.old) }
@@ -250,6 +266,7 @@ pub fn emit_body<'a>(
     site: u32,
     code: &mut Draft<'a>,
 ) -> Result<(), AllocError>
+    requires few { site + all_sites (inside helpers.functions.now) (all_of function.now.body.items) < 2 ^ 32 }
     ensures code { OnOk result (code.new ≡ body_of helpers.entry.functions.now function.now level depth site ++ code.old) }
     ensures longer { OnErr result (GrowsBefore code.old code.new) }
 {
@@ -267,7 +284,7 @@ pub fn emit_body<'a>(
         result: function.result,
     };
     let body = function.body.as_slice();
-    let behind = site_behind_all(helpers, site, body)?;
+    let behind = site_behind_all(helpers, site, body);
     let ending = Ending {
         depth,
         behind,
@@ -287,6 +304,7 @@ fn emit_if<'a>(
     ending: Ending,
     code: &mut Draft<'a>,
 ) -> Result<u32, AllocError>
+    requires few { sites (inside setting.now.helpers.functions.now) (stmt chosen.now) ≤ ending.behind }
     ensures code { IfOk result (λ site. code.new ≡ statement_code setting.now scope.old (tree.If 0 (term condition.now) (stmt chosen.now)) (begun_at ending site) ++ code.old) }
     ensures site { IfOk result (λ site. site + sites (inside setting.now.helpers.functions.now) (stmt chosen.now) ≡ ending.behind) }
     ensures scope { OnOk result (scope.new ≡ scope.old) }
@@ -310,6 +328,7 @@ fn emit_choice<'a>(
     ending: Ending,
     code: &mut Draft<'a>,
 ) -> Result<u32, AllocError>
+    requires few { sites (inside setting.now.helpers.functions.now) (stmt chosen.now) + sites (inside setting.now.helpers.functions.now) (stmt otherwise.now) ≤ ending.behind }
     ensures code { IfOk result (λ site. code.new ≡ statement_code setting.now scope.old (tree.IfElse 0 (term condition.now) (stmt chosen.now) (stmt otherwise.now)) (begun_at ending site) ++ code.old) }
     ensures site { IfOk result (λ site. site + (sites (inside setting.now.helpers.functions.now) (stmt chosen.now) + sites (inside setting.now.helpers.functions.now) (stmt otherwise.now)) ≡ ending.behind) }
     ensures scope { OnOk result (scope.new ≡ scope.old) }
@@ -340,6 +359,7 @@ fn emit_part<'a>(
     ending: Ending,
     code: &mut Draft<'a>,
 ) -> Result<u32, AllocError>
+    requires few { part_sites (inside setting.now.helpers.functions.now) (part_of part) ≤ ending.behind }
     ensures code { IfOk result (λ site. code.new ≡ maybe_code setting.now scope.old (part_of part.entry) (begun_at ending site) ++ code.old) }
     ensures site { IfOk result (λ site. site + part_sites (inside setting.now.helpers.functions.now) (part_of part.entry) ≡ ending.behind) }
     ensures scope { OnOk result (scope.new ≡ scope.old) }
@@ -362,6 +382,7 @@ fn emit_do<'a>(
     ending: Ending,
     code: &mut Draft<'a>,
 ) -> Result<u32, AllocError>
+    requires few { sites (inside setting.now.helpers.functions.now) (stmt body.now) ≤ ending.behind }
     ensures code { IfOk result (λ site. code.new ≡ statement_code setting.now scope.old (tree.DoWhile 0 (stmt body.now) (term condition.now)) (begun_at ending site) ++ code.old) }
     ensures site { IfOk result (λ site. site + sites (inside setting.now.helpers.functions.now) (stmt body.now) ≡ ending.behind) }
     ensures scope { OnOk result (scope.new ≡ scope.old) }
@@ -384,6 +405,7 @@ fn emit_once<'a>(
     ending: Ending,
     turn: &mut Draft<'a>,
 ) -> Result<u32, AllocError>
+    requires few { sites (inside setting.now.helpers.functions.now) (stmt body.now) ≤ ending.behind }
     ensures code { IfOk result (λ site. turn.new ≡ once_code setting.now scope.old (stmt body.now) (begun_at ending site) (length turn.old) ++ turn.old) }
     ensures site { IfOk result (λ site. site + sites (inside setting.now.helpers.functions.now) (stmt body.now) ≡ ending.behind) }
     ensures scope { OnOk result (scope.new ≡ scope.old) }
@@ -409,13 +431,14 @@ fn emit_stepped<'a>(
     ending: Ending,
     turn: &mut Draft<'a>,
 ) -> Result<u32, AllocError>
+    requires few { sites (inside setting.now.helpers.functions.now) (stmt third.now) + sites (inside setting.now.helpers.functions.now) (stmt body.now) ≤ ending.behind }
     ensures code { IfOk result (λ site. turn.new ≡ round_code setting.now scope.old (tree.With (stmt third.now)) (stmt body.now) (begun_at ending site) (length turn.old) ++ turn.old) }
     ensures site { IfOk result (λ site. site + (sites (inside setting.now.helpers.functions.now) (stmt third.now) + sites (inside setting.now.helpers.functions.now) (stmt body.now)) ≡ ending.behind) }
     ensures scope { OnOk result (scope.new ≡ scope.old) }
     ensures longer { OnErr result (GrowsBefore turn.old turn.new) }
     ensures kept { OnErr result (KeepsOuter scope.old scope.new) }
 {
-    let between = site_before(setting.helpers, ending.behind, body)?;
+    let between = site_before(setting.helpers, ending.behind, body);
     let last = Ending {
         depth: level_above(ending.depth)?,
         behind: between,
@@ -436,6 +459,7 @@ fn emit_round<'a>(
     ending: Ending,
     turn: &mut Draft<'a>,
 ) -> Result<u32, AllocError>
+    requires few { part_sites (inside setting.now.helpers.functions.now) (part_of third) + sites (inside setting.now.helpers.functions.now) (stmt body.now) ≤ ending.behind }
     ensures code { IfOk result (λ site. turn.new ≡ round_code setting.now scope.old (part_of third.entry) (stmt body.now) (begun_at ending site) (length turn.old) ++ turn.old) }
     ensures site { IfOk result (λ site. site + (part_sites (inside setting.now.helpers.functions.now) (part_of third.entry) + sites (inside setting.now.helpers.functions.now) (stmt body.now)) ≡ ending.behind) }
     ensures scope { OnOk result (scope.new ≡ scope.old) }
@@ -460,6 +484,7 @@ fn emit_for<'a>(
     ending: Ending,
     code: &mut Draft<'a>,
 ) -> Result<u32, AllocError>
+    requires few { sites (inside setting.now.helpers.functions.now) (tree.For 0 (part_of first) (test_of condition) (part_of third) (stmt body.now)) ≤ ending.behind }
     ensures code { IfOk result (λ site. code.new ≡ statement_code setting.now scope.old (tree.For 0 (part_of first.entry) (test_of condition.entry) (part_of third.entry) (stmt body.now)) (begun_at ending site) ++ code.old) }
     ensures site { IfOk result (λ site. site + sites (inside setting.now.helpers.functions.now) (tree.For 0 (part_of first.entry) (test_of condition.entry) (part_of third.entry) (stmt body.now)) ≡ ending.behind) }
     ensures scope { OnOk result (scope.new ≡ scope.old) }
@@ -490,6 +515,7 @@ fn emit_turns<'a>(
     ending: Ending,
     code: &mut Draft<'a>,
 ) -> Result<u32, AllocError>
+    requires few { part_sites (inside setting.now.helpers.functions.now) (part_of third) + sites (inside setting.now.helpers.functions.now) (stmt body.now) ≤ ending.behind }
     ensures code { IfOk result (λ site. code.new
         ≡ while_code ending.depth (round_code setting.now scope.old (part_of third.entry) (stmt body.now) (begun_at ending site) (length (condition_code scope.old (test_of condition.entry)))) (condition_code scope.old (test_of condition.entry)) ++ code.old) }
     ensures site { IfOk result (λ site. site + (part_sites (inside setting.now.helpers.functions.now) (part_of third.entry) + sites (inside setting.now.helpers.functions.now) (stmt body.now)) ≡ ending.behind) }

@@ -1,11 +1,11 @@
 -- What is known of functions, for fewer functions and for one more.
-use Rattle.std.proofs.Common.{◌≡◌, ℕ, zero, suc, ◌<◌, ◌≤◌, Option, None, Some, IfSome, List, [], ◌∷◌, ◌++◌, length, take, get_or, refl, sym, ap, subst, ◌∙◌, arith}
+use Rattle.std.proofs.Common.{◌≡◌, ℕ, zero, suc, ◌<◌, ◌≤◌, ◌^◌, Option, None, Some, IfSome, List, [], ◌∷◌, ◌++◌, length, take, get_or, refl, sym, ap, subst, ◌∙◌, arith}
 use Rattle.std.proofs.lemmas.List.{get_or-take, take-take, length-take}
 use Rattle.clmodel.specs.Next.{all_sites}
 use Rattle.clmodel.specs.declared.tree.Function.{Function}
 use Rattle.clmodel.specs.Tree.{func}
 use Rattle.lower_code.specs.Trees.{all_of}
-use Rattle.lower_code.specs.Helpers.{functions_of, inside, body_of, BarriersKnown, LengthsKnown, EndsKnown}
+use Rattle.lower_code.specs.Helpers.{functions_of, inside, body_of, BarriersKnown, BarriersCounted, LengthsKnown, EndsKnown}
 use Rattle.lower_code.specs.declared.known.Known.{Known}
 use Rattle.lower_code.proofs.Lengths.{function_length}
 
@@ -28,6 +28,16 @@ barriers_before fs ks n small h i f k m below there f_is k_is m_is =
     let inner : i < n = within fs n i small below in
     h i f k m (omega (arith, inner, small)) there (f_is ∙ get_or-take n fs i f inner) k_is m_is
     ∙ ap (λ gs. all_sites (inside gs) (all_of f.body.items)) (sym (take-take i n fs (omega (arith, inner))))
+
+pub counted_before : (fs : List Function) (ks : List Known) (n : ℕ) → n ≤ length fs → BarriersCounted fs ks → BarriersCounted (take n fs) ks
+counted_before fs ks n small h i f k below there f_is k_is none =
+    let inner : i < n = within fs n i small below in
+    subst (λ gs. 2 ^ 32 ≤ all_sites (inside gs) (all_of f.body.items)) (sym (take-take i n fs (omega (arith, inner))))
+    (h i f k (omega (arith, inner, small)) there (f_is ∙ get_or-take n fs i f inner) k_is none)
+
+-- the first functions are known if all are, or so many
+pub complete_before : (fs : List Function) (ks : List Known) (n : ℕ) → n ≤ length fs → length fs ≤ length ks → length (take n fs) ≤ length ks
+complete_before fs ks n small all = omega (arith, small, all, length-take n fs)
 
 pub lengths_before : (fs : List Function) (ks : List Known) (n : ℕ) → n ≤ length fs → LengthsKnown fs ks → LengthsKnown (take n fs) ks
 lengths_before fs ks n small h i f k m level depth site below there f_is k_is m_is =
@@ -56,6 +66,14 @@ barriers_more fs ks f k below f_is h this i g m n small there g_is m_is n_is =
     (λ g n small g_is n_is. this n n_is ∙ ap (λ x. all_sites (inside (take (length ks) fs)) (all_of x.body.items)) (f_is ∙ function_at fs (length ks) f g below ∙ sym g_is))
     i m there m_is g n small g_is n_is
 
+pub counted_more : (fs : List Function) (ks : List Known) (f : Function) (k : Known) → length ks < length fs → f ≡ get_or fs (length ks) f → BarriersCounted fs ks
+    → (k.barriers ≡ None → 2 ^ 32 ≤ all_sites (inside (take (length ks) fs)) (all_of f.body.items)) → BarriersCounted fs (ks ++ k ∷ [])
+counted_more fs ks f k below f_is h this i g m small there g_is m_is none =
+    each_more (λ j y. (g : Function) → j < length fs → g ≡ get_or fs j g → y.barriers ≡ None → 2 ^ 32 ≤ all_sites (inside (take j fs)) (all_of g.body.items)) ks k
+    (λ j y c d g small g_is none. h j g y small c g_is d none)
+    (λ g small g_is none. subst (λ (x : Function). 2 ^ 32 ≤ all_sites (inside (take (length ks) fs)) (all_of x.body.items)) (f_is ∙ function_at fs (length ks) f g below ∙ sym g_is) (this none))
+    i m there m_is g small g_is none
+
 pub lengths_more : (fs : List Function) (ks : List Known) (f : Function) (k : Known) → length ks < length fs → f ≡ get_or fs (length ks) f → LengthsKnown fs ks
     → ((n level depth site : ℕ) → k.length ≡ Some n → n ≡ length (body_of (take (length ks) fs) f level depth site)) → LengthsKnown fs (ks ++ k ∷ [])
 lengths_more fs ks f k below f_is h this i g m n level depth site small there g_is m_is n_is =
@@ -71,6 +89,10 @@ if_some (Some n) P h = h n refl
 pub barriers_found : (fs : List Function) (ks : List Known) (i : ℕ) (f : Function) (k d : Known) → BarriersKnown fs ks → i < length fs → i < length ks → f ≡ get_or fs i f → k ≡ get_or ks i d
     → IfSome k.barriers (λ n. n ≡ all_sites (inside (take i fs)) (all_of f.body.items))
 barriers_found fs ks i f k d h below there f_is k_is = if_some k.barriers _ (λ n e. h i f k n below there f_is (k_is ∙ known_at ks i d k there) e)
+
+pub counted_found : (fs : List Function) (ks : List Known) (i : ℕ) (f : Function) (k d : Known) → BarriersCounted fs ks → i < length fs → i < length ks → f ≡ get_or fs i f → k ≡ get_or ks i d
+    → k.barriers ≡ None → 2 ^ 32 ≤ all_sites (inside (take i fs)) (all_of f.body.items)
+counted_found fs ks i f k d h below there f_is k_is = h i f k below there f_is (k_is ∙ known_at ks i d k there)
 
 pub lengths_found : (fs : List Function) (ks : List Known) (i : ℕ) (f : Function) (k d : Known) → LengthsKnown fs ks → i < length fs → i < length ks → f ≡ get_or fs i f → k ≡ get_or ks i d
     → IfSome k.length (λ n. (level depth site : ℕ) → n ≡ length (body_of (take i fs) f level depth site))

@@ -66,6 +66,11 @@ abbrev pub called_code : Calls → Option Call → ℕ → ℕ → List Instruct
 called_code calls None depth site = []
 called_code calls (Some c) depth site = calls c.name c.arguments.items c.level depth site
 
+-- the barriers in it
+abbrev pub called_sites : (ℕ → ℕ) → Option Call → ℕ
+called_sites inside None = 0
+called_sites inside (Some c) = inside c.name
+
 -- the code of a statement, with that body between its parts
 abbrev pub split_code : Calls → Split → ℕ → ℕ → List Instruction
 split_code calls split depth site = split.front.items ++ (called_code calls split.call depth site ++ split.back.items)

@@ -1,5 +1,5 @@
 -- The functions that can be called, and what is known of each (own).
-use Rattle.std.specs.Prelude.{◌≡◌, ℕ, ◌<◌, List, Some, length, take, get_or, map}
+use Rattle.std.specs.Prelude.{◌≡◌, ℕ, ◌<◌, ◌≤◌, ◌^◌, List, None, Some, length, take, get_or, map}
 use Rattle.clmodel.specs.Next.{sites_in, all_sites}
 use Rattle.clmodel.specs.Tree.{Funcs, NoFunc, then_funcs, func}
 use Rattle.clmodel.specs.declared.tree.Function.{Function}
@@ -24,6 +24,12 @@ abbrev pub BarriersKnown : List Function → List Known → Type 0
 BarriersKnown functions known =
     (i : ℕ) (f : Function) (k : Known) (n : ℕ) → i < length functions → i < length known → f ≡ get_or functions i f → k ≡ get_or known i k
     → k.barriers ≡ Some n → n ≡ all_sites (inside (take i functions)) (all_of f.body.items)
+
+-- and where it isn't known, there are 2^32 or more
+abbrev pub BarriersCounted : List Function → List Known → Type 0
+BarriersCounted functions known =
+    (i : ℕ) (f : Function) (k : Known) → i < length functions → i < length known → f ≡ get_or functions i f → k ≡ get_or known i k
+    → k.barriers ≡ None → 2 ^ 32 ≤ all_sites (inside (take i functions)) (all_of f.body.items)
 
 -- each function stands before the end of its name
 abbrev pub EndsKnown : List Function → List ℕ → Type 0

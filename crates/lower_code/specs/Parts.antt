@@ -1,7 +1,9 @@
 -- Code with the bodies of helpers left out (own).
-use Rattle.std.specs.Prelude.{List, [], ◌∷◌, ◌++◌, All}
+use Rattle.std.specs.Prelude.{◌+◌, ◌<◌, ◌≤◌, ◌^◌, List, [], ◌∷◌, ◌++◌, length, All}
+use Rattle.clmodel.specs.Next.{all_sites}
 use Rattle.regcode.specs.declared.instruction.Instruction.{Instruction}
-use Rattle.lower_code.specs.Helpers.{body_of, BarriersKnown, LengthsKnown, EndsKnown}
+use Rattle.lower_code.specs.Helpers.{inside, body_of, BarriersKnown, BarriersCounted, LengthsKnown, EndsKnown}
+use Rattle.lower_code.specs.Trees.{all_of}
 use Rattle.lower_code.specs.declared.holes.Hole.{Hole}
 use Rattle.lower_code.specs.declared.holes.Part.{Part}
 use Rattle.lower_code.specs.declared.holes.Part.TheVariants as part
@@ -19,11 +21,14 @@ abbrev pub whole : List Part → List Instruction
 whole [] = []
 whole (p ∷ ps) = part_code p ++ whole ps
 
--- what is known of the functions before a helper is true of them
+-- What is known of the functions before a helper is true of them, each of them is known, and the barriers of its body have numbers of 32 bits.
 pub record HoleKnown (h : Hole) : Type 0 where
   pub barriers : BarriersKnown h.functions.now h.known.now
+  pub complete : length h.functions.now ≤ length h.known.now
+  pub counted : BarriersCounted h.functions.now h.known.now
   pub lengths : LengthsKnown h.functions.now h.known.now
   pub ends : EndsKnown h.functions.now h.ends.now
+  pub few : h.site + all_sites (inside h.functions.now) (all_of h.function.now.body.items) < 2 ^ 32
 
 abbrev pub IsKnown : Part → Type 0
 IsKnown (part.Own i) = Unit {0}

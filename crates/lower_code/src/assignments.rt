@@ -1,7 +1,7 @@
 //! Assignments, declarations and calls, with the body of the helper that they call left out (C99 6.5.16 and 6.7).
 #![tactic(auto)]
 
-ghost use Rattle.std.specs.Prelude.{◌≡◌, ℕ, ◌++◌, ◌∷◌, [], Some, None, Option, false, IfOk, OnOk, OnErr};
+ghost use Rattle.std.specs.Prelude.{◌≡◌, ℕ, ◌≤◌, ◌++◌, ◌∷◌, [], Some, None, Option, false, IfOk, OnOk, OnErr};
 ghost use Rattle.std.specs.Option.{option_map};
 ghost use Rattle.clmodel.specs.Barrier as barrier;
 ghost use Rattle.clmodel.specs.BuiltIns.{built_in};
@@ -12,7 +12,7 @@ ghost use Rattle.lower_expr.specs.Scope.{free_level};
 ghost use Rattle.lower_expr.specs.Growth.{IsLonger};
 ghost use Rattle.lower_code.specs.Code as spec;
 ghost use Rattle.lower_code.specs.Code.{Calls, result_in};
-ghost use Rattle.lower_code.specs.Emission.{functions_of, split_code};
+ghost use Rattle.lower_code.specs.Emission.{functions_of, called_sites, split_code};
 ghost use Rattle.lower_code.specs.Growth.{GrowsBefore};
 
 use crate::draft::Draft;
@@ -123,6 +123,7 @@ fn right_side(
     ensures code { IfOk result (λ right. (calls : Calls) (inside : ℕ → ℕ) (kind : Option IntType) (depth site : ℕ)
         → split_code calls right.split depth site
         ≡ front.items ++ spec.right_code calls (result_in (functions_of helpers.entry.functions.now)) inside kind scope.now level (next.helper_call (term value.now)) (term value.now) depth site) }
+    ensures sites { IfOk result (λ right. (inside : ℕ → ℕ) → called_sites inside right.split.call ≡ next.call_sites inside (next.helper_call (term value.now))) }
     ensures kind { IfOk result (λ right. (calls : Calls) (inside : ℕ → ℕ) (kind : Option IntType)
         → right.kind ≡ spec.right_type calls (result_in (functions_of helpers.entry.functions.now)) inside kind scope.now (next.helper_call (term value.now)) (term value.now)) }
 {
@@ -167,9 +168,10 @@ pub fn assign(
     target: &Target,
     value: &Expression,
 ) -> Result<Split, AllocError>
-    ensures { IfOk result (λ split. (calls : Calls) (inside : ℕ → ℕ) (kind : Option IntType) (depth site : ℕ)
+    ensures code { IfOk result (λ split. (calls : Calls) (inside : ℕ → ℕ) (kind : Option IntType) (depth site : ℕ)
         → split_code calls split depth site
         ≡ spec.assign_code calls (result_in (functions_of helpers.entry.functions.now)) inside kind scope.now (free_level scope.now) (place target.now) (next.helper_call (term value.now)) (term value.now) depth site) }
+    ensures sites { IfOk result (λ split. (inside : ℕ → ℕ) → called_sites inside split.call ≡ next.call_sites inside (next.helper_call (term value.now))) }
 {
     let level = scope.free_level()?;
     let above = level_above(level)?;
@@ -189,9 +191,10 @@ pub fn compound(
     operator: BinaryOperator,
     value: &Expression,
 ) -> Result<Split, AllocError>
-    ensures { IfOk result (λ split. (calls : Calls) (inside : ℕ → ℕ) (kind : Option IntType) (depth site : ℕ)
+    ensures code { IfOk result (λ split. (calls : Calls) (inside : ℕ → ℕ) (kind : Option IntType) (depth site : ℕ)
         → split_code calls split depth site
         ≡ spec.compound_code calls (result_in (functions_of helpers.entry.functions.now)) inside kind scope.now (free_level scope.now) (place target.now) operator (next.helper_call (term value.now)) (term value.now) depth site) }
+    ensures sites { IfOk result (λ split. (inside : ℕ → ℕ) → called_sites inside split.call ≡ next.call_sites inside (next.helper_call (term value.now))) }
 {
     let level = scope.free_level()?;
     let above = level_above(level)?;
@@ -279,6 +282,7 @@ pub fn declare_as(
     ensures code { IfOk result (λ split. (calls : Calls) (inside : ℕ → ℕ) (result_kind : Option IntType) (depth site : ℕ) (exits : spec.Exits)
         → split_code calls split depth site
         ≡ spec.stmt_code calls (result_in (functions_of helpers.entry.functions.now)) inside result_kind scope.old (tree.DeclareAs 0 kind 0 name (term value.now)) depth site exits) }
+    ensures sites { IfOk result (λ split. (inside : ℕ → ℕ) → called_sites inside split.call ≡ next.call_sites inside (next.helper_call (term value.now))) }
     ensures scope { scope.new ≡ scope.old }
 {
     let level = scope.free_level()?;
@@ -316,8 +320,9 @@ fn call_built_in(
     function: BuiltIn,
     arguments: &[Expression],
 ) -> Result<Split, AllocError>
-    ensures { IfOk result (λ split. (calls : Calls) (results : ℕ → Option IntType) (inside : ℕ → ℕ) (kind : Option IntType) (name depth site : ℕ)
+    ensures code { IfOk result (λ split. (calls : Calls) (results : ℕ → Option IntType) (inside : ℕ → ℕ) (kind : Option IntType) (name depth site : ℕ)
         → split_code calls split depth site ≡ spec.call_only_statement calls results inside kind scope.now false (Some function) name (terms arguments.now) depth site) }
+    ensures sites { IfOk result (λ split. (inside : ℕ → ℕ) → called_sites inside split.call ≡ 0) }
 {
     let level = scope.free_level()?;
     let mut front = Vec::new(scope.allocator());
@@ -334,8 +339,9 @@ fn call_built_in(
 
 /// A call of a helper that is a whole statement.
 fn call_helper(scope: &Scope, name: u32, arguments: &[Expression]) -> Result<Split, AllocError>
-    ensures { IfOk result (λ split. (calls : Calls) (results : ℕ → Option IntType) (inside : ℕ → ℕ) (kind : Option IntType) (depth site : ℕ)
+    ensures code { IfOk result (λ split. (calls : Calls) (results : ℕ → Option IntType) (inside : ℕ → ℕ) (kind : Option IntType) (depth site : ℕ)
         → split_code calls split depth site ≡ spec.call_only_statement calls results inside kind scope.now false None name (terms arguments.now) depth site) }
+    ensures sites { IfOk result (λ split. (inside : ℕ → ℕ) → called_sites inside split.call ≡ inside name) }
 {
     let level = scope.free_level()?;
     let mut front = Vec::new(scope.allocator());
@@ -360,8 +366,9 @@ pub fn call_statement(
     depth: u32,
     site: u32,
 ) -> Result<Split, AllocError>
-    ensures { IfOk result (λ split. (calls : Calls) (results : ℕ → Option IntType) (inside : ℕ → ℕ) (kind : Option IntType)
+    ensures code { IfOk result (λ split. (calls : Calls) (results : ℕ → Option IntType) (inside : ℕ → ℕ) (kind : Option IntType)
         → split_code calls split depth site ≡ spec.call_only_statement calls results inside kind scope.now (barrier.is_barrier name) (built_in name) name (terms arguments.now) depth site) }
+    ensures sites { IfOk result (λ split. (inside : ℕ → ℕ) → called_sites inside split.call ≤ next.statement_sites inside (barrier.is_barrier name) (built_in name) name) }
 {
     if is_barrier(name) {
         let mut front = Vec::new(scope.allocator());

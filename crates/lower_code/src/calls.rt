@@ -1,9 +1,11 @@
 //! Calls of helpers, whose bodies are left out (C99 6.5.2.2).
 #![tactic(auto, using(crate::proofs::Growth::unchanged, crate::proofs::Growth::before, crate::proofs::Growth::one_before))]
 
-ghost use Rattle.std.specs.Prelude.{◌≡◌, ℕ, ◌<◌, ◌++◌, length, take, get_or, IfSome, OnOk, OnErr};
+ghost use Rattle.std.specs.Prelude.{◌≡◌, ℕ, ◌+◌, ◌<◌, ◌^◌, ◌++◌, length, take, get_or, IfSome, OnOk, OnErr};
+ghost use Rattle.clmodel.specs.Next.{all_sites};
 ghost use Rattle.lower_code.specs.Code.{call_code};
-ghost use Rattle.lower_code.specs.Emission.{functions_of, body_of, split_code};
+ghost use Rattle.lower_code.specs.Emission.{functions_of, inside, body_of, called_sites, split_code};
+ghost use Rattle.lower_code.specs.Trees.{all_of};
 ghost use Rattle.lower_code.specs.Growth.{GrowsBefore};
 
 use crate::assignments::Split;
@@ -22,6 +24,7 @@ pub fn emit_split<'a>(
     position: Position,
     code: &mut Draft<'a>,
 ) -> Result<(), AllocError>
+    requires { position.site + called_sites (inside helpers.functions.now) split.call < 2 ^ 32 }
     ensures code { OnOk result (code.new ≡ split_code (call_code (functions_of helpers.entry.functions.now)) split position.depth position.site ++ code.old) }
     ensures longer { OnErr result (GrowsBefore code.old code.new) }
 {
@@ -49,6 +52,7 @@ fn emit_call<'a>(
     position: Position,
     code: &mut Draft<'a>,
 ) -> Result<(), AllocError>
+    requires { position.site + inside helpers.functions.now name < 2 ^ 32 }
     ensures code { OnOk result (code.new ≡ call_code (functions_of helpers.entry.functions.now) name arguments.now level position.depth position.site ++ code.old) }
     ensures longer { OnErr result (GrowsBefore code.old code.new) }
 {
@@ -65,9 +69,6 @@ fn length_of(helpers: Helpers<'_>, found: Found<'_>) -> Option<usize>
     requires there { found.function.now ≡ get_or helpers.functions.now found.place found.function.now }
     ensures { IfSome result (λ n. (level depth site : ℕ) → n ≡ length (body_of (take found.entry.place helpers.entry.functions.now) found.entry.function.now level depth site)) }
 {
-    if found.place >= helpers.known.len() {
-        return None;
-    }
     helpers.known[found.place].length
 }
 
@@ -81,6 +82,7 @@ fn leave_body<'a>(
 ) -> Result<(), AllocError>
     requires within { found.place < length helpers.functions.now }
     requires there { found.function.now ≡ get_or helpers.functions.now found.place found.function.now }
+    requires few { position.site + all_sites (inside (take found.place helpers.functions.now)) (all_of found.function.now.body.items) < 2 ^ 32 }
     ensures code { OnOk result (code.new ≡ body_of (take found.entry.place helpers.entry.functions.now) found.entry.function.now level position.depth position.site ++ code.old) }
     ensures longer { OnErr result (GrowsBefore code.old code.new) }
 {

@@ -2,14 +2,14 @@
 #![tactic(auto)]
 
 ghost use Rattle.std.specs.Prelude.{◌≡◌, ◌≤◌, length, take};
-ghost use Rattle.lower_code.specs.Helpers.{BarriersKnown, LengthsKnown, EndsKnown};
+ghost use Rattle.lower_code.specs.Helpers.{BarriersKnown, BarriersCounted, LengthsKnown, EndsKnown};
 
 use crate::known::Known;
 use clmodel::tree::Function;
 use clnum::IntType;
 use regcode::Instruction;
 
-/// The functions that can be called, in the order of the text, what is known of the first of them, and the end of each name:
+/// The functions that can be called, in the order of the text, what is known of each of them, and the end of each name:
 /// how many functions there are up to the last that has it, or more; 0, or nothing in the list, where none has it.
 #[derive(Clone, Copy)]
 pub struct Helpers<'a> {
@@ -17,6 +17,8 @@ pub struct Helpers<'a> {
     pub known: &'a [Known],
     pub ends: &'a [usize],
     pub ghost barriers: { BarriersKnown functions.now known.now },
+    pub ghost complete: { length functions.now ≤ length known.now },
+    pub ghost counted: { BarriersCounted functions.now known.now },
     pub ghost lengths: { LengthsKnown functions.now known.now },
     pub ghost ends_known: { EndsKnown functions.now ends.now },
 }

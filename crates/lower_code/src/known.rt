@@ -1,8 +1,8 @@
 //! What is known of a function before code that calls it is made.
 #![tactic(auto)]
 
-/// How many barriers are in a function, and how many instructions the code of its body has; None where there are too many,
-/// or out of memory.
+/// How many barriers are in a function, None where there are 2^32 or more; and how many instructions the code of its body has, None
+/// where there are too many of these or of barriers, or out of memory.
 #[derive(Clone, Copy)]
 pub struct Known {
     pub barriers: Option<u32>,

@@ -13,8 +13,10 @@ use Rattle.clmodel.specs.declared.fault.Location.{Location}
 use Rattle.replay_text.specs.Text.{kind_text, clash_text, location_text, stop_text, fault_text}
 use Rattle.replay_text.specs.Fields.{is_name, IsElement}
 use Rattle.replay_text.specs.ScheduleFile.{IsPlace, IsLocalPlace, IsStop, IsWritten}
-use Rattle.replay_text.specs.Reading.{after, conflict_at, divergence_at, element_at, private_at, private_bounds_at, access_bounds_at, bounds_at, variable_at, private_unset_at, access_unset_at, unset_at, divide_by_zero_at, divide_overflow_at, budget_at, alone_fault_at, memory_fault_at, fault_at}
-use Rattle.replay_text.proofs.FieldLaws.{after_again, name_before_again, number_before_again, number32_before_again, signed_before_again}
+use Rattle.simfile_fields.specs.Fronts.{after}
+use Rattle.replay_text.specs.Reading.{conflict_at, divergence_at, element_at, private_at, private_bounds_at, access_bounds_at, bounds_at, variable_at, private_unset_at, access_unset_at, unset_at, divide_by_zero_at, divide_overflow_at, budget_at, alone_fault_at, memory_fault_at, fault_at}
+use Rattle.simfile_fields.proofs.FieldLaws.{after_again}
+use Rattle.replay_text.proofs.FieldLaws.{name_before_again, number_before_again, number32_before_again, signed_before_again}
 use Rattle.replay_text.proofs.Grammar.{joined-append, kind_again, place_again, local_place_again, stop_again}
 
 -- what follows a fault

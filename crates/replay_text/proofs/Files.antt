@@ -17,8 +17,10 @@ use Rattle.clmodel.specs.declared.schedule.Run.{Run}
 use Rattle.clmodel.specs.declared.schedule.Run.TheVariants as run
 use Rattle.replay_text.specs.Text.{run_text, schedule_text, fault_text, fault_line}
 use Rattle.replay_text.specs.ScheduleFile.{IsRun, AreRuns, ticket_line, IsScheduleFile}
-use Rattle.replay_text.specs.Reading.{after, before, same, number_at, number32_at, front_length, is_inner, line_of, item_run_at, release_at, run_at, run_of, run_named, is_run, words_of, is_schedule, schedule_of, schedule_at, fault_at, file_of, or_else}
-use Rattle.replay_text.proofs.FieldLaws.{bind_some, if_some, and_true, front_of, after_takes, after_again, number_takes, number32_takes, number_last, number32_last, number_before, number_before_again, number32_before, number32_before_again, not_behind, decimal_digits}
+use Rattle.simfile_fields.specs.Fronts.{after, before, number_at, front_length, or_else}
+use Rattle.replay_text.specs.Reading.{same, number32_at, is_inner, line_of, item_run_at, release_at, run_at, run_of, run_named, is_run, words_of, is_schedule, schedule_of, schedule_at, fault_at, file_of}
+use Rattle.simfile_fields.proofs.FieldLaws.{bind_some, if_some, and_true, front_of, after_takes, after_again, number_takes, not_behind, decimal_digits}
+use Rattle.replay_text.proofs.FieldLaws.{number32_takes, number_last, number32_last, number_before, number_before_again, number32_before, number32_before_again}
 use Rattle.replay_text.proofs.Grammar.{append_none, fault_takes}
 use Rattle.replay_text.proofs.Again.{fault_again}
 

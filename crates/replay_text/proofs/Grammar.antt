@@ -16,10 +16,13 @@ use Rattle.clmodel.specs.declared.fault.Location.{Location}
 use Rattle.clmodel.specs.declared.fault.Location.TheVariants as location
 use Rattle.replay_text.specs.Pieces.{joined}
 use Rattle.replay_text.specs.Text.{kind_text, clash_text, location_text, later_turn_text, turns_text, stop_text, fault_text}
+use Rattle.simfile_fields.specs.Texts.{list_text}
 use Rattle.replay_text.specs.Fields.{is_name, turns_of, IsElement}
 use Rattle.replay_text.specs.ScheduleFile.{IsPlace, IsLocalPlace, IsStop, IsWritten}
-use Rattle.replay_text.specs.Reading.{after, name_at, number_at, number32_at, list_at, before, same, kind_of, kind_at, buffer_at, local_at, local_place_at, place_at, listed_at, turns_at, barrier_at, barrier_stop_at, stop_at, conflict_at, divergence_at, element_at, private_at, private_bounds_at, access_bounds_at, bounds_at, variable_at, private_unset_at, access_unset_at, unset_at, divide_by_zero_at, divide_overflow_at, budget_at, alone_fault_at, memory_fault_at, fault_at, or_else}
-use Rattle.replay_text.proofs.FieldLaws.{bind_some, after_takes, after_again, name_before, name_before_again, number_before, number32_before, number32_before_again, signed_before, list_before, list_before_again, list_back, list_text, IsList}
+use Rattle.simfile_fields.specs.Fronts.{after, number_at, before, or_else}
+use Rattle.replay_text.specs.Reading.{name_at, number32_at, list_at, same, kind_of, kind_at, buffer_at, local_at, local_place_at, place_at, listed_at, turns_at, barrier_at, barrier_stop_at, stop_at, conflict_at, divergence_at, element_at, private_at, private_bounds_at, access_bounds_at, bounds_at, variable_at, private_unset_at, access_unset_at, unset_at, divide_by_zero_at, divide_overflow_at, budget_at, alone_fault_at, memory_fault_at, fault_at}
+use Rattle.simfile_fields.proofs.FieldLaws.{bind_some, after_takes, after_again}
+use Rattle.replay_text.proofs.FieldLaws.{name_before, name_before_again, number_before, number32_before, number32_before_again, signed_before, list_before, list_before_again, list_back, IsList}
 
 -- texts one after another, and then the rest
 abbrev pub joined_onto : List (List ℕ) → List ℕ → List ℕ
@@ -43,17 +46,17 @@ kind_word w k e =
 
 kind_back : (k : AccessKind) → (kind_of (kind_text k) ≡ Some k) × IsTrue (is_name (kind_text k))
 unfolding kind_of
-kind_back kind.Load = (refl, unfold Rattle.replay_text.specs.Fields.is_later in refl)
-kind_back kind.Store = (refl, unfold Rattle.replay_text.specs.Fields.is_later in refl)
-kind_back (kind.Update class.Add) = (refl, unfold Rattle.replay_text.specs.Fields.is_later in refl)
-kind_back (kind.Update class.And) = (refl, unfold Rattle.replay_text.specs.Fields.is_later in refl)
-kind_back (kind.Update class.Or) = (refl, unfold Rattle.replay_text.specs.Fields.is_later in refl)
-kind_back (kind.Update class.Xor) = (refl, unfold Rattle.replay_text.specs.Fields.is_later in refl)
-kind_back (kind.Update class.SignedMin) = (refl, unfold Rattle.replay_text.specs.Fields.is_later in refl)
-kind_back (kind.Update class.UnsignedMin) = (refl, unfold Rattle.replay_text.specs.Fields.is_later in refl)
-kind_back (kind.Update class.SignedMax) = (refl, unfold Rattle.replay_text.specs.Fields.is_later in refl)
-kind_back (kind.Update class.UnsignedMax) = (refl, unfold Rattle.replay_text.specs.Fields.is_later in refl)
-kind_back kind.Fetch = (refl, unfold Rattle.replay_text.specs.Fields.is_later in refl)
+kind_back kind.Load = (refl, unfold Rattle.simfile_fields.specs.Texts.is_later in refl)
+kind_back kind.Store = (refl, unfold Rattle.simfile_fields.specs.Texts.is_later in refl)
+kind_back (kind.Update class.Add) = (refl, unfold Rattle.simfile_fields.specs.Texts.is_later in refl)
+kind_back (kind.Update class.And) = (refl, unfold Rattle.simfile_fields.specs.Texts.is_later in refl)
+kind_back (kind.Update class.Or) = (refl, unfold Rattle.simfile_fields.specs.Texts.is_later in refl)
+kind_back (kind.Update class.Xor) = (refl, unfold Rattle.simfile_fields.specs.Texts.is_later in refl)
+kind_back (kind.Update class.SignedMin) = (refl, unfold Rattle.simfile_fields.specs.Texts.is_later in refl)
+kind_back (kind.Update class.UnsignedMin) = (refl, unfold Rattle.simfile_fields.specs.Texts.is_later in refl)
+kind_back (kind.Update class.SignedMax) = (refl, unfold Rattle.simfile_fields.specs.Texts.is_later in refl)
+kind_back (kind.Update class.UnsignedMax) = (refl, unfold Rattle.simfile_fields.specs.Texts.is_later in refl)
+kind_back kind.Fetch = (refl, unfold Rattle.simfile_fields.specs.Texts.is_later in refl)
 
 kind_takes : (bytes : List ℕ) (x : AccessKind × List ℕ) → kind_at bytes ≡ Some x → bytes ≡ kind_text x.0 ++ 32 ∷ x.1
 unfolding kind_at

@@ -1,4 +1,3 @@
-pub mod FieldLemmas
 pub mod FieldLaws
 pub mod Grammar
 pub mod Again

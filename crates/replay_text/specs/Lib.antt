@@ -6,3 +6,5 @@ pub mod ScheduleFile
 pub mod Reading
 pub mod Views
 pub mod Faults
+pub use Rattle.simfile_fields.specs.Texts
+pub use Rattle.simfile_fields.specs.Fronts

@@ -17,40 +17,12 @@ use Rattle.clmodel.specs.declared.fault.Location.{Location}
 use Rattle.clmodel.specs.declared.fault.Location.TheVariants as location
 use Rattle.clmodel.specs.declared.schedule.Run.{Run}
 use Rattle.clmodel.specs.declared.schedule.Run.TheVariants as run
-use Rattle.replay_text.specs.Fields.{is_later, is_name, is_number, value_of, is_listed, are_turns, turns_of}
-
-infixl 10 ◌>>=◌
-abbrev pub ◌>>=◌ : {A B : Type 0} → Option A → (A → Option B) → Option B
-None >>= f = None
-(Some x) >>= f = f x
-
-abbrev pub or_else : {A B : Type 0} → Option A → (A → Option B) → Option B → Option B
-or_else None f o = o
-or_else (Some x) f o = f x
-
--- the bytes after a word
-unfoldable pub after : List ℕ → List ℕ → Option (List ℕ)
-after word bytes = if pointwise nat_eq (take (length word) bytes) word then Some (drop (length word) bytes) else None
-
--- how many bytes in front pass a test
-abbrev pub front_length : (ℕ → Bool) → List ℕ → ℕ
-front_length passes [] = 0
-front_length passes (b ∷ bs) = if passes b then front_length passes bs + 1 else 0
-
--- a field in front of a byte, and what is behind that byte
-unfoldable pub before : {A : Type 0} → ℕ → Option (A × List ℕ) → Option (A × List ℕ)
-before end read = do
-  field ← read
-  rest ← after (end ∷ []) field.1
-  Some (field.0, rest)
+use Rattle.simfile_fields.specs.Fronts.{◌>>=◌, or_else, after, front_length, before, name_to, number_at, value_at, list_below}
+use Rattle.replay_text.specs.Fields.{turns_of, is_element}
 
 -- the letters, digits and _ in front, where they are a name, and the rest
-unfoldable pub name_at : List ℕ → Option (List ℕ × List ℕ)
-name_at bytes = let n = front_length is_later bytes in if is_name (take n bytes) then Some (take n bytes, drop n bytes) else None
-
--- the digits in front, where they are a number, and the rest
-unfoldable pub number_at : List ℕ → Option (ℕ × List ℕ)
-number_at bytes = let n = front_length is_ascii_digit bytes in if is_number (take n bytes) then Some (value_of (take n bytes), drop n bytes) else None
+abbrev pub name_at : List ℕ → Option (List ℕ × List ℕ)
+name_at bytes = name_to 65536 bytes
 
 -- a number below 2^32 in front, and the rest
 unfoldable pub number32_at : List ℕ → Option (ℕ × List ℕ)
@@ -58,25 +30,15 @@ number32_at bytes = do
   number ← number_at bytes
   if nat_lt number.0 4294967296 then Some (number.0, number.1) else None
 
--- a number from 1 to 2^63 in front, as the one below 0, and the rest
-unfoldable pub negative_at : List ℕ → Option (ℤ × List ℕ)
-negative_at bytes = do
-  number ← number_at bytes
-  if nat_lt 0 number.0 && nat_le number.0 9223372036854775808 then Some (negsuc (number.0 - 1), number.1) else None
-
--- a number below 2^63 in front, and the rest
-unfoldable pub positive_at : List ℕ → Option (ℤ × List ℕ)
-positive_at bytes = do
-  number ← number_at bytes
-  if nat_lt number.0 9223372036854775808 then Some (pos number.0, number.1) else None
-
--- a number in front, behind a sign or without one, and the rest
+-- a number from -2^63 to 2^63 - 1 in front, and the rest
 unfoldable pub signed_at : List ℕ → Option (ℤ × List ℕ)
-signed_at bytes = or_else (after (45 ∷ []) bytes) negative_at (positive_at bytes)
+signed_at bytes = do
+  value ← value_at bytes
+  if is_element value.0 then Some (value.0, value.1) else None
 
 -- the digits and commas in front, where they are turns, and the rest
-unfoldable pub list_at : List ℕ → Option (List ℕ × List ℕ)
-list_at bytes = let n = front_length is_listed bytes in if are_turns (take n bytes) then Some (take n bytes, drop n bytes) else None
+abbrev pub list_at : List ℕ → Option (List ℕ × List ℕ)
+list_at bytes = list_below 4294967296 bytes
 
 -- two texts are one
 abbrev pub same : List ℕ → List ℕ → Bool

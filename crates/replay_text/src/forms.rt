@@ -7,11 +7,10 @@ ghost use Rattle.clmodel.specs.declared.action.Stop.{Stop};
 ghost use Rattle.replay_text.specs.Reading.{kind_of, kind_at, buffer_at, local_at, local_place_at, place_at, listed_at, turns_at, barrier_at, barrier_stop_at, stop_at, conflict_at, divergence_at, element_at, private_at, private_bounds_at, access_bounds_at, bounds_at, variable_at, private_unset_at, access_unset_at, unset_at, divide_by_zero_at, divide_overflow_at, budget_at, alone_fault_at, memory_fault_at, fault_at};
 ghost use Rattle.replay_text.specs.Views.{location_of, stop_of, fault_of};
 
-use crate::fields::{
-    after, list_before, name_before, number_before, number32_before, signed_before,
-};
+use crate::fields::{list_before, name_before, number32_before, signed_before};
 use crate::told::{Bounds, Conflict, Divergence, Halt, Place, Private, Told, Unset};
 use clmodel::access::{AccessKind, Clash, Class};
+use simfile_fields::{after, number_before};
 
 /// The kind of an access that a word names.
 #[tactic(auto, unfolding(crate::specs::Reading::kind_of))]

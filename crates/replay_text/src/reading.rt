@@ -5,13 +5,14 @@ ghost use Rattle.std.specs.Prelude.{◌≡◌, map, IfOk, IfErr, List, ℕ};
 ghost use Rattle.std.specs.Option.{option_map};
 ghost use Rattle.clmodel.specs.declared.fault.Fault.{Fault};
 ghost use Rattle.clmodel.specs.declared.schedule.Run.{Run};
-ghost use Rattle.replay_text.specs.Fields.{between_commas, turn_of, turns_of};
+ghost use Rattle.simfile_fields.specs.Texts.{between_commas};
+ghost use Rattle.replay_text.specs.Fields.{turn_of, turns_of};
 ghost use Rattle.replay_text.specs.Reading.{file_of, schedule_of};
 ghost use Rattle.replay_text.specs.Views.{location_of, stop_of, conflict_of, divergence_of, bounds_of, unset_of, fault_of};
 ghost use Rattle.replay_text.specs.ScheduleFile.{IsScheduleFile};
 ghost use Rattle.replay_text.specs.Faults.{IsRefused};
 
-use crate::fields::{after, number_before, turn_of};
+use crate::fields::turn_of;
 use crate::forms::fault_at;
 use crate::runs::{schedule_at, schedule_of};
 use crate::told::{Bounds, Conflict, Divergence, Halt, Place, Private, Told, Unset};
@@ -19,6 +20,7 @@ use clmodel::action::{Instance, Stop, Turns};
 use clmodel::fault::{Fault, Location};
 use clmodel::schedule::Schedule;
 use clmodel::text::Name;
+use simfile_fields::{after, number_before};
 use std::alloc::{AllocError, Global};
 
 /// Why a text is no schedule file, or was not read.

@@ -6,8 +6,9 @@ ghost use Rattle.std.specs.Option.{option_map};
 ghost use Rattle.std.specs.List.{list_all};
 ghost use Rattle.replay_text.specs.Reading.{item_run_at, release_at, run_at, run_of, run_named, is_run, words_of, is_schedule, schedule_of, schedule_at};
 
-use crate::fields::{after, line_of, number_at, number32_at, number32_before};
+use crate::fields::{line_of, number32_at, number32_before};
 use clmodel::schedule::{Run, Schedule};
+use simfile_fields::{after, number_at};
 use std::alloc::{AllocError, Global};
 
 #[tactic(auto, unfolding(crate::specs::Reading::item_run_at))]

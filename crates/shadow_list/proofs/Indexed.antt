@@ -210,6 +210,17 @@ place_added old from n first w x b d h k hi = go (cases_eq k n)
         (subst (λ r. Describes r x (first + n)) (sym (this_place old (from + n) w b)) d)
     go (inr ne) = subst (λ r. Describes r x (first + k)) (sym (other_place old (from + n) (from + k) w (λ e. ne (omega (arith, e))))) (h k (omega (arith, hi, ne)))
 
+-- an access that is kept at a place already
+pub place_had :
+    (now : List Recent) (from n first : ℕ) (x : Access) → Describes (slice_index_or now (from + n) nothing) x (first + n)
+    → ((k : ℕ) → k < n → Describes (slice_index_or now (from + k) nothing) x (first + k))
+    → (k : ℕ) → k < n + 1 → Describes (slice_index_or now (from + k) nothing) x (first + k)
+place_had now from n first x d h k hi = go (cases_eq k n)
+  where
+    go : (k ≡ n) ⊎ (k ≡ n → ⊥) → Describes (slice_index_or now (from + k) nothing) x (first + k)
+    go (inl e) = subst (λ j. Describes (slice_index_or now (from + j) nothing) x (first + j)) (sym e) d
+    go (inr ne) = h k (omega (arith, hi, ne))
+
 -- ---- a log with one more
 
 -- what a longer list has is the added one, or was there

@@ -1,9 +1,10 @@
 //! Where the accesses of a log are, and what of them is kept at each byte.
 
-ghost use Rattle.std.specs.Prelude.{◌≡◌, ◌+◌, ◌*◌, ◌<◌, ◌≤◌, ◌^◌, ℕ, length, [], ◌∷◌, ◌++◌, if◌then◌else◌, All, IsTrue, is_ok, false, true, drop};
-ghost use Rattle.std.specs.HashMap.{IsEmpty};
+ghost use Rattle.std.specs.Prelude.{◌≡◌, ◌+◌, ◌*◌, ◌<◌, ◌≤◌, ◌^◌, ℕ, length, [], ◌∷◌, ◌++◌, if◌then◌else◌, All, IsTrue, is_ok, false, true, drop, nat_eq};
+ghost use Rattle.std.specs.HashMap.{get, IsEmpty};
 ghost use Rattle.clmodel.specs.Cells.{byte_count};
 ghost use Rattle.clmodel.specs.Launch.{within_group};
+ghost use Rattle.shadow_list.specs.Cells.{cell_key};
 ghost use Rattle.shadow_list.specs.Index.{access_key, newest_of, IsIndexed};
 ghost use Rattle.shadow_list.specs.Log.{IsPlaced, IsThere, hit};
 
@@ -78,22 +79,24 @@ impl Index {
     }
 }
 
-/// The conflict of an access with those of a log from a place on, in a launch that is uniform or not. Only where there may be one are all
-/// of them walked.
+/// The conflict of an access with those of a log from a place on, by where the cell of its first byte starts, in a launch that is uniform
+/// or not. Only where there may be one are all of them walked.
 pub(crate) fn hit_from(
     uniform: bool,
     x: &Entry,
     log: &[Entry],
     index: &Index,
     from: usize,
+    cell: Option<usize>,
 ) -> Option<Hit>
     requires placed { IsPlaced x.now }
     requires all_placed { All IsPlaced log.now }
     requires indexed { IsIndexed log.now index.now }
     requires within { from ≤ length log.now }
+    requires found { cell ≡ get nat_eq index.now.cells.starts (cell_key x.now.access.region x.now.access.first) }
     ensures { result ≡ hit (within_group uniform) x.now (drop from log.now) }
 {
-    if index.cells.is_clear(uniform, &x.access) {
+    if index.cells.is_clear(cell, uniform, &x.access) {
         None
     } else {
         hit(Rule::within_group(uniform), x, &log[from..])
@@ -119,14 +122,20 @@ pub(crate) fn is_there(x: &Entry, log: &[Entry], index: &Index, from: usize) -> 
     is_among(&x.access, &log[from..])
 }
 
-/// Adds an access to a log and to its index. Where memory is refused the log stays.
-pub(crate) fn keep(log: &mut Vec<Entry>, index: &mut Index, entry: Entry) -> Result<(), AllocError>
+/// Adds an access to a log and to its index, by where the cell of its first byte starts. Where memory is refused the log stays.
+pub(crate) fn keep(
+    log: &mut Vec<Entry>,
+    index: &mut Index,
+    entry: Entry,
+    cell: Option<usize>,
+) -> Result<(), AllocError>
     requires placed { IsPlaced entry }
+    requires found { cell ≡ get nat_eq index.old.cells.starts (cell_key entry.access.region entry.access.first) }
     requires indexed { IsIndexed log.old.items index.old }
     ensures items { log.new.items ≡ (if is_ok result then log.old.items ++ entry ∷ [] else log.old.items) }
     ensures indexed { IsIndexed log.new.items index.new }
 {
-    index.cells.mark(&entry.access)?;
+    index.cells.mark(cell, &entry.access)?;
     index
         .newest
         .insert(access_key(&entry.access), log.len() + 1)?;

@@ -1,6 +1,7 @@
 //! Access logs of work-groups: which accesses conflict.
 #![tactic(auto)]
 
+mod access_list;
 mod cells;
 mod compare;
 mod index;
@@ -11,6 +12,7 @@ mod marks;
 mod recent;
 mod search;
 
+pub use access_list::AccessList;
 pub use compare::left_at;
 pub use kinds::{both_store, clash, kind_number};
 pub use list::ListLog;

@@ -6,6 +6,7 @@ ghost use Rattle.shadow_list.specs.Index.{IsIndexed};
 ghost use Rattle.shadow_list.specs.Log.{IsPlaced, stamped, logged, fresh_log, in_buffer};
 ghost use Rattle.shadow_list.specs.Past.{IsBefore};
 
+use crate::access_list::AccessList;
 use crate::index::{Index, hit_from, is_there, keep};
 use crate::log::{AccessLog, Accesses, Entry, Fenced, Hit};
 use crate::search::hit;
@@ -13,11 +14,15 @@ use clmodel::access::{Access, Region, Rule};
 use std::alloc::{AllocError, Global};
 
 /// A log with an index: for each byte, whose its accesses were in its newest interval and of which kind, and for each access where the
-/// newest equal one stands. So a new access costs four look-ups in hash tables, or two where an equal one is there, up to four more where
+/// newest equal one stands. So a new access costs three look-ups in hash tables, or two where an equal one is there, up to four more where
 /// it lies in two cells of eight bytes or is the first of one, and a step or two for each of its bytes, however many items access the same
-/// bytes: where nothing has conflicted yet, all accesses of a byte in an interval are of one item or of one kind. Where one may conflict,
-/// all entries since the barrier are walked for the exact answer, which ends a launch where there is a conflict. The index takes some 150
-/// bytes for each cell that was accessed, and some 30 for each entry.
+/// bytes: where nothing has conflicted yet, all accesses of a byte in an interval are of one item or of one kind. Nothing is written where
+/// an equal access is there, nor at a byte that was accessed by several items in the same way. The index takes some 150 bytes for each cell
+/// that was accessed, and some 30 for each entry.
+///
+/// The list is asked by `get`, `len` and `conflicts_with`, so by the join of several groups, which goes over all of it (`into_list`). `note`
+/// reads one entry of it at most, that of the same key: but where an access may conflict, all entries since the barrier are walked for the
+/// exact answer, which ends a launch where there is a conflict. `fence` and `cleared` read none.
 #[derive(Drop)]
 pub struct ListLog {
     entries: Vec<Entry>,
@@ -81,6 +86,22 @@ impl ListLog {
         log
     }
 
+    /// The accesses of the log alone. The index is given back, and memory to spare too, where the smaller block isn't refused: nothing is lost
+    /// where it is.
+    pub fn into_list(self) -> AccessList
+        ensures { logged result.entries.items result.local_interval result.global_interval result.uniform ≡ logged self.entries.items self.local_interval self.global_interval self.uniform }
+    {
+        drop(self.index);
+        let mut entries = self.entries;
+        entries.shrink_to_fit();
+        AccessList {
+            entries,
+            local_interval: self.local_interval,
+            global_interval: self.global_interval,
+            uniform: self.uniform,
+        }
+    }
+
     /// An access with the running interval of its address space.
     fn stamped(&self, entry: Entry) -> Entry
         ensures { result ≡ stamped (logged self.now.entries.items self.now.local_interval self.now.global_interval self.now.uniform) entry }
@@ -128,9 +149,13 @@ impl AccessLog for ListLog {
         let from = self.first(entry.access.region);
         let entry = self.stamped(entry);
         let log = self.entries.as_slice();
-        let found = hit_from(self.uniform, &entry, log, &self.index, from);
+        let cell = self
+            .index
+            .cells
+            .found(entry.access.region, entry.access.first);
+        let found = hit_from(self.uniform, &entry, log, &self.index, from, cell);
         if !is_there(&entry, log, &self.index, from) {
-            keep(&mut self.entries, &mut self.index, entry)?;
+            keep(&mut self.entries, &mut self.index, entry, cell)?;
         }
         Ok(found)
     }

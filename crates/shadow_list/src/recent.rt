@@ -4,10 +4,10 @@ ghost use Rattle.std.specs.Prelude.{◌≡◌, ℕ, IsTrue, None, true};
 ghost use Rattle.clmodel.specs.Launch.{left_at, within_group, clash_at};
 ghost use Rattle.clmodel.specs.declared.access.Access.{Access as TheAccess};
 ghost use Rattle.shadow_list.specs.Cells.{Passes};
-ghost use Rattle.shadow_list.specs.Recent.{is_how, Describes, nothing};
+ghost use Rattle.shadow_list.specs.Recent.{is_how, is_item, Describes, nothing};
 
 use crate::compare::left_at;
-use crate::kinds::{both_store, clash, kind_number};
+use crate::kinds::{both_store, clash};
 use clmodel::access::{Access, AccessKind};
 
 /// Whose accesses a byte had in an interval.
@@ -33,17 +33,36 @@ pub(crate) struct Recent {
     pub(crate) how: How,
 }
 
+impl Who {
+    /// Whether an item is one of them.
+    fn has(self, item: u32) -> bool
+        ensures { result ≡ is_item self item }
+    {
+        match self {
+            Who::Nobody => false,
+            Who::One(first) => item == first,
+            Who::Many => true,
+        }
+    }
+}
+
 impl How {
+    /// Whether an access at the byte is of their kind and leaves the byte that they left.
+    fn has(self, x: &Access, byte: u64) -> bool
+        ensures { IsTrue result → is_how self x.now byte ≡ true }
+    {
+        match self {
+            How::One(kind, left) => x.kind == kind && left_at(x, byte) == left,
+            How::Mixed => true,
+        }
+    }
+
     /// The same with an access at the byte more.
     fn with(self, x: &Access, byte: u64) -> Self
         ensures kept { (y : TheAccess) (at : ℕ) → is_how self y at ≡ true → is_how result y at ≡ true }
         ensures added { is_how result x.now byte ≡ true }
     {
-        match self {
-            How::One(kind, left)
-                if kind_number(x.kind) == kind_number(kind) && left_at(x, byte) == left => { self }
-            _ => How::Mixed,
-        }
+        if self.has(x, byte) { self } else { How::Mixed }
     }
 
     /// Whether an access at the byte conflicts with none of them, in a launch that is uniform or not.
@@ -51,11 +70,11 @@ impl How {
         ensures { IsTrue result → (y : TheAccess) → is_how self y byte ≡ true → clash_at (within_group uniform) y x.now byte ≡ None }
     {
         match self {
-            How::One(kind, left) => {
-                clash(kind, x.kind).is_none()
-                    || uniform && both_store(kind, x.kind) && left_at(x, byte) == left
+            How::One(kind, left) if x.kind == kind => {
+                clash(x.kind, x.kind).is_none()
+                    || uniform && both_store(x.kind, x.kind) && left_at(x, byte) == left
             }
-            How::Mixed => false,
+            _ => false,
         }
     }
 }
@@ -70,6 +89,13 @@ impl Recent {
             who: Who::Nobody,
             how: How::Mixed,
         }
+    }
+
+    /// Whether an access at the byte is one of them already.
+    pub(crate) fn has(self, x: &Access, byte: u64) -> bool
+        ensures { IsTrue result → Describes self x.now byte }
+    {
+        self.interval == x.interval && self.who.has(x.item) && self.how.has(x, byte)
     }
 
     /// The same with one access at the byte more. One of an interval that is over isn't kept.

@@ -9,39 +9,15 @@ use Rattle.device_store.specs.declared.command.Command.TheVariants as command
 use Rattle.replay_text.specs.Pieces.{joined}
 use Rattle.simfile.specs.declared.lines.Version.{Version}
 use Rattle.simfile.specs.declared.lines.Version.TheVariants as version
-use Rattle.simfile.specs.Fields.{is_name, is_listed, IsList, list_text, numbers_of, AreBytes, hex, bytes_of}
-use Rattle.simfile.specs.Reading.{after, name_at, number_at, list_at, hex_at, before, value_at, source_at, buffer_at, write_at, fill_at, copy_at, read_at, release_at, buffer_argument_at, value_argument_at, local_argument_at, argument_at, listed_offset_at, offset_at, uniform_at, offsets_of, range_of, program_at, kernel_at, arg_at, launch_at, command_at, or_else, ◌>>=◌}
+use Rattle.simfile_fields.specs.Texts.{is_listed, list_text}
+use Rattle.simfile.specs.Fields.{is_name, IsList, numbers_of, AreBytes, hex, bytes_of}
+use Rattle.simfile_fields.specs.Fronts.{list_below, after, number_at, before, value_at, or_else, ◌>>=◌}
+use Rattle.simfile.specs.Reading.{name_at, list_at, hex_at, source_at, buffer_at, write_at, fill_at, copy_at, read_at, release_at, buffer_argument_at, value_argument_at, local_argument_at, argument_at, listed_offset_at, offset_at, uniform_at, offsets_of, range_of, program_at, kernel_at, arg_at, launch_at, command_at}
 use Rattle.simfile.specs.Script.{IsText, IsSetting, IsOffset, IsUniform, AreLines, space, line_feed}
 use Rattle.simfile.specs.Laws.{Takes, Again}
-use Rattle.simfile.proofs.FieldLaws.{after_takes, after_again, name_takes, name_again, number_takes, number_again, list_takes, list_again, list_back, hex_takes, hex_again, hex_back, value_takes, value_again, source_takes, source_again, space_ends, feed_ends, space_ends_list, feed_ends_list, feed_ends_hex}
-
-bind_some : {A B : Type 0} (o : Option A) (f : A → Option B) (y : B) → (o >>= f) ≡ Some y → (x : A) × (o ≡ Some x) × (f x ≡ Some y)
-bind_some None f y e = absurd (cc)
-bind_some (Some x) f y e = (x, refl, e)
-
--- a field in front of a byte is a field, and the byte follows it
-before_is : {A : Type 0} (end : ℕ) (o : Option (A × List ℕ)) (x : A × List ℕ) → before end o ≡ Some x → o ≡ Some (x.0, end ∷ x.1)
-unfolding before
-before_is end None x e = absurd (cc)
-before_is {A} end (Some y) x e =
-    let s = bind_some (after (end ∷ []) y.1) _ x e in
-    let t : y.1 ≡ end ∷ s.0 = after_takes (end ∷ []) y.1 s.0 s.1 in
-    let same : (y.0, s.0) ≡ x = let f = s.2 in cc in
-    let P : A × List ℕ → Type 0 = λ z. Some y ≡ Some (z.0, end ∷ z.1) in
-    subst P same (ap (λ l. Some (y.0, l)) t)
-
-before_again : {A : Type 0} (field : A) (end : ℕ) (rest : List ℕ) → before end (Some (field, end ∷ rest)) ≡ Some (field, rest)
-unfolding before
-before_again field end rest = rw (after_again (end ∷ []) rest) refl
-
--- texts one after another, and then the rest
-abbrev joined_onto : List (List ℕ) → List ℕ → List ℕ
-joined_onto [] rest = rest
-joined_onto (part ∷ parts) rest = part ++ joined_onto parts rest
-
-joined-append : (parts : List (List ℕ)) (rest : List ℕ) → joined parts ++ rest ≡ joined_onto parts rest
-joined-append [] rest = refl
-joined-append (part ∷ parts) rest = append_assoc part (joined parts) rest ∙ ap (λ l. part ++ l) (joined-append parts rest)
+use Rattle.simfile_fields.proofs.FieldLaws.{bind_some, before_is, before_again, after_takes, after_again, number_takes, number_again, value_takes, value_again, space_ends, feed_ends, space_ends_list, feed_ends_list}
+use Rattle.replay_text.proofs.Grammar.{joined_onto, joined-append}
+use Rattle.simfile.proofs.FieldLaws.{name_takes, name_again, list_takes, list_again, list_back, hex_takes, hex_again, hex_back, source_takes, source_again, feed_ends_hex}
 
 -- the text of a command that begins with a word lies in front
 abbrev Behind : Version → List ℕ → List ℕ → Command → List ℕ → Type 0
@@ -501,7 +477,7 @@ mark_again version.Two text true rest h = record {
     more = codes "uniform" ++ 10 ∷ rest;
     split = refl;
     ends = space_ends_list;
-    none = unfold listed_offset_at in unfold after in unfold list_at in refl;
+    none = unfold listed_offset_at in unfold after in unfold list_below in refl;
   });
 }
 

@@ -1,15 +1,16 @@
 -- Scripts: what is read command by command.
-use Rattle.std.proofs.Common.{◌≡◌, ℕ, ◌+◌, ◌-◌, ◌<◌, ◌≤◌, suc, Bool, true, false, List, [], ◌∷◌, ◌++◌, length, take, Option, None, Some, ◌⊎◌, inl, inr, refl, ap, sym, ◌∙◌, subst, arith, append_assoc, length-append}
+use Rattle.std.proofs.Common.{◌≡◌, ℕ, ◌+◌, ◌-◌, ◌<◌, ◌≤◌, zero, suc, Bool, true, false, List, [], ◌∷◌, ◌++◌, length, take, Option, None, Some, ◌⊎◌, inl, inr, refl, ap, sym, ◌∙◌, subst, arith, append_assoc, length-append}
 use Rattle.std.proofs.Math.Seq.{take-append_seam}
 use Rattle.std.proofs.lemmas.List.{append-nil}
 use Rattle.device_store.specs.declared.command.Command.{Command}
 use Rattle.device_store.specs.declared.command.Command.TheVariants as command
 use Rattle.simfile.specs.declared.lines.Version.{Version}
 use Rattle.simfile.specs.declared.lines.Version.TheVariants as version
-use Rattle.simfile.specs.Reading.{after, or_else, version_at, command_at}
+use Rattle.simfile_fields.specs.Fronts.{after, or_else}
+use Rattle.simfile.specs.Reading.{version_at, command_at}
 use Rattle.simfile.specs.Script.{IsText, IsUniform, Begins, head, IsScript, IsBadLine, line_feeds}
-use Rattle.simfile.specs.Laws.{OneScript, Keeps, NotBoth, OneBadLine}
-use Rattle.simfile.proofs.FieldLaws.{after_takes}
+use Rattle.simfile.specs.Laws.{OneScript, Keeps, EitherOne, NotBoth, OneBadLine}
+use Rattle.simfile_fields.proofs.FieldLaws.{after_takes}
 use Rattle.simfile.proofs.Grammar.{command_takes, command_again}
 
 -- the bytes give these commands, and the rest follows
@@ -227,3 +228,26 @@ rest_within bytes v cs rest at =
 pub whole : (bytes : List ℕ) (v : Version) (cs : List Command) (rest : List ℕ) → IsAt bytes v cs rest → length cs ≤ 4096 → length rest ≡ 0 → IsScript bytes cs
 whole bytes v cs [] at short e = (v, at.lines, heads bytes v at.lines at.version, reads_begins v at.lines cs [] at.reads, short)
 whole bytes v cs (x ∷ rest) at short e = absurd (omega (arith, e))
+
+abbrev Either : List ℕ → Type 0
+Either bytes = ((cs : List Command) × IsScript bytes cs) ⊎ ((n : ℕ) × IsBadLine bytes n)
+
+-- the line behind what was read is bad, or a command, behind which reading goes on
+goes_or_ends : (bytes : List ℕ) (v : Version) (cs : List Command) (rest : List ℕ) → IsAt bytes v cs rest → length cs ≤ 4096 → 0 < length rest
+    → ((c : Command) (mid : List ℕ) → command_at v rest ≡ Some (c, mid) → Either bytes) → (o : Option (Command × List ℕ)) → command_at v rest ≡ o → Either bytes
+goes_or_ends bytes v cs rest at short some further None is = inr (line_feeds (take (length bytes - length rest) bytes) + 1, bad_line bytes v cs rest (line_feeds (take (length bytes - length rest) bytes) + 1) at short some (inl is) refl)
+goes_or_ends bytes v cs rest at short some further (Some p) is = further p.0 p.1 is
+
+-- so many commands more may be read
+either_from : (bytes : List ℕ) (v : Version) (cs : List Command) (rest : List ℕ) (room : ℕ) → length cs + room ≡ 4096 → IsAt bytes v cs rest → Either bytes
+either_from bytes v cs [] room all at = inl (cs, whole bytes v cs [] at (omega (arith, all)) refl)
+either_from bytes v cs (x ∷ rest) zero all at =
+    inr (line_feeds (take (length bytes - length (x ∷ rest)) bytes) + 1, bad_line bytes v cs (x ∷ rest) (line_feeds (take (length bytes - length (x ∷ rest)) bytes) + 1) at (omega (arith, all)) (omega arith) (inr (omega (arith, all))) refl)
+either_from bytes v cs (x ∷ rest) (suc room) all at =
+    goes_or_ends bytes v cs (x ∷ rest) at (omega (arith, all)) (omega arith)
+    (λ c mid is. either_from bytes v (cs ++ c ∷ []) mid room (omega (arith, all, length-append cs (c ∷ []))) (one_more bytes v cs (x ∷ rest) c mid at is))
+    (command_at v (x ∷ rest))
+    refl
+
+pub either_one : EitherOne
+either_one bytes = either_from bytes (version_at bytes).0 [] (version_at bytes).1 4096 refl (starts bytes (version_at bytes).0 [] (version_at bytes).1 refl refl)

@@ -1,4 +1,4 @@
--- Why bytes are no script.
+-- What a fault says of the bytes: which line is their lowest bad one; out of memory says nothing of them.
 use Rattle.std.specs.Prelude.{List, ℕ, ⊤}
 use Rattle.simfile.specs.Script.{IsBadLine}
 use Rattle.simfile.specs.declared.script.ScriptFault.{ScriptFault}

@@ -1,5 +1,5 @@
 -- What the grammar and the reader have to do with one another.
-use Rattle.std.specs.Prelude.{◌≡◌, ℕ, Some, List, ◌++◌}
+use Rattle.std.specs.Prelude.{◌≡◌, ℕ, Some, List, ◌++◌, ◌⊎◌}
 use Rattle.device_store.specs.declared.command.Command.{Command}
 use Rattle.simfile.specs.declared.lines.Version.{Version}
 use Rattle.simfile.specs.declared.lines.Version.TheVariants as version
@@ -22,7 +22,11 @@ OneScript = (bytes : List ℕ) (cs ds : List Command) → IsScript bytes cs → 
 abbrev pub Keeps : Type 0
 Keeps = (lines rest : List ℕ) (cs : List Command) → Begins version.One lines cs rest → Begins version.Two lines cs rest
 
--- a text is a script or has a lowest bad line, and not both
+-- a text is a script or has a lowest bad line
+abbrev pub EitherOne : Type 0
+EitherOne = (bytes : List ℕ) → ((cs : List Command) × IsScript bytes cs) ⊎ ((n : ℕ) × IsBadLine bytes n)
+
+-- a text that is a script has no bad line
 abbrev pub NotBoth : Type 0
 NotBoth = (bytes : List ℕ) (cs : List Command) (n : ℕ) → IsScript bytes cs → IsBadLine bytes n → ⊥
 

@@ -7,3 +7,5 @@ pub mod Laws
 pub mod Faults
 pub use Rattle.replay_text.specs.Pieces
 pub use Rattle.replay_text.specs.Text
+pub use Rattle.simfile_fields.specs.Texts
+pub use Rattle.simfile_fields.specs.Fronts

@@ -1,7 +1,5 @@
 -- Reading a command from the front of the bytes, as a function: what it gives is the command and the bytes after it.
 use Rattle.std.specs.Prelude.{ℕ, ◌+◌, ◌-◌, ◌%◌, ◌==◌, ℤ, pos, negsuc, Bool, true, false, ◌&&◌, nat_lt, nat_le, nat_eq, Option, None, Some, List, [], ◌∷◌, length, take, drop, replicate, codes, if◌then◌else◌}
-use lib.Pointwise.{pointwise}
-use Rattle.std.specs.Char.{is_ascii_digit}
 use Rattle.clmodel.specs.declared.setup.Argument.{Argument}
 use Rattle.clmodel.specs.declared.setup.Argument.TheVariants as argument
 use Rattle.clmodel.specs.declared.setup.Range.{Range}
@@ -10,68 +8,25 @@ use Rattle.device_store.specs.declared.command.Command.TheVariants as command
 use Rattle.simfile.specs.declared.lines.Version.{Version}
 use Rattle.simfile.specs.declared.lines.Version.TheVariants as version
 use Rattle.simfile.specs.Script.{head}
-use Rattle.simfile.specs.Fields.{is_later, is_name, is_number, value_of, is_listed, is_list, numbers_of, is_hex_digit, bytes_of}
-
-infixl 10 ◌>>=◌
-abbrev pub ◌>>=◌ : {A B : Type 0} → Option A → (A → Option B) → Option B
-None >>= f = None
-(Some x) >>= f = f x
-
--- the bytes after a word
-unfoldable pub after : List ℕ → List ℕ → Option (List ℕ)
-after word bytes = if pointwise nat_eq (take (length word) bytes) word then Some (drop (length word) bytes) else None
-
--- how many bytes in front pass a test
-abbrev pub front_length : (ℕ → Bool) → List ℕ → ℕ
-front_length passes [] = 0
-front_length passes (b ∷ bs) = if passes b then front_length passes bs + 1 else 0
+use Rattle.simfile_fields.specs.Fronts.{◌>>=◌, or_else, after, front_length, before, name_to, number_at, value_at, list_below}
+use Rattle.simfile.specs.Fields.{numbers_of, is_hex_digit, bytes_of}
 
 -- the letters, digits and _ in front, where they are a name, and the rest
-unfoldable pub name_at : List ℕ → Option (List ℕ × List ℕ)
-name_at bytes = let n = front_length is_later bytes in if is_name (take n bytes) then Some (take n bytes, drop n bytes) else None
-
--- the digits in front, where they are a number, and the rest
-unfoldable pub number_at : List ℕ → Option (ℕ × List ℕ)
-number_at bytes = let n = front_length is_ascii_digit bytes in if is_number (take n bytes) then Some (value_of (take n bytes), drop n bytes) else None
+abbrev pub name_at : List ℕ → Option (List ℕ × List ℕ)
+name_at bytes = name_to 63 bytes
 
 -- the digits and commas in front, where they are a list, and the rest
-unfoldable pub list_at : List ℕ → Option (List ℕ × List ℕ)
-list_at bytes = let n = front_length is_listed bytes in if is_list (take n bytes) then Some (take n bytes, drop n bytes) else None
+abbrev pub list_at : List ℕ → Option (List ℕ × List ℕ)
+list_at bytes = list_below 18446744073709551616 bytes
 
 -- the pairs of digits in front, where they are 1 to 1,048,576, and the rest
 unfoldable pub hex_at : List ℕ → Option (List ℕ × List ℕ)
 hex_at bytes = let n = front_length is_hex_digit bytes in if nat_lt 0 n && nat_le n 2097152 && (n % 2 == 0) then Some (take n bytes, drop n bytes) else None
 
--- a number from 1 to 2^63 in front, as the one below 0, and the rest
-unfoldable pub negative_at : List ℕ → Option (ℤ × List ℕ)
-negative_at bytes = do
-  number ← number_at bytes
-  if nat_lt 0 number.0 && nat_le number.0 9223372036854775808 then Some (negsuc (number.0 - 1), number.1) else None
-
-unfoldable pub positive_at : List ℕ → Option (ℤ × List ℕ)
-positive_at bytes = do
-  number ← number_at bytes
-  Some (pos number.0, number.1)
-
-abbrev pub or_else : {A B : Type 0} → Option A → (A → B) → B → B
-or_else None f o = o
-or_else (Some x) f o = f x
-
--- a number in front, behind a sign or without one, and the rest
-unfoldable pub value_at : List ℕ → Option (ℤ × List ℕ)
-value_at bytes = or_else (after (45 ∷ []) bytes) negative_at (positive_at bytes)
-
 -- where the first n lines end, behind `at` bytes
 abbrev pub lines_end : ℕ → ℕ → List ℕ → Option ℕ
 lines_end n at [] = None
 lines_end n at (b ∷ bs) = if b == 10 then (if n == 1 then Some (at + 1) else lines_end (n - 1) (at + 1) bs) else lines_end n (at + 1) bs
-
--- a field in front of a byte, and what is behind that byte
-unfoldable pub before : {A : Type 0} → ℕ → Option (A × List ℕ) → Option (A × List ℕ)
-before end read = do
-  field ← read
-  rest ← after (end ∷ []) field.1
-  Some (field.0, rest)
 
 -- the first n lines, and the rest
 unfoldable pub lines_at : ℕ → List ℕ → Option (List ℕ × List ℕ)

@@ -8,7 +8,8 @@ use Rattle.device_store.specs.declared.command.Command.TheVariants as command
 use Rattle.replay_text.specs.Pieces.{joined}
 use Rattle.simfile.specs.declared.lines.Version.{Version}
 use Rattle.simfile.specs.declared.lines.Version.TheVariants as version
-use Rattle.simfile.specs.Fields.{is_name, IsList, list_text, AreBytes, hex, IsValue}
+use Rattle.simfile_fields.specs.Texts.{list_text, IsValue}
+use Rattle.simfile.specs.Fields.{is_name, IsList, AreBytes, hex}
 
 abbrev pub line_feeds : List ℕ → ℕ
 line_feeds [] = 0
@@ -91,7 +92,7 @@ head version.Two = codes "clsim 2\n"
 abbrev pub IsScript : List ℕ → List Command → Type 0
 IsScript bytes commands = (version : Version) × (lines : List ℕ) × (bytes ≡ head version ++ lines) × Begins version lines commands [] × (length commands ≤ 4096)
 
--- the line n is the lowest bad one: the lines before it are a script, and no longer beginning of the bytes is one
+-- the line n is the lowest bad one: it follows the longest beginning of the bytes that is a script, and that isn't all of them
 pub record IsBadLine (bytes : List ℕ) (n : ℕ) : Type 0 where
   pub commands : List Command
   pub front : List ℕ

@@ -6,14 +6,12 @@ ghost use Rattle.std.specs.Option.{option_map};
 ghost use Rattle.simfile.specs.Reading.{buffer_at, write_at, fill_at, copy_at, read_at, release_at, program_at, source_at, kernel_at, buffer_argument_at, value_argument_at, local_argument_at, argument_at, arg_at, listed_offset_at, offset_at, uniform_at, launch_at, version_at, command_at};
 ghost use Rattle.simfile.specs.Views.{argument_of, command_of};
 
-use crate::fields::{
-    after, hex_before, lines_at, list_at, list_before, name_at, name_before, number_at,
-    number_before, value_at,
-};
+use crate::fields::{hex_before, lines_at, list_at, list_before, name_at, name_before};
 use crate::lines::{
     ArgLine, CopyLine, FillLine, KernelLine, LaunchLine, Line, ReadLine, Setting, Version,
     WriteLine,
 };
+use simfile_fields::{after, number_at, number_before, value_at};
 
 #[tactic(auto, unfolding(crate::specs::Reading::buffer_at))]
 fn buffer_at(bytes: &[u8]) -> Option<(Line<'_>, &[u8])>
@@ -221,7 +219,7 @@ fn uniform_at(version: Version, bytes: &[u8]) -> (bool, &[u8])
     }
 }
 
-#[tactic(auto, unfolding(crate::specs::Reading::launch_at, crate::specs::Reading::before))]
+#[tactic(auto, unfolding(crate::specs::Reading::launch_at, simfile_fields::specs::Fronts::before))]
 fn launch_at(version: Version, bytes: &[u8]) -> Option<(Line<'_>, &[u8])>
     ensures { option_map (λ read. (command_of read.0, read.1.now)) result ≡ launch_at version bytes.now }
 {

@@ -14,21 +14,21 @@ use clmodel::outcome::Outcome;
 use group_run::GroupResult;
 use item_step::Launch;
 use launches::{LoadedLaunch, group_count};
-use shadow_list::AccessLog;
+use shadow_list::Accesses;
 use spaces::Overlay;
 use spaces_base::Buffers;
 use std::alloc::{AllocError, Global};
 
 /// What the results of a launch's work-groups come to, joined in the order of the groups: what its canonical run comes to (OpenCL 1.2,
 /// section 3.2). The results are those of all groups, or up to and with one that stopped. An error is out of memory.
-pub fn merge<'a, L: AccessLog + Drop>(
+pub fn merge<'a, L: Accesses + Drop>(
     alloc: Global,
     launch: &Launch<'_>,
     buffers: &'a Buffers,
     results: Vec<GroupResult<Overlay<'a>, L>>,
 ) -> Result<Outcome, AllocError>
     requires whole { HasGroups (setup_of launch.now) }
-    requires results { AreResults (λ overlay. overlay.bytes) L.Accesses.log (launch_of (setup_of launch.now) (bytes_in buffers.now)) 0 results.items }
+    requires results { AreResults (λ overlay. overlay.bytes) L.log (launch_of (setup_of launch.now) (bytes_in buffers.now)) 0 results.items }
     ensures { IfOk result (Concludes (launch_of (setup_of launch.now) (bytes_in buffers.now))) }
 {
     laws();

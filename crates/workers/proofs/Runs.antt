@@ -1,21 +1,28 @@
 -- A group's one run, and its result.
-use Rattle.std.proofs.Common.{◌≡◌, ℕ, suc, ◌+◌, ◌*◌, ◌<◌, ◌≤◌, arith, true, true≢false, None, Some, List, [], ◌∷◌, refl, sym, ◌∙◌, subst, ⊎_elim}
+use Rattle.std.proofs.Common.{◌≡◌, ℕ, suc, ◌+◌, ◌*◌, ◌<◌, ◌≤◌, arith, true, true≢false, Option, None, Some, List, Vec, Global, [], ◌∷◌, refl, sym, ◌∙◌, subst, ⊎_elim}
 use Rattle.std.proofs.Math.Nat.{suc-mul, mul-le-mul_right}
 use Rattle.clmodel.specs.Launch.{Launch}
 use Rattle.clmodel.specs.Outcome.{events_of}
+use Rattle.clmodel.specs.Run.{start}
 use Rattle.clmodel.specs.declared.fault.Fault.{Fault}
+use Rattle.clmodel.specs.declared.schedule.Run.{Run}
+use Rattle.group_run.specs.Logs.{IsLogged}
+use Rattle.group_run.specs.Results.{IsResult, Leaves}
 use Rattle.group_run.specs.declared.result.GroupResult.{GroupResult}
 use Rattle.group_run.specs.declared.result.GroupResult.TheVariants.{Done, Stopped}
+use Rattle.joining.specs.Group.{Plan, IsRun, plan_of}
 use Rattle.joining.specs.Parts.{Part, OnePart}
+use Rattle.shadow_list.specs.Log.{Log}
+use Rattle.shadow_list.specs.declared.access_list.AccessList.{AccessList}
 use Rattle.shadow_list.specs.declared.list.ListLog.{ListLog}
 use Rattle.snapshot_merge.specs.Launches.{AreResultsTo}
 use Rattle.snapshot_run.specs.Launches.{list_log}
 use Rattle.spaces.specs.Overlay.{Overlaid}
 use Rattle.workers_draw.specs.Groups.{AreResults}
-use Rattle.workers.specs.Results.{IsOfGroup, IsStopping, number_of, has_stopped}
+use Rattle.workers.specs.Results.{access_list, IsOfGroup, IsStopping, number_of, has_stopped}
 
 abbrev Came : Type 0
-Came = GroupResult Overlaid ListLog
+Came = GroupResult Overlaid AccessList
 
 none_some : (fault : Fault) → None ≡ Some fault → ⊥
 none_some fault e = cc
@@ -43,13 +50,29 @@ stops_stopped launch group (Done number spaces log runs) one is stops =
     let same = one launch group part stops.0 (run.0.runs, run.1) stops.2 in absurd (none_some stops.1 (same.2 ∙ stops.3))
 stops_stopped launch group (Stopped number fault log runs) one is stops = refl
 
+-- a result stays that of its group where a list of the same accesses stands for its log
+abbrev bytes_of : Overlaid → List (Option ℕ)
+bytes_of overlay = overlay.bytes
+
+pub done_listed : (launch : Launch) (group number : ℕ) (spaces : Vec Overlaid Global) (log : ListLog) (list : AccessList) (runs : List Run) → access_list list ≡ list_log log
+    → IsResult bytes_of list_log launch group (Done number spaces log runs) → IsResult bytes_of access_list launch group (Done number spaces list runs)
+done_listed launch group number spaces log list runs same is =
+    let plan : Plan = plan_of launch group in
+    (is.0, is.1, subst (λ (l : Log). IsRun plan (Leaves bytes_of plan spaces.items l) (start launch) (events_of runs) None) (sym same) is.2)
+
+pub stopped_listed : (launch : Launch) (group number : ℕ) (fault : Fault) (log : ListLog) (list : AccessList) (runs : List Run) → access_list list ≡ list_log log
+    → IsResult bytes_of list_log launch group (Stopped number fault log runs) → IsResult bytes_of access_list launch group (Stopped number fault list runs)
+stopped_listed launch group number fault log list runs same is =
+    let plan : Plan = plan_of launch group in
+    (is.0, is.1, subst (λ (l : Log). IsRun plan (IsLogged plan l) (start launch) (events_of runs) (Some fault)) (sym same) is.2)
+
 -- the results of a round in order are those that are joined
 module _ (launch : Launch) (first count : ℕ) where
   abbrev Gives : ℕ → Came → Type 0
   Gives n came = IsOfGroup launch (first + n) came
 
   abbrev ToLast : ℕ → List Came → Type 0
-  ToLast group results = AreResultsTo (λ (overlay : Overlaid). overlay.bytes) list_log launch (first + count) group results
+  ToLast group results = AreResultsTo (λ (overlay : Overlaid). overlay.bytes) access_list launch (first + count) group results
 
   pub are_results : (n : ℕ) (results : List Came) → AreResults count Gives has_stopped n results → ToLast (first + n) results
   are_results n [] far = omega (arith, far)

@@ -7,13 +7,17 @@ use Rattle.group_run.specs.declared.result.GroupResult.{GroupResult}
 use Rattle.group_run.specs.declared.result.GroupResult.TheVariants.{Done, Stopped}
 use Rattle.joining.specs.Parts.{Part, IsPart}
 use Rattle.joining.specs.Steps.{HasGroup}
-use Rattle.shadow_list.specs.declared.list.ListLog.{ListLog}
-use Rattle.snapshot_run.specs.Launches.{list_log}
+use Rattle.shadow_list.specs.Log.{Log, logged}
+use Rattle.shadow_list.specs.declared.access_list.AccessList.{AccessList}
 use Rattle.spaces.specs.Overlay.{Overlaid}
 
+-- a list of accesses, as a log (own)
+abbrev pub access_list : AccessList → Log
+access_list l = logged l.entries.items l.local_interval l.global_interval l.uniform
+
 -- the result of a group that the launch has: that of its canonical run on the launch's first memory (3.2)
-abbrev pub IsOfGroup : Launch → ℕ → GroupResult Overlaid ListLog → Type 0
-IsOfGroup launch group came = HasGroup launch group × IsResult (λ overlay. overlay.bytes) list_log launch group came
+abbrev pub IsOfGroup : Launch → ℕ → GroupResult Overlaid AccessList → Type 0
+IsOfGroup launch group came = HasGroup launch group × IsResult (λ overlay. overlay.bytes) access_list launch group came
 
 -- the canonical run of the group ends with a report (own)
 abbrev pub IsStopping : Launch → ℕ → Type 0

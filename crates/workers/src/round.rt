@@ -1,17 +1,20 @@
 //! Some groups of a launch, as workers draw them.
 
-ghost use Rattle.std.specs.Prelude.{◌≡◌, ◌+◌, ◌-◌, ◌*◌, ◌<◌, ◌≤◌};
+ghost use Rattle.std.specs.Prelude.{◌≡◌, ◌+◌, ◌-◌, ◌*◌, ◌<◌, ◌≤◌, ℕ};
+ghost use Rattle.clmodel.specs.Launch.{Launch as TheLaunch};
 ghost use Rattle.clmodel.specs.Next.{launch_of};
 ghost use Rattle.clmodel.specs.Setup.{item_count, group_items};
+ghost use Rattle.group_run.specs.Results.{IsResult};
 ghost use Rattle.item_step.specs.Launches.{setup_of};
 ghost use Rattle.launches.specs.Groups.{HasGroups};
+ghost use Rattle.snapshot_run.specs.Launches.{list_log};
 ghost use Rattle.spaces_base.specs.Buffers.{bytes_in};
-ghost use Rattle.workers.specs.Results.{IsOfGroup, IsStopping, number_of, has_stopped};
+ghost use Rattle.workers.specs.Results.{access_list, IsOfGroup, IsStopping, number_of, has_stopped};
 
 use group_run::GroupResult;
 use item_step::Launch;
 use joining::one_part;
-use shadow_list::ListLog;
+use shadow_list::{AccessList, ListLog};
 use snapshot_run::one_group;
 use spaces::Overlay;
 use spaces_base::Buffers;
@@ -52,8 +55,38 @@ impl<'a> Round<'a> {
     }
 }
 
+/// A result with the list of its log in place of the log: the join asks for no more, and what waits for it keeps no index.
+fn listed<'a>(came: GroupResult<Overlay<'a>, ListLog>) -> GroupResult<Overlay<'a>, AccessList>
+    ensures { (launch : TheLaunch) (group : ℕ) → IsResult (λ overlay. overlay.bytes) list_log launch group came.entry → IsResult (λ overlay. overlay.bytes) access_list launch group result }
+{
+    match came {
+        GroupResult::Done {
+            group,
+            spaces,
+            log,
+            runs,
+        } => GroupResult::Done {
+            group,
+            spaces,
+            log: log.into_list(),
+            runs,
+        },
+        GroupResult::Stopped {
+            group,
+            fault,
+            log,
+            runs,
+        } => GroupResult::Stopped {
+            group,
+            fault,
+            log: log.into_list(),
+            runs,
+        },
+    }
+}
+
 impl<'a> Work for Round<'a> {
-    type Output = GroupResult<Overlay<'a>, ListLog>;
+    type Output = GroupResult<Overlay<'a>, AccessList>;
 
     ghost count = { λ w. w.count };
 
@@ -73,12 +106,13 @@ impl<'a> Work for Round<'a> {
         &self,
         alloc: Global,
         group: u32,
-    ) -> Result<GroupResult<Overlay<'a>, ListLog>, AllocError> {
+    ) -> Result<GroupResult<Overlay<'a>, AccessList>, AllocError> {
         let log = ListLog::new(alloc, self.launch.range().uniform);
-        one_group(alloc, self.launch, self.buffers, self.first + group, log)
+        let came = one_group(alloc, self.launch, self.buffers, self.first + group, log)?;
+        Ok(listed(came))
     }
 
-    fn number(&self, came: &GroupResult<Overlay<'a>, ListLog>) -> u32 {
+    fn number(&self, came: &GroupResult<Overlay<'a>, AccessList>) -> u32 {
         let group = match came {
             GroupResult::Done { group, .. } => *group,
             GroupResult::Stopped { group, .. } => *group,
@@ -86,7 +120,7 @@ impl<'a> Work for Round<'a> {
         group.saturating_sub(self.first)
     }
 
-    fn stopped(came: &GroupResult<Overlay<'a>, ListLog>) -> bool {
+    fn stopped(came: &GroupResult<Overlay<'a>, AccessList>) -> bool {
         match came {
             GroupResult::Done { .. } => false,
             GroupResult::Stopped { .. } => true,

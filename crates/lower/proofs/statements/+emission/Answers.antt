@@ -1,9 +1,11 @@
-use Rattle.std.proofs.Common.{◌≡◌, ℕ, ◌+◌, ◌-◌, ◌<◌, ◌++◌, refl, Option, Bor, List, length, take, ap, ap₂, sym, subst, ◌∙◌, arith, IfOk}
+use Rattle.std.proofs.Common.{◌≡◌, ℕ, ◌+◌, ◌-◌, ◌<◌, ◌≤◌, ◌++◌, refl, Option, Bor, List, length, take, ap, ap₂, sym, subst, ◌∙◌, arith, rules, IfOk}
 use Rattle.std.proofs.lemmas.Result.{IfOk-weaker}
+use Rattle.lower.proofs.Fronts.{block_few}
+use denote.Param.Weighed.{most, at_most}
 use Rattle.std.specs.Option.{option_map}
 use Rattle.clmodel.specs.Next.{sites, part_sites, all_sites}
 use Rattle.clmodel.specs.Tree.{Stmt, ThenStmt, Without, While_, stmt, term}
-use Rattle.clmodel.specs.declared.tree.Statement.{Statement}
+use Rattle.clmodel.specs.declared.tree.Statement.{Statement, size-Statement}
 use Rattle.regcode.specs.declared.instruction.Instruction.{Instruction}
 use Rattle.lower_expr.specs.Scope.{Scope}
 use Rattle.lower_code.specs.Variables.{scope_after_all}
@@ -23,13 +25,13 @@ use Rattle.lower.proofs.statements.+emission.Goals as goal
 pub emit_statement-returns-in-Block-clause-code : goal.emit_statement-returns-in-Block-clause-code
 emit_statement-returns-in-Block-clause-code t c =
     subst (λ (s : Stmt). IfOk c.emit_all.result (λ site. c.emit_all.new.code ≡ statement_code c.args.setting.now c.args.scope.now s (begun_at c.args.ending site) ++ c.args.code.now))
-    (block_is c.args.statement.now c.in-Block.at c.in-Block.body c.deref.result.now c.in-Block.is c.deref.ensures.value)
+    (block_is c.args.statement.now c.in-Block.at c.in-Block.body c.as_slice-body.result.now c.in-Block.is c.as_slice-body.ensures.value)
     c.emit_all.ensures.code
 
 pub emit_statement-returns-in-Block-clause-site : goal.emit_statement-returns-in-Block-clause-site
 emit_statement-returns-in-Block-clause-site t c =
     subst (λ (s : Stmt). IfOk c.emit_all.result (λ site. site + sites (inside c.args.setting.now.helpers.functions.now) s ≡ c.args.ending.behind))
-    (block_is c.args.statement.now c.in-Block.at c.in-Block.body c.deref.result.now c.in-Block.is c.deref.ensures.value)
+    (block_is c.args.statement.now c.in-Block.at c.in-Block.body c.as_slice-body.result.now c.in-Block.is c.as_slice-body.ensures.value)
     c.emit_all.ensures.site
 
 pub emit_choice-returns-clause-code : goal.emit_choice-returns-clause-code
@@ -62,7 +64,7 @@ emit_stepped-returns-clause-code t c =
     let third = stmt c.args.third.now in
     let body = stmt c.args.body.now in
     let f = inside s.helpers.functions.now in
-    let at : c.in_ok-emit_once.field-0 ≡ c.in_ok-site.site + sites f third = omega (arith, c.in_ok-between.ensures, c.in_ok-site.ensures.site, c.in_ok-emit_once.ensures.site) in
+    let at : c.in_ok-emit_once.field-0 ≡ c.in_ok-site.site + sites f third = omega (arith, c.site_before-between.ensures, c.in_ok-site.ensures.site, c.in_ok-emit_once.ensures.site) in
     stepped_placed s c.args.scope.now c.emit_statement.new.scope (begun_at c.args.ending c.in_ok-site.site) third body c.in_ok-level_above.field-0 c.in_ok-emit_once.field-0 c.in_ok-in_loop.field-0
     c.args.turn.now c.emit_statement.new.code c.emit_once.new.turn c.in_ok-past.field-0
     c.in_ok-level_above.ensures at c.in_ok-past.ensures c.in_ok-in_loop.ensures c.in_ok-site.ensures.code c.in_ok-site.ensures.scope c.in_ok-emit_once.ensures.code
@@ -271,3 +273,29 @@ emit_for-returns-in_err-site-clause-longer t c =
     on_err c.from_residual-in_err-site.result
     (after_turns c.args.setting.now c.declare_part.new.scope (test_of c.args.condition) (part_of c.args.third) (stmt c.args.body.now) (begun_at c.args.ending c.in_ok-behind.behind)
     c.args.code.now c.emit_turns.new.code c.emit_part.new.code c.in_ok-behind.ensures.code c.in_err-site.ensures.longer)
+
+pub emit_all-emit_statement-requires : goal.emit_all-emit_statement-requires
+emit_all-emit_statement-requires t c =
+    let ss = c.args.statements.now in
+    let f = inside c.args.setting.now.helpers.functions.now in
+    let place = length ss - 1 - c.loop-i.i in
+    let x = c.index-statements-statements.result in
+    let below : place < length ss = omega (arith, c.loop-i-test.true) in
+    let left : length ss - c.loop-i.i ≡ place + 1 = omega (arith, c.loop-i-test.true) in
+    let count : all_sites f (all_of (take (length ss - c.loop-i.i) ss)) ≡ all_sites f (all_of (take place ss)) + sites f (stmt x) =
+    ap (λ m. all_sites f (all_of (take m ss))) left ∙ ap (λ r. all_sites f r) (row_more ss place x below c.index-statements-statements.is) in
+    let few : all_sites f (all_of ss) ≤ c.args.ending.behind = c.requires.few in
+    let size : size-Statement x ≤ most size-Statement ss = subst (λ (y : Statement). size-Statement y ≤ most size-Statement ss) (sym c.index-statements-statements.is) (at_most size-Statement ss place x below) in
+    (omega (arith, size), omega (arith, c.loop-i.invariant.site, count, few))
+
+pub emit_choice-emit_statement-requires-2 : goal.emit_choice-emit_statement-requires-2
+emit_choice-emit_statement-requires-2 t c =
+    let f = inside c.args.setting.now.helpers.functions.now in
+    let between : c.in_ok-between.between + sites f (stmt c.args.otherwise.now) ≡ c.args.ending.behind = c.in_ok-between.ensures.site in
+    let few : sites f (stmt c.args.chosen.now) + sites f (stmt c.args.otherwise.now) ≤ c.args.ending.behind = c.requires.few in
+    (search rules, omega (arith, between, few))
+
+pub emit_statement-numbers_suffice-requires : goal.emit_statement-numbers_suffice-requires
+emit_statement-numbers_suffice-requires t c =
+    block_few (inside c.args.setting.now.helpers.functions.now) c.args.statement.now c.in-Block.at c.in-Block.body c.as_slice-body.result.now c.args.ending.behind
+    c.in-Block.is c.as_slice-body.ensures.value c.requires.few

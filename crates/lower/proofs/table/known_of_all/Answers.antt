@@ -1,17 +1,29 @@
-use Rattle.std.proofs.Common.{◌≡◌, ◌<◌, [], ◌∷◌, length, take, get_or, ap, sym, subst, ◌∙◌, arith}
-use Rattle.std.proofs.lemmas.List.{length-append}
+use Rattle.std.proofs.Common.{◌≡◌, ◌<◌, ◌≤◌, ◌^◌, [], ◌∷◌, length, take, get_or, ap, sym, subst, ◌∙◌, arith}
+use Rattle.std.proofs.lemmas.List.{length-append, length-take}
 use Rattle.clmodel.specs.Next.{all_sites}
 use Rattle.lower_code.specs.Trees.{all_of}
-use Rattle.lower_code.specs.Helpers.{inside, body_of, BarriersKnown, LengthsKnown}
-use Rattle.lower_code.proofs.Tables.{barriers_more, lengths_more}
+use Rattle.lower_code.specs.Helpers.{inside, body_of, BarriersKnown, BarriersCounted, LengthsKnown}
+use Rattle.lower_code.proofs.Tables.{barriers_before, barriers_more, counted_before, counted_more, ends_before, lengths_before, lengths_more}
 use Rattle.lower.proofs.table.known_of_all.Goals as goal
 
-pub invariant_of-helpers : goal.invariant_of-helpers
-invariant_of-helpers c = record {
-  barriers = subst (λ ks. BarriersKnown c.args.functions.now ks) (sym c.as_slice.ensures.value) c.loop-i.invariant.barriers;
-  lengths = subst (λ ks. LengthsKnown c.args.functions.now ks) (sym c.as_slice.ensures.value) c.loop-i.invariant.lengths;
-  ends_known = c.requires.ends;
-}
+pub invariant_of-before : goal.invariant_of-before
+invariant_of-before c =
+    let fs = c.args.functions.now in
+    let ks = c.loop-i.known.items in
+    let i = c.loop-i.i in
+    let same = c.as_slice.ensures.value in
+    let count : length ks ≡ i = c.loop-i.invariant.count in
+    let small : i ≤ length fs = omega (arith, c.loop-i-test.true) in
+    let known : BarriersKnown fs ks = c.loop-i.invariant.barriers in
+    let counted : BarriersCounted fs ks = c.loop-i.invariant.counted in
+    let lengths : LengthsKnown fs ks = c.loop-i.invariant.lengths in
+    record {
+      barriers = subst (λ xs. BarriersKnown (take i fs) xs) (sym same) (barriers_before fs ks i small known);
+      complete = subst (λ xs. length (take i fs) ≤ length xs) (sym same) (omega (arith, count, length-take i fs));
+      counted = subst (λ xs. BarriersCounted (take i fs) xs) (sym same) (counted_before fs ks i small counted);
+      lengths = subst (λ xs. LengthsKnown (take i fs) xs) (sym same) (lengths_before fs ks i small lengths);
+      ends_known = ends_before fs c.args.ends.now i small c.requires.ends;
+    }
 
 pub loop-i-preserved : goal.loop-i-preserved
 loop-i-preserved c =
@@ -23,11 +35,13 @@ loop-i-preserved c =
     let count : length ks ≡ c.loop-i.i = c.loop-i.invariant.count in
     let below : length ks < length fs = omega (arith, count, c.loop-i-test.true) in
     let there : f ≡ get_or fs (length ks) f = c.index-functions-i.is ∙ ap (λ m. get_or fs m f) (sym count) in
-    let before : c.before-in-loop-i.result.functions.now ≡ take (length ks) fs = c.before-in-loop-i.ensures ∙ ap (λ m. take m fs) (sym count) in
+    let before : take c.loop-i.i fs ≡ take (length ks) fs = ap (λ m. take m fs) (sym count) in
     record {
       count = omega (arith, count, ap length items, length-append ks (k ∷ []));
       barriers = subst (λ xs. BarriersKnown fs xs) (sym items)
           (barriers_more fs ks f k below there c.loop-i.invariant.barriers (λ n e. c.known_of-next.ensures.barriers n e ∙ ap (λ gs. all_sites (inside gs) (all_of f.body.items)) before));
+      counted = subst (λ xs. BarriersCounted fs xs) (sym items)
+          (counted_more fs ks f k below there c.loop-i.invariant.counted (λ none. subst (λ gs. 2 ^ 32 ≤ all_sites (inside gs) (all_of f.body.items)) before (c.known_of-next.ensures.counted none)));
       lengths = subst (λ xs. LengthsKnown fs xs) (sym items)
           (lengths_more fs ks f k below there c.loop-i.invariant.lengths (λ n level depth site e. c.known_of-next.ensures.length n level depth site e ∙ ap (λ gs. length (body_of gs f level depth site)) before));
     }

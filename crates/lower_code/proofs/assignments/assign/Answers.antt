@@ -7,8 +7,8 @@ use Rattle.lower_code.specs.Emission.{functions_of}
 use Rattle.lower_code.proofs.Splits.{split_tail, assign_laid}
 use Rattle.lower_code.proofs.assignments.assign.Goals as goal
 
-pub returns : goal.returns
-returns c calls inside kind depth site =
+pub returns-clause-code : goal.returns-clause-code
+returns-clause-code c calls inside kind depth site =
     let scope = c.args.scope.now in
     let to = place c.args.target.now in
     let value = term c.args.value.now in

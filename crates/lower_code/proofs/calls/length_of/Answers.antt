@@ -7,4 +7,4 @@ pub returns : goal.returns
 returns c =
     let none : Known = record { barriers = None; length = None } in
     lengths_found c.args.helpers.functions.now c.args.helpers.known.now c.args.found.place c.args.found.function.now (get_or c.args.helpers.known.now c.args.found.place none) none
-    c.args.helpers.lengths c.requires.within (omega (arith, c.if-found-helpers.false)) c.requires.there refl
+    c.args.helpers.lengths c.requires.within (omega (arith, c.requires.within, c.args.helpers.complete)) c.requires.there refl

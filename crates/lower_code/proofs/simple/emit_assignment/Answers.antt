@@ -17,7 +17,7 @@ returns-in_ok-split-in-None-clause-code c =
     let fs = functions_of s.helpers.functions.now in
     let split = c.in_ok-split-in-None.split in
     let same : split_code (call_code fs) split p.depth p.site ≡ statement_code s c.args.scope.now (stmt c.args.statement.now) p =
-    c.in_ok-split-in-None.ensures (call_code fs) (inside s.helpers.functions.now) s.result p.depth p.site
+    c.in_ok-split-in-None.ensures.code (call_code fs) (inside s.helpers.functions.now) s.result p.depth p.site
     ∙ ap (λ x. statement_code s c.args.scope.now x p) (assign_is c.args.statement.now c.in-Assign.at c.in-Assign.target c.in-Assign.operator c.in-Assign.value None c.deref.result.now c.deref-in-None.result.now c.in-Assign.is c.in-None.is c.deref.ensures c.deref-in-None.ensures) in
     placed c.emit_split.result c.emit_split.new.code c.args.code.now (split_code (call_code fs) split p.depth p.site) (statement_code s c.args.scope.now (stmt c.args.statement.now) p) same c.emit_split.ensures.code
 
@@ -28,7 +28,7 @@ returns-in_ok-split-in-Some-clause-code c =
     let fs = functions_of s.helpers.functions.now in
     let split = c.in_ok-split-in-Some.split in
     let same : split_code (call_code fs) split p.depth p.site ≡ statement_code s c.args.scope.now (stmt c.args.statement.now) p =
-    c.in_ok-split-in-Some.ensures (call_code fs) (inside s.helpers.functions.now) s.result p.depth p.site
+    c.in_ok-split-in-Some.ensures.code (call_code fs) (inside s.helpers.functions.now) s.result p.depth p.site
     ∙ ap (λ x. statement_code s c.args.scope.now x p) (assign_is c.args.statement.now c.in-Assign.at c.in-Assign.target c.in-Assign.operator c.in-Assign.value (Some c.in-Some.operator) c.deref-in-Some.result.now c.deref-in-Some-2.result.now c.in-Assign.is c.in-Some.is c.deref-in-Some.ensures c.deref-in-Some-2.ensures) in
     placed c.emit_split-in-Some.result c.emit_split-in-Some.new.code c.args.code.now (split_code (call_code fs) split p.depth p.site) (statement_code s c.args.scope.now (stmt c.args.statement.now) p) same c.emit_split-in-Some.ensures.code
 
@@ -39,7 +39,7 @@ returns-in_ok-split-in-Call-clause-code c =
     let fs = functions_of s.helpers.functions.now in
     let split = c.in_ok-split-in-Call.split in
     let same : split_code (call_code fs) split p.depth p.site ≡ statement_code s c.args.scope.now (stmt c.args.statement.now) p =
-    c.in_ok-split-in-Call.ensures (call_code fs) (result_in fs) (inside s.helpers.functions.now) s.result
+    c.in_ok-split-in-Call.ensures.code (call_code fs) (result_in fs) (inside s.helpers.functions.now) s.result
     ∙ ap (λ x. statement_code s c.args.scope.now x p) (sym (call_is c.args.statement.now c.in-Call.at c.in-Call.name c.in-Call.arguments c.deref-in-Call.result.now c.in-Call.is c.deref-in-Call.ensures.value)) in
     placed c.emit_split-in-Call.result c.emit_split-in-Call.new.code c.args.code.now (split_code (call_code fs) split p.depth p.site) (statement_code s c.args.scope.now (stmt c.args.statement.now) p) same c.emit_split-in-Call.ensures.code
 

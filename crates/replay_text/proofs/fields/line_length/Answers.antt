@@ -1,5 +1,5 @@
 use Rattle.replay_text.specs.Reading.{is_inner}
-use Rattle.replay_text.proofs.FieldLemmas.{front_of_position}
+use Rattle.simfile_fields.proofs.FieldLemmas.{front_of_position}
 use Rattle.replay_text.proofs.fields.line_length.Goals as goal
 
 pub returns-clause-value : goal.returns-clause-value

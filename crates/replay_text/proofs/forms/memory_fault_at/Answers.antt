@@ -1,6 +1,7 @@
 use Rattle.std.proofs.Common.{◌≡◌, Some, None, codes, sym, ap, ◌∙◌}
 use Rattle.std.specs.Option.{option_map}
-use Rattle.replay_text.specs.Reading.{memory_fault_at, after}
+use Rattle.simfile_fields.specs.Fronts.{after}
+use Rattle.replay_text.specs.Reading.{memory_fault_at}
 use Rattle.replay_text.proofs.forms.memory_fault_at.Goals as goal
 
 pub returns-in-Some : goal.returns-in-Some

@@ -1,5 +1,5 @@
 use Rattle.simfile.specs.Fields.{is_hex_digit}
-use Rattle.simfile.proofs.FieldLemmas.{front_of_position}
+use Rattle.simfile_fields.proofs.FieldLemmas.{front_of_position}
 use Rattle.simfile.proofs.fields.hex_length.Goals as goal
 
 pub returns-clause-value : goal.returns-clause-value

@@ -1,5 +1,5 @@
 use Rattle.simfile.proofs.Grammar.{command_takes, command_again}
-use Rattle.simfile.proofs.Scripts.{one_script, keeps, not_both, one_bad_line}
+use Rattle.simfile.proofs.Scripts.{one_script, keeps, either_one, not_both, one_bad_line}
 use Rattle.simfile.proofs.laws.script_laws.Goals as goal
 
 pub returns-clause-takes : goal.returns-clause-takes
@@ -13,6 +13,9 @@ returns-clause-one_script c = one_script
 
 pub returns-clause-keeps : goal.returns-clause-keeps
 returns-clause-keeps c = keeps
+
+pub returns-clause-either_one : goal.returns-clause-either_one
+returns-clause-either_one c = either_one
 
 pub returns-clause-not_both : goal.returns-clause-not_both
 returns-clause-not_both c = not_both

@@ -4,9 +4,9 @@ use Rattle.clmodel.specs.Launch.{Launch}
 use Rattle.clmodel.specs.Next.{launch_of}
 use Rattle.item_step.specs.Launches.{setup_of}
 use Rattle.snapshot_merge.specs.Launches.{AreResultsTo}
-use Rattle.snapshot_run.specs.Launches.{list_log}
 use Rattle.spaces.specs.Overlay.{Overlaid}
 use Rattle.spaces_base.specs.Buffers.{bytes_in}
+use Rattle.workers.specs.Results.{access_list}
 use Rattle.workers.proofs.Runs.{are_results}
 use Rattle.workers.proofs.run.run_round.Goals as goal
 
@@ -24,6 +24,6 @@ join_round-requires-clause-results g c =
     let results = c.in_ok-results.results.items in
     let begin : round.first + 0 ≡ c.args.first = omega (arith, c.new-round.ensures.first) in
     let end : round.first + round.count ≡ c.args.last = omega (arith, c.new-round.ensures.first, c.new-round.ensures.count) in
-    subst (λ (l : Launch). AreResultsTo bytes_of list_log l c.args.last c.args.first results) same
-    (subst (λ n. AreResultsTo bytes_of list_log launch n c.args.first results) end
-    (subst (λ n. AreResultsTo bytes_of list_log launch (round.first + round.count) n results) begin (are_results launch round.first round.count 0 results c.in_ok-results.ensures)))
+    subst (λ (l : Launch). AreResultsTo bytes_of access_list l c.args.last c.args.first results) same
+    (subst (λ n. AreResultsTo bytes_of access_list launch n c.args.first results) end
+    (subst (λ n. AreResultsTo bytes_of access_list launch (round.first + round.count) n results) begin (are_results launch round.first round.count 0 results c.in_ok-results.ensures)))

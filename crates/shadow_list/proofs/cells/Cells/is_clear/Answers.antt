@@ -21,5 +21,5 @@ returns-else-here-count c h y byte kept =
     (λ b on.
     let r = covered x.first (byte_count x.width) b on in
     decided (nat_lt b (x.first + c.min-here.result)) (λ t. c.passes.ensures c.if-passes.true b r.0 (ltb-true b (x.first + c.min-here.result) t))
-    (λ t. c.passes-else-here-count.ensures h b (ltb-false b (x.first + c.min-here.result) t) (omega (arith, r.1, c.bytes-count.ensures.value, c.min-here.ensures))))
+    (λ t. c.next_passes.ensures h b (ltb-false b (x.first + c.min-here.result) t) (omega (arith, r.1, c.bytes-count.ensures.value, c.min-here.ensures))))
     kept byte

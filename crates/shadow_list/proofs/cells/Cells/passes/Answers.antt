@@ -1,4 +1,4 @@
-use Rattle.std.proofs.Common.{◌≡◌, ◌+◌, ◌-◌, ◌%◌, nat_eq, Some, sym, ap, ◌∙◌, subst, arith}
+use Rattle.std.proofs.Common.{◌≡◌, ◌+◌, ◌-◌, ◌%◌, nat_eq, Some, sym, ◌∙◌, subst, arith}
 use Rattle.std.specs.Prelude.{slice_index_or}
 use Rattle.std.specs.HashMap.{get}
 use Rattle.shadow_list.specs.Cells.{cell_key, Passes}
@@ -13,8 +13,8 @@ returns-in-Some c h byte lo hi =
     let first = c.args.first in
     let count = c.args.count in
     let u = c.args.uniform in
-    let start = c.in-Some.start.now in
-    let there : get nat_eq cells.starts (cell_key x.region first) ≡ Some start = ap (get nat_eq cells.starts) (sym c.cell_key.ensures) ∙ sym c.in-Some.ensures.value in
+    let start = c.in-Some.start in
+    let there : get nat_eq cells.starts (cell_key x.region first) ≡ Some start = sym c.requires.found ∙ c.in-Some.is in
     subst (λ z. Passes u z x byte) (sym (at_start cells.starts cells.bytes.items x.region first count byte start c.requires.one_cell lo hi there))
     (subst (λ p. Passes u (slice_index_or cells.bytes.items p nothing) x byte) (start_on first count byte start c.requires.one_cell lo hi)
     (subst (λ b. Passes u (slice_index_or cells.bytes.items (start + first % 8 + (byte - first)) nothing) x b) {x = first + (byte - first)} {y = byte} (omega (arith, lo))

@@ -1,4 +1,4 @@
-use Rattle.std.proofs.Common.{sym, arith}
+use Rattle.std.proofs.Common.{sym, ◌∙◌, arith}
 use Rattle.shadow_list.specs.Recent.{nothing}
 use Rattle.shadow_list.proofs.Indexed.{places_kept, cells_kept, start_added, starts_same}
 use Rattle.shadow_list.proofs.cells.Cells.start.Goals as goal
@@ -22,5 +22,5 @@ pub returns-clause-same : goal.returns-clause-same
 returns-clause-same c =
     let old = c.args.self.now in
     cells_kept old.starts c.insert.new.self old.bytes.items c.resize.new.self.items
-    (start_added old.starts c.insert.new.self c.args.key (sym c.in_default.ensures.value) c.in_ok-insert.ensures.updates.2)
+    (start_added old.starts c.insert.new.self c.args.key (sym c.requires ∙ c.in_default.is) c.in_ok-insert.ensures.updates.2)
     (places_kept old.bytes.items c.resize.new.self.items (λ p l. c.resize.ensures.by_index.0 p nothing (omega (arith, l, c.len-start.ensures, old.bytes.ok.0)) (omega (arith, l, old.bytes.ok.0))))

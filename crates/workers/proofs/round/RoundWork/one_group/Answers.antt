@@ -1,13 +1,8 @@
 use Rattle.std.proofs.Common.{◌+◌, arith}
-use Rattle.std.proofs.lemmas.Result.{IfOk-weaker}
 use Rattle.clmodel.specs.Launch.{Launch}
 use Rattle.clmodel.specs.Next.{launch_of}
-use Rattle.group_run.specs.Results.{IsResult}
 use Rattle.item_step.specs.Launches.{setup_of}
-use Rattle.snapshot_run.specs.Launches.{list_log}
-use Rattle.spaces.specs.Overlay.{Overlaid}
 use Rattle.spaces_base.specs.Buffers.{bytes_in}
-use Rattle.workers.specs.Results.{IsOfGroup}
 use Rattle.workers.proofs.Runs.{below_there}
 use Rattle.workers.proofs.round.RoundWork.one_group.Goals as goal
 
@@ -17,4 +12,4 @@ returns c =
     let group = round.first + c.args.group in
     let launch : Launch = launch_of (setup_of round.launch.now) (bytes_in round.buffers.now) in
     let there = below_there group (round.first + round.count) launch.group_size launch.items round.there round.some (omega (arith, c.requires)) in
-    IfOk-weaker c.one_group.result (IsResult (λ (overlay : Overlaid). overlay.bytes) list_log launch group) (IsOfGroup launch group) (λ came is. (there, is)) c.one_group.ensures
+    (there, c.listed.ensures launch group c.in_ok-came.ensures)

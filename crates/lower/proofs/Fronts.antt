@@ -1,0 +1,40 @@
+-- The barriers of the first statements, and those that are too many to count.
+use Rattle.std.proofs.Common.{◌≡◌, ℕ, zero, suc, ◌+◌, ◌<◌, ◌≤◌, ◌^◌, ◌⊎◌, inl, inr, List, [], ◌∷◌, map, length, take, get_or, ap, sym, subst, arith, Vec}
+use Rattle.std.proofs.lemmas.Bool.{cases_lt}
+use Rattle.std.specs.declared.alloc.Global.{Global}
+use Rattle.clmodel.specs.Next.{sites, all_sites}
+use Rattle.clmodel.specs.declared.tree.Statement as rust_statement
+use Rattle.clmodel.specs.declared.tree.Statement.{Statement}
+use Rattle.clmodel.specs.Tree.{Stmt, Stmts, NoStmt, ThenStmt, stmt, then_stmts}
+use Rattle.lower_code.proofs.Lists.{block_is}
+use Rattle.lower_code.proofs.Trees.{row_more}
+use Rattle.lower_code.specs.Trees.{all_of}
+
+module _ (f : ℕ → ℕ) where
+  more_sites : (ss : Stmts) (ts : List Statement) → all_sites f ss ≤ all_sites f (then_stmts ss (map stmt ts))
+  more_sites ss [] = omega arith
+  more_sites ss (t ∷ ts) = omega (arith, more_sites (ThenStmt ss (stmt t)) ts)
+
+  first_sites : (ss : Stmts) (ts : List Statement) (i : ℕ) → all_sites f (then_stmts ss (map stmt (take i ts))) ≤ all_sites f (then_stmts ss (map stmt ts))
+  first_sites ss ts zero = more_sites ss ts
+  first_sites ss [] (suc i) = omega arith
+  first_sites ss (t ∷ ts) (suc i) = first_sites (ThenStmt ss (stmt t)) ts i
+
+  -- one of the statements and those before it
+  pub sites_there : (ts : List Statement) (i : ℕ) (t : Statement) → i < length ts → t ≡ get_or ts i t → all_sites f (all_of (take i ts)) + sites f (stmt t) ≤ all_sites f (all_of ts)
+  sites_there ts i t below is =
+      let one = ap (λ ss. all_sites f ss) (row_more ts i t below is) in
+      let all = first_sites NoStmt ts (i + 1) in
+      omega (arith, one, all)
+
+-- a sum that doesn't fit is no less than 2^32
+pub too_many : (all n most : ℕ) → (all + n < 2 ^ 32 → ⊥) → all + n ≤ most → 2 ^ 32 ≤ most
+too_many all n most not_few below = go (cases_lt (all + n) (2 ^ 32))
+  where
+    go : (all + n < 2 ^ 32) ⊎ (2 ^ 32 ≤ all + n) → 2 ^ 32 ≤ most
+    go (inl few) = absurd (not_few few)
+    go (inr many) = omega (arith, many, below)
+
+-- the statements of a block have no more than it
+pub block_few : (f : ℕ → ℕ) (s : Statement) (at : ℕ) (ss : Vec Statement Global) (ts : List Statement) (n : ℕ) → s ≡ rust_statement.Block at ss → ts ≡ ss.items → sites f (stmt s) ≤ n → all_sites f (all_of ts) ≤ n
+block_few f s at ss ts n s_is ts_is few = subst (λ (x : Stmt). sites f x ≤ n) (sym (block_is s at ss ts s_is ts_is)) few

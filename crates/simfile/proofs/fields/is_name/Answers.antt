@@ -1,6 +1,0 @@
-use Rattle.std.proofs.Common.{arith}
-use Rattle.std.proofs.lemmas.Bool.Decides.{nat_tests}
-use Rattle.simfile.proofs.fields.is_name.Goals as goal
-
-pub returns-then-later-lt63 : goal.returns-then-later-lt63
-returns-then-later-lt63 c = rw (c.in-Some.ensures.cases.0, c.are_later.ensures) (grind (arith, nat_tests))
