@@ -16,4 +16,4 @@ pub use access_list::AccessList;
 pub use compare::left_at;
 pub use kinds::{both_store, clash, kind_number};
 pub use list::ListLog;
-pub use log::{AccessLog, Accesses, Entry, Fenced, Hit};
+pub use log::{AccessLog, Accesses, Entry, Fenced, Hit, Logged};
