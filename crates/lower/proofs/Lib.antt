@@ -34,3 +34,4 @@ pub mod LowStatements
 pub mod LowKernels
 pub mod ShortStatements
 pub mod ShortKernels
+pub mod Named

@@ -37,3 +37,8 @@ TypedKernelsFewRegisters =
 abbrev pub FewBarriers : Funcs → ℕ → Type 0
 FewBarriers functions number =
     (f : Func) → kernel_in functions number ≡ Some f → all_sites (sites_in (functions_before functions number)) f.body < 2 ^ 32
+
+-- and it has no more nodes than typing allows
+abbrev pub FewNodes : Funcs → ℕ → Type 0
+FewNodes functions number =
+    (f : Func) → kernel_in functions number ≡ Some f → (size_of (functions_before functions number) f).nodes ≤ node_limit

@@ -5,7 +5,8 @@ ghost use Rattle.std.specs.Prelude.{◌≡◌, ◌↔◌, map, None, IfOk, IfErr
 ghost use Rattle.clmodel.specs.Setup.{kernel_in};
 ghost use Rattle.clmodel.specs.Tree.{program, func, then_funcs, NoFunc};
 ghost use Rattle.regcode.specs.Listed.{listing};
-ghost use Rattle.lower.specs.Bounds.{FewBarriers};
+ghost use Rattle.lower_code.specs.Helpers.{NodesCounted};
+ghost use Rattle.lower.specs.Bounds.{FewBarriers, FewNodes};
 ghost use Rattle.lower.specs.Lists.{Lists};
 ghost use Rattle.lower.specs.Lowers.{IsLowered};
 ghost use Rattle.lower.specs.Names.{kernel_number, LowersNamed, ListsNamed};
@@ -13,7 +14,9 @@ ghost use Rattle.lower.specs.Names.{kernel_number, LowersNamed, ListsNamed};
 use crate::code_laws::acts_as_the_tree;
 use crate::kernels::emit_kernel;
 use crate::lookup::{kernel_named, kernel_number};
-use crate::table_laws::{typed_kernels_are_verified, typed_kernels_have_few_barriers};
+use crate::table_laws::{
+    typed_kernels_are_short, typed_kernels_are_verified, typed_kernels_have_few_barriers,
+};
 use crate::tables::tables_of;
 use clmodel::tree::{Function, Parameter, VariableType};
 use cltypes::Checked;
@@ -55,7 +58,9 @@ fn list_kernel(
     functions: &[Function],
     number: u32,
 ) -> Result<Option<Listed>, AllocError>
-    requires { FewBarriers (then_funcs NoFunc (map func functions.now)) number }
+    requires few { FewBarriers (then_funcs NoFunc (map func functions.now)) number }
+    requires small { FewNodes (then_funcs NoFunc (map func functions.now)) number }
+    requires nodes { NodesCounted functions.now }
     ensures code { IfOk result (λ found. IfSome found (λ code.
         Lists (then_funcs NoFunc (map func functions.now)) number (listing code.instructions.items code.tables))) }
     ensures none { IfOk result (λ found. found ≡ None → kernel_in (then_funcs NoFunc (map func functions.now)) number ≡ None) }
@@ -87,6 +92,7 @@ pub fn lower_kernel(alloc: Global, checked: &Checked, number: u32) -> Result<Cod
     acts_as_the_tree();
     typed_kernels_are_verified();
     typed_kernels_have_few_barriers();
+    typed_kernels_are_short();
     let listed = match list_kernel(alloc, &checked.tree.functions, number) {
         Ok(Some(listed)) => listed,
         Ok(None) => return Err(LowerFault::NoSuchKernel),

@@ -147,7 +147,7 @@ sort_passes u a m z e h = go (passes u a z h)
     go (inr c) = kind_passes u m z (number_agrees a.kind m.kind z.kind c (sym same ∙ agree_number a.kind z.kind c))
 
 -- marks of one kind that have the same byte left are of one sort
-sort_from : (a b : Mark) → kind_number a.kind ≡ kind_number b.kind → a.left ≡ b.left → one_sort a b ≡ true
+pub sort_from : (a b : Mark) → kind_number a.kind ≡ kind_number b.kind → a.left ≡ b.left → one_sort a b ≡ true
 sort_from a b e f =
     and_from (kind_number a.kind == kind_number b.kind) (a.left == b.left) (eq-eqb (kind_number a.kind) (kind_number b.kind) e) (eq-eqb a.left b.left f)
 

@@ -1,5 +1,5 @@
 -- Which accesses of a group's log tell other groups nothing new, and lists that leave such out (own, on OpenCL 1.2, 3.3.1 and 6.5.2).
-use Rattle.std.specs.Prelude.{◌≡◌, ◌⊎◌, ℕ, true, List, [], ◌∷◌}
+use Rattle.std.specs.Prelude.{◌≡◌, ◌⊎◌, ℕ, Bool, true, false, List, [], ◌∷◌, ◌++◌, map, reverse}
 use Rattle.clmodel.specs.declared.access.Access.{Access}
 use Rattle.clmodel.specs.declared.access.Region.{Region}
 use Rattle.clmodel.specs.declared.access.Region.TheVariants as region
@@ -25,3 +25,12 @@ StandsFor earlier short [] = short ≡ []
 StandsFor earlier short (x ∷ whole) =
     (Absorbed earlier x.access × StandsFor (x.access ∷ earlier) short whole)
     ⊎ ((rest : List Entry) × (short ≡ x ∷ rest) × StandsFor (x.access ∷ earlier) rest whole)
+
+-- the same for a list with an entry at its end; `last` says whether the short list has it
+abbrev pub EndsWith : Bool → List Entry → List Entry → Entry → Type 0
+EndsWith true short front x = (rest : List Entry) × (short ≡ rest ++ x ∷ []) × StandsFor [] rest front
+EndsWith false short front x = StandsFor [] short front × Absorbed (map (λ e. e.access) (reverse front)) x.access
+
+-- a short list stands for the whole one, and `last` says whether it has the last entry of it
+abbrev pub StandsWith : Bool → List Entry → List Entry → Type 0
+StandsWith last short whole = ((short ≡ []) × (whole ≡ [])) ⊎ ((front : List Entry) × (x : Entry) × (whole ≡ front ++ x ∷ []) × EndsWith last short front x)
