@@ -1,3 +1,5 @@
 pub mod Cells
 pub mod Meetings
-pub mod Lasting
+pub mod Absorbing
+pub mod Missing
+pub mod Listing

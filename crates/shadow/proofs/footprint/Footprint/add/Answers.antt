@@ -8,7 +8,7 @@ use Rattle.shadow.specs.Lasting.{AbsorbedAt}
 use Rattle.shadow.specs.Seen.{seen_with, is_new, seen, mark_of, cell_in, IsPage}
 use Rattle.shadow.specs.declared.seen.Seen.{Seen}
 use Rattle.shadow.proofs.Cells.{same_cells, marked_cells, either_page, on_err}
-use Rattle.shadow.proofs.Lasting.{not_new}
+use Rattle.shadow.proofs.Absorbing.{not_new}
 use Rattle.shadow.proofs.Meetings.{cells_there}
 use Rattle.shadow.proofs.footprint.Footprint.add.Goals as goal
 
