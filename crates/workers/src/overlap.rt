@@ -85,7 +85,7 @@ pub(crate) fn join_and_run<'a, 'b, G: Gate, R: Threads + Wait + Sync>(
     rounds_are_shared();
     let round = Round::new(launch, buffers, last, end);
     let gate = RoundGate { gate, first: last };
-    let (next, joined) = run_beside(
+    run_beside(
         rt,
         alloc,
         &round,
@@ -95,6 +95,5 @@ pub(crate) fn join_and_run<'a, 'b, G: Gate, R: Threads + Wait + Sync>(
             requires { HasGroups (setup_of launch.now) × (first ≤ last) × HoldsGroups (launch_of (setup_of launch.now) (bytes_in buffers.now)) first so_far × AreOfRound (launch_of (setup_of launch.now) (bytes_in buffers.now)) last first results.items }
             ensures { IfOk result (CameOfRound (launch_of (setup_of launch.entry.now) (bytes_in buffers.entry.now)) last) }
         { join_round(alloc, launch, buffers, so_far, first, last, results) },
-    );
-    (next, joined)
+    )
 }

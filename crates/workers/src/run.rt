@@ -10,28 +10,31 @@ ghost use Rattle.snapshot_merge.specs.Rounds.{CameOfRound};
 ghost use Rattle.spaces_base.specs.Buffers.{bytes_in};
 
 use crate::overlap::{join_and_run, run_round};
+use crate::round_gate::GateAround;
 use clmodel::outcome::Outcome;
 use item_step::Launch;
-use snapshot_merge::{JoinedGroups, RoundEnd, group_count, join_round, joined_groups_conclude};
+use snapshot_merge::{
+    JoinedGroups, RoundEnd, group_count, join_round, joined_groups_conclude, run_launch_around,
+};
 use spaces_base::Buffers;
 use std::alloc::{AllocError, Global};
 use std::sync::Wait;
 use std::thread::Threads;
 use workers_draw::gate::Gate;
 
+/// How many groups are in a round for each worker.
+const GROUPS_EACH: u32 = 6;
+
 /// About how many work-items are in a round of small groups.
 const ROUND_ITEMS: u32 = 2048;
 
-/// How many groups are in a round: three for each worker, and more where they are small. Their results wait until the round is done, each
-/// with its log, so a single worker joins group by group.
+/// How many groups are in a round: some for each worker, and more where they are small. The workers wait for each other at its end, and the
+/// results of two rounds wait for their join, so a larger round is sooner done and holds more.
 fn round_size(launch: &Launch<'_>, workers: u32) -> u32
     requires { (1 ≤ workers) × (workers ≤ 16) }
     ensures { 1 ≤ result }
 {
-    if workers == 1 {
-        return 1;
-    }
-    (3 * workers).max(ROUND_ITEMS / launch.group_size())
+    (GROUPS_EACH * workers).max(ROUND_ITEMS / launch.group_size())
 }
 
 /// What a launch comes to, of which all groups are joined or one brought a report.
@@ -49,12 +52,9 @@ fn outcome_of(launch: &Launch<'_>, buffers: &Buffers, end: RoundEnd<'_>, groups:
     }
 }
 
-/// The canonical run of a launch, by 1 to 16 workers (OpenCL 1.2, sections 3.2 and 5.8). Each worker draws groups and runs them on the
-/// buffers as they are, between two calls of the gate with the group's number; a thread that can't be started is done without. The groups
-/// run in rounds. The calling thread joins the groups of a round in their order while the workers run the next. What the launch comes to is
-/// what `run_launch` answers, however many workers there are and whatever the gate does. The buffers stay as they are. An error is out of
-/// memory.
-pub fn run_parallel<G: Gate, R: Threads + Wait + Sync>(
+/// The canonical run of a launch by some workers, in rounds. The calling thread joins the groups of a round in their order while the workers
+/// run the next.
+fn run_rounds<G: Gate, R: Threads + Wait + Sync>(
     rt: &R,
     alloc: Global,
     launch: &Launch<'_>,
@@ -87,4 +87,28 @@ pub fn run_parallel<G: Gate, R: Threads + Wait + Sync>(
     }
     let end = join_round(alloc, launch, buffers, so_far, first, last, results)?;
     Ok(outcome_of(launch, buffers, end, last))
+}
+
+/// The canonical run of a launch, by 1 to 16 workers (OpenCL 1.2, sections 3.2 and 5.8). Each worker draws groups and runs them on the
+/// buffers as they are, between two calls of the gate with the group's number; a thread that can't be started is done without. Several
+/// workers run the groups in rounds, and the calling thread joins each round while they run the next. One worker is the calling thread: it
+/// runs and joins group after group, as `run_launch` does. What the launch comes to is what `run_launch` answers, however many workers there
+/// are and whatever the gate does. The buffers stay as they are. An error is out of memory.
+pub fn run_parallel<G: Gate, R: Threads + Wait + Sync>(
+    rt: &R,
+    alloc: Global,
+    launch: &Launch<'_>,
+    buffers: &Buffers,
+    workers: u32,
+    gate: &G,
+) -> Result<Outcome, AllocError>
+    requires whole { HasGroups (setup_of launch.now) }
+    requires workers { (1 ≤ workers) × (workers ≤ 16) }
+    ensures { IfOk result (Concludes (launch_of (setup_of launch.now) (bytes_in buffers.now))) }
+{
+    if workers == 1 {
+        run_launch_around(alloc, launch, buffers, &GateAround { gate })
+    } else {
+        run_rounds(rt, alloc, launch, buffers, workers, gate)
+    }
 }

@@ -4,7 +4,7 @@ use Rattle.item_step.specs.Launches.{setup_of}
 use Rattle.snapshot_merge.specs.JoinedGroups.{HoldsGroups}
 use Rattle.spaces_base.specs.Buffers.{bytes_in}
 use Rattle.workers.specs.Results.{AreOfRound}
-use Rattle.workers.proofs.run.run_parallel.Given as goal
+use Rattle.workers.proofs.run.run_rounds.Given as goal
 
 abbrev pub decreases-loop-last : goal.decreases-loop-last
 decreases-loop-last g l = l.groups - l.last
