@@ -6,7 +6,7 @@ ghost use Rattle.clmodel.specs.declared.access.Access.{Access as TheAccess};
 ghost use Rattle.shadow_list.specs.Log.{IsPlaced};
 ghost use Rattle.group_log.specs.Lasting.{Stays};
 
-use shadow::Footprint;
+use shadow::{Footprint, LastingList};
 use shadow_list::Entry;
 use std::alloc::{AllocError, Global};
 
@@ -51,6 +51,23 @@ impl Lasting {
         let news = self.footprint.add(self.alloc, &entry.access)?;
         self.put(news, *entry);
         Ok(news)
+    }
+
+    /// Passes over an access of local memory, of which other groups know nothing.
+    pub(crate) fn pass(&mut self)
+        ensures footprint { self.new.footprint ≡ self.old.footprint }
+        ensures entries { self.new.entries.items ≡ self.old.entries.items }
+        ensures has_last { self.new.has_last ≡ false }
+    {
+        self.has_last = false;
+    }
+
+    /// The accesses as other groups ask for them.
+    pub(crate) fn into_list(self) -> LastingList
+        ensures entries { result.entries.items ≡ self.entries.items }
+        ensures has_last { result.has_last ≡ self.has_last }
+    {
+        LastingList::from_entries(self.entries, self.has_last)
     }
 
     /// Keeps an access for which there is room, where it tells something new.

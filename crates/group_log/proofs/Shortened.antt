@@ -11,7 +11,9 @@ use Rattle.clmodel.specs.declared.access.Region.{Region}
 use Rattle.clmodel.specs.declared.access.Region.TheVariants as region
 use Rattle.joining.specs.Memory.{at_byte}
 use Rattle.shadow.specs.Lasting.{AbsorbedAt, Absorbed, StandsFor, EndsWith, StandsWith}
-use Rattle.shadow.specs.Seen.{seen, seen_with, mark_of}
+use Rattle.shadow.specs.Seen.{seen, seen_with, mark_of, Remembers}
+use Rattle.shadow.specs.declared.seen.Seen.{Seen}
+use Rattle.shadow_list.specs.Log.{in_buffer}
 use Rattle.shadow.proofs.Absorbing.{onto}
 use Rattle.shadow.proofs.Listing.{onto_is}
 use Rattle.shadow_list.specs.declared.log.Entry.{Entry}
@@ -83,14 +85,14 @@ left_out_less :
     (earlier : List Access) (items : List (Entry × Bool)) (n : Entry × Bool) → LeavesOut earlier (items ++ n ∷ [])
     → LeavesOut earlier items × (n.1 ≡ false → Stays (made earlier items) n.0.access)
 left_out_less earlier [] n h = (λ k y e. absurd (none_some (y, false) e), λ f. h zero n.0 (ap (λ b. Some (n.0, b)) f))
-left_out_less earlier (m ∷ items) n h = (front, rest.1)
+left_out_less earlier (m ∷ items) n h =
+    let rest : LeavesOut (m.0.access ∷ earlier) items × (n.1 ≡ false → Stays (made (m.0.access ∷ earlier) items) n.0.access) =
+    left_out_less (m.0.access ∷ earlier) items n (λ j z d. h (suc j) z d) in
+    (front rest.0, rest.1)
   where
-    rest : LeavesOut (m.0.access ∷ earlier) items × (n.1 ≡ false → Stays (made (m.0.access ∷ earlier) items) n.0.access)
-    rest = left_out_less (m.0.access ∷ earlier) items n (λ j z d. h (suc j) z d)
-
-    front : LeavesOut earlier (m ∷ items)
-    front zero y e = h zero y e
-    front (suc k) y e = rest.0 k y e
+    front : LeavesOut (m.0.access ∷ earlier) items → LeavesOut earlier (m ∷ items)
+    front rest zero y e = h zero y e
+    front rest (suc k) y e = rest k y e
 
 -- ---- the list that other groups ask
 
@@ -132,3 +134,19 @@ short_stands items h = go (split items)
           all_more front x f,
           subst (λ b. EndsWith b (short_of (front ++ (x, f) ∷ [])) (all_of front) x) (sym (last_more false front x f)) (ends front x f r.0 r.1),
         ))
+
+-- ---- one access more of a log
+
+-- an access of local memory changes nothing of what is kept for other groups
+pub local_stays : (earlier : List Access) (x : Access) → in_buffer x.region ≡ false → Stays earlier x
+local_stays earlier x h = absorbed_stays earlier x (go x.region h)
+  where
+    go : (r : Region) → in_buffer r ≡ false → AbsorbedAt r earlier x
+    go (region.Buffer n) e = absurd (false≢true (sym e))
+    go (region.Local g n) e = tt
+
+pub local_footprint : (cells : List (ℕ → Seen)) (log : List Access) (x : Access) → in_buffer x.region ≡ false → Remembers cells log → Remembers cells (x ∷ log)
+local_footprint cells log x h keeps number byte = keeps number byte ∙ sym (local_stays log x h number byte)
+
+pub none_left_out : LeavesOut [] []
+none_left_out k x e = absurd (none_some (x, false) e)
