@@ -19,7 +19,7 @@ use Rattle.snapshot_merge.specs.Launches.{AreResultsTo}
 use Rattle.snapshot_run.specs.Launches.{list_log}
 use Rattle.spaces.specs.Overlay.{Overlaid}
 use Rattle.workers_draw.specs.Groups.{AreResults}
-use Rattle.workers.specs.Results.{access_list, IsOfGroup, IsStopping, number_of, has_stopped}
+use Rattle.workers.specs.Results.{access_list, AreOfRound, IsOfGroup, IsStopping, number_of, has_stopped}
 
 abbrev Came : Type 0
 Came = GroupResult Overlaid AccessList
@@ -83,3 +83,13 @@ module _ (launch : Launch) (first count : ℕ) where
   )
   are_results n (Stopped number fault log runs ∷ results) is =
       (is.0.0, is.0.1, ⊎_elim (λ stop. stop.1) (λ more. absurd (true≢false more.0)) is.1)
+
+-- the results of groups that are numbered among those of a round, as those of the round
+pub are_of_round : (launch same : Launch) (first count begin last : ℕ) → launch ≡ same → first ≡ begin → begin + count ≡ last
+    → (results : List Came) → AreResults count (λ n came. IsOfGroup launch (first + n) came) has_stopped 0 results → AreOfRound same last begin results
+are_of_round launch same first count begin last is from to results each =
+    let start : first + 0 ≡ begin = omega (arith, from) in
+    let end : first + count ≡ last = omega (arith, from, to) in
+    subst (λ (l : Launch). AreOfRound l last begin results) is
+    (subst (λ n. AreOfRound launch n begin results) end
+    (subst (λ n. AreOfRound launch (first + count) n results) start (are_results launch first count 0 results each)))

@@ -1,5 +1,5 @@
 -- Results of a launch's work-groups, each run apart (OpenCL 1.2, 3.2, 5.8; own).
-use Rattle.std.specs.Prelude.{◌≡◌, ℕ, Bool, true, false, Some}
+use Rattle.std.specs.Prelude.{◌≡◌, ℕ, Bool, true, false, Some, List}
 use Rattle.clmodel.specs.Launch.{Launch}
 use Rattle.clmodel.specs.declared.fault.Fault.{Fault}
 use Rattle.group_run.specs.Results.{IsResult}
@@ -9,6 +9,7 @@ use Rattle.joining.specs.Parts.{Part, IsPart}
 use Rattle.joining.specs.Steps.{HasGroup}
 use Rattle.shadow_list.specs.Log.{Log, logged}
 use Rattle.shadow_list.specs.declared.access_list.AccessList.{AccessList}
+use Rattle.snapshot_merge.specs.Launches.{AreResultsTo}
 use Rattle.spaces.specs.Overlay.{Overlaid}
 
 -- a list of accesses, as a log (own)
@@ -18,6 +19,10 @@ access_list l = logged l.entries.items l.local_interval l.global_interval l.unif
 -- the result of a group that the launch has: that of its canonical run on the launch's first memory (3.2)
 abbrev pub IsOfGroup : Launch → ℕ → GroupResult Overlaid AccessList → Type 0
 IsOfGroup launch group came = HasGroup launch group × IsResult (λ overlay. overlay.bytes) access_list launch group came
+
+-- the results of a round's groups, from one on up to another, which isn't among them: of all of them, or up to and with one that stopped (own)
+abbrev pub AreOfRound : Launch → ℕ → ℕ → List (GroupResult Overlaid AccessList) → Type 0
+AreOfRound launch last first results = AreResultsTo (λ overlay. overlay.bytes) access_list launch last first results
 
 -- the canonical run of the group ends with a report (own)
 abbrev pub IsStopping : Launch → ℕ → Type 0

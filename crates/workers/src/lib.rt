@@ -1,6 +1,8 @@
 //! The run of a launch by several workers.
 #![tactic(auto)]
 
+mod beside;
+mod overlap;
 mod round;
 mod round_gate;
 mod run;

@@ -6,70 +6,94 @@ ghost use Rattle.clmodel.specs.Outcome.{Concludes};
 ghost use Rattle.clmodel.specs.Setup.{item_count, group_items};
 ghost use Rattle.item_step.specs.Launches.{setup_of};
 ghost use Rattle.launches.specs.Groups.{HasGroups};
-ghost use Rattle.snapshot_merge.specs.JoinedGroups.{HoldsGroups};
 ghost use Rattle.snapshot_merge.specs.Rounds.{CameOfRound};
 ghost use Rattle.spaces_base.specs.Buffers.{bytes_in};
 
-use crate::round::Round;
-use crate::round_gate::RoundGate;
-use crate::shares::rounds_are_shared;
+use crate::overlap::{join_and_run, run_round};
+use crate::round_gate::GateAround;
 use clmodel::outcome::Outcome;
 use item_step::Launch;
-use snapshot_merge::{JoinedGroups, RoundEnd, group_count, join_round, joined_groups_conclude};
+use snapshot_merge::{
+    JoinedGroups, RoundEnd, group_count, join_round, joined_groups_conclude, run_launch_around,
+};
 use spaces_base::Buffers;
 use std::alloc::{AllocError, Global};
 use std::sync::Wait;
 use std::thread::Threads;
 use workers_draw::gate::Gate;
-use workers_draw::run::run_groups;
+
+/// How many groups are in a round for each worker.
+const GROUPS_EACH: u32 = 6;
 
 /// About how many work-items are in a round of small groups.
 const ROUND_ITEMS: u32 = 2048;
 
-/// How many groups are in a round: three for each worker, and more where they are small. Their results wait until the round is done, each
-/// with its log, so a single worker joins group by group.
+/// How many groups are in a round: some for each worker, and more where they are small. The workers wait for each other at its end, and the
+/// results of two rounds wait for their join, so a larger round is sooner done and holds more.
 fn round_size(launch: &Launch<'_>, workers: u32) -> u32
     requires { (1 ≤ workers) × (workers ≤ 16) }
     ensures { 1 ≤ result }
 {
-    if workers == 1 {
-        return 1;
-    }
-    (3 * workers).max(ROUND_ITEMS / launch.group_size())
+    (GROUPS_EACH * workers).max(ROUND_ITEMS / launch.group_size())
 }
 
-/// Runs the groups from one on up to another, which isn't among them, and joins them to what is joined.
-fn run_round<'a, G: Gate, R: Threads + Wait + Sync>(
+/// What a launch comes to, of which all groups are joined or one brought a report.
+fn outcome_of(launch: &Launch<'_>, buffers: &Buffers, end: RoundEnd<'_>, groups: u32) -> Outcome
+    requires whole { HasGroups (setup_of launch.now) }
+    requires some { 0 < group_items (setup_of launch.now).range }
+    requires all { groups * group_items (setup_of launch.now).range ≡ item_count (setup_of launch.now).range }
+    requires end { CameOfRound (launch_of (setup_of launch.now) (bytes_in buffers.now)) groups end }
+    ensures { Concludes (launch_of (setup_of launch.now) (bytes_in buffers.now)) result }
+{
+    joined_groups_conclude();
+    match end {
+        RoundEnd::Goes(joined) => Outcome::Clean(joined.into_contents()),
+        RoundEnd::Ends(outcome) => outcome,
+    }
+}
+
+/// The canonical run of a launch by some workers, in rounds. The calling thread joins the groups of a round in their order while the workers
+/// run the next.
+fn run_rounds<G: Gate, R: Threads + Wait + Sync>(
     rt: &R,
     alloc: Global,
     launch: &Launch<'_>,
     buffers: &Buffers,
     workers: u32,
     gate: &G,
-    so_far: JoinedGroups<'a>,
-    first: u32,
-    last: u32,
-) -> Result<RoundEnd<'a>, AllocError>
+) -> Result<Outcome, AllocError>
     requires whole { HasGroups (setup_of launch.now) }
-    requires some { 0 < group_items (setup_of launch.now).range }
-    requires order { first ≤ last }
-    requires there { last * group_items (setup_of launch.now).range ≤ item_count (setup_of launch.now).range }
     requires workers { (1 ≤ workers) × (workers ≤ 16) }
-    requires so_far { HoldsGroups (launch_of (setup_of launch.now) (bytes_in buffers.now)) first so_far }
-    ensures { IfOk result (CameOfRound (launch_of (setup_of launch.now) (bytes_in buffers.now)) last) }
+    ensures { IfOk result (Concludes (launch_of (setup_of launch.now) (bytes_in buffers.now))) }
 {
-    rounds_are_shared();
-    let round = Round::new(launch, buffers, first, last);
-    let gate = RoundGate { gate, first };
-    let results = run_groups(rt, alloc, &round, workers as usize, &gate)?;
-    join_round(alloc, launch, buffers, so_far, first, last, results)
+    let groups = group_count(launch);
+    let most = round_size(launch, workers);
+    let mut so_far = JoinedGroups::new(alloc, launch, buffers)?;
+    let mut first = 0;
+    let mut last = most.min(groups);
+    let mut results = run_round(rt, alloc, launch, buffers, workers, gate, first, last)?;
+    while last < groups {
+        let end = last + most.min(groups - last);
+        let (next, joined) = join_and_run(
+            rt, alloc, launch, buffers, workers, gate, so_far, results, first, last, end,
+        );
+        match joined? {
+            RoundEnd::Goes(joined) => so_far = joined,
+            RoundEnd::Ends(outcome) => return Ok(outcome),
+        }
+        results = next?;
+        first = last;
+        last = end;
+    }
+    let end = join_round(alloc, launch, buffers, so_far, first, last, results)?;
+    Ok(outcome_of(launch, buffers, end, last))
 }
 
 /// The canonical run of a launch, by 1 to 16 workers (OpenCL 1.2, sections 3.2 and 5.8). Each worker draws groups and runs them on the
-/// buffers as they are, between two calls of the gate with the group's number; the calling thread is one of the workers, and a thread that
-/// can't be started is done without. The groups run in rounds, and each round is joined in the order of the groups. What the launch comes
-/// to is what `run_launch` answers, however many workers there are and whatever the gate does. The buffers stay as they are. An error is out
-/// of memory.
+/// buffers as they are, between two calls of the gate with the group's number; a thread that can't be started is done without. Several
+/// workers run the groups in rounds, and the calling thread joins each round while they run the next. One worker is the calling thread: it
+/// runs and joins group after group, as `run_launch` does. What the launch comes to is what `run_launch` answers, however many workers there
+/// are and whatever the gate does. The buffers stay as they are. An error is out of memory.
 pub fn run_parallel<G: Gate, R: Threads + Wait + Sync>(
     rt: &R,
     alloc: Global,
@@ -82,20 +106,9 @@ pub fn run_parallel<G: Gate, R: Threads + Wait + Sync>(
     requires workers { (1 ≤ workers) × (workers ≤ 16) }
     ensures { IfOk result (Concludes (launch_of (setup_of launch.now) (bytes_in buffers.now))) }
 {
-    joined_groups_conclude();
-    let groups = group_count(launch);
-    let most = round_size(launch, workers);
-    let mut so_far = JoinedGroups::new(alloc, launch, buffers)?;
-    let mut first = 0;
-    while first < groups {
-        let last = first + most.min(groups - first);
-        match run_round(
-            rt, alloc, launch, buffers, workers, gate, so_far, first, last,
-        )? {
-            RoundEnd::Goes(joined) => so_far = joined,
-            RoundEnd::Ends(outcome) => return Ok(outcome),
-        }
-        first = last;
+    if workers == 1 {
+        run_launch_around(alloc, launch, buffers, &GateAround { gate })
+    } else {
+        run_rounds(rt, alloc, launch, buffers, workers, gate)
     }
-    Ok(Outcome::Clean(so_far.into_contents()))
 }

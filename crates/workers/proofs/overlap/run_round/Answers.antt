@@ -1,0 +1,16 @@
+use Rattle.std.proofs.Common.{ap₂}
+use denote.Param.Send.{sendable}
+use Rattle.clmodel.specs.Next.{launch_of}
+use Rattle.item_step.specs.Launches.{setup_of}
+use Rattle.spaces_base.specs.Buffers.{bytes_in}
+use Rattle.workers.proofs.Runs.{are_of_round}
+use Rattle.workers.proofs.overlap.run_round.Goals as goal
+
+pub run_groups-requires-sync-W : goal.run_groups-requires-sync-W
+run_groups-requires-sync-W g c κs = search (sendable, c.rounds_are_shared.ensures)
+
+pub returns : goal.returns
+returns g c =
+    let round = c.new-round.result in let new = c.new-round.ensures in
+    let same = ap₂ (λ x y. launch_of (setup_of x) (bytes_in y)) new.launch new.buffers in
+    are_of_round (launch_of (setup_of round.launch.now) (bytes_in round.buffers.now)) (launch_of (setup_of c.args.launch.now) (bytes_in c.args.buffers.now)) round.first round.count c.args.first c.args.last same new.first new.count c.in_ok-results.results.items c.in_ok-results.ensures

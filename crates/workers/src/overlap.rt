@@ -1,0 +1,99 @@
+//! The run of a round of groups beside the join of the round before it.
+
+ghost use Rattle.std.specs.Prelude.{◌≡◌, ◌*◌, ◌<◌, ◌≤◌, IfOk};
+ghost use Rattle.clmodel.specs.Next.{launch_of};
+ghost use Rattle.clmodel.specs.Setup.{item_count, group_items};
+ghost use Rattle.item_step.specs.Launches.{setup_of};
+ghost use Rattle.launches.specs.Groups.{HasGroups};
+ghost use Rattle.snapshot_merge.specs.JoinedGroups.{HoldsGroups};
+ghost use Rattle.snapshot_merge.specs.Rounds.{CameOfRound};
+ghost use Rattle.spaces_base.specs.Buffers.{bytes_in};
+ghost use Rattle.workers.specs.Results.{AreOfRound};
+
+use crate::beside::run_beside;
+use crate::round::Round;
+use crate::round_gate::RoundGate;
+use crate::shares::rounds_are_shared;
+use group_run::GroupResult;
+use item_step::Launch;
+use shadow_list::AccessList;
+use snapshot_merge::{JoinedGroups, RoundEnd, join_round};
+use spaces::Overlay;
+use spaces_base::Buffers;
+use std::alloc::{AllocError, Global};
+use std::sync::Wait;
+use std::thread::Threads;
+use workers_draw::gate::Gate;
+use workers_draw::run::run_groups;
+
+/// The results of the groups of a round, in their order.
+pub(crate) type Results<'a> = Vec<GroupResult<Overlay<'a>, AccessList>>;
+
+/// Runs the groups from one on up to another, which isn't among them: the results of all of them, or up to and with one that stopped.
+pub(crate) fn run_round<'a, G: Gate, R: Threads + Wait + Sync>(
+    rt: &R,
+    alloc: Global,
+    launch: &'a Launch<'a>,
+    buffers: &'a Buffers,
+    workers: u32,
+    gate: &G,
+    first: u32,
+    last: u32,
+) -> Result<Results<'a>, AllocError>
+    requires whole { HasGroups (setup_of launch.now) }
+    requires some { 0 < group_items (setup_of launch.now).range }
+    requires order { first ≤ last }
+    requires there { last * group_items (setup_of launch.now).range ≤ item_count (setup_of launch.now).range }
+    requires workers { (1 ≤ workers) × (workers ≤ 16) }
+    ensures { IfOk result (λ v. AreOfRound (launch_of (setup_of launch.now) (bytes_in buffers.now)) last first v.items) }
+{
+    rounds_are_shared();
+    let round = Round::new(launch, buffers, first, last);
+    let gate = RoundGate { gate, first };
+    let results = run_groups(rt, alloc, &round, workers as usize, &gate)?;
+    Ok(results)
+}
+
+/// Joins a round, whose groups are those from `first` up to `last`, to what is joined so far, while the workers run the next, whose groups
+/// are those from `last` up to `end`. The calling thread joins; where no thread can be started, it runs the next round after that.
+pub(crate) fn join_and_run<'a, 'b, G: Gate, R: Threads + Wait + Sync>(
+    rt: &R,
+    alloc: Global,
+    launch: &'a Launch<'a>,
+    buffers: &'a Buffers,
+    workers: u32,
+    gate: &G,
+    so_far: JoinedGroups<'b>,
+    results: Results<'a>,
+    first: u32,
+    last: u32,
+    end: u32,
+) -> (
+    Result<Results<'a>, AllocError>,
+    Result<RoundEnd<'b>, AllocError>,
+)
+    requires whole { HasGroups (setup_of launch.now) }
+    requires some { 0 < group_items (setup_of launch.now).range }
+    requires order { (first ≤ last) × (last ≤ end) }
+    requires there { end * group_items (setup_of launch.now).range ≤ item_count (setup_of launch.now).range }
+    requires workers { (1 ≤ workers) × (workers ≤ 16) }
+    requires so_far { HoldsGroups (launch_of (setup_of launch.now) (bytes_in buffers.now)) first so_far }
+    requires results { AreOfRound (launch_of (setup_of launch.now) (bytes_in buffers.now)) last first results.items }
+    ensures next { IfOk result.0 (λ v. AreOfRound (launch_of (setup_of launch.now) (bytes_in buffers.now)) end last v.items) }
+    ensures joined { IfOk result.1 (CameOfRound (launch_of (setup_of launch.now) (bytes_in buffers.now)) last) }
+{
+    rounds_are_shared();
+    let round = Round::new(launch, buffers, last, end);
+    let gate = RoundGate { gate, first: last };
+    run_beside(
+        rt,
+        alloc,
+        &round,
+        workers as usize,
+        &gate,
+        move || -> Result<RoundEnd<'_>, AllocError>
+            requires { HasGroups (setup_of launch.now) × (first ≤ last) × HoldsGroups (launch_of (setup_of launch.now) (bytes_in buffers.now)) first so_far × AreOfRound (launch_of (setup_of launch.now) (bytes_in buffers.now)) last first results.items }
+            ensures { IfOk result (CameOfRound (launch_of (setup_of launch.entry.now) (bytes_in buffers.entry.now)) last) }
+        { join_round(alloc, launch, buffers, so_far, first, last, results) },
+    )
+}
