@@ -58,8 +58,8 @@ pub block_few : (f : ℕ → ℕ) (s : Statement) (at : ℕ) (ss : Vec Statement
 block_few f s at ss ts n s_is ts_is few = subst (λ (x : Stmt). sites f x ≤ n) (sym (block_is s at ss ts s_is ts_is)) few
 
 -- and no more nodes
-pub block_small : (sizes : Sizes) (s : Statement) (at : ℕ) (ss : Vec Statement Global) (ts : List Statement) (n : ℕ) → s ≡ rust_statement.Block at ss → ts ≡ ss.items
-    → (size sizes (stmt s)).nodes ≤ n → (row_size sizes (all_of ts)).nodes ≤ n
-block_small sizes s at ss ts n s_is ts_is small =
-    let inner : suc (row_size sizes (all_of ts)).nodes ≤ n = subst (λ (x : Stmt). (size sizes x).nodes ≤ n) (sym (block_is s at ss ts s_is ts_is)) small in
+pub block_small : (sizes : Sizes) (s : Statement) (at : ℕ) (ss : Vec Statement Global) (ts : List Statement) (depth n : ℕ) → s ≡ rust_statement.Block at ss → ts ≡ ss.items
+    → depth + (size sizes (stmt s)).nodes ≤ n → depth + (row_size sizes (all_of ts)).nodes ≤ n
+block_small sizes s at ss ts depth n s_is ts_is small =
+    let inner : depth + suc (row_size sizes (all_of ts)).nodes ≤ n = subst (λ (x : Stmt). depth + (size sizes x).nodes ≤ n) (sym (block_is s at ss ts s_is ts_is)) small in
     omega (arith, inner)

@@ -35,3 +35,4 @@ pub mod LowKernels
 pub mod ShortStatements
 pub mod ShortKernels
 pub mod Named
+pub mod FitKernels

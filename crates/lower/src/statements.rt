@@ -27,7 +27,7 @@ use lower_code::loops::{end_do, end_while, put_condition, put_no_value, put_test
 use lower_code::positions::{Exits, Position};
 use lower_code::simple::{emit_assignment, emit_declaration, put_jump};
 use lower_code::variables::{declare_all, declare_parameters, declare_part, leave, leave_part};
-use lower_expr::scope::{Scope, level_above};
+use lower_expr::scope::Scope;
 use regcode::Instruction;
 use std::alloc::AllocError;
 
@@ -69,7 +69,7 @@ fn emit_single<'a>(
 ) -> Result<u32, AllocError>
     requires kind { is_single statement.now ≡ true }
     requires few { sites (inside setting.now.helpers.functions.now) (stmt statement.now) ≤ ending.behind }
-    requires small { (size (sizes_in setting.now.helpers.functions.now) (stmt statement.now)).nodes ≤ node_limit }
+    requires small { ending.depth + (size (sizes_in setting.now.helpers.functions.now) (stmt statement.now)).nodes ≤ node_limit }
     ensures code { IfOk result (λ site. code.new ≡ statement_code setting.now scope.old (stmt statement.now) (begun_at ending site) ++ code.old) }
     ensures site { IfOk result (λ site. site + sites (inside setting.now.helpers.functions.now) (stmt statement.now) ≡ ending.behind) }
     ensures scope { scope.new ≡ scope.old }
@@ -95,7 +95,7 @@ fn put_single<'a>(
 ) -> Result<(), AllocError>
     requires kind { is_single statement.now ≡ true }
     requires few { position.site + sites (inside setting.now.helpers.functions.now) (stmt statement.now) < 2 ^ 32 }
-    requires small { (size (sizes_in setting.now.helpers.functions.now) (stmt statement.now)).nodes ≤ node_limit }
+    requires small { position.depth + (size (sizes_in setting.now.helpers.functions.now) (stmt statement.now)).nodes ≤ node_limit }
     ensures code { OnOk result (code.new ≡ statement_code setting.now scope.old (stmt statement.now) position ++ code.old) }
     ensures scope { scope.new ≡ scope.old }
     ensures longer { OnErr result (GrowsBefore code.old code.new) }
@@ -115,17 +115,17 @@ fn put_single<'a>(
     }
 }
 
-/// The barriers of statements have numbers from 0 on where the first one behind them has its own, and the statements have no more nodes
-/// than a kernel may have. This is the contract of a function that does nothing: what it asks is shown at its call.
+/// The barriers of statements have numbers from 0 on where the first one behind them has its own, and the statements have no more nodes,
+/// with the loops round them, than a kernel may have. This is the contract of a function that does nothing: what it asks is shown at its call.
 fn numbers_suffice(setting: &Setting<'_>, statements: &[Statement], ending: Ending)
     requires few { all_sites (inside setting.now.helpers.functions.now) (all_of statements.now) ≤ ending.behind }
-    requires small { (row_size (sizes_in setting.now.helpers.functions.now) (all_of statements.now)).nodes ≤ node_limit }
+    requires small { ending.depth + (row_size (sizes_in setting.now.helpers.functions.now) (all_of statements.now)).nodes ≤ node_limit }
     ensures few { all_sites (inside setting.now.helpers.functions.now) (all_of statements.now) ≤ ending.behind }
-    ensures small { (row_size (sizes_in setting.now.helpers.functions.now) (all_of statements.now)).nodes ≤ node_limit }
+    ensures small { ending.depth + (row_size (sizes_in setting.now.helpers.functions.now) (all_of statements.now)).nodes ≤ node_limit }
 {}
 
 /// Puts a statement before the code, and gives the number of its first barrier, or of the first behind it if it has none. Err if out
-/// of memory, or if a number of 32 bits is too small.
+/// of memory, or if a register or a jump has no number of 32 bits.
 #[cycle(emission)]
 fn emit_statement<'a>(
     setting: &Setting<'a>,
@@ -135,7 +135,7 @@ fn emit_statement<'a>(
     code: &mut Draft<'a>,
 ) -> Result<u32, AllocError>
     requires few { sites (inside setting.now.helpers.functions.now) (stmt statement.now) ≤ ending.behind }
-    requires small { (size (sizes_in setting.now.helpers.functions.now) (stmt statement.now)).nodes ≤ node_limit }
+    requires small { ending.depth + (size (sizes_in setting.now.helpers.functions.now) (stmt statement.now)).nodes ≤ node_limit }
     ensures code { IfOk result (λ site. code.new ≡ statement_code setting.now scope.old (stmt statement.now) (begun_at ending site) ++ code.old) }
     ensures site { IfOk result (λ site. site + sites (inside setting.now.helpers.functions.now) (stmt statement.now) ≡ ending.behind) }
     ensures scope { OnOk result (scope.new ≡ scope.old) }
@@ -185,7 +185,7 @@ fn emit_loop<'a>(
 ) -> Result<u32, AllocError>
     requires kind { is_loop statement.now ≡ true }
     requires few { sites (inside setting.now.helpers.functions.now) (stmt statement.now) ≤ ending.behind }
-    requires small { (size (sizes_in setting.now.helpers.functions.now) (stmt statement.now)).nodes ≤ node_limit }
+    requires small { ending.depth + (size (sizes_in setting.now.helpers.functions.now) (stmt statement.now)).nodes ≤ node_limit }
     ensures code { IfOk result (λ site. code.new ≡ statement_code setting.now scope.old (stmt statement.now) (begun_at ending site) ++ code.old) }
     ensures site { IfOk result (λ site. site + sites (inside setting.now.helpers.functions.now) (stmt statement.now) ≡ ending.behind) }
     ensures scope { OnOk result (scope.new ≡ scope.old) }
@@ -242,7 +242,7 @@ fn emit_all<'a>(
     code: &mut Draft<'a>,
 ) -> Result<u32, AllocError>
     requires few { all_sites (inside setting.now.helpers.functions.now) (all_of statements.now) ≤ ending.behind }
-    requires small { (row_size (sizes_in setting.now.helpers.functions.now) (all_of statements.now)).nodes ≤ node_limit }
+    requires small { ending.depth + (row_size (sizes_in setting.now.helpers.functions.now) (all_of statements.now)).nodes ≤ node_limit }
     ensures code { IfOk result (λ site. code.new ≡ row_code setting.now scope.old (all_of statements.now) (begun_at ending site) ++ code.old) }
     ensures site { IfOk result (λ site. site + all_sites (inside setting.now.helpers.functions.now) (all_of statements.now) ≡ ending.behind) }
     ensures scope { OnOk result (scope.new ≡ scope.old) }
@@ -275,7 +275,7 @@ pub fn emit_body<'a>(
     code: &mut Draft<'a>,
 ) -> Result<(), AllocError>
     requires few { site + all_sites (inside helpers.functions.now) (all_of function.now.body.items) < 2 ^ 32 }
-    requires small { (row_size (sizes_in helpers.functions.now) (all_of function.now.body.items)).nodes ≤ node_limit }
+    requires small { depth + (row_size (sizes_in helpers.functions.now) (all_of function.now.body.items)).nodes ≤ node_limit }
     ensures code { OnOk result (code.new ≡ body_of helpers.entry.functions.now function.now level depth site ++ code.old) }
     ensures longer { OnErr result (GrowsBefore code.old code.new) }
 {
@@ -314,7 +314,7 @@ fn emit_if<'a>(
     code: &mut Draft<'a>,
 ) -> Result<u32, AllocError>
     requires few { sites (inside setting.now.helpers.functions.now) (stmt chosen.now) ≤ ending.behind }
-    requires small { (size (sizes_in setting.now.helpers.functions.now) (tree.If 0 (term condition.now) (stmt chosen.now))).nodes ≤ node_limit }
+    requires small { ending.depth + (size (sizes_in setting.now.helpers.functions.now) (tree.If 0 (term condition.now) (stmt chosen.now))).nodes ≤ node_limit }
     ensures code { IfOk result (λ site. code.new ≡ statement_code setting.now scope.old (tree.If 0 (term condition.now) (stmt chosen.now)) (begun_at ending site) ++ code.old) }
     ensures site { IfOk result (λ site. site + sites (inside setting.now.helpers.functions.now) (stmt chosen.now) ≡ ending.behind) }
     ensures scope { OnOk result (scope.new ≡ scope.old) }
@@ -339,7 +339,7 @@ fn emit_choice<'a>(
     code: &mut Draft<'a>,
 ) -> Result<u32, AllocError>
     requires few { sites (inside setting.now.helpers.functions.now) (stmt chosen.now) + sites (inside setting.now.helpers.functions.now) (stmt otherwise.now) ≤ ending.behind }
-    requires small { (size (sizes_in setting.now.helpers.functions.now) (tree.IfElse 0 (term condition.now) (stmt chosen.now) (stmt otherwise.now))).nodes ≤ node_limit }
+    requires small { ending.depth + (size (sizes_in setting.now.helpers.functions.now) (tree.IfElse 0 (term condition.now) (stmt chosen.now) (stmt otherwise.now))).nodes ≤ node_limit }
     ensures code { IfOk result (λ site. code.new ≡ statement_code setting.now scope.old (tree.IfElse 0 (term condition.now) (stmt chosen.now) (stmt otherwise.now)) (begun_at ending site) ++ code.old) }
     ensures site { IfOk result (λ site. site + (sites (inside setting.now.helpers.functions.now) (stmt chosen.now) + sites (inside setting.now.helpers.functions.now) (stmt otherwise.now)) ≡ ending.behind) }
     ensures scope { OnOk result (scope.new ≡ scope.old) }
@@ -371,7 +371,7 @@ fn emit_part<'a>(
     code: &mut Draft<'a>,
 ) -> Result<u32, AllocError>
     requires few { part_sites (inside setting.now.helpers.functions.now) (part_of part) ≤ ending.behind }
-    requires small { (part_size (sizes_in setting.now.helpers.functions.now) (part_of part)).nodes ≤ node_limit }
+    requires small { ending.depth + (part_size (sizes_in setting.now.helpers.functions.now) (part_of part)).nodes ≤ node_limit }
     ensures code { IfOk result (λ site. code.new ≡ maybe_code setting.now scope.old (part_of part.entry) (begun_at ending site) ++ code.old) }
     ensures site { IfOk result (λ site. site + part_sites (inside setting.now.helpers.functions.now) (part_of part.entry) ≡ ending.behind) }
     ensures scope { OnOk result (scope.new ≡ scope.old) }
@@ -395,7 +395,7 @@ fn emit_do<'a>(
     code: &mut Draft<'a>,
 ) -> Result<u32, AllocError>
     requires few { sites (inside setting.now.helpers.functions.now) (stmt body.now) ≤ ending.behind }
-    requires small { (size (sizes_in setting.now.helpers.functions.now) (stmt body.now)).nodes ≤ node_limit }
+    requires small { ending.depth + (size (sizes_in setting.now.helpers.functions.now) (stmt body.now)).nodes < node_limit }
     ensures code { IfOk result (λ site. code.new ≡ statement_code setting.now scope.old (tree.DoWhile 0 (stmt body.now) (term condition.now)) (begun_at ending site) ++ code.old) }
     ensures site { IfOk result (λ site. site + sites (inside setting.now.helpers.functions.now) (stmt body.now) ≡ ending.behind) }
     ensures scope { OnOk result (scope.new ≡ scope.old) }
@@ -419,7 +419,7 @@ fn emit_once<'a>(
     turn: &mut Draft<'a>,
 ) -> Result<u32, AllocError>
     requires few { sites (inside setting.now.helpers.functions.now) (stmt body.now) ≤ ending.behind }
-    requires small { (size (sizes_in setting.now.helpers.functions.now) (stmt body.now)).nodes ≤ node_limit }
+    requires small { ending.depth + (size (sizes_in setting.now.helpers.functions.now) (stmt body.now)).nodes < node_limit }
     ensures code { IfOk result (λ site. turn.new ≡ once_code setting.now scope.old (stmt body.now) (begun_at ending site) (length turn.old) ++ turn.old) }
     ensures site { IfOk result (λ site. site + sites (inside setting.now.helpers.functions.now) (stmt body.now) ≡ ending.behind) }
     ensures scope { OnOk result (scope.new ≡ scope.old) }
@@ -427,7 +427,7 @@ fn emit_once<'a>(
     ensures kept { OnErr result (KeepsOuter scope.old scope.new) }
 {
     let here = Ending {
-        depth: level_above(ending.depth)?,
+        depth: ending.depth + 1,
         behind: ending.behind,
         exits: ending.exits.in_loop(turn.past(0)?)?,
     };
@@ -446,8 +446,8 @@ fn emit_stepped<'a>(
     turn: &mut Draft<'a>,
 ) -> Result<u32, AllocError>
     requires few { sites (inside setting.now.helpers.functions.now) (stmt third.now) + sites (inside setting.now.helpers.functions.now) (stmt body.now) ≤ ending.behind }
-    requires small_third { (size (sizes_in setting.now.helpers.functions.now) (stmt third.now)).nodes ≤ node_limit }
-    requires small { (size (sizes_in setting.now.helpers.functions.now) (stmt body.now)).nodes ≤ node_limit }
+    requires small_third { ending.depth + (size (sizes_in setting.now.helpers.functions.now) (stmt third.now)).nodes < node_limit }
+    requires small { ending.depth + (size (sizes_in setting.now.helpers.functions.now) (stmt body.now)).nodes < node_limit }
     ensures code { IfOk result (λ site. turn.new ≡ round_code setting.now scope.old (tree.With (stmt third.now)) (stmt body.now) (begun_at ending site) (length turn.old) ++ turn.old) }
     ensures site { IfOk result (λ site. site + (sites (inside setting.now.helpers.functions.now) (stmt third.now) + sites (inside setting.now.helpers.functions.now) (stmt body.now)) ≡ ending.behind) }
     ensures scope { OnOk result (scope.new ≡ scope.old) }
@@ -456,7 +456,7 @@ fn emit_stepped<'a>(
 {
     let between = site_before(setting.helpers, ending.behind, body);
     let last = Ending {
-        depth: level_above(ending.depth)?,
+        depth: ending.depth + 1,
         behind: between,
         exits: ending.exits.in_loop(turn.past(0)?)?,
     };
@@ -476,8 +476,8 @@ fn emit_round<'a>(
     turn: &mut Draft<'a>,
 ) -> Result<u32, AllocError>
     requires few { part_sites (inside setting.now.helpers.functions.now) (part_of third) + sites (inside setting.now.helpers.functions.now) (stmt body.now) ≤ ending.behind }
-    requires small_third { (part_size (sizes_in setting.now.helpers.functions.now) (part_of third)).nodes ≤ node_limit }
-    requires small { (size (sizes_in setting.now.helpers.functions.now) (stmt body.now)).nodes ≤ node_limit }
+    requires small_third { ending.depth + (part_size (sizes_in setting.now.helpers.functions.now) (part_of third)).nodes < node_limit }
+    requires small { ending.depth + (size (sizes_in setting.now.helpers.functions.now) (stmt body.now)).nodes < node_limit }
     ensures code { IfOk result (λ site. turn.new ≡ round_code setting.now scope.old (part_of third.entry) (stmt body.now) (begun_at ending site) (length turn.old) ++ turn.old) }
     ensures site { IfOk result (λ site. site + (part_sites (inside setting.now.helpers.functions.now) (part_of third.entry) + sites (inside setting.now.helpers.functions.now) (stmt body.now)) ≡ ending.behind) }
     ensures scope { OnOk result (scope.new ≡ scope.old) }
@@ -503,7 +503,7 @@ fn emit_for<'a>(
     code: &mut Draft<'a>,
 ) -> Result<u32, AllocError>
     requires few { sites (inside setting.now.helpers.functions.now) (tree.For 0 (part_of first) (test_of condition) (part_of third) (stmt body.now)) ≤ ending.behind }
-    requires small { (size (sizes_in setting.now.helpers.functions.now) (tree.For 0 (part_of first) (test_of condition) (part_of third) (stmt body.now))).nodes ≤ node_limit }
+    requires small { ending.depth + (size (sizes_in setting.now.helpers.functions.now) (tree.For 0 (part_of first) (test_of condition) (part_of third) (stmt body.now))).nodes ≤ node_limit }
     ensures code { IfOk result (λ site. code.new ≡ statement_code setting.now scope.old (tree.For 0 (part_of first.entry) (test_of condition.entry) (part_of third.entry) (stmt body.now)) (begun_at ending site) ++ code.old) }
     ensures site { IfOk result (λ site. site + sites (inside setting.now.helpers.functions.now) (tree.For 0 (part_of first.entry) (test_of condition.entry) (part_of third.entry) (stmt body.now)) ≡ ending.behind) }
     ensures scope { OnOk result (scope.new ≡ scope.old) }
@@ -535,8 +535,8 @@ fn emit_turns<'a>(
     code: &mut Draft<'a>,
 ) -> Result<u32, AllocError>
     requires few { part_sites (inside setting.now.helpers.functions.now) (part_of third) + sites (inside setting.now.helpers.functions.now) (stmt body.now) ≤ ending.behind }
-    requires small_third { (part_size (sizes_in setting.now.helpers.functions.now) (part_of third)).nodes ≤ node_limit }
-    requires small { (size (sizes_in setting.now.helpers.functions.now) (stmt body.now)).nodes ≤ node_limit }
+    requires small_third { ending.depth + (part_size (sizes_in setting.now.helpers.functions.now) (part_of third)).nodes < node_limit }
+    requires small { ending.depth + (size (sizes_in setting.now.helpers.functions.now) (stmt body.now)).nodes < node_limit }
     ensures code { IfOk result (λ site. code.new
         ≡ while_code ending.depth (round_code setting.now scope.old (part_of third.entry) (stmt body.now) (begun_at ending site) (length (condition_code scope.old (test_of condition.entry)))) (condition_code scope.old (test_of condition.entry)) ++ code.old) }
     ensures site { IfOk result (λ site. site + (part_sites (inside setting.now.helpers.functions.now) (part_of third.entry) + sites (inside setting.now.helpers.functions.now) (stmt body.now)) ≡ ending.behind) }

@@ -23,7 +23,7 @@ whole [] = []
 whole (p ∷ ps) = part_code p ++ whole ps
 
 -- What is known of the functions before a helper is true of them, each of them is known, the barriers of its body have numbers of 32 bits, and it has no
--- more nodes than a kernel may have.
+-- more nodes, with the loops round it, than a kernel may have.
 pub record HoleKnown (h : Hole) : Type 0 where
   pub barriers : BarriersKnown h.functions.now h.known.now
   pub complete : length h.functions.now ≤ length h.known.now
@@ -33,7 +33,7 @@ pub record HoleKnown (h : Hole) : Type 0 where
   pub ends : EndsKnown h.functions.now h.ends.now
   pub nodes : NodesCounted h.functions.now
   pub few : h.site + all_sites (inside h.functions.now) (all_of h.function.now.body.items) < 2 ^ 32
-  pub small : (row_size (sizes_in h.functions.now) (all_of h.function.now.body.items)).nodes ≤ node_limit
+  pub small : h.depth + (row_size (sizes_in h.functions.now) (all_of h.function.now.body.items)).nodes ≤ node_limit
 
 abbrev pub IsKnown : Part → Type 0
 IsKnown (part.Own i) = Unit {0}

@@ -26,7 +26,7 @@ pub fn emit_split<'a>(
     code: &mut Draft<'a>,
 ) -> Result<(), AllocError>
     requires few { position.site + called_sites (inside helpers.functions.now) split.call < 2 ^ 32 }
-    requires small { called_sites (nodes_in helpers.functions.now) split.call ≤ node_limit }
+    requires small { position.depth + called_sites (nodes_in helpers.functions.now) split.call ≤ node_limit }
     ensures code { OnOk result (code.new ≡ split_code (call_code (functions_of helpers.entry.functions.now)) split position.depth position.site ++ code.old) }
     ensures longer { OnErr result (GrowsBefore code.old code.new) }
 {
@@ -55,7 +55,7 @@ fn emit_call<'a>(
     code: &mut Draft<'a>,
 ) -> Result<(), AllocError>
     requires few { position.site + inside helpers.functions.now name < 2 ^ 32 }
-    requires small { nodes_in helpers.functions.now name ≤ node_limit }
+    requires small { position.depth + nodes_in helpers.functions.now name ≤ node_limit }
     ensures code { OnOk result (code.new ≡ call_code (functions_of helpers.entry.functions.now) name arguments.now level position.depth position.site ++ code.old) }
     ensures longer { OnErr result (GrowsBefore code.old code.new) }
 {
@@ -91,7 +91,7 @@ fn leave_body<'a>(
     requires within { found.place < length helpers.functions.now }
     requires there { found.function.now ≡ get_or helpers.functions.now found.place found.function.now }
     requires few { position.site + all_sites (inside (take found.place helpers.functions.now)) (all_of found.function.now.body.items) < 2 ^ 32 }
-    requires small { (row_size (sizes_in (take found.place helpers.functions.now)) (all_of found.function.now.body.items)).nodes ≤ node_limit }
+    requires small { position.depth + (row_size (sizes_in (take found.place helpers.functions.now)) (all_of found.function.now.body.items)).nodes ≤ node_limit }
     ensures code { OnOk result (code.new ≡ body_of (take found.entry.place helpers.entry.functions.now) found.entry.function.now level position.depth position.site ++ code.old) }
     ensures longer { OnErr result (GrowsBefore code.old code.new) }
 {

@@ -32,7 +32,7 @@ pub fn emit_declaration<'a>(
 ) -> Result<(), AllocError>
     requires kind { is_declaration statement.now ≡ true }
     requires few { position.site + sites (inside setting.now.helpers.functions.now) (stmt statement.now) < 2 ^ 32 }
-    requires small { (size (sizes_in setting.now.helpers.functions.now) (stmt statement.now)).nodes ≤ node_limit }
+    requires small { position.depth + (size (sizes_in setting.now.helpers.functions.now) (stmt statement.now)).nodes ≤ node_limit }
     ensures code { OnOk result (code.new ≡ statement_code setting.now scope.old (stmt statement.now) position ++ code.old) }
     ensures scope { scope.new ≡ scope.old }
     ensures longer { OnErr result (GrowsBefore code.old code.new) }
@@ -70,7 +70,7 @@ pub fn emit_assignment<'a>(
 ) -> Result<(), AllocError>
     requires kind { is_assignment statement.now ≡ true }
     requires few { position.site + sites (inside setting.now.helpers.functions.now) (stmt statement.now) < 2 ^ 32 }
-    requires small { (size (sizes_in setting.now.helpers.functions.now) (stmt statement.now)).nodes ≤ node_limit }
+    requires small { position.depth + (size (sizes_in setting.now.helpers.functions.now) (stmt statement.now)).nodes ≤ node_limit }
     ensures code { OnOk result (code.new ≡ statement_code setting.now scope.now (stmt statement.now) position ++ code.old) }
     ensures longer { OnErr result (GrowsBefore code.old code.new) }
 {

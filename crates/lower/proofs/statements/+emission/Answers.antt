@@ -56,8 +56,8 @@ emit_choice-returns-clause-code t c =
 
 pub emit_once-returns-clause-code : goal.emit_once-returns-clause-code
 emit_once-returns-clause-code t c =
-    once_placed c.args.setting.now c.args.scope.now (begun_at c.args.ending c.in_ok-site.site) (stmt c.args.body.now) c.in_ok-level_above.field-0 c.in_ok-in_loop.field-0 c.args.turn.now c.emit_statement.new.code c.in_ok-past.field-0
-    c.in_ok-level_above.ensures c.in_ok-past.ensures c.in_ok-in_loop.ensures c.in_ok-site.ensures.code
+    once_placed c.args.setting.now c.args.scope.now (begun_at c.args.ending c.in_ok-site.site) (stmt c.args.body.now) (c.args.ending.depth + 1) c.in_ok-in_loop.field-0 c.args.turn.now c.emit_statement.new.code c.in_ok-past.field-0
+    refl c.in_ok-past.ensures c.in_ok-in_loop.ensures c.in_ok-site.ensures.code
 
 pub emit_stepped-returns-clause-code : goal.emit_stepped-returns-clause-code
 emit_stepped-returns-clause-code t c =
@@ -66,9 +66,9 @@ emit_stepped-returns-clause-code t c =
     let body = stmt c.args.body.now in
     let f = inside s.helpers.functions.now in
     let at : c.in_ok-emit_once.field-0 ≡ c.in_ok-site.site + sites f third = omega (arith, c.site_before-between.ensures, c.in_ok-site.ensures.site, c.in_ok-emit_once.ensures.site) in
-    stepped_placed s c.args.scope.now c.emit_statement.new.scope (begun_at c.args.ending c.in_ok-site.site) third body c.in_ok-level_above.field-0 c.in_ok-emit_once.field-0 c.in_ok-in_loop.field-0
+    stepped_placed s c.args.scope.now c.emit_statement.new.scope (begun_at c.args.ending c.in_ok-site.site) third body (c.args.ending.depth + 1) c.in_ok-emit_once.field-0 c.in_ok-in_loop.field-0
     c.args.turn.now c.emit_statement.new.code c.emit_once.new.turn c.in_ok-past.field-0
-    c.in_ok-level_above.ensures at c.in_ok-past.ensures c.in_ok-in_loop.ensures c.in_ok-site.ensures.code c.in_ok-site.ensures.scope c.in_ok-emit_once.ensures.code
+    refl at c.in_ok-past.ensures c.in_ok-in_loop.ensures c.in_ok-site.ensures.code c.in_ok-site.ensures.scope c.in_ok-emit_once.ensures.code
 
 pub emit_round-returns-in-None-clause-code : goal.emit_round-returns-in-None-clause-code
 emit_round-returns-in-None-clause-code t c =
@@ -302,6 +302,6 @@ pub emit_statement-numbers_suffice-requires : goal.emit_statement-numbers_suffic
 emit_statement-numbers_suffice-requires t c = record {
   few = block_few (inside c.args.setting.now.helpers.functions.now) c.args.statement.now c.in-Block.at c.in-Block.body c.as_slice-body.result.now c.args.ending.behind
       c.in-Block.is c.as_slice-body.ensures.value c.requires.few;
-  small = block_small (sizes_in c.args.setting.now.helpers.functions.now) c.args.statement.now c.in-Block.at c.in-Block.body c.as_slice-body.result.now node_limit
+  small = block_small (sizes_in c.args.setting.now.helpers.functions.now) c.args.statement.now c.in-Block.at c.in-Block.body c.as_slice-body.result.now c.args.ending.depth node_limit
       c.in-Block.is c.as_slice-body.ensures.value c.requires.small;
 }

@@ -1,4 +1,4 @@
-use Rattle.std.proofs.Common.{◌≤◌, arith}
+use Rattle.std.proofs.Common.{arith}
 use Rattle.lower_code.proofs.Tables.{nodes_found}
 use Rattle.lower_code.proofs.calls.emit_call.Goals as goal
 
