@@ -3,12 +3,12 @@
 ghost use Rattle.std.specs.Prelude.{◌≡◌, ◌≤◌, ◌+◌, All, false, true, length, take};
 ghost use Rattle.clmodel.specs.Run.{by_region};
 ghost use Rattle.shadow_list.specs.Index.{IsIndexed};
-ghost use Rattle.shadow_list.specs.Log.{IsPlaced, stamped, logged, fresh_log, in_buffer};
+ghost use Rattle.shadow_list.specs.Log.{IsPlaced, stamped, logged, fresh_log, in_buffer, across};
 ghost use Rattle.shadow_list.specs.Past.{IsBefore};
 
 use crate::access_list::AccessList;
 use crate::index::{Index, hit_from, is_there, keep};
-use crate::log::{AccessLog, Accesses, Entry, Fenced, Hit};
+use crate::log::{AccessLog, Accesses, Entry, Fenced, Hit, Logged};
 use crate::search::hit;
 use clmodel::access::{Access, Region, Rule};
 use std::alloc::{AllocError, Global};
@@ -130,11 +130,30 @@ impl ListLog {
             Region::Local { .. } => self.local_first,
         }
     }
+
+    /// The conflict with the log of a later group of the launch, of its first access that has one: a walk over all pairs.
+    pub fn conflicts_with<M: Accesses>(&self, later: &M) -> Option<Hit>
+        requires { (M.Logged.log later.now).uniform ≡ self.now.uniform }
+        ensures { result ≡ across self.now.uniform self.now.entries.items (M.Logged.log later.now).accesses }
+    {
+        let rule = Rule::across_groups(self.uniform);
+        for i in 0..later.len() {
+            let entry = later.get(i);
+            if let Region::Buffer(_) = entry.access.region {
+                if let Some(found) = hit(rule, &entry, self.entries.as_slice()) {
+                    return Some(found);
+                }
+            }
+        }
+        None
+    }
+}
+
+impl Logged for ListLog {
+    ghost log = { λ l. logged l.entries.items l.local_interval l.global_interval l.uniform };
 }
 
 impl Accesses for ListLog {
-    ghost log = { λ l. logged l.entries.items l.local_interval l.global_interval l.uniform };
-
     fn len(&self) -> usize {
         self.entries.len()
     }
@@ -171,18 +190,5 @@ impl AccessLog for ListLog {
                 self.global_first = self.entries.len();
             }
         }
-    }
-
-    fn conflicts_with<M: Accesses>(&self, later: &M) -> Option<Hit> {
-        let rule = Rule::across_groups(self.uniform);
-        for i in 0..later.len() {
-            let entry = later.get(i);
-            if let Region::Buffer(_) = entry.access.region {
-                if let Some(found) = hit(rule, &entry, self.entries.as_slice()) {
-                    return Some(found);
-                }
-            }
-        }
-        None
     }
 }

@@ -1,0 +1,4 @@
+pub mod Covers
+pub mod Place
+pub mod Side
+pub mod Tells
