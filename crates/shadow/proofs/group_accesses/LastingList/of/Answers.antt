@@ -1,4 +1,4 @@
-use Rattle.std.proofs.Common.{◌<◌, ◌+◌, List, take, map, refl, inl, sym, ap₂, subst, arith, length, rules}
+use Rattle.std.proofs.Common.{◌<◌, ◌+◌, List, take, map, refl, inl, sym, subst, arith, length, rules}
 use Rattle.std.specs.Prelude.{reverse}
 use Rattle.std.proofs.lemmas.List.{take_all}
 use Rattle.shadow.specs.Lasting.{StandsWith}

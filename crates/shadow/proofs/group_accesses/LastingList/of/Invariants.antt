@@ -1,4 +1,4 @@
-use Rattle.std.proofs.Common.{List, All, take, map}
+use Rattle.std.proofs.Common.{All, take, map}
 use Rattle.std.specs.Prelude.{reverse}
 use Rattle.shadow.specs.Lasting.{StandsWith}
 use Rattle.shadow.specs.Seen.{IsFootprint}
