@@ -36,8 +36,8 @@ made_there (z ∷ made) kept x n h = go n.2 h (λ w. made_there made n.0 x n.1 w
     go : IsKept n.0 z kept → Logged (accesses (z ∷ made)) x → (Logged (accesses made) x → IsThere n.0 x) → IsThere kept x
     go (inl k) (inl e) old = subst (λ w. IsThere w x) (sym k.1) (subst (λ w. IsThere n.0 w) e k.0)
     go (inl k) (inr w) old = subst (λ v. IsThere v x) (sym k.1) (old w)
-    go (inr k) (inl e) old = subst (λ w. IsThere w x) (sym k.1) (subst (λ w. IsThere (n.0 ++ z ∷ []) w) e (there_last n.0 z))
-    go (inr k) (inr w) old = subst (λ v. IsThere v x) (sym k.1) (there_front n.0 (z ∷ []) x (old w))
+    go (inr k) (inl e) old = subst (λ w. IsThere w x) (sym k) (subst (λ w. IsThere (n.0 ++ z ∷ []) w) e (there_last n.0 z))
+    go (inr k) (inr w) old = subst (λ v. IsThere v x) (sym k) (there_front n.0 (z ∷ []) x (old w))
 
 -- what is kept was made
 pub there_made : (made kept : List Entry) (x : Access) → Notes made kept → IsThere kept x → Logged (accesses made) x
@@ -50,7 +50,7 @@ there_made (z ∷ made) kept x n h = go n.2 (λ w. there_made made n.0 x n.1 w)
 
     go : IsKept n.0 z kept → (IsThere n.0 x → Logged (accesses made) x) → Logged (accesses (z ∷ made)) x
     go (inl k) old = inr (old (subst (λ w. IsThere w x) k.1 h))
-    go (inr k) old = last old (there_push n.0 z x (subst (λ w. IsThere w x) k.1 h))
+    go (inr k) old = last old (there_push n.0 z x (subst (λ w. IsThere w x) k h))
 
 -- an access that is there has a place
 pub there_at : (xs : List Entry) (x : Access) → IsThere xs x → (k : ℕ) × (e : Entry) × (slice_get xs k ≡ Some e) × (e.access ≡ x)
@@ -162,4 +162,4 @@ found (x ∷ made) kept k e n h = go n.2 (λ a. found made n.0 k e n.1 a)
 
     go : IsKept n.0 x kept → (slice_get n.0 k ≡ Some e → Found made n.0 k e) → Found (x ∷ made) kept k e
     go (inl w) inner = again w.0 w.1 (inner (ap (λ z. slice_get z k) (sym w.1) ∙ h))
-    go (inr w) inner = pushed inner w.1 (get_push n.0 x k e (ap (λ z. slice_get z k) (sym w.1) ∙ h))
+    go (inr w) inner = pushed inner w (get_push n.0 x k e (ap (λ z. slice_get z k) (sym w) ∙ h))
