@@ -7,7 +7,7 @@ import os
 import random
 
 SEEDS = int(os.environ.get("SEEDS", "300"))
-SIZE = 20                                                       # bytes of the buffer
+SIZE = 28                                                       # bytes of the buffer
 POINTERS = {"b": ("uchar", 1), "s": ("ushort", 2), "a": ("int", 4), "l": ("ulong", 8)}
 CLASSES = {
     "add": ("atomic_add", "a", lambda old, n: old + n),
@@ -18,6 +18,12 @@ CLASSES = {
     "smax": ("atomic_max", "a", lambda old, n: max(old, n, key=signed)),
     "umin": ("atomic_min", "u", min),
     "umax": ("atomic_max", "u", max),
+}
+# The operations whose old number is used: those of the classes, and two more that take one operand and two.
+FETCHES = {
+    **{kind: (name, typed, 1, leaves) for kind, (name, typed, leaves) in CLASSES.items()},
+    "exchange": ("atomic_xchg", "u", 1, lambda old, n: n),
+    "compare": ("atomic_cmpxchg", "a", 2, lambda old, wanted, n: n if old == wanted else old),
 }
 
 
@@ -32,30 +38,49 @@ def clash(first, second, same=False):
         return ""
     if first in CLASSES and second in CLASSES:
         return "" if first == second else "order"
+    if {first, second} <= {"fetch", *CLASSES}:
+        return "order"
     return "" if first == second == "load" else "race"
 
 
 # ---- what items do: lists of actions, each ("load", pointer, element), ("store", pointer, element, value), (CLASS, "", element, operand),
-# the same with the pointer "t" to local memory, ("barrier", site, fences) or ("divide",)
+# ("fetch", "", element, operation, operands..), the same with the pointer "t" to local memory, ("barrier", site, fences) or ("divide",).
+# What is loaded or fetched goes into a variable, whose low byte is what a store without a value leaves
 
 
 def width_of(pointer):
     return POINTERS[pointer][1] if pointer in POINTERS else 4
 
 
+def some_number(rng):
+    """A number of 32 bits, often one at which a sign or a comparison turns."""
+    return rng.choice([0, 1, 255, 65535, 2**31, 2**32 - 1, rng.randrange(2**32)])
+
+
+def fetch(rng, pointer, element):
+    """A fetch of any operation."""
+    operation = rng.choice(list(FETCHES))
+    return ("fetch", pointer, element, operation, *[some_number(rng) for _ in range(FETCHES[operation][2])])
+
+
 def some_access(rng, item, classes):
-    """An access that is likely to conflict with none: an update of the word's own class, or a load or a store of the item's own byte."""
+    """An access that is likely to conflict with none: an update of the word's own class, a fetch of a word that only the item has, or a load or
+    a store of the item's own byte."""
+    if item < 2 and rng.random() < 0.4:
+        return fetch(rng, "", 5 + item)
     if rng.random() < 0.5:
         element = rng.randrange(2)
-        return (classes[element], "", element, rng.choice([0, 1, 255, 65535, 2**31, 2**32 - 1, rng.randrange(2**32)]))
+        return (classes[element], "", element, some_number(rng))
     return rng.choice([("load", "b", 8 + item % 12), ("store", "b", 8 + item % 12, rng.randrange(256))])
 
 
 def any_access(rng):
     """An access of any kind anywhere in the buffer, seldom behind it."""
-    kind = rng.choice(["load", "store", *CLASSES])
+    kind = rng.choice(["load", "store", "fetch", "fetch", *CLASSES])
+    if kind == "fetch":
+        return fetch(rng, "", rng.randrange(7))
     if kind in CLASSES:
-        return (kind, "", rng.randrange(5), rng.randrange(2**32))
+        return (kind, "", rng.randrange(7), rng.randrange(2**32))
     pointer = rng.choice(list(POINTERS))
     element = rng.randrange(SIZE // width_of(pointer) + (rng.random() < 0.1))
     return (kind, pointer, element) + ((rng.randrange(2**8),) if kind == "store" else ())
@@ -86,8 +111,10 @@ def uniform_actions_of(rng, items, size):
 
 
 def local_access(rng, size):
-    """A load or a store of local memory."""
-    kind = rng.choice(["load", "store", "store"])
+    """A load, a store or a fetch of local memory."""
+    kind = rng.choice(["load", "store", "store", "store", "fetch"])
+    if kind == "fetch":
+        return fetch(rng, "t", rng.randrange(size))
     return (kind, "t", rng.randrange(size)) + ((rng.randrange(100),) if kind == "store" else ())
 
 
@@ -99,7 +126,17 @@ def actions_of(rng, items, size):
         does = rng.choice(rng.choice(parts))
         what = any_access(rng) if rng.random() < 0.75 else rng.choice([local_access(rng, size), ("divide",), ("barrier", 0, "local")])
         does.insert(rng.randrange(len(does) + 1), what)
+    for part in parts:
+        for item, does in enumerate(part):
+            with_stores(rng, item, does)
     return parts
+
+
+def with_stores(rng, item, does):
+    """Puts a store of what was fetched, to the item's own byte, behind some fetches."""
+    for place in range(len(does), 0, -1):
+        if does[place - 1][0] == "fetch" and rng.random() < 0.7:
+            does.insert(place, ("store", "b", 8 + item % 12))
 
 
 # ---- the source
@@ -119,10 +156,14 @@ def statement(action, sites):
         sites.append(action)
         return "barrier(CLK_LOCAL_MEM_FENCE);"
     pointer, element, *value = rest
+    if kind == "fetch":
+        operation, *operands = value
+        name, typed, *_ = FETCHES[operation]
+        return f"x = {name}(&{pointer or typed}[{element}], {', '.join(map(str, operands))});"
     if kind in CLASSES:
         name, typed, _ = CLASSES[kind]
         return f"{name}(&{typed}[{element}], {value[0]});"
-    return f"x = {pointer}[{element}];" if kind == "load" else f"{pointer}[{element}] = {literal(value[0])};"
+    return f"x = {pointer}[{element}];" if kind == "load" else f"{pointer}[{element}] = {literal(value[0]) if value else 'x'};"
 
 
 def source_of(parts):
@@ -154,7 +195,7 @@ class Run:
 
     def __init__(self, data, items, size, uniform):
         self.buffer, self.items, self.size, self.uniform = bytearray(data), items, size, uniform
-        self.log, self.events = [], []
+        self.log, self.events, self.kept = [], [], {}
 
     def group(self, group):
         """Runs a group: the fault with which it ends, or nothing."""
@@ -196,7 +237,7 @@ class Run:
         for byte in touched:
             if kind != "store" and cells[byte] is None:
                 return f"5 unset item {item} {kind} {place} byte {byte}"
-        self.write(kind, cells, touched, value)
+        self.write(item, kind, cells, touched, value)
         self.events.append(item)
         region = (space, group if space == "local" else 0)
         for byte in touched:
@@ -209,12 +250,19 @@ class Run:
         self.log += [(item, kind, region, byte, group, interval[space], cells[byte]) for byte in touched]
         return None
 
-    def write(self, kind, cells, touched, value):
-        """What an access leaves in its bytes."""
+    def write(self, item, kind, cells, touched, value):
+        """What an access leaves in its bytes, and in the item's variable."""
+        old = sum((cells[byte] or 0) << 8 * place for place, byte in enumerate(touched))
+        if kind in ("load", "fetch"):
+            self.kept[item] = old
         if kind == "load":
             return
-        old = sum((cells[byte] or 0) << 8 * place for place, byte in enumerate(touched))
-        new = CLASSES[kind][2](old, value[0]) if kind in CLASSES else value[0]
+        if kind == "fetch":
+            new = FETCHES[value[0]][3](old, *value[1:])
+        elif kind in CLASSES:
+            new = CLASSES[kind][2](old, value[0])
+        else:
+            new = value[0] if value else self.kept[item]
         for place, byte in enumerate(touched):
             cells[byte] = new >> 8 * place & 255
 

@@ -1,8 +1,5 @@
-pub mod NextLaws
-pub mod Examples
 pub mod Bytes
 pub mod Steps
-pub mod Elements
 pub mod CellLaws
 pub mod Swaps
 pub mod Conflicts
@@ -14,3 +11,6 @@ pub mod Ending
 pub mod Reports
 pub mod Trees
 pub mod Fences
+pub mod Kernels
+pub mod Products
+pub mod Sameness

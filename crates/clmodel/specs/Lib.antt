@@ -9,4 +9,3 @@ pub mod Setup
 pub mod Next
 pub mod Typing
 pub mod Outcome
-pub mod Examples

@@ -1,6 +1,7 @@
 -- What a launch runs: a kernel of a program with a range, arguments and a budget (OpenCL 1.2, 3.2, 6.7 and 6.12.1).
-use Rattle.std.specs.Prelude.{ℕ, ◌+◌, ◌*◌, ◌/◌, ◌%◌, ◌==◌, suc, Bool, true, false, ◌&&◌, if◌then◌else◌, Option, None, Some, List, [], ◌∷◌, ◌++◌, slice_index, slice_index_or, nat_eq}
+use Rattle.std.specs.Prelude.{ℕ, ◌+◌, ◌*◌, ◌/◌, ◌%◌, ◌==◌, suc, Bool, true, false, ◌&&◌, if◌then◌else◌, Option, None, Some, List, [], ◌∷◌, ◌++◌, slice_index, slice_index_or, nat_eq, position}
 use Rattle.std.specs.List.{list_any}
+use Rattle.std.specs.Option.{option_map, option_and_then}
 use Rattle.std.specs.Cmp.Lexicographic.{pointwise}
 use Rattle.clmodel.specs.Tree.{Program, Func, Funcs, NoFunc, ThenFunc, Stmt, Declare, DeclareAs, DeclareArray, Stmts, NoStmt, ThenStmt, array_bytes}
 use Rattle.clmodel.specs.declared.setup.Range.{Range}
@@ -86,6 +87,10 @@ names_among names (None ∷ arguments) = names_among names arguments
 abbrev pub buffer_names : Setup → List (List ℕ)
 buffer_names setup = names_among [] setup.arguments
 
+-- the most bytes of local memory that a group may have (4.2; the number is this project's own)
+abbrev pub local_limit : ℕ
+local_limit = 32768
+
 -- A place for an object in the local memory of a group: the number of its name, and its size in bytes (6.5.2). There is one for each parameter and for
 -- each variable and array, private ones too, of the outermost block: most are of no bytes, and are there for the numbers alone: that of a
 -- local array's object is the number of variables in scope before it (own).
@@ -126,6 +131,11 @@ place_of (other ∷ others) name = if same_text name other then 0 else suc (plac
 abbrev pub kernel_in : Funcs → ℕ → Option Func
 kernel_in NoFunc name = None
 kernel_in (ThenFunc fs f) name = if f.is_kernel && (f.name == name) then Some f else kernel_in fs name
+
+-- the number of the name of a program's kernel, or None where it has no such kernel
+abbrev pub kernel_number : Program → List ℕ → Option ℕ
+kernel_number program name =
+    option_and_then (λ number. option_map (λ f. f.name) (kernel_in program.functions number)) (position (same_text name) program.names)
 
 -- the functions before the kernel of a name
 abbrev pub functions_before : Funcs → ℕ → Funcs

@@ -1,11 +1,13 @@
 -- The syntax tree of a program as plain data: without where its nodes lie in memory (OpenCL 1.2, 6.3 to 6.9).
-use Rattle.std.specs.Prelude.{ℕ, ◌*◌, ◌/◌, ℤ, pos, negsuc, List, [], ◌∷◌, map, Bool, Option, None, Some, Box}
+use Rattle.std.specs.Prelude.{ℕ, ◌*◌, ◌/◌, List, [], ◌∷◌, map, Bool, Option, None, Some, Box}
 use Rattle.std.specs.declared.alloc.Global.{Global}
-use Rattle.clnum.specs.Integer.{Integer, bits}
+use Rattle.clnum.specs.Integer.{Integer, bits, natural}
 use Rattle.clnum.specs.declared.int_type.IntType.{IntType}
 use Rattle.clnum.specs.declared.operators.BinaryOperator.{BinaryOperator}
+use Rattle.clnum.specs.declared.operators.BinaryOperator.TheVariants.{Add, Subtract, Multiply, Divide, Remainder, ShiftLeft, ShiftRight, Less, Greater, LessOrEqual, GreaterOrEqual, Equal, NotEqual, BitAnd, BitXor, BitOr}
 use Rattle.clnum.specs.declared.operators.UnaryOperator.{UnaryOperator}
 use Rattle.clmodel.specs.declared.tree.InfixOperator.{InfixOperator}
+use Rattle.clmodel.specs.declared.tree.InfixOperator.TheVariants.{Arithmetic, LogicalAnd, LogicalOr}
 use Rattle.clmodel.specs.declared.tree.VariableType.{VariableType}
 use Rattle.clmodel.specs.declared.tree.Parameter.{Parameter}
 use Rattle.clmodel.specs.declared.tree.Function as rust_function
@@ -15,6 +17,30 @@ use Rattle.clmodel.specs.declared.tree.Target.TheVariants as target
 use Rattle.clmodel.specs.declared.tree.Expression as rust_expression
 use Rattle.clmodel.specs.declared.tree.Expression.{Expression}
 use Rattle.clmodel.specs.declared.tree.Statement as rust_statement
+
+-- how tightly an operator binds, from the loosest (C99 6.5.5 to 6.5.14)
+abbrev pub arithmetic_level : BinaryOperator → ℕ
+arithmetic_level BitOr = 4
+arithmetic_level BitXor = 5
+arithmetic_level BitAnd = 6
+arithmetic_level Equal = 7
+arithmetic_level NotEqual = 7
+arithmetic_level Less = 8
+arithmetic_level Greater = 8
+arithmetic_level LessOrEqual = 8
+arithmetic_level GreaterOrEqual = 8
+arithmetic_level ShiftLeft = 9
+arithmetic_level ShiftRight = 9
+arithmetic_level Add = 10
+arithmetic_level Subtract = 10
+arithmetic_level Multiply = 11
+arithmetic_level Divide = 11
+arithmetic_level Remainder = 11
+
+abbrev pub level : InfixOperator → ℕ
+level LogicalOr = 2
+level LogicalAnd = 3
+level (Arithmetic op) = arithmetic_level op
 
 mutual
   -- an expression; each node has the offset at which it begins
@@ -147,11 +173,6 @@ abbrev pub then_stmts : Stmts → List Stmt → Stmts
 then_stmts ss [] = ss
 then_stmts ss (t ∷ ts) = then_stmts (ThenStmt ss t) ts
 
--- how many elements an array has, by the number in its brackets, and how many bytes
-abbrev pub natural : ℤ → ℕ
-natural (pos n) = n
-natural (negsuc n) = 0
-
 -- how many elements an array has, by the number in its brackets (C99 6.7.5.2)
 abbrev pub array_length : Integer → ℕ
 array_length count = natural count.number
@@ -181,10 +202,13 @@ abbrev pub then_funcs : Funcs → List Func → Funcs
 then_funcs fs [] = fs
 then_funcs fs (g ∷ gs) = then_funcs (ThenFunc fs g) gs
 
+abbrev pub funcs : List rust_function.Function → Funcs
+funcs functions = then_funcs NoFunc (map func functions)
+
 -- a program: its functions, and the names that it uses
 pub record Program : Type 0 where
   pub functions : Funcs
   pub names : List (List ℕ)
 
 abbrev pub program : rust_tree.Tree → Program
-program t = record { functions = then_funcs NoFunc (map func t.functions.items); names = t.names.items }
+program t = record { functions = funcs t.functions.items; names = t.names.items }

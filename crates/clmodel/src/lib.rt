@@ -7,7 +7,7 @@ pub mod barrier;
 pub mod declaration;
 pub mod determinacy;
 pub mod fault;
-pub mod next_laws;
+pub mod lookup;
 pub mod operand;
 pub mod outcome;
 pub mod run_laws;

@@ -1,6 +1,9 @@
 //! The syntax tree of a program. Offsets are byte numbers in the source, names are places in the tree's table of names.
 #![tactic(auto)]
 
+ghost use Rattle.std.specs.Prelude.{◌≡◌};
+ghost use Rattle.clmodel.specs.Tree.{level};
+
 use crate::text::Name;
 use clnum::{BinaryOperator, IntType, UnaryOperator, Value};
 
@@ -33,6 +36,31 @@ pub enum InfixOperator {
     Arithmetic(BinaryOperator),
     LogicalAnd,
     LogicalOr,
+}
+
+impl InfixOperator {
+    /// How tightly it binds, from 2, the loosest, to 11 (C99 6.5.5 to 6.5.14).
+    pub fn level(self) -> u32
+        ensures { result ≡ level self }
+    {
+        match self {
+            InfixOperator::LogicalOr => 2,
+            InfixOperator::LogicalAnd => 3,
+            InfixOperator::Arithmetic(arithmetic) => match arithmetic {
+                BinaryOperator::BitOr => 4,
+                BinaryOperator::BitXor => 5,
+                BinaryOperator::BitAnd => 6,
+                BinaryOperator::Equal | BinaryOperator::NotEqual => 7,
+                BinaryOperator::Less
+                | BinaryOperator::Greater
+                | BinaryOperator::LessOrEqual
+                | BinaryOperator::GreaterOrEqual => 8,
+                BinaryOperator::ShiftLeft | BinaryOperator::ShiftRight => 9,
+                BinaryOperator::Add | BinaryOperator::Subtract => 10,
+                BinaryOperator::Multiply | BinaryOperator::Divide | BinaryOperator::Remainder => 11,
+            },
+        }
+    }
 }
 
 /// An expression. `at` is where its first token begins, parentheses round the whole left out.

@@ -1,6 +1,6 @@
 -- The conversions at each type.
 use Rattle.std.proofs.Common.{◌≡◌, refl, sym, ◌∙◌, ap₂}
-use Rattle.clnum.specs.Conversions.{promoted, common, balanced}
+use Rattle.clnum.specs.Conversions.{promoted, common}
 use Rattle.clnum.specs.declared.int_type.IntType.{IntType}
 use Rattle.clnum.specs.declared.int_type.IntType.TheVariants.{Char, Uchar, Short, Ushort, Int, Uint, Long, Ulong}
 

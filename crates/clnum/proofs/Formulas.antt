@@ -3,13 +3,13 @@ use Rattle.std.proofs.Common.{◌≡◌, ℕ, suc, zero, ◌+◌, ◌-◌, ◌*�
 use Rattle.std.proofs.Math.Nat.{mod-eq_of_lt, mod-lt, div-le_self, div-lt_iff_lt-mul, zero-lt-suc}
 use Rattle.std.proofs.Math.Pow.{pow_mono}
 use Rattle.std.proofs.lemmas.Bool.{cases_lt}
-use Rattle.std.specs.Int.Signed.{shr_z, mag_shr, mag}
+use Rattle.std.specs.Int.Signed.{shr_z, mag_shr}
 use Rattle.std.proofs.lemmas.Int.{ints, wrapping_mul_is, wrapping_sub_is, int_wrap-sub_right, SFits-int_wrap, to_z-of_z, of_z-to_z}
-use Rattle.std.specs.Prelude.{FitsSigned, int_lt, int_le, int_div, Result, eqb, ◌==◌, unsigned_abs, if◌then◌else◌}
+use Rattle.std.specs.Prelude.{FitsSigned, int_div, Result, eqb, if◌then◌else◌}
 use Rattle.std.specs.Ordering.{int_eq}
 use Rattle.std.proofs.lemmas.Bool.Decides.{same_from_decides, Decides-eqb, Decides-int_eq, nat_tests}
-use Rattle.std.specs.Int.{int_wrap, int_wrapping_mul, int_wrapping_sub, int_div_euclid, int_shr, int_shl, w64, w128, cast_signed, cast_unsigned}
-use Rattle.clnum.specs.Integer.{Integer, IsIn, IsWithin, bits, residue, wrap, bits_of, read_as, converted}
+use Rattle.std.specs.Int.{int_wrap, int_wrapping_mul, int_wrapping_sub, int_div_euclid, w64, w128, cast_signed, cast_unsigned}
+use Rattle.clnum.specs.Integer.{Integer, IsIn, IsWithin, bits, residue, wrap, bits_of, converted}
 use Rattle.clnum.specs.Conversions.{common, promoted}
 use Rattle.clnum.specs.Operations.{wrapped, arithmetic, comparison, bitwise, truth, shift, division, divided, is_in, binary_value}
 use Rattle.clnum.specs.declared.operators.ArithFault.{ArithFault}

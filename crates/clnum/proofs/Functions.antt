@@ -1,5 +1,5 @@
 -- What the code of the built-in functions computes, as their formulas.
-use Rattle.std.proofs.Common.{◌≡◌, ℕ, suc, zero, ◌+◌, ◌-◌, ◌*◌, ◌/◌, ◌%◌, ◌^◌, ◌<◌, ◌≤◌, ℤ, pos, refl, sym, ap, ap₂, ◌∙◌, subst, arith, lit<, lit≤, true, false, Bool, List, [], ◌∷◌, length, get_or, Some, None, inl, inr, ◌⊎◌}
+use Rattle.std.proofs.Common.{◌≡◌, ℕ, suc, ◌+◌, ◌-◌, ◌*◌, ◌/◌, ◌%◌, ◌^◌, ◌<◌, ◌≤◌, ℤ, pos, refl, sym, ap, ap₂, ◌∙◌, subst, arith, true, false, Bool, List, [], ◌∷◌, length, get_or, Some, None, inl, inr, ◌⊎◌}
 use Rattle.std.proofs.Math.Nat.{mod-eq_of_lt, div-lt_iff_lt-mul, mul-le-mul_right, mod-le}
 use Rattle.std.proofs.Math.Pow.{pow_mono, pow_pos}
 use Rattle.std.proofs.lemmas.Int.{to_z_pos, ints}
@@ -9,13 +9,13 @@ use Rattle.std.specs.Int.{w128, cast_signed}
 use Rattle.std.specs.Prelude.{if◌then◌else◌, int_lt, ◌<ℤ◌, ◌≤ℤ◌, FitsSigned, Option}
 use denote.Enum.Bare.{sameb}
 use Rattle.clnum.specs.contracts.int_type.IntType.{the_type}
-use Rattle.clnum.specs.Integer.{Integer, IsIn, bits, wrap}
+use Rattle.clnum.specs.Integer.{Integer, IsIn, bits}
 use Rattle.clnum.specs.Operations.{wrapped}
 use Rattle.clnum.specs.Builtins.{builtin_value, of_one, of_two, turned, is_same}
 use Rattle.clnum.specs.declared.int_type.IntType.{IntType}
-use Rattle.clnum.specs.declared.int_type.IntType.TheVariants.{Char, Uchar, Short, Ushort, Int, Uint, Long, Ulong}
 use Rattle.clnum.specs.declared.operators.Builtin.{Builtin}
 use Rattle.clnum.proofs.Ranges.{wrap-in}
+use Rattle.clnum.proofs.Sameness.{same_type}
 use Rattle.clnum.proofs.Formulas.{bits_le}
 
 -- a function that has a value at one number, or at two
@@ -64,82 +64,15 @@ at_other f (x ∷ []) h = absurd (elim h [ inl l ↦ omega arith | inr m ↦ ome
 at_other f (x ∷ y ∷ []) h = absurd (elim h [ inl l ↦ omega arith | inr m ↦ omega arith ])
 at_other f (x ∷ y ∷ z ∷ more) h = refl
 
--- the code's test that two types are one
-pub is_same-sameb : (a b : IntType) → is_same a b ≡ sameb the_type a b
-is_same-sameb Char Char = refl
-is_same-sameb Char Uchar = refl
-is_same-sameb Char Short = refl
-is_same-sameb Char Ushort = refl
-is_same-sameb Char Int = refl
-is_same-sameb Char Uint = refl
-is_same-sameb Char Long = refl
-is_same-sameb Char Ulong = refl
-is_same-sameb Uchar Char = refl
-is_same-sameb Uchar Uchar = refl
-is_same-sameb Uchar Short = refl
-is_same-sameb Uchar Ushort = refl
-is_same-sameb Uchar Int = refl
-is_same-sameb Uchar Uint = refl
-is_same-sameb Uchar Long = refl
-is_same-sameb Uchar Ulong = refl
-is_same-sameb Short Char = refl
-is_same-sameb Short Uchar = refl
-is_same-sameb Short Short = refl
-is_same-sameb Short Ushort = refl
-is_same-sameb Short Int = refl
-is_same-sameb Short Uint = refl
-is_same-sameb Short Long = refl
-is_same-sameb Short Ulong = refl
-is_same-sameb Ushort Char = refl
-is_same-sameb Ushort Uchar = refl
-is_same-sameb Ushort Short = refl
-is_same-sameb Ushort Ushort = refl
-is_same-sameb Ushort Int = refl
-is_same-sameb Ushort Uint = refl
-is_same-sameb Ushort Long = refl
-is_same-sameb Ushort Ulong = refl
-is_same-sameb Int Char = refl
-is_same-sameb Int Uchar = refl
-is_same-sameb Int Short = refl
-is_same-sameb Int Ushort = refl
-is_same-sameb Int Int = refl
-is_same-sameb Int Uint = refl
-is_same-sameb Int Long = refl
-is_same-sameb Int Ulong = refl
-is_same-sameb Uint Char = refl
-is_same-sameb Uint Uchar = refl
-is_same-sameb Uint Short = refl
-is_same-sameb Uint Ushort = refl
-is_same-sameb Uint Int = refl
-is_same-sameb Uint Uint = refl
-is_same-sameb Uint Long = refl
-is_same-sameb Uint Ulong = refl
-is_same-sameb Long Char = refl
-is_same-sameb Long Uchar = refl
-is_same-sameb Long Short = refl
-is_same-sameb Long Ushort = refl
-is_same-sameb Long Int = refl
-is_same-sameb Long Uint = refl
-is_same-sameb Long Long = refl
-is_same-sameb Long Ulong = refl
-is_same-sameb Ulong Char = refl
-is_same-sameb Ulong Uchar = refl
-is_same-sameb Ulong Short = refl
-is_same-sameb Ulong Ushort = refl
-is_same-sameb Ulong Int = refl
-is_same-sameb Ulong Uint = refl
-is_same-sameb Ulong Long = refl
-is_same-sameb Ulong Ulong = refl
-
 pub same_types : (f : Builtin) (a b : Integer) (s t : IntType) (r : Option Integer) → s ≡ a.kind → t ≡ b.kind → true ≡ sameb the_type s t → r ≡ of_two f a b
     → r ≡ (if is_same a.kind b.kind then of_two f a b else None)
 same_types f a b s t r p q e h =
-    h ∙ ap (λ (c : Bool). if c then of_two f a b else None) (e ∙ ap₂ (sameb the_type) p q ∙ sym (is_same-sameb a.kind b.kind))
+    h ∙ ap (λ (c : Bool). if c then of_two f a b else None) (e ∙ ap₂ (sameb the_type) p q ∙ sym (same_type a.kind b.kind))
 
 pub other_types : (f : Builtin) (a b : Integer) (s t : IntType) → s ≡ a.kind → t ≡ b.kind → false ≡ sameb the_type s t
     → None ≡ (if is_same a.kind b.kind then of_two f a b else None)
 other_types f a b s t p q e =
-    ap (λ (c : Bool). if c then of_two f a b else None) (e ∙ ap₂ (sameb the_type) p q ∙ sym (is_same-sameb a.kind b.kind))
+    ap (λ (c : Bool). if c then of_two f a b else None) (e ∙ ap₂ (sameb the_type) p q ∙ sym (same_type a.kind b.kind))
 
 -- leading zeros in a narrower width
 pub narrower_zeros : (w n : ℕ) → w ≤ 64 → n < 2 ^ w → count_leading_zeros w n + (64 - w) ≡ count_leading_zeros 64 n

@@ -4,3 +4,4 @@ pub mod Ranges
 pub mod Formulas
 pub mod Functions
 pub mod Offsets
+pub mod Sameness

@@ -1,8 +1,8 @@
 -- Residues modulo a power of two, of numbers and of what the 128-bit operations leave of them.
-use Rattle.std.proofs.Common.{◌≡◌, ℕ, zero, suc, ◌+◌, ◌-◌, ◌*◌, ◌/◌, ◌%◌, ◌^◌, ◌<◌, ◌≤◌, ℤ, pos, negsuc, refl, sym, ap, ◌∙◌, subst, arith, lit<}
+use Rattle.std.proofs.Common.{◌≡◌, ℕ, ◌+◌, ◌-◌, ◌*◌, ◌/◌, ◌%◌, ◌^◌, ◌<◌, ℤ, pos, negsuc, sym, ap, ◌∙◌, arith, lit<}
 use Rattle.std.proofs.Math.Nat.{mod-lt, mod-eq_of_lt, mod-mod_of_dvd, mul-add-mod_self_left, div-add-mod, dvd-mul_right, div-lt_iff_lt-mul}
-use Rattle.std.proofs.lemmas.Int.{SFits-int_wrap, of_z-to_z, ints}
-use Rattle.std.specs.Int.{int_wrap, w128, cast_unsigned, cast_signed}
+use Rattle.std.proofs.lemmas.Int.{SFits-int_wrap, of_z-to_z}
+use Rattle.std.specs.Int.{int_wrap, w128, cast_unsigned}
 use Rattle.std.specs.Prelude.{FitsSigned}
 use Rattle.clnum.specs.Integer.{residue}
 

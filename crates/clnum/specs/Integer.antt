@@ -1,5 +1,5 @@
 -- The integer types of OpenCL C and their values (OpenCL 1.2, 6.1.1; conversions: 6.2.3 and C99 6.3.1.3).
-use Rattle.std.specs.Prelude.{◌≡◌, ℕ, ◌+◌, ◌-◌, ◌*◌, ◌%◌, ◌^◌, ◌<◌, ◌≤◌, ℤ, pos, negsuc, ◌+ℤ◌, ◌-ℤ◌, neg_ℤ, ◌≤ℤ◌, ◌<ℤ◌, Bool, true, false, nat_lt, if◌then◌else◌}
+use Rattle.std.specs.Prelude.{ℕ, ◌-◌, ◌%◌, ◌^◌, ℤ, pos, negsuc, ◌-ℤ◌, neg_ℤ, ◌≤ℤ◌, ◌<ℤ◌, Bool, true, false, nat_lt, if◌then◌else◌, List, codes}
 use Rattle.clnum.specs.declared.int_type.IntType.{IntType}
 use Rattle.clnum.specs.declared.int_type.IntType.TheVariants.{Char, Uchar, Short, Ushort, Int, Uint, Long, Ulong}
 
@@ -28,6 +28,33 @@ is_signed Int = true
 is_signed Uint = false
 is_signed Long = true
 is_signed Ulong = false
+
+-- the name of a type
+abbrev pub type_word : IntType → List ℕ
+type_word Char = codes "char"
+type_word Uchar = codes "uchar"
+type_word Short = codes "short"
+type_word Ushort = codes "ushort"
+type_word Int = codes "int"
+type_word Uint = codes "uint"
+type_word Long = codes "long"
+type_word Ulong = codes "ulong"
+
+-- the types in their order, as their numbers: by the width, and the signed one first (own)
+abbrev pub type_number : IntType → ℕ
+type_number Char = 0
+type_number Uchar = 1
+type_number Short = 2
+type_number Ushort = 3
+type_number Int = 4
+type_number Uint = 5
+type_number Long = 6
+type_number Ulong = 7
+
+-- a number as a count, 0 where it is negative
+abbrev pub natural : ℤ → ℕ
+natural (pos n) = n
+natural (negsuc n) = 0
 
 -- the least and the greatest number of a type
 abbrev pub least : IntType → ℤ

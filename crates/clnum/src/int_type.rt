@@ -1,7 +1,7 @@
 //! The integer types of OpenCL C and their conversions.
 #![tactic(auto)]
 
-ghost use Rattle.std.specs.Prelude.{◌≡◌};
+ghost use Rattle.std.specs.Prelude.{◌≡◌, ◌<◌};
 ghost use Rattle.clnum.specs.Integer as integer;
 ghost use Rattle.clnum.specs.Conversions as conversions;
 
@@ -46,6 +46,39 @@ impl IntType {
         match self {
             IntType::Char | IntType::Short | IntType::Int | IntType::Long => true,
             IntType::Uchar | IntType::Ushort | IntType::Uint | IntType::Ulong => false,
+        }
+    }
+
+    /// Its name (OpenCL 1.2, section 6.1.1).
+    pub fn name(self) -> &'static str
+        ensures { result.now ≡ integer.type_word self }
+    {
+        match self {
+            IntType::Char => "char",
+            IntType::Uchar => "uchar",
+            IntType::Short => "short",
+            IntType::Ushort => "ushort",
+            IntType::Int => "int",
+            IntType::Uint => "uint",
+            IntType::Long => "long",
+            IntType::Ulong => "ulong",
+        }
+    }
+
+    /// Its number in the order of the types, from 0 to 7: by the width, and the signed one first.
+    pub fn number(self) -> u32
+        ensures value { result ≡ integer.type_number self }
+        ensures below { result < 8 }
+    {
+        match self {
+            IntType::Char => 0,
+            IntType::Uchar => 1,
+            IntType::Short => 2,
+            IntType::Ushort => 3,
+            IntType::Int => 4,
+            IntType::Uint => 5,
+            IntType::Long => 6,
+            IntType::Ulong => 7,
         }
     }
 

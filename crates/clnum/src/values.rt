@@ -72,6 +72,14 @@ impl Value {
         self.number
     }
 
+    /// Its number as a count: 0 where it is negative.
+    pub fn natural(self) -> u64
+        ensures { result ≡ integer.natural self.number }
+    {
+        let number = self.number();
+        if number < 0 { 0 } else { number as u64 }
+    }
+
     /// Its bits, as many as its type is wide.
     pub(crate) fn to_bits(self) -> u64
         ensures value { result ≡ integer.bits_of self.kind self.number }

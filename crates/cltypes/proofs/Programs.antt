@@ -1,5 +1,5 @@
 -- A program is typed exactly where none of its places has a fault.
-use Rattle.std.proofs.Common.{◌≡◌, ℕ, ◌≤◌, true, not, ◌||◌, nat_le, List, [], ◌∷◌, ◌++◌, Option, None, Some, is_some, refl}
+use Rattle.std.proofs.Common.{◌≡◌, ℕ, ◌≤◌, true, not, ◌||◌, nat_le, List, [], ◌∷◌, ◌++◌, length, Option, None, Some, is_some, refl}
 use Rattle.clmodel.specs.declared.tree.Parameter.{Parameter}
 use Rattle.clmodel.specs.declared.type_fault.TypeFault.{TypeFault}
 use Rattle.clmodel.specs.declared.type_fault.TypeFault.TheVariants as fault
@@ -8,7 +8,7 @@ use Rattle.clmodel.specs.declared.declaration.Declaration.TheVariants.{Single}
 use Rattle.clmodel.specs.Typing.Context.{Context, is_free, bind}
 use Rattle.clmodel.specs.Typing.Least.{least, first}
 use Rattle.clmodel.specs.Typing.Faults.{unless, declared_faults, row_faults}
-use Rattle.clmodel.specs.Typing.Sizes.{Size, loop_limit, byte_limit, node_limit, row_returns}
+use Rattle.clmodel.specs.Typing.Sizes.{Size, loop_limit, byte_limit, node_limit, parameter_limit, row_returns}
 use Rattle.clmodel.specs.Typing.Functions.{names, begin, with_params, AreParams, is_new, size_of, IsTypedFunction, AreTypedFunctions, params_faults, heading_faults, end_faults, function_faults, functions_faults, program_faults}
 use Rattle.clmodel.specs.Typing.{IsTypedProgram, IsTypeFault}
 use Rattle.cltypes.specs.Answers.{IsExactlyTyped}
@@ -34,6 +34,7 @@ record HasEnd (f : Func) (s : Size) : Type 0 where
   loops : f.is_kernel ≡ true → s.loops ≤ loop_limit
   bytes : f.is_kernel ≡ true → s.bytes ≤ byte_limit
   nodes : f.is_kernel ≡ true → s.nodes ≤ node_limit
+  few : length f.parameters ≤ parameter_limit
 
 end_sound : (f : Func) (s : Size) → first (end_faults f s) ≡ None → HasEnd f s
 end_sound f s n =
@@ -44,15 +45,19 @@ end_sound f s n =
     let p = unless a (fault.MissingReturn f.name_at) in
     let q = unless b (fault.TooManyLoops f.name_at) in
     let v = unless e (fault.TooLarge f.name_at) in
+    let g = nat_le (length f.parameters) parameter_limit in
     let r = unless d (fault.TooLarge f.name_at) in
-    let t = earlier_none (least p) (first (q ∷ v ∷ r ∷ [])) n in
-    let u = earlier_none (least q) (first (v ∷ r ∷ [])) t.1 in
-    let w = earlier_none (least v) (first (r ∷ [])) u.1 in
+    let z = unless g (fault.TooLarge f.name_at) in
+    let t = earlier_none (least p) (first (q ∷ v ∷ r ∷ z ∷ [])) n in
+    let u = earlier_none (least q) (first (v ∷ r ∷ z ∷ [])) t.1 in
+    let w = earlier_none (least v) (first (r ∷ z ∷ [])) u.1 in
+    let x = earlier_none (least r) (first (z ∷ [])) w.1 in
     record {
       returns = where_it (is_some f.result) (row_returns f.body) (unless_none a (fault.MissingReturn f.name_at) t.0);
       loops = λ k. same_le s.loops loop_limit (where_it f.is_kernel (nat_le s.loops loop_limit) (unless_none b (fault.TooManyLoops f.name_at) u.0) k);
       bytes = λ k. same_le s.bytes byte_limit (where_it f.is_kernel (nat_le s.bytes byte_limit) (unless_none e (fault.TooLarge f.name_at) w.0) k);
-      nodes = λ k. same_le s.nodes node_limit (where_it f.is_kernel (nat_le s.nodes node_limit) (unless_none d (fault.TooLarge f.name_at) (one_place r w.1)) k);
+      nodes = λ k. same_le s.nodes node_limit (where_it f.is_kernel (nat_le s.nodes node_limit) (unless_none d (fault.TooLarge f.name_at) x.0) k);
+      few = same_le (length f.parameters) parameter_limit (unless_none g (fault.TooLarge f.name_at) (one_place z x.1));
     }
 
 end_complete : (f : Func) (s : Size) → HasEnd f s → first (end_faults f s) ≡ None
@@ -64,11 +69,14 @@ end_complete f s h =
     let p = unless a (fault.MissingReturn f.name_at) in
     let q = unless b (fault.TooManyLoops f.name_at) in
     let v = unless e (fault.TooLarge f.name_at) in
+    let g = nat_le (length f.parameters) parameter_limit in
     let r = unless d (fault.TooLarge f.name_at) in
-    place_then p (q ∷ v ∷ r ∷ []) (unless_true a (fault.MissingReturn f.name_at) (or_not (is_some f.result) (row_returns f.body) h.returns))
-    (place_then q (v ∷ r ∷ []) (unless_true b (fault.TooManyLoops f.name_at) (or_not f.is_kernel (nat_le s.loops loop_limit) (λ k. le_test s.loops loop_limit (h.loops k))))
-    (place_then v (r ∷ []) (unless_true e (fault.TooLarge f.name_at) (or_not f.is_kernel (nat_le s.bytes byte_limit) (λ k. le_test s.bytes byte_limit (h.bytes k))))
-    (place_then r [] (unless_true d (fault.TooLarge f.name_at) (or_not f.is_kernel (nat_le s.nodes node_limit) (λ k. le_test s.nodes node_limit (h.nodes k)))) refl)))
+    let z = unless g (fault.TooLarge f.name_at) in
+    place_then p (q ∷ v ∷ r ∷ z ∷ []) (unless_true a (fault.MissingReturn f.name_at) (or_not (is_some f.result) (row_returns f.body) h.returns))
+    (place_then q (v ∷ r ∷ z ∷ []) (unless_true b (fault.TooManyLoops f.name_at) (or_not f.is_kernel (nat_le s.loops loop_limit) (λ k. le_test s.loops loop_limit (h.loops k))))
+    (place_then v (r ∷ z ∷ []) (unless_true e (fault.TooLarge f.name_at) (or_not f.is_kernel (nat_le s.bytes byte_limit) (λ k. le_test s.bytes byte_limit (h.bytes k))))
+    (place_then r (z ∷ []) (unless_true d (fault.TooLarge f.name_at) (or_not f.is_kernel (nat_le s.nodes node_limit) (λ k. le_test s.nodes node_limit (h.nodes k))))
+    (place_then z [] (unless_true g (fault.TooLarge f.name_at) (le_test (length f.parameters) parameter_limit h.few)) refl))))
 
 function_sound : (all : List ℕ) (fs : Funcs) (f : Func) → first (function_faults all fs f) ≡ None → IsTypedFunction all fs f
 function_sound all fs f n =
@@ -87,6 +95,7 @@ function_sound all fs f n =
       loops = e.loops;
       bytes = e.bytes;
       nodes = e.nodes;
+      few = e.few;
     }
 
 function_complete : (all : List ℕ) (fs : Funcs) (f : Func) → IsTypedFunction all fs f → first (function_faults all fs f) ≡ None
@@ -97,7 +106,7 @@ function_complete all fs f h =
     place_then (heading_faults fs f) (params ++ body ++ end) (unless_true (is_new fs f.name) (fault.Redeclared f.name_at) h.name)
     (places_joined (params ++ body) end
     (places_joined params body (params_complete (begin all fs f) f.parameters h.parameters) (row_complete (with_params (begin all fs f) f.parameters) f.body h.body))
-    (end_complete f (size_of fs f) (record { returns = h.returns; loops = h.loops; bytes = h.bytes; nodes = h.nodes })))
+    (end_complete f (size_of fs f) (record { returns = h.returns; loops = h.loops; bytes = h.bytes; nodes = h.nodes; few = h.few })))
 
 functions_sound : (all : List ℕ) (fs : Funcs) → first (functions_faults all fs) ≡ None → AreTypedFunctions all fs
 functions_sound all NoFunc n = tt

@@ -4,9 +4,8 @@
 ghost use Rattle.std.specs.Prelude.{◌≡◌, ◌≤◌, ◌++◌, nat_eq, length, map, option_map};
 ghost use Rattle.std.specs.List.{slice_get};
 ghost use Rattle.clmodel.specs.Typing.Least.{is_up_to, lesser, least};
-ghost use Rattle.clmodel.specs.Typing.Faults.{unless, is_same_space, moves, takes_pointer, is_sum, integer_faults, pointer_faults, passing_faults, name_faults, front_faults, address_faults, operand_faults, wants, helper_faults, callee_faults, wanted, ForParameter, same_faults, atomic_faults, argument_faults, integer_wants, atomic_wants};
+ghost use Rattle.clmodel.specs.Typing.Faults.{unless, moves, takes_pointer, is_sum, integer_faults, pointer_faults, passing_faults, name_faults, front_faults, address_faults, operand_faults, wants, helper_faults, callee_faults, wanted, ForParameter, same_faults, atomic_faults, argument_faults, integer_wants, atomic_wants};
 ghost use Rattle.clmodel.specs.Typing.Rules.{operands};
-ghost use Rattle.clnum.specs.Builtins.{is_same};
 ghost use Rattle.clmodel.specs.declared.tree.VariableType.TheVariants.{Pointer};
 ghost use Rattle.clmodel.specs.Typing.Context as typing;
 ghost use Rattle.cltypes_scope.specs.Names.{signature_of, meaning_of};
@@ -99,34 +98,16 @@ pub fn pointer_fault(operand: Operand) -> Option<TypeFault>
     }
 }
 
-/// Whether two address spaces are one.
-fn is_same_space(space: AddressSpace, other: AddressSpace) -> bool
-    ensures { result ≡ is_same_space space other }
-{
-    match (space, other) {
-        (AddressSpace::Global, AddressSpace::Global)
-        | (AddressSpace::Local, AddressSpace::Local)
-        | (AddressSpace::Constant, AddressSpace::Constant) => true,
-        _ => false,
-    }
-}
-
-/// Whether two types of integers are one.
-fn is_same(kind: IntType, other: IntType) -> bool
-    ensures { result ≡ is_same kind other }
-{
-    kind.bits() == other.bits() && kind.is_signed() == other.is_signed()
-}
-
 /// A pointer given to what has the type of another.
+#[tactic(auto, using(clnum::proofs::Sameness::same_type, clmodel::proofs::Sameness::same_space))]
 fn pointer_passing_fault(to: PointerType, given: PointerType, at: u32) -> Option<TypeFault>
     ensures { result ≡ least (passing_faults (Pointer to) (Pointer given) at) }
 {
-    if !is_same(to.element, given.element) {
+    if to.element != given.element {
         Some(TypeFault::TypeMismatch { at })
     } else if given.is_const && !to.is_const {
         Some(TypeFault::NotAssignable { at })
-    } else if !is_same_space(to.space, given.space) {
+    } else if to.space != given.space {
         Some(TypeFault::WrongSpace { at })
     } else {
         None
@@ -421,11 +402,12 @@ fn atomic_wanted(function: AtomicFunction, index: usize) -> Option<Want>
 }
 
 /// An integer of the type of the one before it.
+#[tactic(auto, using(clnum::proofs::Sameness::same_type))]
 fn same_fault(before: VariableType, argument: Operand) -> Option<TypeFault>
     ensures { result ≡ least (same_faults before argument.kind argument.at) }
 {
     match (before, argument.kind) {
-        (VariableType::Integer(before), VariableType::Integer(kind)) => if is_same(before, kind) {
+        (VariableType::Integer(before), VariableType::Integer(kind)) => if before == kind {
             None
         } else {
             Some(TypeFault::TypeMismatch { at: argument.at })

@@ -72,7 +72,7 @@ fn judge<D: Described, L: AccessLog>(
     entry: Entry,
 ) -> Result<Option<Fault>, AllocError>
     requires { IsPlaced entry }
-    ensures { IfOk result (IsJudged (D.launch launch.now) (L.Accesses.log log.old) entry (L.Accesses.log log.new)) }
+    ensures { IfOk result (IsJudged (D.launch launch.now) (L.Logged.log log.old) entry (L.Logged.log log.new)) }
 {
     match log.note(entry)? {
         None => Ok(None),
@@ -82,9 +82,9 @@ fn judge<D: Described, L: AccessLog>(
 
 /// Begins the next interval of each address space that a barrier fences.
 fn pass<L: AccessLog>(log: &mut L, fences: Fences)
-    requires local { (L.Accesses.log log.old).local_interval < 2 ^ 32 - 1 }
-    requires global { (L.Accesses.log log.old).global_interval < 2 ^ 32 - 1 }
-    ensures { L.Accesses.log log.new ≡ after_fences (L.Accesses.log log.old) fences }
+    requires local { (L.Logged.log log.old).local_interval < 2 ^ 32 - 1 }
+    requires global { (L.Logged.log log.old).global_interval < 2 ^ 32 - 1 }
+    ensures { L.Logged.log log.new ≡ after_fences (L.Logged.log log.old) fences }
 {
     if fences.local {
         log.fence(Fenced::Local);
@@ -112,7 +112,7 @@ impl<'a, D: Runnable, G: Space, L: AccessLog> Machine for Group<'a, D, G, L> {
 
     ghost plan = { λ m. record { launch = D.Described.launch m.launch.now; group = m.number; first = m.first; count = length m.items.items } };
 
-    ghost fits = { λ m. Fits (acts_of D.Described.launch) G.bytes G.read_only (record { launch = D.Described.launch m.launch.now; group = m.number; first = m.first; count = length m.items.items }) m.items.items m.made m.buffers.items m.locals.items (L.Accesses.log m.log) };
+    ghost fits = { λ m. Fits (acts_of D.Described.launch) G.bytes G.read_only (record { launch = D.Described.launch m.launch.now; group = m.number; first = m.first; count = length m.items.items }) m.items.items m.made m.buffers.items m.locals.items (L.Logged.log m.log) };
 
     ghost ticks = { λ m k. 2 ^ 32 - m.made };
 

@@ -54,8 +54,8 @@ pub fn run_group<D: Runnable, G: Space + Drop, L: AccessLog + Drop>(
     requires there { group * (D.Described.launch launch.now).group_size < (D.Described.launch launch.now).items }
     requires writable { G.read_only ≡ false }
     requires filled { map G.bytes globals.items ≡ filled (D.Described.launch launch.now) }
-    requires fresh { L.Accesses.log log ≡ fresh_log (D.Described.launch launch.now).uniform }
-    ensures { IfOk result (IsResult G.bytes L.Accesses.log (D.Described.launch launch.now) group) }
+    requires fresh { L.Logged.log log ≡ fresh_log (D.Described.launch launch.now).uniform }
+    ensures { IfOk result (IsResult G.bytes L.Logged.log (D.Described.launch launch.now) group) }
 {
     let count = launch.group_size();
     let first = group * count;

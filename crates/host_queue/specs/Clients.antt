@@ -1,4 +1,5 @@
 -- What holds of a client, of the driver and of a note between two calls.
+-- Numbers of sections are those of OpenCL 1.2; "own" is what this project decided.
 use Rattle.std.specs.Prelude.{◌≡◌, ◌≢◌, ℕ, ◌<◌, List, [], ◌∷◌, length}
 use mathlib.Core.Option.{some}
 use lib.ListN.{get_elem?}
@@ -11,19 +12,19 @@ use Rattle.host_queue.specs.Views.{Has}
 use Rattle.host_queue.specs.Plays.{Fits}
 
 module _ {D C R : Type 0} where
-  -- the ticket n is the client's, and not collected
+  -- the ticket n is the client's, and not collected (own)
   abbrev pub IsOpen : View D C R → ℕ → Type 0
   IsOpen v n = (i : ℕ) × (t : Held C) × (get_elem? v.tickets i ≡ some t) × (t.number ≡ n) × (Has v.collected n → ⊥)
 
-  -- no ticket was collected
+  -- no ticket was collected (own)
   abbrev pub StaysOpen : View D C R → View D C R → Type 0
   StaysOpen v w = (n : ℕ) → IsOpen v n → IsOpen w n
 
-  -- no other ticket than n was collected
+  -- no other ticket than n was collected (own)
   abbrev pub StaysOpenBut : ℕ → View D C R → View D C R → Type 0
   StaysOpenBut n v w = (m : ℕ) → m ≢ n → IsOpen v m → IsOpen w m
 
-  -- a client's seat that may draw
+  -- a client's seat that may draw (own)
   pub record IsReady (v : View D C R) : Type 0 where
     pub idle : v.stage ≡ Idle
     pub part : v.part ≡ 1
@@ -33,45 +34,45 @@ module _ {D C R : Type 0} where
     pub below : (i : ℕ) (t : Held C) → get_elem? v.tickets i ≡ some t → (t.number < v.floor) × (t.number < 4096)
     pub collected : (n : ℕ) → Has v.collected n → n < v.floor
 
-  -- a client's seat between two calls
+  -- a client's seat between two calls (own)
   pub record IsClient (step : D → C → R → D → Type 0) (v : View D C R) : Type 0 where
     pub ready : IsReady v
     pub fits : Fits step v v.known
 
-  -- the driver's seat between two calls
+  -- the driver's seat between two calls: what it knows is all that the queue did, and left this machine (3.2.1, 5.11)
   pub record IsDriver (step : D → C → R → D → Type 0) (v : View D C R) (machine : D) : Type 0 where
     pub idle : v.stage ≡ Idle
     pub driving : v.driving ≡ 1
     pub left : v.share ≡ 0 → v.count ≡ 0
     pub runs : (d : D) → v.start ≡ d ∷ [] → RunsTo step d v.known machine
 
-  -- the seat of a note
+  -- the seat of a note (own)
   pub record IsNote (v : View D C R) : Type 0 where
     pub idle : v.stage ≡ Idle
     pub share : v.share ≡ 0
     pub count : v.count ≡ 0
 
-  -- the driver let one client in, and each ticket of the client is answered, as the client knows
+  -- the driver let one client in, and each ticket of the client is answered, as the client knows (own)
   pub record IsOnly (driver client : View D C R) : Type 0 where
     pub admitted : driver.admitted ≡ 1
     pub share : driver.share ≡ 0
     pub answered : length client.tickets ≡ length driver.known
     pub known : Begins driver.known client.known
 
-  -- no ticket is in both views
+  -- no ticket is in both views (own)
   abbrev pub IsApart : View D C R → View D C R → Type 0
   IsApart v w = (i j : ℕ) (t u : Held C) → get_elem? v.tickets i ≡ some t → get_elem? w.tickets j ≡ some u → t.number ≢ u.number
 
 module _ {C : Type 0} where
-  -- the tickets are below the number
+  -- the tickets are below the number (own)
   abbrev pub AllBelow : List (Held C) → ℕ → Type 0
   AllBelow tickets n = (i : ℕ) (t : Held C) → get_elem? tickets i ≡ some t → t.number < n
 
 module _ {C R : Type 0} where
-  -- the list has these commands at these tickets, as far as it goes
+  -- the list has these commands at these tickets, as far as it goes (3.2.1)
   abbrev pub AgreeAt : List (Held C) → List (Entry C R) → Type 0
   AgreeAt tickets known = (i : ℕ) (t : Held C) → get_elem? tickets i ≡ some t → (x : Entry C R) → get_elem? known t.number ≡ some x → x.command ≡ t.command
 
-  -- the list has each of these tickets, with its command
+  -- the list has each of these tickets, with its command (3.2.1)
   abbrev pub Serves : List (Held C) → List (Entry C R) → Type 0
   Serves tickets log = (i : ℕ) (t : Held C) → get_elem? tickets i ≡ some t → (x : Entry C R) × (get_elem? log t.number ≡ some x) × (x.command ≡ t.command)

@@ -1,4 +1,4 @@
--- The clients of a queue that was just opened.
+-- The clients of a queue that was just opened. All of it is own.
 use Rattle.std.specs.Prelude.{◌≡◌, ℕ, List, []}
 use mathlib.Core.Option.{some}
 use lib.ListN.{get_elem?}

@@ -1,4 +1,4 @@
--- What a seat knows at first, and words for lists of it.
+-- What a seat knows at first, and words for lists of it. All of it is own.
 use Rattle.std.specs.Prelude.{◌≡◌, ℕ, ◌+◌, List, [], ◌∷◌}
 use mathlib.Core.Option.{some}
 use lib.ListN.{get_elem?}

@@ -22,16 +22,17 @@ use std::mem;
 use std::snapshot::Snapshot;
 use std::sync::Wait;
 
+/// How many tickets a queue gives, from 0 to 4,095.
 pub const TICKETS: usize = 4096;
 
-/// What the threads share.
+/// What the threads share: a place for each ticket's request. It is an in-order command queue (OpenCL 1.2, sections 3.2.1 and 5.1).
 #[derive(Drop)]
 pub struct Queue<D: Machine<C, R>, C: Drop, R: Drop> {
     pub table: Rows<D, C, R>,
     ghost sized: { (table.shared.table_id.slots ≡ 4096) × (table.shared.table_id.words ≡ 4097) },
 }
 
-/// Who submits requests.
+/// Who submits requests and collects their replies. It may go to a thread of its own.
 #[derive(Drop)]
 pub struct Client<D: Machine<C, R>, C: Drop, R: Drop> {
     pub seat: Place<D, C, R>,
@@ -66,6 +67,9 @@ pub struct Full<C: Drop, R: Drop> {
 }
 
 impl<D: Machine<C, R>, C: Drop, R: Drop> Client<D, C, R> {
+    /// Enqueues a command, the request in its box (OpenCL 1.2, sections 3.2.1 and 5.1): the ticket says its place in the order of all commands. The ticket is
+    /// below 4,096, above each that this client drew before, and not below the number of tickets that it knows to be answered. No other thread
+    /// is waited for, and no memory is asked for. `Full` comes only where all 4,096 tickets are drawn, with the same box.
     pub fn submit(
         &mut self,
         queue: &Queue<D, C, R>,
@@ -106,7 +110,8 @@ impl<D: Machine<C, R>, C: Drop, R: Drop> Client<D, C, R> {
 }
 
 impl<D: Machine<C, R>, C: Drop, R: Drop> Client<D, C, R> {
-    /// The answered request, or the ticket back.
+    /// The request of a ticket that this client drew, in the box that was submitted and with the reply: the one that stands in the history at the ticket. The ticket
+    /// comes back where it isn't answered yet. No other thread is waited for, and no memory is asked for.
     pub fn poll(
         &mut self,
         queue: &Queue<D, C, R>,
@@ -149,7 +154,7 @@ impl<D: Machine<C, R>, C: Drop, R: Drop> Answered<D, C, R> {
     }
 }
 
-/// Who takes the requests in ticket order.
+/// Who takes the requests in ticket order, and has the machine. It may go to a thread of its own.
 #[derive(Drop)]
 pub struct Driver<D: Machine<C, R>, C: Drop, R: Drop> {
     pub seat: Place<D, C, R>,
@@ -161,7 +166,7 @@ pub struct Driver<D: Machine<C, R>, C: Drop, R: Drop> {
 }
 
 impl<D: Machine<C, R>, C: Drop, R: Drop> Client<D, C, R> {
-    /// The answered request of a ticket below the count of `answered`.
+    /// The same for a ticket below the count of `answered`, whose request always comes. `answered` keeps its count and what it knows.
     pub fn poll_known(
         &mut self,
         queue: &Queue<D, C, R>,
@@ -207,7 +212,8 @@ fn serve<D: Machine<C, R>, C: Drop, R: Drop, F: FnOnce(&mut D, C) -> R>(
 }
 
 impl<D: Machine<C, R>, C: Drop, R: Drop> Driver<D, C, R> {
-    /// Answers the next ticket, if its request is there, with the command done as `how` does it.
+    /// Answers the next ticket, if its request is there, with the command done as `how` does it. None where the request isn't there, or where all
+    /// 4,096 tickets are answered; then nothing changed.
     pub fn drive_by<F: FnOnce(&mut D, C) -> R + Drop>(
         &mut self,
         queue: &Queue<D, C, R>,
@@ -243,7 +249,7 @@ impl<D: Machine<C, R>, C: Drop, R: Drop> Driver<D, C, R> {
         })
     }
 
-    /// Answers the next ticket, if its request is there.
+    /// Answers the next ticket, if its request is there. None where it isn't, or where all 4,096 tickets are answered; then nothing changed.
     pub fn drive_one(&mut self, queue: &Queue<D, C, R>) -> Option<Answered<D, C, R>>
         requires one { self.old.seat.table_id ≡ queue.now.table.shared.table_id }
         ensures one { self.new.seat.table_id ≡ self.old.seat.table_id }
@@ -282,7 +288,8 @@ impl<D: Machine<C, R>, C: Drop, R: Drop> Driver<D, C, R> {
         shared.join_seat::<Learn>(&mut client.seat, back);
     }
 
-    /// Does the command of the only client at once, as `how` does it: submits it, drives it, and collects the reply.
+    /// Does the command of the only client at once, as `how` does it: submits it, drives it, and collects the reply. `Full` comes only where all 4,096
+    /// tickets are answered, with the same box; then nothing changed.
     pub fn answer_by<F: FnOnce(&mut D, C) -> R + Drop>(
         &mut self,
         queue: &Queue<D, C, R>,
@@ -316,7 +323,8 @@ impl<D: Machine<C, R>, C: Drop, R: Drop> Driver<D, C, R> {
         }
     }
 
-    /// Does the command of the only client at once, for a program on one thread: submits it, drives it, and collects the reply.
+    /// Does the command of the only client at once, for a program on one thread: submits it, drives it, and collects the reply. `Full` comes only
+    /// where all 4,096 tickets are answered, with the same box; then nothing changed.
     pub fn answer(
         &mut self,
         queue: &Queue<D, C, R>,
@@ -361,7 +369,8 @@ impl<D: Machine<C, R>, C: Drop, R: Drop> Client<D, C, R> {
         shared.load::<Look<D>>(&mut self.seat, 0);
     }
 
-    /// Both know the longer of their two lists, and each draws above what the other drew.
+    /// Two different clients tell each other what they know: both then know the longer of their two histories, and each draws above what the
+    /// other drew. No other thread is waited for.
     pub fn agree(&mut self, queue: &Queue<D, C, R>, other: &mut Client<D, C, R>)
         requires one { (self.old.seat.table_id ≡ queue.now.table.shared.table_id) × (other.old.seat.table_id ≡ queue.now.table.shared.table_id) }
         requires two { self.old.seat.me.0.name ≢ other.old.seat.me.0.name }
@@ -418,7 +427,7 @@ impl<D: Machine<C, R>, C: Drop, R: Drop> Driver<D, C, R> {
     }
 }
 
-/// A queue over the machine, with so many clients, who are numbered from 0.
+/// A queue over the machine, with 0 to 16 clients, who are numbered from 0, and the driver, who has the machine. An error is out of memory.
 pub fn open<D: Machine<C, R>, C: Drop, R: Drop>(
     alloc: Global,
     machine: D,

@@ -12,6 +12,7 @@ use std::alloc::Global;
 use std::marker::PhantomData;
 use std::snapshot::Snapshot;
 
+/// The rule of the table: what its words, its slots and the seats say together.
 pub struct Tickets;
 
 impl<D: Machine<C, R>, C: Drop, R: Drop> TableRule<
@@ -24,10 +25,13 @@ impl<D: Machine<C, R>, C: Drop, R: Drop> TableRule<
     ghost first = { λ key. first_view key.value };
 }
 
+/// The seat of a client, of the driver or of a note. It takes no bytes.
 pub type Place<D, C, R> = Seat<Option<Box<Request<C, R>>>, View<D, C, R>>;
 
+/// The words and slots as threads share them: a word that counts the draws, and a word and a slot for each ticket.
 pub type Board<D, C, R> = Shared<Option<Box<Request<C, R>>>, View<D, C, R>, Snapshot<D>, Tickets>;
 
+/// The owner of the words and slots.
 pub type Rows<D, C, R> = Table<
     Option<Box<Request<C, R>>>,
     View<D, C, R>,

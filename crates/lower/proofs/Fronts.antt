@@ -3,6 +3,7 @@ use Rattle.std.proofs.Common.{◌≡◌, ℕ, zero, suc, ◌+◌, ◌<◌, ◌�
 use Rattle.std.proofs.lemmas.Bool.{cases_lt}
 use Rattle.std.specs.declared.alloc.Global.{Global}
 use Rattle.clmodel.specs.Next.{sites, all_sites}
+use Rattle.clmodel.specs.Typing.Sizes.{Sizes, size, row_size}
 use Rattle.clmodel.specs.declared.tree.Statement as rust_statement
 use Rattle.clmodel.specs.declared.tree.Statement.{Statement}
 use Rattle.clmodel.specs.Tree.{Stmt, Stmts, NoStmt, ThenStmt, stmt, then_stmts}
@@ -27,6 +28,23 @@ module _ (f : ℕ → ℕ) where
       let all = first_sites NoStmt ts (i + 1) in
       omega (arith, one, all)
 
+module _ (sizes : Sizes) where
+  more_nodes : (ss : Stmts) (ts : List Statement) → (row_size sizes ss).nodes ≤ (row_size sizes (then_stmts ss (map stmt ts))).nodes
+  more_nodes ss [] = omega arith
+  more_nodes ss (t ∷ ts) = omega (arith, more_nodes (ThenStmt ss (stmt t)) ts)
+
+  first_nodes : (ss : Stmts) (ts : List Statement) (i : ℕ) → (row_size sizes (then_stmts ss (map stmt (take i ts)))).nodes ≤ (row_size sizes (then_stmts ss (map stmt ts))).nodes
+  first_nodes ss ts zero = more_nodes ss ts
+  first_nodes ss [] (suc i) = omega arith
+  first_nodes ss (t ∷ ts) (suc i) = first_nodes (ThenStmt ss (stmt t)) ts i
+
+  -- one of the statements has no more nodes than all
+  pub nodes_there : (ts : List Statement) (i : ℕ) (t : Statement) → i < length ts → t ≡ get_or ts i t → (size sizes (stmt t)).nodes ≤ (row_size sizes (all_of ts)).nodes
+  nodes_there ts i t below is =
+      let one = ap (λ ss. (row_size sizes ss).nodes) (row_more ts i t below is) in
+      let all = first_nodes NoStmt ts (i + 1) in
+      omega (arith, one, all)
+
 -- a sum that doesn't fit is no less than 2^32
 pub too_many : (all n most : ℕ) → (all + n < 2 ^ 32 → ⊥) → all + n ≤ most → 2 ^ 32 ≤ most
 too_many all n most not_few below = go (cases_lt (all + n) (2 ^ 32))
@@ -38,3 +56,10 @@ too_many all n most not_few below = go (cases_lt (all + n) (2 ^ 32))
 -- the statements of a block have no more than it
 pub block_few : (f : ℕ → ℕ) (s : Statement) (at : ℕ) (ss : Vec Statement Global) (ts : List Statement) (n : ℕ) → s ≡ rust_statement.Block at ss → ts ≡ ss.items → sites f (stmt s) ≤ n → all_sites f (all_of ts) ≤ n
 block_few f s at ss ts n s_is ts_is few = subst (λ (x : Stmt). sites f x ≤ n) (sym (block_is s at ss ts s_is ts_is)) few
+
+-- and no more nodes
+pub block_small : (sizes : Sizes) (s : Statement) (at : ℕ) (ss : Vec Statement Global) (ts : List Statement) (depth n : ℕ) → s ≡ rust_statement.Block at ss → ts ≡ ss.items
+    → depth + (size sizes (stmt s)).nodes ≤ n → depth + (row_size sizes (all_of ts)).nodes ≤ n
+block_small sizes s at ss ts depth n s_is ts_is small =
+    let inner : depth + suc (row_size sizes (all_of ts)).nodes ≤ n = subst (λ (x : Stmt). depth + (size sizes x).nodes ≤ n) (sym (block_is s at ss ts s_is ts_is)) small in
+    omega (arith, inner)

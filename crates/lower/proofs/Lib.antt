@@ -34,3 +34,5 @@ pub mod LowStatements
 pub mod LowKernels
 pub mod ShortStatements
 pub mod ShortKernels
+pub mod Named
+pub mod FitKernels

@@ -8,11 +8,13 @@ use Rattle.clmodel.specs.Next.{all_sites, sites_in}
 use Rattle.clmodel.specs.Setup.{kernel_in, functions_before, same_text}
 use Rattle.clmodel.specs.Tree.{Program, Func, Funcs, NoFunc, ThenFunc}
 use Rattle.clmodel.specs.Typing.{IsTypedProgram}
+use Rattle.clmodel.specs.Typing.Functions.{size_of}
+use Rattle.clmodel.specs.Typing.Sizes.{node_limit}
 use Rattle.regcode.specs.Listing.{Listing}
 use Rattle.regcode.specs.Rules.{IsVerified}
 use Rattle.lower_code.specs.Code.{kernel_code}
 use Rattle.lower.specs.Accepted.{TypedKernelsVerified}
-use Rattle.lower.specs.Bounds.{FewBarriers, TypedKernelsFewBarriers}
+use Rattle.lower.specs.Bounds.{FewBarriers, FewNodes, TypedKernelsFewBarriers, TypedKernelsShort}
 use Rattle.lower.specs.Correct.{ActsAsTheTree}
 use Rattle.lower.specs.Lists.{Lists}
 use Rattle.lower.specs.Lowers.{IsLowered}
@@ -35,6 +37,16 @@ few_barriers p number law typed f is = go (cases_lt (all_sites (sites_in (functi
         → all_sites (sites_in (functions_before p.functions number)) f.body < 2 ^ 32
     go (inl few) = few
     go (inr many) = absurd (∥∥₁_elim typed (λ x y. absurd x) (λ t. let most = law p number f t is in omega (arith, most, many)))
+
+-- and few nodes
+pub few_nodes : (p : Program) (number : ℕ) → TypedKernelsShort → ∥ IsTypedProgram p ∥₁ → FewNodes p.functions number
+unfolding TypedKernelsShort
+few_nodes p number law typed f is = go (cases_lt node_limit (size_of (functions_before p.functions number) f).nodes)
+  where
+    go : (node_limit < (size_of (functions_before p.functions number) f).nodes) ⊎ ((size_of (functions_before p.functions number) f).nodes ≤ node_limit)
+        → (size_of (functions_before p.functions number) f).nodes ≤ node_limit
+    go (inl many) = absurd (∥∥₁_elim typed (λ x y. absurd x) (λ t. let most = (law p number f t is).1 in omega (arith, most, many)))
+    go (inr few) = few
 
 -- it is the code that is defined for the kernel
 pub lists_same : (p : Program) (number : ℕ) (code made : Listing) → code ≡ made → Lists p.functions number made → Lists p.functions number code

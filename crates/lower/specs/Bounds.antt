@@ -5,7 +5,7 @@ use Rattle.clmodel.specs.Setup.{kernel_in, functions_before}
 use Rattle.clmodel.specs.Tree.{Program, Func, Funcs}
 use Rattle.clmodel.specs.Typing.{IsTypedProgram}
 use Rattle.clmodel.specs.Typing.Functions.{size_of}
-use Rattle.clmodel.specs.Typing.Sizes.{node_limit}
+use Rattle.clmodel.specs.Typing.Sizes.{node_limit, parameter_limit}
 use Rattle.lower_code.specs.Code.{kernel_code}
 use Rattle.lower.specs.Tables.{register_count}
 
@@ -33,7 +33,19 @@ TypedKernelsFewRegisters =
     (program : Program) (name : ℕ) (f : Func) → IsTypedProgram program → kernel_in program.functions name ≡ Some f →
     register_count (kernel_code (functions_before program.functions name) f) ≤ 16 * (length f.parameters + node_limit + 1)
 
+-- So, with the limit of parameters, its code has at most 205,538 instructions and 1,368,592 registers: each length of a jump and each register has a number of 32 bits.
+unfoldable pub TypedKernelsFit : Type 0
+TypedKernelsFit =
+    (program : Program) (name : ℕ) (f : Func) → IsTypedProgram program → kernel_in program.functions name ≡ Some f →
+    (length (kernel_code (functions_before program.functions name) f) ≤ per_node * node_limit + parameter_limit + 2)
+    × (register_count (kernel_code (functions_before program.functions name) f) ≤ 16 * (parameter_limit + node_limit + 1))
+
 -- The kernel of a name's number, if there is one, has so few barriers, those in the helpers that it calls among them, that each has a number of 32 bits.
 abbrev pub FewBarriers : Funcs → ℕ → Type 0
 FewBarriers functions number =
     (f : Func) → kernel_in functions number ≡ Some f → all_sites (sites_in (functions_before functions number)) f.body < 2 ^ 32
+
+-- and it has no more nodes than typing allows
+abbrev pub FewNodes : Funcs → ℕ → Type 0
+FewNodes functions number =
+    (f : Func) → kernel_in functions number ≡ Some f → (size_of (functions_before functions number) f).nodes ≤ node_limit

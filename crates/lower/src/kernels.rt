@@ -1,13 +1,15 @@
 //! The code of kernels.
 #![tactic(auto)]
 
-ghost use Rattle.std.specs.Prelude.{◌≡◌, ◌<◌, ◌^◌, None, Some, map, IfOk, IfSome};
+ghost use Rattle.std.specs.Prelude.{◌≡◌, ◌<◌, ◌≤◌, ◌^◌, None, Some, map, IfOk, IfSome};
 ghost use Rattle.clmodel.specs.Next.{all_sites};
 ghost use Rattle.clmodel.specs.Setup.{kernel_in, functions_before};
 ghost use Rattle.clmodel.specs.Tree.{Func, NoFunc, func, then_funcs};
 ghost use Rattle.lower_code.specs.Code.{kernel_code};
-ghost use Rattle.lower.specs.Bounds.{FewBarriers};
-ghost use Rattle.lower_code.specs.Emission.{functions_of, inside};
+ghost use Rattle.lower.specs.Bounds.{FewBarriers, FewNodes};
+ghost use Rattle.clmodel.specs.Typing.Sizes.{row_size, node_limit};
+ghost use Rattle.lower_code.specs.Helpers.{NodesCounted};
+ghost use Rattle.lower_code.specs.Emission.{functions_of, inside, sizes_in};
 ghost use Rattle.lower_code.specs.Trees.{all_of};
 
 use crate::expansion::expand;
@@ -27,7 +29,8 @@ fn emit_function(
     helpers: Helpers<'_>,
     kernel: &Function,
 ) -> Result<Vec<Instruction>, AllocError>
-    requires { all_sites (inside helpers.functions.now) (all_of kernel.now.body.items) < 2 ^ 32 }
+    requires few { all_sites (inside helpers.functions.now) (all_of kernel.now.body.items) < 2 ^ 32 }
+    requires small { (row_size (sizes_in helpers.functions.now) (all_of kernel.now.body.items)).nodes ≤ node_limit }
     ensures { IfOk result (λ code. code.items ≡ kernel_code (functions_of helpers.entry.functions.now) (func kernel.now)) }
 {
     let mut code = Draft::new(alloc);
@@ -43,7 +46,9 @@ pub fn emit_kernel(
     functions: &[Function],
     number: u32,
 ) -> Result<Option<Vec<Instruction>>, AllocError>
-    requires { FewBarriers (then_funcs NoFunc (map func functions.now)) number }
+    requires few { FewBarriers (then_funcs NoFunc (map func functions.now)) number }
+    requires small { FewNodes (then_funcs NoFunc (map func functions.now)) number }
+    requires nodes { NodesCounted functions.now }
     ensures code { IfOk result (λ found. IfSome found (λ code. (f : Func) × (kernel_in (then_funcs NoFunc (map func functions.now)) number ≡ Some f)
         × (code.items ≡ kernel_code (functions_before (then_funcs NoFunc (map func functions.now)) number) f))) }
     ensures none { IfOk result (λ found. found ≡ None → kernel_in (then_funcs NoFunc (map func functions.now)) number ≡ None) }

@@ -5,7 +5,8 @@ ghost use Rattle.std.specs.Prelude.{◌≡◌, ◌↔◌, map, None, IfOk, IfErr
 ghost use Rattle.clmodel.specs.Setup.{kernel_in};
 ghost use Rattle.clmodel.specs.Tree.{program, func, then_funcs, NoFunc};
 ghost use Rattle.regcode.specs.Listed.{listing};
-ghost use Rattle.lower.specs.Bounds.{FewBarriers};
+ghost use Rattle.lower_code.specs.Helpers.{NodesCounted};
+ghost use Rattle.lower.specs.Bounds.{FewBarriers, FewNodes};
 ghost use Rattle.lower.specs.Lists.{Lists};
 ghost use Rattle.lower.specs.Lowers.{IsLowered};
 ghost use Rattle.lower.specs.Names.{kernel_number, LowersNamed, ListsNamed};
@@ -13,7 +14,9 @@ ghost use Rattle.lower.specs.Names.{kernel_number, LowersNamed, ListsNamed};
 use crate::code_laws::acts_as_the_tree;
 use crate::kernels::emit_kernel;
 use crate::lookup::{kernel_named, kernel_number};
-use crate::table_laws::{typed_kernels_are_verified, typed_kernels_have_few_barriers};
+use crate::table_laws::{
+    typed_kernels_are_short, typed_kernels_are_verified, typed_kernels_have_few_barriers,
+};
 use crate::tables::tables_of;
 use clmodel::tree::{Function, Parameter, VariableType};
 use cltypes::Checked;
@@ -27,7 +30,7 @@ pub enum LowerFault {
     /// 1: no kernel has the name
     #[error("no such kernel")]
     NoSuchKernel,
-    /// 2: out of memory, or a kernel's instructions or registers can't be counted in 32 bits
+    /// 2: out of memory
     #[error("out of memory")]
     OutOfMemory,
 }
@@ -55,7 +58,9 @@ fn list_kernel(
     functions: &[Function],
     number: u32,
 ) -> Result<Option<Listed>, AllocError>
-    requires { FewBarriers (then_funcs NoFunc (map func functions.now)) number }
+    requires few { FewBarriers (then_funcs NoFunc (map func functions.now)) number }
+    requires small { FewNodes (then_funcs NoFunc (map func functions.now)) number }
+    requires nodes { NodesCounted functions.now }
     ensures code { IfOk result (λ found. IfSome found (λ code.
         Lists (then_funcs NoFunc (map func functions.now)) number (listing code.instructions.items code.tables))) }
     ensures none { IfOk result (λ found. found ≡ None → kernel_in (then_funcs NoFunc (map func functions.now)) number ≡ None) }
@@ -75,10 +80,11 @@ fn list_kernel(
     }))
 }
 
-/// The code of the kernel of a name's number. Err(OutOfMemory) comes where memory is refused, or where the code's length or the number
-/// of a register passes 32 bits. That takes 2^28 - 20,000 parameters: by the laws `typed_kernels_are_short` and
-/// `typed_kernels_have_few_registers` all else of a checked kernel is far below. It doesn't come for the number of a barrier: by
-/// `typed_kernels_have_few_barriers` each is below 20,000.
+/// The code of the kernel of a name's number. Err(OutOfMemory) comes where memory is refused. It would also come where the length of a
+/// jump, a register or the length of a private array passed 32 bits; by the law `typed_kernels_fit` a checked kernel's code has at most
+/// 205,538 instructions and 1,368,592 registers, and its private arrays have at most 4,096 bytes. Neither the number of a barrier nor the
+/// depth of a loop is tested, nor whether the length of a helper that it calls is known: by `typed_kernels_have_few_barriers` and
+/// `typed_kernels_are_short` they fit, and it is.
 pub fn lower_kernel(alloc: Global, checked: &Checked, number: u32) -> Result<Code, LowerFault>
     ensures code { IfOk result (λ code. IsLowered (program checked.now.tree) number code) }
     ensures listed { IfOk result (λ code. Lists (program checked.now.tree).functions number code) }
@@ -87,6 +93,7 @@ pub fn lower_kernel(alloc: Global, checked: &Checked, number: u32) -> Result<Cod
     acts_as_the_tree();
     typed_kernels_are_verified();
     typed_kernels_have_few_barriers();
+    typed_kernels_are_short();
     let listed = match list_kernel(alloc, &checked.tree.functions, number) {
         Ok(Some(listed)) => listed,
         Ok(None) => return Err(LowerFault::NoSuchKernel),

@@ -12,9 +12,10 @@ ghost use Rattle.std.specs.Option.{option_map};
 ghost use Rattle.clmodel.specs.Next.{sites, part_sites, all_sites};
 ghost use Rattle.clmodel.specs.Tree as tree;
 ghost use Rattle.clmodel.specs.Tree.{stmt, term};
+ghost use Rattle.clmodel.specs.Typing.Sizes.{size, part_size, row_size, node_limit};
 ghost use Rattle.lower_code.specs.Trees.{all_of, part_of};
 ghost use Rattle.lower_code.specs.Code.{condition_code, while_code};
-ghost use Rattle.lower_code.specs.Emission.{inside, body_of, statement_code, row_code, maybe_code, test_of};
+ghost use Rattle.lower_code.specs.Emission.{inside, sizes_in, body_of, statement_code, row_code, maybe_code, test_of};
 ghost use Rattle.lower_code.specs.Growth.{GrowsBefore, KeepsOuter};
 ghost use Rattle.lower.specs.Statements.{is_loop, is_single, begun_at, once_code, round_code};
 
@@ -26,7 +27,7 @@ use lower_code::loops::{end_do, end_while, put_condition, put_no_value, put_test
 use lower_code::positions::{Exits, Position};
 use lower_code::simple::{emit_assignment, emit_declaration, put_jump};
 use lower_code::variables::{declare_all, declare_parameters, declare_part, leave, leave_part};
-use lower_expr::scope::{Scope, level_above};
+use lower_expr::scope::Scope;
 use regcode::Instruction;
 use std::alloc::AllocError;
 
@@ -68,6 +69,7 @@ fn emit_single<'a>(
 ) -> Result<u32, AllocError>
     requires kind { is_single statement.now ≡ true }
     requires few { sites (inside setting.now.helpers.functions.now) (stmt statement.now) ≤ ending.behind }
+    requires small { ending.depth + (size (sizes_in setting.now.helpers.functions.now) (stmt statement.now)).nodes ≤ node_limit }
     ensures code { IfOk result (λ site. code.new ≡ statement_code setting.now scope.old (stmt statement.now) (begun_at ending site) ++ code.old) }
     ensures site { IfOk result (λ site. site + sites (inside setting.now.helpers.functions.now) (stmt statement.now) ≡ ending.behind) }
     ensures scope { scope.new ≡ scope.old }
@@ -93,6 +95,7 @@ fn put_single<'a>(
 ) -> Result<(), AllocError>
     requires kind { is_single statement.now ≡ true }
     requires few { position.site + sites (inside setting.now.helpers.functions.now) (stmt statement.now) < 2 ^ 32 }
+    requires small { position.depth + (size (sizes_in setting.now.helpers.functions.now) (stmt statement.now)).nodes ≤ node_limit }
     ensures code { OnOk result (code.new ≡ statement_code setting.now scope.old (stmt statement.now) position ++ code.old) }
     ensures scope { scope.new ≡ scope.old }
     ensures longer { OnErr result (GrowsBefore code.old code.new) }
@@ -112,15 +115,17 @@ fn put_single<'a>(
     }
 }
 
-/// The barriers of statements have numbers from 0 on where the first one behind them has its own. This is the contract of a function
-/// that does nothing: what it asks is shown at its call.
+/// The barriers of statements have numbers from 0 on where the first one behind them has its own, and the statements have no more nodes,
+/// with the loops round them, than a kernel may have. This is the contract of a function that does nothing: what it asks is shown at its call.
 fn numbers_suffice(setting: &Setting<'_>, statements: &[Statement], ending: Ending)
-    requires { all_sites (inside setting.now.helpers.functions.now) (all_of statements.now) ≤ ending.behind }
-    ensures { all_sites (inside setting.now.helpers.functions.now) (all_of statements.now) ≤ ending.behind }
+    requires few { all_sites (inside setting.now.helpers.functions.now) (all_of statements.now) ≤ ending.behind }
+    requires small { ending.depth + (row_size (sizes_in setting.now.helpers.functions.now) (all_of statements.now)).nodes ≤ node_limit }
+    ensures few { all_sites (inside setting.now.helpers.functions.now) (all_of statements.now) ≤ ending.behind }
+    ensures small { ending.depth + (row_size (sizes_in setting.now.helpers.functions.now) (all_of statements.now)).nodes ≤ node_limit }
 {}
 
 /// Puts a statement before the code, and gives the number of its first barrier, or of the first behind it if it has none. Err if out
-/// of memory, or if a number of 32 bits is too small.
+/// of memory, or if a register or a jump has no number of 32 bits.
 #[cycle(emission)]
 fn emit_statement<'a>(
     setting: &Setting<'a>,
@@ -130,6 +135,7 @@ fn emit_statement<'a>(
     code: &mut Draft<'a>,
 ) -> Result<u32, AllocError>
     requires few { sites (inside setting.now.helpers.functions.now) (stmt statement.now) ≤ ending.behind }
+    requires small { ending.depth + (size (sizes_in setting.now.helpers.functions.now) (stmt statement.now)).nodes ≤ node_limit }
     ensures code { IfOk result (λ site. code.new ≡ statement_code setting.now scope.old (stmt statement.now) (begun_at ending site) ++ code.old) }
     ensures site { IfOk result (λ site. site + sites (inside setting.now.helpers.functions.now) (stmt statement.now) ≡ ending.behind) }
     ensures scope { OnOk result (scope.new ≡ scope.old) }
@@ -179,6 +185,7 @@ fn emit_loop<'a>(
 ) -> Result<u32, AllocError>
     requires kind { is_loop statement.now ≡ true }
     requires few { sites (inside setting.now.helpers.functions.now) (stmt statement.now) ≤ ending.behind }
+    requires small { ending.depth + (size (sizes_in setting.now.helpers.functions.now) (stmt statement.now)).nodes ≤ node_limit }
     ensures code { IfOk result (λ site. code.new ≡ statement_code setting.now scope.old (stmt statement.now) (begun_at ending site) ++ code.old) }
     ensures site { IfOk result (λ site. site + sites (inside setting.now.helpers.functions.now) (stmt statement.now) ≡ ending.behind) }
     ensures scope { OnOk result (scope.new ≡ scope.old) }
@@ -235,6 +242,7 @@ fn emit_all<'a>(
     code: &mut Draft<'a>,
 ) -> Result<u32, AllocError>
     requires few { all_sites (inside setting.now.helpers.functions.now) (all_of statements.now) ≤ ending.behind }
+    requires small { ending.depth + (row_size (sizes_in setting.now.helpers.functions.now) (all_of statements.now)).nodes ≤ node_limit }
     ensures code { IfOk result (λ site. code.new ≡ row_code setting.now scope.old (all_of statements.now) (begun_at ending site) ++ code.old) }
     ensures site { IfOk result (λ site. site + all_sites (inside setting.now.helpers.functions.now) (all_of statements.now) ≡ ending.behind) }
     ensures scope { OnOk result (scope.new ≡ scope.old) }
@@ -267,6 +275,7 @@ pub fn emit_body<'a>(
     code: &mut Draft<'a>,
 ) -> Result<(), AllocError>
     requires few { site + all_sites (inside helpers.functions.now) (all_of function.now.body.items) < 2 ^ 32 }
+    requires small { depth + (row_size (sizes_in helpers.functions.now) (all_of function.now.body.items)).nodes ≤ node_limit }
     ensures code { OnOk result (code.new ≡ body_of helpers.entry.functions.now function.now level depth site ++ code.old) }
     ensures longer { OnErr result (GrowsBefore code.old code.new) }
 {
@@ -305,6 +314,7 @@ fn emit_if<'a>(
     code: &mut Draft<'a>,
 ) -> Result<u32, AllocError>
     requires few { sites (inside setting.now.helpers.functions.now) (stmt chosen.now) ≤ ending.behind }
+    requires small { ending.depth + (size (sizes_in setting.now.helpers.functions.now) (tree.If 0 (term condition.now) (stmt chosen.now))).nodes ≤ node_limit }
     ensures code { IfOk result (λ site. code.new ≡ statement_code setting.now scope.old (tree.If 0 (term condition.now) (stmt chosen.now)) (begun_at ending site) ++ code.old) }
     ensures site { IfOk result (λ site. site + sites (inside setting.now.helpers.functions.now) (stmt chosen.now) ≡ ending.behind) }
     ensures scope { OnOk result (scope.new ≡ scope.old) }
@@ -329,6 +339,7 @@ fn emit_choice<'a>(
     code: &mut Draft<'a>,
 ) -> Result<u32, AllocError>
     requires few { sites (inside setting.now.helpers.functions.now) (stmt chosen.now) + sites (inside setting.now.helpers.functions.now) (stmt otherwise.now) ≤ ending.behind }
+    requires small { ending.depth + (size (sizes_in setting.now.helpers.functions.now) (tree.IfElse 0 (term condition.now) (stmt chosen.now) (stmt otherwise.now))).nodes ≤ node_limit }
     ensures code { IfOk result (λ site. code.new ≡ statement_code setting.now scope.old (tree.IfElse 0 (term condition.now) (stmt chosen.now) (stmt otherwise.now)) (begun_at ending site) ++ code.old) }
     ensures site { IfOk result (λ site. site + (sites (inside setting.now.helpers.functions.now) (stmt chosen.now) + sites (inside setting.now.helpers.functions.now) (stmt otherwise.now)) ≡ ending.behind) }
     ensures scope { OnOk result (scope.new ≡ scope.old) }
@@ -360,6 +371,7 @@ fn emit_part<'a>(
     code: &mut Draft<'a>,
 ) -> Result<u32, AllocError>
     requires few { part_sites (inside setting.now.helpers.functions.now) (part_of part) ≤ ending.behind }
+    requires small { ending.depth + (part_size (sizes_in setting.now.helpers.functions.now) (part_of part)).nodes ≤ node_limit }
     ensures code { IfOk result (λ site. code.new ≡ maybe_code setting.now scope.old (part_of part.entry) (begun_at ending site) ++ code.old) }
     ensures site { IfOk result (λ site. site + part_sites (inside setting.now.helpers.functions.now) (part_of part.entry) ≡ ending.behind) }
     ensures scope { OnOk result (scope.new ≡ scope.old) }
@@ -383,6 +395,7 @@ fn emit_do<'a>(
     code: &mut Draft<'a>,
 ) -> Result<u32, AllocError>
     requires few { sites (inside setting.now.helpers.functions.now) (stmt body.now) ≤ ending.behind }
+    requires small { ending.depth + (size (sizes_in setting.now.helpers.functions.now) (stmt body.now)).nodes < node_limit }
     ensures code { IfOk result (λ site. code.new ≡ statement_code setting.now scope.old (tree.DoWhile 0 (stmt body.now) (term condition.now)) (begun_at ending site) ++ code.old) }
     ensures site { IfOk result (λ site. site + sites (inside setting.now.helpers.functions.now) (stmt body.now) ≡ ending.behind) }
     ensures scope { OnOk result (scope.new ≡ scope.old) }
@@ -406,6 +419,7 @@ fn emit_once<'a>(
     turn: &mut Draft<'a>,
 ) -> Result<u32, AllocError>
     requires few { sites (inside setting.now.helpers.functions.now) (stmt body.now) ≤ ending.behind }
+    requires small { ending.depth + (size (sizes_in setting.now.helpers.functions.now) (stmt body.now)).nodes < node_limit }
     ensures code { IfOk result (λ site. turn.new ≡ once_code setting.now scope.old (stmt body.now) (begun_at ending site) (length turn.old) ++ turn.old) }
     ensures site { IfOk result (λ site. site + sites (inside setting.now.helpers.functions.now) (stmt body.now) ≡ ending.behind) }
     ensures scope { OnOk result (scope.new ≡ scope.old) }
@@ -413,7 +427,7 @@ fn emit_once<'a>(
     ensures kept { OnErr result (KeepsOuter scope.old scope.new) }
 {
     let here = Ending {
-        depth: level_above(ending.depth)?,
+        depth: ending.depth + 1,
         behind: ending.behind,
         exits: ending.exits.in_loop(turn.past(0)?)?,
     };
@@ -432,6 +446,8 @@ fn emit_stepped<'a>(
     turn: &mut Draft<'a>,
 ) -> Result<u32, AllocError>
     requires few { sites (inside setting.now.helpers.functions.now) (stmt third.now) + sites (inside setting.now.helpers.functions.now) (stmt body.now) ≤ ending.behind }
+    requires small_third { ending.depth + (size (sizes_in setting.now.helpers.functions.now) (stmt third.now)).nodes < node_limit }
+    requires small { ending.depth + (size (sizes_in setting.now.helpers.functions.now) (stmt body.now)).nodes < node_limit }
     ensures code { IfOk result (λ site. turn.new ≡ round_code setting.now scope.old (tree.With (stmt third.now)) (stmt body.now) (begun_at ending site) (length turn.old) ++ turn.old) }
     ensures site { IfOk result (λ site. site + (sites (inside setting.now.helpers.functions.now) (stmt third.now) + sites (inside setting.now.helpers.functions.now) (stmt body.now)) ≡ ending.behind) }
     ensures scope { OnOk result (scope.new ≡ scope.old) }
@@ -440,7 +456,7 @@ fn emit_stepped<'a>(
 {
     let between = site_before(setting.helpers, ending.behind, body);
     let last = Ending {
-        depth: level_above(ending.depth)?,
+        depth: ending.depth + 1,
         behind: between,
         exits: ending.exits.in_loop(turn.past(0)?)?,
     };
@@ -460,6 +476,8 @@ fn emit_round<'a>(
     turn: &mut Draft<'a>,
 ) -> Result<u32, AllocError>
     requires few { part_sites (inside setting.now.helpers.functions.now) (part_of third) + sites (inside setting.now.helpers.functions.now) (stmt body.now) ≤ ending.behind }
+    requires small_third { ending.depth + (part_size (sizes_in setting.now.helpers.functions.now) (part_of third)).nodes < node_limit }
+    requires small { ending.depth + (size (sizes_in setting.now.helpers.functions.now) (stmt body.now)).nodes < node_limit }
     ensures code { IfOk result (λ site. turn.new ≡ round_code setting.now scope.old (part_of third.entry) (stmt body.now) (begun_at ending site) (length turn.old) ++ turn.old) }
     ensures site { IfOk result (λ site. site + (part_sites (inside setting.now.helpers.functions.now) (part_of third.entry) + sites (inside setting.now.helpers.functions.now) (stmt body.now)) ≡ ending.behind) }
     ensures scope { OnOk result (scope.new ≡ scope.old) }
@@ -485,6 +503,7 @@ fn emit_for<'a>(
     code: &mut Draft<'a>,
 ) -> Result<u32, AllocError>
     requires few { sites (inside setting.now.helpers.functions.now) (tree.For 0 (part_of first) (test_of condition) (part_of third) (stmt body.now)) ≤ ending.behind }
+    requires small { ending.depth + (size (sizes_in setting.now.helpers.functions.now) (tree.For 0 (part_of first) (test_of condition) (part_of third) (stmt body.now))).nodes ≤ node_limit }
     ensures code { IfOk result (λ site. code.new ≡ statement_code setting.now scope.old (tree.For 0 (part_of first.entry) (test_of condition.entry) (part_of third.entry) (stmt body.now)) (begun_at ending site) ++ code.old) }
     ensures site { IfOk result (λ site. site + sites (inside setting.now.helpers.functions.now) (tree.For 0 (part_of first.entry) (test_of condition.entry) (part_of third.entry) (stmt body.now)) ≡ ending.behind) }
     ensures scope { OnOk result (scope.new ≡ scope.old) }
@@ -516,6 +535,8 @@ fn emit_turns<'a>(
     code: &mut Draft<'a>,
 ) -> Result<u32, AllocError>
     requires few { part_sites (inside setting.now.helpers.functions.now) (part_of third) + sites (inside setting.now.helpers.functions.now) (stmt body.now) ≤ ending.behind }
+    requires small_third { ending.depth + (part_size (sizes_in setting.now.helpers.functions.now) (part_of third)).nodes < node_limit }
+    requires small { ending.depth + (size (sizes_in setting.now.helpers.functions.now) (stmt body.now)).nodes < node_limit }
     ensures code { IfOk result (λ site. code.new
         ≡ while_code ending.depth (round_code setting.now scope.old (part_of third.entry) (stmt body.now) (begun_at ending site) (length (condition_code scope.old (test_of condition.entry)))) (condition_code scope.old (test_of condition.entry)) ++ code.old) }
     ensures site { IfOk result (λ site. site + (part_sites (inside setting.now.helpers.functions.now) (part_of third.entry) + sites (inside setting.now.helpers.functions.now) (stmt body.now)) ≡ ending.behind) }

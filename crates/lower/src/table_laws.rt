@@ -2,7 +2,7 @@
 #![tactic(auto)]
 
 ghost use Rattle.lower.specs.Accepted.{ExpressionsSuit, PlacesSuit, ExpressionsFlat, ExpressionsSound, StatementsSound, KernelsGo, KernelsVerified, SuitFits, TypedKernelsVerified};
-ghost use Rattle.lower.specs.Bounds.{TypedKernelsShort, TypedKernelsFewBarriers, TypedKernelsFewRegisters};
+ghost use Rattle.lower.specs.Bounds.{TypedKernelsShort, TypedKernelsFewBarriers, TypedKernelsFewRegisters, TypedKernelsFit};
 
 /// A kernel's code is verified with the tables that are made from it, if its loops are nested no deeper than the limit, no two
 /// functions before it have one name, and its instructions suit the types of its parameters. Those of typed expressions, and of
@@ -36,4 +36,10 @@ pub fn typed_kernels_are_short()
 /// The registers of each kernel of a typed program are at most 320,016 besides 16 for each of its parameters.
 pub fn typed_kernels_have_few_registers()
     ensures { TypedKernelsFewRegisters }
+{}
+
+/// With the limit of parameters these are at most 205,538 instructions and 1,368,592 registers: each jump and each register has a number
+/// of 32 bits.
+pub fn typed_kernels_fit()
+    ensures { TypedKernelsFit }
 {}

@@ -1,11 +1,14 @@
 -- What is known of functions, for fewer functions and for one more.
 use Rattle.std.proofs.Common.{◌≡◌, ℕ, zero, suc, ◌<◌, ◌≤◌, ◌^◌, Option, None, Some, IfSome, List, [], ◌∷◌, ◌++◌, length, take, get_or, refl, sym, ap, subst, ◌∙◌, arith}
 use Rattle.std.proofs.lemmas.List.{get_or-take, take-take, length-take}
+use Rattle.std.proofs.Math.Seq.{take-length}
 use Rattle.clmodel.specs.Next.{all_sites}
 use Rattle.clmodel.specs.declared.tree.Function.{Function}
 use Rattle.clmodel.specs.Tree.{func}
+use Rattle.clmodel.specs.Typing.Functions.{size_of}
+use Rattle.clmodel.specs.Typing.Sizes.{node_limit}
 use Rattle.lower_code.specs.Trees.{all_of}
-use Rattle.lower_code.specs.Helpers.{functions_of, inside, body_of, BarriersKnown, BarriersCounted, LengthsKnown, EndsKnown}
+use Rattle.lower_code.specs.Helpers.{functions_of, inside, body_of, BarriersKnown, BarriersCounted, LengthsKnown, LengthsCounted, NodesCounted, EndsKnown, nodes_in}
 use Rattle.lower_code.specs.declared.known.Known.{Known}
 use Rattle.lower_code.proofs.Lengths.{function_length}
 
@@ -45,6 +48,27 @@ lengths_before fs ks n small h i f k m level depth site below there f_is k_is m_
     h i f k m level depth site (omega (arith, inner, small)) there (f_is ∙ get_or-take n fs i f inner) k_is m_is
     ∙ ap (λ gs. length (body_of gs f level depth site)) (sym (take-take i n fs (omega (arith, inner))))
 
+pub measured_before : (fs : List Function) (ks : List Known) (n : ℕ) → n ≤ length fs → LengthsCounted fs ks → LengthsCounted (take n fs) ks
+measured_before fs ks n small h i f k m below there f_is k_is m_is none =
+    let inner : i < n = within fs n i small below in
+    subst (λ gs. node_limit < (size_of (functions_of gs) (func f)).nodes) (sym (take-take i n fs (omega (arith, inner))))
+    (h i f k m (omega (arith, inner, small)) there (f_is ∙ get_or-take n fs i f inner) k_is m_is none)
+
+pub nodes_before : (fs : List Function) (n : ℕ) → n ≤ length fs → NodesCounted fs → NodesCounted (take n fs)
+nodes_before fs n small h count i f below there f_is =
+    let within : count ≤ n = omega (arith, length-take n fs, there, small) in
+    let inner : i < n = omega (arith, within, below) in
+    let at = h count i f below (omega (arith, within, small)) (f_is ∙ get_or-take n fs i f inner) in
+    subst (λ gs. (size_of (functions_of gs) (func f)).nodes ≤ nodes_in (take count (take n fs)) f.name) (sym (take-take i n fs (omega (arith, inner))))
+    (subst (λ gs. (size_of (functions_of (take i fs)) (func f)).nodes ≤ nodes_in gs f.name) (sym (take-take count n fs within)) at)
+
+-- the function that is found by a name has no more nodes than are counted for it
+pub nodes_found : (fs : List Function) (i name : ℕ) (f : Function) → NodesCounted fs → i < length fs → f ≡ get_or fs i f → f.name ≡ name
+    → (size_of (functions_of (take i fs)) (func f)).nodes ≤ nodes_in fs name
+nodes_found fs i name f h below f_is name_is =
+    subst (λ gs. (size_of (functions_of (take i fs)) (func f)).nodes ≤ nodes_in gs name) (take-length fs)
+    (subst (λ x. (size_of (functions_of (take i fs)) (func f)).nodes ≤ nodes_in (take (length fs) fs) x) name_is (h (length fs) i f below (omega arith) f_is))
+
 pub ends_before : (fs : List Function) (es : List ℕ) (n : ℕ) → n ≤ length fs → EndsKnown fs es → EndsKnown (take n fs) es
 ends_before fs es n small h i f below f_is =
     let inner : i < n = within fs n i small below in
@@ -82,6 +106,14 @@ lengths_more fs ks f k below f_is h this i g m n level depth site small there g_
     (λ g n level depth site small g_is n_is. this n level depth site n_is ∙ ap (λ x. length (body_of (take (length ks) fs) x level depth site)) (f_is ∙ function_at fs (length ks) f g below ∙ sym g_is))
     i m there m_is g n level depth site small g_is n_is
 
+pub measured_more : (fs : List Function) (ks : List Known) (f : Function) (k : Known) → length ks < length fs → f ≡ get_or fs (length ks) f → LengthsCounted fs ks
+    → ((n : ℕ) → k.barriers ≡ Some n → k.length ≡ None → node_limit < (size_of (functions_of (take (length ks) fs)) (func f)).nodes) → LengthsCounted fs (ks ++ k ∷ [])
+measured_more fs ks f k below f_is h this i g m n small there g_is m_is n_is none =
+    each_more (λ j y. (g : Function) (n : ℕ) → j < length fs → g ≡ get_or fs j g → y.barriers ≡ Some n → y.length ≡ None → node_limit < (size_of (functions_of (take j fs)) (func g)).nodes) ks k
+    (λ j y c d g n small g_is n_is none. h j g y n small c g_is d n_is none)
+    (λ g n small g_is n_is none. subst (λ (x : Function). node_limit < (size_of (functions_of (take (length ks) fs)) (func x)).nodes) (f_is ∙ function_at fs (length ks) f g below ∙ sym g_is) (this n n_is none))
+    i m there m_is g n small g_is n_is none
+
 if_some : (o : Option ℕ) (P : ℕ → Type 0) → ((n : ℕ) → o ≡ Some n → P n) → IfSome o P
 if_some None P h = tt {0}
 if_some (Some n) P h = h n refl
@@ -97,6 +129,18 @@ counted_found fs ks i f k d h below there f_is k_is = h i f k below there f_is (
 pub lengths_found : (fs : List Function) (ks : List Known) (i : ℕ) (f : Function) (k d : Known) → LengthsKnown fs ks → i < length fs → i < length ks → f ≡ get_or fs i f → k ≡ get_or ks i d
     → IfSome k.length (λ n. (level depth site : ℕ) → n ≡ length (body_of (take i fs) f level depth site))
 lengths_found fs ks i f k d h below there f_is k_is = if_some k.length _ (λ n e level depth site. h i f k n level depth site below there f_is (k_is ∙ known_at ks i d k there) e)
+
+-- a function with few barriers and few nodes has a length that is known
+pub lengths_there : (fs : List Function) (ks : List Known) (i : ℕ) (f : Function) (k d : Known) → BarriersCounted fs ks → LengthsCounted fs ks → i < length fs → i < length ks → f ≡ get_or fs i f → k ≡ get_or ks i d
+    → all_sites (inside (take i fs)) (all_of f.body.items) < 2 ^ 32 → (size_of (functions_of (take i fs)) (func f)).nodes ≤ node_limit → k.length ≡ None → ⊥
+lengths_there fs ks i f k d counted measured below there f_is k_is few small none = go k.barriers refl
+  where
+    here : k ≡ get_or ks i k
+    here = k_is ∙ known_at ks i d k there
+
+    go : (o : Option ℕ) → k.barriers ≡ o → ⊥
+    go None e = let many = counted i f k below there f_is here e in omega (arith, many, few)
+    go (Some n) e = let more = measured i f k n below there f_is here e none in omega (arith, more, small)
 
 pub body_length_of : (fs : List Function) (f : Function) (level depth site : ℕ) → length (body_of fs f 0 0 0) ≡ length (body_of fs f level depth site)
 body_length_of fs f level depth site = function_length (functions_of fs) (func f) 0 0 0 level depth site

@@ -2,6 +2,8 @@
 use Rattle.std.specs.Prelude.{◌≡◌, ℕ, ◌<◌, ◌≤◌, ◌^◌, List, None, Some, length, take, get_or, map}
 use Rattle.clmodel.specs.Next.{sites_in, all_sites}
 use Rattle.clmodel.specs.Tree.{Funcs, NoFunc, then_funcs, func}
+use Rattle.clmodel.specs.Typing.Functions.{size_of}
+use Rattle.clmodel.specs.Typing.Sizes.{Sizes, size_in, sizes_of, node_limit}
 use Rattle.clmodel.specs.declared.tree.Function.{Function}
 use Rattle.regcode.specs.declared.instruction.Instruction.{Instruction}
 use Rattle.lower_code.specs.Trees.{all_of}
@@ -14,6 +16,19 @@ functions_of functions = then_funcs NoFunc (map func functions)
 -- the barriers in each function
 abbrev pub inside : List Function → ℕ → ℕ
 inside functions = sites_in (functions_of functions)
+
+-- the sizes of the functions, and the nodes in each
+abbrev pub sizes_in : List Function → Sizes
+sizes_in functions = sizes_of (functions_of functions)
+
+abbrev pub nodes_in : List Function → ℕ → ℕ
+nodes_in functions name = (size_in (sizes_in functions) name).nodes
+
+-- each function has no more nodes than are counted for its name, among the first functions too: as where no two have one name
+abbrev pub NodesCounted : List Function → Type 0
+NodesCounted functions =
+    (count i : ℕ) (f : Function) → i < count → count ≤ length functions → f ≡ get_or functions i f
+    → (size_of (functions_of (take i functions)) (func f)).nodes ≤ nodes_in (take count functions) f.name
 
 -- the body of a function behind these, whose parameters are at a level and above
 abbrev pub body_of : List Function → Function → ℕ → ℕ → ℕ → List Instruction
@@ -41,3 +56,9 @@ abbrev pub LengthsKnown : List Function → List Known → Type 0
 LengthsKnown functions known =
     (i : ℕ) (f : Function) (k : Known) (n level depth site : ℕ) → i < length functions → i < length known → f ≡ get_or functions i f → k ≡ get_or known i k
     → k.length ≡ Some n → n ≡ length (body_of (take i functions) f level depth site)
+
+-- and where the barriers are known and the length isn't, the function has more nodes than a kernel may have, those of the functions that it calls among them
+abbrev pub LengthsCounted : List Function → List Known → Type 0
+LengthsCounted functions known =
+    (i : ℕ) (f : Function) (k : Known) (n : ℕ) → i < length functions → i < length known → f ≡ get_or functions i f → k ≡ get_or known i k
+    → k.barriers ≡ Some n → k.length ≡ None → node_limit < (size_of (functions_of (take i functions)) (func f)).nodes

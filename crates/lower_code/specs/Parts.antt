@@ -1,8 +1,9 @@
 -- Code with the bodies of helpers left out (own).
 use Rattle.std.specs.Prelude.{◌+◌, ◌<◌, ◌≤◌, ◌^◌, List, [], ◌∷◌, ◌++◌, length, All}
 use Rattle.clmodel.specs.Next.{all_sites}
+use Rattle.clmodel.specs.Typing.Sizes.{row_size, node_limit}
 use Rattle.regcode.specs.declared.instruction.Instruction.{Instruction}
-use Rattle.lower_code.specs.Helpers.{inside, body_of, BarriersKnown, BarriersCounted, LengthsKnown, EndsKnown}
+use Rattle.lower_code.specs.Helpers.{inside, sizes_in, body_of, BarriersKnown, BarriersCounted, LengthsKnown, LengthsCounted, NodesCounted, EndsKnown}
 use Rattle.lower_code.specs.Trees.{all_of}
 use Rattle.lower_code.specs.declared.holes.Hole.{Hole}
 use Rattle.lower_code.specs.declared.holes.Part.{Part}
@@ -21,14 +22,18 @@ abbrev pub whole : List Part → List Instruction
 whole [] = []
 whole (p ∷ ps) = part_code p ++ whole ps
 
--- What is known of the functions before a helper is true of them, each of them is known, and the barriers of its body have numbers of 32 bits.
+-- What is known of the functions before a helper is true of them, each of them is known, the barriers of its body have numbers of 32 bits, and it has no
+-- more nodes, with the loops round it, than a kernel may have.
 pub record HoleKnown (h : Hole) : Type 0 where
   pub barriers : BarriersKnown h.functions.now h.known.now
   pub complete : length h.functions.now ≤ length h.known.now
   pub counted : BarriersCounted h.functions.now h.known.now
   pub lengths : LengthsKnown h.functions.now h.known.now
+  pub measured : LengthsCounted h.functions.now h.known.now
   pub ends : EndsKnown h.functions.now h.ends.now
+  pub nodes : NodesCounted h.functions.now
   pub few : h.site + all_sites (inside h.functions.now) (all_of h.function.now.body.items) < 2 ^ 32
+  pub small : h.depth + (row_size (sizes_in h.functions.now) (all_of h.function.now.body.items)).nodes ≤ node_limit
 
 abbrev pub IsKnown : Part → Type 0
 IsKnown (part.Own i) = Unit {0}

@@ -1,10 +1,11 @@
 //! Calls of helpers, whose bodies are left out (C99 6.5.2.2).
 #![tactic(auto, using(crate::proofs::Growth::unchanged, crate::proofs::Growth::before, crate::proofs::Growth::one_before))]
 
-ghost use Rattle.std.specs.Prelude.{◌≡◌, ℕ, ◌+◌, ◌<◌, ◌^◌, ◌++◌, length, take, get_or, IfSome, OnOk, OnErr};
+ghost use Rattle.std.specs.Prelude.{◌≡◌, ℕ, ◌+◌, ◌<◌, ◌≤◌, ◌^◌, ◌++◌, length, take, get_or, OnOk, OnErr};
 ghost use Rattle.clmodel.specs.Next.{all_sites};
+ghost use Rattle.clmodel.specs.Typing.Sizes.{row_size, node_limit};
 ghost use Rattle.lower_code.specs.Code.{call_code};
-ghost use Rattle.lower_code.specs.Emission.{functions_of, inside, body_of, called_sites, split_code};
+ghost use Rattle.lower_code.specs.Emission.{functions_of, inside, sizes_in, nodes_in, body_of, called_sites, split_code};
 ghost use Rattle.lower_code.specs.Trees.{all_of};
 ghost use Rattle.lower_code.specs.Growth.{GrowsBefore};
 
@@ -24,7 +25,8 @@ pub fn emit_split<'a>(
     position: Position,
     code: &mut Draft<'a>,
 ) -> Result<(), AllocError>
-    requires { position.site + called_sites (inside helpers.functions.now) split.call < 2 ^ 32 }
+    requires few { position.site + called_sites (inside helpers.functions.now) split.call < 2 ^ 32 }
+    requires small { position.depth + called_sites (nodes_in helpers.functions.now) split.call ≤ node_limit }
     ensures code { OnOk result (code.new ≡ split_code (call_code (functions_of helpers.entry.functions.now)) split position.depth position.site ++ code.old) }
     ensures longer { OnErr result (GrowsBefore code.old code.new) }
 {
@@ -52,7 +54,8 @@ fn emit_call<'a>(
     position: Position,
     code: &mut Draft<'a>,
 ) -> Result<(), AllocError>
-    requires { position.site + inside helpers.functions.now name < 2 ^ 32 }
+    requires few { position.site + inside helpers.functions.now name < 2 ^ 32 }
+    requires small { position.depth + nodes_in helpers.functions.now name ≤ node_limit }
     ensures code { OnOk result (code.new ≡ call_code (functions_of helpers.entry.functions.now) name arguments.now level position.depth position.site ++ code.old) }
     ensures longer { OnErr result (GrowsBefore code.old code.new) }
 {
@@ -63,13 +66,18 @@ fn emit_call<'a>(
     put_passed(found.function.parameters.as_slice(), arguments, level, code)
 }
 
-/// How long the code of a helper's body is, wherever it is called; None where it is not known.
-fn length_of(helpers: Helpers<'_>, found: Found<'_>) -> Option<usize>
+/// How long the code of a helper's body is, wherever it is called. It has no more nodes than a kernel may have, so the length is known.
+fn length_of(helpers: Helpers<'_>, found: Found<'_>) -> usize
     requires within { found.place < length helpers.functions.now }
     requires there { found.function.now ≡ get_or helpers.functions.now found.place found.function.now }
-    ensures { IfSome result (λ n. (level depth site : ℕ) → n ≡ length (body_of (take found.entry.place helpers.entry.functions.now) found.entry.function.now level depth site)) }
+    requires few { all_sites (inside (take found.place helpers.functions.now)) (all_of found.function.now.body.items) < 2 ^ 32 }
+    requires small { (row_size (sizes_in (take found.place helpers.functions.now)) (all_of found.function.now.body.items)).nodes ≤ node_limit }
+    ensures { (level depth site : ℕ) → result ≡ length (body_of (take found.entry.place helpers.entry.functions.now) found.entry.function.now level depth site) }
 {
-    helpers.known[found.place].length
+    match helpers.known[found.place].length {
+        Some(count) => count,
+        None => unreachable!(),
+    }
 }
 
 /// Puts the body of a helper before the code, and leaves it out.
@@ -83,10 +91,11 @@ fn leave_body<'a>(
     requires within { found.place < length helpers.functions.now }
     requires there { found.function.now ≡ get_or helpers.functions.now found.place found.function.now }
     requires few { position.site + all_sites (inside (take found.place helpers.functions.now)) (all_of found.function.now.body.items) < 2 ^ 32 }
+    requires small { position.depth + (row_size (sizes_in (take found.place helpers.functions.now)) (all_of found.function.now.body.items)).nodes ≤ node_limit }
     ensures code { OnOk result (code.new ≡ body_of (take found.entry.place helpers.entry.functions.now) found.entry.function.now level position.depth position.site ++ code.old) }
     ensures longer { OnErr result (GrowsBefore code.old code.new) }
 {
-    let count = length_of(helpers, found).ok_or(AllocError)?;
+    let count = length_of(helpers, found);
     let before = helpers.before(found.place);
     let hole = Hole {
         functions: before.functions,

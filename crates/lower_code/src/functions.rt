@@ -34,6 +34,7 @@ pub fn find<'a>(helpers: Helpers<'a>, name: u32) -> Option<Found<'a>>
     ensures code { (arguments : List ℕ) (level depth site : ℕ) → call_code (functions_of helpers.entry.functions.now) name arguments level depth site ≡ found_code helpers.entry.functions.now result arguments level depth site }
     ensures value { result_in (functions_of helpers.entry.functions.now) name ≡ found_result result }
     ensures sites { inside helpers.entry.functions.now name ≡ found_sites helpers.entry.functions.now result }
+    ensures named { IfSome result (λ found. found.function.now.name ≡ name) }
     ensures within { IfSome result (λ found. found.place < length helpers.entry.functions.now) }
     ensures there { IfSome result (λ found. found.function.now ≡ get_or helpers.entry.functions.now found.place found.function.now) }
 {

@@ -2,7 +2,7 @@
 #![tactic(auto)]
 
 ghost use Rattle.std.specs.Prelude.{◌≡◌, ◌≤◌, length, take};
-ghost use Rattle.lower_code.specs.Helpers.{BarriersKnown, BarriersCounted, LengthsKnown, EndsKnown};
+ghost use Rattle.lower_code.specs.Helpers.{BarriersKnown, BarriersCounted, LengthsKnown, LengthsCounted, NodesCounted, EndsKnown};
 
 use crate::known::Known;
 use clmodel::tree::Function;
@@ -20,6 +20,8 @@ pub struct Helpers<'a> {
     pub ghost complete: { length functions.now ≤ length known.now },
     pub ghost counted: { BarriersCounted functions.now known.now },
     pub ghost lengths: { LengthsKnown functions.now known.now },
+    pub ghost measured: { LengthsCounted functions.now known.now },
+    pub ghost nodes: { NodesCounted functions.now },
     pub ghost ends_known: { EndsKnown functions.now ends.now },
 }
 

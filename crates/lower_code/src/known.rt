@@ -2,7 +2,7 @@
 #![tactic(auto)]
 
 /// How many barriers are in a function, None where there are 2^32 or more; and how many instructions the code of its body has, None
-/// where there are too many of these or of barriers, or out of memory.
+/// where it has so many barriers, or more nodes than a kernel may have: no kernel of a checked program calls such a function.
 #[derive(Clone, Copy)]
 pub struct Known {
     pub barriers: Option<u32>,

@@ -2,8 +2,7 @@
 //! of helper functions left out of their calls.
 //!
 //! An error is want of memory, or a number above 32 bits: a register of level 2^28 or above, an array of 2^32 elements, a jump past 2^32
-//! instructions; or a call of a helper whose length isn't known. Code that was lent is only longer then: a draft ends with what was there.
-//! A scope that was lent has its variables.
+//! instructions. Code that was lent is only longer then: a draft ends with what was there. A scope that was lent has its variables.
 #![tactic(auto)]
 
 pub mod assignments;

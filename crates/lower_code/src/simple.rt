@@ -3,10 +3,11 @@
 //! One `match` on all statements would be one proof of all of them, so each function takes some kinds, and its `requires` leaves out the others.
 #![tactic(auto, using(crate::proofs::Growth::unchanged, crate::proofs::Growth::before, crate::proofs::Growth::one_before))]
 
-ghost use Rattle.std.specs.Prelude.{◌≡◌, ◌+◌, ◌<◌, ◌^◌, ◌++◌, true, OnOk, OnErr};
+ghost use Rattle.std.specs.Prelude.{◌≡◌, ◌+◌, ◌<◌, ◌≤◌, ◌^◌, ◌++◌, true, OnOk, OnErr};
 ghost use Rattle.clmodel.specs.Next.{sites};
 ghost use Rattle.clmodel.specs.Tree.{stmt};
-ghost use Rattle.lower_code.specs.Emission.{inside, is_declaration, is_assignment, is_jump, statement_code};
+ghost use Rattle.clmodel.specs.Typing.Sizes.{size, node_limit};
+ghost use Rattle.lower_code.specs.Emission.{inside, sizes_in, is_declaration, is_assignment, is_jump, statement_code};
 ghost use Rattle.lower_code.specs.Growth.{GrowsBefore};
 
 use crate::assignments::{assign, call_statement, compound, declare_as, put_step};
@@ -31,6 +32,7 @@ pub fn emit_declaration<'a>(
 ) -> Result<(), AllocError>
     requires kind { is_declaration statement.now ≡ true }
     requires few { position.site + sites (inside setting.now.helpers.functions.now) (stmt statement.now) < 2 ^ 32 }
+    requires small { position.depth + (size (sizes_in setting.now.helpers.functions.now) (stmt statement.now)).nodes ≤ node_limit }
     ensures code { OnOk result (code.new ≡ statement_code setting.now scope.old (stmt statement.now) position ++ code.old) }
     ensures scope { scope.new ≡ scope.old }
     ensures longer { OnErr result (GrowsBefore code.old code.new) }
@@ -68,6 +70,7 @@ pub fn emit_assignment<'a>(
 ) -> Result<(), AllocError>
     requires kind { is_assignment statement.now ≡ true }
     requires few { position.site + sites (inside setting.now.helpers.functions.now) (stmt statement.now) < 2 ^ 32 }
+    requires small { position.depth + (size (sizes_in setting.now.helpers.functions.now) (stmt statement.now)).nodes ≤ node_limit }
     ensures code { OnOk result (code.new ≡ statement_code setting.now scope.now (stmt statement.now) position ++ code.old) }
     ensures longer { OnErr result (GrowsBefore code.old code.new) }
 {

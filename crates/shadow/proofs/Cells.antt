@@ -159,6 +159,20 @@ none_marked f old first count byte e = sym (ap (λ (z : Bool). if z then f old e
     none false k = refl
     none true k = let r : (first ≤ byte) × (byte < first + count) = covers_parts first count byte k in absurd (omega (arith, r.0, r.1, e))
 
+-- bytes of which no mark tells anything new: the first, and the others
+pub none_new :
+    (test : ℕ → Seen → Bool) (old mid put : ℕ → Seen) (first count byte : ℕ) → test first (old first) ≡ false
+    → ((b : ℕ) → covers (first + 1) (count - 1) b ≡ true → test b (mid b) ≡ false) → ((b : ℕ) → mid b ≡ (if first == b then put b else old b))
+    → covers first count byte ≡ true → test byte (old byte) ≡ false
+none_new test old mid put first count byte here rest marked c = go (cases_eq byte first)
+  where
+    go : (byte ≡ first) ⊎ (byte ≡ first → ⊥) → test byte (old byte) ≡ false
+    go (inl e) = ap (λ z. test z (old z)) e ∙ here
+    go (inr ne) =
+        let r : (first ≤ byte) × (byte < first + count) = covers_parts first count byte c in
+        let same : mid byte ≡ old byte = marked byte ∙ ap (λ (z : Bool). if z then put byte else old byte) (ne_eqb first byte (λ k. ne (sym k))) in
+        ap (test byte) (sym same) ∙ rest byte (covers_from (first + 1) (count - 1) byte (omega (arith, r.0, ne)) (omega (arith, r.1, ne, r.0)))
+
 -- so few bytes are on two pages
 pub either_page : (P : ℕ → Type 0) (first count byte : ℕ) → count ≤ 8 → first ≤ byte → byte < first + count → P (first / 256) → P ((first + count - 1) / 256) → P (byte / 256)
 either_page P first count byte few low high p q = go (cases_eq (byte / 256) (first / 256))

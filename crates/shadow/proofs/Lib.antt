@@ -1,2 +1,5 @@
 pub mod Cells
 pub mod Meetings
+pub mod Absorbing
+pub mod Missing
+pub mod Listing

@@ -103,11 +103,11 @@ store_clashes k (kind.Update d) e h = not_nine (class_number d) (class_small d) 
 store_clashes k kind.Fetch e h = absurd (omega (arith, e))
 
 -- stores of a uniform launch that leave the same byte
-abbrev SameStore : Bool → Mark → Mark → Type 0
+abbrev pub SameStore : Bool → Mark → Mark → Type 0
 SameStore u a z = (u ≡ true) × (kind_number a.kind ≡ 9) × (kind_number z.kind ≡ 9) × (a.left ≡ z.left)
 
 -- what passes: such stores, or kinds that don't clash
-passes : (u : Bool) (a z : Mark) → mark_clash u a z ≡ None → SameStore u a z ⊎ (clash a.kind z.kind ≡ None)
+pub passes : (u : Bool) (a z : Mark) → mark_clash u a z ≡ None → SameStore u a z ⊎ (clash a.kind z.kind ≡ None)
 passes u a z h = go (both_store a.kind z.kind && u && (a.left == z.left)) refl h
   where
     go : (b : Bool) → (both_store a.kind z.kind && u && (a.left == z.left)) ≡ b → (if b then None else clash a.kind z.kind) ≡ None → SameStore u a z ⊎ (clash a.kind z.kind ≡ None)
@@ -118,14 +118,14 @@ passes u a z h = go (both_store a.kind z.kind && u && (a.left == z.left)) refl h
         let r = both_nine a.kind z.kind q.0 in
         inl (q.1, r.0, r.1, eqb-true a.left z.left p.1)
 
-store_passes : (u : Bool) (a z : Mark) → SameStore u a z → mark_clash u a z ≡ None
+pub store_passes : (u : Bool) (a z : Mark) → SameStore u a z → mark_clash u a z ≡ None
 store_passes u a z s =
     ap (λ (b : Bool). if b then None else clash a.kind z.kind)
     (and_from (both_store a.kind z.kind && u) (a.left == z.left)
     (and_from (both_store a.kind z.kind) u (nine_both a.kind z.kind s.1 s.2) s.0)
     (eq-eqb a.left z.left s.3))
 
-kind_passes : (u : Bool) (a z : Mark) → clash a.kind z.kind ≡ None → mark_clash u a z ≡ None
+pub kind_passes : (u : Bool) (a z : Mark) → clash a.kind z.kind ≡ None → mark_clash u a z ≡ None
 kind_passes u a z h = go (both_store a.kind z.kind && u && (a.left == z.left))
   where
     go : (b : Bool) → (if b then None else clash a.kind z.kind) ≡ None
@@ -133,7 +133,7 @@ kind_passes u a z h = go (both_store a.kind z.kind && u && (a.left == z.left))
     go false = h
 
 -- what passes one of a sort passes the others
-sort_passes : (u : Bool) (a m z : Mark) → one_sort a m ≡ true → mark_clash u a z ≡ None → mark_clash u m z ≡ None
+pub sort_passes : (u : Bool) (a m z : Mark) → one_sort a m ≡ true → mark_clash u a z ≡ None → mark_clash u m z ≡ None
 sort_passes u a m z e h = go (passes u a z h)
   where
     p : ((kind_number a.kind == kind_number m.kind) ≡ true) × ((a.left == m.left) ≡ true)
@@ -147,7 +147,7 @@ sort_passes u a m z e h = go (passes u a z h)
     go (inr c) = kind_passes u m z (number_agrees a.kind m.kind z.kind c (sym same ∙ agree_number a.kind z.kind c))
 
 -- marks of one kind that have the same byte left are of one sort
-sort_from : (a b : Mark) → kind_number a.kind ≡ kind_number b.kind → a.left ≡ b.left → one_sort a b ≡ true
+pub sort_from : (a b : Mark) → kind_number a.kind ≡ kind_number b.kind → a.left ≡ b.left → one_sort a b ≡ true
 sort_from a b e f =
     and_from (kind_number a.kind == kind_number b.kind) (a.left == b.left) (eq-eqb (kind_number a.kind) (kind_number b.kind) e) (eq-eqb a.left b.left f)
 
@@ -156,7 +156,7 @@ plain_left m (inl e) ne = absurd (ne e)
 plain_left m (inr e) ne = e
 
 -- what passes two is of one sort with both
-passes_both : (u : Bool) (a b z : Mark) → Plain a → Plain b → mark_clash u a z ≡ None → mark_clash u b z ≡ None → one_sort a b ≡ true
+pub passes_both : (u : Bool) (a b z : Mark) → Plain a → Plain b → mark_clash u a z ≡ None → mark_clash u b z ≡ None → one_sort a b ≡ true
 passes_both u a b z plain_a plain_b h i = go (passes u a z h) (passes u b z i)
   where
     not_store : (m : Mark) → clash m.kind z.kind ≡ None → kind_number m.kind ≡ 9 → ⊥

@@ -1,5 +1,5 @@
 -- What is kept of the accesses to the bytes of a launch's buffers, and the conflicts that it tells (OpenCL 1.2, 3.3.1, 6.12.8; own in what is kept).
-use Rattle.std.specs.Prelude.{◌≡◌, ℕ, zero, suc, ◌/◌, ◌%◌, ◌<◌, ◌≤◌, ◌==◌, Bool, false, ◌&&◌, ◌||◌, Option, None, List, [], ◌∷◌, if◌then◌else◌, slice_index_or, length, map, Vec}
+use Rattle.std.specs.Prelude.{◌≡◌, ℕ, zero, suc, ◌/◌, ◌%◌, ◌<◌, ◌≤◌, ◌==◌, Bool, true, false, not, ◌&&◌, ◌||◌, Option, None, List, [], ◌∷◌, if◌then◌else◌, slice_index_or, length, map, Vec}
 use Rattle.std.specs.declared.alloc.Global.{Global}
 use Rattle.std.specs.Option.{option_map}
 use Rattle.clmodel.specs.Cells.{byte_count}
@@ -31,6 +31,12 @@ abbrev pub seen_with : Seen → Mark → Seen
 seen_with Untouched m = Touched m
 seen_with (Touched a) m = if one_sort a m then Touched a else Mixed a m
 seen_with (Mixed a b) m = Mixed a b
+
+-- whether an access more changes what is kept of a byte (own)
+abbrev pub is_new : Seen → Mark → Bool
+is_new Untouched m = true
+is_new (Touched a) m = not (one_sort a m)
+is_new (Mixed a b) m = false
 
 -- the byte that a store leaves, 0 for each other kind (own)
 abbrev pub left_by : AccessKind → ℕ → ℕ

@@ -1,10 +1,11 @@
 //! What is kept of the accesses of work-groups.
 
-ghost use Rattle.std.specs.Prelude.{◌≡◌, ◌+◌, ◌<◌, ◌≤◌, ◌∷◌, ◌^◌, [], ℕ, List, length, OnOk, OnErr};
+ghost use Rattle.std.specs.Prelude.{◌≡◌, ◌+◌, ◌<◌, ◌≤◌, ◌∷◌, ◌^◌, [], ℕ, List, length, false, IfOk, OnOk, OnErr};
 ghost use Rattle.clmodel.specs.Cells.{byte_count};
 ghost use Rattle.clmodel.specs.declared.access.Access.{Access as TheAccess};
 ghost use Rattle.clmodel.specs.declared.access.Region.TheVariants as region;
 ghost use Rattle.joining.specs.Memory.{wrote};
+ghost use Rattle.shadow.specs.Lasting.{Absorbed};
 ghost use Rattle.shadow.specs.Seen.{cell, buffer_cells, OfOthers, met_at};
 
 use crate::pages::{Pages, mark_all};
@@ -71,14 +72,16 @@ impl Footprint {
         }
     }
 
-    /// Adds an access. Where memory is refused nothing is added.
-    pub fn add(&mut self, alloc: Global, x: &Access) -> Result<(), AllocError>
+    /// Adds an access. The answer is `false` where it tells nothing new: it is of a local object, or what is kept of each of its bytes stays.
+    /// Where memory is refused nothing is added.
+    pub fn add(&mut self, alloc: Global, x: &Access) -> Result<bool, AllocError>
         requires { x.now.first + byte_count x.now.width < 2 ^ 64 }
         ensures added { OnOk result ((log : List TheAccess) → IsFootprint self.old log → IsFootprint self.new (x.now ∷ log)) }
+        ensures news { IfOk result (λ news. news ≡ false → (log : List TheAccess) → IsFootprint self.old log → Absorbed log x.now) }
         ensures same { OnErr result ((log : List TheAccess) → IsFootprint self.old log → IsFootprint self.new log) }
     {
         let Region::Buffer(number) = x.region else {
-            return Ok(());
+            return Ok(false);
         };
         let first = x.first as usize;
         let count = x.width.bytes() as usize;
@@ -86,7 +89,6 @@ impl Footprint {
         let touched = &mut self.buffers[number as usize];
         touched.make(alloc, first / 256)?;
         touched.make(alloc, (first + count - 1) / 256)?;
-        mark_all(&mut touched.pages, x, first, count);
-        Ok(())
+        Ok(mark_all(&mut touched.pages, x, first, count))
     }
 }

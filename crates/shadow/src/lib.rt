@@ -3,8 +3,10 @@
 #![tactic(auto)]
 
 mod footprint;
+mod group_accesses;
 mod pages;
 mod seen;
 
 pub use footprint::Footprint;
+pub use group_accesses::{GroupAccesses, LastingList};
 pub use seen::{Mark, Meeting};

@@ -1,11 +1,11 @@
 //! What is kept of the accesses to the bytes of one buffer.
 
-ghost use Rattle.std.specs.Prelude.{◌≡◌, ◌+◌, ◌<◌, ◌≤◌, ◌/◌, ◌==◌, ◌^◌, ℕ, [], length, slice_index_or, if◌then◌else◌, OnOk};
+ghost use Rattle.std.specs.Prelude.{◌≡◌, ◌+◌, ◌<◌, ◌≤◌, ◌/◌, ◌==◌, ◌^◌, ℕ, [], length, slice_index_or, if◌then◌else◌, true, false, OnOk};
 ghost use Rattle.clmodel.specs.Cells.{covers};
-ghost use Rattle.shadow.specs.Seen.{seen_with, mark_of, against_from, row_of, cell_in, IsPage};
+ghost use Rattle.shadow.specs.Seen.{seen_with, is_new, mark_of, against_from, row_of, cell_in, IsPage};
 ghost use Rattle.shadow.specs.declared.seen.Seen.TheVariants as seen;
 
-use crate::seen::{Mark, Meeting, Seen, against, mark_of, seen_with};
+use crate::seen::{Mark, Meeting, Seen, against, is_new, mark_of, seen_with};
 use clmodel::access::Access;
 use std::alloc::{AllocError, Global};
 
@@ -39,26 +39,32 @@ fn fill(row: &mut Vec<Seen>, count: usize) -> Result<(), AllocError>
     Ok(())
 }
 
-/// Marks a byte.
-fn mark_byte(pages: &mut Vec<Vec<Seen>>, byte: usize, mark: Mark)
+/// Marks a byte. Whether what is kept of it changes.
+fn mark_byte(pages: &mut Vec<Vec<Seen>>, byte: usize, mark: Mark) -> bool
     requires { IsPage pages.old.items (byte / 256) }
     ensures kept { (page : ℕ) → IsPage pages.old.items page → IsPage pages.new.items page }
     ensures marked { (other : ℕ) → cell_in pages.new.items other ≡ (if byte == other then seen_with (cell_in pages.old.items other) mark else cell_in pages.old.items other) }
+    ensures news { result ≡ is_new (cell_in pages.old.items byte) mark }
 {
     let row = &mut pages[byte / 256];
-    row[byte % 256] = seen_with(row[byte % 256], mark);
+    let seen = row[byte % 256];
+    row[byte % 256] = seen_with(seen, mark);
+    is_new(seen, mark)
 }
 
-/// Marks `count` bytes from the first on, which an access is at.
-pub(crate) fn mark_all(pages: &mut Vec<Vec<Seen>>, x: &Access, first: usize, count: usize)
+/// Marks `count` bytes from the first on, which an access is at. Whether what is kept of one of them changes.
+pub(crate) fn mark_all(pages: &mut Vec<Vec<Seen>>, x: &Access, first: usize, count: usize) -> bool
     requires inside { first + count < 2 ^ 64 }
     requires there { (byte : ℕ) → first ≤ byte → byte < first + count → IsPage pages.old.items (byte / 256) }
-    ensures { (byte : ℕ) → cell_in pages.new.items byte ≡ (if covers first count byte then seen_with (cell_in pages.old.items byte) (mark_of x.now byte) else cell_in pages.old.items byte) }
+    ensures marked { (byte : ℕ) → cell_in pages.new.items byte ≡ (if covers first count byte then seen_with (cell_in pages.old.items byte) (mark_of x.now byte) else cell_in pages.old.items byte) }
+    ensures news { result ≡ false → (byte : ℕ) → covers first count byte ≡ true → is_new (cell_in pages.old.items byte) (mark_of x.now byte) ≡ false }
 {
-    if count > 0 {
-        mark_byte(pages, first, mark_of(x, first as u64));
-        mark_all(pages, x, first + 1, count - 1);
+    if count == 0 {
+        return false;
     }
+    let here = mark_byte(pages, first, mark_of(x, first as u64));
+    let there = mark_all(pages, x, first + 1, count - 1);
+    here || there
 }
 
 impl Pages {

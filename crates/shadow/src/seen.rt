@@ -2,7 +2,7 @@
 
 ghost use Rattle.std.specs.Prelude.{◌≡◌};
 ghost use Rattle.joining.specs.Memory.{writes};
-ghost use Rattle.shadow.specs.Seen.{one_sort, mark_of, seen_with, is_written, mark_clash, met, against, conflict_with};
+ghost use Rattle.shadow.specs.Seen.{one_sort, mark_of, seen_with, is_new, is_written, mark_clash, met, against, conflict_with};
 
 use clmodel::access::{Access, AccessKind, Clash, Conflict};
 use shadow_list::{both_store, clash, kind_number, left_at};
@@ -88,6 +88,17 @@ pub(crate) fn seen_with(seen: Seen, mark: Mark) -> Seen
             }
         }
         Seen::Mixed(_, _) => seen,
+    }
+}
+
+/// Whether an access more changes what is kept of a byte.
+pub(crate) fn is_new(seen: Seen, mark: Mark) -> bool
+    ensures { result ≡ is_new seen mark }
+{
+    match seen {
+        Seen::Untouched => true,
+        Seen::Touched(first) => !one_sort(first, mark),
+        Seen::Mixed(_, _) => false,
     }
 }
 

@@ -3,7 +3,7 @@
 ghost use Rattle.std.specs.Prelude.{◌≡◌, All};
 ghost use Rattle.shadow_list.specs.Log.{IsPlaced, logged};
 
-use crate::log::{Accesses, Entry};
+use crate::log::{Accesses, Entry, Logged};
 
 /// The accesses of a log in their order, with the numbers of its running intervals and whether the launch is uniform. It takes some 56 bytes
 /// for each access, and is asked by place alone: a result that waits to be joined needs no more.
@@ -17,9 +17,11 @@ pub struct AccessList {
     ghost placed: { All IsPlaced entries.items },
 }
 
-impl Accesses for AccessList {
+impl Logged for AccessList {
     ghost log = { λ l. logged l.entries.items l.local_interval l.global_interval l.uniform };
+}
 
+impl Accesses for AccessList {
     fn len(&self) -> usize {
         self.entries.len()
     }

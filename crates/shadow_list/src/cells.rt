@@ -9,7 +9,7 @@ use std::collections::HashMap;
 
 /// What is kept of the accesses to each byte, in cells of eight bytes: where the eight of a cell start, for those that were accessed.
 #[derive(Drop)]
-pub(crate) struct Cells {
+pub struct Cells {
     pub(crate) starts: HashMap<u64, usize>,
     pub(crate) bytes: Vec<Recent>,
     ghost inside: { (key start : ℕ) → get nat_eq starts key ≡ Some start → start + 8 ≤ length bytes.items },
@@ -17,7 +17,7 @@ pub(crate) struct Cells {
 
 impl Cells {
     /// No cells. It takes no memory.
-    pub(crate) fn new(alloc: Global) -> Self
+    pub fn new(alloc: Global) -> Self
         ensures starts { IsEmpty result.starts }
         ensures bytes { result.bytes.items ≡ [] }
     {
@@ -28,7 +28,7 @@ impl Cells {
     }
 
     /// Forgets all accesses, and keeps the memory.
-    pub(crate) fn clear(&mut self)
+    pub fn clear(&mut self)
         ensures starts { IsEmpty self.new.starts }
         ensures bytes { self.new.bytes.items ≡ [] }
     {

@@ -13,7 +13,10 @@ mod recent;
 mod search;
 
 pub use access_list::AccessList;
+pub use cells::Cells;
 pub use compare::left_at;
 pub use kinds::{both_store, clash, kind_number};
 pub use list::ListLog;
-pub use log::{AccessLog, Accesses, Entry, Fenced, Hit};
+pub use log::{AccessLog, Accesses, Entry, Fenced, Hit, Logged};
+pub use marks::object;
+pub use search::hit;

@@ -1,14 +1,14 @@
 //! A log that is a list.
 
-ghost use Rattle.std.specs.Prelude.{◌≡◌, ◌≤◌, ◌+◌, All, false, true, length, take};
+ghost use Rattle.std.specs.Prelude.{◌≡◌, ◌≤◌, ◌+◌, All, OnOk, false, true, length, take};
 ghost use Rattle.clmodel.specs.Run.{by_region};
 ghost use Rattle.shadow_list.specs.Index.{IsIndexed};
-ghost use Rattle.shadow_list.specs.Log.{IsPlaced, stamped, logged, fresh_log, in_buffer};
+ghost use Rattle.shadow_list.specs.Log.{IsPlaced, IsNoted, IsKeptOnce, stamped, logged, fresh_log, in_buffer, across};
 ghost use Rattle.shadow_list.specs.Past.{IsBefore};
 
 use crate::access_list::AccessList;
 use crate::index::{Index, hit_from, is_there, keep};
-use crate::log::{AccessLog, Accesses, Entry, Fenced, Hit};
+use crate::log::{AccessLog, Accesses, Entry, Fenced, Hit, Logged};
 use crate::search::hit;
 use clmodel::access::{Access, Region, Rule};
 use std::alloc::{AllocError, Global};
@@ -130,11 +130,30 @@ impl ListLog {
             Region::Local { .. } => self.local_first,
         }
     }
+
+    /// The conflict with the log of a later group of the launch, of its first access that has one: a walk over all pairs.
+    pub fn conflicts_with<M: Accesses>(&self, later: &M) -> Option<Hit>
+        requires { (M.Logged.log later.now).uniform ≡ self.now.uniform }
+        ensures { result ≡ across self.now.uniform self.now.entries.items (M.Logged.log later.now).accesses }
+    {
+        let rule = Rule::across_groups(self.uniform);
+        for i in 0..later.len() {
+            let entry = later.get(i);
+            if let Region::Buffer(_) = entry.access.region {
+                if let Some(found) = hit(rule, &entry, self.entries.as_slice()) {
+                    return Some(found);
+                }
+            }
+        }
+        None
+    }
+}
+
+impl Logged for ListLog {
+    ghost log = { λ l. logged l.entries.items l.local_interval l.global_interval l.uniform };
 }
 
 impl Accesses for ListLog {
-    ghost log = { λ l. logged l.entries.items l.local_interval l.global_interval l.uniform };
-
     fn len(&self) -> usize {
         self.entries.len()
     }
@@ -145,7 +164,12 @@ impl Accesses for ListLog {
 }
 
 impl AccessLog for ListLog {
-    fn note(&mut self, entry: Entry) -> Result<Option<Hit>, AllocError> {
+    /// Judges a new access, and keeps it where it isn't there yet. An error is out of memory, and changes nothing.
+    fn note(&mut self, entry: Entry) -> Result<Option<Hit>, AllocError>
+        requires { IsPlaced entry }
+        ensures noted { IsNoted (logged self.old.entries.items self.old.local_interval self.old.global_interval self.old.uniform) entry (logged self.new.entries.items self.new.local_interval self.new.global_interval self.new.uniform) result }
+        ensures once { OnOk result (IsKeptOnce self.old.entries.items (stamped (logged self.old.entries.items self.old.local_interval self.old.global_interval self.old.uniform) entry) self.new.entries.items) }
+    {
         let from = self.first(entry.access.region);
         let entry = self.stamped(entry);
         let log = self.entries.as_slice();
@@ -171,18 +195,5 @@ impl AccessLog for ListLog {
                 self.global_first = self.entries.len();
             }
         }
-    }
-
-    fn conflicts_with<M: Accesses>(&self, later: &M) -> Option<Hit> {
-        let rule = Rule::across_groups(self.uniform);
-        for i in 0..later.len() {
-            let entry = later.get(i);
-            if let Region::Buffer(_) = entry.access.region {
-                if let Some(found) = hit(rule, &entry, self.entries.as_slice()) {
-                    return Some(found);
-                }
-            }
-        }
-        None
     }
 }

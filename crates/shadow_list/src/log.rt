@@ -1,7 +1,7 @@
 //! What an access log is.
 
 ghost use Rattle.std.specs.Prelude.{◌≡◌, ◌<◌, ◌+◌, ◌-◌, ◌^◌, ℕ, length, slice_index_or};
-ghost use Rattle.shadow_list.specs.Log.{Log, IsNoted, IsPlaced, entry_of, running, after_fence, across};
+ghost use Rattle.shadow_list.specs.Log.{Log, IsNoted, IsPlaced, entry_of, running, after_fence};
 
 use clmodel::access::{Access, Clash, Operation, Region};
 use std::alloc::AllocError;
@@ -48,25 +48,30 @@ pub enum Fenced {
     Global,
 }
 
-/// Accesses in their order, the oldest first, seen as their list with the numbers of the running intervals and whether the launch is uniform.
-pub trait Accesses {
+/// What is seen as the accesses of a group in their order, the oldest first, with the numbers of the running intervals and whether the launch
+/// is uniform. It need not keep all of them.
+pub trait Logged {
     ghost log: { Self → Log };
+}
 
+/// Accesses that are kept, and asked by their places.
+pub trait Accesses: Logged {
     /// How many accesses there are.
     fn len(&self) -> usize
-        ensures { result ≡ length (log self.now).accesses };
+        ensures { result ≡ length (Self.log self.now).accesses };
 
     /// An access.
     fn get(&self, i: usize) -> Entry
-        requires { i < length (log self.now).accesses }
-        ensures value { result ≡ slice_index_or (log self.now).accesses i result }
+        requires { i < length (Self.log self.now).accesses }
+        ensures value { result ≡ slice_index_or (Self.log self.now).accesses i result }
         ensures placed { IsPlaced result };
 }
 
 /// A log of the accesses of a group, which finds the conflicts of a new one (OpenCL 1.2, sections 3.3.1 and 6.12.8).
-pub trait AccessLog: Accesses {
-    /// Judges a new access, and keeps it where it isn't there yet. The access gets the running interval of its address space. The
-    /// conflict answered is that on the lowest byte, there with the earliest access. An error is out of memory, and changes nothing.
+pub trait AccessLog: Logged {
+    /// Judges a new access, which is one of the log's accesses then: at the end, or left out where an equal one is there. The access gets the
+    /// running interval of its address space. The conflict answered is that on the lowest byte, there with the earliest access. An error is out
+    /// of memory, and changes nothing.
     fn note(&mut self, entry: Entry) -> Result<Option<Hit>, AllocError>
         requires { IsPlaced entry }
         ensures { IsNoted (Self.log self.old) entry (Self.log self.new) result };
@@ -75,9 +80,4 @@ pub trait AccessLog: Accesses {
     fn fence(&mut self, space: Fenced)
         requires { running (Self.log self.old) space < 2 ^ 32 - 1 }
         ensures { Self.log self.new ≡ after_fence (Self.log self.old) space };
-
-    /// The conflict with the log of a later group of the launch, of its first access that has one.
-    fn conflicts_with<M: Accesses>(&self, later: &M) -> Option<Hit>
-        requires { (M.log later.now).uniform ≡ (Self.log self.now).uniform }
-        ensures { result ≡ across (Self.log self.now).uniform (Self.log self.now).accesses (M.log later.now).accesses };
 }

@@ -14,7 +14,7 @@ use clmodel::access::{Access, Region};
 use std::alloc::AllocError;
 
 /// The number of a memory object among buffers and local objects, up to multiples of 2^15 of each.
-pub(crate) fn object(region: Region) -> u64
+pub fn object(region: Region) -> u64
     ensures value { result ≡ object region }
     ensures short { result < 2 ^ 16 }
 {
@@ -64,7 +64,7 @@ fn add(bytes: &mut Vec<Recent>, from: usize, x: &Access, first: u64, count: u64)
 
 impl Cells {
     /// Where the bytes of the cell of a byte start, if it is there.
-    pub(crate) fn found(&self, region: Region, byte: u64) -> Option<usize>
+    pub fn found(&self, region: Region, byte: u64) -> Option<usize>
         ensures { result ≡ get nat_eq self.now.starts (cell_key region byte) }
     {
         self.starts.get(&cell_key(region, byte)).copied()
@@ -98,7 +98,7 @@ impl Cells {
 
     /// Whether an access conflicts with none of those that are kept, by where the cell of its first byte starts, in a launch that is
     /// uniform or not.
-    pub(crate) fn is_clear(&self, cell: Option<usize>, uniform: bool, x: &Access) -> bool
+    pub fn is_clear(&self, cell: Option<usize>, uniform: bool, x: &Access) -> bool
         requires short { x.now.first + byte_count x.now.width < 2 ^ 64 }
         requires found { cell ≡ get nat_eq self.now.starts (cell_key x.now.region x.now.first) }
         ensures { IsTrue result → (y : TheAccess) (byte : ℕ) → IsMarked self.now y → conflict_between (within_group uniform) y x.now byte ≡ None }
@@ -144,7 +144,7 @@ impl Cells {
     }
 
     /// Keeps an access, by where the cell of its first byte starts. Where memory is refused a part of it may be kept.
-    pub(crate) fn mark(&mut self, cell: Option<usize>, x: &Access) -> Result<(), AllocError>
+    pub fn mark(&mut self, cell: Option<usize>, x: &Access) -> Result<(), AllocError>
         requires short { x.now.first + byte_count x.now.width < 2 ^ 64 }
         requires found { cell ≡ get nat_eq self.old.starts (cell_key x.now.region x.now.first) }
         ensures kept { (y : TheAccess) → IsMarked self.old y → IsMarked self.new y }

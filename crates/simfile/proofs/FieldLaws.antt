@@ -15,10 +15,10 @@ use Rattle.simfile_fields.proofs.FieldLemmas.{front_within}
 use Rattle.std.specs.Str.{all_ascii_digits}
 use Rattle.std.specs.Char.{is_ascii_digit}
 use lib.Pointwise.{pointwise, bytes_decides}
-use Rattle.simfile_fields.proofs.FieldLaws.{if_some, and_true, front_passes, front_of, name_to_takes, name_to_again, list_below_takes, list_below_again, list_below_back}
+use Rattle.simfile_fields.proofs.FieldLaws.{if_some, and_true, front_passes, front_of, before_is, name_to_takes, name_to_again, list_below_takes, list_below_again, list_below_back}
 use Rattle.simfile_fields.specs.Texts.{is_later, is_listed, list_text}
 use Rattle.simfile.specs.Fields.{is_name, IsList, numbers_of, AreBytes, hex_digit, hex, is_hex_digit, hex_value, bytes_of}
-use Rattle.simfile_fields.specs.Fronts.{front_length, ◌>>=◌}
+use Rattle.simfile_fields.specs.Fronts.{before, front_length, ◌>>=◌}
 use Rattle.simfile.specs.Reading.{name_at, list_at, hex_at, lines_end, lines_at, source_at}
 use Rattle.simfile.specs.Script.{line_feeds, AreLines}
 
@@ -182,3 +182,14 @@ list_again numbers h b rest e = list_below_again 18446744073709551616 (omega ari
 
 pub list_back : (numbers : List ℕ) → IsList numbers → numbers_of (list_text numbers) ≡ numbers
 list_back numbers h = list_below_back 18446744073709551616 (omega arith) numbers h
+
+-- fields in front of a byte
+
+pub name_before : (end : ℕ) (bytes : List ℕ) (x : List ℕ × List ℕ) → before end (name_at bytes) ≡ Some x → (bytes ≡ x.0 ++ end ∷ x.1) × IsTrue (is_name x.0)
+name_before end bytes x e = name_takes bytes (x.0, end ∷ x.1) (before_is end (name_at bytes) x e)
+
+pub list_before : (end : ℕ) (bytes : List ℕ) (x : List ℕ × List ℕ) → before end (list_at bytes) ≡ Some x → (bytes ≡ list_text (numbers_of x.0) ++ end ∷ x.1) × IsList (numbers_of x.0)
+list_before end bytes x e = list_takes bytes (x.0, end ∷ x.1) (before_is end (list_at bytes) x e)
+
+pub hex_before : (end : ℕ) (bytes : List ℕ) (x : List ℕ × List ℕ) → before end (hex_at bytes) ≡ Some x → (bytes ≡ hex (bytes_of x.0) ++ end ∷ x.1) × AreBytes (bytes_of x.0)
+hex_before end bytes x e = hex_takes bytes (x.0, end ∷ x.1) (before_is end (hex_at bytes) x e)

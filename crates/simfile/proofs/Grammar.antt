@@ -16,8 +16,9 @@ use Rattle.simfile.specs.Reading.{name_at, list_at, hex_at, source_at, buffer_at
 use Rattle.simfile.specs.Script.{IsText, IsSetting, IsOffset, IsUniform, AreLines, space, line_feed}
 use Rattle.simfile.specs.Laws.{Takes, Again}
 use Rattle.simfile_fields.proofs.FieldLaws.{bind_some, before_is, before_again, after_takes, after_again, number_takes, number_again, value_takes, value_again, space_ends, feed_ends, space_ends_list, feed_ends_list}
+use Rattle.replay_text.proofs.FieldLaws.{number_before}
 use Rattle.replay_text.proofs.Grammar.{joined_onto, joined-append}
-use Rattle.simfile.proofs.FieldLaws.{name_takes, name_again, list_takes, list_again, list_back, hex_takes, hex_again, hex_back, source_takes, source_again, feed_ends_hex}
+use Rattle.simfile.proofs.FieldLaws.{name_takes, name_before, name_again, list_takes, list_before, list_again, list_back, hex_before, hex_again, hex_back, source_takes, source_again, feed_ends_hex}
 
 -- the text of a command that begins with a word lies in front
 abbrev Behind : Version → List ℕ → List ℕ → Command → List ℕ → Type 0
@@ -33,121 +34,98 @@ buffer_takes : (v : Version) (bytes : List ℕ) (c : Command) (rest : List ℕ) 
 unfolding buffer_at
 buffer_takes v bytes c rest e =
     let s1 = bind_some (before 32 (name_at bytes)) _ (c, rest) e in
-    let t1 = name_takes bytes (s1.0.0, 32 ∷ s1.0.1) (before_is 32 (name_at bytes) s1.0 s1.1) in
-    let p1 : bytes ≡ s1.0.0 ++ 32 ∷ s1.0.1 = t1.0 in
+    let t1 = name_before 32 bytes s1.0 s1.1 in
     let s2 = bind_some (before 10 (number_at s1.0.1)) _ (c, rest) s1.2 in
-    let t2 = number_takes s1.0.1 (s2.0.0, 10 ∷ s2.0.1) (before_is 10 (number_at s1.0.1) s2.0 s2.1) in
-    let p2 : s1.0.1 ≡ decimal s2.0.0 ++ 10 ∷ s2.0.1 = t2.0 in
+    let t2 = number_before 10 s1.0.1 s2.0 s2.1 in
     let parts = codes "buffer " ∷ s1.0.0 ∷ space ∷ decimal s2.0.0 ∷ line_feed ∷ [] in
-    behind v (codes "buffer ") bytes parts (command.Buffer s1.0.0 s2.0.0, s2.0.1) (c, rest) s2.2 (ap (λ l. codes "buffer " ++ l) (p1 ∙ ap (λ l. s1.0.0 ++ 32 ∷ l) p2)) (t1.1, t2.1, refl)
+    behind v (codes "buffer ") bytes parts (command.Buffer s1.0.0 s2.0.0, s2.0.1) (c, rest) s2.2 (ap (λ l. codes "buffer " ++ l) (t1.0 ∙ ap (λ l. s1.0.0 ++ 32 ∷ l) t2.0)) (t1.1, t2.1, refl)
 
 write_takes : (v : Version) (bytes : List ℕ) (c : Command) (rest : List ℕ) → write_at bytes ≡ Some (c, rest) → Behind v (codes "write ") bytes c rest
 unfolding write_at
 write_takes v bytes c rest e =
     let s1 = bind_some (before 32 (name_at bytes)) _ (c, rest) e in
-    let t1 = name_takes bytes (s1.0.0, 32 ∷ s1.0.1) (before_is 32 (name_at bytes) s1.0 s1.1) in
-    let p1 : bytes ≡ s1.0.0 ++ 32 ∷ s1.0.1 = t1.0 in
+    let t1 = name_before 32 bytes s1.0 s1.1 in
     let s2 = bind_some (before 32 (number_at s1.0.1)) _ (c, rest) s1.2 in
-    let t2 = number_takes s1.0.1 (s2.0.0, 32 ∷ s2.0.1) (before_is 32 (number_at s1.0.1) s2.0 s2.1) in
-    let p2 : s1.0.1 ≡ decimal s2.0.0 ++ 32 ∷ s2.0.1 = t2.0 in
+    let t2 = number_before 32 s1.0.1 s2.0 s2.1 in
     let s3 = bind_some (before 10 (hex_at s2.0.1)) _ (c, rest) s2.2 in
-    let t3 = hex_takes s2.0.1 (s3.0.0, 10 ∷ s3.0.1) (before_is 10 (hex_at s2.0.1) s3.0 s3.1) in
-    let p3 : s2.0.1 ≡ hex (bytes_of s3.0.0) ++ 10 ∷ s3.0.1 = t3.0 in
+    let t3 = hex_before 10 s2.0.1 s3.0 s3.1 in
     let parts = codes "write " ∷ s1.0.0 ∷ space ∷ decimal s2.0.0 ∷ space ∷ hex (bytes_of s3.0.0) ∷ line_feed ∷ [] in
-    behind v (codes "write ") bytes parts (command.Write s1.0.0 s2.0.0 (bytes_of s3.0.0), s3.0.1) (c, rest) s3.2 (ap (λ l. codes "write " ++ l) (p1 ∙ ap (λ l. s1.0.0 ++ 32 ∷ l) (p2 ∙ ap (λ l. decimal s2.0.0 ++ 32 ∷ l) p3))) (t1.1, t2.1, t3.1, refl)
+    behind v (codes "write ") bytes parts (command.Write s1.0.0 s2.0.0 (bytes_of s3.0.0), s3.0.1) (c, rest) s3.2 (ap (λ l. codes "write " ++ l) (t1.0 ∙ ap (λ l. s1.0.0 ++ 32 ∷ l) (t2.0 ∙ ap (λ l. decimal s2.0.0 ++ 32 ∷ l) t3.0))) (t1.1, t2.1, t3.1, refl)
 
 fill_takes : (v : Version) (bytes : List ℕ) (c : Command) (rest : List ℕ) → fill_at bytes ≡ Some (c, rest) → Behind v (codes "fill ") bytes c rest
 unfolding fill_at
 fill_takes v bytes c rest e =
     let s1 = bind_some (before 32 (name_at bytes)) _ (c, rest) e in
-    let t1 = name_takes bytes (s1.0.0, 32 ∷ s1.0.1) (before_is 32 (name_at bytes) s1.0 s1.1) in
-    let p1 : bytes ≡ s1.0.0 ++ 32 ∷ s1.0.1 = t1.0 in
+    let t1 = name_before 32 bytes s1.0 s1.1 in
     let s2 = bind_some (before 32 (number_at s1.0.1)) _ (c, rest) s1.2 in
-    let t2 = number_takes s1.0.1 (s2.0.0, 32 ∷ s2.0.1) (before_is 32 (number_at s1.0.1) s2.0 s2.1) in
-    let p2 : s1.0.1 ≡ decimal s2.0.0 ++ 32 ∷ s2.0.1 = t2.0 in
+    let t2 = number_before 32 s1.0.1 s2.0 s2.1 in
     let s3 = bind_some (before 32 (number_at s2.0.1)) _ (c, rest) s2.2 in
-    let t3 = number_takes s2.0.1 (s3.0.0, 32 ∷ s3.0.1) (before_is 32 (number_at s2.0.1) s3.0 s3.1) in
-    let p3 : s2.0.1 ≡ decimal s3.0.0 ++ 32 ∷ s3.0.1 = t3.0 in
+    let t3 = number_before 32 s2.0.1 s3.0 s3.1 in
     let s4 = bind_some (before 10 (hex_at s3.0.1)) _ (c, rest) s3.2 in
-    let t4 = hex_takes s3.0.1 (s4.0.0, 10 ∷ s4.0.1) (before_is 10 (hex_at s3.0.1) s4.0 s4.1) in
-    let p4 : s3.0.1 ≡ hex (bytes_of s4.0.0) ++ 10 ∷ s4.0.1 = t4.0 in
+    let t4 = hex_before 10 s3.0.1 s4.0 s4.1 in
     let parts = codes "fill " ∷ s1.0.0 ∷ space ∷ decimal s2.0.0 ∷ space ∷ decimal s3.0.0 ∷ space ∷ hex (bytes_of s4.0.0) ∷ line_feed ∷ [] in
-    behind v (codes "fill ") bytes parts (command.Fill s1.0.0 s2.0.0 s3.0.0 (bytes_of s4.0.0), s4.0.1) (c, rest) s4.2 (ap (λ l. codes "fill " ++ l) (p1 ∙ ap (λ l. s1.0.0 ++ 32 ∷ l) (p2 ∙ ap (λ l. decimal s2.0.0 ++ 32 ∷ l) (p3 ∙ ap (λ l. decimal s3.0.0 ++ 32 ∷ l) p4)))) (t1.1, t2.1, t3.1, t4.1, refl)
+    behind v (codes "fill ") bytes parts (command.Fill s1.0.0 s2.0.0 s3.0.0 (bytes_of s4.0.0), s4.0.1) (c, rest) s4.2 (ap (λ l. codes "fill " ++ l) (t1.0 ∙ ap (λ l. s1.0.0 ++ 32 ∷ l) (t2.0 ∙ ap (λ l. decimal s2.0.0 ++ 32 ∷ l) (t3.0 ∙ ap (λ l. decimal s3.0.0 ++ 32 ∷ l) t4.0)))) (t1.1, t2.1, t3.1, t4.1, refl)
 
 copy_takes : (v : Version) (bytes : List ℕ) (c : Command) (rest : List ℕ) → copy_at bytes ≡ Some (c, rest) → Behind v (codes "copy ") bytes c rest
 unfolding copy_at
 copy_takes v bytes c rest e =
     let s1 = bind_some (before 32 (name_at bytes)) _ (c, rest) e in
-    let t1 = name_takes bytes (s1.0.0, 32 ∷ s1.0.1) (before_is 32 (name_at bytes) s1.0 s1.1) in
-    let p1 : bytes ≡ s1.0.0 ++ 32 ∷ s1.0.1 = t1.0 in
+    let t1 = name_before 32 bytes s1.0 s1.1 in
     let s2 = bind_some (before 32 (number_at s1.0.1)) _ (c, rest) s1.2 in
-    let t2 = number_takes s1.0.1 (s2.0.0, 32 ∷ s2.0.1) (before_is 32 (number_at s1.0.1) s2.0 s2.1) in
-    let p2 : s1.0.1 ≡ decimal s2.0.0 ++ 32 ∷ s2.0.1 = t2.0 in
+    let t2 = number_before 32 s1.0.1 s2.0 s2.1 in
     let s3 = bind_some (before 32 (name_at s2.0.1)) _ (c, rest) s2.2 in
-    let t3 = name_takes s2.0.1 (s3.0.0, 32 ∷ s3.0.1) (before_is 32 (name_at s2.0.1) s3.0 s3.1) in
-    let p3 : s2.0.1 ≡ s3.0.0 ++ 32 ∷ s3.0.1 = t3.0 in
+    let t3 = name_before 32 s2.0.1 s3.0 s3.1 in
     let s4 = bind_some (before 32 (number_at s3.0.1)) _ (c, rest) s3.2 in
-    let t4 = number_takes s3.0.1 (s4.0.0, 32 ∷ s4.0.1) (before_is 32 (number_at s3.0.1) s4.0 s4.1) in
-    let p4 : s3.0.1 ≡ decimal s4.0.0 ++ 32 ∷ s4.0.1 = t4.0 in
+    let t4 = number_before 32 s3.0.1 s4.0 s4.1 in
     let s5 = bind_some (before 10 (number_at s4.0.1)) _ (c, rest) s4.2 in
-    let t5 = number_takes s4.0.1 (s5.0.0, 10 ∷ s5.0.1) (before_is 10 (number_at s4.0.1) s5.0 s5.1) in
-    let p5 : s4.0.1 ≡ decimal s5.0.0 ++ 10 ∷ s5.0.1 = t5.0 in
+    let t5 = number_before 10 s4.0.1 s5.0 s5.1 in
     let parts = codes "copy " ∷ s1.0.0 ∷ space ∷ decimal s2.0.0 ∷ space ∷ s3.0.0 ∷ space ∷ decimal s4.0.0 ∷ space ∷ decimal s5.0.0 ∷ line_feed ∷ [] in
-    behind v (codes "copy ") bytes parts (command.Copy s1.0.0 s2.0.0 s3.0.0 s4.0.0 s5.0.0, s5.0.1) (c, rest) s5.2 (ap (λ l. codes "copy " ++ l) (p1 ∙ ap (λ l. s1.0.0 ++ 32 ∷ l) (p2 ∙ ap (λ l. decimal s2.0.0 ++ 32 ∷ l) (p3 ∙ ap (λ l. s3.0.0 ++ 32 ∷ l) (p4 ∙ ap (λ l. decimal s4.0.0 ++ 32 ∷ l) p5))))) (t1.1, t2.1, t3.1, t4.1, t5.1, refl)
+    behind v (codes "copy ") bytes parts (command.Copy s1.0.0 s2.0.0 s3.0.0 s4.0.0 s5.0.0, s5.0.1) (c, rest) s5.2 (ap (λ l. codes "copy " ++ l) (t1.0 ∙ ap (λ l. s1.0.0 ++ 32 ∷ l) (t2.0 ∙ ap (λ l. decimal s2.0.0 ++ 32 ∷ l) (t3.0 ∙ ap (λ l. s3.0.0 ++ 32 ∷ l) (t4.0 ∙ ap (λ l. decimal s4.0.0 ++ 32 ∷ l) t5.0))))) (t1.1, t2.1, t3.1, t4.1, t5.1, refl)
 
 read_takes : (v : Version) (bytes : List ℕ) (c : Command) (rest : List ℕ) → read_at bytes ≡ Some (c, rest) → Behind v (codes "read ") bytes c rest
 unfolding read_at
 read_takes v bytes c rest e =
     let s1 = bind_some (before 32 (name_at bytes)) _ (c, rest) e in
-    let t1 = name_takes bytes (s1.0.0, 32 ∷ s1.0.1) (before_is 32 (name_at bytes) s1.0 s1.1) in
-    let p1 : bytes ≡ s1.0.0 ++ 32 ∷ s1.0.1 = t1.0 in
+    let t1 = name_before 32 bytes s1.0 s1.1 in
     let s2 = bind_some (before 32 (number_at s1.0.1)) _ (c, rest) s1.2 in
-    let t2 = number_takes s1.0.1 (s2.0.0, 32 ∷ s2.0.1) (before_is 32 (number_at s1.0.1) s2.0 s2.1) in
-    let p2 : s1.0.1 ≡ decimal s2.0.0 ++ 32 ∷ s2.0.1 = t2.0 in
+    let t2 = number_before 32 s1.0.1 s2.0 s2.1 in
     let s3 = bind_some (before 10 (number_at s2.0.1)) _ (c, rest) s2.2 in
-    let t3 = number_takes s2.0.1 (s3.0.0, 10 ∷ s3.0.1) (before_is 10 (number_at s2.0.1) s3.0 s3.1) in
-    let p3 : s2.0.1 ≡ decimal s3.0.0 ++ 10 ∷ s3.0.1 = t3.0 in
+    let t3 = number_before 10 s2.0.1 s3.0 s3.1 in
     let parts = codes "read " ∷ s1.0.0 ∷ space ∷ decimal s2.0.0 ∷ space ∷ decimal s3.0.0 ∷ line_feed ∷ [] in
-    behind v (codes "read ") bytes parts (command.Read s1.0.0 s2.0.0 s3.0.0, s3.0.1) (c, rest) s3.2 (ap (λ l. codes "read " ++ l) (p1 ∙ ap (λ l. s1.0.0 ++ 32 ∷ l) (p2 ∙ ap (λ l. decimal s2.0.0 ++ 32 ∷ l) p3))) (t1.1, t2.1, t3.1, refl)
+    behind v (codes "read ") bytes parts (command.Read s1.0.0 s2.0.0 s3.0.0, s3.0.1) (c, rest) s3.2 (ap (λ l. codes "read " ++ l) (t1.0 ∙ ap (λ l. s1.0.0 ++ 32 ∷ l) (t2.0 ∙ ap (λ l. decimal s2.0.0 ++ 32 ∷ l) t3.0))) (t1.1, t2.1, t3.1, refl)
 
 release_takes : (v : Version) (bytes : List ℕ) (c : Command) (rest : List ℕ) → release_at bytes ≡ Some (c, rest) → Behind v (codes "release ") bytes c rest
 unfolding release_at
 release_takes v bytes c rest e =
     let s1 = bind_some (before 10 (name_at bytes)) _ (c, rest) e in
-    let t1 = name_takes bytes (s1.0.0, 10 ∷ s1.0.1) (before_is 10 (name_at bytes) s1.0 s1.1) in
-    let p1 : bytes ≡ s1.0.0 ++ 10 ∷ s1.0.1 = t1.0 in
+    let t1 = name_before 10 bytes s1.0 s1.1 in
     let parts = codes "release " ∷ s1.0.0 ∷ line_feed ∷ [] in
-    behind v (codes "release ") bytes parts (command.Release s1.0.0, s1.0.1) (c, rest) s1.2 (ap (λ l. codes "release " ++ l) (p1)) (t1.1, refl)
+    behind v (codes "release ") bytes parts (command.Release s1.0.0, s1.0.1) (c, rest) s1.2 (ap (λ l. codes "release " ++ l) (t1.0)) (t1.1, refl)
 
 kernel_takes : (v : Version) (bytes : List ℕ) (c : Command) (rest : List ℕ) → kernel_at bytes ≡ Some (c, rest) → Behind v (codes "kernel ") bytes c rest
 unfolding kernel_at
 kernel_takes v bytes c rest e =
     let s1 = bind_some (before 32 (name_at bytes)) _ (c, rest) e in
-    let t1 = name_takes bytes (s1.0.0, 32 ∷ s1.0.1) (before_is 32 (name_at bytes) s1.0 s1.1) in
-    let p1 : bytes ≡ s1.0.0 ++ 32 ∷ s1.0.1 = t1.0 in
+    let t1 = name_before 32 bytes s1.0 s1.1 in
     let s2 = bind_some (before 32 (name_at s1.0.1)) _ (c, rest) s1.2 in
-    let t2 = name_takes s1.0.1 (s2.0.0, 32 ∷ s2.0.1) (before_is 32 (name_at s1.0.1) s2.0 s2.1) in
-    let p2 : s1.0.1 ≡ s2.0.0 ++ 32 ∷ s2.0.1 = t2.0 in
+    let t2 = name_before 32 s1.0.1 s2.0 s2.1 in
     let s3 = bind_some (before 10 (name_at s2.0.1)) _ (c, rest) s2.2 in
-    let t3 = name_takes s2.0.1 (s3.0.0, 10 ∷ s3.0.1) (before_is 10 (name_at s2.0.1) s3.0 s3.1) in
-    let p3 : s2.0.1 ≡ s3.0.0 ++ 10 ∷ s3.0.1 = t3.0 in
+    let t3 = name_before 10 s2.0.1 s3.0 s3.1 in
     let parts = codes "kernel " ∷ s1.0.0 ∷ space ∷ s2.0.0 ∷ space ∷ s3.0.0 ∷ line_feed ∷ [] in
-    behind v (codes "kernel ") bytes parts (command.Kernel s1.0.0 s2.0.0 s3.0.0, s3.0.1) (c, rest) s3.2 (ap (λ l. codes "kernel " ++ l) (p1 ∙ ap (λ l. s1.0.0 ++ 32 ∷ l) (p2 ∙ ap (λ l. s2.0.0 ++ 32 ∷ l) p3))) (t1.1, t2.1, t3.1, refl)
+    behind v (codes "kernel ") bytes parts (command.Kernel s1.0.0 s2.0.0 s3.0.0, s3.0.1) (c, rest) s3.2 (ap (λ l. codes "kernel " ++ l) (t1.0 ∙ ap (λ l. s1.0.0 ++ 32 ∷ l) (t2.0 ∙ ap (λ l. s2.0.0 ++ 32 ∷ l) t3.0))) (t1.1, t2.1, t3.1, refl)
 
 program_takes : (v : Version) (bytes : List ℕ) (c : Command) (rest : List ℕ) → program_at bytes ≡ Some (c, rest) → Behind v (codes "program ") bytes c rest
 unfolding program_at
 program_takes v bytes c rest e =
     let s1 = bind_some (before 32 (name_at bytes)) _ (c, rest) e in
-    let t1 = name_takes bytes (s1.0.0, 32 ∷ s1.0.1) (before_is 32 (name_at bytes) s1.0 s1.1) in
-    let p1 : bytes ≡ s1.0.0 ++ 32 ∷ s1.0.1 = t1.0 in
+    let t1 = name_before 32 bytes s1.0 s1.1 in
     let s2 = bind_some (before 10 (number_at s1.0.1)) _ (c, rest) s1.2 in
-    let t2 = number_takes s1.0.1 (s2.0.0, 10 ∷ s2.0.1) (before_is 10 (number_at s1.0.1) s2.0 s2.1) in
-    let p2 : s1.0.1 ≡ decimal s2.0.0 ++ 10 ∷ s2.0.1 = t2.0 in
+    let t2 = number_before 10 s1.0.1 s2.0 s2.1 in
     let s3 = bind_some (source_at s2.0.0 s2.0.1) _ (c, rest) s2.2 in
     let t3 = source_takes s2.0.0 s2.0.1 s3.0 s3.1 in
     let p3 : s2.0.1 ≡ s3.0.0 ++ s3.0.1 = t3.0 in
     let parts = codes "program " ∷ s1.0.0 ∷ space ∷ decimal s2.0.0 ∷ line_feed ∷ s3.0.0 ∷ [] in
-    behind v (codes "program ") bytes parts (command.Program s1.0.0 s3.0.0, s3.0.1) (c, rest) s3.2 (ap (λ l. codes "program " ++ l) (p1 ∙ ap (λ l. s1.0.0 ++ 32 ∷ l) (p2 ∙ ap (λ l. decimal s2.0.0 ++ 10 ∷ l) p3))) (t1.1, (s2.0.0, t3.1, t3.2, refl))
+    behind v (codes "program ") bytes parts (command.Program s1.0.0 s3.0.0, s3.0.1) (c, rest) s3.2 (ap (λ l. codes "program " ++ l) (t1.0 ∙ ap (λ l. s1.0.0 ++ 32 ∷ l) (t2.0 ∙ ap (λ l. decimal s2.0.0 ++ 10 ∷ l) p3))) (t1.1, (s2.0.0, t3.1, t3.2, refl))
 
 -- the words of an argument lie in front
 abbrev SettingBehind : List ℕ → Argument → List ℕ → Type 0
@@ -198,8 +176,7 @@ arg_takes : (v : Version) (bytes : List ℕ) (c : Command) (rest : List ℕ) →
 unfolding arg_at
 arg_takes v bytes c rest e =
     let s1 = bind_some (before 32 (name_at bytes)) _ (c, rest) e in
-    let t1 = name_takes bytes (s1.0.0, 32 ∷ s1.0.1) (before_is 32 (name_at bytes) s1.0 s1.1) in
-    let p1 : bytes ≡ s1.0.0 ++ 32 ∷ s1.0.1 = t1.0 in
+    let t1 = name_before 32 bytes s1.0 s1.1 in
     let s2 = bind_some (number_at s1.0.1) _ (c, rest) s1.2 in
     let t2 = number_takes s1.0.1 s2.0 s2.1 in
     let p2 : s1.0.1 ≡ decimal s2.0.0 ++ s2.0.1 = t2.0 in
@@ -209,7 +186,7 @@ arg_takes v bytes c rest e =
     let s4 = bind_some (after (10 ∷ []) s3.0.1) _ (c, rest) s3.2 in
     let t4 : s3.0.1 ≡ (10 ∷ []) ++ s4.0 = after_takes (10 ∷ []) s3.0.1 s4.0 s4.1 in
     let parts = codes "arg " ∷ s1.0.0 ∷ space ∷ decimal s2.0.0 ∷ t3.0 ∷ line_feed ∷ [] in
-    behind v (codes "arg ") bytes parts (command.Arg s1.0.0 s2.0.0 s3.0.0, s4.0) (c, rest) s4.2 (ap (λ l. codes "arg " ++ l) (p1 ∙ ap (λ l. s1.0.0 ++ 32 ∷ l) (p2 ∙ ap (λ l. decimal s2.0.0 ++ l) (p3 ∙ ap (λ l. t3.0 ++ l) t4)))) (t1.1, t2.1, (t3.0, t3.2, refl))
+    behind v (codes "arg ") bytes parts (command.Arg s1.0.0 s2.0.0 s3.0.0, s4.0) (c, rest) s4.2 (ap (λ l. codes "arg " ++ l) (t1.0 ∙ ap (λ l. s1.0.0 ++ 32 ∷ l) (p2 ∙ ap (λ l. decimal s2.0.0 ++ l) (p3 ∙ ap (λ l. t3.0 ++ l) t4)))) (t1.1, t2.1, (t3.0, t3.2, refl))
 
 -- the offsets lie in front, or none do
 abbrev OffsetBehind : List ℕ → Option (List ℕ) → List ℕ → Type 0
@@ -264,10 +241,9 @@ launch_takes : (v : Version) (bytes : List ℕ) (c : Command) (rest : List ℕ) 
 unfolding launch_at
 launch_takes v bytes c rest e =
     let s1 = bind_some (before 32 (name_at bytes)) _ (c, rest) e in
-    let t1 = name_takes bytes (s1.0.0, 32 ∷ s1.0.1) (before_is 32 (name_at bytes) s1.0 s1.1) in
-    let p1 : bytes ≡ s1.0.0 ++ 32 ∷ s1.0.1 = t1.0 in
+    let t1 = name_before 32 bytes s1.0 s1.1 in
     let s2 = bind_some (before 32 (list_at s1.0.1)) _ (c, rest) s1.2 in
-    let t2 = list_takes s1.0.1 (s2.0.0, 32 ∷ s2.0.1) (before_is 32 (list_at s1.0.1) s2.0 s2.1) in
+    let t2 = list_before 32 s1.0.1 s2.0 s2.1 in
     let global = list_text (numbers_of s2.0.0) in
     let p2 : s1.0.1 ≡ global ++ 32 ∷ s2.0.1 = t2.0 in
     let s3 = bind_some (list_at s2.0.1) _ (c, rest) s2.2 in
@@ -281,7 +257,7 @@ launch_takes v bytes c rest e =
     let t5 = mark_takes v s4.0.1 (s5.0.0, 10 ∷ s5.0.1) (before_is 10 (uniform_at v s4.0.1) s5.0 s5.1) in
     let p5 : s4.0.1 ≡ t5.0 ++ (10 ∷ s5.0.1) = t5.1 in
     let parts = codes "launch " ∷ s1.0.0 ∷ space ∷ global ∷ space ∷ local ∷ t4.0 ∷ t5.0 ∷ line_feed ∷ [] in
-    behind v (codes "launch ") bytes parts (command.Launch s1.0.0 (range_of s2.0.0 s3.0.0 s4.0.0 s5.0.0), s5.0.1) (c, rest) s5.2 (ap (λ l. codes "launch " ++ l) (p1 ∙ ap (λ l. s1.0.0 ++ 32 ∷ l) (p2 ∙ ap (λ l. global ++ 32 ∷ l) (p3 ∙ ap (λ l. local ++ l) (p4 ∙ ap (λ l. t4.0 ++ l) p5))))) (t1.1, t2.1, t3.1, (t4.0, t5.0, t4.2 (numbers_of s2.0.0), t5.2, refl {a = joined parts}))
+    behind v (codes "launch ") bytes parts (command.Launch s1.0.0 (range_of s2.0.0 s3.0.0 s4.0.0 s5.0.0), s5.0.1) (c, rest) s5.2 (ap (λ l. codes "launch " ++ l) (t1.0 ∙ ap (λ l. s1.0.0 ++ 32 ∷ l) (p2 ∙ ap (λ l. global ++ 32 ∷ l) (p3 ∙ ap (λ l. local ++ l) (p4 ∙ ap (λ l. t4.0 ++ l) p5))))) (t1.1, t2.1, t3.1, (t4.0, t5.0, t4.2 (numbers_of s2.0.0), t5.2, refl {a = joined parts}))
 
 -- the command in front, by its first word
 by_word : (v : Version) (word bytes : List ℕ) (f : List ℕ → Option (Command × List ℕ)) (other : Option (Command × List ℕ)) (c : Command) (rest : List ℕ) → ((b : List ℕ) (d : Command) (r : List ℕ) → f b ≡ Some (d, r) → Behind v word b d r)

@@ -24,9 +24,11 @@ use Rattle.joining.specs.Join.{Joined}
 use Rattle.joining.specs.Steps.{HasGroup, IsJoined, IsOwnByte, IsUpdatedByte, IsJoinedByte, BytesAreJoined}
 use Rattle.joining.proofs.Over.{wrote_some, wrote_from}
 use Rattle.group_run.specs.Logs.{accesses_of}
+use Rattle.shadow.specs.Lasting.{StandsFor}
 use Rattle.shadow_list.specs.declared.log.Entry.{Entry}
 use Rattle.snapshot_merge.specs.Changes.{buffer_at, number_or_0, joined_value, value_of, changed_byte, changes_of, AreChanged, cells_at, filled_at}
 use Rattle.snapshot_merge.specs.Memory.{HoldsBytes}
+use Rattle.snapshot_merge.proofs.Listed.{among, wrote_listed}
 use Rattle.snapshot_merge.proofs.Numbers.{number_none, cells_filled}
 use Rattle.snapshot_merge.proofs.Changing.{wrote_by, entries_put, entries_kept}
 use Rattle.snapshot_merge.proofs.Filled.{own_set}
@@ -278,21 +280,21 @@ put_joined l g lower part old entries kept first spaces c x n byte logged w insi
 -- what the changes leave is the joined memory
 pub joined_contents :
     (l : Launch) (g : ℕ) (lower : Joined) (part : Part) (old : List (List ℕ)) (entries : List Entry) (kept : List Access) (first : List (List ℕ)) (spaces : List (List (Option ℕ)))
-    → IsClear l g lower part old entries kept first spaces → (new : List (List ℕ)) → AreChanged old new (changes_of (put_of first old kept spaces) entries)
+    → IsClear l g lower part old entries kept first spaces → (listed : List Entry) → StandsFor [] listed entries → (new : List (List ℕ)) → AreChanged old new (changes_of (put_of first old kept spaces) listed)
     → HoldsBytes l (joined_of l lower part) new
-joined_contents l g lower part old entries kept first spaces c new h =
+joined_contents l g lower part old entries kept first spaces c listed stand new h =
     record { many = h.many ∙ c.holds.many; sized = λ n. h.sized n ∙ c.holds.sized n; bytes = bytes }
   where
     value : ℕ → Access → ℕ → ℕ
     value = put_of first old kept spaces
 
-    entry_in : (k : ℕ) (e : Entry) → slice_get entries k ≡ Some e → Logged part.end.log e.access
-    entry_in k e q = in_log part.end.log (accesses_of entries) e.access c.logged (entry_logged entries k e q)
+    entry_in : (k : ℕ) (e : Entry) → slice_get listed k ≡ Some e → Logged part.end.log e.access
+    entry_in k e q = let r = among [] listed entries stand k e q in in_log part.end.log (accesses_of entries) e.access c.logged (entry_logged entries r.0 e r.1)
 
-    changed : (n byte v : ℕ) → slice_get (buffer_at old n) byte ≡ Some v → slice_get (buffer_at new n) byte ≡ Some (changed_byte (changes_of value entries) n byte v)
-    changed n byte v e = h.bytes n byte ∙ ap (option_map (changed_byte (changes_of value entries) n byte)) e
+    changed : (n byte v : ℕ) → slice_get (buffer_at old n) byte ≡ Some v → slice_get (buffer_at new n) byte ≡ Some (changed_byte (changes_of value listed) n byte v)
+    changed n byte v e = h.bytes n byte ∙ ap (option_map (changed_byte (changes_of value listed) n byte)) e
 
-    untouched : (n byte : ℕ) → wrote part.end.log (region.Buffer n) byte ≡ false → (k : ℕ) (e : Entry) → slice_get entries k ≡ Some e → wrote_by n byte e.access ≡ false
+    untouched : (n byte : ℕ) → wrote part.end.log (region.Buffer n) byte ≡ false → (k : ℕ) (e : Entry) → slice_get listed k ≡ Some e → wrote_by n byte e.access ≡ false
     untouched n byte none k e q = not_true (wrote_by n byte e.access) (λ w.
         let p = and_parts (writes e.access.kind) (at_byte (region.Buffer n) byte e.access) w in
         true≢false (sym (wrote_from part.end.log (region.Buffer n) byte e.access (entry_in k e q) p.0 p.1) ∙ none))
@@ -301,7 +303,7 @@ joined_contents l g lower part old entries kept first spaces c new h =
         → slice_get (buffer_at new n) byte ≡ joined_of l lower part (region.Buffer n) byte
     at n byte v inside e false w =
         changed n byte v e
-        ∙ ap Some (entries_kept value entries n byte v (untouched n byte w))
+        ∙ ap Some (entries_kept value listed n byte v (untouched n byte w))
         ∙ sym e
         ∙ c.holds.bytes n byte inside
         ∙ sym (alone_memory (initial l) lower.memory lower.log part.end.memory part.end.log (region.Buffer n) byte w)
@@ -309,12 +311,15 @@ joined_contents l g lower part old entries kept first spaces c new h =
         let z = wrote_some part.end.log (region.Buffer n) byte w in
         let zw : wrote_by n byte z.0 ≡ true = and_from (writes z.0.kind) (at_byte (region.Buffer n) byte z.0) z.2 z.3 in
         let put = put_joined l g lower part old entries kept first spaces c z.0 n byte z.1 zw inside in
-        let y = logged_entry entries z.0 (in_kept part.end.log (accesses_of entries) z.0 c.logged z.1) in
+        let there : wrote (accesses_of listed) (region.Buffer n) byte ≡ true = wrote_listed listed entries n byte stand ∙ kept_wrote part.end.log (accesses_of entries) (region.Buffer n) byte c.logged ∙ w in
+        let k = wrote_some (accesses_of listed) (region.Buffer n) byte there in
+        let kw : wrote_by n byte k.0 ≡ true = and_from (writes k.0.kind) (at_byte (region.Buffer n) byte k.0) k.2 k.3 in
+        let y = logged_entry listed k.0 k.1 in
         changed n byte v e
         ∙ ap Some
-        (entries_put value entries n byte v (value n z.0 byte)
+        (entries_put value listed n byte v (value n z.0 byte)
         (λ k x q xw. some_inj (value n x.access byte) (value n z.0 byte) (sym (put_joined l g lower part old entries kept first spaces c x.access n byte (entry_in k x q) xw inside) ∙ put))
-        (inl (y.0, y.1, y.2, ap (wrote_by n byte) y.3 ∙ zw)))
+        (inl (y.0, y.1, y.2, ap (wrote_by n byte) y.3 ∙ kw)))
         ∙ sym put
 
     bytes : (n byte : ℕ) → byte < length (buffer_at l.buffers n) → slice_get (buffer_at new n) byte ≡ joined_of l lower part (region.Buffer n) byte

@@ -1,5 +1,5 @@
 -- What a launch concludes once its groups are joined.
-use Rattle.std.proofs.Common.{◌≡◌, ℕ, suc, ◌+◌, ◌*◌, ◌<◌, ◌≤◌, ◌⊎◌, true, Option, None, Some, List, [], ◌∷◌, length, nat_lt, refl, ap, ◌∙◌, inl, inr, arith}
+use Rattle.std.proofs.Common.{◌≡◌, ℕ, suc, ◌+◌, ◌*◌, ◌<◌, ◌≤◌, ◌⊎◌, Bool, true, Option, None, Some, List, [], ◌∷◌, length, nat_lt, refl, ap, ◌∙◌, inl, inr, arith}
 use Rattle.std.proofs.Math.Nat.{suc-mul, mul-le-mul_right}
 use Rattle.std.proofs.lemmas.Bool.{cases_lt, lt-ltb}
 use Rattle.clmodel.specs.Launch.{Launch}
@@ -17,7 +17,8 @@ use Rattle.joining.specs.Parts.{IsGrouped}
 use Rattle.joining.specs.Steps.{HasGroup}
 use Rattle.launches.specs.Groups.{HasGroups}
 use Rattle.shadow_list.specs.Log.{Log}
-use Rattle.snapshot_merge.specs.Launches.{AreResults, AreResultsTo}
+use Rattle.shadow_list.specs.declared.log.Entry.{Entry}
+use Rattle.snapshot_merge.specs.Launches.{AreResults, IsShortResult, AreResultsTo}
 use Rattle.snapshot_merge.specs.Laws.{JoiningLaws}
 use Rattle.snapshot_merge.specs.JoinedGroups.{HoldsGroups, IsStopped, CameOfNext}
 use Rattle.snapshot_merge.specs.declared.joined_groups.JoinedGroups.{JoinedGroups}
@@ -88,16 +89,16 @@ none_left (x ∷ xs) e = absurd (omega arith)
 
 -- ---- results of a round
 
-module _ {G L : Type 0} (bytes : G → List (Option ℕ)) (log_of : L → Log) (l : Launch) (last g : ℕ) where
-  pub round_there : (r : GroupResult G L) (rs : List (GroupResult G L)) → AreResultsTo bytes log_of l last g (r ∷ rs) → HasGroup l g
+module _ {G L : Type 0} (bytes : G → List (Option ℕ)) (listed : L → List Entry) (has_last : L → Bool) (l : Launch) (last g : ℕ) where
+  pub round_there : (r : GroupResult G L) (rs : List (GroupResult G L)) → AreResultsTo bytes listed has_last l last g (r ∷ rs) → HasGroup l g
   round_there (Done number spaces log runs) rs h = h.0
   round_there (Stopped number fault log runs) rs h = h.0
 
-  pub round_result : (r : GroupResult G L) (rs : List (GroupResult G L)) → AreResultsTo bytes log_of l last g (r ∷ rs) → IsResult bytes log_of l g r
+  pub round_result : (r : GroupResult G L) (rs : List (GroupResult G L)) → AreResultsTo bytes listed has_last l last g (r ∷ rs) → IsShortResult bytes listed has_last l g r
   round_result (Done number spaces log runs) rs h = h.1
   round_result (Stopped number fault log runs) rs h = h.1
 
   pub round_rest :
-      (r : GroupResult G L) (rs : List (GroupResult G L)) (so_far : JoinedGroups) → AreResultsTo bytes log_of l last g (r ∷ rs) → CameOfNext l g r None so_far → AreResultsTo bytes log_of l last (suc g) rs
+      (r : GroupResult G L) (rs : List (GroupResult G L)) (so_far : JoinedGroups) → AreResultsTo bytes listed has_last l last g (r ∷ rs) → CameOfNext l g r None so_far → AreResultsTo bytes listed has_last l last (suc g) rs
   round_rest (Done number spaces log runs) rs so_far h n = h.2
   round_rest (Stopped number fault log runs) rs so_far h n = absurd n

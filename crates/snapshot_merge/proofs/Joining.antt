@@ -1,5 +1,5 @@
 -- One more group joined to the groups so far, as code does it.
-use Rattle.std.proofs.Common.{◌≡◌, Bool, ℕ, zero, suc, ◌+◌, ◌==◌, ◌&&◌, if◌then◌else◌, Option, None, Some, List, [], ◌∷◌, ◌++◌, length, take, map, refl, sym, ap, ap₂, ◌∙◌, subst, arith}
+use Rattle.std.proofs.Common.{◌≡◌, Bool, true, ℕ, zero, suc, ◌+◌, ◌==◌, ◌&&◌, if◌then◌else◌, Option, None, Some, List, [], ◌∷◌, ◌++◌, length, take, map, refl, sym, ap, ap₂, ◌∙◌, subst, arith}
 use Rattle.std.specs.Prelude.{Vec, Result, Ok, Err, IfOk}
 use Rattle.std.specs.declared.alloc.Global.{Global}
 use denote.Bor.{Bor}
@@ -23,6 +23,7 @@ use Rattle.joining.specs.Join.{Joined, nothing_yet, join, join_at}
 use Rattle.joining.specs.Steps.{HasGroup, IsJoined}
 use Rattle.group_run.specs.Logs.{accesses_of, IsLogged}
 use Rattle.group_run.specs.Results.{Leaves}
+use Rattle.shadow.specs.Lasting.{StandsFor, StandsWith}
 use Rattle.shadow.specs.Seen.{IsFootprint, meeting, meeting_of, met_at}
 use Rattle.shadow.specs.declared.footprint.Footprint.{Footprint}
 use Rattle.shadow.specs.declared.seen.Meeting.{Meeting}
@@ -40,6 +41,8 @@ use Rattle.snapshot_merge.proofs.Contents.{IsClear, joined_contents}
 use Rattle.snapshot_merge.specs.declared.meetings.Met.{Met}
 use Rattle.snapshot_merge.proofs.Crossed.{Laws, IsFurther, Misses, Crosses, not_crossed, crossed, entries_of_others, locals_miss}
 use Rattle.snapshot_merge.proofs.CrossedRuns.{none_from}
+use Rattle.shadow.proofs.Listing.{stands}
+use Rattle.snapshot_merge.proofs.Listed.{first_whole, others_listed, footprint_whole}
 
 -- the laws that tell of crossings
 pub crossing_laws : JoiningLaws → Laws
@@ -84,8 +87,8 @@ pub first_none : (l : Launch) (g : ℕ) (lower : Joined) (part : Part) (log : Lo
 first_none l g lower part log footprint old more r e = none_kept l g lower r.held.kept e r.joined r.held.keeps
 
 -- nothing meets where nothing is kept
-pub none_met : (u : Bool) (entries : List Entry) (kept : List Access) → kept ≡ [] → IsFirstMet u entries kept None
-none_met u entries kept z k e b q = subst (λ w. met_at u e.access.region e.access w ≡ None) (sym z) (go e.access.region)
+pub none_met : (u last : Bool) (entries : List Entry) (kept : List Access) → kept ≡ [] → IsFirstMet u last entries kept None
+none_met u last entries kept z k e b q = subst (λ w. met_at u e.access.region e.access w ≡ None) (sym z) (go e.access.region)
   where
     go : (r : Region) → met_at u r e.access [] ≡ None
     go (region.Buffer n) = ap (option_map meeting_of) (none_from (conflict_between (across_groups u)) e.access [] (λ y m. absurd m) e.access.first (byte_count e.access.width))
@@ -107,7 +110,7 @@ met_is u (region.Local owner i) x kept m h = absurd (none_some m h)
 -- an access of the group meets the lower groups'
 pub meets_stopped :
     (l : Launch) (g : ℕ) (lower : Joined) (part : Part) (log : Log) (footprint : Footprint) (old more new : List Run) (r : IsRunning l g lower part log footprint old more)
-    (met : Met) (fault : Fault) → IsFirstMet l.uniform log.accesses r.held.kept (Some met) → Adds old new more (take (met.entry.event + 1) (events_of more))
+    (met : Met) (fault : Fault) → IsFirstMet l.uniform true log.accesses r.held.kept (Some met) → Adds old new more (take (met.entry.event + 1) (events_of more))
     → Some fault ≡ report_at l met part.stopped → IsStopped l fault new
 meets_stopped l g lower part log footprint old more new r met fault first adds told =
     let far = further l g lower part log footprint old more r in
@@ -124,7 +127,7 @@ meets_stopped l g lower part log footprint old more new r met fault first adds t
 
 -- nothing crosses where nothing is met
 pub none_crosses : (l : Launch) (g : ℕ) (lower : Joined) (part : Part) (log : Log) (footprint : Footprint) (old more : List Run) (r : IsRunning l g lower part log footprint old more)
-    → IsFirstMet l.uniform log.accesses r.held.kept None → crossing l lower.log part.end.log ≡ None
+    → IsFirstMet l.uniform true log.accesses r.held.kept None → crossing l lower.log part.end.log ≡ None
 none_crosses l g lower part log footprint old more r first =
     let far = further l g lower part log footprint old more r in
     let laws = crossing_laws r.laws in not_crossed laws l g lower part log r.held.kept far (misses l g lower part log r.held.kept (length log.accesses) laws far first)
@@ -135,7 +138,7 @@ joined_whole l lower part none = ap (join_at l lower part) none
 -- a group stops of itself
 pub own_stopped :
     (l : Launch) (g : ℕ) (lower : Joined) (part : Part) (log : Log) (footprint : Footprint) (old more new : List Run) (r : IsRunning l g lower part log footprint old more) (fault : Fault)
-    → IsFirstMet l.uniform log.accesses r.held.kept None → Adds old new more (events_of more) → part.stopped ≡ Some fault → IsStopped l fault new
+    → IsFirstMet l.uniform true log.accesses r.held.kept None → Adds old new more (events_of more) → part.stopped ≡ Some fault → IsStopped l fault new
 own_stopped l g lower part log footprint old more new r fault first adds told =
     let whole = joined_whole l lower part (none_crosses l g lower part log footprint old more r first) in
     let events : events_of new ≡ (join l lower part).events
@@ -146,7 +149,7 @@ own_stopped l g lower part log footprint old more new r fault first adds told =
 -- a group that has ended is joined to the groups so far
 pub is_joined :
     (l : Launch) (g : ℕ) (lower : Joined) (part : Part) (log : Log) (footprint : Footprint) (old more : List Run) (r : IsRunning l g lower part log footprint old more)
-    → IsFirstMet l.uniform log.accesses r.held.kept None → part.stopped ≡ None → IsJoined l (suc g) (join l lower part)
+    → IsFirstMet l.uniform true log.accesses r.held.kept None → part.stopped ≡ None → IsJoined l (suc g) (join l lower part)
 is_joined l g lower part log footprint old more r first told =
     let whole = joined_whole l lower part (none_crosses l g lower part log footprint old more r first) in
     (lower, part, r.joined, r.there, r.runs, refl, ap (λ (j : Joined). j.report) whole ∙ told)
@@ -154,7 +157,7 @@ is_joined l g lower part log footprint old more r first told =
 -- and its accesses and events
 pub log_joined :
     (l : Launch) (g : ℕ) (lower : Joined) (part : Part) (log : Log) (footprint : Footprint) (old more : List Run) (r : IsRunning l g lower part log footprint old more)
-    (next : Footprint) (new : List Run) → IsFirstMet l.uniform log.accesses r.held.kept None → IsFootprint next (accesses_of log.accesses ++ r.held.kept) → Adds old new more (events_of more)
+    (next : Footprint) (new : List Run) → IsFirstMet l.uniform true log.accesses r.held.kept None → IsFootprint next (accesses_of log.accesses ++ r.held.kept) → Adds old new more (events_of more)
     → HoldsLog (join l lower part) next new
 log_joined l g lower part log footprint old more r next new first remembers adds =
     let whole = joined_whole l lower part (none_crosses l g lower part log footprint old more r first) in
@@ -179,7 +182,14 @@ pub record IsGiven (l : Launch) (g : ℕ) (so_far : JoinedGroups) (more : List R
 -- what it finds to be met first, whatever is kept
 abbrev pub Finds : Bool → ℕ → JoinedGroups → Log → Option Met → Type 0
 Finds u g so_far log found =
-    (kept : List Access) → IsFootprint so_far.footprint kept → (g ≡ 0 → kept ≡ []) → AreOthers log.accesses kept → IsFirstMet u log.accesses kept found
+    (kept : List Access) → IsFootprint so_far.footprint kept → (g ≡ 0 → kept ≡ []) → AreOthers log.accesses kept → IsFirstMet u true log.accesses kept found
+
+-- what it finds in a short list that stands for the log
+pub finds_whole :
+    (u : Bool) (g : ℕ) (so_far : JoinedGroups) (last : Bool) (listed : List Entry) (log : Log) (found : Option Met) → StandsWith last listed log.accesses
+    → ((kept : List Access) → IsFootprint so_far.footprint kept → (g ≡ 0 → kept ≡ []) → AreOthers listed kept → IsFirstMet u last listed kept found) → Finds u g so_far log found
+finds_whole u g so_far last listed log found stand finds kept remembers none apart =
+    first_whole u last listed log.accesses kept found stand apart (finds kept remembers none (others_listed last listed log.accesses kept stand apart))
 
 stopped_running :
     (l : Launch) (g : ℕ) (so_far : JoinedGroups) (log : Log) (more : List Run) (fault : Fault) (c : IsGiven l g so_far more) (run : IsRun (plan_of l g) (IsLogged (plan_of l g) log) (start l) (events_of more) (Some fault))
@@ -219,7 +229,7 @@ done_running l g so_far log more spaces c run =
 
 found_first :
     (l : Launch) (g : ℕ) (lower : Joined) (part : Part) (log : Log) (so_far : JoinedGroups) (more : List Run) (r : IsRunning l g lower part log so_far.footprint so_far.runs.items more) (found : Option Met)
-    → Finds l.uniform g so_far log found → IsFirstMet l.uniform log.accesses r.held.kept found
+    → Finds l.uniform g so_far log found → IsFirstMet l.uniform true log.accesses r.held.kept found
 found_first l g lower part log so_far more r found finds =
     finds r.held.kept r.held.remembers (first_none l g lower part log so_far.footprint so_far.runs.items more r) (others l g lower part log so_far.footprint so_far.runs.items more r)
 
@@ -253,22 +263,22 @@ done_meets l g so_far log more new spaces c run met report finds adds told =
     meets_stopped l g c.holds.joined part log so_far.footprint so_far.runs.items more new r met report (found_first l g c.holds.joined part log so_far more r (Some met) finds) adds told
 
 -- what its changes come to, whatever is kept
-abbrev pub Changes : JoinedGroups → List Overlaid → Log → List (List ℕ) → Type 0
-Changes so_far spaces log new =
+abbrev pub Changes : JoinedGroups → List Overlaid → List Entry → List (List ℕ) → Type 0
+Changes so_far spaces listed new =
     (kept : List Access) → IsFootprint so_far.footprint kept
-    → AreChanged so_far.contents.items new (changes_of (value_of (map (λ row. row.now) so_far.first.items) so_far.contents.items (λ n b. wrote kept (region.Buffer n) b) (map (λ (space : Overlaid). space.bytes) spaces)) log.accesses)
+    → AreChanged so_far.contents.items new (changes_of (value_of (map (λ row. row.now) so_far.first.items) so_far.contents.items (λ n b. wrote kept (region.Buffer n) b) (map (λ (space : Overlaid). space.bytes) spaces)) listed)
 
 -- a group that has ended is joined, where a further group may follow
 pub done_joined :
     (l : Launch) (g : ℕ) (so_far : JoinedGroups) (log : Log) (more : List Run) (spaces : List Overlaid) (c : IsGiven l g so_far more)
-    → IsRun (plan_of l g) (Left l g spaces log) (start l) (events_of more) None → Finds l.uniform g so_far log None → (new : JoinedGroups) → Changes so_far spaces log new.contents.items → new.first ≡ so_far.first
+    → IsRun (plan_of l g) (Left l g spaces log) (start l) (events_of more) None → Finds l.uniform g so_far log None → (listed : List Entry) → StandsFor [] listed log.accesses → (new : JoinedGroups) → Changes so_far spaces listed new.contents.items → new.first ≡ so_far.first
     → (HasGroup l (suc g) → ((kept : List Access) → IsFootprint so_far.footprint kept → IsFootprint new.footprint (accesses_of log.accesses ++ kept)) × Adds so_far.runs.items new.runs.items more (events_of more))
     → HoldsGroups l (suc g) new
-done_joined l g so_far log more spaces c run finds new changes first further_held =
+done_joined l g so_far log more spaces c run finds listed stand new changes first further_held =
     let part : Part = done_part l g (Left l g spaces log) (events_of more) run in
     let lower = c.holds.joined in
     let r : IsRunning l g lower part log so_far.footprint so_far.runs.items more = done_running l g so_far log more spaces c run in
-    let met : IsFirstMet l.uniform log.accesses r.held.kept None = found_first l g lower part log so_far more r None finds in
+    let met : IsFirstMet l.uniform true log.accesses r.held.kept None = found_first l g lower part log so_far more r None finds in
     let none = none_crosses l g lower part log so_far.footprint so_far.runs.items more r met in
     let clear : IsClear l g lower part so_far.contents.items log.accesses r.held.kept (map (λ row. row.now) so_far.first.items) (map (λ (space : Overlaid). space.bytes) spaces)
     = record {
@@ -288,7 +298,7 @@ done_joined l g so_far log more spaces c run finds new changes first further_hel
       joined = join l lower part;
       is_joined = is_joined l g lower part log so_far.footprint so_far.runs.items more r met refl;
       first = ap (λ (z : Vec (Bor (List ℕ)) Global). map (λ row. row.now) z.items) first ∙ c.holds.first;
-      contents = subst (λ (j : Joined). HoldsBytes l j.memory new.contents.items) (sym (joined_whole l lower part none)) (joined_contents l g lower part so_far.contents.items log.accesses r.held.kept (map (λ row. row.now) so_far.first.items) (map (λ (space : Overlaid). space.bytes) spaces) clear new.contents.items (changes r.held.kept r.held.remembers));
+      contents = subst (λ (j : Joined). HoldsBytes l j.memory new.contents.items) (sym (joined_whole l lower part none)) (joined_contents l g lower part so_far.contents.items log.accesses r.held.kept (map (λ row. row.now) so_far.first.items) (map (λ (space : Overlaid). space.bytes) spaces) clear listed stand new.contents.items (changes r.held.kept r.held.remembers));
       log = λ h. let held = further_held h in log_joined l g lower part log so_far.footprint so_far.runs.items more r new.footprint new.runs.items met (held.0 r.held.kept r.held.remembers) held.1;
     }
 
@@ -300,24 +310,25 @@ both_ok P Q R (Err e) p q f = tt
 -- a group that has ended is joined and its accesses and events added
 pub done_added :
     (l : Launch) (g : ℕ) (so_far : JoinedGroups) (log : Log) (more : List Run) (spaces : List Overlaid) (c : IsGiven l g so_far more)
-    → IsRun (plan_of l g) (Left l g spaces log) (start l) (events_of more) None → Finds l.uniform g so_far log None → (mid new : JoinedGroups) → Changes so_far spaces log mid.contents.items → mid.first ≡ so_far.first
-    → mid.footprint ≡ so_far.footprint → mid.runs ≡ so_far.runs → new.first ≡ mid.first → new.contents ≡ mid.contents
-    → ((kept : List Access) → IsFootprint mid.footprint kept → IsFootprint new.footprint (accesses_of log.accesses ++ kept)) → Adds mid.runs.items new.runs.items more (events_of more)
+    → IsRun (plan_of l g) (Left l g spaces log) (start l) (events_of more) None → Finds l.uniform g so_far log None → (last : Bool) (listed : List Entry) → StandsWith last listed log.accesses → (mid new : JoinedGroups) → Changes so_far spaces listed mid.contents.items
+    → mid.first ≡ so_far.first → mid.footprint ≡ so_far.footprint → mid.runs ≡ so_far.runs → new.first ≡ mid.first → new.contents ≡ mid.contents
+    → ((kept : List Access) → IsFootprint mid.footprint kept → IsFootprint new.footprint (accesses_of listed ++ kept)) → Adds mid.runs.items new.runs.items more (events_of more)
     → HoldsGroups l (suc g) new
-done_added l g so_far log more spaces c run finds mid new changes first footprint runs first2 contents2 remembers adds =
-    done_joined l g so_far log more spaces c run finds new
-    (λ kept k. subst (λ (z : Vec (List ℕ) Global). AreChanged so_far.contents.items z.items (changes_of (value_of (map (λ row. row.now) so_far.first.items) so_far.contents.items (λ n b. wrote kept (region.Buffer n) b) (map (λ (space : Overlaid). space.bytes) spaces)) log.accesses)) (sym contents2) (changes kept k))
+done_added l g so_far log more spaces c run finds last listed stand mid new changes first footprint runs first2 contents2 remembers adds =
+    done_joined l g so_far log more spaces c run finds listed (stands last listed log.accesses stand) new
+    (λ kept k. subst (λ (z : Vec (List ℕ) Global). AreChanged so_far.contents.items z.items (changes_of (value_of (map (λ row. row.now) so_far.first.items) so_far.contents.items (λ n b. wrote kept (region.Buffer n) b) (map (λ (space : Overlaid). space.bytes) spaces)) listed)) (sym contents2) (changes kept k))
     (first2 ∙ first) (λ h. (
-      λ kept k. remembers kept (subst (λ f. IsFootprint f kept) (sym footprint) k),
+      λ kept k. footprint_whole last listed log.accesses kept new.footprint stand (remembers kept (subst (λ f. IsFootprint f kept) (sym footprint) k)),
       subst (λ (z : Vec Run Global). Adds z.items new.runs.items more (events_of more)) runs adds,
     ))
 
 -- the last group is joined
 pub done_last :
     (l : Launch) (g : ℕ) (so_far : JoinedGroups) (log : Log) (more : List Run) (spaces : List Overlaid) (c : IsGiven l g so_far more)
-    → IsRun (plan_of l g) (Left l g spaces log) (start l) (events_of more) None → Finds l.uniform g so_far log None → (mid : JoinedGroups) → Changes so_far spaces log mid.contents.items → mid.first ≡ so_far.first
+    → IsRun (plan_of l g) (Left l g spaces log) (start l) (events_of more) None → Finds l.uniform g so_far log None → (last : Bool) (listed : List Entry) → StandsWith last listed log.accesses → (mid : JoinedGroups) → Changes so_far spaces listed mid.contents.items → mid.first ≡ so_far.first
     → (HasGroup l (suc g) → ⊥) → HoldsGroups l (suc g) mid
-done_last l g so_far log more spaces c run finds mid changes first last = done_joined l g so_far log more spaces c run finds mid changes first (λ h. absurd (last h))
+done_last l g so_far log more spaces c run finds last listed stand mid changes first none =
+    done_joined l g so_far log more spaces c run finds listed (stands last listed log.accesses stand) mid changes first (λ h. absurd (none h))
 
 -- a buffer that another is put in place of, as long as it
 pub front : {A : Type 0} (n : ℕ) (xs rest : List A) → length xs ≡ n → take n (xs ++ rest) ≡ xs

@@ -14,7 +14,6 @@ use Rattle.joining.specs.Join.{Joined}
 use Rattle.joining.specs.Parts.{IsGrouped}
 use Rattle.joining.specs.Steps.{HasGroup, IsJoined}
 use Rattle.shadow.specs.Seen.{IsFootprint}
-use Rattle.shadow_list.specs.Log.{Log}
 use Rattle.shadow.specs.declared.footprint.Footprint.{Footprint}
 use Rattle.snapshot_merge.specs.Memory.{HoldsBytes}
 use Rattle.snapshot_merge.specs.declared.joined_groups.JoinEnd.{JoinEnd}
@@ -58,10 +57,11 @@ CameOfNext launch group (Done number spaces log runs) report so_far = CameOfDone
 CameOfNext launch group (Stopped number fault log runs) (Some report) so_far = IsStopped launch report so_far.runs.items
 CameOfNext launch group (Stopped number fault log runs) None so_far = ⊥
 
--- the log that a join hands back is of the launch's flag (own)
-abbrev pub HandsBack : {L : Type 0} → (L → Log) → Launch → JoinEnd L → Type 0
-HandsBack log_of launch (Goes log) = (log_of log).uniform ≡ launch.uniform
-HandsBack log_of launch (Reports fault) = Unit {0}
+-- the log that a join hands back is that of the result, of a group that has ended (own)
+abbrev pub HandsBack : {G L : Type 0} → GroupResult G L → JoinEnd L → Type 0
+HandsBack (Done number spaces log runs) (Goes back) = back ≡ log
+HandsBack (Stopped number fault log runs) (Goes back) = ⊥
+HandsBack came (Reports fault) = Unit {0}
 
 -- where all groups of a launch are joined without a report, the launch ends clean with what they leave (3.2)
 abbrev pub JoinedConclude : Type 0

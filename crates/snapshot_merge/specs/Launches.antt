@@ -1,11 +1,13 @@
 -- The results of a launch's work-groups, each run apart (OpenCL 1.2, 3.2, 5.8; own).
-use Rattle.std.specs.Prelude.{◌≡◌, ℕ, suc, ◌*◌, ◌≤◌, Option, List, [], ◌∷◌}
+use Rattle.std.specs.Prelude.{◌≡◌, ℕ, suc, ◌*◌, ◌≤◌, Bool, Option, List, [], ◌∷◌}
 use Rattle.clmodel.specs.Launch.{Launch}
 use Rattle.group_run.specs.Results.{IsResult}
 use Rattle.group_run.specs.declared.result.GroupResult.{GroupResult}
 use Rattle.group_run.specs.declared.result.GroupResult.TheVariants.{Done, Stopped}
 use Rattle.joining.specs.Steps.{HasGroup}
+use Rattle.shadow.specs.Lasting.{StandsWith}
 use Rattle.shadow_list.specs.Log.{Log}
+use Rattle.shadow_list.specs.declared.log.Entry.{Entry}
 
 -- The results of the groups from one on, each of which is that of its canonical run on the launch's first memory (3.2): there are results
 -- of all of them, or up to and with one that stopped (own). `bytes` says what a space holds, `log_of` what a log keeps.
@@ -16,10 +18,18 @@ AreResults bytes log_of launch group (Done number spaces log runs ∷ results) =
 AreResults bytes log_of launch group (Stopped number fault log runs ∷ results) =
     HasGroup launch group × IsResult bytes log_of launch group (Stopped number fault log runs) × (results ≡ [])
 
+-- The result of a group, that of its canonical run on the launch's first memory (3.2), with a short list that stands for its log: `listed`
+-- says which entries are there, and `has_last` whether the last of all is one of them (own).
+abbrev pub IsShortResult : {G L : Type 0} → (G → List (Option ℕ)) → (L → List Entry) → (L → Bool) → Launch → ℕ → GroupResult G L → Type 0
+IsShortResult bytes listed has_last launch group (Done number spaces log runs) =
+    (whole : Log) × StandsWith (has_last log) (listed log) whole.accesses × IsResult bytes (λ log. log) launch group (Done number spaces whole runs)
+IsShortResult bytes listed has_last launch group (Stopped number fault log runs) =
+    (whole : Log) × StandsWith (has_last log) (listed log) whole.accesses × IsResult bytes (λ log. log) launch group (Stopped number fault whole runs)
+
 -- The results of the groups from one on up to another, which isn't among them: of all of them, or up to and with one that stopped (own).
-abbrev pub AreResultsTo : {G L : Type 0} → (G → List (Option ℕ)) → (L → Log) → Launch → ℕ → ℕ → List (GroupResult G L) → Type 0
-AreResultsTo bytes log_of launch last group [] = last ≤ group
-AreResultsTo bytes log_of launch last group (Done number spaces log runs ∷ results) =
-    HasGroup launch group × IsResult bytes log_of launch group (Done number spaces log runs) × AreResultsTo bytes log_of launch last (suc group) results
-AreResultsTo bytes log_of launch last group (Stopped number fault log runs ∷ results) =
-    HasGroup launch group × IsResult bytes log_of launch group (Stopped number fault log runs) × (results ≡ [])
+abbrev pub AreResultsTo : {G L : Type 0} → (G → List (Option ℕ)) → (L → List Entry) → (L → Bool) → Launch → ℕ → ℕ → List (GroupResult G L) → Type 0
+AreResultsTo bytes listed has_last launch last group [] = last ≤ group
+AreResultsTo bytes listed has_last launch last group (Done number spaces log runs ∷ results) =
+    HasGroup launch group × IsShortResult bytes listed has_last launch group (Done number spaces log runs) × AreResultsTo bytes listed has_last launch last (suc group) results
+AreResultsTo bytes listed has_last launch last group (Stopped number fault log runs ∷ results) =
+    HasGroup launch group × IsShortResult bytes listed has_last launch group (Stopped number fault log runs) × (results ≡ [])

@@ -27,13 +27,14 @@ abbrev pub MissUpTo : Bool → List Entry → List Access → ℕ → Type 0
 MissUpTo uniform entries kept count =
     (k : ℕ) (e : Entry) → k < count → slice_get entries k ≡ Some e → met_at uniform e.access.region e.access kept ≡ None
 
--- the first of the entries that meets these accesses, if there is one, and whether it is the last of them (own)
-abbrev pub IsFirstMet : Bool → List Entry → List Access → Option Met → Type 0
-IsFirstMet uniform entries kept None = MissUpTo uniform entries kept (length entries)
-IsFirstMet uniform entries kept (Some met) =
+-- the first of the entries that meets these accesses, if there is one, and whether it is the last of its group, which is the last of them
+-- where `has_last` holds (own)
+abbrev pub IsFirstMet : Bool → Bool → List Entry → List Access → Option Met → Type 0
+IsFirstMet uniform has_last entries kept None = MissUpTo uniform entries kept (length entries)
+IsFirstMet uniform has_last entries kept (Some met) =
     (k : ℕ) × (slice_get entries k ≡ Some met.entry) × MissUpTo uniform entries kept k
     × (met_at uniform met.entry.access.region met.entry.access kept ≡ Some met.meeting)
-    × (met.last ≡ (k + 1 == length entries))
+    × (met.last ≡ (has_last && (k + 1 == length entries)))
 
 -- the report where an access meets those of the lower groups: the group's own, if the access is its last and it stopped with a conflict on
 -- a lower byte, else the meeting (own)

@@ -11,8 +11,7 @@ ghost use Rattle.snapshot_merge.specs.Changes.{number_or_0, value_of, changes_at
 use crate::words::joined_number;
 use clmodel::access::{Access, AccessKind, Class, Region, Width};
 use clmodel::text::Bytes;
-use shadow::Footprint;
-use shadow_list::Accesses;
+use shadow::{Footprint, GroupAccesses};
 use spaces::{Overlay, Space};
 use spaces_base::cells::{is_inside, read};
 use std::alloc::{AllocError, Global};
@@ -167,12 +166,12 @@ impl Before<'_, '_, '_, '_> {
     }
 
     /// The changes that the accesses of the further group make, in their order. An error is out of memory.
-    pub(crate) fn changes<L: Accesses>(
+    pub(crate) fn changes<L: GroupAccesses>(
         &self,
         alloc: Global,
         log: &L,
     ) -> Result<Vec<Change>, AllocError>
-        ensures { IfOk result (λ changes. (kept : List TheAccess) → IsFootprint self.now.footprint.now kept → changes.items ≡ changes_of (value_of (map (λ row. row.now) self.now.first.now) self.now.lower.now (λ n b. joining.wrote kept (region.Buffer n) b) (map (λ space. space.bytes) self.now.own.now)) (L.log log.now).accesses) }
+        ensures { IfOk result (λ changes. (kept : List TheAccess) → IsFootprint self.now.footprint.now kept → changes.items ≡ changes_of (value_of (map (λ row. row.now) self.now.first.now) self.now.lower.now (λ n b. joining.wrote kept (region.Buffer n) b) (map (λ space. space.bytes) self.now.own.now)) (L.listed log.now)) }
     {
         let mut changes = Vec::new(alloc);
         for i in 0..log.len() {

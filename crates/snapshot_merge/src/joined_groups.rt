@@ -7,15 +7,18 @@ ghost use Rattle.clmodel.specs.Run.{start};
 ghost use Rattle.clmodel.specs.declared.access.Access.{Access as TheAccess};
 ghost use Rattle.clmodel.specs.declared.access.Region.TheVariants as region;
 ghost use Rattle.group_run.specs.Logs.{accesses_of, IsLogged};
-ghost use Rattle.group_run.specs.Results.{IsResult, Leaves};
+ghost use Rattle.group_run.specs.Results.{Leaves};
 ghost use Rattle.item_step.specs.Launches.{setup_of};
 ghost use Rattle.joining.specs.Group.{IsRun, plan_of};
 ghost use Rattle.joining.specs.Memory as joining;
 ghost use Rattle.joining.specs.Parts.{IsGrouped};
 ghost use Rattle.joining.specs.Steps.{HasGroup};
+ghost use Rattle.shadow.specs.Lasting.{StandsWith};
 ghost use Rattle.shadow.specs.Seen.{IsFootprint};
+ghost use Rattle.shadow_list.specs.Log.{Log};
 ghost use Rattle.spaces_base.specs.Buffers.{bytes_in};
 ghost use Rattle.snapshot_merge.specs.Changes.{AreChanged, changes_of, value_of};
+ghost use Rattle.snapshot_merge.specs.Launches.{IsShortResult};
 ghost use Rattle.snapshot_merge.specs.Meetings.{AreOthers, IsFirstMet, report_at};
 ghost use Rattle.snapshot_merge.specs.Runs.{Adds};
 ghost use Rattle.snapshot_merge.specs.JoinedGroups.{HoldsGroups, IsStopped, CameOfDone, CameOfNext, HandsBack, report_of};
@@ -30,8 +33,7 @@ use clmodel::text::{Bytes, Name};
 use group_run::GroupResult;
 use item_step::Launch;
 use launches::Described;
-use shadow::Footprint;
-use shadow_list::Accesses;
+use shadow::{Footprint, GroupAccesses};
 use spaces::Overlay;
 use spaces_base::Buffers;
 use std::alloc::{AllocError, Global};
@@ -104,8 +106,8 @@ impl<'a> JoinedGroups<'a> {
     }
 
     /// The first access of a group's log that conflicts with the lower groups', by whether the launch is uniform: group 0 has none.
-    fn first_met<L: Accesses>(&self, uniform: bool, group: u32, log: &L) -> Option<Met>
-        ensures { (kept : List TheAccess) → IsFootprint self.now.footprint kept → (group ≡ 0 → kept ≡ []) → AreOthers (L.log log.now).accesses kept → IsFirstMet uniform (L.log log.now).accesses kept result }
+    fn first_met<L: GroupAccesses>(&self, uniform: bool, group: u32, log: &L) -> Option<Met>
+        ensures { (kept : List TheAccess) → IsFootprint self.now.footprint kept → (group ≡ 0 → kept ≡ []) → AreOthers (L.listed log.now) kept → IsFirstMet uniform (L.has_last log.now) (L.listed log.now) kept result }
     {
         if group == 0 {
             return None;
@@ -114,13 +116,13 @@ impl<'a> JoinedGroups<'a> {
     }
 
     /// Leaves in the contents what a further group, of which nothing crosses, leaves.
-    fn change<L: Accesses>(
+    fn change<L: GroupAccesses>(
         &mut self,
         alloc: Global,
         spaces: &[Overlay<'_>],
         log: &L,
     ) -> Result<(), AllocError>
-        ensures changed { OnOk result ((kept : List TheAccess) → IsFootprint self.old.footprint kept → AreChanged self.old.contents.items self.new.contents.items (changes_of (value_of (map (λ row. row.now) self.old.first.items) self.old.contents.items (λ n b. joining.wrote kept (region.Buffer n) b) (map (λ space. space.bytes) spaces.now)) (L.log log.now).accesses)) }
+        ensures changed { OnOk result ((kept : List TheAccess) → IsFootprint self.old.footprint kept → AreChanged self.old.contents.items self.new.contents.items (changes_of (value_of (map (λ row. row.now) self.old.first.items) self.old.contents.items (λ n b. joining.wrote kept (region.Buffer n) b) (map (λ space. space.bytes) spaces.now)) (L.listed log.now))) }
         ensures first { self.new.first ≡ self.old.first }
         ensures footprint { self.new.footprint ≡ self.old.footprint }
         ensures runs { self.new.runs ≡ self.old.runs }
@@ -137,13 +139,13 @@ impl<'a> JoinedGroups<'a> {
     }
 
     /// Adds the accesses and the events of a group.
-    fn add<L: Accesses>(
+    fn add<L: GroupAccesses>(
         &mut self,
         alloc: Global,
         log: &L,
         runs: &Schedule,
     ) -> Result<(), AllocError>
-        ensures accesses { OnOk result ((kept : List TheAccess) → IsFootprint self.old.footprint kept → IsFootprint self.new.footprint (accesses_of (L.log log.now).accesses ++ kept)) }
+        ensures accesses { OnOk result ((kept : List TheAccess) → IsFootprint self.old.footprint kept → IsFootprint self.new.footprint (accesses_of (L.listed log.now) ++ kept)) }
         ensures runs { OnOk result (Adds self.old.runs.items self.new.runs.items runs.now (events_of runs.now)) }
         ensures first { self.new.first ≡ self.old.first }
         ensures contents { self.new.contents ≡ self.old.contents }
@@ -168,7 +170,7 @@ impl<'a> JoinedGroups<'a> {
     }
 
     /// Joins a group that has ended: the report of its first access that conflicts with a lower group's, if there is one.
-    fn join_done<D: Described, L: Accesses>(
+    fn join_done<D: Described, L: GroupAccesses>(
         &mut self,
         alloc: Global,
         launch: &D,
@@ -182,7 +184,7 @@ impl<'a> JoinedGroups<'a> {
         requires further { HasGroup (D.launch launch.now) (suc number.group) → number.further ≡ true }
         requires so_far { HoldsGroups (D.launch launch.now) number.group self.old }
         requires merged { IsMerged runs.now }
-        requires ran { IsRun (plan_of (D.launch launch.now) number.group) (Leaves (λ space. space.bytes) (plan_of (D.launch launch.now) number.group) spaces.now (L.log log.now)) (start (D.launch launch.now)) (events_of runs.now) None }
+        requires ran { (whole : Log) × StandsWith (L.has_last log.now) (L.listed log.now) whole.accesses × IsRun (plan_of (D.launch launch.now) number.group) (Leaves (λ space. space.bytes) (plan_of (D.launch launch.now) number.group) spaces.now whole) (start (D.launch launch.now)) (events_of runs.now) None }
         ensures { IfOk result (λ report. CameOfDone (D.launch launch.now) number.group report self.new) }
     {
         laws();
@@ -199,7 +201,7 @@ impl<'a> JoinedGroups<'a> {
     }
 
     /// Joins a group that has stopped: its report, or that of its first access that conflicts with a lower group's, if there is one.
-    fn join_stopped<D: Described, L: Accesses>(
+    fn join_stopped<D: Described, L: GroupAccesses>(
         &mut self,
         launch: &D,
         group: u32,
@@ -211,7 +213,7 @@ impl<'a> JoinedGroups<'a> {
         requires there { HasGroup (D.launch launch.now) group }
         requires so_far { HoldsGroups (D.launch launch.now) group self.old }
         requires merged { IsMerged runs.now }
-        requires ran { IsRun (plan_of (D.launch launch.now) group) (IsLogged (plan_of (D.launch launch.now) group) (L.log log.now)) (start (D.launch launch.now)) (events_of runs.now) (Some fault) }
+        requires ran { (whole : Log) × StandsWith (L.has_last log.now) (L.listed log.now) whole.accesses × IsRun (plan_of (D.launch launch.now) group) (IsLogged (plan_of (D.launch launch.now) group) whole) (start (D.launch launch.now)) (events_of runs.now) (Some fault) }
         ensures { IfOk result (λ report. IsStopped (D.launch launch.now) report self.new.runs.items) }
     {
         laws();
@@ -226,7 +228,7 @@ impl<'a> JoinedGroups<'a> {
 
     /// Joins the result of one more group: its report, or that of its first access that conflicts with a lower group's, if there is one.
     /// Where no further group is to be joined, its accesses and events aren't added. An error is out of memory.
-    pub(crate) fn join<D: Described, L: Accesses + Drop>(
+    pub(crate) fn join<D: Described, L: GroupAccesses + Drop>(
         &mut self,
         alloc: Global,
         launch: &D,
@@ -237,9 +239,9 @@ impl<'a> JoinedGroups<'a> {
         requires there { HasGroup (D.launch launch.now) number.group }
         requires further { HasGroup (D.launch launch.now) (suc number.group) → number.further ≡ true }
         requires so_far { HoldsGroups (D.launch launch.now) number.group self.old }
-        requires result { IsResult (λ overlay. overlay.bytes) L.log (D.launch launch.now) number.group came }
+        requires result { IsShortResult (λ overlay. overlay.bytes) L.listed L.has_last (D.launch launch.now) number.group came }
         ensures came { IfOk result (λ end. CameOfNext (D.launch launch.now) number.group came.entry (report_of end) self.new) }
-        ensures log { IfOk result (HandsBack L.log (D.launch launch.now)) }
+        ensures log { IfOk result (HandsBack came.entry) }
     {
         match came {
             GroupResult::Done {

@@ -1,6 +1,6 @@
 //! Conflicts of a work-group's accesses with those of the lower groups.
 
-ghost use Rattle.std.specs.Prelude.{◌≡◌, ◌<◌, ◌+◌, ◌++◌, ◌^◌, List, Some, IfOk, OnOk};
+ghost use Rattle.std.specs.Prelude.{◌≡◌, ◌<◌, ◌+◌, ◌++◌, ◌^◌, ◌==◌, ◌&&◌, List, length, Some, IfOk, OnOk};
 ghost use Rattle.clmodel.specs.Cells.{byte_count};
 ghost use Rattle.clmodel.specs.declared.access.Access.{Access as TheAccess};
 ghost use Rattle.group_run.specs.Logs.{accesses_of};
@@ -10,9 +10,18 @@ ghost use Rattle.snapshot_merge.specs.Meetings.{AreOthers, IsFirstMet, is_below,
 use clmodel::fault::Fault;
 use group_run::conflict_fault;
 use launches::Described;
-use shadow::{Footprint, Meeting};
-use shadow_list::{Accesses, Entry};
+use shadow::{Footprint, GroupAccesses, Meeting};
+use shadow_list::Entry;
 use std::alloc::{AllocError, Global};
+
+/// Whether an access is the last of its group.
+fn is_last<L: GroupAccesses>(log: &L, i: usize) -> bool
+    requires { i < length (L.listed log.now) }
+    ensures { result ≡ (L.has_last log.now && (i + 1 == length (L.listed log.now))) }
+{
+    let count = log.len();
+    log.has_last() && i + 1 == count
+}
 
 /// The first access of a group that conflicts with the lower groups' accesses, the conflict, and whether it is the group's last access.
 #[derive(Clone, Copy)]
@@ -22,31 +31,34 @@ pub(crate) struct Met {
     pub(crate) last: bool,
 }
 
-/// The first access of a log that conflicts with those of lower groups, by whether the launch is uniform.
-pub(crate) fn first_met<L: Accesses>(uniform: bool, footprint: &Footprint, log: &L) -> Option<Met>
-    ensures { (kept : List TheAccess) → IsFootprint footprint.now kept → AreOthers (L.log log.now).accesses kept → IsFirstMet uniform (L.log log.now).accesses kept result }
+/// The first access of a group that conflicts with those of lower groups, by whether the launch is uniform.
+pub(crate) fn first_met<L: GroupAccesses>(
+    uniform: bool,
+    footprint: &Footprint,
+    log: &L,
+) -> Option<Met>
+    ensures { (kept : List TheAccess) → IsFootprint footprint.now kept → AreOthers (L.listed log.now) kept → IsFirstMet uniform (L.has_last log.now) (L.listed log.now) kept result }
 {
-    let count = log.len();
-    for i in 0..count {
+    for i in 0..log.len() {
         let entry = log.get(i);
         if let Some(meeting) = footprint.meeting(uniform, &entry.access) {
             return Some(Met {
                 entry,
                 meeting,
-                last: i + 1 == count,
+                last: is_last(log, i),
             });
         }
     }
     None
 }
 
-/// Adds the accesses of a log. An error is out of memory.
-pub(crate) fn add_accesses<L: Accesses>(
+/// Adds the accesses of a group. An error is out of memory.
+pub(crate) fn add_accesses<L: GroupAccesses>(
     alloc: Global,
     footprint: &mut Footprint,
     log: &L,
 ) -> Result<(), AllocError>
-    ensures { OnOk result ((kept : List TheAccess) → IsFootprint footprint.old kept → IsFootprint footprint.new (accesses_of (L.log log.now).accesses ++ kept)) }
+    ensures { OnOk result ((kept : List TheAccess) → IsFootprint footprint.old kept → IsFootprint footprint.new (accesses_of (L.listed log.now) ++ kept)) }
 {
     for i in 0..log.len() {
         footprint.add(alloc, &log.get(i).access)?;

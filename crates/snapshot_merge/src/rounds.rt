@@ -15,7 +15,7 @@ use clmodel::outcome::Outcome;
 use group_run::GroupResult;
 use item_step::Launch;
 use launches::{LoadedLaunch, group_count};
-use shadow_list::Accesses;
+use shadow::GroupAccesses;
 use spaces::Overlay;
 use spaces_base::Buffers;
 use std::alloc::{AllocError, Global};
@@ -31,7 +31,7 @@ pub enum RoundEnd<'a> {
 
 /// Joins the results of the groups from one on up to another, which isn't among them, in their order (OpenCL 1.2, section 3.2). The
 /// results are those of all of them, or up to and with one that stopped. Each result is let go once it is joined. An error is out of memory.
-pub fn join_round<'a, L: Accesses + Drop>(
+pub fn join_round<'a, L: GroupAccesses + Drop>(
     alloc: Global,
     launch: &Launch<'_>,
     buffers: &Buffers,
@@ -43,7 +43,7 @@ pub fn join_round<'a, L: Accesses + Drop>(
     requires whole { HasGroups (setup_of launch.now) }
     requires order { first ≤ last }
     requires so_far { HoldsGroups (launch_of (setup_of launch.now) (bytes_in buffers.now)) first so_far }
-    requires results { AreResultsTo (λ overlay. overlay.bytes) L.log (launch_of (setup_of launch.now) (bytes_in buffers.now)) last first results.items }
+    requires results { AreResultsTo (λ overlay. overlay.bytes) L.listed L.has_last (launch_of (setup_of launch.now) (bytes_in buffers.now)) last first results.items }
     ensures { IfOk result (CameOfRound (launch_of (setup_of launch.now) (bytes_in buffers.now)) last) }
 {
     let groups = group_count(launch);

@@ -87,10 +87,8 @@ impl<'a> Overlay<'a> {
         }
         let found = self.number(at as usize, 4) as u32;
         let value = makes(found);
-        match self.put(at as usize, 4, value as u64) {
-            Ok(()) => Ok(found),
-            Err(_) => Err(SpaceFault::OutOfMemory),
-        }
+        self.put(at as usize, 4, value as u64)?;
+        Ok(found)
     }
 }
 
@@ -121,10 +119,8 @@ impl<'a> Space for Overlay<'a> {
         if !self.is_inside(at, count) {
             return Err(SpaceFault::Bounds);
         }
-        match self.put(at as usize, count as usize, value) {
-            Ok(()) => Ok(()),
-            Err(_) => Err(SpaceFault::OutOfMemory),
-        }
+        self.put(at as usize, count as usize, value)?;
+        Ok(())
     }
 
     fn update(&mut self, at: u64, class: Class, operand: u32) -> Result<(), SpaceFault>

@@ -35,6 +35,7 @@ fn fill(buffer: &mut Bytes, offset: usize, count: usize, pattern: &[u8])
     requires even { 256 % length pattern.now ≡ 0 }
     ensures { buffer.new ≡ with_bytes buffer.old offset (repeated pattern.now count) }
 {
+    // the proof reads from it that a length, and so each offset below it, is a `usize`
     let _size = buffer.len();
     let block = block_of(pattern);
     let whole = count / BLOCK;

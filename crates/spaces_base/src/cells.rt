@@ -42,24 +42,29 @@ impl Cell for Option<u8> {
     }
 }
 
+/// A byte of a row that has no value yet.
+#[derive(Clone, Copy, Debug, PartialEq, Eq)]
+pub struct Unset {
+    /// Its number in the row, from 0
+    pub byte: u64,
+}
+
 /// The number of n bytes, or the lowest of them that is unset.
-pub fn read<C: Cell>(cells: &[C], first: usize, count: usize) -> Result<u64, u64>
+pub fn read<C: Cell>(cells: &[C], first: usize, count: usize) -> Result<u64, Unset>
     requires short { count ≤ 8 }
     requires inside { first + count ≤ length cells.now }
     ensures value { IfOk result (λ value. number (cells_of (map C.content cells.now)) first count ≡ Some value) }
     ensures below { IfOk result (λ value. value < 256 ^ count) }
-    ensures unset { IfErr result (λ byte. lowest_unset (cells_of (map C.content cells.now)) first count ≡ Some byte) }
+    ensures unset { IfErr result (λ unset. lowest_unset (cells_of (map C.content cells.now)) first count ≡ Some unset.byte) }
 {
     if count == 0 {
         return Ok(0);
     }
     let Some(low) = cells[first].byte() else {
-        return Err(first as u64);
+        return Err(Unset { byte: first as u64 });
     };
-    match read(cells, first + 1, count - 1) {
-        Ok(high) => Ok(low as u64 + 256 * high),
-        Err(byte) => Err(byte),
-    }
+    let high = read(cells, first + 1, count - 1)?;
+    Ok(low as u64 + 256 * high)
 }
 
 /// Puts the low n bytes of a value into a row.

@@ -77,14 +77,10 @@ impl<C: Cell> Row<C> {
         if !is_inside(self.cells.len(), at, 4) {
             return Err(SpaceFault::Bounds);
         }
-        match read(self.cells.as_slice(), at as usize, 4) {
-            Ok(found) => {
-                let value = makes(found as u32);
-                put(self.cells.as_mut_slice(), at as usize, 4, value as u64);
-                Ok(found as u32)
-            }
-            Err(byte) => Err(SpaceFault::Unset(byte)),
-        }
+        let found = read(self.cells.as_slice(), at as usize, 4)? as u32;
+        let value = makes(found);
+        put(self.cells.as_mut_slice(), at as usize, 4, value as u64);
+        Ok(found)
     }
 }
 
@@ -104,10 +100,7 @@ impl<C: Cell> Space for Row<C> {
         if !is_inside(self.cells.len(), at, count) {
             return Err(SpaceFault::Bounds);
         }
-        match read(self.cells.as_slice(), at as usize, count as usize) {
-            Ok(value) => Ok(value),
-            Err(byte) => Err(SpaceFault::Unset(byte)),
-        }
+        Ok(read(self.cells.as_slice(), at as usize, count as usize)?)
     }
 
     fn store(&mut self, at: u64, width: Width, value: u64) -> Result<(), SpaceFault> {

@@ -3,7 +3,9 @@
 ghost use Rattle.std.specs.Prelude.{◌≡◌, ℕ, List, Option, Bool, length};
 ghost use Rattle.spaces_base.specs.Space.{IsLoaded, IsStored, IsUpdated, IsFetched};
 
+use crate::cells::Unset;
 use clmodel::access::{Class, FetchOp, Width};
+use std::alloc::AllocError;
 use thiserror::Error;
 
 /// Why an access to a space can't be done. The space is as before then.
@@ -21,6 +23,28 @@ pub enum SpaceFault {
     /// 4: no memory is left to keep what is stored
     #[error("out of memory")]
     OutOfMemory,
+}
+
+impl From<Unset> for SpaceFault {
+    ghost use Rattle.std.specs.Prelude.{◌≡◌};
+    ghost use Rattle.spaces_base.specs.declared.space.SpaceFault.TheVariants as space_fault;
+
+    ghost from_gives = { λ unset made. made ≡ space_fault.Unset unset.byte };
+
+    fn from(unset: Unset) -> Self {
+        SpaceFault::Unset(unset.byte)
+    }
+}
+
+impl From<AllocError> for SpaceFault {
+    ghost use Rattle.std.specs.Prelude.{◌≡◌};
+    ghost use Rattle.spaces_base.specs.declared.space.SpaceFault.TheVariants as space_fault;
+
+    ghost from_gives = { λ _ made. made ≡ space_fault.OutOfMemory };
+
+    fn from(_: AllocError) -> Self {
+        SpaceFault::OutOfMemory
+    }
 }
 
 /// The bytes of an object, some of which may be unset, seen as their list. Bytes are numbered from 0 (OpenCL 1.2, section 3.3).

@@ -64,23 +64,19 @@ impl<W: io::Write + Drop> Write for Output<W> {
     ghost sink = { λ w. record { written = writer_contents W.contents w.inner; held = writer_buffer w.inner; failed = w.failed } };
 
     fn write(&mut self, bytes: &[u8]) -> Result<(), WriteFailed> {
-        match push_all(&mut self.inner, bytes) {
-            Ok(()) => Ok(()),
-            Err(WriteFailed) => {
-                self.failed = self.failed.saturating_add(1);
-                Err(WriteFailed)
-            }
+        let pushed = push_all(&mut self.inner, bytes);
+        if pushed.is_err() {
+            self.failed = self.failed.saturating_add(1);
         }
+        pushed
     }
 
     fn flush(&mut self) -> Result<(), WriteFailed> {
-        match self.inner.flush() {
-            Ok(()) => Ok(()),
-            Err(_) => {
-                self.failed = self.failed.saturating_add(1);
-                Err(WriteFailed)
-            }
+        if self.inner.flush().is_err() {
+            self.failed = self.failed.saturating_add(1);
+            return Err(WriteFailed);
         }
+        Ok(())
     }
 }
 

@@ -104,7 +104,7 @@ pub fn desks_of<'a, D: Machine<C, R>, C: Drop, R: Drop>(
 }
 
 /// Drives once, and tells how many tickets are answered then: 0 where no request was there.
-fn answered<D: Machine<C, R>, C: Drop, R: Drop>(
+pub fn answered<D: Machine<C, R>, C: Drop, R: Drop>(
     queue: &Queue<D, C, R>,
     driver: &mut Driver<D, C, R>,
 ) -> u64

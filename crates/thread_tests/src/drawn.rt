@@ -2,6 +2,7 @@
 use crate::gates::{Counting, HighFirst, Meeting};
 use crate::numbers::{Ended, Numbers};
 use std::test::Fail;
+use workers_draw::gather::accept;
 use workers_draw::run::run_groups;
 
 /// The number of no group.
@@ -21,11 +22,11 @@ fn all_groups_in_their_order(rt: HostRuntime) -> Result<(), Fail> {
             low: NONE,
             high: NONE,
         };
-        let gate = Counting::new();
+        let gate = Counting::new(rt.alloc(), count)?;
         let results = run_groups(&rt, rt.alloc(), &groups, workers, &gate)?;
         assert_eq!(rt; results.len(), count as usize);
         assert!(rt; are_in_order(results.as_slice()));
-        assert!(rt; gate.calls() == (count as u64, count as u64));
+        assert!(rt; gate.has_each_once());
     }
     Ok(())
 }
@@ -52,7 +53,7 @@ fn the_least_group_that_stops(rt: HostRuntime) -> Result<(), Fail> {
         low: 0,
         high: 1,
     };
-    let gate = HighFirst::new();
+    let gate = HighFirst::new(0, 1);
     let results = run_groups(&rt, rt.alloc(), &groups, 2, &gate)?;
     assert!(rt; gate.has_waited());
     assert_eq!(rt; results.len(), 1);
@@ -68,11 +69,32 @@ fn the_groups_below_one_that_stops(rt: HostRuntime) -> Result<(), Fail> {
         low: 1,
         high: 39,
     };
-    let gate = HighFirst::new();
+    let gate = HighFirst::new(0, 1);
     let results = run_groups(&rt, rt.alloc(), &groups, 2, &gate)?;
     assert!(rt; gate.has_waited());
     assert_eq!(rt; results.len(), 2);
     assert!(rt; results[0].group == 0 && !results[0].stopped);
     assert!(rt; results[1].group == 1 && results[1].stopped);
+    Ok(())
+}
+
+/// Neither a second result of a group nor one of no group is taken.
+#[test]
+fn a_group_is_taken_once(rt: HostRuntime) -> Result<(), Fail> {
+    let groups = Numbers {
+        count: 2,
+        low: NONE,
+        high: NONE,
+    };
+    let mut places: Vec<Option<Ended>> = Vec::new(rt.alloc());
+    places.push(None)?;
+    places.push(None)?;
+    for (group, is_taken) in [(1u32, true), (1, false), (2, false), (0, true)] {
+        let ended = Ended {
+            group,
+            stopped: false,
+        };
+        assert_eq!(rt; accept(&groups, &mut places, ended).is_ok(), is_taken);
+    }
     Ok(())
 }

@@ -1,13 +1,14 @@
 //! Gates that hold groups.
+use std::alloc::{AllocError, Global};
 use std::sync::atomic::{AtomicU64, Ordering};
 use std::thread;
 use workers_draw::gate::Gate;
 
-/// How often a group looks whether it may go on.
+/// How often a count is looked at.
 const TURNS: u32 = 10_000_000;
 
 /// Looks until a count has come to a number, and answers whether it has.
-fn comes_to(count: &AtomicU64, number: u64) -> bool {
+pub fn comes_to(count: &AtomicU64, number: u64) -> bool {
     for _ in 0..TURNS {
         if count.load(Ordering::SeqCst) >= number {
             return true;
@@ -52,23 +53,27 @@ impl Gate for Meeting {
     fn leave(&self, _group: u32) {}
 }
 
-/// Holds group 0 until group 1 has left.
+/// Holds one group until another has left.
 #[derive(Drop)]
 pub struct HighFirst {
+    low: u32,
+    high: u32,
     left: AtomicU64,
     waited: AtomicU64,
 }
 
 impl HighFirst {
-    /// A gate that no group has left.
-    pub fn new() -> Self {
+    /// A gate that no group has left. It holds group `low`.
+    pub fn new(low: u32, high: u32) -> Self {
         HighFirst {
+            low,
+            high,
             left: AtomicU64::new(0),
             waited: AtomicU64::new(0),
         }
     }
 
-    /// Whether group 0 went on since group 1 had left.
+    /// Whether the group that is held went on since the other had left.
     pub fn has_waited(&self) -> bool {
         self.waited.load(Ordering::SeqCst) == 1
     }
@@ -76,49 +81,68 @@ impl HighFirst {
 
 impl Gate for HighFirst {
     fn enter(&self, group: u32) {
-        if group == 0 && comes_to(&self.left, 1) {
+        if group == self.low && comes_to(&self.left, 1) {
             self.waited.fetch_add(1, Ordering::SeqCst);
         }
     }
 
     fn leave(&self, group: u32) {
-        if group == 1 {
+        if group == self.high {
             self.left.fetch_add(1, Ordering::SeqCst);
         }
     }
 }
 
-/// Counts the calls.
+/// Counts the calls for each of some groups, and those for others.
 #[derive(Drop)]
 pub struct Counting {
-    entered: AtomicU64,
-    left: AtomicU64,
+    entered: Vec<AtomicU64>,
+    left: Vec<AtomicU64>,
+    others: AtomicU64,
+}
+
+/// So many counts of 0.
+fn counts(alloc: Global, count: u32) -> Result<Vec<AtomicU64>, AllocError> {
+    let mut counts = Vec::new(alloc);
+    for _ in 0..count {
+        counts.push(AtomicU64::new(0))?;
+    }
+    Ok(counts)
 }
 
 impl Counting {
-    /// A gate that wasn't called.
-    pub fn new() -> Self {
-        Counting {
-            entered: AtomicU64::new(0),
-            left: AtomicU64::new(0),
-        }
+    /// A gate for so many groups that wasn't called.
+    pub fn new(alloc: Global, groups: u32) -> Result<Self, AllocError> {
+        Ok(Counting {
+            entered: counts(alloc, groups)?,
+            left: counts(alloc, groups)?,
+            others: AtomicU64::new(0),
+        })
     }
 
-    /// How often groups have entered, and left.
-    pub fn calls(&self) -> (u64, u64) {
-        (
-            self.entered.load(Ordering::SeqCst),
-            self.left.load(Ordering::SeqCst),
-        )
+    /// Whether each of the groups has entered once and left once, and no other group has.
+    pub fn has_each_once(&self) -> bool {
+        let once = |count: &AtomicU64| count.load(Ordering::SeqCst) == 1;
+        self.entered.iter().all(once)
+            && self.left.iter().all(once)
+            && self.others.load(Ordering::SeqCst) == 0
+    }
+
+    /// A call for a group.
+    fn count(&self, counts: &Vec<AtomicU64>, group: u32) {
+        match counts.get(group as usize) {
+            Some(count) => count.fetch_add(1, Ordering::SeqCst),
+            None => self.others.fetch_add(1, Ordering::SeqCst),
+        };
     }
 }
 
 impl Gate for Counting {
-    fn enter(&self, _group: u32) {
-        self.entered.fetch_add(1, Ordering::SeqCst);
+    fn enter(&self, group: u32) {
+        self.count(&self.entered, group);
     }
 
-    fn leave(&self, _group: u32) {
-        self.left.fetch_add(1, Ordering::SeqCst);
+    fn leave(&self, group: u32) {
+        self.count(&self.left, group);
     }
 }

@@ -2,6 +2,8 @@
 #![tactic(auto)]
 
 #[cfg(test)]
+mod agreed;
+#[cfg(test)]
 mod desk;
 #[cfg(test)]
 mod device_clients;
@@ -20,4 +22,8 @@ mod scripts;
 #[cfg(test)]
 mod tally;
 #[cfg(test)]
+mod turns;
+#[cfg(test)]
 mod two_workers;
+#[cfg(test)]
+mod waiting;

@@ -25,12 +25,34 @@ struct Line {
 /// A desk after its thread's work.
 #[derive(Drop)]
 struct Report<'a> {
-    desk: Seated<'a>,
+    /// None where it left
+    desk: Option<Seated<'a>>,
     lines: Vec<Line>,
 }
 
-/// Asks 256 times for the desk's number to be added.
-fn work<'a, W: Wait>(rt: &W, alloc: Global, desk: Seated<'a>) -> Result<Report<'a>, AllocError> {
+/// Submits 256 requests, collects none of their replies, and leaves.
+fn leave<'a>(alloc: Global, desk: Seated<'a>) -> Result<Report<'a>, AllocError> {
+    let mut desk = desk;
+    let add = u32::from(desk.number);
+    for _ in 0..256 {
+        desk.is_full(alloc, add)?;
+    }
+    Ok(Report {
+        desk: None,
+        lines: Vec::new(alloc),
+    })
+}
+
+/// Asks 256 times for the desk's number to be added, unless it is the desk that leaves.
+fn work<'a, W: Wait>(
+    rt: &W,
+    alloc: Global,
+    desk: Seated<'a>,
+    leaver: u8,
+) -> Result<Report<'a>, AllocError> {
+    if desk.number == leaver {
+        return leave(alloc, desk);
+    }
     let mut desk = desk;
     let add = u32::from(desk.number);
     let mut lines = Vec::new(alloc);
@@ -39,52 +61,58 @@ fn work<'a, W: Wait>(rt: &W, alloc: Global, desk: Seated<'a>) -> Result<Report<'
             lines.push(Line { ticket, add, reply })?;
         }
     }
-    Ok(Report { desk, lines })
+    Ok(Report {
+        desk: Some(desk),
+        lines,
+    })
 }
 
-/// Lets all desks work, each in a thread of its own, while another drives.
+/// Lets all desks work, each in a thread of its own, while another drives until so many tickets are answered. One desk may leave.
 fn serve<'a, W: Threads + Wait + Sync>(
     rt: &W,
     alloc: Global,
     queue: &'a Queue<Tally, u32, u32>,
     desks: Vec<Seated<'a>>,
     driver: Driver<Tally, u32, u32>,
+    leaver: u8,
+    count: u64,
 ) -> Result<(Vec<Result<Report<'a>, AllocError>>, Driver<Tally, u32, u32>), AllocError>
     requires one { driver.seat.table_id ≡ queue.now.table.shared.table_id }
     ensures { IfOk result (λ r. r.1.seat.table_id ≡ queue.now.table.shared.table_id) }
 {
     let (reports, driver) = thread::join(
         rt,
-        || thread::map_vec(rt, desks, &|desk| work(rt, alloc, desk)),
+        || thread::map_vec(rt, desks, &|desk| work(rt, alloc, desk, leaver)),
         move || -> Driver<Tally, u32, u32>
             requires { driver.seat.table_id ≡ queue.now.table.shared.table_id }
             ensures { result.seat.table_id ≡ queue.entry.now.table.shared.table_id }
-        { drive(rt, queue, driver, 4096) },
+        { drive(rt, queue, driver, count) },
     );
     Ok((reports?, driver))
 }
 
 /// Puts the lines at their tickets.
-fn gather(history: &mut Vec<u32>, replies: &mut Vec<u32>, lines: &Vec<Line>) {
+fn gather(history: &mut Vec<u32>, replies: &mut Vec<Option<u32>>, lines: &Vec<Line>) {
     for line in lines.iter() {
         let at = line.ticket as usize;
         if at < history.len() && at < replies.len() {
             history[at] = line.add;
-            replies[at] = line.reply;
+            replies[at] = Some(line.reply);
         }
     }
 }
 
-/// How many replies are the sums up to them, from the first one on.
-fn exact(history: &Vec<u32>, replies: &Vec<u32>) -> usize {
+/// How many replies are the sums up to them.
+fn exact(history: &Vec<u32>, replies: &Vec<Option<u32>>) -> usize {
     let mut total = 0u32;
-    for (at, (add, reply)) in history.iter().zip(replies.iter()).enumerate() {
+    let mut exact = 0usize;
+    for (add, reply) in history.iter().zip(replies.iter()) {
         total = total.wrapping_add(*add);
-        if *add == 0 || *reply != total {
-            return at;
+        if *reply == Some(total) {
+            exact = exact.wrapping_add(1);
         }
     }
-    history.len()
+    exact
 }
 
 #[test]
@@ -92,17 +120,37 @@ fn sixteen_clients_have_one_history(rt: HostRuntime) -> Result<(), Fail> {
     let alloc: Global = rt.alloc();
     let (queue, clients, driver) = open(alloc, Tally { total: 0 }, 16)?;
     let desks = desks_of(alloc, &queue, clients)?;
-    let (reports, driver) = serve(&rt, alloc, &queue, desks, driver)?;
+    let (reports, driver) = serve(&rt, alloc, &queue, desks, driver, 0, 4096)?;
     let mut history = Vec::from_elem(alloc, 0u32, 4096)?;
-    let mut replies = Vec::from_elem(alloc, 0u32, 4096)?;
+    let mut replies = Vec::from_elem(alloc, None, 4096)?;
     for report in reports {
-        let mut report = report?;
-        assert_eq!(rt; report.lines.len(), 256);
-        assert!(rt; report.desk.is_full(alloc, 1)?);
-        gather(&mut history, &mut replies, &report.lines);
+        let Report { desk, lines } = report?;
+        let Some(mut desk) = desk else {
+            panic!(rt; "no desk")
+        };
+        assert!(rt; desk.is_full(alloc, 1)?);
+        gather(&mut history, &mut replies, &lines);
     }
     assert_eq!(rt; exact(&history, &replies), 4096);
     let machine = close(&rt, queue, Vec::new(alloc), driver);
     assert_eq!(rt; machine.total, 256 * 136);
+    Ok(())
+}
+
+/// The desk 1 leaves with 256 replies uncollected, while three others work: each reply of theirs is exact.
+#[test]
+fn one_of_four_leaves(rt: HostRuntime) -> Result<(), Fail> {
+    let alloc: Global = rt.alloc();
+    let (queue, clients, driver) = open(alloc, Tally { total: 0 }, 4)?;
+    let desks = desks_of(alloc, &queue, clients)?;
+    let (reports, driver) = serve(&rt, alloc, &queue, desks, driver, 1, 1024)?;
+    let mut history = Vec::from_elem(alloc, 1u32, 1024)?;
+    let mut replies = Vec::from_elem(alloc, None, 1024)?;
+    for report in reports {
+        gather(&mut history, &mut replies, &report?.lines);
+    }
+    assert_eq!(rt; exact(&history, &replies), 768);
+    let machine = close(&rt, queue, Vec::new(alloc), driver);
+    assert_eq!(rt; machine.total, 256 * 10);
     Ok(())
 }

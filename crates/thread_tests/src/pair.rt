@@ -29,11 +29,22 @@ pub fn open_one<D: Machine<C, R>, C: Drop, R: Drop>(
 }
 
 /// A queue with two clients.
-fn open_two(alloc: Global) -> Result<(Tallies, Member, Member, Runner), AllocError>
+pub fn open_two<D: Machine<C, R>, C: Drop, R: Drop>(
+    alloc: Global,
+    machine: D,
+) -> Result<
+    (
+        Queue<D, C, R>,
+        Client<D, C, R>,
+        Client<D, C, R>,
+        Driver<D, C, R>,
+    ),
+    AllocError,
+>
     ensures one { IfOk result (λ r. (r.1.seat.table_id ≡ r.0.table.shared.table_id) × (r.2.seat.table_id ≡ r.0.table.shared.table_id) × (r.3.seat.table_id ≡ r.0.table.shared.table_id)) }
     ensures two { IfOk result (λ r. r.1.seat.me.0.name ≢ r.2.seat.me.0.name) }
 {
-    let (queue, mut clients, driver) = open(alloc, Tally { total: 0 }, 2)?;
+    let (queue, mut clients, driver) = open(alloc, machine, 2)?;
     let second = clients.pop().unwrap();
     let first = clients.pop().unwrap();
     Ok((queue, first, second, driver))
@@ -93,7 +104,7 @@ fn one_client_is_answered_at_once(rt: HostRuntime) -> Result<(), Fail> {
 #[test]
 fn agreed_tickets_rise(rt: HostRuntime) -> Result<(), Fail> {
     let alloc: Global = rt.alloc();
-    let (queue, mut first, mut second, driver) = open_two(alloc)?;
+    let (queue, mut first, mut second, driver) = open_two(alloc, Tally { total: 0 })?;
     let Ok(one) = first.submit(&queue, boxed(alloc, 1)?) else {
         panic!(rt; "full")
     };
@@ -135,7 +146,7 @@ fn polls_hand_everything_back(rt: HostRuntime) -> Result<(), Fail> {
 #[test]
 fn a_dropped_client_loses_nobody_elses_tickets(rt: HostRuntime) -> Result<(), Fail> {
     let alloc: Global = rt.alloc();
-    let (queue, mut first, mut second, mut driver) = open_two(alloc)?;
+    let (queue, mut first, mut second, mut driver) = open_two(alloc, Tally { total: 0 })?;
     let Ok(_) = first.submit(&queue, boxed(alloc, 1)?) else {
         panic!(rt; "full")
     };
@@ -156,6 +167,20 @@ fn a_dropped_client_loses_nobody_elses_tickets(rt: HostRuntime) -> Result<(), Fa
     };
     assert_eq!(rt; reply(request), Some(3));
     let machine = close(&rt, queue, Vec::new(alloc), driver);
+    assert_eq!(rt; machine.total, 7);
+    Ok(())
+}
+
+/// Clients that are handed to `close` with requests that weren't driven: these are driven then.
+#[test]
+fn close_drives_what_remains(rt: HostRuntime) -> Result<(), Fail> {
+    let alloc: Global = rt.alloc();
+    let (queue, mut first, mut second, mut driver) = open_two(alloc, Tally { total: 0 })?;
+    assert!(rt; first.submit(&queue, boxed(alloc, 1)?).is_ok());
+    assert!(rt; second.submit(&queue, boxed(alloc, 2)?).is_ok());
+    assert!(rt; first.submit(&queue, boxed(alloc, 4)?).is_ok());
+    assert!(rt; driver.drive_one(&queue).is_some());
+    let machine = close(&rt, queue, vec![in alloc; first, second]?, driver);
     assert_eq!(rt; machine.total, 7);
     Ok(())
 }

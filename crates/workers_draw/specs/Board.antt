@@ -1,4 +1,4 @@
--- The rule of the two words that workers share, and what each step tells.
+-- The rule of the two words that workers share, and what each step tells. All of it is own: the standard doesn't say who runs which group.
 -- Word 0 is the number of draws. Word 1 is the count of groups, or a group whose run stops.
 use Rattle.std.specs.Prelude.{◌≡◌, ◌⊎◌, ℕ, suc, zero, ◌+◌, ◌-◌, ◌/◌, ◌<◌, ◌≤◌, ◌==◌, if◌then◌else◌, List, [], ◌∷◌, ◌++◌, nat_le}
 use mathlib.Core.Option.{some}

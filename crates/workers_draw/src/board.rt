@@ -22,10 +22,13 @@ impl TableRule<u8, Hand, u64> for Drawing {
     ghost first = { λ count. hand 16 [] [] [] };
 }
 
+/// The two words as workers share them.
 pub type Board = Shared<u8, Hand, u64, Drawing>;
 
+/// A worker's seat. It takes no bytes.
 pub type Place = Seat<u8, Hand>;
 
+/// The next number is drawn.
 pub struct Draw;
 
 impl Play<u8, Hand> for Draw {
@@ -34,6 +37,7 @@ impl Play<u8, Hand> for Draw {
     ghost then = { drew };
 }
 
+/// The least fault known is looked at.
 pub struct Look;
 
 impl Play<u8, Hand> for Look {
@@ -42,6 +46,7 @@ impl Play<u8, Hand> for Look {
     ghost then = { looked };
 }
 
+/// A group is known to stop.
 pub struct Lower;
 
 impl Play<u8, Hand> for Lower {
@@ -50,6 +55,7 @@ impl Play<u8, Hand> for Lower {
     ghost then = { lowered };
 }
 
+/// A worker's seat is split off.
 pub struct Deal;
 
 impl Split<Hand> for Deal {
@@ -60,6 +66,7 @@ impl Split<Hand> for Deal {
     ghost right = { worker };
 }
 
+/// A worker's seat comes back.
 pub struct Together;
 
 impl Join<Hand> for Together {

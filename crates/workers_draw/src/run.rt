@@ -28,7 +28,9 @@ fn finish(table: WorkTable, seat: Place)
     table.close_with(seat).free();
 }
 
-/// The results of all groups in order, up to and with the first that stopped, by this many workers.
+/// The results of all groups in order, up to and with the first that stopped, by 1 to 16 workers (OpenCL 1.2, sections 3.2 and 5.8). The
+/// calling thread is one of them, and a thread that can't be started is done without. An error is out of memory, in a group's run or for
+/// the results.
 pub fn run_groups<W: Work, G: Gate, R: Threads + Wait + Sync>(
     rt: &R,
     alloc: Global,

@@ -4,8 +4,9 @@ ghost use Rattle.std.specs.Prelude.{◌≡◌, ℕ, ◌<◌, IfOk, Bool, true};
 use std::alloc::{AllocError, Global};
 use std::marker::{Send, Sync};
 
-/// Groups, each of which runs alone.
+/// Groups, each of which runs alone: the work-groups of a launch (OpenCL 1.2, sections 3.2 and 5.8). They are numbered from 0.
 pub trait Work: Sync {
+    /// What the run of a group comes to.
     type Output: Send + Drop;
 
     ghost count: { Self → ℕ };
@@ -21,16 +22,20 @@ pub trait Work: Sync {
 
     ghost is_stopped: { Self.Output → Bool };
 
+    /// How many groups there are.
     fn group_count(&self) -> u32
         ensures { result ≡ count self.now };
 
+    /// Runs a group, whose number is below the count. An error is out of memory.
     fn one_group(&self, alloc: Global, group: u32) -> Result<Self::Output, AllocError>
         requires { group < count self.now }
         ensures { IfOk result (gives self.now group) };
 
+    /// The number of the group that an output is of.
     fn number(&self, output: &Self::Output) -> u32
         ensures { result ≡ number_of self.now output.now };
 
+    /// Whether the group's run stopped, so that no group above it is wanted.
     fn stopped(output: &Self::Output) -> bool
         ensures { result ≡ is_stopped output.now };
 

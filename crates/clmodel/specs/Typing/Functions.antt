@@ -1,5 +1,5 @@
 -- The rules and the faults of functions and of programs (OpenCL 1.2, 6.7.1 and 6.9; C99 6.9).
-use Rattle.std.specs.Prelude.{◌≡◌, ℕ, ◌≤◌, Bool, true, false, not, ◌&&◌, ◌||◌, nat_le, List, [], ◌∷◌, ◌++◌, map, is_some}
+use Rattle.std.specs.Prelude.{◌≡◌, ℕ, ◌≤◌, Bool, true, false, not, ◌&&◌, ◌||◌, nat_le, List, [], ◌∷◌, ◌++◌, length, map, is_some}
 use Rattle.clmodel.specs.declared.tree.Parameter.{Parameter}
 use Rattle.clmodel.specs.declared.type_fault.TypeFault.{TypeFault}
 use Rattle.clmodel.specs.declared.type_fault.TypeFault.TheVariants as fault
@@ -8,7 +8,7 @@ use Rattle.clmodel.specs.Typing.Context.{Context, Signature, Single, signature_o
 use Rattle.clmodel.specs.Typing.Least.{Places}
 use Rattle.clmodel.specs.Typing.Rules.{AreTyped}
 use Rattle.clmodel.specs.Typing.Faults.{unless, declared_faults, row_faults}
-use Rattle.clmodel.specs.Typing.Sizes.{Size, row_size, sizes_of, loop_limit, byte_limit, node_limit, row_returns}
+use Rattle.clmodel.specs.Typing.Sizes.{Size, row_size, sizes_of, loop_limit, byte_limit, node_limit, parameter_limit, row_returns}
 
 -- names of functions, each once, in the order of the text
 abbrev pub names : Funcs → List ℕ
@@ -53,6 +53,7 @@ pub record IsTypedFunction (all : List ℕ) (fs : Funcs) (f : Func) : Type 0 whe
   pub loops : f.is_kernel ≡ true → (size_of fs f).loops ≤ loop_limit
   pub bytes : f.is_kernel ≡ true → (size_of fs f).bytes ≤ byte_limit
   pub nodes : f.is_kernel ≡ true → (size_of fs f).nodes ≤ node_limit
+  pub few : length f.parameters ≤ parameter_limit
 
 abbrev pub AreTypedFunctions : List ℕ → Funcs → Type 0
 AreTypedFunctions all NoFunc = Unit {0}
@@ -65,13 +66,15 @@ params_faults c (p ∷ ps) = declared_faults c p.name_at p.name ∷ params_fault
 abbrev pub heading_faults : Funcs → Func → List TypeFault
 heading_faults fs f = unless (is_new fs f.name) (fault.Redeclared f.name_at)
 
--- Behind the body, at the function's name: a value that isn't always given, then for a kernel its loops, its private arrays, then its nodes.
+-- Behind the body, at the function's name: a value that isn't always given, then for a kernel its loops, its private arrays, then its nodes, and then the
+-- function's parameters.
 abbrev pub end_faults : Func → Size → Places
 end_faults f s =
     unless (not (is_some f.result) || row_returns f.body) (fault.MissingReturn f.name_at)
     ∷ unless (not f.is_kernel || nat_le s.loops loop_limit) (fault.TooManyLoops f.name_at)
     ∷ unless (not f.is_kernel || nat_le s.bytes byte_limit) (fault.TooLarge f.name_at)
     ∷ unless (not f.is_kernel || nat_le s.nodes node_limit) (fault.TooLarge f.name_at)
+    ∷ unless (nat_le (length f.parameters) parameter_limit) (fault.TooLarge f.name_at)
     ∷ []
 
 -- a function's name, its parameters, its body, and its end

@@ -121,6 +121,10 @@ byte_limit = 4096
 abbrev pub node_limit : ℕ
 node_limit = 20000
 
+-- how many parameters a function may have: OpenCL 1.2 bounds their bytes (table 4.3, CL_DEVICE_MAX_PARAMETER_SIZE), the number is this project's own
+abbrev pub parameter_limit : ℕ
+parameter_limit = 65536
+
 -- Whether a statement always returns (own): `return`, a block with a statement that does, or an `if` with an `else` both of whose parts do.
 abbrev mutual
   pub always_returns : Stmt → Bool

@@ -1,4 +1,4 @@
-use Rattle.std.proofs.Common.{arith, inl, inr}
+use Rattle.std.proofs.Common.{inl, inr}
 use Rattle.clnum.proofs.Functions.{at_one, at_two, at_other, same_types, other_types}
 use Rattle.clnum.proofs.builtins.builtin.Goals as goal
 

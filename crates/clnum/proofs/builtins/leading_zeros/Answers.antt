@@ -1,4 +1,4 @@
-use Rattle.std.proofs.Common.{◌≡◌, ◌+◌, ◌-◌, ◌^◌, ◌<◌, ◌≤◌, ap, ap₂, ◌∙◌, sym, arith, subst, ℕ}
+use Rattle.std.proofs.Common.{◌≡◌, ◌+◌, ◌-◌, ◌^◌, ◌<◌, ◌≤◌, ap, ◌∙◌, arith, subst, ℕ}
 use Rattle.std.specs.Int.Count.{count_leading_zeros}
 use Rattle.clnum.specs.Integer.{bits, bits_of}
 use Rattle.clnum.proofs.Formulas.{bits_le}

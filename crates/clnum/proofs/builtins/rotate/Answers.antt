@@ -1,5 +1,5 @@
 use Rattle.std.proofs.Common.{◌≡◌, ◌^◌, ◌<◌, ap, ap₂, ◌∙◌, sym, arith, subst, ℕ, pos}
-use Rattle.clnum.specs.Integer.{bits, bits_of, residue}
+use Rattle.clnum.specs.Integer.{bits, residue}
 use Rattle.clnum.specs.Operations.{wrapped}
 use Rattle.clnum.specs.Builtins.{turned}
 use Rattle.clnum.proofs.Functions.{rotated, rotated_fits}

@@ -1,9 +1,9 @@
-use Rattle.std.proofs.Common.{◌≡◌, ◌^◌, ◌%◌, ℤ, pos, refl, sym, ap, ap₂, ◌∙◌, ◌+ℤ◌, ◌-ℤ◌, ◌*ℤ◌, not}
+use Rattle.std.proofs.Common.{refl, sym, ap, ap₂, ◌∙◌, ◌+ℤ◌, ◌-ℤ◌, ◌*ℤ◌, not}
 use Rattle.std.specs.Prelude.{int_div, int_lt, int_le, bit_and, bit_or, bit_xor}
 use Rattle.std.specs.Ordering.{int_eq}
 use Rattle.clnum.specs.Integer.{wrap}
 use Rattle.clnum.specs.Operations.{binary_value, remainder_of}
-use Rattle.clnum.specs.declared.operators.BinaryOperator.TheVariants.{Add, Subtract, Multiply, Divide, Remainder, ShiftLeft, ShiftRight, Less, Greater, LessOrEqual, GreaterOrEqual, Equal, NotEqual, BitAnd, BitXor, BitOr}
+use Rattle.clnum.specs.declared.operators.BinaryOperator.TheVariants.{Add, Subtract, Multiply, ShiftLeft, ShiftRight, Less, Greater, LessOrEqual, GreaterOrEqual, Equal, NotEqual, BitAnd, BitXor, BitOr}
 use Rattle.clnum.proofs.Ranges.{passed}
 use Rattle.clnum.proofs.Formulas.{arithmetic_is, comparison_is, bitwise_is, division_is, ok_is, eq_test, back-add, back-sub, wrap-wrapping_mul, IsWithin-fits, IsIn-back}
 use Rattle.clnum.proofs.operations.binary.Goals as goal

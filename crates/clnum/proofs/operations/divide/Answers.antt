@@ -1,7 +1,7 @@
 use Rattle.std.proofs.Common.{ap, sym, ◌∙◌}
 use Rattle.std.specs.Prelude.{int_div}
-use Rattle.clnum.specs.Operations.{wrapped, is_in, remainder_of}
-use Rattle.clnum.proofs.Formulas.{back-div, zero_test, divided-out, divided-in, wrap-wrapping_rest}
+use Rattle.clnum.specs.Operations.{wrapped, is_in}
+use Rattle.clnum.proofs.Formulas.{back-div, zero_test, divided-out, divided-in}
 use Rattle.clnum.proofs.operations.divide.Goals as goal
 
 pub returns-then-not-is_in : goal.returns-then-not-is_in

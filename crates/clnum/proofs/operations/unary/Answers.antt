@@ -1,11 +1,6 @@
 use Rattle.std.specs.Ordering.{int_eq}
-use Rattle.std.proofs.Common.{lit<, ◌≡◌, ◌^◌, ◌<◌, ◌*◌, ◌%◌, ℤ, pos, negsuc, ℕ, refl, sym, ap, ap₂, ◌∙◌, subst, true, false, Bool, ◌+ℤ◌, ◌-ℤ◌, ◌*ℤ◌, ◌≤ℤ◌, ◌<ℤ◌, FitsSigned, to_z, of_z, rules, arith, inl, inr, Ok, Err}
-use Rattle.std.specs.Int.{w32, w64, w128, int_div_euclid}
-use Rattle.std.specs.Prelude.{int_div, int_lt, int_le, bit_and}
-use Rattle.clnum.specs.Integer.{converted, wrap, IsIn, bits, residue, bits_of, Integer}
-use Rattle.clnum.specs.Conversions.{promoted, common}
-use Rattle.clnum.specs.Operations.{unary_value, binary_value, truth, wrapped, divided, is_in, shift, remainder_of}
-use Rattle.clnum.specs.declared.operators.UnaryOperator.TheVariants.{Plus, Negate, Complement, Not}
+use Rattle.std.proofs.Common.{lit<, pos, negsuc, sym, ap, ◌∙◌, ◌-ℤ◌}
+use Rattle.clnum.specs.Operations.{unary_value, truth}
 use Rattle.clnum.proofs.Ranges.{passed}
 use Rattle.clnum.proofs.Formulas.{promoting_is, back-negate, back-complement, eq_test, IsWithin-fits}
 use Rattle.clnum.proofs.operations.unary.Goals as goal

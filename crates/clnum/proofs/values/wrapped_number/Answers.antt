@@ -1,7 +1,4 @@
-use Rattle.std.proofs.Common.{rules}
 use Rattle.clnum.proofs.Ranges.{read_lowest, char_reading, short_reading, int_reading, long_reading, ulong_reading}
-use Rattle.std.specs.Int.{w8, w16, w32, w64, w128}
-use Rattle.std.specs.Prelude.{FitsSigned}
 use Rattle.clnum.proofs.values.wrapped_number.Goals as goal
 
 pub returns-in-Char : goal.returns-in-Char

@@ -13,10 +13,10 @@ run_items-requires g c κs within =
     let size = c.group_size-count in
     let items = c.in_ok-items.items.items in
     let p : Plan = record { launch = l; group = c.args.group; first = c.args.group * size.result; count = length items } in
-    let fits : Events → State → Type 0 = Fits (acts_of g.D.Described.launch) g.G.Space.bytes g.G.Space.read_only p items 0 c.args.globals.items c.in_ok-locals.locals.items (g.L.Accesses.log c.args.log) in
+    let fits : Events → State → Type 0 = Fits (acts_of g.D.Described.launch) g.G.Space.bytes g.G.Space.read_only p items 0 c.args.globals.items c.in_ok-locals.locals.items (g.L.Logged.log c.args.log) in
     let b =
     begins (acts_of g.D.Described.launch) g.G.Space.bytes g.G.Space.read_only l c.args.group (c.args.group * size.result) size.result c.in_ok-items.items.items c.args.globals.items c.in_ok-locals.locals.items
-    (g.L.Accesses.log c.args.log) c.requires.runnable c.requires.there c.requires.writable c.requires.filled
+    (g.L.Logged.log c.args.log) c.requires.runnable c.requires.there c.requires.writable c.requires.filled
     (c.in_ok-locals.ensures ∙ ap (map (λ size. replicate size None)) c.local_sizes.ensures) c.requires.fresh (ap (λ n. c.args.group * n) size.ensures.value) size.ensures.value
     c.in_ok-items.ensures in (
       search (lives, within.0.0, within.1.0, within.1.1.0, within.1.1.1.0) depth 64 fits 20000,
@@ -35,7 +35,7 @@ returns-in-None g c =
     let e : p ≡ plan_of l c.args.group = plan_same l c.args.group first (length items) (ap (λ n. c.args.group * n) size.ensures.value) (c.in_ok-items.ensures.many ∙ size.ensures.value) in (
       refl,
       c.into_schedule-runs.ensures.merged,
-      done_result (acts_of g.D.Described.launch) g.G.Space.bytes g.G.Space.read_only p q l c.args.group m.items.items m.made m.buffers.items m.locals.items (g.L.Accesses.log m.log)
+      done_result (acts_of g.D.Described.launch) g.G.Space.bytes g.G.Space.read_only p q l c.args.group m.items.items m.made m.buffers.items m.locals.items (g.L.Logged.log m.log)
           c.run_items.new.runs (events_of c.into_schedule-runs.result) c.in_ok-report.report e c.in_ok-report.ensures.plan_same c.into_schedule-runs.ensures.events c.in-None.is
           c.in_ok-report.ensures.ran,
     )
@@ -52,7 +52,7 @@ returns-in-Some g c =
     let e : p ≡ plan_of l c.args.group = plan_same l c.args.group first (length items) (ap (λ n. c.args.group * n) size.ensures.value) (c.in_ok-items.ensures.many ∙ size.ensures.value) in (
       refl,
       c.into_schedule-runs.ensures.merged,
-      stopped_result (acts_of g.D.Described.launch) g.G.Space.bytes g.G.Space.read_only p q l c.args.group m.items.items m.made m.buffers.items m.locals.items (g.L.Accesses.log m.log)
+      stopped_result (acts_of g.D.Described.launch) g.G.Space.bytes g.G.Space.read_only p q l c.args.group m.items.items m.made m.buffers.items m.locals.items (g.L.Logged.log m.log)
           c.run_items.new.runs (events_of c.into_schedule-runs.result) c.in_ok-report.report c.in-Some.fault e c.in_ok-report.ensures.plan_same
           c.into_schedule-runs.ensures.events c.in-Some.is c.in_ok-report.ensures.ran,
     )

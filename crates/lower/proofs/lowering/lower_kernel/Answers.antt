@@ -1,16 +1,24 @@
-use Rattle.std.proofs.Common.{map, sym, subst}
+use Rattle.std.proofs.Common.{map, refl, sym, subst}
 use Rattle.std.proofs.lemmas.Bool.{false≢true}
 use Rattle.clmodel.specs.Tree.{program, func, then_funcs, NoFunc}
 use Rattle.regcode.specs.Listed.{listing}
-use Rattle.lower.specs.Bounds.{FewBarriers}
+use Rattle.lower_code.specs.Helpers.{NodesCounted}
+use Rattle.lower.specs.Bounds.{FewBarriers, FewNodes}
 use Rattle.lower.specs.Lists.{Lists}
-use Rattle.lower.proofs.Lowered.{few_barriers, never_rejected, lists_lowered, lists_same}
+use Rattle.lower.proofs.Lowered.{few_barriers, few_nodes, never_rejected, lists_lowered, lists_same}
+use Rattle.lower.proofs.Named.{nodes_counted}
 use Rattle.lower.proofs.lowering.lower_kernel.Goals as goal
 
 pub list_kernel-requires : goal.list_kernel-requires
 list_kernel-requires c =
-    subst (λ fs. FewBarriers (then_funcs NoFunc (map func fs)) c.args.number) (sym c.deref.ensures.value)
-    (few_barriers (program c.args.checked.now.tree) c.args.number c.typed_kernels_have_few_barriers.ensures c.args.checked.now.typed)
+    let p = program c.args.checked.now.tree in
+    let typed = c.args.checked.now.typed in
+    let same = sym c.deref.ensures.value in
+    record {
+      few = subst (λ fs. FewBarriers (then_funcs NoFunc (map func fs)) c.args.number) same (few_barriers p c.args.number c.typed_kernels_have_few_barriers.ensures typed);
+      small = subst (λ fs. FewNodes (then_funcs NoFunc (map func fs)) c.args.number) same (few_nodes p c.args.number c.typed_kernels_are_short.ensures typed);
+      nodes = subst NodesCounted same (nodes_counted p c.args.checked.now.tree.functions.items refl typed);
+    }
 
 pub unreachable-requires : goal.unreachable-requires
 unreachable-requires c =

@@ -1,9 +1,10 @@
 use Rattle.std.proofs.Common.{◌≡◌, ℕ, ◌+◌, ◌-◌, ◌<◌, ◌≤◌, ◌++◌, refl, Option, Bor, List, length, take, ap, ap₂, sym, subst, ◌∙◌, arith, rules, IfOk}
 use Rattle.std.proofs.lemmas.Result.{IfOk-weaker}
-use Rattle.lower.proofs.Fronts.{block_few}
+use Rattle.lower.proofs.Fronts.{block_few, block_small, nodes_there}
 use denote.Param.Weighed.{most, at_most}
 use Rattle.std.specs.Option.{option_map}
 use Rattle.clmodel.specs.Next.{sites, part_sites, all_sites}
+use Rattle.clmodel.specs.Typing.Sizes.{node_limit}
 use Rattle.clmodel.specs.Tree.{Stmt, ThenStmt, Without, While_, stmt, term}
 use Rattle.clmodel.specs.declared.tree.Statement.{Statement, size-Statement}
 use Rattle.regcode.specs.declared.instruction.Instruction.{Instruction}
@@ -11,7 +12,7 @@ use Rattle.lower_expr.specs.Scope.{Scope}
 use Rattle.lower_code.specs.Variables.{scope_after_all}
 use Rattle.lower_code.specs.Trees.{all_of, part_of}
 use Rattle.lower_code.specs.Code.{Exits, past, stmt_code, stmts_code, condition_code, call_code, result_in}
-use Rattle.lower_code.specs.Emission.{functions_of, inside, statement_code, row_code, test_of, exits_of}
+use Rattle.lower_code.specs.Emission.{functions_of, inside, sizes_in, statement_code, row_code, test_of, exits_of}
 use Rattle.lower_code.proofs.Growth.{unchanged, before, one_before, both, inner_scope}
 use Rattle.lower_code.proofs.Trees.{row_more}
 use Rattle.lower_code.proofs.Rows.{row_laid, longer, choice_placed, begun}
@@ -55,8 +56,8 @@ emit_choice-returns-clause-code t c =
 
 pub emit_once-returns-clause-code : goal.emit_once-returns-clause-code
 emit_once-returns-clause-code t c =
-    once_placed c.args.setting.now c.args.scope.now (begun_at c.args.ending c.in_ok-site.site) (stmt c.args.body.now) c.in_ok-level_above.field-0 c.in_ok-in_loop.field-0 c.args.turn.now c.emit_statement.new.code c.in_ok-past.field-0
-    c.in_ok-level_above.ensures c.in_ok-past.ensures c.in_ok-in_loop.ensures c.in_ok-site.ensures.code
+    once_placed c.args.setting.now c.args.scope.now (begun_at c.args.ending c.in_ok-site.site) (stmt c.args.body.now) (c.args.ending.depth + 1) c.in_ok-in_loop.field-0 c.args.turn.now c.emit_statement.new.code c.in_ok-past.field-0
+    refl c.in_ok-past.ensures c.in_ok-in_loop.ensures c.in_ok-site.ensures.code
 
 pub emit_stepped-returns-clause-code : goal.emit_stepped-returns-clause-code
 emit_stepped-returns-clause-code t c =
@@ -65,9 +66,9 @@ emit_stepped-returns-clause-code t c =
     let body = stmt c.args.body.now in
     let f = inside s.helpers.functions.now in
     let at : c.in_ok-emit_once.field-0 ≡ c.in_ok-site.site + sites f third = omega (arith, c.site_before-between.ensures, c.in_ok-site.ensures.site, c.in_ok-emit_once.ensures.site) in
-    stepped_placed s c.args.scope.now c.emit_statement.new.scope (begun_at c.args.ending c.in_ok-site.site) third body c.in_ok-level_above.field-0 c.in_ok-emit_once.field-0 c.in_ok-in_loop.field-0
+    stepped_placed s c.args.scope.now c.emit_statement.new.scope (begun_at c.args.ending c.in_ok-site.site) third body (c.args.ending.depth + 1) c.in_ok-emit_once.field-0 c.in_ok-in_loop.field-0
     c.args.turn.now c.emit_statement.new.code c.emit_once.new.turn c.in_ok-past.field-0
-    c.in_ok-level_above.ensures at c.in_ok-past.ensures c.in_ok-in_loop.ensures c.in_ok-site.ensures.code c.in_ok-site.ensures.scope c.in_ok-emit_once.ensures.code
+    refl at c.in_ok-past.ensures c.in_ok-in_loop.ensures c.in_ok-site.ensures.code c.in_ok-site.ensures.scope c.in_ok-emit_once.ensures.code
 
 pub emit_round-returns-in-None-clause-code : goal.emit_round-returns-in-None-clause-code
 emit_round-returns-in-None-clause-code t c =
@@ -286,7 +287,9 @@ emit_all-emit_statement-requires t c =
     ap (λ m. all_sites f (all_of (take m ss))) left ∙ ap (λ r. all_sites f r) (row_more ss place x below c.index-statements-statements.is) in
     let few : all_sites f (all_of ss) ≤ c.args.ending.behind = c.requires.few in
     let size : size-Statement x ≤ most size-Statement ss = subst (λ (y : Statement). size-Statement y ≤ most size-Statement ss) (sym c.index-statements-statements.is) (at_most size-Statement ss place x below) in
-    (omega (arith, size), omega (arith, c.loop-i.invariant.site, count, few))
+    let nodes = nodes_there (sizes_in c.args.setting.now.helpers.functions.now) ss place x below c.index-statements-statements.is in
+    let all = c.requires.small in
+    (omega (arith, size), omega (arith, c.loop-i.invariant.site, count, few, nodes, all))
 
 pub emit_choice-emit_statement-requires-2 : goal.emit_choice-emit_statement-requires-2
 emit_choice-emit_statement-requires-2 t c =
@@ -296,6 +299,9 @@ emit_choice-emit_statement-requires-2 t c =
     (search rules, omega (arith, between, few))
 
 pub emit_statement-numbers_suffice-requires : goal.emit_statement-numbers_suffice-requires
-emit_statement-numbers_suffice-requires t c =
-    block_few (inside c.args.setting.now.helpers.functions.now) c.args.statement.now c.in-Block.at c.in-Block.body c.as_slice-body.result.now c.args.ending.behind
-    c.in-Block.is c.as_slice-body.ensures.value c.requires.few
+emit_statement-numbers_suffice-requires t c = record {
+  few = block_few (inside c.args.setting.now.helpers.functions.now) c.args.statement.now c.in-Block.at c.in-Block.body c.as_slice-body.result.now c.args.ending.behind
+      c.in-Block.is c.as_slice-body.ensures.value c.requires.few;
+  small = block_small (sizes_in c.args.setting.now.helpers.functions.now) c.args.statement.now c.in-Block.at c.in-Block.body c.as_slice-body.result.now c.args.ending.depth node_limit
+      c.in-Block.is c.as_slice-body.ensures.value c.requires.small;
+}

@@ -1,5 +1,6 @@
-use Rattle.std.proofs.Common.{◌≡◌, length}
-use Rattle.lower_code.specs.Helpers.{BarriersKnown, BarriersCounted, LengthsKnown}
+use Rattle.std.proofs.Common.{◌≡◌, length, take}
+use Rattle.cltypes_limits.specs.Limits.{IsSummary}
+use Rattle.lower_code.specs.Helpers.{functions_of, BarriersKnown, BarriersCounted, LengthsKnown, LengthsCounted}
 use Rattle.lower.proofs.table.known_of_all.Given as goal
 
 abbrev pub invariant-loop-i : goal.invariant-loop-i
@@ -8,4 +9,6 @@ invariant-loop-i l = record {
   barriers : BarriersKnown l.functions l.known.items;
   counted : BarriersCounted l.functions l.known.items;
   lengths : LengthsKnown l.functions l.known.items;
+  measured : LengthsCounted l.functions l.known.items;
+  sizes : IsSummary l.sizes (functions_of (take l.i l.functions));
 }

@@ -4,8 +4,8 @@ use Rattle.lower_code.proofs.Rows.{begun}
 use Rattle.lower_code.proofs.Tables.{body_length_of}
 use Rattle.lower.proofs.table.length_of.Goals as goal
 
-pub returns-in-Ok : goal.returns-in-Ok
-returns-in-Ok c level depth site =
+pub returns : goal.returns
+returns c level depth site =
     let fs = c.args.helpers.functions.now in
     let f = c.args.function.now in
-    c.len.ensures ∙ ap length (begun (body_of fs f 0 0 0) c.new-code.result c.emit_body.new.code c.new-code.ensures c.in-Ok.ensures.code) ∙ body_length_of fs f level depth site
+    c.len.ensures ∙ ap length (begun (body_of fs f 0 0 0) c.new-code.result c.emit_body.new.code c.new-code.ensures c.in_ok-emit_body.ensures.code) ∙ body_length_of fs f level depth site

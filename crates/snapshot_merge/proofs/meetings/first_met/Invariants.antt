@@ -6,4 +6,4 @@ use Rattle.snapshot_merge.proofs.meetings.first_met.Given as goal
 
 abbrev pub invariant-loop-i : goal.invariant-loop-i
 invariant-loop-i g l =
-    (kept : List Access) → IsFootprint l.footprint kept → AreOthers (g.L.Accesses.log l.log).accesses kept → MissUpTo l.uniform (g.L.Accesses.log l.log).accesses kept l.i
+    (kept : List Access) → IsFootprint l.footprint kept → AreOthers (g.L.GroupAccesses.listed l.log) kept → MissUpTo l.uniform (g.L.GroupAccesses.listed l.log) kept l.i

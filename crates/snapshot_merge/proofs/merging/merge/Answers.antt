@@ -1,4 +1,4 @@
-use Rattle.std.proofs.Common.{◌≡◌, ℕ, suc, ◌<◌, Option, Some, None, List, [], sym, ap₂, ◌∙◌, subst, arith, add-one}
+use Rattle.std.proofs.Common.{◌≡◌, true, ℕ, suc, ◌<◌, Option, Some, None, List, [], sym, ap₂, ◌∙◌, subst, arith, add-one}
 use Rattle.std.specs.Prelude.{Vec}
 use Rattle.std.specs.declared.alloc.Global.{Global}
 use Rattle.clmodel.specs.Launch as model
@@ -12,10 +12,10 @@ use Rattle.snapshot_merge.specs.JoinedGroups.{HoldsGroups, IsStopped, CameOfNext
 use Rattle.snapshot_merge.specs.declared.joined_groups.JoinEnd.{JoinEnd}
 use Rattle.std.specs.Vec.Iter.{into_iter_items}
 use Rattle.spaces.specs.Overlay.{Overlaid}
-use Rattle.group_run.specs.Results.{IsResult}
 use Rattle.joining.specs.Steps.{HasGroup}
-use Rattle.snapshot_merge.specs.Launches.{AreResults}
+use Rattle.snapshot_merge.specs.Launches.{AreResults, IsShortResult}
 use Rattle.snapshot_merge.proofs.Ending.{grouped_of, there_below, further_there, next_stopped, next_held, concludes_fault, concludes_clean, first_there, first_result, rest_results, none_left}
+use Rattle.snapshot_merge.proofs.Listed.{short_whole}
 use Rattle.snapshot_merge.proofs.merging.merge.Goals as goal
 
 abbrev bytes_of : Overlaid → List (Option ℕ)
@@ -59,7 +59,7 @@ join-requires g c =
       there = subst (λ (z : model.Launch). HasGroup z group) (sym same) (first_there bytes_of g.L.Accesses.log l group c.in-Some.result (into_iter_items c.next.new.self) now);
       further = λ h. further_there group c.group_count-groups.result l.group_size l.items c.group_count-groups.ensures.count (subst (λ (z : model.Launch). HasGroup z (suc group)) same h);
       so_far = subst (λ (z : model.Launch). HoldsGroups z group c.loop-result.so_far) (sym same) c.loop-result.invariant.held;
-      result = subst (λ (z : model.Launch). IsResult bytes_of g.L.Accesses.log z group c.in-Some.result) (sym same) (first_result bytes_of g.L.Accesses.log l group c.in-Some.result (into_iter_items c.next.new.self) now);
+      result = subst (λ (z : model.Launch). IsShortResult bytes_of (λ log. (g.L.Accesses.log log).accesses) (λ log. true) z group c.in-Some.result) (sym same) (short_whole bytes_of g.L.Accesses.log l group c.in-Some.result (first_result bytes_of g.L.Accesses.log l group c.in-Some.result (into_iter_items c.next.new.self) now));
     }
 
 pub loop-result-preserved : goal.loop-result-preserved

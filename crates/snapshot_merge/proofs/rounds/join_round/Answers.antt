@@ -2,13 +2,12 @@ use Rattle.std.proofs.Common.{suc, Some, None, Option, ℕ, List, sym, ap₂, su
 use Rattle.clmodel.specs.Launch as model
 use Rattle.clmodel.specs.Next.{launch_of}
 use Rattle.item_step.specs.Launches.{setup_of}
-use Rattle.group_run.specs.Results.{IsResult}
 use Rattle.joining.specs.Steps.{HasGroup}
 use Rattle.spaces.specs.Overlay.{Overlaid}
 use Rattle.spaces_base.specs.Buffers.{bytes_in}
 use Rattle.std.specs.Vec.Iter.{into_iter_items}
 use Rattle.snapshot_merge.specs.JoinedGroups.{HoldsGroups, IsStopped, CameOfNext, report_of}
-use Rattle.snapshot_merge.specs.Launches.{AreResultsTo}
+use Rattle.snapshot_merge.specs.Launches.{IsShortResult, AreResultsTo}
 use Rattle.snapshot_merge.specs.declared.joined_groups.JoinEnd.{JoinEnd}
 use Rattle.snapshot_merge.proofs.Ending.{further_there, next_stopped, next_held, concludes_fault, round_result, round_rest}
 use Rattle.snapshot_merge.proofs.rounds.join_round.Goals as goal
@@ -28,8 +27,8 @@ join-requires-clause-result g c =
     let same = ap₂ (λ x y. launch_of (setup_of x) (bytes_in y)) c.new-loaded.ensures.launch c.new-loaded.ensures.buffers in
     let l = launch_of (setup_of c.args.launch.now) (bytes_in c.args.buffers.now) in
     let group = c.loop-group.group in
-    let now = subst (AreResultsTo bytes_of g.L.Accesses.log l c.args.last group) c.in-Some.ensures.items c.loop-group.invariant.rest in
-    subst (λ (z : model.Launch). IsResult bytes_of g.L.Accesses.log z group c.in-Some.result) (sym same) (round_result bytes_of g.L.Accesses.log l c.args.last group c.in-Some.result (into_iter_items c.next.new.self) now)
+    let now = subst (AreResultsTo bytes_of g.L.GroupAccesses.listed g.L.GroupAccesses.has_last l c.args.last group) c.in-Some.ensures.items c.loop-group.invariant.rest in
+    subst (λ (z : model.Launch). IsShortResult bytes_of g.L.GroupAccesses.listed g.L.GroupAccesses.has_last z group c.in-Some.result) (sym same) (round_result bytes_of g.L.GroupAccesses.listed g.L.GroupAccesses.has_last l c.args.last group c.in-Some.result (into_iter_items c.next.new.self) now)
 
 pub returns-in-Reports : goal.returns-in-Reports
 returns-in-Reports g c =
@@ -47,12 +46,12 @@ loop-group-preserved g c =
     let same = ap₂ (λ x y. launch_of (setup_of x) (bytes_in y)) c.new-loaded.ensures.launch c.new-loaded.ensures.buffers in
     let l = launch_of (setup_of c.args.launch.now) (bytes_in c.args.buffers.now) in
     let group = c.loop-group.group in
-    let now = subst (AreResultsTo bytes_of g.L.Accesses.log l c.args.last group) c.in-Some.ensures.items c.loop-group.invariant.rest in
+    let now = subst (AreResultsTo bytes_of g.L.GroupAccesses.listed g.L.GroupAccesses.has_last l c.args.last group) c.in-Some.ensures.items c.loop-group.invariant.rest in
     let next : CameOfNext l group c.in-Some.result None c.join.new.self
     = subst (λ (end : JoinEnd g.row.L.Denot). CameOfNext l group c.in-Some.result (report_of end) c.join.new.self) c.in-Goes.is
     (subst (λ (z : model.Launch). CameOfNext z group c.in-Some.result (report_of c.in_ok-log.field-0) c.join.new.self) same c.in_ok-log.ensures.came) in
     record {
       held = subst (λ n. HoldsGroups l n c.join.new.self) (sym (add-one group)) (next_held l group c.in-Some.result c.join.new.self next);
-      rest = subst (λ n. AreResultsTo bytes_of g.L.Accesses.log l c.args.last n (into_iter_items c.next.new.self)) (sym (add-one group))
-          (round_rest bytes_of g.L.Accesses.log l c.args.last group c.in-Some.result (into_iter_items c.next.new.self) c.join.new.self now next);
+      rest = subst (λ n. AreResultsTo bytes_of g.L.GroupAccesses.listed g.L.GroupAccesses.has_last l c.args.last n (into_iter_items c.next.new.self)) (sym (add-one group))
+          (round_rest bytes_of g.L.GroupAccesses.listed g.L.GroupAccesses.has_last l c.args.last group c.in-Some.result (into_iter_items c.next.new.self) c.join.new.self now next);
     }

@@ -11,5 +11,5 @@ abbrev pub invariant-loop-group : goal.invariant-loop-group
 invariant-loop-group g l =
     record {
       held : HoldsGroups (launch_of (setup_of l.fn.launch) (bytes_in l.fn.buffers)) l.group l.so_far;
-      rest : AreResultsTo (λ (overlay : Overlaid). overlay.bytes) g.L.Accesses.log (launch_of (setup_of l.fn.launch) (bytes_in l.fn.buffers)) l.fn.last l.group (into_iter_items l.results);
+      rest : AreResultsTo (λ (overlay : Overlaid). overlay.bytes) g.L.GroupAccesses.listed g.L.GroupAccesses.has_last (launch_of (setup_of l.fn.launch) (bytes_in l.fn.buffers)) l.fn.last l.group (into_iter_items l.results);
     }

@@ -1,7 +1,7 @@
-use Rattle.std.proofs.Common.{ap, sym, ◌∙◌, subst}
+use Rattle.std.proofs.Common.{sym, ◌∙◌, subst}
 use Rattle.std.specs.Prelude.{ℤ}
 use Rattle.clnum.proofs.Ranges.{IsIn-wrap, passed}
-use Rattle.clnum.specs.Integer.{IsIn, wrap}
+use Rattle.clnum.specs.Integer.{IsIn}
 use Rattle.clnum.proofs.values.Value.wrapped.Goals as goal
 
 pub invariant_of-result : goal.invariant_of-result

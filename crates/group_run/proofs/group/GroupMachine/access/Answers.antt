@@ -23,7 +23,7 @@ overflow_add-self g c =
     let o = c.args.object in
     let element = c.args.element in
     let op = c.args.operation in
-    Fits-of_lt (access_room acts bytes g.G.Space.read_only p t.items.items t.made t.buffers.items t.locals.items (g.L.Accesses.log t.log) c.args.k o element op c.requires.inside c.requires.next.0 c.requires.next.1 c.requires.next.2 c.requires.next.3)
+    Fits-of_lt (access_room acts bytes g.G.Space.read_only p t.items.items t.made t.buffers.items t.locals.items (g.L.Logged.log t.log) c.args.k o element op c.requires.inside c.requires.next.0 c.requires.next.1 c.requires.next.2 c.requires.next.3)
 
 pub unreachable-requires : goal.unreachable-requires
 unreachable-requires g c = subst (IsMoved (ObjectsHold g.G.Space.bytes (g.D.Described.launch c.args.self.now.launch.now) 0 c.args.self.now.buffers.items c.args.self.now.locals.items) (ObjectsHold g.G.Space.bytes (g.D.Described.launch c.args.self.now.launch.now) 0 c.perform_on.new.buffers.items c.perform_on.new.locals.items) (region_of 0 c.args.object) c.in-Some.first c.args.operation) (c.in-Err-Bounds.is ∙ ap Err c.in-Err-Bounds.field-0-is) (c.perform_on.ensures (g.D.Described.launch c.args.self.now.launch.now) 0)
@@ -53,7 +53,7 @@ returns-in-Err-Unset-clause-made g c =
     (c.in-Err-Unset.is ∙ ap Err c.in-Err-Unset.field-0-is) (c.perform_on.ensures p.launch p.group) in
     let told : c.in_ok-fault-in-Err-Unset.fault ≡ fault.Unset (t.first + c.args.k) (kind_of op) (location_of p.launch (region_of t.number o)) c.in-Err-Unset.byte
     = cc (c.in_ok-fault-in-Err-Unset.ensures, c.in-Err-Unset.byte-is, c.region-region.ensures) in
-    unset_made acts bytes g.G.Space.read_only p t.items.items t.made t.buffers.items t.locals.items (g.L.Accesses.log t.log) c.args.k o element op c.requires.inside xs ys first c.in-Err-Unset.byte c.in_ok-fault-in-Err-Unset.fault place moved told
+    unset_made acts bytes g.G.Space.read_only p t.items.items t.made t.buffers.items t.locals.items (g.L.Logged.log t.log) c.args.k o element op c.requires.inside xs ys first c.in-Err-Unset.byte c.in_ok-fault-in-Err-Unset.fault place moved told
 
 pub returns-clause-made : goal.returns-clause-made
 returns-clause-made g c =
@@ -77,10 +77,10 @@ returns-clause-made g c =
     (c.in-Ok.is) (c.perform_on.ensures p.launch p.group) in
     let i = c.index_mut.result.now in
     let j = c.answer.new.self in
-    let log2 = g.L.Accesses.log c.judge.new.log in
+    let log2 = g.L.Logged.log c.judge.new.log in
     let r : Plan = record { launch = p.launch; group = p.group; first = p.first; count = length (set t.items.items c.args.k j) } in
     let last : r ≡ p = ap (λ n. record { launch = p.launch; group = p.group; first = p.first; count = n }) (length-set t.items.items c.args.k j) in
     let entry = c.of-entry.ensures ∙ ap (λ z. entry_of (t.first + c.args.k) z first op t.made) c.region-region.ensures in
-    let judged = subst (λ z. IsJudged p.launch (g.L.Accesses.log t.log) z log2 c.in_ok-fault-2.fault) entry c.in_ok-fault-2.ensures in
+    let judged = subst (λ z. IsJudged p.launch (g.L.Logged.log t.log) z log2 c.in_ok-fault-2.fault) entry c.in_ok-fault-2.ensures in
     let there = slice_get_read t.items.items (length t.items.items) c.args.k i refl c.requires.inside c.index_mut.ensures.value in
-    access_made acts bytes g.G.Space.read_only p t.items.items t.made t.buffers.items t.locals.items (g.L.Accesses.log t.log) c.args.k o element op c.requires.inside r xs ys log2 i j first c.in-Ok.answer c.in_ok-fault-2.fault last there place moved c.in_ok-answer.ensures judged c.judged.result c.judged.ensures
+    access_made acts bytes g.G.Space.read_only p t.items.items t.made t.buffers.items t.locals.items (g.L.Logged.log t.log) c.args.k o element op c.requires.inside r xs ys log2 i j first c.in-Ok.answer c.in_ok-fault-2.fault last there place moved c.in_ok-answer.ensures judged c.judged.result c.judged.ensures

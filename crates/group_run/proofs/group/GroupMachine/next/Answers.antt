@@ -9,5 +9,5 @@ returns-clause-value g c =
     let t = c.args.self.now in
     actions_are (acts_of g.D.Described.launch) g.G.Space.bytes g.G.Space.read_only
     (record { launch = g.D.Described.launch t.launch.now; group = t.number; first = t.first; count = length t.items.items }) t.items.items t.made t.buffers.items
-    t.locals.items (g.L.Accesses.log t.log) c.args.k c.index_mut.result.now
+    t.locals.items (g.L.Logged.log t.log) c.args.k c.index_mut.result.now
     (slice_get_read t.items.items (length t.items.items) c.args.k c.index_mut.result.now refl c.requires c.index_mut.ensures.value) c.next.result c.next.ensures.action

@@ -10,7 +10,7 @@ pass-requires-clause-local g c =
     let t = c.args.self.now in
     let p : Plan = record { launch = g.D.Described.launch t.launch.now; group = t.number; first = t.first; count = length t.items.items } in
     let w = c.requires in
-    let room = release_room (acts_of g.D.Described.launch) g.G.Space.bytes g.G.Space.read_only p t.items.items t.made t.buffers.items t.locals.items (g.L.Accesses.log t.log) w.0 w.1 w.2 c.args.fences w.3 w.5 in
+    let room = release_room (acts_of g.D.Described.launch) g.G.Space.bytes g.G.Space.read_only p t.items.items t.made t.buffers.items t.locals.items (g.L.Logged.log t.log) w.0 w.1 w.2 c.args.fences w.3 w.5 in
     room.local
 
 pub pass-requires-clause-global : goal.pass-requires-clause-global
@@ -18,7 +18,7 @@ pass-requires-clause-global g c =
     let t = c.args.self.now in
     let p : Plan = record { launch = g.D.Described.launch t.launch.now; group = t.number; first = t.first; count = length t.items.items } in
     let w = c.requires in
-    let room = release_room (acts_of g.D.Described.launch) g.G.Space.bytes g.G.Space.read_only p t.items.items t.made t.buffers.items t.locals.items (g.L.Accesses.log t.log) w.0 w.1 w.2 c.args.fences w.3 w.5 in
+    let room = release_room (acts_of g.D.Described.launch) g.G.Space.bytes g.G.Space.read_only p t.items.items t.made t.buffers.items t.locals.items (g.L.Logged.log t.log) w.0 w.1 w.2 c.args.fences w.3 w.5 in
     room.global
 
 pub overflow_add-self : goal.overflow_add-self
@@ -26,7 +26,7 @@ overflow_add-self g c =
     let t = c.args.self.now in
     let p : Plan = record { launch = g.D.Described.launch t.launch.now; group = t.number; first = t.first; count = length t.items.items } in
     let w = c.requires in
-    let room = release_room (acts_of g.D.Described.launch) g.G.Space.bytes g.G.Space.read_only p t.items.items t.made t.buffers.items t.locals.items (g.L.Accesses.log t.log) w.0 w.1 w.2 c.args.fences w.3 w.5 in
+    let room = release_room (acts_of g.D.Described.launch) g.G.Space.bytes g.G.Space.read_only p t.items.items t.made t.buffers.items t.locals.items (g.L.Logged.log t.log) w.0 w.1 w.2 c.args.fences w.3 w.5 in
     Fits-of_lt room.events
 
 pub returns-clause-made : goal.returns-clause-made
@@ -36,5 +36,5 @@ returns-clause-made g c = λ events s fits gathered instance waits.
     let items2 = c.answer_all.new.items.items in
     let r : Plan = record { launch = p.launch; group = p.group; first = p.first; count = length items2 } in
     let last : r ≡ p = ap (λ n. record { launch = p.launch; group = p.group; first = p.first; count = n }) c.answer_all.ensures.many in
-    release_made (acts_of g.D.Described.launch) g.G.Space.bytes g.G.Space.read_only p r t.items.items items2 t.made t.buffers.items t.locals.items (g.L.Accesses.log t.log)
-    (g.L.Accesses.log c.pass.new.log) events s instance c.args.fences last fits refl gathered waits c.in_ok-answer_all.ensures.answered c.pass.ensures
+    release_made (acts_of g.D.Described.launch) g.G.Space.bytes g.G.Space.read_only p r t.items.items items2 t.made t.buffers.items t.locals.items (g.L.Logged.log t.log)
+    (g.L.Logged.log c.pass.new.log) events s instance c.args.fences last fits refl gathered waits c.in_ok-answer_all.ensures.answered c.pass.ensures

@@ -1,10 +1,15 @@
-use Rattle.std.proofs.Common.{◌≡◌, ◌/◌, Bool, ◌&&◌, ◌==◌, if◌then◌else◌, sym, ap, ap₂, ◌∙◌}
-use Rattle.clmodel.specs.Cells.{covers}
+use Rattle.std.proofs.Common.{◌≡◌, ℕ, ◌/◌, Bool, false, ◌&&◌, ◌==◌, if◌then◌else◌, sym, ap, ap₂, ◌∙◌, subst}
+use Rattle.std.proofs.lemmas.Bool.{and_parts}
+use Rattle.clmodel.specs.Cells.{byte_count, covers}
 use Rattle.clmodel.specs.Launch.{same_region}
 use Rattle.clmodel.specs.declared.access.Region.TheVariants as region
 use Rattle.joining.specs.Memory.{at_byte}
-use Rattle.shadow.specs.Seen.{seen_with, mark_of, IsPage}
+use Rattle.shadow.specs.Lasting.{AbsorbedAt}
+use Rattle.shadow.specs.Seen.{seen_with, is_new, seen, mark_of, cell_in, IsPage}
+use Rattle.shadow.specs.declared.seen.Seen.{Seen}
 use Rattle.shadow.proofs.Cells.{same_cells, marked_cells, either_page, on_err}
+use Rattle.shadow.proofs.Absorbing.{not_new}
+use Rattle.shadow.proofs.Meetings.{cells_there}
 use Rattle.shadow.proofs.footprint.Footprint.add.Goals as goal
 
 pub mark_all-requires-clause-there : goal.mark_all-requires-clause-there
@@ -36,6 +41,20 @@ returns-clause-added c log keeps m byte =
     let test : at_byte (region.Buffer m) byte x ≡ ((m == n) && covers x.first c.bytes-count.result byte) =
     ap₂ (λ a k. same_region (region.Buffer m) a && covers x.first k byte) c.in-Buffer.is (sym c.bytes-count.ensures.value) in
     marked_cells old n (record { pages = c.mark_all.new.pages }) c.index_mut-touched.result.now (mark_of x) x.first c.bytes-count.result c.in_ok-make_room.ensures.long c.index_mut-touched.ensures.value
-    (λ k. c.mark_all.ensures k
+    (λ k. c.mark_all.ensures.marked k
     ∙ ap (λ z. if covers x.first c.bytes-count.result k then seen_with z (mark_of x k) else z) (c.make-2.ensures.same k ∙ c.make.ensures.same k)) m byte
     ∙ ap₂ (λ (z : Bool) a. if z then seen_with a (mark_of x byte) else a) (sym test) (c.make_room.ensures.same m byte ∙ keeps m byte)
+
+pub returns-clause-news : goal.returns-clause-news
+returns-clause-news c none log keeps =
+    let x = c.args.x.now in
+    let old = c.make_room.new.buffers.items in
+    let n = c.in-Buffer.number in
+    subst (λ r. AbsorbedAt r log x) (sym c.in-Buffer.is) (λ byte at.
+    let told : is_new (cell_in c.make-2.new.self.pages.items byte) (mark_of x byte) ≡ false
+    = c.mark_all.ensures.news none byte (ap (λ k. covers x.first k byte) c.bytes-count.ensures.value ∙ (and_parts (same_region (region.Buffer n) x.region) (covers x.first (byte_count x.width) byte) at).1) in
+    let same : cell_in c.make-2.new.self.pages.items byte ≡ seen (region.Buffer n) byte log
+    = c.make-2.ensures.same byte ∙ c.make.ensures.same byte
+    ∙ sym (ap (λ (f : ℕ → Seen). f byte) (cells_there old n c.index_mut-touched.result.now c.in_ok-make_room.ensures.long c.index_mut-touched.ensures.value))
+    ∙ c.make_room.ensures.same n byte ∙ keeps n byte in
+    not_new (seen (region.Buffer n) byte log) (mark_of x byte) (sym (ap (λ z. is_new z (mark_of x byte)) same) ∙ told))

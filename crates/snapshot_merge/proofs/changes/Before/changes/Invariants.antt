@@ -9,4 +9,4 @@ use Rattle.snapshot_merge.proofs.changes.Before.changes.Given as goal
 abbrev pub invariant-loop-i : goal.invariant-loop-i
 invariant-loop-i g l =
     (kept : List Access) → IsFootprint l.self.footprint.now kept
-    → l.changes.items ≡ changes_of (value_of (map (λ row. row.now) l.self.first.now) l.self.lower.now (λ n b. wrote kept (region.Buffer n) b) (map (λ space. space.bytes) l.self.own.now)) (take l.i (g.L.Accesses.log l.log).accesses)
+    → l.changes.items ≡ changes_of (value_of (map (λ row. row.now) l.self.first.now) l.self.lower.now (λ n b. wrote kept (region.Buffer n) b) (map (λ space. space.bytes) l.self.own.now)) (take l.i (g.L.GroupAccesses.listed l.log))

@@ -11,7 +11,7 @@ use Rattle.snapshot_merge.proofs.joined_groups.JoinedGroups.change.Goals as goal
 
 pub returns-clause-changed : goal.returns-clause-changed
 returns-clause-changed g c = λ kept h.
-    let entries : List Entry = (g.L.Accesses.log c.args.log.now).accesses in
+    let entries : List Entry = (g.L.GroupAccesses.listed c.args.log.now) in
     let put : List (Bor (List ℕ)) → List (List ℕ) → List Change
     = λ first lower. changes_of (value_of (map (λ (row : Bor (List ℕ)). row.now) first) lower (λ n b. wrote kept (region.Buffer n) b) (map (λ (space : Overlaid). space.bytes) c.args.spaces.now)) entries in
     let new = c.make_changes.new.contents in

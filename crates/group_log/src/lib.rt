@@ -1,0 +1,11 @@
+//! The accesses of a group that is running: what is kept of them tells each conflict of a new one, and takes memory for the bytes that were
+//! touched, however many accesses there are.
+#![tactic(auto)]
+
+mod group;
+mod lasting;
+mod place;
+mod side;
+mod whole;
+
+pub use group::GroupLog;

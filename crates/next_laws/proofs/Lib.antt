@@ -1,0 +1,3 @@
+pub mod NextLaws
+pub mod Examples
+pub mod Elements
