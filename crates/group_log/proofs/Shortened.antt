@@ -1,6 +1,5 @@
 -- The accesses that are kept for other groups stand for all of them.
-use Rattle.std.proofs.Common.{◌≡◌, ℕ, zero, suc, ◌+◌, ◌<◌, ◌⊎◌, Bool, true, false, if◌then◌else◌, Some, List, [], ◌∷◌, ◌++◌, length, map, reverse, refl, sym, ap, ◌∙◌, subst, inl, inr, eqb-true}
-use Rattle.std.specs.Prelude.{slice_get}
+use Rattle.std.proofs.Common.{◌≡◌, ℕ, zero, suc, ◌⊎◌, Bool, true, false, if◌then◌else◌, Some, List, [], ◌∷◌, ◌++◌, map, reverse, refl, sym, ap, ◌∙◌, subst, inl, inr, eqb-true}
 use Rattle.std.proofs.lemmas.Bool.{false≢true, and_parts}
 use Rattle.std.proofs.lemmas.List.{append-nil}
 use Rattle.clmodel.specs.Cells.{byte_count, covers}
@@ -17,7 +16,7 @@ use Rattle.shadow_list.specs.Log.{in_buffer}
 use Rattle.shadow.proofs.Absorbing.{onto}
 use Rattle.shadow.proofs.Listing.{onto_is}
 use Rattle.shadow_list.specs.declared.log.Entry.{Entry}
-use Rattle.group_log.specs.Lasting.{all_of, short_of, last_of, made, before, Stays, LeavesOut}
+use Rattle.group_log.specs.Lasting.{all_of, short_of, last_of, made, Stays, LeavesOut}
 use Rattle.group_log.proofs.Covering.{decided}
 
 -- ---- what stays

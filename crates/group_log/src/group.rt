@@ -64,6 +64,19 @@ impl GroupLog {
         }
     }
 
+    /// A log without accesses, in the first interval of both address spaces, of the same launch. The memory that told accesses of the group is
+    /// used again where much of it was in use: to clear it takes time in proportion to all of it.
+    pub fn cleared(self, alloc: Global) -> Self
+        ensures { logged (all_of result.whole.items) result.local.interval result.global.interval result.global.uniform ≡ fresh_log self.global.uniform }
+    {
+        GroupLog {
+            local: self.local.cleared(alloc),
+            global: self.global.cleared(alloc),
+            lasting: Lasting::new(alloc),
+            whole: Whole::new(),
+        }
+    }
+
     /// The accesses that tell other groups something new. All else is given back, and memory to spare too, where the smaller block isn't refused:
     /// nothing is lost where it is.
     pub fn into_list(self) -> LastingList

@@ -1,6 +1,6 @@
 use Rattle.std.proofs.Common.{sym, ◌∙◌, subst, false}
 use Rattle.shadow.specs.Lasting.{StandsWith}
-use Rattle.group_log.specs.Lasting.{all_of, short_of, last_of}
+use Rattle.group_log.specs.Lasting.{all_of, last_of}
 use Rattle.group_log.proofs.Shortened.{short_stands}
 use Rattle.group_log.proofs.group.GroupLog.into_list.Goals as goal
 

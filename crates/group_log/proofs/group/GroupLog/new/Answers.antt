@@ -1,8 +1,6 @@
-use Rattle.std.proofs.Common.{true, false, [], sym, ap, ◌∙◌, subst, List}
+use Rattle.std.proofs.Common.{true, false, [], sym, ap, ◌∙◌, subst}
 use Rattle.shadow.specs.Seen.{IsFootprint}
-use Rattle.shadow_list.specs.declared.log.Entry.{Entry}
 use Rattle.group_log.specs.Lasting.{all_of, short_of, last_of, made, LeavesOut}
-use Rattle.group_log.specs.Tells.{Tells}
 use Rattle.group_log.proofs.Shortened.{none_left_out}
 use Rattle.group_log.proofs.Telling.{tells_new}
 use Rattle.group_log.proofs.group.GroupLog.new.Goals as goal
