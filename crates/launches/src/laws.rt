@@ -2,7 +2,7 @@
 
 ghost use Rattle.launches.specs.Groups.{SetupsAreRunnable};
 
-use clmodel::next_laws::budget_bounds;
+use next_laws::budget_bounds;
 
 /// Groups as `HasGroups` asks for them can be run (OpenCL 1.2, section 5.8; the budget is this project's own).
 pub fn setups_are_runnable()
