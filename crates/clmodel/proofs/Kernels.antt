@@ -6,7 +6,7 @@ use Rattle.clmodel.specs.Setup.{kernel_in, functions_before}
 use Rattle.clmodel.specs.Tree.{Funcs, Func, func, funcs, then_funcs, NoFunc, ThenFunc}
 use Rattle.clmodel.specs.declared.tree.Function.{Function}
 
-then_last : (fs : Funcs) (gs : List Function) (g : Function) → then_funcs fs (map func (gs ++ g ∷ [])) ≡ ThenFunc (then_funcs fs (map func gs)) (func g)
+pub then_last : (fs : Funcs) (gs : List Function) (g : Function) → then_funcs fs (map func (gs ++ g ∷ [])) ≡ ThenFunc (then_funcs fs (map func gs)) (func g)
 then_last fs [] g = refl
 then_last fs (f ∷ gs) g = then_last (ThenFunc fs (func f)) gs g
 

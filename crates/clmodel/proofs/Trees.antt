@@ -25,7 +25,7 @@ from_arguments m row es e = row_of_terms NoTerm m row ∙ ap (λ xs. then_all No
 pub call_view : (at name : ℕ) (v : Vec Expression Global) → term (rust_term.Call at name v) ≡ tree.Call at name (terms v.items)
 call_view at name v = ap (λ ts. tree.Call at name ts) (from_arguments _ (hidden-the_row-Expression-0 v) v.items (items_hidden-the_row-Expression-0 v))
 
-one_term : (ts : Terms) (es : List Expression) (e : Expression) → then_all ts (map term (es ++ e ∷ [])) ≡ ThenTerm (then_all ts (map term es)) (term e)
+pub one_term : (ts : Terms) (es : List Expression) (e : Expression) → then_all ts (map term (es ++ e ∷ [])) ≡ ThenTerm (then_all ts (map term es)) (term e)
 one_term ts [] e = refl
 one_term ts (d ∷ es) e = one_term (ThenTerm ts (term d)) es e
 
@@ -47,7 +47,7 @@ from_statements m row ss e = row_of_statements NoStmt m row ∙ ap (λ xs. then_
 pub block_view : (at : ℕ) (v : Vec Statement Global) → stmt (rust.Block at v) ≡ tree.Block at (statements v.items)
 block_view at v = ap (λ ss. tree.Block at ss) (from_statements _ (hidden-the_row-Statement-0 v) v.items (items_hidden-the_row-Statement-0 v))
 
-one_statement : (ts : Stmts) (ss : List Statement) (s : Statement) → then_stmts ts (map stmt (ss ++ s ∷ [])) ≡ ThenStmt (then_stmts ts (map stmt ss)) (stmt s)
+pub one_statement : (ts : Stmts) (ss : List Statement) (s : Statement) → then_stmts ts (map stmt (ss ++ s ∷ [])) ≡ ThenStmt (then_stmts ts (map stmt ss)) (stmt s)
 one_statement ts [] s = refl
 one_statement ts (t ∷ ss) s = one_statement (ThenStmt ts (stmt t)) ss s
 

@@ -2,7 +2,7 @@
 use Rattle.clnum.specs.declared.int_type.IntType.{IntType}
 use Rattle.clmodel.specs.declared.tree.VariableType.TheVariants.{Integer}
 use Rattle.std.proofs.Common.{◌≡◌, ℕ, suc, ◌≤◌, List, [], ◌∷◌, Bool, true, false, Option, refl, sym, ap, arith}
-use Rattle.clmodel.specs.Tree.{Term, Call, Terms, NoTerm, ThenTerm, Behind, Stmt, CallOnly, Stmts, NoStmt, ThenStmt, MaybeStmt, With, MaybeTerm}
+use Rattle.clmodel.specs.Tree.{Term, Call, Terms, NoTerm, ThenTerm, Behind, CallOnly, Stmts, NoStmt, ThenStmt, MaybeStmt, MaybeTerm}
 use Rattle.clsyntax_lex.specs.declared.token.TokenKind.TheVariants as kinds
 use Rattle.clsyntax_terms.specs.Grammar as grammar
 use Rattle.clsyntax_terms.specs.Grammar.{Placed, put, start, level, tight, prefixed_by, head, Goal, Expr, Arguments, Target, Simple, Statement, Initial, Condition, Final, Typing, Declaration, Items, OneParameter, Parameters, Returning, Heading, Program, Reads, number, variable, element, address, bare_call, call, round, operator, cast, prefixed, binary, choice, one_argument, next_argument, whole_place, part, behind_star, assign, step_before, step_behind, bare_call_only, call_only, simple, empty, block, if_only, if_else, while_loop, do_loop, for_loop, no_initial, simple_initial, declared_initial, no_condition, condition, no_final, simple_final, break_only, continue_only, return_only, return_value, integer, pointer, const_pointer, declare, declare_as, array, local_array, no_items, statement, declaration, parameter, first_parameter, next_parameter, kernel, void, typed, bare_heading, heading, no_functions, function}

@@ -16,7 +16,7 @@ use Rattle.clsyntax_terms.specs.Machine.{Frame, Before, Chosen, InAssign, InBehi
 use Rattle.clsyntax.proofs.Moves.{Runs, stop, onward}
 use Rattle.clsyntax.proofs.Levels.{close_takes, close_chooses}
 use Rattle.clsyntax.proofs.Takes.{IsPlain}
-use Rattle.clsyntax.proofs.Stands.{Need, AnExpr, SomeArguments, AnItem, AStatement, AnInitial, ASimple, AStepTarget, SomeItems, ABody, AHead, AParameter, AfterOne, AFunction, target_need, purpose_need, Stands, in_program, in_head, first, next, after_one, head_read, in_body, in_block, in_items, as_item, as_statement, as_initial, in_then, in_otherwise, in_turns, in_do_turns, in_for_turns, in_initial, in_condition, in_final, in_if, in_while, in_do, in_return, declared_initially, in_step, in_part, in_behind, in_assign, in_declare, in_after, in_before, in_asked, in_chosen, in_round, in_element, in_address, call_open, in_call, HasExpr, has_expr, HasTarget, has_target, HasAnd, has_and, HasAndName, has_and_name, HasTyping, parameter_typing, declaration_typing, initial_typing, HasDeclared, has_declared, has_initial, GoodIn, Good}
+use Rattle.clsyntax.proofs.Stands.{Need, AnExpr, SomeArguments, AnItem, AStatement, AnInitial, ASimple, AStepTarget, SomeItems, ABody, AHead, AfterOne, AFunction, target_need, purpose_need, Stands, in_program, in_head, first, next, after_one, head_read, in_body, in_block, in_items, as_item, as_statement, as_initial, in_then, in_otherwise, in_turns, in_do_turns, in_for_turns, in_initial, in_condition, in_final, in_if, in_while, in_do, in_return, declared_initially, in_step, in_part, in_behind, in_assign, in_declare, in_after, in_before, in_asked, in_chosen, in_round, in_element, in_address, call_open, in_call, HasExpr, has_expr, HasTarget, has_target, HasAnd, has_and, HasAndName, has_and_name, HasTyping, parameter_typing, declaration_typing, initial_typing, HasDeclared, has_declared, has_initial, GoodIn, Good}
 
 -- a state from which tokens lead to the end of a program
 pub record Done (s : State) : Type 0 where

@@ -9,7 +9,8 @@ use Rattle.clmodel.specs.Tree.{Term, Binary, Choice}
 use Rattle.clsyntax_lex.specs.declared.token.Token.{Token}
 use Rattle.clsyntax_lex.specs.declared.token.TokenKind.{TokenKind}
 use Rattle.clsyntax_lex.specs.declared.token.TokenKind.TheVariants as kinds
-use Rattle.clsyntax_terms.specs.Grammar.{Placed, infix_of, arithmetic_level, level, tight}
+use Rattle.clmodel.specs.Tree.{arithmetic_level}
+use Rattle.clsyntax_terms.specs.Grammar.{Placed, infix_of, level, tight}
 use Rattle.clsyntax_terms.specs.Machine.{Frame, After, Before, Asked, Chosen, InBehind, Operand, Moved, go, folded, close, asked_level, after_folded, on_have, unless_behind, wait, ask}
 
 -- An operand behind these frames is of this level at least.

@@ -1,5 +1,5 @@
 -- What the machine reads is in the grammar.
-use Rattle.std.proofs.Common.{◌≡◌, ℕ, Bool, true, false, Option, List, [], ◌∷◌, Some, None, refl, subst}
+use Rattle.std.proofs.Common.{◌≡◌, ℕ, Bool, Option, List, [], ◌∷◌, Some, refl, subst}
 use Rattle.clnum.specs.declared.int_type.IntType.{IntType}
 use Rattle.clmodel.specs.Tree.{NoStmt, Funcs}
 use Rattle.clsyntax_lex.specs.declared.token.TokenKind.{TokenKind}
@@ -8,7 +8,7 @@ use Rattle.clsyntax_terms.specs.Grammar.{Placed, put, Head, Program, Reads, no_i
 use Rattle.clsyntax_terms.specs.Machine as machine
 use Rattle.clsyntax_terms.specs.Machine.{Frame, InItems, InBody, InHead, InProgram, ForParameter, Mode, Operand, Have, Named, Opened, CastType, AfterAnd, AndName, CallOpen, Optional, Item, Begin, Aim, BeginName, Aimed, Ended, Closing, Did, AfterIf, AfterWhile, AfterFor, AfterDo, AfterSpace, AfterConst, AfterElement, AfterTyping, Declared, ArrayNamed, ArrayOpened, ArraySized, ArrayClosed, Top, AfterKernel, AfterReturning, AfterName, HeadOpen, WantParameter, AfterParameter, HeadDone, State, in_mode, Moved, on_typing, on_open_brace, step, begun}
 use Rattle.clsyntax.proofs.Moves.{Runs, stop, onward}
-use Rattle.clsyntax.proofs.Stands.{AnItem, ABody, AHead, AParameter, AfterOne, AFunction, Stands, in_program, in_head, first, next, after_one, head_read, in_body, in_items, HasReturning, Good, Keeps, Safe, kept}
+use Rattle.clsyntax.proofs.Stands.{AnItem, ABody, AHead, AParameter, AfterOne, AFunction, Stands, in_program, in_head, first, next, after_one, head_read, in_body, in_items, Good, Keeps, Safe, kept}
 use Rattle.clsyntax.proofs.SoundExpressions.{safe_operand, safe_have, safe_named, safe_opened, safe_cast_type, safe_after_and, safe_and_name, safe_call_open, safe_optional}
 use Rattle.clsyntax.proofs.SoundStatements.{safe_typing, safe_after_space, safe_after_const, safe_after_element, safe_after_typing, safe_declared, safe_array_named, safe_array_opened, safe_array_sized, safe_array_closed, safe_begin, safe_item, safe_initial, safe_final, safe_after_if, safe_after_while, safe_after_for, safe_after_do, safe_aim, safe_begin_name, safe_aimed, safe_ended, safe_closing, safe_did}
 

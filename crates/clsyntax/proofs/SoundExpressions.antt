@@ -9,8 +9,8 @@ use Rattle.clmodel.specs.declared.tree.VariableType.{VariableType}
 use Rattle.clmodel.specs.Tree.{Term, Variable, Element, ElementAddress, Call, Binary, Choice, Terms, ThenTerm, Place, Part, Behind, Stmt, DeclareAs, Assign, Step, CallOnly, DoWhile, ReturnValue, Return, Stmts, ThenStmt, MaybeStmt, With, MaybeTerm, While_, Always}
 use Rattle.clsyntax_lex.specs.declared.token.TokenKind.{TokenKind}
 use Rattle.clsyntax_lex.specs.declared.token.TokenKind.TheVariants as kinds
-use Rattle.clsyntax_terms.specs.Grammar.{Placed, put, start, prefixed_by, infix_of, level, tight, assign_of, Expr, Simple, Statement, Declaration, Reads, number, variable, element, address, bare_call, call, round, operator, cast, prefixed, binary, choice, part, behind_star, assign, step_before, bare_call_only, call_only, simple, do_loop, simple_initial, declared_initial, no_condition, condition, simple_final, return_only, return_value, declare_as, declaration}
-use Rattle.clsyntax_terms.specs.Machine.{Frame, After, Before, Asked, Chosen, InRound, InElement, InAddress, InCall, InPart, InBehind, InStep, InAssign, InDeclare, InReturn, InIf, InWhile, InDo, InInitial, InCondition, InFinal, Then, Turns, ForTurns, InItems, Operand, Have, Named, Opened, CastType, AfterAnd, AndName, CallOpen, Optional, Moved, go, Folded, folded, close, on_operand, on_close_round, on_comma, on_close_square, on_colon, end_simple, end_final, ends_simple, end_step, add_declaration, end_declaration, without, on_semicolon, on_assignment, unless_behind, end_expression, asked_level, after_folded, close_call}
+use Rattle.clsyntax_terms.specs.Grammar.{Placed, put, start, prefixed_by, infix_of, level, tight, assign_of, Expr, Simple, Declaration, Reads, number, variable, element, address, bare_call, call, round, operator, cast, prefixed, binary, choice, part, behind_star, assign, step_before, bare_call_only, call_only, simple, do_loop, simple_initial, declared_initial, no_condition, condition, simple_final, return_only, return_value, declare_as, declaration}
+use Rattle.clsyntax_terms.specs.Machine.{Frame, After, Before, Asked, Chosen, InRound, InElement, InAddress, InCall, InPart, InBehind, InStep, InAssign, InDeclare, InReturn, InIf, InWhile, InDo, InInitial, InCondition, InFinal, Then, Turns, ForTurns, InItems, Operand, Have, Named, Opened, CastType, AfterAnd, AndName, CallOpen, Optional, Moved, go, Folded, folded, close, on_operand, on_close_round, on_comma, on_close_square, on_colon, end_simple, end_final, ends_simple, end_step, end_declaration, without, on_semicolon, on_assignment, unless_behind, end_expression, asked_level, after_folded, close_call}
 use Rattle.clsyntax.proofs.Levels.{reach, level_low}
 use Rattle.clsyntax.proofs.Stands.{AnExpr, SomeArguments, AnItem, AStatement, ASimple, none_yet, some_yet, arguments_then, Stands, in_items, as_item, as_statement, as_initial, in_then, in_turns, in_for_turns, in_initial, in_condition, in_final, in_if, in_while, in_do, in_return, declared_initially, in_step, in_part, in_behind, in_assign, in_declare, in_after, in_before, in_asked, in_chosen, in_round, in_element, in_address, call_open, in_call, HasExpr, has_expr, HasTarget, has_target, HasStatement, HasEnded, HasClosing, HasAnd, has_and, HasAndName, has_and_name, KeepsFrom, Keeps, Safe, kept}
 

@@ -11,7 +11,7 @@ use Rattle.clmodel.specs.Tree.{Term, Place, Whole, Stmt, Block, Declare, Declare
 use Rattle.clsyntax_lex.specs.declared.token.Token.{Token}
 use Rattle.clsyntax_lex.specs.declared.token.TokenKind.{TokenKind}
 use Rattle.clsyntax_lex.specs.declared.token.TokenKind.TheVariants as kinds
-use Rattle.clsyntax_terms.specs.Grammar.{Placed, put, Head, with_body, IsNoElse, type_of, assign_of, step_of, parameter_of, Statement, Typing, Declaration, Reads, whole_place, step_before, step_behind, simple, empty, block, if_only, if_else, while_loop, for_loop, no_initial, no_final, break_only, continue_only, integer, pointer, const_pointer, declare, array, local_array, no_items, statement, parameter, first_parameter, next_parameter, function}
+use Rattle.clsyntax_terms.specs.Grammar.{Placed, put, Head, with_body, IsNoElse, type_of, assign_of, step_of, parameter_of, Statement, Typing, Declaration, Reads, whole_place, step_before, step_behind, empty, block, if_only, if_else, while_loop, for_loop, no_initial, no_final, break_only, continue_only, integer, pointer, const_pointer, declare, array, local_array, no_items, statement, parameter, first_parameter, next_parameter, function}
 use Rattle.clsyntax_terms.specs.Machine as machine
 use Rattle.clsyntax_terms.specs.Machine.{Frame, InStep, InAssign, InDeclare, InItems, InBlock, InBody, InHead, InInitial, InFinal, Then, Otherwise, Turns, DoTurns, ForTurns, InProgram, Purpose, ForParameter, ForDeclaration, takes_size, nesting_of, Item, Begin, Aim, BeginName, Aimed, Ended, Closing, Did, AfterIf, AfterWhile, AfterFor, AfterDo, AfterSpace, AfterConst, AfterElement, AfterTyping, Declared, ArrayNamed, ArrayOpened, ArraySized, ArrayClosed, end_step, add_declaration, ends_simple, on_typing, on_after_const, on_local_name, on_array, on_parameter_name, on_typed_name, on_close_brace, on_placed, on_aimed, begin_call, on_simple, on_begin, on_item, Settled, settle, is_else, on_settled, add_parameter}
 use Rattle.clsyntax.proofs.Stands.{AnExpr, AnItem, AStatement, AnInitial, ASimple, AfterOne, AFunction, target_need, purpose_need, at_of, Stands, in_program, first, next, after_one, in_body, in_block, in_items, as_item, as_statement, as_initial, in_then, in_otherwise, in_turns, in_do_turns, in_for_turns, in_initial, in_condition, in_final, in_if, in_while, in_do, in_return, declared_initially, in_step, in_part, in_behind, in_assign, in_declare, call_open, HasTarget, has_target, HasStatement, HasEnded, HasClosing, HasBody, HasSpace, HasElement, HasTyping, parameter_typing, declaration_typing, initial_typing, HasDeclared, has_declared, has_initial, HasArrayName, HasArray, HasLength, HasClosed, KeepsFrom, Keeps, Safe, kept}

@@ -7,13 +7,12 @@ use Rattle.clmodel.specs.declared.tree.InfixOperator.{InfixOperator}
 use Rattle.clmodel.specs.declared.tree.AddressSpace.{AddressSpace}
 use Rattle.clmodel.specs.declared.tree.AddressSpace.TheVariants.{Local}
 use Rattle.clmodel.specs.declared.tree.VariableType.TheVariants.{Integer}
-use Rattle.clmodel.specs.declared.tree.Parameter.{Parameter}
 use Rattle.clmodel.specs.Tree.{Term, Variable, Binary, Choice, Place, Whole, Behind, Stmt, If, IfElse, While, For, Assign, Step, Stmts, ThenStmt, MaybeStmt, MaybeTerm}
 use Rattle.clsyntax_lex.specs.declared.token.Token.{Token}
 use Rattle.clsyntax_lex.specs.declared.token.TokenKind.{TokenKind}
 use Rattle.clsyntax_lex.specs.declared.token.TokenKind.TheVariants as kinds
 use Rattle.clsyntax_terms.specs.Grammar.{Placed, put, level, tight, Prefix, prefix_of, prefixed_by, type_of, assign_of, step_of, IsNamed, IsNoElse, pointer_to}
-use Rattle.clsyntax_terms.specs.Machine.{Frame, After, Before, Chosen, InRound, InPart, InBehind, InStep, InAssign, InItems, Then, Otherwise, Turns, ForTurns, Purpose, ForParameter, ForDeclaration, takes_size, nesting_of, Mode, Operand, Have, Named, Opened, CastType, CallOpen, Optional, Item, Begin, Initial, Final, Aim, BeginName, Aimed, Ended, Did, AfterElement, AfterTyping, Top, AfterReturning, HeadOpen, WantParameter, State, in_mode, Moved, go, when, on_operand, on_prefix, on_opened, on_have, on_named, on_call_open, end_simple, on_optional, on_typing, on_after_const, on_after_space, on_head_open, on_top, on_simple, on_begin, on_item, on_initial, on_final, is_else, Settled, settle, on_settled, on_placed, on_aimed, on_begin_name, step}
+use Rattle.clsyntax_terms.specs.Machine.{Frame, After, Before, Chosen, InRound, InPart, InBehind, InStep, InAssign, InItems, Then, Otherwise, Turns, ForTurns, Purpose, ForParameter, ForDeclaration, takes_size, nesting_of, Mode, Operand, Have, Named, Opened, CastType, CallOpen, Optional, Item, Begin, Initial, Final, Aim, BeginName, Aimed, Ended, Did, AfterElement, AfterTyping, AfterReturning, HeadOpen, WantParameter, State, in_mode, Moved, go, when, on_operand, on_prefix, on_opened, on_have, on_named, on_call_open, end_simple, on_optional, on_typing, on_after_const, on_after_space, on_head_open, on_top, on_simple, on_begin, on_item, on_initial, on_final, is_else, Settled, settle, on_settled, on_placed, on_aimed, on_begin_name, step}
 use Rattle.clsyntax.proofs.Moves.{Runs, stop, onward, Alike}
 use Rattle.clsyntax.proofs.Levels.{asks, IsNoOpening, Follows, taken, chosen_taken}
 

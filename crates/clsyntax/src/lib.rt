@@ -11,10 +11,12 @@ mod arrays;
 mod control;
 mod heads;
 mod machine;
+mod operands;
 mod parser;
 mod statements;
 
-use crate::parser::{copies, functions_of};
+use crate::parser::functions_of;
+use clmodel::text::Name;
 use clmodel::tree::Tree;
 pub use clsyntax_lex::token::{SyntaxFault, Token, TokenKind};
 pub use clsyntax_lex::{Tokens, lex};
@@ -30,7 +32,7 @@ pub fn parse(alloc: Global, tokens: &Tokens) -> Result<Tree, SyntaxFault>
     ensures one { IsOne }
 {
     let functions = functions_of(alloc, tokens.length(), tokens.as_slice())?;
-    let names = copies(alloc, tokens.names())?;
+    let names = Name::copies(alloc, tokens.names())?;
     Ok(Tree { functions, names })
 }
 

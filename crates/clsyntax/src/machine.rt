@@ -10,13 +10,14 @@ use crate::control::{
     on_after_do, on_after_for, on_after_if, on_after_while, on_did, on_final, on_initial,
 };
 use crate::heads::{on_head, on_type};
+use crate::operands::{on_call_open, on_opened, on_optional};
 use crate::statements::{
     on_aim, on_aimed, on_begin, on_begin_name, on_declared, on_item, open_call,
 };
 use clmodel::tree::{Expression, Statement};
 use clsyntax_lex::token::{Token, TokenKind};
 use clsyntax_terms::closing::on_ended;
-use clsyntax_terms::expressions::{on_call_open, on_have, on_opened, on_operand, on_optional};
+use clsyntax_terms::expressions::{on_have, on_operand};
 use clsyntax_terms::state::{
     Address, Cast, Frame, Have, Mode, Moved, Prefix, Stack, State, Step, deeper,
 };

@@ -115,14 +115,3 @@ pub(crate) fn functions_of(
     }
     finish(state, length)
 }
-
-/// A copy of a table of names.
-pub(crate) fn copies(alloc: Global, names: &[Name]) -> Result<Vec<Name>, AllocError>
-    ensures { IfOk result (λ copies. copies.items ≡ names.now) }
-{
-    let mut copies = Vec::new(alloc);
-    for name in names {
-        copies.push(Name::copy_of(alloc, name.as_slice())?)?;
-    }
-    Ok(copies)
-}

@@ -17,8 +17,7 @@ use Rattle.clsyntax_lex.specs.declared.token.TokenKind.TheVariants as kinds
 use Rattle.clsyntax_terms.specs.Grammar.{level}
 use Rattle.clsyntax_print.specs.Printing.{Kinds, infix_kind, bracketed, with_token, print_term, print_terms, print_simple, print_part, print_condition, print_stmt, print_stmts, print_parameter, print_parameters, print_func, print_funcs}
 use Rattle.clsyntax_print.specs.Writing.{part_of}
-use Rattle.clsyntax_terms.proofs.Lists.{calls}
-use Rattle.clsyntax.proofs.Lists.{blocks}
+use Rattle.clmodel.proofs.Trees.{call_view, block_view}
 
 -- a comma and an expression, for each
 abbrev pub behind_commas : List rust_expression.Expression → Kinds → Kinds
@@ -45,7 +44,7 @@ terms_first es e is h rest = ap (λ ds. print_terms (terms ds) rest) (first_rest
 pub term_call : (wanted at name : ℕ) (e : rust_expression.Expression) (es : Vec rust_expression.Expression Global) (ds : List rust_expression.Expression) (rest : Kinds) → e ≡ rust_expression.Call at name es → ds ≡ es.items
     → print_term wanted (term e) rest ≡ kinds.Name name ∷ kinds.OpenRound ∷ print_terms (terms ds) (kinds.CloseRound ∷ rest)
 term_call wanted at name e es ds rest is same =
-    ap (λ d. print_term wanted (term d) rest) is ∙ ap (λ d. print_term wanted d rest) (calls at name es) ∙ ap (λ xs. kinds.Name name ∷ kinds.OpenRound ∷ print_terms (terms xs) (kinds.CloseRound ∷ rest)) (sym same)
+    ap (λ d. print_term wanted (term d) rest) is ∙ ap (λ d. print_term wanted d rest) (call_view at name es) ∙ ap (λ xs. kinds.Name name ∷ kinds.OpenRound ∷ print_terms (terms xs) (kinds.CloseRound ∷ rest)) (sym same)
 
 pub simple_call : (at name : ℕ) (s : rust_statement.Statement) (es : Vec rust_expression.Expression Global) (ds : List rust_expression.Expression) (rest : Kinds) → s ≡ rust_statement.Call at name es → ds ≡ es.items
     → print_simple (stmt s) rest ≡ kinds.Name name ∷ kinds.OpenRound ∷ print_terms (terms ds) (kinds.CloseRound ∷ rest)
@@ -85,7 +84,7 @@ stmts_each ss rest = stmts_behind NoStmt ss rest
 pub stmt_block : (at : ℕ) (s : rust_statement.Statement) (ss : Vec rust_statement.Statement Global) (ts : List rust_statement.Statement) (rest : Kinds) → s ≡ rust_statement.Block at ss → ts ≡ ss.items
     → print_stmt (stmt s) rest ≡ kinds.OpenBrace ∷ print_stmts (then_stmts NoStmt (map stmt ts)) (kinds.CloseBrace ∷ rest)
 stmt_block at s ss ts rest is same =
-    ap (λ t. print_stmt (stmt t) rest) is ∙ ap (λ t. print_stmt t rest) (blocks at ss) ∙ ap (λ xs. kinds.OpenBrace ∷ print_stmts (then_stmts NoStmt (map stmt xs)) (kinds.CloseBrace ∷ rest)) (sym same)
+    ap (λ t. print_stmt (stmt t) rest) is ∙ ap (λ t. print_stmt t rest) (block_view at ss) ∙ ap (λ xs. kinds.OpenBrace ∷ print_stmts (then_stmts NoStmt (map stmt xs)) (kinds.CloseBrace ∷ rest)) (sym same)
 
 -- a `for` is of its parts
 for_parts : (at : ℕ) (first third : Option (Box rust_statement.Statement Global)) (condition : Option (Box rust_expression.Expression Global)) (body : Box rust_statement.Statement Global)

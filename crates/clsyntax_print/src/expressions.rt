@@ -7,7 +7,7 @@ ghost use Rattle.clsyntax_lex.specs.declared.token.TokenKind.{TokenKind};
 ghost use Rattle.clsyntax_print.specs.Printing.{print_term, print_terms};
 ghost use Rattle.clsyntax_print.specs.Writing.{Passes};
 
-use crate::operators::{TIGHT, infix_kind, level, unary_kind};
+use crate::operators::{TIGHT, infix_kind, unary_kind};
 use crate::tokens::{write_if, write_tokens};
 use clmodel::text::Name;
 use clmodel::tree::Expression;
@@ -81,7 +81,7 @@ pub(crate) fn write_expression<W: Write>(
             right,
             ..
         } => {
-            let own = level(*operator);
+            let own = operator.level();
             write_if(own < wanted, TokenKind::OpenRound, names, writer)?;
             write_expression(own, left, names, writer)?;
             write_between(&[infix_kind(*operator)], own + 1, right, &[], names, writer)?;

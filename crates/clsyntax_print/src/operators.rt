@@ -2,7 +2,6 @@
 #![tactic(auto)]
 
 ghost use Rattle.std.specs.Prelude.{◌≡◌};
-ghost use Rattle.clsyntax_terms.specs.Grammar as grammar;
 ghost use Rattle.clsyntax_print.specs.Printing as printing;
 
 use clmodel::tree::InfixOperator;
@@ -11,29 +10,6 @@ use clsyntax_lex::token::TokenKind;
 
 /// The level of an operand, above that of every operator between two.
 pub(crate) const TIGHT: u32 = 12;
-
-/// How tightly an operator binds, from the loosest (C99 6.5.5 to 6.5.14).
-pub(crate) fn level(operator: InfixOperator) -> u32
-    ensures { result ≡ grammar.level operator }
-{
-    match operator {
-        InfixOperator::LogicalOr => 2,
-        InfixOperator::LogicalAnd => 3,
-        InfixOperator::Arithmetic(arithmetic) => match arithmetic {
-            BinaryOperator::BitOr => 4,
-            BinaryOperator::BitXor => 5,
-            BinaryOperator::BitAnd => 6,
-            BinaryOperator::Equal | BinaryOperator::NotEqual => 7,
-            BinaryOperator::Less
-            | BinaryOperator::Greater
-            | BinaryOperator::LessOrEqual
-            | BinaryOperator::GreaterOrEqual => 8,
-            BinaryOperator::ShiftLeft | BinaryOperator::ShiftRight => 9,
-            BinaryOperator::Add | BinaryOperator::Subtract => 10,
-            BinaryOperator::Multiply | BinaryOperator::Divide | BinaryOperator::Remainder => 11,
-        },
-    }
-}
 
 fn arithmetic_kind(operator: BinaryOperator) -> TokenKind
     ensures { result ≡ printing.arithmetic_kind operator }

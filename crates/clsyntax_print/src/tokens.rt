@@ -15,22 +15,6 @@ use clsyntax_lex::token::TokenKind;
 use ends::{Write, WriteFailed};
 use itoa::Buffer;
 
-/// The word of a type (OpenCL 1.2, section 6.1.1).
-fn type_word(kind: IntType) -> &'static str
-    ensures { result.now ≡ word_text (TokenKind.Type kind) }
-{
-    match kind {
-        IntType::Char => "char",
-        IntType::Uchar => "uchar",
-        IntType::Short => "short",
-        IntType::Ushort => "ushort",
-        IntType::Int => "int",
-        IntType::Uint => "uint",
-        IntType::Long => "long",
-        IntType::Ulong => "ulong",
-    }
-}
-
 /// The text of a word or a symbol, and none of a name or a number.
 fn word(kind: TokenKind) -> &'static str
     ensures { result.now ≡ word_text kind }
@@ -43,7 +27,7 @@ fn word(kind: TokenKind) -> &'static str
         TokenKind::Space(AddressSpace::Constant) => "__constant",
         TokenKind::Const => "const",
         TokenKind::Void => "void",
-        TokenKind::Type(kind) => type_word(kind),
+        TokenKind::Type(kind) => kind.name(),
         TokenKind::SizeT => "size_t",
         TokenKind::If => "if",
         TokenKind::Else => "else",

@@ -15,6 +15,7 @@ use Rattle.clmodel.specs.declared.tree.VariableType.{VariableType}
 use Rattle.clmodel.specs.declared.tree.VariableType.TheVariants.{Integer, Pointer}
 use Rattle.clmodel.specs.declared.tree.Parameter.{Parameter}
 use Rattle.clmodel.specs.Tree.{Term, Number, Variable, Element, ElementAddress, Dereference, Call, Unary, Cast, Binary, Choice, Terms, NoTerm, ThenTerm, Place, Whole, Part, Behind, Stmt, Empty, Block, Declare, DeclareAs, DeclareArray, Assign, Step, CallOnly, If, IfElse, While, DoWhile, For, Break, Continue, Return, ReturnValue, Stmts, NoStmt, ThenStmt, MaybeStmt, Without, With, MaybeTerm, Always, While_, Func, Funcs, NoFunc, ThenFunc}
+pub use Rattle.clmodel.specs.Tree.{level}
 use Rattle.clsyntax_lex.specs.declared.token.Token.{Token}
 use Rattle.clsyntax_lex.specs.declared.token.TokenKind.{TokenKind}
 use Rattle.clsyntax_lex.specs.declared.token.TokenKind.TheVariants as kinds
@@ -58,30 +59,6 @@ infix_of kinds.Star = Some (Arithmetic Multiply)
 infix_of kinds.Slash = Some (Arithmetic Divide)
 infix_of kinds.Percent = Some (Arithmetic Remainder)
 infix_of _ = None
-
--- how tightly an operator binds, from the loosest (C99 6.5.5 to 6.5.14)
-abbrev pub arithmetic_level : BinaryOperator → ℕ
-arithmetic_level BitOr = 4
-arithmetic_level BitXor = 5
-arithmetic_level BitAnd = 6
-arithmetic_level Equal = 7
-arithmetic_level NotEqual = 7
-arithmetic_level Less = 8
-arithmetic_level Greater = 8
-arithmetic_level LessOrEqual = 8
-arithmetic_level GreaterOrEqual = 8
-arithmetic_level ShiftLeft = 9
-arithmetic_level ShiftRight = 9
-arithmetic_level Add = 10
-arithmetic_level Subtract = 10
-arithmetic_level Multiply = 11
-arithmetic_level Divide = 11
-arithmetic_level Remainder = 11
-
-abbrev pub level : InfixOperator → ℕ
-level LogicalOr = 2
-level LogicalAnd = 3
-level (Arithmetic op) = arithmetic_level op
 
 -- the level of an operand, above that of every operator between two
 abbrev pub tight : ℕ

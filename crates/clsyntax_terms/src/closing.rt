@@ -312,7 +312,7 @@ pub(crate) fn on_semicolon(value: Box<Expression>, stack: Stack) -> Moved
 }
 
 /// A semicolon in place of an expression.
-pub(crate) fn on_nothing(stack: Stack) -> Moved
+pub fn on_nothing(stack: Stack) -> Moved
     ensures { Steps result (machine.without (opened stack)) }
 {
     let Some((frame, stack)) = stack.pop() else {

@@ -6,15 +6,12 @@ ghost use Rattle.clmodel.specs.Tree as tree;
 ghost use Rattle.clmodel.specs.Tree.{term, terms};
 ghost use Rattle.clsyntax_terms.specs.Grammar as grammar;
 ghost use Rattle.clsyntax_terms.specs.Machine as machine;
-ghost use Rattle.clsyntax_terms.specs.Views.{opened, folded_of, is_operand, Steps};
+ghost use Rattle.clsyntax_terms.specs.Views.{opened, folded_of, Steps};
 
-use crate::closing::{end_bracket, on_nothing, on_semicolon};
-use crate::operators::{Folded, assign_of, close, infix_of, is_star, level, prefix_of};
-use crate::state::{
-    Aimed, Assign, Call, Cast, FirstName, Frame, Have, Mode, Moved, Stack, Step, deeper,
-};
+use crate::closing::{end_bracket, on_semicolon};
+use crate::operators::{Folded, assign_of, close, infix_of, is_star, prefix_of};
+use crate::state::{Aimed, Assign, Call, FirstName, Frame, Have, Mode, Moved, Stack, Step, deeper};
 use clmodel::tree::{Expression, InfixOperator, Statement, Target};
-use clnum::IntType;
 use clsyntax_lex::token::{Token, TokenKind};
 
 /// Where an operand is wanted.
@@ -45,48 +42,6 @@ pub fn on_operand(nesting: u32, stack: Stack, token: Token) -> Moved
     }
 }
 
-/// Whether an operand or the type of a cast begins with a token.
-fn begins_operand(kind: TokenKind) -> bool
-    ensures { result ≡ is_operand kind }
-{
-    match kind {
-        TokenKind::Type(_) | TokenKind::SizeT | TokenKind::Number(_) | TokenKind::Name(_) => true,
-        TokenKind::And | TokenKind::OpenRound => true,
-        _ => prefix_of(kind).is_some(),
-    }
-}
-
-/// After a bracket where an operand was wanted: the type of a cast, or an operand.
-pub fn on_opened(nesting: u32, at: u32, stack: Stack, token: Token) -> Moved
-    ensures { Steps result (machine.on_opened nesting at (opened stack) token) }
-{
-    if !begins_operand(token.kind) {
-        return Ok(Step::Refused);
-    }
-    let Some(inner) = deeper(nesting) else {
-        return Ok(Step::Deep);
-    };
-    match token.kind {
-        TokenKind::Type(target) => {
-            let cast = Cast {
-                nesting,
-                at,
-                target,
-            };
-            stack.go(inner, Mode::CastType(cast))
-        }
-        TokenKind::SizeT => {
-            let cast = Cast {
-                nesting,
-                at,
-                target: IntType::Ulong,
-            };
-            stack.go(inner, Mode::CastType(cast))
-        }
-        _ => on_operand(inner, stack.push(Frame::InRound { at, nesting })?, token),
-    }
-}
-
 fn call_of(at: u32, name: u32, arguments: Vec<Expression>) -> Expression
     ensures { term result ≡ tree.Call at name (terms arguments.items) }
 {
@@ -98,7 +53,7 @@ fn call_of(at: u32, name: u32, arguments: Vec<Expression>) -> Expression
 }
 
 /// Where a call's bracket closes.
-fn end_call(call: Call, stack: Stack) -> Moved
+pub fn end_call(call: Call, stack: Stack) -> Moved
     ensures { Steps result (machine.end_call call.is_statement call.at call.name call.nesting (terms call.arguments.items) (opened stack)) }
 {
     let Call {
@@ -311,7 +266,7 @@ fn asked_level(between: Option<InfixOperator>, kind: TokenKind) -> u32
     ensures { result ≡ machine.asked_level between kind }
 {
     match (between, kind) {
-        (Some(operator), _) => level(operator),
+        (Some(operator), _) => operator.level(),
         (None, TokenKind::Question) => 1,
         _ => 0,
     }
@@ -340,40 +295,5 @@ pub fn on_have(have: Have, stack: Stack, token: Token) -> Moved
             stack.open(nesting, after)
         }
         None => end_expression(token.kind, nesting, folded),
-    }
-}
-
-fn close_call(stack: Stack) -> Moved
-    ensures { Steps result (machine.close_call (opened stack)) }
-{
-    let Some((frame, stack)) = stack.pop() else {
-        return Ok(Step::Refused);
-    };
-    match frame {
-        Frame::InCall(call) => end_call(call, stack),
-        _ => {
-            drop(frame);
-            Ok(Step::Refused)
-        }
-    }
-}
-
-/// After the bracket of a call.
-pub fn on_call_open(nesting: u32, stack: Stack, token: Token) -> Moved
-    ensures { Steps result (machine.on_call_open nesting (opened stack) token) }
-{
-    match token.kind {
-        TokenKind::CloseRound => close_call(stack),
-        _ => on_operand(nesting, stack, token),
-    }
-}
-
-/// Where an expression is wanted, or a semicolon in its place.
-pub fn on_optional(nesting: u32, stack: Stack, token: Token) -> Moved
-    ensures { Steps result (machine.on_optional nesting (opened stack) token) }
-{
-    match token.kind {
-        TokenKind::Semicolon => on_nothing(stack),
-        _ => on_operand(nesting, stack, token),
     }
 }

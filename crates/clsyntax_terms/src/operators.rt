@@ -42,31 +42,8 @@ pub(crate) fn infix_of(kind: TokenKind) -> Option<InfixOperator>
     Some(InfixOperator::Arithmetic(arithmetic))
 }
 
-/// How tightly an operator binds, from the loosest (C99 6.5.5 to 6.5.14).
-pub(crate) fn level(operator: InfixOperator) -> u32
-    ensures { result ≡ grammar.level operator }
-{
-    match operator {
-        InfixOperator::LogicalOr => 2,
-        InfixOperator::LogicalAnd => 3,
-        InfixOperator::Arithmetic(arithmetic) => match arithmetic {
-            BinaryOperator::BitOr => 4,
-            BinaryOperator::BitXor => 5,
-            BinaryOperator::BitAnd => 6,
-            BinaryOperator::Equal | BinaryOperator::NotEqual => 7,
-            BinaryOperator::Less
-            | BinaryOperator::Greater
-            | BinaryOperator::LessOrEqual
-            | BinaryOperator::GreaterOrEqual => 8,
-            BinaryOperator::ShiftLeft | BinaryOperator::ShiftRight => 9,
-            BinaryOperator::Add | BinaryOperator::Subtract => 10,
-            BinaryOperator::Multiply | BinaryOperator::Divide | BinaryOperator::Remainder => 11,
-        },
-    }
-}
-
 /// The prefix that a token is.
-pub(crate) fn prefix_of(kind: TokenKind) -> Option<Prefix>
+pub fn prefix_of(kind: TokenKind) -> Option<Prefix>
     ensures { maybe_prefix result ≡ grammar.prefix_of kind }
 {
     match kind {
@@ -179,7 +156,7 @@ fn takes(least: u32, frames: &Frames) -> bool
     ensures { result ≡ takes_front least (frames_of frames.now) }
 {
     match frames {
-        Frames::Inside(Frame::After { operator, .. }, _) => least <= level(*operator),
+        Frames::Inside(Frame::After { operator, .. }, _) => least <= operator.level(),
         Frames::Inside(Frame::Before { .. }, _) => true,
         Frames::Inside(Frame::Chosen { .. }, _) => least == 0,
         _ => false,

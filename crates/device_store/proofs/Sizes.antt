@@ -9,10 +9,6 @@ use Rattle.clmodel.specs.Setup.{product, item_count, group_items}
 use Rattle.clmodel.specs.declared.setup.Range.{Range}
 use Rattle.device_store.specs.Ranges.{is_bad_dimension, IsLaunchable}
 
-pub clipped : (n p m : ℕ) → min (n * min p m) m ≡ min (n * p) m
-clipped zero p m = omega arith
-clipped (suc n) p m = grind arith
-
 neither : (a b : Bool) → (a || b) ≡ false → (a ≡ false) × (b ≡ false)
 neither false false h = (refl, refl)
 neither false true h = cc

@@ -1,10 +1,11 @@
 -- Kernels with their arguments (OpenCL 1.2, 5.7).
-use Rattle.std.specs.Prelude.{ℕ, ℤ, Bool, true, false, not, ◌&&◌, nat_le, int_le, List, Option, None, Some, is_some, position, slice_set, [], replicate}
-use Rattle.std.specs.Option.{option_map, option_and_then, option_map_or}
+use Rattle.std.specs.Prelude.{ℕ, ℤ, Bool, true, false, not, ◌&&◌, nat_le, int_le, List, Option, None, Some, is_some, slice_set, [], replicate}
+use Rattle.std.specs.Option.{option_map_or}
 use Rattle.clnum.specs.Integer.{least, greatest}
 use Rattle.clnum.specs.declared.int_type.IntType.{IntType}
 use Rattle.clmodel.specs.Tree.{Program}
-use Rattle.clmodel.specs.Setup.{kernel_in}
+use Rattle.clmodel.specs.Setup.{kernel_in, local_limit}
+pub use Rattle.clmodel.specs.Setup.{kernel_number}
 use Rattle.clmodel.specs.declared.setup.Argument.{Argument}
 use Rattle.clmodel.specs.declared.setup.Argument.TheVariants as argument
 use Rattle.clmodel.specs.declared.tree.Parameter.{Parameter}
@@ -20,11 +21,6 @@ pub record KernelState : Type 0 where
   pub program : List ℕ
   pub function : ℕ
   pub arguments : List (Option Argument)
-
--- the number of the name of a program's kernel, or None where it has no such kernel
-abbrev pub kernel_number : Program → List ℕ → Option ℕ
-kernel_number program name =
-    option_and_then (λ number. option_map (λ f. f.name) (kernel_in program.functions number)) (position (is name) program.names)
 
 -- a number is that of the name of a kernel of a program
 abbrev pub names_kernel : Program → ℕ → Bool
@@ -61,11 +57,11 @@ is_local space.Constant = false
 abbrev pub is_in_range : IntType → ℤ → Bool
 is_in_range kind n = int_le (least kind) n && int_le n (greatest kind)
 
--- an argument is of the kind that a parameter wants: a buffer for a pointer to global or constant memory, a size of 1 to 32768
+-- an argument is of the kind that a parameter wants: a buffer for a pointer to global or constant memory, a size of 1 to 32,768
 -- for one to local memory, a number of its type for an integer
 abbrev pub suits : VariableType → Argument → Bool
 suits (variable_type.Pointer p) (argument.Buffer name) = not (is_local p.space)
-suits (variable_type.Pointer p) (argument.Local size) = is_local p.space && nat_le 1 size && nat_le size 32768
+suits (variable_type.Pointer p) (argument.Local size) = is_local p.space && nat_le 1 size && nat_le size local_limit
 suits (variable_type.Pointer p) (argument.Value n) = false
 suits (variable_type.Integer kind) (argument.Value n) = is_in_range kind n
 suits (variable_type.Integer kind) (argument.Buffer name) = false

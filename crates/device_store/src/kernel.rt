@@ -1,23 +1,18 @@
 //! Kernels with their arguments (OpenCL 1.2, section 5.7).
 #![tactic(auto)]
 
-ghost use Rattle.std.specs.Prelude.{◌≡◌, ◌<◌, ℕ, position, None, Some, length, map, replicate, slice_set, IfOk, IfSome, is_some, true, not};
+ghost use Rattle.std.specs.Prelude.{◌≡◌, None, replicate, IfOk, IfSome, is_some, true, not};
 ghost use Rattle.std.specs.List.{list_any};
-ghost use Rattle.std.specs.Option.{option_map};
-ghost use Rattle.clmodel.specs.Tree.{program, func, then_funcs, NoFunc};
-ghost use Rattle.clmodel.specs.Setup.{kernel_in};
-ghost use Rattle.spaces_base.specs.Tables.{is};
-ghost use Rattle.device_store.specs.Kernels.{kernel_number, names_kernel, parameters_of, with_argument, new_kernel, names_buffer, is_in_range, suits};
+ghost use Rattle.clmodel.specs.Tree.{program};
+ghost use Rattle.clmodel.specs.Setup.{kernel_number};
+ghost use Rattle.device_store.specs.Kernels.{names_kernel, parameters_of, with_argument, new_kernel, names_buffer, is_in_range, suits};
 
-use clmodel::setup::Argument;
+use clmodel::setup::{Argument, LOCAL_LIMIT};
 use clmodel::text::Name;
-use clmodel::tree::{AddressSpace, Function, Parameter, Tree, VariableType};
+use clmodel::tree::{AddressSpace, Parameter, Tree, VariableType};
 use clnum::{IntType, Value};
 use std::alloc::{AllocError, Global};
 use std::marker::Model;
-
-/// The most bytes of local memory that a group may have.
-const MAX_LOCAL: u64 = 32768;
 
 /// A kernel of a program, with an argument for each parameter that was given one.
 #[derive(Drop)]
@@ -120,46 +115,21 @@ impl Kernel {
     }
 }
 
-/// The kernel of a name, by its number, among functions.
-#[tactic(auto, using(crate::proofs::Functions::one_more))]
-fn kernel_in(functions: &[Function], number: usize) -> Option<&Function>
-    ensures { option_map (λ f. func f.now) result ≡ kernel_in (then_funcs NoFunc (map func functions.now)) number }
-{
-    let mut found = None;
-    for f in functions {
-        if f.is_kernel && f.name as usize == number {
-            found = Some(f);
-        }
-    }
-    found
-}
-
-/// The place of a name among others.
-fn place_of(names: &[Name], name: &Name) -> Option<usize>
-    ensures { result ≡ position (is name.now) names.now }
-{
-    names.iter().position(|other| name == other)
-}
-
 /// The number of the name of a program's kernel.
 pub fn kernel_number(tree: &Tree, name: &Name) -> Option<u32>
     ensures number { result ≡ kernel_number (program tree.now) name.now }
     ensures there { IfSome result (λ number. names_kernel (program tree.now) number ≡ true) }
 {
-    let number = place_of(tree.names.as_slice(), name)?;
-    match kernel_in(tree.functions.as_slice(), number) {
-        None => None,
-        Some(function) => Some(function.name),
-    }
+    tree.kernel_number(name.as_slice())
 }
 
 /// The parameters of a program's kernel, by the number of its name.
 pub fn parameters_of(tree: &Tree, number: u32) -> &[Parameter]
     ensures { result.now ≡ parameters_of (program tree.now) number }
 {
-    match kernel_in(tree.functions.as_slice(), number as usize) {
+    match tree.kernel(number as usize) {
         None => &[],
-        Some(function) => function.parameters.as_slice(),
+        Some(found) => found.function.parameters.as_slice(),
     }
 }
 
@@ -178,7 +148,7 @@ pub fn suits(kind: VariableType, argument: &Argument) -> bool
     match (kind, argument) {
         (VariableType::Pointer(p), Argument::Buffer(_)) => p.space != AddressSpace::Local,
         (VariableType::Pointer(p), Argument::Local(size)) => {
-            p.space == AddressSpace::Local && *size >= 1 && *size <= MAX_LOCAL
+            p.space == AddressSpace::Local && *size >= 1 && *size <= LOCAL_LIMIT
         }
         (VariableType::Integer(kind), Argument::Value(n)) => is_in_range(kind, *n),
         _ => false,

@@ -1,9 +1,9 @@
 //! Which index spaces a launch may have (OpenCL 1.2, section 5.8).
 #![tactic(auto)]
 
-ghost use Rattle.std.specs.Prelude.{◌≡◌, ◌<◌, ◌≤◌, ◌%◌, ◌^◌, ◌+◌, ◌-◌, ◌==◌, ◌||◌, not, nat_lt, min, All};
+ghost use Rattle.std.specs.Prelude.{◌≡◌, ◌<◌, ◌≤◌, ◌%◌, ◌^◌, ◌+◌, ◌-◌, ◌==◌, ◌||◌, not, nat_lt, All};
 ghost use Rattle.std.specs.List.{list_any, zip};
-ghost use Rattle.clmodel.specs.Setup.{product, item_count, group_items};
+ghost use Rattle.clmodel.specs.Setup.{item_count, group_items};
 ghost use Rattle.device_store.specs.Ranges.{is_bad_dimension, is_bad_group, is_too_many, IsLaunchable};
 
 use clmodel::setup::Range;
@@ -13,17 +13,6 @@ const MAX_GROUP: u64 = 256;
 
 /// The most items that a launch may have.
 const MAX_ITEMS: u64 = 65536;
-
-/// The product of sizes, or the greatest number where it is larger.
-#[tactic(auto, using(crate::proofs::Sizes::clipped))]
-fn product(sizes: &[u64]) -> u64
-    ensures { result ≡ min (product sizes.now) (2 ^ 64 - 1) }
-{
-    match sizes {
-        [] => 1,
-        [first, rest @ ..] => first.saturating_mul(product(rest)),
-    }
-}
 
 /// Whether in a dimension the offset and the global size pass 2^64 - 1 together (OpenCL 1.2, section 5.8).
 fn any_passes(offset: &[u64], global: &[u64]) -> bool
@@ -62,14 +51,14 @@ pub fn is_bad_group(range: &Range) -> bool
 {
     let global = range.global.as_slice();
     let local = range.local.as_slice();
-    any_uneven(global, local) || product(local) > MAX_GROUP
+    any_uneven(global, local) || range.local.product() > MAX_GROUP
 }
 
 /// Whether there are more than 65,536 items in all groups together, the product of the global sizes.
 pub fn is_too_many(range: &Range) -> bool
     ensures { result ≡ is_too_many range.now }
 {
-    product(range.global.as_slice()) > MAX_ITEMS
+    range.global.product() > MAX_ITEMS
 }
 
 /// How many items a group has, 1 to 256: the product of the local sizes. The launch's items, at most 65,536, are a multiple of it.
@@ -83,5 +72,5 @@ pub fn group_items(range: &Range) -> u32
     ensures few_items { item_count range.now ≤ 65536 }
     ensures sized { All (λ size. 0 < size) range.now.local }
 {
-    product(range.local.as_slice()) as u32
+    range.local.product() as u32
 }

@@ -1,5 +1,5 @@
 pub mod Covering
 pub mod Faithful
 pub mod Kept
-pub mod Same
+pub mod Shortened
 pub mod Telling

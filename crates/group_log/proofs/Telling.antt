@@ -93,7 +93,7 @@ whole_same :
     → hit_on (within_group u) z byte new ≡ hit_on (within_group u) z byte whole
 whole_same u z x byte whole new (inl t) h = ap (hit_on (within_group u) z byte) t.1
 whole_same u z x byte whole new (inr n) h =
-    ap (hit_on (within_group u) z byte) n.1 ∙ on_push (within_group u) z byte whole x
+    ap (hit_on (within_group u) z byte) n ∙ on_push (within_group u) z byte whole x
     ∙ last_none (hit_on (within_group u) z byte whole) (hit_between (within_group u) x z byte) (λ e. not_hit (within_group u) x z byte (h e))
 
 -- the kept and the whole list with the same access
@@ -106,7 +106,7 @@ both_more u z x byte kept whole new (inl t) h =
     ∙ last_none (hit_on (within_group u) z byte kept) (hit_between (within_group u) x z byte) (λ e. not_hit (within_group u) x z byte (there_misses (within_group u) x.access z byte whole t.0 (h ∙ e)))
     ∙ sym h)
 both_more u z x byte kept whole new (inr n) h =
-    ap (hit_on (within_group u) z byte) n.1 ∙ on_push (within_group u) z byte whole x ∙ ap (λ o. or_else o (hit_between (within_group u) x z byte)) h ∙ sym (on_push (within_group u) z byte kept x)
+    ap (hit_on (within_group u) z byte) n ∙ on_push (within_group u) z byte whole x ∙ ap (λ o. or_else o (hit_between (within_group u) x z byte)) h ∙ sym (on_push (within_group u) z byte kept x)
 
 pub taken_tells :
     (u b : Bool) (n : ℕ) (kept whole kept2 whole2 : List Entry) (x : Entry) → Tells u b n kept whole → x.access.interval ≡ n → IsTaken u kept x kept2 → IsKept whole x whole2 → Tells u b n kept2 whole2
@@ -177,3 +177,6 @@ noted_tells u b n kept whole x u1 u2 n1 n2 kept1 kept2 whole2 t j a c d e f take
     subst (λ v. Tells v b n2 kept2 whole2) (sym (e ∙ a))
     (subst (λ m. Tells u b m kept2 whole2) (sym (f ∙ c))
     (taken_tells u b n kept whole kept2 whole2 x t j (subst (λ l. IsTaken u l x kept2) d (subst (λ v. IsTaken v kept1 x kept2) a taken)) k))
+
+pub tells_new : (u b : Bool) (n : ℕ) (kept whole : List Entry) → n ≡ 0 → kept ≡ [] → whole ≡ [] → Tells u b n kept whole
+tells_new u b n kept whole e k w = subst (λ m. Tells u b m kept whole) (sym e) (subst (λ l. Tells u b 0 l whole) (sym k) (subst (Tells u b 0 []) (sym w) (tells_none u b)))

@@ -1,12 +1,17 @@
 //! The log of a group that is running.
 
-ghost use Rattle.std.specs.Prelude.{◌≡◌, ◌<◌, ◌-◌, ◌^◌, false, true};
+ghost use Rattle.std.specs.Prelude.{◌≡◌, ◌<◌, ◌-◌, ◌^◌, [], false, true};
+ghost use Rattle.shadow.specs.Lasting.{StandsWith};
+ghost use Rattle.shadow.specs.Seen.{IsFootprint};
 ghost use Rattle.shadow_list.specs.Log.{IsPlaced, IsNoted, logged, fresh_log, in_buffer};
+ghost use Rattle.group_log.specs.Lasting.{all_of, short_of, last_of, made, LeavesOut};
 ghost use Rattle.group_log.specs.Tells.{Tells};
 
+use crate::lasting::Lasting;
 use crate::side::Side;
 use crate::whole::Whole;
 use clmodel::access::{Access, Region};
+use shadow::LastingList;
 use shadow_list::{AccessLog, Entry, Fenced, Hit, Logged};
 use std::alloc::{AllocError, Global};
 
@@ -21,11 +26,16 @@ use std::alloc::{AllocError, Global};
 pub struct GroupLog {
     local: Side,
     global: Side,
+    lasting: Lasting,
     /// All accesses.
     whole: Whole,
     ghost one_launch: { local.uniform ≡ global.uniform },
-    ghost local_tells: { Tells local.uniform false local.interval local.kept.items whole.items },
-    ghost global_tells: { Tells global.uniform true global.interval global.kept.items whole.items },
+    ghost local_tells: { Tells local.uniform false local.interval local.kept.items (all_of whole.items) },
+    ghost global_tells: { Tells global.uniform true global.interval global.kept.items (all_of whole.items) },
+    ghost footprint: { IsFootprint lasting.footprint (made [] whole.items) },
+    ghost entries: { lasting.entries.items ≡ short_of whole.items },
+    ghost has_last: { lasting.has_last ≡ last_of false whole.items },
+    ghost left_out: { LeavesOut [] whole.items },
 }
 
 /// An access of a running interval.
@@ -44,26 +54,36 @@ fn stamped(entry: Entry, interval: u32) -> Entry
 impl GroupLog {
     /// A log without accesses, in the first interval of both address spaces, of a launch that is uniform or not. It takes no memory.
     pub fn new(alloc: Global, uniform: bool) -> Self
-        ensures { logged result.whole.items result.local.interval result.global.interval result.global.uniform ≡ fresh_log uniform }
+        ensures { logged (all_of result.whole.items) result.local.interval result.global.interval result.global.uniform ≡ fresh_log uniform }
     {
         GroupLog {
             local: Side::new(alloc, uniform),
             global: Side::new(alloc, uniform),
+            lasting: Lasting::new(alloc),
             whole: Whole::new(),
         }
+    }
+
+    /// The accesses that tell other groups something new. All else is given back, and memory to spare too, where the smaller block isn't refused:
+    /// nothing is lost where it is.
+    pub fn into_list(self) -> LastingList
+        ensures { StandsWith result.has_last result.entries.items (all_of self.whole.items) }
+    {
+        self.lasting.into_list()
     }
 
     /// The same for an access of local memory.
     fn note_local(&mut self, entry: Entry) -> Result<Option<Hit>, AllocError>
         requires placed { IsPlaced entry }
         requires space { in_buffer entry.access.region ≡ false }
-        ensures { IsNoted (logged self.old.whole.items self.old.local.interval self.old.global.interval self.old.global.uniform) entry (logged self.new.whole.items self.new.local.interval self.new.global.interval self.new.global.uniform) result }
+        ensures { IsNoted (logged (all_of self.old.whole.items) self.old.local.interval self.old.global.interval self.old.global.uniform) entry (logged (all_of self.new.whole.items) self.new.local.interval self.new.global.interval self.new.global.uniform) result }
     {
         let entry = stamped(entry, self.local.interval);
         let found = self.local.judge(&entry);
         let needed = self.local.make_room(&entry.access)?;
+        self.lasting.pass();
         self.local.put(needed, entry);
-        self.whole = self.whole.with(&entry);
+        self.whole = self.whole.with(&entry, &false);
         Ok(found)
     }
 
@@ -71,19 +91,20 @@ impl GroupLog {
     fn note_global(&mut self, entry: Entry) -> Result<Option<Hit>, AllocError>
         requires placed { IsPlaced entry }
         requires space { in_buffer entry.access.region ≡ true }
-        ensures { IsNoted (logged self.old.whole.items self.old.local.interval self.old.global.interval self.old.global.uniform) entry (logged self.new.whole.items self.new.local.interval self.new.global.interval self.new.global.uniform) result }
+        ensures { IsNoted (logged (all_of self.old.whole.items) self.old.local.interval self.old.global.interval self.old.global.uniform) entry (logged (all_of self.new.whole.items) self.new.local.interval self.new.global.interval self.new.global.uniform) result }
     {
         let entry = stamped(entry, self.global.interval);
         let found = self.global.judge(&entry);
         let needed = self.global.make_room(&entry.access)?;
+        let lasts = self.lasting.note(&entry)?;
         self.global.put(needed, entry);
-        self.whole = self.whole.with(&entry);
+        self.whole = self.whole.with(&entry, &lasts);
         Ok(found)
     }
 }
 
 impl Logged for GroupLog {
-    ghost log = { λ l. logged l.whole.items l.local.interval l.global.interval l.global.uniform };
+    ghost log = { λ l. logged (all_of l.whole.items) l.local.interval l.global.interval l.global.uniform };
 }
 
 impl AccessLog for GroupLog {

@@ -3,6 +3,7 @@
 #![tactic(auto)]
 
 mod group;
+mod lasting;
 mod place;
 mod side;
 mod whole;

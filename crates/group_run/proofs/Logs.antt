@@ -163,7 +163,7 @@ pub keeps_noted :
     (log : List Access) (es new : List Entry) (x : Entry) → Keeps log (accesses_of es) → IsKept es x new → Keeps (x.access ∷ log) (accesses_of new)
 keeps_noted log es new x k (inl h) =
     inl (logged_kept log (accesses_of es) x.access k (there_logged es x.access h.0), subst (λ z. Keeps log (accesses_of z)) (sym h.1) k)
-keeps_noted log es new x k (inr h) = inr (accesses_of es, ap accesses_of h.1 ∙ accesses_push es x, k)
+keeps_noted log es new x k (inr h) = inr (accesses_of es, ap accesses_of h ∙ accesses_push es x, k)
 
 mine_push : (l : Launch) (g : ℕ) (es : List Entry) (x : Entry) → AreMine l g es → group_of l x.access.item ≡ g → AreMine l g (es ++ x ∷ [])
 mine_push l g [] x h m = (m, tt)
@@ -171,4 +171,4 @@ mine_push l g (y ∷ es) x h m = (h.0, mine_push l g es x h.1 m)
 
 pub mine_noted : (l : Launch) (g : ℕ) (es new : List Entry) (x : Entry) → AreMine l g es → group_of l x.access.item ≡ g → IsKept es x new → AreMine l g new
 mine_noted l g es new x h m (inl k) = subst (AreMine l g) (sym k.1) h
-mine_noted l g es new x h m (inr k) = subst (AreMine l g) (sym k.1) (mine_push l g es x h m)
+mine_noted l g es new x h m (inr k) = subst (AreMine l g) (sym k) (mine_push l g es x h m)

@@ -3,7 +3,7 @@ use Rattle.std.proofs.Common.{◌≡◌, ◌≢◌, ℕ, ◌+◌, ◌-◌, ◌^�
 use Rattle.std.proofs.lemmas.List.{take_more, map-append, append-nil}
 use Rattle.std.proofs.lemmas.List.Sums.{sum_by-append, sum_by-cons}
 use Rattle.std.proofs.lemmas.Bool.Decides.{nat_tests}
-use Rattle.clmodel.specs.Setup.{LocalObject, declared_object, body_objects, parameter_objects, local_size}
+use Rattle.clmodel.specs.Setup.{LocalObject, declared_object, body_objects, parameter_objects, local_size, local_limit}
 use Rattle.clmodel.specs.Tree.{Stmt, Stmts, stmt, then_stmts, NoStmt, ThenStmt}
 use Rattle.clmodel.specs.declared.setup.Argument.{Argument}
 use Rattle.clmodel.specs.declared.tree.Parameter.{Parameter}
@@ -100,9 +100,9 @@ parameter_more ps arguments i d below =
     ∙ ap (λ n. min n (2 ^ 64 - 1)) (sym (ap all_sizes (objects_more_at ps arguments i d below) ∙ sum_by-append (λ (o : LocalObject). o.size) (parameter_objects (take i ps) arguments) (object_at arguments i (get_or ps i d) ∷ [])))
 
 -- sums that are cut off, against a smaller number
-pub above : (p d : ℕ) → nat_lt 32768 (min (min p (2 ^ 64 - 1) + min d (2 ^ 64 - 1)) (2 ^ 64 - 1)) ≡ nat_lt 32768 (p + d)
+pub above : (p d : ℕ) → nat_lt local_limit (min (min p (2 ^ 64 - 1) + min d (2 ^ 64 - 1)) (2 ^ 64 - 1)) ≡ nat_lt local_limit (p + d)
 above p d = grind (arith, nat_tests)
 
 -- the bytes of a kernel's local objects
-pub all_above : (parameters declared : List LocalObject) → nat_lt 32768 (min (min (all_sizes parameters) (2 ^ 64 - 1) + min (all_sizes declared) (2 ^ 64 - 1)) (2 ^ 64 - 1)) ≡ nat_lt 32768 (all_sizes (parameters ++ declared))
-all_above parameters declared = above (all_sizes parameters) (all_sizes declared) ∙ ap (nat_lt 32768) (sym (sum_by-append (λ (o : LocalObject). o.size) parameters declared))
+pub all_above : (parameters declared : List LocalObject) → nat_lt local_limit (min (min (all_sizes parameters) (2 ^ 64 - 1) + min (all_sizes declared) (2 ^ 64 - 1)) (2 ^ 64 - 1)) ≡ nat_lt local_limit (all_sizes (parameters ++ declared))
+all_above parameters declared = above (all_sizes parameters) (all_sizes declared) ∙ ap (nat_lt local_limit) (sym (sum_by-append (λ (o : LocalObject). o.size) parameters declared))

@@ -1,5 +1,4 @@
 pub mod Starts
-pub mod Functions
 pub mod Objects
 pub mod Declarations
 pub mod Turns

@@ -84,8 +84,7 @@ impl<'a> Launch<'a> {
         }
         let range = setup.range;
         let group_counts = group_counts(alloc, range.global.as_slice(), range.local.as_slice())?;
-        let functions = setup.tree.functions.as_slice();
-        let local_objects = local_objects(alloc, functions, setup.kernel, setup.arguments)?;
+        let local_objects = local_objects(alloc, setup.tree, setup.kernel, setup.arguments)?;
         Ok(Launch {
             setup,
             code,

@@ -2,19 +2,15 @@
 #![tactic(auto)]
 
 ghost use Rattle.std.specs.Prelude.{◌≡◌, ◌-◌, ◌^◌, None, get_or, map, min, nat_lt, IfOk};
-ghost use Rattle.std.specs.Option.{option_map};
 ghost use Rattle.clmodel.specs.Setup as model;
 ghost use Rattle.clmodel.specs.Tree as tree;
-ghost use Rattle.clmodel.specs.Tree.{func, program, stmt, then_funcs, then_stmts, NoFunc, NoStmt};
+ghost use Rattle.clmodel.specs.Tree.{program, stmt, then_stmts, NoStmt};
 ghost use Rattle.item_step.specs.Objects.{Lists, all_sizes, capped, listed};
 
-use clmodel::setup::Argument;
-use clmodel::tree::{Function, Parameter, Statement, Tree};
+use clmodel::setup::{Argument, LOCAL_LIMIT};
+use clmodel::tree::{Parameter, Statement, Tree};
 use clnum::{IntType, Value};
 use std::alloc::{AllocError, Global};
-
-/// The most bytes of local memory that a group may have.
-const MAX_LOCAL: u64 = 32768;
 
 /// The local objects of a kernel in the order of their numbers: the numbers of their names, and their sizes in bytes.
 #[derive(Drop)]
@@ -27,11 +23,8 @@ pub(crate) struct LocalObjects {
 fn local_size(arguments: &[Option<Argument>], place: usize) -> u64
     ensures { result ≡ model.local_size (get_or arguments.now place None) }
 {
-    if place >= arguments.len() {
-        return 0;
-    }
-    match &arguments[place] {
-        Some(Argument::Local(size)) => *size,
+    match arguments.get(place) {
+        Some(Some(Argument::Local(size))) => *size,
         _ => 0,
     }
 }
@@ -53,20 +46,11 @@ fn parameter_objects(
     Ok(LocalObjects { names, sizes })
 }
 
-/// How many elements an array has, by the number in its brackets.
-fn array_length(length: Value) -> u64
-    ensures { result ≡ tree.array_length length }
-{
-    let number = length.number();
-    if number < 0 { 0 } else { number as u64 }
-}
-
 /// The bytes of an array, or the greatest number where they are more.
 fn array_bytes(element: IntType, length: Value) -> u64
     ensures { result ≡ min (tree.array_bytes element length) (2 ^ 64 - 1) }
 {
-    let width = u64::from(element.bits() / 8);
-    width.saturating_mul(array_length(length))
+    u64::from(element.bits() / 8).saturating_mul(length.natural())
 }
 
 /// The local object of a declaration: the number of its name, and its bytes, or the greatest number where they are more.
@@ -97,10 +81,7 @@ fn declared_object(statement: &Statement) -> Option<(u32, u64)>
 fn declared_size(statement: &Statement) -> u64
     ensures { result ≡ all_sizes (map capped (model.declared_object (stmt statement.now))) }
 {
-    match declared_object(statement) {
-        Some(object) => object.1,
-        None => 0,
-    }
+    declared_object(statement).map_or(0, |object| object.1)
 }
 
 /// The local objects that the outermost block of a kernel declares. One of more bytes than can be counted is out of memory.
@@ -122,31 +103,18 @@ fn declared_objects(alloc: Global, body: &[Statement]) -> Result<LocalObjects, A
     Ok(LocalObjects { names, sizes })
 }
 
-/// The kernel of a name's number: the last function of the name that is one.
-#[tactic(auto, using(crate::proofs::Functions::one_more))]
-fn kernel_in(functions: &[Function], number: u32) -> Option<&Function>
-    ensures { option_map (λ f. func f.now) result ≡ model.kernel_in (then_funcs NoFunc (map func functions.now)) number }
-{
-    let mut found = None;
-    for function in functions {
-        if function.is_kernel && function.name == number {
-            found = Some(function);
-        }
-    }
-    found
-}
-
 /// The local objects of the kernel of a name's number, with these arguments.
 pub(crate) fn local_objects(
     alloc: Global,
-    functions: &[Function],
+    tree: &Tree,
     number: u32,
     arguments: &[Option<Argument>],
 ) -> Result<LocalObjects, AllocError>
-    ensures { IfOk result (Lists (model.objects_of (model.kernel_in (then_funcs NoFunc (map func functions.now)) number) arguments.now)) }
+    ensures { IfOk result (Lists (model.objects_of (model.kernel_in (program tree.now).functions number) arguments.now)) }
 {
-    match kernel_in(functions, number) {
-        Some(kernel) => {
+    match tree.kernel(number as usize) {
+        Some(found) => {
+            let kernel = found.function;
             let mut objects = parameter_objects(alloc, &kernel.parameters, arguments)?;
             let declared = declared_objects(alloc, &kernel.body)?;
             objects.names.extend_from_slice(&declared.names)?;
@@ -186,12 +154,13 @@ fn declared_bytes(body: &[Statement]) -> u64
 /// Whether the local objects of the kernel of a name's number, with these arguments, are more than a group may have.
 #[tactic(auto, using(crate::proofs::Declarations::all_above))]
 pub fn is_local_too_large(tree: &Tree, number: u32, arguments: &[Option<Argument>]) -> bool
-    ensures { result ≡ nat_lt 32768 (all_sizes (model.objects_of (model.kernel_in (program tree.now).functions number) arguments.now)) }
+    ensures { result ≡ nat_lt model.local_limit (all_sizes (model.objects_of (model.kernel_in (program tree.now).functions number) arguments.now)) }
 {
-    match kernel_in(tree.functions.as_slice(), number) {
-        Some(kernel) => {
+    match tree.kernel(number as usize) {
+        Some(found) => {
+            let kernel = found.function;
             let bytes = parameter_bytes(&kernel.parameters, arguments);
-            bytes.saturating_add(declared_bytes(&kernel.body)) > MAX_LOCAL
+            bytes.saturating_add(declared_bytes(&kernel.body)) > LOCAL_LIMIT
         }
         None => false,
     }

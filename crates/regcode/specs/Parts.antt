@@ -5,7 +5,8 @@ use Rattle.regcode.specs.declared.dumping.Part.{Part}
 use Rattle.regcode.specs.declared.dumping.Part.TheVariants as part
 use Rattle.regcode.specs.declared.dumping.Piece.{Piece}
 use Rattle.regcode.specs.declared.dumping.Piece.TheVariants as piece
-use Rattle.regcode.specs.Text.{joined, type_word, fences_word, register, pointed, private, typed, variable_type}
+use Rattle.clnum.specs.Integer.{type_word}
+use Rattle.regcode.specs.Text.{joined, fences_word, register, pointed, private, typed, variable_type}
 
 abbrev pub piece_text : Piece → List ℕ
 piece_text (piece.Word word) = word.now

@@ -2,15 +2,13 @@
 use Rattle.std.specs.Prelude.{ℕ, ◌+◌, ◌-◌, suc, if◌then◌else◌, Option, None, Some, List, [], ◌∷◌, ◌++◌, codes, decimal}
 use Rattle.std.specs.Fmt.{signed_decimal}
 use Rattle.std.specs.List.{flat_map}
-use Rattle.clnum.specs.declared.int_type.IntType.{IntType}
-use Rattle.clnum.specs.declared.int_type.IntType.TheVariants as type
 use Rattle.clnum.specs.declared.operators.BinaryOperator.{BinaryOperator}
 use Rattle.clnum.specs.declared.operators.BinaryOperator.TheVariants as binary
 use Rattle.clnum.specs.declared.operators.Builtin.{Builtin}
 use Rattle.clnum.specs.declared.operators.Builtin.TheVariants as builtin
 use Rattle.clnum.specs.declared.operators.UnaryOperator.{UnaryOperator}
 use Rattle.clnum.specs.declared.operators.UnaryOperator.TheVariants as unary
-use Rattle.clnum.specs.Integer.{Integer}
+use Rattle.clnum.specs.Integer.{Integer, type_word}
 use Rattle.clmodel.specs.declared.action.Fences.{Fences}
 use Rattle.clmodel.specs.declared.setup.AtomicFunction.{AtomicFunction}
 use Rattle.clmodel.specs.declared.setup.AtomicFunction.TheVariants as atomic
@@ -31,16 +29,6 @@ joined [] = []
 joined (part ∷ parts) = part ++ joined parts
 
 -- ---- words
-
-abbrev pub type_word : IntType → List ℕ
-type_word type.Char = codes "char"
-type_word type.Uchar = codes "uchar"
-type_word type.Short = codes "short"
-type_word type.Ushort = codes "ushort"
-type_word type.Int = codes "int"
-type_word type.Uint = codes "uint"
-type_word type.Long = codes "long"
-type_word type.Ulong = codes "ulong"
 
 -- the qualifier of an address space, with a space behind it
 abbrev pub space_word : AddressSpace → List ℕ

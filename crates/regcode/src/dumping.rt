@@ -10,7 +10,7 @@ ghost use Rattle.regcode.specs.Text.{listed, names_in, line_of, text_of, variabl
 
 use crate::code::Code;
 use crate::instruction::{FetchOperands, Instruction};
-use crate::words::{fences_word, instruction_word, space_word, type_word};
+use crate::words::{fences_word, instruction_word, space_word};
 use clmodel::action::Fences;
 use clmodel::tree::VariableType;
 use clnum::{IntType, Value};
@@ -268,14 +268,14 @@ fn write_variable<W: Write>(kind: VariableType, writer: &mut W) -> Result<(), Wr
     ensures { Puts (W.sink writer.old) result (W.sink writer.new) (variable_type kind) }
 {
     match kind {
-        VariableType::Integer(kind) => write_piece(Piece::Word(type_word(kind)), writer),
+        VariableType::Integer(kind) => write_piece(Piece::Word(kind.name()), writer),
         VariableType::Pointer(pointer) => {
             let constant = if pointer.is_const { "const " } else { "" };
             write_pieces(
                 &[
                     Piece::Word(space_word(pointer.space)),
                     Piece::Word(constant),
-                    Piece::Word(type_word(pointer.element)),
+                    Piece::Word(pointer.element.name()),
                     Piece::Word(" *"),
                 ],
                 writer,
@@ -314,13 +314,13 @@ fn write_part<W: Write>(part: Part, writer: &mut W) -> Result<(), WriteFailed>
         Part::Number(number) => write_piece(Piece::Number(number), writer),
         Part::Value(value) => write_pieces(
             &[
-                Piece::Word(type_word(value.kind())),
+                Piece::Word(value.kind().name()),
                 Piece::Word(" "),
                 Piece::Signed(value.number()),
             ],
             writer,
         ),
-        Part::Type(kind) => write_piece(Piece::Word(type_word(kind)), writer),
+        Part::Type(kind) => write_piece(Piece::Word(kind.name()), writer),
         Part::Variable(kind) => write_variable(kind, writer),
         Part::Fences(fences) => write_piece(Piece::Word(fences_word(fences)), writer),
     }

@@ -8,23 +8,7 @@ use crate::instruction::Instruction;
 use clmodel::action::Fences;
 use clmodel::setup::{AtomicFunction, WorkItemFunction};
 use clmodel::tree::AddressSpace;
-use clnum::{BinaryOperator, Builtin, IntType, UnaryOperator};
-
-/// The name of a type (OpenCL 1.2, section 6.1.1).
-pub(crate) fn type_word(kind: IntType) -> &'static str
-    ensures { result.now ≡ text.type_word kind }
-{
-    match kind {
-        IntType::Char => "char",
-        IntType::Uchar => "uchar",
-        IntType::Short => "short",
-        IntType::Ushort => "ushort",
-        IntType::Int => "int",
-        IntType::Uint => "uint",
-        IntType::Long => "long",
-        IntType::Ulong => "ulong",
-    }
-}
+use clnum::{BinaryOperator, Builtin, UnaryOperator};
 
 /// The qualifier of an address space (OpenCL 1.2, section 6.5), with a space behind it.
 pub(crate) fn space_word(space: AddressSpace) -> &'static str

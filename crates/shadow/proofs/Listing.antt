@@ -1,5 +1,5 @@
 -- Short lists that stand for whole ones, entry by entry.
-use Rattle.std.proofs.Common.{◌≡◌, ℕ, zero, suc, ◌+◌, ◌<◌, Bool, true, false, ◌⊎◌, if◌then◌else◌, Some, List, [], ◌∷◌, ◌++◌, All, length, take, map, reverse, refl, sym, ap, ◌∙◌, subst, inl, inr, arith, add-one, get_or}
+use Rattle.std.proofs.Common.{◌≡◌, ℕ, zero, suc, ◌+◌, ◌<◌, Bool, true, false, if◌then◌else◌, Some, List, [], ◌∷◌, ◌++◌, length, take, map, reverse, refl, sym, ap, ◌∙◌, subst, inl, inr, add-one, get_or}
 use Rattle.std.specs.Prelude.{slice_get}
 use Rattle.std.proofs.lemmas.List.{append_assoc, append-nil, map-append, reverse-append}
 use Rattle.std.proofs.lemmas.Option.{slice_get-get_or}

@@ -16,12 +16,9 @@ use Rattle.clmodel.proofs.Steps.{none_some}
 use Rattle.clmodel.proofs.Swaps.{same_region-true}
 use Rattle.clmodel.proofs.CellLaws.{covers_parts, covers_from}
 use Rattle.joining.specs.Memory.{at_byte}
-use Rattle.shadow_list.specs.Kinds.{kind_number}
-use Rattle.shadow_list.proofs.Agreeing.{agree_number}
 use Rattle.shadow.specs.Seen.{one_sort, seen_with, mark_of, seen, mark_clash, met, against, against_from, meeting, met_at, OfOthers}
 use Rattle.shadow.specs.Lasting.{Absorbed}
 use Rattle.shadow.specs.declared.seen.Mark.{Mark}
-use Rattle.shadow.specs.declared.seen.Meeting.{Meeting}
 use Rattle.shadow.specs.declared.seen.Seen.{Seen}
 use Rattle.shadow.specs.declared.seen.Seen.TheVariants.{Untouched, Touched, Mixed}
 use Rattle.shadow.proofs.Absorbing.{Takes, sort_taken, absorbed_takes}

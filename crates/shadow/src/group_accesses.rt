@@ -76,6 +76,17 @@ fn keep(entries: &mut Vec<Entry>, entry: Entry, is_new: bool) -> Result<(), Allo
 }
 
 impl LastingList {
+    /// These accesses, of a group whose last access is one of them or not. Memory to spare is given back, where the smaller block isn't refused.
+    pub fn from_entries(entries: Vec<Entry>, has_last: bool) -> Self
+        requires { All IsPlaced entries.items }
+        ensures entries { result.entries.items ≡ entries.items }
+        ensures has_last { result.has_last ≡ has_last }
+    {
+        let mut entries = entries;
+        entries.shrink_to_fit();
+        LastingList { entries, has_last }
+    }
+
     /// The accesses of a log that tell other groups something new. An error is out of memory.
     pub fn of<L: Accesses>(alloc: Global, log: &L) -> Result<Self, AllocError>
         ensures { IfOk result (λ list. StandsWith list.has_last list.entries.items (L.log log.now).accesses) }

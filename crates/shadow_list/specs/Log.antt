@@ -55,9 +55,13 @@ abbrev pub IsThere : List Entry → Access → Type 0
 IsThere [] x = ⊥
 IsThere (y ∷ log) x = (y.access ≡ x) ⊎ IsThere log x
 
--- a log once an access is kept: at the end, unless it is there (own)
+-- a log once an access is made: it is at the end, or left out where it is there (own)
 abbrev pub IsKept : List Entry → Entry → List Entry → Type 0
-IsKept log x new = (IsThere log x.access × (new ≡ log)) ⊎ ((IsThere log x.access → ⊥) × (new ≡ log ++ x ∷ []))
+IsKept log x new = (IsThere log x.access × (new ≡ log)) ⊎ (new ≡ log ++ x ∷ [])
+
+-- the same where it stands there once, whatever the number of its event (own)
+abbrev pub IsKeptOnce : List Entry → Entry → List Entry → Type 0
+IsKeptOnce log x new = (IsThere log x.access × (new ≡ log)) ⊎ ((IsThere log x.access → ⊥) × (new ≡ log ++ x ∷ []))
 
 -- what a new access leaves of the log of its group, and the conflict that it answers (3.3.1, 6.12.8, own in what is kept)
 abbrev pub IsNoted : Log → Entry → Log → Result (Option Hit) AllocError → Type 0

@@ -1,9 +1,9 @@
 //! A log that is a list.
 
-ghost use Rattle.std.specs.Prelude.{◌≡◌, ◌≤◌, ◌+◌, All, false, true, length, take};
+ghost use Rattle.std.specs.Prelude.{◌≡◌, ◌≤◌, ◌+◌, All, OnOk, false, true, length, take};
 ghost use Rattle.clmodel.specs.Run.{by_region};
 ghost use Rattle.shadow_list.specs.Index.{IsIndexed};
-ghost use Rattle.shadow_list.specs.Log.{IsPlaced, stamped, logged, fresh_log, in_buffer, across};
+ghost use Rattle.shadow_list.specs.Log.{IsPlaced, IsNoted, IsKeptOnce, stamped, logged, fresh_log, in_buffer, across};
 ghost use Rattle.shadow_list.specs.Past.{IsBefore};
 
 use crate::access_list::AccessList;
@@ -164,7 +164,12 @@ impl Accesses for ListLog {
 }
 
 impl AccessLog for ListLog {
-    fn note(&mut self, entry: Entry) -> Result<Option<Hit>, AllocError> {
+    /// Judges a new access, and keeps it where it isn't there yet. An error is out of memory, and changes nothing.
+    fn note(&mut self, entry: Entry) -> Result<Option<Hit>, AllocError>
+        requires { IsPlaced entry }
+        ensures noted { IsNoted (logged self.old.entries.items self.old.local_interval self.old.global_interval self.old.uniform) entry (logged self.new.entries.items self.new.local_interval self.new.global_interval self.new.uniform) result }
+        ensures once { OnOk result (IsKeptOnce self.old.entries.items (stamped (logged self.old.entries.items self.old.local_interval self.old.global_interval self.old.uniform) entry) self.new.entries.items) }
+    {
         let from = self.first(entry.access.region);
         let entry = self.stamped(entry);
         let log = self.entries.as_slice();

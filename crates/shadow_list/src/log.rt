@@ -69,8 +69,9 @@ pub trait Accesses: Logged {
 
 /// A log of the accesses of a group, which finds the conflicts of a new one (OpenCL 1.2, sections 3.3.1 and 6.12.8).
 pub trait AccessLog: Logged {
-    /// Judges a new access, and keeps it where it isn't there yet. The access gets the running interval of its address space. The
-    /// conflict answered is that on the lowest byte, there with the earliest access. An error is out of memory, and changes nothing.
+    /// Judges a new access, which is one of the log's accesses then: at the end, or left out where an equal one is there. The access gets the
+    /// running interval of its address space. The conflict answered is that on the lowest byte, there with the earliest access. An error is out
+    /// of memory, and changes nothing.
     fn note(&mut self, entry: Entry) -> Result<Option<Hit>, AllocError>
         requires { IsPlaced entry }
         ensures { IsNoted (Self.log self.old) entry (Self.log self.new) result };

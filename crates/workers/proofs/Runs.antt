@@ -12,17 +12,17 @@ use Rattle.group_run.specs.declared.result.GroupResult.{GroupResult}
 use Rattle.group_run.specs.declared.result.GroupResult.TheVariants.{Done, Stopped}
 use Rattle.joining.specs.Group.{Plan, IsRun, plan_of}
 use Rattle.joining.specs.Parts.{Part, OnePart}
-use Rattle.shadow_list.specs.Log.{Log}
-use Rattle.shadow_list.specs.declared.access_list.AccessList.{AccessList}
+use Rattle.shadow.specs.Lasting.{StandsWith}
+use Rattle.shadow.specs.declared.group_accesses.LastingList.{LastingList}
 use Rattle.shadow_list.specs.declared.list.ListLog.{ListLog}
 use Rattle.snapshot_merge.specs.Launches.{AreResultsTo}
 use Rattle.snapshot_run.specs.Launches.{list_log}
 use Rattle.spaces.specs.Overlay.{Overlaid}
 use Rattle.workers_draw.specs.Groups.{AreResults}
-use Rattle.workers.specs.Results.{access_list, AreOfRound, IsOfGroup, IsStopping, number_of, has_stopped}
+use Rattle.workers.specs.Results.{IsListed, AreOfRound, IsOfGroup, IsStopping, number_of, has_stopped}
 
 abbrev Came : Type 0
-Came = GroupResult Overlaid AccessList
+Came = GroupResult Overlaid LastingList
 
 none_some : (fault : Fault) → None ≡ Some fault → ⊥
 none_some fault e = cc
@@ -34,37 +34,33 @@ below_there group last size items e some b =
     let s : suc group * size ≡ group * size + size = suc-mul group size in omega (arith, e, some, m, s)
 
 pub is_numbered : (launch : Launch) (group : ℕ) (came : Came) → IsOfGroup launch group came → number_of came ≡ group
-is_numbered launch group (Done number spaces log runs) is = is.1.0
-is_numbered launch group (Stopped number fault log runs) is = is.1.0
+is_numbered launch group (Done number spaces log runs) is = is.1.2.0
+is_numbered launch group (Stopped number fault log runs) is = is.1.2.0
 
 pub stopped_stops : (launch : Launch) (group : ℕ) (came : Came) → IsOfGroup launch group came → has_stopped came ≡ true → IsStopping launch group
 stopped_stops launch group (Done number spaces log runs) is stop = absurd (true≢false (sym stop))
 stopped_stops launch group (Stopped number fault log runs) is stop =
-    let run = is.1.2 in
+    let run = is.1.2.2 in
     let part : Part = record { events = events_of runs; end = run.state; stopped = Some fault } in (part, fault, (run.runs, run.reports), refl)
 
 pub stops_stopped : (launch : Launch) (group : ℕ) (came : Came) → OnePart → IsOfGroup launch group came → IsStopping launch group → has_stopped came ≡ true
 stops_stopped launch group (Done number spaces log runs) one is stops =
-    let run = is.1.2 in
+    let run = is.1.2.2 in
     let part : Part = record { events = events_of runs; end = run.0.state; stopped = None } in
     let same = one launch group part stops.0 (run.0.runs, run.1) stops.2 in absurd (none_some stops.1 (same.2 ∙ stops.3))
 stops_stopped launch group (Stopped number fault log runs) one is stops = refl
 
--- a result stays that of its group where a list of the same accesses stands for its log
+-- a result stays that of its group where a list stands for its log
 abbrev bytes_of : Overlaid → List (Option ℕ)
 bytes_of overlay = overlay.bytes
 
-pub done_listed : (launch : Launch) (group number : ℕ) (spaces : Vec Overlaid Global) (log : ListLog) (list : AccessList) (runs : List Run) → access_list list ≡ list_log log
-    → IsResult bytes_of list_log launch group (Done number spaces log runs) → IsResult bytes_of access_list launch group (Done number spaces list runs)
-done_listed launch group number spaces log list runs same is =
-    let plan : Plan = plan_of launch group in
-    (is.0, is.1, subst (λ (l : Log). IsRun plan (Leaves bytes_of plan spaces.items l) (start launch) (events_of runs) None) (sym same) is.2)
+pub done_listed : (launch : Launch) (group number : ℕ) (spaces : Vec Overlaid Global) (log : ListLog) (list : LastingList) (runs : List Run) → StandsWith list.has_last list.entries.items (list_log log).accesses
+    → IsResult bytes_of list_log launch group (Done number spaces log runs) → IsListed launch group (Done number spaces list runs)
+done_listed launch group number spaces log list runs stand is = (list_log log, stand, is)
 
-pub stopped_listed : (launch : Launch) (group number : ℕ) (fault : Fault) (log : ListLog) (list : AccessList) (runs : List Run) → access_list list ≡ list_log log
-    → IsResult bytes_of list_log launch group (Stopped number fault log runs) → IsResult bytes_of access_list launch group (Stopped number fault list runs)
-stopped_listed launch group number fault log list runs same is =
-    let plan : Plan = plan_of launch group in
-    (is.0, is.1, subst (λ (l : Log). IsRun plan (IsLogged plan l) (start launch) (events_of runs) (Some fault)) (sym same) is.2)
+pub stopped_listed : (launch : Launch) (group number : ℕ) (fault : Fault) (log : ListLog) (list : LastingList) (runs : List Run) → StandsWith list.has_last list.entries.items (list_log log).accesses
+    → IsResult bytes_of list_log launch group (Stopped number fault log runs) → IsListed launch group (Stopped number fault list runs)
+stopped_listed launch group number fault log list runs stand is = (list_log log, stand, is)
 
 -- the results of a round in order are those that are joined
 module _ (launch : Launch) (first count : ℕ) where
@@ -72,7 +68,7 @@ module _ (launch : Launch) (first count : ℕ) where
   Gives n came = IsOfGroup launch (first + n) came
 
   abbrev ToLast : ℕ → List Came → Type 0
-  ToLast group results = AreResultsTo (λ (overlay : Overlaid). overlay.bytes) access_list launch (first + count) group results
+  ToLast group results = AreOfRound launch (first + count) group results
 
   pub are_results : (n : ℕ) (results : List Came) → AreResults count Gives has_stopped n results → ToLast (first + n) results
   are_results n [] far = omega (arith, far)

@@ -16,7 +16,7 @@ use crate::round_gate::RoundGate;
 use crate::shares::rounds_are_shared;
 use group_run::GroupResult;
 use item_step::Launch;
-use shadow_list::AccessList;
+use shadow::LastingList;
 use snapshot_merge::{JoinedGroups, RoundEnd, join_round};
 use spaces::Overlay;
 use spaces_base::Buffers;
@@ -27,7 +27,7 @@ use workers_draw::gate::Gate;
 use workers_draw::run::run_groups;
 
 /// The results of the groups of a round, in their order.
-pub(crate) type Results<'a> = Vec<GroupResult<Overlay<'a>, AccessList>>;
+pub(crate) type Results<'a> = Vec<GroupResult<Overlay<'a>, LastingList>>;
 
 /// Runs the groups from one on up to another, which isn't among them: the results of all of them, or up to and with one that stopped.
 pub(crate) fn run_round<'a, G: Gate, R: Threads + Wait + Sync>(

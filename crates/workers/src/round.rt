@@ -1,20 +1,22 @@
 //! Some groups of a launch, as workers draw them.
 
-ghost use Rattle.std.specs.Prelude.{◌≡◌, ◌+◌, ◌-◌, ◌*◌, ◌<◌, ◌≤◌, ℕ};
+ghost use Rattle.std.specs.Prelude.{◌≡◌, ◌+◌, ◌-◌, ◌*◌, ◌<◌, ◌≤◌, ℕ, IfOk};
 ghost use Rattle.clmodel.specs.Launch.{Launch as TheLaunch};
 ghost use Rattle.clmodel.specs.Next.{launch_of};
 ghost use Rattle.clmodel.specs.Setup.{item_count, group_items};
 ghost use Rattle.group_run.specs.Results.{IsResult};
 ghost use Rattle.item_step.specs.Launches.{setup_of};
 ghost use Rattle.launches.specs.Groups.{HasGroups};
+ghost use Rattle.shadow.specs.Lasting.{StandsWith};
 ghost use Rattle.snapshot_run.specs.Launches.{list_log};
 ghost use Rattle.spaces_base.specs.Buffers.{bytes_in};
-ghost use Rattle.workers.specs.Results.{access_list, IsOfGroup, IsStopping, number_of, has_stopped};
+ghost use Rattle.workers.specs.Results.{IsListed, IsOfGroup, IsStopping, number_of, has_stopped};
 
 use group_run::GroupResult;
 use item_step::Launch;
 use joining::one_part;
-use shadow_list::{AccessList, ListLog};
+use shadow::LastingList;
+use shadow_list::ListLog;
 use snapshot_run::one_group;
 use spaces::Overlay;
 use spaces_base::Buffers;
@@ -55,9 +57,21 @@ impl<'a> Round<'a> {
     }
 }
 
-/// A result with the list of its log in place of the log: the join asks for no more, and what waits for it keeps no index.
-fn listed<'a>(came: GroupResult<Overlay<'a>, ListLog>) -> GroupResult<Overlay<'a>, AccessList>
-    ensures { (launch : TheLaunch) (group : ℕ) → IsResult (λ overlay. overlay.bytes) list_log launch group came.entry → IsResult (λ overlay. overlay.bytes) access_list launch group result }
+/// The accesses of a group's log that tell other groups something new: the join asks for no more. The log's index is given back first. An
+/// error is out of memory.
+fn listed(alloc: Global, log: ListLog) -> Result<LastingList, AllocError>
+    ensures { IfOk result (λ list. StandsWith list.has_last list.entries.items (list_log log).accesses) }
+{
+    let all = log.into_list();
+    LastingList::of(alloc, &all)
+}
+
+/// A result with such a list in place of its log. An error is out of memory.
+fn shortened<'a>(
+    alloc: Global,
+    came: GroupResult<Overlay<'a>, ListLog>,
+) -> Result<GroupResult<Overlay<'a>, LastingList>, AllocError>
+    ensures { IfOk result (λ short. (launch : TheLaunch) (group : ℕ) → IsResult (λ overlay. overlay.bytes) list_log launch group came.entry → IsListed launch group short) }
 {
     match came {
         GroupResult::Done {
@@ -65,28 +79,34 @@ fn listed<'a>(came: GroupResult<Overlay<'a>, ListLog>) -> GroupResult<Overlay<'a
             spaces,
             log,
             runs,
-        } => GroupResult::Done {
-            group,
-            spaces,
-            log: log.into_list(),
-            runs,
-        },
+        } => {
+            let list = listed(alloc, log)?;
+            Ok(GroupResult::Done {
+                group,
+                spaces,
+                log: list,
+                runs,
+            })
+        }
         GroupResult::Stopped {
             group,
             fault,
             log,
             runs,
-        } => GroupResult::Stopped {
-            group,
-            fault,
-            log: log.into_list(),
-            runs,
-        },
+        } => {
+            let list = listed(alloc, log)?;
+            Ok(GroupResult::Stopped {
+                group,
+                fault,
+                log: list,
+                runs,
+            })
+        }
     }
 }
 
 impl<'a> Work for Round<'a> {
-    type Output = GroupResult<Overlay<'a>, AccessList>;
+    type Output = GroupResult<Overlay<'a>, LastingList>;
 
     ghost count = { λ w. w.count };
 
@@ -106,13 +126,14 @@ impl<'a> Work for Round<'a> {
         &self,
         alloc: Global,
         group: u32,
-    ) -> Result<GroupResult<Overlay<'a>, AccessList>, AllocError> {
+    ) -> Result<GroupResult<Overlay<'a>, LastingList>, AllocError> {
         let log = ListLog::new(alloc, self.launch.range().uniform);
         let came = one_group(alloc, self.launch, self.buffers, self.first + group, log)?;
-        Ok(listed(came))
+        let short = shortened(alloc, came)?;
+        Ok(short)
     }
 
-    fn number(&self, came: &GroupResult<Overlay<'a>, AccessList>) -> u32 {
+    fn number(&self, came: &GroupResult<Overlay<'a>, LastingList>) -> u32 {
         let group = match came {
             GroupResult::Done { group, .. } => *group,
             GroupResult::Stopped { group, .. } => *group,
@@ -120,7 +141,7 @@ impl<'a> Work for Round<'a> {
         group.saturating_sub(self.first)
     }
 
-    fn stopped(came: &GroupResult<Overlay<'a>, AccessList>) -> bool {
+    fn stopped(came: &GroupResult<Overlay<'a>, LastingList>) -> bool {
         match came {
             GroupResult::Done { .. } => false,
             GroupResult::Stopped { .. } => true,

@@ -1,6 +1,6 @@
 -- A block is read as its statements.
-use Rattle.clsyntax.proofs.Lists.{blocks}
+use Rattle.clmodel.proofs.Trees.{block_view}
 use Rattle.clsyntax.proofs.statements.block_of.Goals as goal
 
 pub returns : goal.returns
-returns c = blocks c.args.at c.args.body
+returns c = block_view c.args.at c.args.body

@@ -1,10 +1,10 @@
-use Rattle.std.proofs.Common.{◌<◌, arith, ap}
-use Rattle.clmodel.specs.Setup.{group_items, product}
+use Rattle.std.proofs.Common.{◌<◌, arith}
+use Rattle.clmodel.specs.Setup.{group_items}
 use Rattle.device_store.proofs.Sizes.{Sizes, sizes}
 use Rattle.device_store.proofs.ranges.group_items.Goals as goal
 
 pub returns-clause-positive : goal.returns-clause-positive
-returns-clause-positive c = let s : Sizes c.args.range.now = sizes c.args.range.now c.requires in let p : 0 < group_items c.args.range.now = s.positive in omega (arith, c.product.ensures, ap product c.as_slice.ensures)
+returns-clause-positive c = let s : Sizes c.args.range.now = sizes c.args.range.now c.requires in let p : 0 < group_items c.args.range.now = s.positive in omega (arith, c.product.ensures)
 
 pub returns-clause-sized : goal.returns-clause-sized
 returns-clause-sized c = (sizes c.args.range.now c.requires).sized

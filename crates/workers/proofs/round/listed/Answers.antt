@@ -1,18 +1,11 @@
-use Rattle.std.proofs.Common.{subst}
-use Rattle.group_run.specs.Results.{IsResult}
-use Rattle.group_run.specs.declared.result.GroupResult.{GroupResult}
-use Rattle.shadow_list.specs.declared.list.ListLog.{ListLog}
-use Rattle.snapshot_run.specs.Launches.{list_log}
-use Rattle.spaces.specs.Overlay.{Overlaid}
-use Rattle.workers.proofs.Runs.{done_listed, stopped_listed}
+use Rattle.std.proofs.Common.{List, IfOk, ap, subst}
+use Rattle.shadow.specs.Lasting.{StandsWith}
+use Rattle.shadow.specs.declared.group_accesses.LastingList.{LastingList}
+use Rattle.shadow_list.specs.Log.{Log}
+use Rattle.shadow_list.specs.declared.log.Entry.{Entry}
 use Rattle.workers.proofs.round.listed.Goals as goal
 
-pub returns-in-Done : goal.returns-in-Done
-returns-in-Done c launch group is =
-    done_listed launch group c.in-Done.group c.in-Done.spaces c.in-Done.log c.into_list.result c.in-Done.runs c.into_list.ensures
-    (subst (λ (r : GroupResult Overlaid ListLog). IsResult (λ (overlay : Overlaid). overlay.bytes) list_log launch group r) c.in-Done.is is)
-
-pub returns-in-Stopped : goal.returns-in-Stopped
-returns-in-Stopped c launch group is =
-    stopped_listed launch group c.in-Stopped.group c.in-Stopped.fault c.in-Stopped.log c.into_list-in-Stopped.result c.in-Stopped.runs c.into_list-in-Stopped.ensures
-    (subst (λ (r : GroupResult Overlaid ListLog). IsResult (λ (overlay : Overlaid). overlay.bytes) list_log launch group r) c.in-Stopped.is is)
+pub returns : goal.returns
+returns c =
+    subst (λ (all : List Entry). IfOk c.of.result (λ (list : LastingList). StandsWith list.has_last list.entries.items all)) (ap (λ (log : Log). log.accesses) c.into_list-all.ensures)
+    c.of.ensures

@@ -1,26 +1,35 @@
-use Rattle.std.proofs.Common.{◌≡◌, true, false, refl, sym, ap, ◌∙◌, subst}
+use Rattle.std.proofs.Common.{◌≡◌, true, false, List, [], ◌∷◌, ◌++◌, if◌then◌else◌, refl, sym, ap, ◌∙◌, subst, inr}
 use Rattle.std.proofs.lemmas.Bool.{false≢true}
 use Rattle.clmodel.specs.Launch.{within_group}
 use Rattle.shadow_list.specs.Log.{Log, logged, stamped, in_buffer, hit, IsKept}
 use Rattle.shadow_list.specs.declared.log.Entry.{Entry}
+use Rattle.shadow.specs.Seen.{IsFootprint, buffer_cells}
+use Rattle.group_log.specs.Lasting.{all_of, short_of, last_of, made, LeavesOut}
 use Rattle.group_log.specs.declared.group.GroupLog.{GroupLog}
+use Rattle.group_log.proofs.Shortened.{made_more, short_more, last_more, all_more, left_out_more, local_stays, local_footprint}
 use Rattle.group_log.proofs.Telling.{stamped_local, told, noted_tells, other_tells}
 use Rattle.group_log.proofs.group.GroupLog.note_local.Goals as goal
 
 abbrev log_of : GroupLog → Log
-log_of l = logged l.whole.items l.local.interval l.global.interval l.global.uniform
+log_of l = logged (all_of l.whole.items) l.local.interval l.global.interval l.global.uniform
 
 pub invariant_of-self-2 : goal.invariant_of-self-2
 invariant_of-self-2 c =
     let l : GroupLog = c.args.self.now in
     let x : Entry = c.stamped-entry.result in
     let space : in_buffer x.access.region ≡ false = ap (λ (z : Entry). in_buffer z.access.region) c.stamped-entry.ensures ∙ c.requires.space in
+    let kept : IsKept (all_of l.whole.items) x (all_of c.with-self.result.items) = inr (ap all_of c.with-self.ensures ∙ all_more l.whole.items x false) in
     record {
       one_launch = c.put.ensures.uniform ∙ c.make_room.ensures.uniform ∙ l.one_launch;
-      local_tells = noted_tells l.local.uniform false l.local.interval l.local.kept.items l.whole.items x c.make_room.new.self.uniform c.put.new.self.uniform c.make_room.new.self.interval c.put.new.self.interval
-          c.make_room.new.self.kept.items c.put.new.self.kept.items c.with-self.result.items l.local_tells (ap (λ (z : Entry). z.access.interval) c.stamped-entry.ensures)
-          c.make_room.ensures.uniform c.make_room.ensures.interval c.make_room.ensures.kept c.put.ensures.uniform c.put.ensures.interval c.put.ensures.kept c.with-self.ensures;
-      global_tells = other_tells l.global.uniform true l.global.interval l.global.kept.items l.whole.items c.with-self.result.items x l.global_tells (λ e. false≢true (sym space ∙ e)) c.with-self.ensures;
+      local_tells = noted_tells l.local.uniform false l.local.interval l.local.kept.items (all_of l.whole.items) x c.make_room.new.self.uniform c.put.new.self.uniform c.make_room.new.self.interval c.put.new.self.interval
+          c.make_room.new.self.kept.items c.put.new.self.kept.items (all_of c.with-self.result.items) l.local_tells (ap (λ (z : Entry). z.access.interval) c.stamped-entry.ensures)
+          c.make_room.ensures.uniform c.make_room.ensures.interval c.make_room.ensures.kept c.put.ensures.uniform c.put.ensures.interval c.put.ensures.kept kept;
+      global_tells = other_tells l.global.uniform true l.global.interval l.global.kept.items (all_of l.whole.items) (all_of c.with-self.result.items) x l.global_tells (λ e. false≢true (sym space ∙ e)) kept;
+      footprint = subst (IsFootprint c.pass.new.self.footprint) (sym (ap (made []) c.with-self.ensures ∙ made_more [] l.whole.items (x, false)))
+          (subst (λ f. IsFootprint f (x.access ∷ made [] l.whole.items)) (sym c.pass.ensures.footprint) (local_footprint (buffer_cells l.lasting.footprint.buffers.items) (made [] l.whole.items) x.access space l.footprint));
+      entries = c.pass.ensures.entries ∙ l.entries ∙ sym (ap short_of c.with-self.ensures ∙ short_more l.whole.items x false);
+      has_last = c.pass.ensures.has_last ∙ sym (ap (last_of false) c.with-self.ensures ∙ last_more false l.whole.items x false);
+      left_out = subst (LeavesOut []) (sym c.with-self.ensures) (left_out_more [] l.whole.items x false l.left_out (λ f. local_stays (made [] l.whole.items) x.access space));
     }
 
 pub returns : goal.returns
@@ -28,10 +37,11 @@ returns c =
     let l : GroupLog = c.args.self.now in
     let x : Entry = c.stamped-entry.result in
     let space : in_buffer x.access.region ≡ false = ap (λ (z : Entry). in_buffer z.access.region) c.stamped-entry.ensures ∙ c.requires.space in
+    let kept : IsKept (all_of l.whole.items) x (all_of c.with-self.result.items) = inr (ap all_of c.with-self.ensures ∙ all_more l.whole.items x false) in
     let same : x ≡ stamped (log_of l) c.args.entry = stamped_local (log_of l) c.args.entry x c.requires.space c.stamped-entry.ensures in (
-      told l.local.uniform false l.local.interval l.local.kept.items l.whole.items (log_of l) c.args.entry x c.judge-found.result l.local_tells c.judge-found.ensures same space (ap (λ (z : Entry). z.access.interval) c.stamped-entry.ensures)
-          ∙ ap (λ u. hit (within_group u) (stamped (log_of l) c.args.entry) l.whole.items) l.one_launch,
-      subst (λ z. IsKept l.whole.items z c.with-self.result.items) same c.with-self.ensures,
+      told l.local.uniform false l.local.interval l.local.kept.items (all_of l.whole.items) (log_of l) c.args.entry x c.judge-found.result l.local_tells c.judge-found.ensures same space (ap (λ (z : Entry). z.access.interval) c.stamped-entry.ensures)
+          ∙ ap (λ u. hit (within_group u) (stamped (log_of l) c.args.entry) (all_of l.whole.items)) l.one_launch,
+      subst (λ z. IsKept (all_of l.whole.items) z (all_of c.with-self.result.items)) same kept,
       c.put.ensures.interval ∙ c.make_room.ensures.interval,
       refl,
       refl,

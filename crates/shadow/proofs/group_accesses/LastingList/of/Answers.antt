@@ -1,4 +1,4 @@
-use Rattle.std.proofs.Common.{◌<◌, ◌+◌, List, take, map, refl, inl, sym, ap₂, subst, arith, length, rules}
+use Rattle.std.proofs.Common.{◌<◌, ◌+◌, List, take, map, refl, inl, sym, subst, arith, length, rules}
 use Rattle.std.specs.Prelude.{reverse}
 use Rattle.std.proofs.lemmas.List.{take_all}
 use Rattle.shadow.specs.Lasting.{StandsWith}
@@ -12,7 +12,7 @@ loop-i-init g c = record { footprint = c.new-footprint.ensures; placed = search 
 
 pub loop-i-preserved : goal.loop-i-preserved
 loop-i-preserved g c =
-    let whole : List Entry = (g.L.Accesses.log c.args.log.now).accesses in
+    let whole : List Entry = (g.L.Logged.log c.args.log.now).accesses in
     let i = c.loop-i.i in
     let x : Entry = c.get-entry.result in
     let there : i < length whole = omega (arith, c.loop-i-test.true, c.len-i-end.ensures) in
@@ -27,6 +27,6 @@ loop-i-preserved g c =
 
 pub returns : goal.returns
 returns g c =
-    let whole : List Entry = (g.L.Accesses.log c.args.log.now).accesses in
+    let whole : List Entry = (g.L.Logged.log c.args.log.now).accesses in
     subst (λ z. StandsWith c.loop-i.has_last z whole) (sym c.shrink_to_fit.ensures.items)
     (subst (StandsWith c.loop-i.has_last c.loop-i.entries.items) (take_all c.loop-i.i whole (omega (arith, c.loop-i-test.false, c.len-i-end.ensures))) c.loop-i.invariant.stands)

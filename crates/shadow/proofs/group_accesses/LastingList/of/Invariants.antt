@@ -1,4 +1,4 @@
-use Rattle.std.proofs.Common.{List, All, take, map}
+use Rattle.std.proofs.Common.{All, take, map}
 use Rattle.std.specs.Prelude.{reverse}
 use Rattle.shadow.specs.Lasting.{StandsWith}
 use Rattle.shadow.specs.Seen.{IsFootprint}
@@ -9,7 +9,7 @@ use Rattle.shadow.proofs.group_accesses.LastingList.of.Given as goal
 abbrev pub invariant-loop-i : goal.invariant-loop-i
 invariant-loop-i g l =
     record {
-      footprint : IsFootprint l.footprint (map (λ (e : Entry). e.access) (reverse (take l.i (g.L.Accesses.log l.log).accesses)));
+      footprint : IsFootprint l.footprint (map (λ (e : Entry). e.access) (reverse (take l.i (g.L.Logged.log l.log).accesses)));
       placed : All IsPlaced l.entries.items;
-      stands : StandsWith l.has_last l.entries.items (take l.i (g.L.Accesses.log l.log).accesses);
+      stands : StandsWith l.has_last l.entries.items (take l.i (g.L.Logged.log l.log).accesses);
     }

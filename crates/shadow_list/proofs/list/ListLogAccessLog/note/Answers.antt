@@ -37,8 +37,8 @@ invariant_of-self-clause-global_past c =
     front_pushed (IsBefore true l.global_interval) l.global_first l.entries.items c.keep.new.log.items c.stamped-entry.result (is_ok c.keep.result)
     c.keep.ensures.items l.global_start l.global_past
 
-pub returns-in_ok-keep : goal.returns-in_ok-keep
-returns-in_ok-keep c =
+pub returns-in_ok-keep-clause-noted : goal.returns-in_ok-keep-clause-noted
+returns-in_ok-keep-clause-noted c =
     let l : ListLog = c.args.self.now in
     let x : Entry = kept l c.args.entry in
     let n : ℕ = c.first-from.result in
@@ -46,17 +46,27 @@ returns-in_ok-keep c =
     let rest : List Entry = drop n c.as_slice-log.result.now in
     let w : Walk e x n l.entries.items rest = record { kept = c.stamped-entry.ensures; rest_is = ap (drop n) c.as_slice-log.ensures.value; past = c.first-from.ensures.past } in (
       c.hit_from-found.ensures ∙ walk_finds l.uniform e x n l.entries.items rest w,
-      inr (
-        λ t. c.is_there.ensures.new c.if-not-is_there.true (walk_misses e x n l.entries.items rest w t),
-        c.in_ok-keep.ensures.items ∙ ap (λ (y : Entry). l.entries.items ++ y ∷ []) c.stamped-entry.ensures,
-      ),
+      inr (c.in_ok-keep.ensures.items ∙ ap (λ (y : Entry). l.entries.items ++ y ∷ []) c.stamped-entry.ensures),
       refl,
       refl,
       refl,
     )
 
-pub returns-else-not-is_there : goal.returns-else-not-is_there
-returns-else-not-is_there c =
+pub returns-in_ok-keep-clause-once : goal.returns-in_ok-keep-clause-once
+returns-in_ok-keep-clause-once c =
+    let l : ListLog = c.args.self.now in
+    let x : Entry = kept l c.args.entry in
+    let n : ℕ = c.first-from.result in
+    let e : Entry = c.stamped-entry.result in
+    let rest : List Entry = drop n c.as_slice-log.result.now in
+    let w : Walk e x n l.entries.items rest = record { kept = c.stamped-entry.ensures; rest_is = ap (drop n) c.as_slice-log.ensures.value; past = c.first-from.ensures.past } in
+    inr (
+      λ t. c.is_there.ensures.new c.if-not-is_there.true (walk_misses e x n l.entries.items rest w t),
+      c.in_ok-keep.ensures.items ∙ ap (λ (y : Entry). l.entries.items ++ y ∷ []) c.stamped-entry.ensures,
+    )
+
+pub returns-else-not-is_there-clause-noted : goal.returns-else-not-is_there-clause-noted
+returns-else-not-is_there-clause-noted c =
     let l : ListLog = c.args.self.now in
     let x : Entry = kept l c.args.entry in
     let n : ℕ = c.first-from.result in
@@ -69,3 +79,13 @@ returns-else-not-is_there c =
       refl,
       refl,
     )
+
+pub returns-else-not-is_there-clause-once : goal.returns-else-not-is_there-clause-once
+returns-else-not-is_there-clause-once c =
+    let l : ListLog = c.args.self.now in
+    let x : Entry = kept l c.args.entry in
+    let n : ℕ = c.first-from.result in
+    let e : Entry = c.stamped-entry.result in
+    let rest : List Entry = drop n c.as_slice-log.result.now in
+    let w : Walk e x n l.entries.items rest = record { kept = c.stamped-entry.ensures; rest_is = ap (drop n) c.as_slice-log.ensures.value; past = c.first-from.ensures.past } in
+    inl (walk_sees e x n l.entries.items rest w c.as_slice-log.result.now c.as_slice-log.ensures.value (c.is_there.ensures.there c.if-not-is_there.false), refl)

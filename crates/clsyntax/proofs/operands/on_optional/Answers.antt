@@ -4,7 +4,7 @@ use Rattle.clsyntax_lex.specs.declared.token.TokenKind.{TokenKind}
 use Rattle.clsyntax_lex.specs.declared.token.TokenKind.TheVariants as kinds
 use Rattle.clsyntax_terms.specs.Machine.{Frame, Moved, on_optional, on_operand}
 use Rattle.clsyntax_terms.specs.Views.{opened, Steps}
-use Rattle.clsyntax_terms.proofs.expressions.on_optional.Goals as goal
+use Rattle.clsyntax.proofs.operands.on_optional.Goals as goal
 
 no_semicolon : (n : ℕ) (fs : List Frame) (kind : TokenKind) (at : ℕ) → (kind ≡ kinds.Semicolon → ⊥) → on_optional n fs (record { kind = kind; at = at }) ≡ on_operand n fs (record { kind = kind; at = at })
 no_semicolon n fs kinds.Semicolon at h = absurd (h refl)

@@ -4,7 +4,7 @@ use Rattle.clsyntax_lex.specs.declared.token.TokenKind.{TokenKind}
 use Rattle.clsyntax_lex.specs.declared.token.TokenKind.TheVariants as kinds
 use Rattle.clsyntax_terms.specs.Machine.{Frame, Moved, on_call_open, on_operand}
 use Rattle.clsyntax_terms.specs.Views.{opened, Steps}
-use Rattle.clsyntax_terms.proofs.expressions.on_call_open.Goals as goal
+use Rattle.clsyntax.proofs.operands.on_call_open.Goals as goal
 
 no_bracket : (n : ℕ) (fs : List Frame) (kind : TokenKind) (at : ℕ) → (kind ≡ kinds.CloseRound → ⊥) → on_call_open n fs (record { kind = kind; at = at }) ≡ on_operand n fs (record { kind = kind; at = at })
 no_bracket n fs kinds.CloseRound at h = absurd (h refl)

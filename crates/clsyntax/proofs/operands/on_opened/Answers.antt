@@ -5,7 +5,7 @@ use Rattle.clsyntax_lex.specs.declared.token.TokenKind.{TokenKind}
 use Rattle.clsyntax_lex.specs.declared.token.TokenKind.TheVariants as kinds
 use Rattle.clsyntax_terms.specs.Machine.{Frame, InRound, Moved, on_opened, on_operand}
 use Rattle.clsyntax_terms.specs.Views.{opened, Steps}
-use Rattle.clsyntax_terms.proofs.expressions.on_opened.Goals as goal
+use Rattle.clsyntax.proofs.operands.on_opened.Goals as goal
 
 no_type : (n a : ℕ) (fs : List Frame) (kind : TokenKind) (at : ℕ) → ((type : IntType) → kind ≡ kinds.Type type → ⊥) → (kind ≡ kinds.SizeT → ⊥) → on_opened n a fs (record { kind = kind; at = at }) ≡ on_operand (suc n) (InRound a n ∷ fs) (record { kind = kind; at = at })
 no_type n a fs (kinds.Type type) at h k = absurd (h type refl)
