@@ -1,4 +1,4 @@
-use Rattle.std.proofs.Common.{◌≡◌, arith}
+use Rattle.std.proofs.Common.{arith}
 use Rattle.thread_tests.proofs.turns.poll_five.Goals as goal
 
 pub polled-requires-5-clause-own : goal.polled-requires-5-clause-own
