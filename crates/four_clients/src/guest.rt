@@ -12,8 +12,10 @@ use std::alloc::{AllocError, Global};
 use std::sync::Wait;
 use std::thread;
 
+/// The device's queue.
 pub type Commands = Queue<Device, Command, Reply>;
 
+/// A client of the device.
 pub type Asker = Client<Device, Command, Reply>;
 
 /// A client at its queue.
@@ -28,11 +30,12 @@ pub struct Guest<'a> {
 /// A client's replies, in the order of its tickets.
 #[derive(Drop)]
 pub struct Report {
+    /// The client's number, from 0 on.
     pub number: u8,
     pub replies: Vec<Reply>,
 }
 
-/// Makes a buffer of the client's own, writes it and reads it, and reads behind its end.
+/// Makes a buffer of the client's own, writes the client's number and 1 to each byte and reads it, and reads behind its end.
 fn commands_of(alloc: Global, number: u8) -> Result<Vec<Command>, AllocError> {
     let text = [b'b', b'0'.wrapping_add(number)];
     let mut commands = Vec::new(alloc);
@@ -43,7 +46,7 @@ fn commands_of(alloc: Global, number: u8) -> Result<Vec<Command>, AllocError> {
     commands.push(Command::Write {
         buffer: Name::copy_of(alloc, &text)?,
         offset: 0,
-        bytes: Bytes::copy_of(alloc, &[number, number, number, number])?,
+        bytes: Bytes::copy_of(alloc, &[number.wrapping_add(1); 4])?,
     })?;
     for offset in [0u64, 4] {
         commands.push(Command::Read {

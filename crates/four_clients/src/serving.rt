@@ -10,6 +10,7 @@ use std::sync::atomic::{AtomicBool, Ordering};
 use std::thread;
 use std::thread::Threads;
 
+/// The device's driver.
 pub type Runner = Driver<Device, Command, Reply>;
 
 /// Drives until the clients are done and no request is there.

@@ -1,5 +1,5 @@
 -- A short list that stands for a group's whole log tells the join the same.
-use Rattle.std.proofs.Common.{◌≡◌, ℕ, zero, suc, ◌+◌, ◌<◌, ◌≤◌, ◌==◌, ◌&&◌, ◌⊎◌, Bool, true, false, Option, None, Some, List, [], ◌∷◌, ◌++◌, length, refl, sym, ap, ap₂, ◌∙◌, subst, inl, inr, arith, eq-eqb, length-append}
+use Rattle.std.proofs.Common.{◌≡◌, ℕ, zero, suc, ◌+◌, ◌<◌, ◌≤◌, ◌==◌, ◌⊎◌, Bool, true, false, Option, None, Some, List, [], ◌∷◌, ◌++◌, length, refl, sym, ap, ◌∙◌, subst, inl, inr, arith, eq-eqb, length-append}
 use Rattle.std.specs.Prelude.{slice_get}
 use Rattle.std.proofs.lemmas.Bool.{cases_lt, ne_eqb}
 use Rattle.std.proofs.lemmas.Option.{slice_get_within}
@@ -13,10 +13,9 @@ use Rattle.group_run.specs.Results.{IsResult}
 use Rattle.group_run.specs.declared.result.GroupResult.{GroupResult}
 use Rattle.group_run.specs.declared.result.GroupResult.TheVariants.{Done, Stopped}
 use Rattle.shadow.specs.Lasting.{StandsFor, StandsWith}
-use Rattle.shadow.specs.Seen.{IsFootprint, seen, seen_with, is_written, met_at}
+use Rattle.shadow.specs.Seen.{IsFootprint, seen, is_written, met_at}
 use Rattle.shadow.specs.declared.footprint.Footprint.{Footprint}
-use Rattle.shadow.specs.declared.seen.Seen.TheVariants.{Untouched}
-use Rattle.shadow.proofs.Absorbing.{Takes, onto, SameSeen, same_onto}
+use Rattle.shadow.proofs.Absorbing.{onto, SameSeen, same_onto}
 use Rattle.shadow.proofs.Listing.{onto_is, stands, whole_stands}
 use Rattle.shadow.proofs.Meetings.{written}
 use Rattle.shadow.proofs.Missing.{NoneMet, none_yet, none_more, absorbed_misses}

@@ -12,6 +12,8 @@ mod drawn;
 #[cfg(test)]
 mod gates;
 #[cfg(test)]
+mod launched;
+#[cfg(test)]
 mod many;
 #[cfg(test)]
 mod numbers;

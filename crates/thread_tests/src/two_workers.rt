@@ -1,4 +1,6 @@
 //! Two workers run the two groups of a launch at the same time: a gate holds both groups until each has entered.
+ghost use Rattle.std.specs.Prelude.{◌≤◌};
+
 use crate::gates::Meeting;
 use crate::pair::{boxed, open_one, reply};
 use crate::scripts::{SUM, SUMS, all_but_the_last};
@@ -11,7 +13,7 @@ use std::alloc::{AllocError, Global};
 use std::sync::Wait;
 use std::test::Fail;
 use std::thread::Threads;
-use workers::run_parallel;
+use workers::{Gate, run_parallel};
 
 /// Whether buffer c holds the sums.
 fn holds_sums(alloc: Global, buffers: &Buffers) -> Result<bool, AllocError> {
@@ -37,22 +39,24 @@ fn has_sums(outcome: &Outcome) -> bool {
     }
 }
 
-/// Whether a launch on a device gives the sums by `run_parallel`, on two workers. The device isn't changed.
-fn is_run<W: Threads + Wait + Sync>(
+/// What a launch on a device comes to by `run_parallel`. The device isn't changed. None where the command is no launch.
+pub fn launched<W: Threads + Wait + Sync, G: Gate>(
     rt: &W,
     alloc: Global,
     device: &Device,
     command: &Command,
-    gate: &Meeting,
-) -> Result<bool, AllocError> {
+    workers: u32,
+    gate: &G,
+) -> Result<Option<Outcome>, AllocError>
+    requires workers { (1 ≤ workers) × (workers ≤ 16) }
+{
     let Command::Launch { kernel, range } = command else {
-        return Ok(false);
+        return Ok(None);
     };
     let Ok(launch) = device.prepare(kernel, range) else {
-        return Ok(false);
+        return Ok(None);
     };
-    let outcome = run_parallel(rt, alloc, &launch, device.buffers(), 2, gate)?;
-    Ok(has_sums(&outcome))
+    Ok(Some(run_parallel(rt, alloc, &launch, device.buffers(), workers, gate)?))
 }
 
 #[test]
@@ -61,7 +65,8 @@ fn they_meet_in_run_parallel(rt: HostRuntime) -> Result<(), Fail> {
         panic!(rt; "no script")
     };
     let gate = Meeting::new();
-    assert!(rt; is_run(&rt, rt.alloc(), &device, &command, &gate)?);
+    let outcome = launched(&rt, rt.alloc(), &device, &command, 2, &gate)?;
+    assert!(rt; outcome.is_some_and(|outcome| has_sums(&outcome)));
     assert_eq!(rt; gate.met(), 2);
     Ok(())
 }

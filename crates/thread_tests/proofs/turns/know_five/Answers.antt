@@ -1,4 +1,4 @@
-use Rattle.std.proofs.Common.{◌≡◌, arith}
+use Rattle.std.proofs.Common.{arith}
 use Rattle.thread_tests.proofs.turns.know_five.Goals as goal
 
 pub poll_known-requires-5-clause-own : goal.poll_known-requires-5-clause-own
