@@ -11,7 +11,7 @@ use crate::lasting::Lasting;
 use crate::side::Side;
 use crate::whole::Whole;
 use clmodel::access::{Access, Region};
-use shadow::LastingList;
+use shadow::{GroupAccesses, LastingList};
 use shadow_list::{AccessLog, Entry, Fenced, Hit, Logged};
 use std::alloc::{AllocError, Global};
 
@@ -77,6 +77,11 @@ impl GroupLog {
         }
     }
 
+    /// The accesses that are there for other groups stand for all of them. It does nothing when it runs.
+    pub fn stands(&self)
+        ensures { StandsWith self.now.lasting.has_last self.now.lasting.entries.items (all_of self.now.whole.items) }
+    {}
+
     /// The accesses that tell other groups something new. All else is given back, and memory to spare too, where the smaller block isn't refused:
     /// nothing is lost where it is.
     pub fn into_list(self) -> LastingList
@@ -118,6 +123,24 @@ impl GroupLog {
 
 impl Logged for GroupLog {
     ghost log = { λ l. logged (all_of l.whole.items) l.local.interval l.global.interval l.global.uniform };
+}
+
+impl GroupAccesses for GroupLog {
+    ghost listed = { λ l. l.lasting.entries.items };
+
+    ghost has_last = { λ l. l.lasting.has_last };
+
+    fn len(&self) -> usize {
+        self.lasting.entries.len()
+    }
+
+    fn get(&self, i: usize) -> Entry {
+        self.lasting.entries[i]
+    }
+
+    fn has_last(&self) -> bool {
+        self.lasting.has_last
+    }
 }
 
 impl AccessLog for GroupLog {
