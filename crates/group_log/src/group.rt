@@ -18,10 +18,11 @@ use std::alloc::{AllocError, Global};
 /// The log of a group that is running, which keeps only accesses that tell a conflict that none before tells. Its list, of all accesses, is
 /// there for proofs alone.
 ///
-/// A new access costs two look-ups in hash tables where it tells nothing new, so where the same bytes are accessed again and again, and some
-/// three more and a step or two for each of its bytes where it is kept. Memory is bounded by the bytes that were touched since the last barrier, whatever the
-/// number of accesses; the index of bytes and that of places, some 200 bytes for each cell of eight bytes, stay when a barrier is passed. Where an access may conflict all kept
-/// ones are walked for the exact answer, which ends a launch where there is a conflict.
+/// A new access costs two look-ups in hash tables and a step or two for each of its bytes where it tells nothing new, so where the same bytes
+/// are accessed again and again, and some three look-ups more where it is kept. While none conflict, at most ten are kept of each first byte,
+/// width and kind, whatever their number, and those of an address space are let go at a barrier that fences it. The tables of bytes and of places stay
+/// then, some 300 bytes for each cell of eight bytes that was touched. Where an access may conflict all kept ones are walked for the exact
+/// answer, which ends a launch where there is a conflict.
 #[derive(Drop)]
 pub struct GroupLog {
     local: Side,
