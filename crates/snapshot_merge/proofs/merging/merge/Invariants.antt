@@ -11,5 +11,5 @@ abbrev pub invariant-loop-result : goal.invariant-loop-result
 invariant-loop-result g l =
     record {
       held : HoldsGroups (launch_of (setup_of l.fn.launch) (bytes_in l.fn.buffers)) l.group l.so_far;
-      rest : AreResults (λ (overlay : Overlaid). overlay.bytes) g.L.Accesses.log (launch_of (setup_of l.fn.launch) (bytes_in l.fn.buffers)) l.group (into_iter_items l.result-iterator);
+      rest : AreResults (λ (overlay : Overlaid). overlay.bytes) g.L.Logged.log (launch_of (setup_of l.fn.launch) (bytes_in l.fn.buffers)) l.group (into_iter_items l.result-iterator);
     }
