@@ -59,9 +59,7 @@ impl<'a> Round<'a> {
 
 /// A result with the accesses of its log that tell other groups something new in place of the log: the join asks for no more. All else of the
 /// log is given back.
-fn shortened<'a>(
-    came: GroupResult<Overlay<'a>, GroupLog>,
-) -> GroupResult<Overlay<'a>, LastingList>
+fn shortened<'a>(came: GroupResult<Overlay<'a>, GroupLog>) -> GroupResult<Overlay<'a>, LastingList>
     ensures { (launch : TheLaunch) (group : ℕ) → IsResult (λ overlay. overlay.bytes) group_log launch group came.entry → IsListed launch group result }
 {
     match came {
@@ -112,8 +110,9 @@ impl<'a> Work for Round<'a> {
         alloc: Global,
         group: u32,
     ) -> Result<GroupResult<Overlay<'a>, LastingList>, AllocError> {
+        let number = self.first + group;
         let log = GroupLog::new(alloc, self.launch.range().uniform);
-        let came = one_group(alloc, self.launch, self.buffers, self.first + group, log)?;
+        let came = one_group(alloc, self.launch, self.buffers, number, log)?;
         Ok(shortened(came))
     }
 

@@ -9,10 +9,10 @@ use Rattle.workers.proofs.round.shortened.Goals as goal
 
 pub returns-in-Done : goal.returns-in-Done
 returns-in-Done c launch group is =
-    done_listed launch group c.in-Done.group c.in-Done.spaces c.in-Done.log c.into_list-log.result c.in-Done.runs c.into_list-log.ensures
+    done_listed launch group c.in-Done.group c.in-Done.spaces c.in-Done.log c.into_list.result c.in-Done.runs c.into_list.ensures
     (subst (λ (r : GroupResult Overlaid GroupLog). IsResult (λ (overlay : Overlaid). overlay.bytes) group_log launch group r) c.in-Done.is is)
 
 pub returns-in-Stopped : goal.returns-in-Stopped
 returns-in-Stopped c launch group is =
-    stopped_listed launch group c.in-Stopped.group c.in-Stopped.fault c.in-Stopped.log c.into_list-log-in-Stopped.result c.in-Stopped.runs c.into_list-log-in-Stopped.ensures
+    stopped_listed launch group c.in-Stopped.group c.in-Stopped.fault c.in-Stopped.log c.into_list-in-Stopped.result c.in-Stopped.runs c.into_list-in-Stopped.ensures
     (subst (λ (r : GroupResult Overlaid GroupLog). IsResult (λ (overlay : Overlaid). overlay.bytes) group_log launch group r) c.in-Stopped.is is)
