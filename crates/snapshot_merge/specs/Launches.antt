@@ -1,12 +1,14 @@
 -- The results of a launch's work-groups, each run apart (OpenCL 1.2, 3.2, 5.8; own).
 use Rattle.std.specs.Prelude.{◌≡◌, ℕ, suc, ◌*◌, ◌≤◌, Bool, Option, List, [], ◌∷◌}
 use Rattle.clmodel.specs.Launch.{Launch}
+use Rattle.group_log.specs.Lasting.{all_of}
+use Rattle.group_log.specs.declared.group.GroupLog.{GroupLog}
 use Rattle.group_run.specs.Results.{IsResult}
 use Rattle.group_run.specs.declared.result.GroupResult.{GroupResult}
 use Rattle.group_run.specs.declared.result.GroupResult.TheVariants.{Done, Stopped}
 use Rattle.joining.specs.Steps.{HasGroup}
 use Rattle.shadow.specs.Lasting.{StandsWith}
-use Rattle.shadow_list.specs.Log.{Log}
+use Rattle.shadow_list.specs.Log.{Log, logged}
 use Rattle.shadow_list.specs.declared.log.Entry.{Entry}
 
 -- The results of the groups from one on, each of which is that of its canonical run on the launch's first memory (3.2): there are results
@@ -33,3 +35,14 @@ AreResultsTo bytes listed has_last launch last group (Done number spaces log run
     HasGroup launch group × IsShortResult bytes listed has_last launch group (Done number spaces log runs) × AreResultsTo bytes listed has_last launch last (suc group) results
 AreResultsTo bytes listed has_last launch last group (Stopped number fault log runs ∷ results) =
     HasGroup launch group × IsShortResult bytes listed has_last launch group (Stopped number fault log runs) × (results ≡ [])
+
+-- the log of a group that is running, as all accesses with the running intervals (own)
+abbrev pub group_log : GroupLog → Log
+group_log l = logged (all_of l.whole.items) l.local.interval l.global.interval l.global.uniform
+
+-- the entries that it has for other groups, and whether the last of all is one of them (own)
+abbrev pub listed_of : GroupLog → List Entry
+listed_of l = l.lasting.entries.items
+
+abbrev pub has_last_of : GroupLog → Bool
+has_last_of l = l.lasting.has_last

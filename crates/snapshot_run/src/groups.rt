@@ -8,14 +8,13 @@ ghost use Rattle.joining.specs.Steps.{HasGroup};
 ghost use Rattle.launches.specs.Groups.{HasGroups};
 ghost use Rattle.shadow_list.specs.Log.{fresh_log};
 ghost use Rattle.spaces_base.specs.Buffers.{bytes_in};
-ghost use Rattle.snapshot_run.specs.Launches.{list_log};
 
 use clmodel::text::Name;
 use group_run::{GroupResult, run_group};
 use item_step::Launch;
 use launches::LoadedLaunch;
 use launches::laws::setups_are_runnable;
-use shadow_list::ListLog;
+use shadow_list::AccessLog;
 use spaces::Overlay;
 use spaces_base::Buffers;
 use std::alloc::{AllocError, Global};
@@ -38,17 +37,17 @@ fn overlays_of<'a>(
 /// The canonical run of one work-group of a launch on the buffers as they are (OpenCL 1.2, sections 3.2 and 5.8), whatever other groups
 /// do: the overlays hold what the group leaves, and the buffers stay. The log is one without accesses, of the launch's flag, in whose memory
 /// the group's are kept. An error is out of memory.
-pub fn one_group<'a>(
+pub fn one_group<'a, L: AccessLog + Drop>(
     alloc: Global,
     launch: &Launch<'_>,
     buffers: &'a Buffers,
     group: u32,
-    log: ListLog,
-) -> Result<GroupResult<Overlay<'a>, ListLog>, AllocError>
+    log: L,
+) -> Result<GroupResult<Overlay<'a>, L>, AllocError>
     requires whole { HasGroups (setup_of launch.now) }
     requires there { HasGroup (launch_of (setup_of launch.now) (bytes_in buffers.now)) group }
-    requires fresh { list_log log ≡ fresh_log (setup_of launch.now).range.uniform }
-    ensures { IfOk result (IsResult (λ overlay. overlay.bytes) list_log (launch_of (setup_of launch.now) (bytes_in buffers.now)) group) }
+    requires fresh { L.Logged.log log ≡ fresh_log (setup_of launch.now).range.uniform }
+    ensures { IfOk result (IsResult (λ overlay. overlay.bytes) L.Logged.log (launch_of (setup_of launch.now) (bytes_in buffers.now)) group) }
 {
     setups_are_runnable();
     let _size = launch.group_size();

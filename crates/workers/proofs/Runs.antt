@@ -14,9 +14,8 @@ use Rattle.joining.specs.Group.{Plan, IsRun, plan_of}
 use Rattle.joining.specs.Parts.{Part, OnePart}
 use Rattle.shadow.specs.Lasting.{StandsWith}
 use Rattle.shadow.specs.declared.group_accesses.LastingList.{LastingList}
-use Rattle.shadow_list.specs.declared.list.ListLog.{ListLog}
-use Rattle.snapshot_merge.specs.Launches.{AreResultsTo}
-use Rattle.snapshot_run.specs.Launches.{list_log}
+use Rattle.group_log.specs.declared.group.GroupLog.{GroupLog}
+use Rattle.snapshot_merge.specs.Launches.{AreResultsTo, group_log}
 use Rattle.spaces.specs.Overlay.{Overlaid}
 use Rattle.workers_draw.specs.Groups.{AreResults}
 use Rattle.workers.specs.Results.{IsListed, AreOfRound, IsOfGroup, IsStopping, number_of, has_stopped}
@@ -54,13 +53,13 @@ stops_stopped launch group (Stopped number fault log runs) one is stops = refl
 abbrev bytes_of : Overlaid → List (Option ℕ)
 bytes_of overlay = overlay.bytes
 
-pub done_listed : (launch : Launch) (group number : ℕ) (spaces : Vec Overlaid Global) (log : ListLog) (list : LastingList) (runs : List Run) → StandsWith list.has_last list.entries.items (list_log log).accesses
-    → IsResult bytes_of list_log launch group (Done number spaces log runs) → IsListed launch group (Done number spaces list runs)
-done_listed launch group number spaces log list runs stand is = (list_log log, stand, is)
+pub done_listed : (launch : Launch) (group number : ℕ) (spaces : Vec Overlaid Global) (log : GroupLog) (list : LastingList) (runs : List Run) → StandsWith list.has_last list.entries.items (group_log log).accesses
+    → IsResult bytes_of group_log launch group (Done number spaces log runs) → IsListed launch group (Done number spaces list runs)
+done_listed launch group number spaces log list runs stand is = (group_log log, stand, is)
 
-pub stopped_listed : (launch : Launch) (group number : ℕ) (fault : Fault) (log : ListLog) (list : LastingList) (runs : List Run) → StandsWith list.has_last list.entries.items (list_log log).accesses
-    → IsResult bytes_of list_log launch group (Stopped number fault log runs) → IsListed launch group (Stopped number fault list runs)
-stopped_listed launch group number fault log list runs stand is = (list_log log, stand, is)
+pub stopped_listed : (launch : Launch) (group number : ℕ) (fault : Fault) (log : GroupLog) (list : LastingList) (runs : List Run) → StandsWith list.has_last list.entries.items (group_log log).accesses
+    → IsResult bytes_of group_log launch group (Stopped number fault log runs) → IsListed launch group (Stopped number fault list runs)
+stopped_listed launch group number fault log list runs stand is = (group_log log, stand, is)
 
 -- the results of a round in order are those that are joined
 module _ (launch : Launch) (first count : ℕ) where

@@ -8,15 +8,15 @@ ghost use Rattle.group_run.specs.Results.{IsResult};
 ghost use Rattle.item_step.specs.Launches.{setup_of};
 ghost use Rattle.launches.specs.Groups.{HasGroups};
 ghost use Rattle.shadow.specs.Lasting.{StandsWith};
-ghost use Rattle.snapshot_run.specs.Launches.{list_log};
+ghost use Rattle.snapshot_merge.specs.Launches.{group_log};
 ghost use Rattle.spaces_base.specs.Buffers.{bytes_in};
 ghost use Rattle.workers.specs.Results.{IsListed, IsOfGroup, IsStopping, number_of, has_stopped};
 
+use group_log::GroupLog;
 use group_run::GroupResult;
 use item_step::Launch;
 use joining::one_part;
 use shadow::LastingList;
-use shadow_list::ListLog;
 use snapshot_run::one_group;
 use spaces::Overlay;
 use spaces_base::Buffers;
@@ -57,21 +57,10 @@ impl<'a> Round<'a> {
     }
 }
 
-/// The accesses of a group's log that tell other groups something new: the join asks for no more. The log's index is given back first. An
-/// error is out of memory.
-fn listed(alloc: Global, log: ListLog) -> Result<LastingList, AllocError>
-    ensures { IfOk result (λ list. StandsWith list.has_last list.entries.items (list_log log).accesses) }
-{
-    let all = log.into_list();
-    LastingList::of(alloc, &all)
-}
-
-/// A result with such a list in place of its log. An error is out of memory.
-fn shortened<'a>(
-    alloc: Global,
-    came: GroupResult<Overlay<'a>, ListLog>,
-) -> Result<GroupResult<Overlay<'a>, LastingList>, AllocError>
-    ensures { IfOk result (λ short. (launch : TheLaunch) (group : ℕ) → IsResult (λ overlay. overlay.bytes) list_log launch group came.entry → IsListed launch group short) }
+/// A result with the accesses of its log that tell other groups something new in place of the log: the join asks for no more. All else of the
+/// log is given back.
+fn shortened<'a>(came: GroupResult<Overlay<'a>, GroupLog>) -> GroupResult<Overlay<'a>, LastingList>
+    ensures { (launch : TheLaunch) (group : ℕ) → IsResult (λ overlay. overlay.bytes) group_log launch group came.entry → IsListed launch group result }
 {
     match came {
         GroupResult::Done {
@@ -79,29 +68,23 @@ fn shortened<'a>(
             spaces,
             log,
             runs,
-        } => {
-            let list = listed(alloc, log)?;
-            Ok(GroupResult::Done {
-                group,
-                spaces,
-                log: list,
-                runs,
-            })
-        }
+        } => GroupResult::Done {
+            group,
+            spaces,
+            log: log.into_list(),
+            runs,
+        },
         GroupResult::Stopped {
             group,
             fault,
             log,
             runs,
-        } => {
-            let list = listed(alloc, log)?;
-            Ok(GroupResult::Stopped {
-                group,
-                fault,
-                log: list,
-                runs,
-            })
-        }
+        } => GroupResult::Stopped {
+            group,
+            fault,
+            log: log.into_list(),
+            runs,
+        },
     }
 }
 
@@ -127,10 +110,10 @@ impl<'a> Work for Round<'a> {
         alloc: Global,
         group: u32,
     ) -> Result<GroupResult<Overlay<'a>, LastingList>, AllocError> {
-        let log = ListLog::new(alloc, self.launch.range().uniform);
-        let came = one_group(alloc, self.launch, self.buffers, self.first + group, log)?;
-        let short = shortened(alloc, came)?;
-        Ok(short)
+        let number = self.first + group;
+        let log = GroupLog::new(alloc, self.launch.range().uniform);
+        let came = one_group(alloc, self.launch, self.buffers, number, log)?;
+        Ok(shortened(came))
     }
 
     fn number(&self, came: &GroupResult<Overlay<'a>, LastingList>) -> u32 {

@@ -6,14 +6,14 @@ use Rattle.spaces_base.specs.Buffers.{bytes_in}
 use Rattle.snapshot_run.proofs.groups.one_group.Goals as goal
 
 pub run_group-requires-clause-runnable : goal.run_group-requires-clause-runnable
-run_group-requires-clause-runnable c =
+run_group-requires-clause-runnable g c =
     let loaded = c.new-loaded.ensures in
     let size = c.group_size-size.ensures in
     rw (loaded.launch, loaded.buffers)
     (c.setups_are_runnable.ensures (setup_of c.args.launch.now) (bytes_in c.args.buffers.now) (omega (arith, size.value, size.some)) c.requires.whole)
 
 pub run_group-requires-clause-filled : goal.run_group-requires-clause-filled
-run_group-requires-clause-filled c =
+run_group-requires-clause-filled g c =
     let loaded = c.new-loaded.ensures in
     rw (loaded.launch, loaded.buffers)
     (c.in_ok-overlays.ensures ∙ ap (map (λ name. map Some (bytes_in c.args.buffers.now name))) c.buffer_names.ensures

@@ -1,18 +1,18 @@
 use Rattle.std.proofs.Common.{subst}
 use Rattle.group_run.specs.Results.{IsResult}
 use Rattle.group_run.specs.declared.result.GroupResult.{GroupResult}
-use Rattle.shadow_list.specs.declared.list.ListLog.{ListLog}
-use Rattle.snapshot_run.specs.Launches.{list_log}
+use Rattle.group_log.specs.declared.group.GroupLog.{GroupLog}
+use Rattle.snapshot_merge.specs.Launches.{group_log}
 use Rattle.spaces.specs.Overlay.{Overlaid}
 use Rattle.workers.proofs.Runs.{done_listed, stopped_listed}
 use Rattle.workers.proofs.round.shortened.Goals as goal
 
-pub returns-in_ok-list-in-Done : goal.returns-in_ok-list-in-Done
-returns-in_ok-list-in-Done c launch group is =
-    done_listed launch group c.in-Done.group c.in-Done.spaces c.in-Done.log c.in_ok-list-in-Done.list c.in-Done.runs c.in_ok-list-in-Done.ensures
-    (subst (λ (r : GroupResult Overlaid ListLog). IsResult (λ (overlay : Overlaid). overlay.bytes) list_log launch group r) c.in-Done.is is)
+pub returns-in-Done : goal.returns-in-Done
+returns-in-Done c launch group is =
+    done_listed launch group c.in-Done.group c.in-Done.spaces c.in-Done.log c.into_list.result c.in-Done.runs c.into_list.ensures
+    (subst (λ (r : GroupResult Overlaid GroupLog). IsResult (λ (overlay : Overlaid). overlay.bytes) group_log launch group r) c.in-Done.is is)
 
-pub returns-in_ok-list-in-Stopped : goal.returns-in_ok-list-in-Stopped
-returns-in_ok-list-in-Stopped c launch group is =
-    stopped_listed launch group c.in-Stopped.group c.in-Stopped.fault c.in-Stopped.log c.in_ok-list-in-Stopped.list c.in-Stopped.runs c.in_ok-list-in-Stopped.ensures
-    (subst (λ (r : GroupResult Overlaid ListLog). IsResult (λ (overlay : Overlaid). overlay.bytes) list_log launch group r) c.in-Stopped.is is)
+pub returns-in-Stopped : goal.returns-in-Stopped
+returns-in-Stopped c launch group is =
+    stopped_listed launch group c.in-Stopped.group c.in-Stopped.fault c.in-Stopped.log c.into_list-in-Stopped.result c.in-Stopped.runs c.into_list-in-Stopped.ensures
+    (subst (λ (r : GroupResult Overlaid GroupLog). IsResult (λ (overlay : Overlaid). overlay.bytes) group_log launch group r) c.in-Stopped.is is)

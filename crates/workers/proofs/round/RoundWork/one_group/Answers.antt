@@ -12,4 +12,4 @@ returns c =
     let group = round.first + c.args.group in
     let launch : Launch = launch_of (setup_of round.launch.now) (bytes_in round.buffers.now) in
     let there = below_there group (round.first + round.count) launch.group_size launch.items round.there round.some (omega (arith, c.requires)) in
-    (there, c.in_ok-short.ensures launch group c.in_ok-came.ensures)
+    (there, c.shortened.ensures launch group c.in_ok-came.ensures)
