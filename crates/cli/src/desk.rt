@@ -9,9 +9,9 @@ ghost use Rattle.host_queue.specs.declared.view.Request.TheVariants.{Answered};
 ghost use Rattle.host_queue.specs.Clients.{IsOnly};
 
 use crate::session::Options;
-use device::{Device, OpenGate, answer_with};
+use device::{Device, Driver, OpenGate, open};
 use device_store::command::{Command, Reply};
-use host_queue::{Client, Driver, Queue, Request, open};
+use host_queue::{Client, Queue, Request};
 use std::alloc::{AllocError, Global};
 use std::marker::Sync;
 use std::sync::Wait;
@@ -22,26 +22,23 @@ use std::thread::Threads;
 pub(crate) struct Desk {
     queue: Queue<Device, Command, Reply>,
     client: Client<Device, Command, Reply>,
-    driver: Driver<Device, Command, Reply>,
-    /// How many workers run a launch
-    workers: u32,
-    ghost one: { (client.seat.table_id ≡ queue.table.shared.table_id) × (driver.seat.table_id ≡ queue.table.shared.table_id) },
-    ghost only: { IsOnly driver.seat.me.0 client.seat.me.0 },
-    ghost counted: { (1 ≤ workers) × (workers ≤ 16) },
+    driver: Driver,
+    ghost one: { (client.seat.table_id ≡ queue.table.shared.table_id) × (driver.driver.seat.table_id ≡ queue.table.shared.table_id) },
+    ghost only: { IsOnly driver.driver.seat.me.0 client.seat.me.0 },
 }
 
 impl Desk {
     /// A desk over a new device, before the first command.
     pub(crate) fn open(alloc: Global, options: Options) -> Result<Self, AllocError>
-        ensures new { IfOk result (λ desk. (machine_of desk.driver.machine ≡ opening options.budget) × (length desk.driver.seat.me.0.known ≡ 0)) }
+        ensures new { IfOk result (λ desk. (machine_of desk.driver.driver.machine ≡ opening options.budget) × (length desk.driver.driver.seat.me.0.known ≡ 0)) }
     {
-        let (queue, mut clients, driver) = open(alloc, Device::new(alloc, options.budget), 1)?;
+        let device = Device::new(alloc, options.budget);
+        let (queue, mut clients, driver) = open(alloc, device, options.workers, 1)?;
         let client = clients.pop().unwrap();
         Ok(Desk {
             queue,
             client,
             driver,
-            workers: options.workers,
         })
     }
 
@@ -52,21 +49,13 @@ impl Desk {
         mut request: Box<Request<Command, Reply>>,
         command: Command,
     ) -> Box<Request<Command, Reply>>
-        requires room { length self.old.driver.seat.me.0.known < 4096 }
-        ensures answered { (r : ReplyOf) × (box_value result ≡ Answered r) × Step (machine_of self.old.driver.machine) command r (machine_of self.new.driver.machine) }
-        ensures counts { length self.new.driver.seat.me.0.known ≡ length self.old.driver.seat.me.0.known + 1 }
+        requires room { length self.old.driver.driver.seat.me.0.known < 4096 }
+        ensures answered { (r : ReplyOf) × (box_value result ≡ Answered r) × Step (machine_of self.old.driver.driver.machine) command r (machine_of self.new.driver.driver.machine) }
+        ensures counts { length self.new.driver.driver.seat.me.0.known ≡ length self.old.driver.driver.seat.me.0.known + 1 }
     {
         *request = Request::Asked(command);
         let (driver, client) = (&mut self.driver, &mut self.client);
-        match answer_with(
-            driver,
-            rt,
-            &self.queue,
-            client,
-            request,
-            self.workers,
-            &OpenGate,
-        ) {
+        match driver.answer_with(rt, &self.queue, client, request, &OpenGate) {
             Ok(request) => request,
             Err(_) => unreachable!(),
         }

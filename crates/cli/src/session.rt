@@ -147,10 +147,10 @@ fn answer_all<T: Threads + Wait + Sync, W: Write>(
     commands: Vec<Command>,
     writer: &mut W,
 ) -> Result<RunEnd, WriteFailed>
-    requires new { length desk.old.driver.seat.me.0.known ≡ 0 }
+    requires new { length desk.old.driver.driver.seat.me.0.known ≡ 0 }
     requires few { length commands.items ≤ 4096 }
-    ensures ok { IfOk result (λ end. (budget : ℕ) → machine_of desk.old.driver.machine ≡ opening budget → Answered budget commands.items (W.sink writer.old) (W.sink writer.new) end) }
-    ensures err { OnErr result ((budget : ℕ) → machine_of desk.old.driver.machine ≡ opening budget → Broken budget commands.items (W.sink writer.old) (W.sink writer.new)) }
+    ensures ok { IfOk result (λ end. (budget : ℕ) → machine_of desk.old.driver.driver.machine ≡ opening budget → Answered budget commands.items (W.sink writer.old) (W.sink writer.new) end) }
+    ensures err { OnErr result ((budget : ℕ) → machine_of desk.old.driver.driver.machine ≡ opening budget → Broken budget commands.items (W.sink writer.old) (W.sink writer.new)) }
 {
     let mut end = RunEnd {
         faulted: false,

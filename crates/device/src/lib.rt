@@ -27,7 +27,7 @@ use std::alloc::Global;
 use std::marker::Sync;
 use std::sync::Wait;
 use std::thread::Threads;
-pub use tickets::{answer_with, drive_with};
+pub use tickets::{Driver, close, open};
 pub use workers::{Gate, OpenGate};
 
 /// The most buffers that a device has.

@@ -1,20 +1,22 @@
-//! A device answers the commands of a queue of tickets.
+//! A queue of tickets over a device, whose driver runs each launch by 1 to 16 workers.
 #![tactic(auto)]
 
-ghost use Rattle.std.specs.Prelude.{◌≡◌, ◌+◌, ◌<◌, ◌≤◌, ◌++◌, [], ◌∷◌, length, IfOk, IfErr, IfSome, IfNone};
+ghost use Rattle.std.specs.Prelude.{◌≡◌, ◌+◌, ◌<◌, ◌≤◌, ◌++◌, [], ◌∷◌, List, length, vec_len, IfOk, IfErr, IfSome, IfNone};
 ghost use Rattle.std.specs.Box.{box_value};
 ghost use Rattle.device_store.specs.declared.command.Command.{Command as CommandOf};
 ghost use Rattle.device_store.specs.declared.command.Reply.{Reply as ReplyOf};
 ghost use Rattle.host_queue.specs.declared.view.Request.TheVariants.{Asked, Answered as AnsweredBy};
 ghost use Rattle.host_queue.specs.declared.view.Entry.{Entry};
-ghost use Rattle.host_queue.specs.Clients.{IsOnly};
-ghost use Rattle.host_queue.specs.History.{Begins};
+ghost use Rattle.host_queue.specs.Clients.{IsOnly, Serves};
+ghost use Rattle.host_queue.specs.History.{Begins, RunsTo};
+ghost use Rattle.host_queue.specs.Opened.{Each, IsGuest};
 ghost use Rattle.host_queue.specs.Plays.{IsUnheard};
-ghost use Rattle.host_queue.specs.Views.{entry};
+ghost use Rattle.host_queue.specs.Views.{entry, total};
 ghost use Rattle.device.specs.Machine.{Step, machine_of};
 
-use crate::{Command, Device, Gate, Reply};
-use host_queue::{Answered, Client, Driver, Full, Machine, Queue, Request};
+use crate::{Command, Device, Gate, OpenGate, Reply};
+use host_queue::{Answered, Client, Full, Machine, Queue, Request};
+use std::alloc::{AllocError, Global};
 use std::marker::Sync;
 use std::sync::Wait;
 use std::thread::Threads;
@@ -31,62 +33,128 @@ impl Machine<Command, Reply> for Device {
     }
 }
 
-/// Answers the next ticket, if its request is there, by 1 to 16 workers, which call the gate (own). What it answers, and when, is as of
-/// `Driver::drive_one`, however many workers there are and whatever the gate does.
-pub fn drive_with<G: Gate, T: Threads + Wait + Sync>(
-    driver: &mut Driver<Device, Command, Reply>,
-    rt: &T,
-    queue: &Queue<Device, Command, Reply>,
+/// Who does the commands of a queue over a device, in the order of their tickets (OpenCL 1.2, section 3.2.1): a launch runs by 1 to 16 workers.
+#[derive(Drop)]
+pub struct Driver {
+    driver: host_queue::Driver<Device, Command, Reply>,
+    /// How many workers run a launch
     workers: u32,
-    gate: &G,
-) -> Option<Answered<Device, Command, Reply>>
-    requires one { driver.old.seat.table_id ≡ queue.now.table.shared.table_id }
-    requires workers { (1 ≤ workers) × (workers ≤ 16) }
-    ensures one { driver.new.seat.table_id ≡ driver.old.seat.table_id }
-    ensures some { IfSome result (λ a. (a.seat.table_id ≡ driver.old.seat.table_id) × (a.count ≡ length driver.old.seat.me.0.known + 1) × (a.seat.me.0.known ≡ driver.new.seat.me.0.known) × ((x : Entry CommandOf ReplyOf) × (driver.new.seat.me.0.known ≡ driver.old.seat.me.0.known ++ x ∷ []) × Step (machine_of driver.old.machine) x.command x.reply (machine_of driver.new.machine))) }
-    ensures grows { Begins driver.old.seat.me.0.known driver.new.seat.me.0.known × (length driver.new.seat.me.0.known ≤ length driver.old.seat.me.0.known + 1) }
-    ensures none { IfNone result ((driver.new.machine ≡ driver.old.machine) × (driver.new.seat.me.0 ≡ driver.old.seat.me.0)) }
-    ensures waits { IfNone result (length driver.old.seat.me.0.known < 4096 → IsUnheard driver.old.seat.me.0) }
-    ensures same { (driver.new.seat.me.0.start ≡ driver.old.seat.me.0.start) × (driver.new.seat.me.0.admitted ≡ driver.old.seat.me.0.admitted) × (driver.new.seat.me.0.share ≡ driver.old.seat.me.0.share) × (driver.new.seat.me.0.count ≡ driver.old.seat.me.0.count) }
-{
-    driver.drive_by(
-        queue,
-        |device: &mut Device, command: Command| -> Reply
-            requires { (1 ≤ workers) × (workers ≤ 16) }
-            ensures { Step (machine_of device.old) command result (machine_of device.new) }
-        { device.apply_with(rt, command, workers, gate) },
-    )
+    ghost counted: { (1 ≤ workers) × (workers ≤ 16) },
 }
 
-/// Does the command of the only client at once, by 1 to 16 workers, which call the gate (own). What it answers, and when, is as of
-/// `Driver::answer`, however many workers there are and whatever the gate does.
-pub fn answer_with<G: Gate, T: Threads + Wait + Sync>(
-    driver: &mut Driver<Device, Command, Reply>,
-    rt: &T,
-    queue: &Queue<Device, Command, Reply>,
-    client: &mut Client<Device, Command, Reply>,
-    request: Box<Request<Command, Reply>>,
+/// A queue over a device, with 1 to 16 workers for its launches, and so many clients, who are numbered from 0. An error is out of memory.
+pub fn open(
+    alloc: Global,
+    device: Device,
     workers: u32,
-    gate: &G,
-) -> Result<Box<Request<Command, Reply>>, Full<Command, Reply>>
-    requires one { (driver.old.seat.table_id ≡ queue.now.table.shared.table_id) × (client.old.seat.table_id ≡ queue.now.table.shared.table_id) }
-    requires only { IsOnly driver.old.seat.me.0 client.old.seat.me.0 }
-    requires asked { (c : CommandOf) × (box_value request ≡ Asked c) }
+    clients: usize,
+) -> Result<
+    (
+        Queue<Device, Command, Reply>,
+        Vec<Client<Device, Command, Reply>>,
+        Driver,
+    ),
+    AllocError,
+>
     requires workers { (1 ≤ workers) × (workers ≤ 16) }
-    ensures one { (driver.new.seat.table_id ≡ driver.old.seat.table_id) × (client.new.seat.table_id ≡ client.old.seat.table_id) }
-    ensures only { IsOnly driver.new.seat.me.0 client.new.seat.me.0 }
-    ensures ok { IfOk result (λ b. (c : CommandOf) × (r : ReplyOf) × (box_value request ≡ Asked c) × (box_value b ≡ AnsweredBy r) × Step (machine_of driver.old.machine) c r (machine_of driver.new.machine) × (driver.new.seat.me.0.known ≡ driver.old.seat.me.0.known ++ entry c r ∷ [])) }
-    ensures room { IfOk result (λ b. length driver.old.seat.me.0.known < 4096) }
-    ensures err { IfErr result (λ f. (f.request ≡ request) × (length driver.old.seat.me.0.known ≡ 4096) × (driver.new ≡ driver.old) × (client.new ≡ client.old)) }
-    ensures start { (driver.new.seat.me.0.start ≡ driver.old.seat.me.0.start) × (client.new.seat.me.0.start ≡ client.old.seat.me.0.start) × (client.new.seat.me.0.name ≡ client.old.seat.me.0.name) }
+    requires clients { clients ≤ 16 }
+    ensures driver { IfOk result (λ r. (r.2.driver.seat.table_id ≡ r.0.table.shared.table_id) × (r.2.driver.machine ≡ device) × (r.2.driver.seat.me.0.start ≡ device ∷ []) × (r.2.driver.seat.me.0.known ≡ []) × (r.2.driver.seat.me.0.admitted ≡ clients) × (r.2.driver.seat.me.0.share ≡ 0)) }
+    ensures clients { IfOk result (λ r. (vec_len r.1 ≡ clients) × Each r.1.items (λ k c. (c.seat.table_id ≡ r.0.table.shared.table_id) × IsGuest (device ∷ []) k c.seat.me.0)) }
 {
-    driver.answer_by(
-        queue,
-        client,
-        request,
-        |device: &mut Device, command: Command| -> Reply
-            requires { (1 ≤ workers) × (workers ≤ 16) }
-            ensures { Step (machine_of device.old) command result (machine_of device.new) }
-        { device.apply_with(rt, command, workers, gate) },
-    )
+    let (queue, list, driver) = host_queue::open(alloc, device, clients)?;
+    Ok((queue, list, Driver { driver, workers }))
+}
+
+impl Driver {
+    /// Answers the next ticket, if its request is there; the workers of a launch call the gate (own). What it answers, and when, is as of
+    /// `host_queue::Driver::drive_one`, however many workers there are and whatever the gate does.
+    pub fn drive_with<G: Gate, T: Threads + Wait + Sync>(
+        &mut self,
+        rt: &T,
+        queue: &Queue<Device, Command, Reply>,
+        gate: &G,
+    ) -> Option<Answered<Device, Command, Reply>>
+        requires one { self.old.driver.seat.table_id ≡ queue.now.table.shared.table_id }
+        ensures one { self.new.driver.seat.table_id ≡ self.old.driver.seat.table_id }
+        ensures some { IfSome result (λ a. (a.seat.table_id ≡ self.old.driver.seat.table_id) × (a.count ≡ length self.old.driver.seat.me.0.known + 1) × (a.seat.me.0.known ≡ self.new.driver.seat.me.0.known) × ((x : Entry CommandOf ReplyOf) × (self.new.driver.seat.me.0.known ≡ self.old.driver.seat.me.0.known ++ x ∷ []) × Step (machine_of self.old.driver.machine) x.command x.reply (machine_of self.new.driver.machine))) }
+        ensures grows { Begins self.old.driver.seat.me.0.known self.new.driver.seat.me.0.known × (length self.new.driver.seat.me.0.known ≤ length self.old.driver.seat.me.0.known + 1) }
+        ensures none { IfNone result ((self.new.driver.machine ≡ self.old.driver.machine) × (self.new.driver.seat.me.0 ≡ self.old.driver.seat.me.0)) }
+        ensures waits { IfNone result (length self.old.driver.seat.me.0.known < 4096 → IsUnheard self.old.driver.seat.me.0) }
+        ensures same { (self.new.driver.seat.me.0.start ≡ self.old.driver.seat.me.0.start) × (self.new.driver.seat.me.0.admitted ≡ self.old.driver.seat.me.0.admitted) × (self.new.driver.seat.me.0.share ≡ self.old.driver.seat.me.0.share) × (self.new.driver.seat.me.0.count ≡ self.old.driver.seat.me.0.count) }
+        ensures workers { self.new.workers ≡ self.old.workers }
+    {
+        let workers = self.workers;
+        self.driver.drive_by(
+            queue,
+            |device: &mut Device, command: Command| -> Reply
+                requires { (1 ≤ workers) × (workers ≤ 16) }
+                ensures { Step (machine_of device.old) command result (machine_of device.new) }
+            { device.apply_with(rt, command, workers, gate) },
+        )
+    }
+
+    /// Answers the next ticket, if its request is there: `drive_with` with a gate that lets all pass.
+    pub fn drive_one<T: Threads + Wait + Sync>(
+        &mut self,
+        rt: &T,
+        queue: &Queue<Device, Command, Reply>,
+    ) -> Option<Answered<Device, Command, Reply>>
+        requires one { self.old.driver.seat.table_id ≡ queue.now.table.shared.table_id }
+        ensures one { self.new.driver.seat.table_id ≡ self.old.driver.seat.table_id }
+        ensures some { IfSome result (λ a. (a.seat.table_id ≡ self.old.driver.seat.table_id) × (a.count ≡ length self.old.driver.seat.me.0.known + 1) × (a.seat.me.0.known ≡ self.new.driver.seat.me.0.known) × ((x : Entry CommandOf ReplyOf) × (self.new.driver.seat.me.0.known ≡ self.old.driver.seat.me.0.known ++ x ∷ []) × Step (machine_of self.old.driver.machine) x.command x.reply (machine_of self.new.driver.machine))) }
+        ensures grows { Begins self.old.driver.seat.me.0.known self.new.driver.seat.me.0.known × (length self.new.driver.seat.me.0.known ≤ length self.old.driver.seat.me.0.known + 1) }
+        ensures none { IfNone result ((self.new.driver.machine ≡ self.old.driver.machine) × (self.new.driver.seat.me.0 ≡ self.old.driver.seat.me.0)) }
+        ensures waits { IfNone result (length self.old.driver.seat.me.0.known < 4096 → IsUnheard self.old.driver.seat.me.0) }
+        ensures same { (self.new.driver.seat.me.0.start ≡ self.old.driver.seat.me.0.start) × (self.new.driver.seat.me.0.admitted ≡ self.old.driver.seat.me.0.admitted) × (self.new.driver.seat.me.0.share ≡ self.old.driver.seat.me.0.share) × (self.new.driver.seat.me.0.count ≡ self.old.driver.seat.me.0.count) }
+        ensures workers { self.new.workers ≡ self.old.workers }
+    {
+        self.drive_with(rt, queue, &OpenGate)
+    }
+
+    /// Does the command of the only client at once; the workers of a launch call the gate (own). What it answers, and when, is as of
+    /// `host_queue::Driver::answer`, however many workers there are and whatever the gate does.
+    pub fn answer_with<G: Gate, T: Threads + Wait + Sync>(
+        &mut self,
+        rt: &T,
+        queue: &Queue<Device, Command, Reply>,
+        client: &mut Client<Device, Command, Reply>,
+        request: Box<Request<Command, Reply>>,
+        gate: &G,
+    ) -> Result<Box<Request<Command, Reply>>, Full<Command, Reply>>
+        requires one { (self.old.driver.seat.table_id ≡ queue.now.table.shared.table_id) × (client.old.seat.table_id ≡ queue.now.table.shared.table_id) }
+        requires only { IsOnly self.old.driver.seat.me.0 client.old.seat.me.0 }
+        requires asked { (c : CommandOf) × (box_value request ≡ Asked c) }
+        ensures one { (self.new.driver.seat.table_id ≡ self.old.driver.seat.table_id) × (client.new.seat.table_id ≡ client.old.seat.table_id) }
+        ensures only { IsOnly self.new.driver.seat.me.0 client.new.seat.me.0 }
+        ensures ok { IfOk result (λ b. (c : CommandOf) × (r : ReplyOf) × (box_value request ≡ Asked c) × (box_value b ≡ AnsweredBy r) × Step (machine_of self.old.driver.machine) c r (machine_of self.new.driver.machine) × (self.new.driver.seat.me.0.known ≡ self.old.driver.seat.me.0.known ++ entry c r ∷ [])) }
+        ensures room { IfOk result (λ b. length self.old.driver.seat.me.0.known < 4096) }
+        ensures err { IfErr result (λ f. (f.request ≡ request) × (length self.old.driver.seat.me.0.known ≡ 4096) × (self.new.driver ≡ self.old.driver) × (client.new ≡ client.old)) }
+        ensures start { (self.new.driver.seat.me.0.start ≡ self.old.driver.seat.me.0.start) × (client.new.seat.me.0.start ≡ client.old.seat.me.0.start) × (client.new.seat.me.0.name ≡ client.old.seat.me.0.name) }
+        ensures workers { self.new.workers ≡ self.old.workers }
+    {
+        let workers = self.workers;
+        self.driver.answer_by(
+            queue,
+            client,
+            request,
+            |device: &mut Device, command: Command| -> Reply
+                requires { (1 ≤ workers) × (workers ≤ 16) }
+                ensures { Step (machine_of device.old) command result (machine_of device.new) }
+            { device.apply_with(rt, command, workers, gate) },
+        )
+    }
+}
+
+/// Answers all that remains, and hands the device back, as `host_queue::close` does. Replies that were not collected are dropped. The list has
+/// each ticket of each client that is handed in; it has no more where all clients are.
+pub fn close<W: Wait>(
+    rt: &W,
+    queue: Queue<Device, Command, Reply>,
+    clients: Vec<Client<Device, Command, Reply>>,
+    driver: Driver,
+) -> Device
+    requires one { (driver.driver.seat.table_id ≡ queue.table.shared.table_id) × Each clients.items (λ k c. c.seat.table_id ≡ queue.table.shared.table_id) }
+    ensures { (log : List (Entry CommandOf ReplyOf)) × ((d : _) → driver.driver.seat.me.0.start ≡ d ∷ [] → RunsTo (λ before command reply after. Step (machine_of before) command reply (machine_of after)) d log result) × Begins driver.driver.seat.me.0.known log × Each clients.items (λ k c. Begins c.seat.me.0.known log × Serves c.seat.me.0.tickets log) × (driver.driver.seat.me.0.share ≡ 0 → driver.driver.seat.me.0.admitted ≡ length clients.items → length log ≡ total (λ c. length c.seat.me.0.tickets) clients.items) }
+{
+    host_queue::close(rt, queue, clients, driver.driver)
 }

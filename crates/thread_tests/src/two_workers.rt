@@ -1,13 +1,13 @@
 //! Two workers run the two groups of a launch at the same time: a gate holds both groups until each has entered.
-ghost use Rattle.std.specs.Prelude.{◌≤◌};
+ghost use Rattle.std.specs.Prelude.{◌≡◌, ◌≤◌, IfOk};
 
 use crate::gates::Meeting;
-use crate::pair::{boxed, open_one, reply};
+use crate::pair::{boxed, reply};
 use crate::scripts::{SUM, SUMS, all_but_the_last};
 use clmodel::outcome::Outcome;
 use clmodel::text::Name;
-use device::{Command, Device, Reply, drive_with};
-use host_queue::close;
+use device::{Command, Device, Driver, Reply, close, open};
+use host_queue::{Client, Queue};
 use spaces_base::Buffers;
 use std::alloc::{AllocError, Global};
 use std::sync::Wait;
@@ -95,6 +95,25 @@ fn they_meet_in_apply_with(rt: HostRuntime) -> Result<(), Fail> {
     Ok(())
 }
 
+/// A queue over a device that has two workers, with one client.
+fn open_two_workers(
+    alloc: Global,
+    device: Device,
+) -> Result<
+    (
+        Queue<Device, Command, Reply>,
+        Client<Device, Command, Reply>,
+        Driver,
+    ),
+    AllocError,
+>
+    ensures { IfOk result (λ r. (r.1.seat.table_id ≡ r.0.table.shared.table_id) × (r.2.driver.seat.table_id ≡ r.0.table.shared.table_id)) }
+{
+    let (queue, mut clients, driver) = open(alloc, device, 2, 1)?;
+    let client = clients.pop().unwrap();
+    Ok((queue, client, driver))
+}
+
 /// The reply to a command by `drive_with`, on two workers, and the device as it is then.
 fn driven<W: Threads + Wait + Sync>(
     rt: &W,
@@ -103,11 +122,11 @@ fn driven<W: Threads + Wait + Sync>(
     command: Command,
     gate: &Meeting,
 ) -> Result<Option<(Reply, Device)>, AllocError> {
-    let (queue, mut client, mut driver) = open_one(alloc, device)?;
+    let (queue, mut client, mut driver) = open_two_workers(alloc, device)?;
     let Ok(ticket) = client.submit(&queue, boxed(alloc, command)?) else {
         return Ok(None);
     };
-    drop(drive_with(&mut driver, rt, &queue, 2, gate));
+    drop(driver.drive_with(rt, &queue, gate));
     let Ok(request) = client.poll(&queue, ticket) else {
         return Ok(None);
     };
