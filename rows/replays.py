@@ -112,7 +112,7 @@ class Player:
         self.locals = [[None] * (4 * size) for _ in range(len(items) // size)]
         self.intervals = [{"buffer": 0, "local": 0} for _ in self.locals]
         self.at = [0] * len(items)
-        self.log = []
+        self.log, self.kept = [], {}
 
     def next(self, item):
         return self.items[item][self.at[item]] if self.at[item] < len(self.items[item]) else ("end",)
@@ -138,7 +138,7 @@ class Player:
         kind, cells, place, touched, value, _ = access
         if touched[-1] >= len(cells) or (kind != "store" and any(cells[byte] is None for byte in touched)):
             return False
-        self.groups["Run"].write(self, kind, cells, touched, value)
+        self.groups["Run"].write(self, item, kind, cells, touched, value)
         group = item // self.size
         left = {byte: cells[byte] for byte in touched}
         self.log.append((item, kind, place, left, group, self.intervals[group]["local" if place[0] == "l" else "buffer"]))
