@@ -1,11 +1,12 @@
 -- A source of which a kernel's code is told as text.
 use Rattle.std.specs.Prelude.{◌≡◌, ℕ, Bool, true, false, Option, None, Some, Result, Ok, Err, List, []}
+use Rattle.clmodel.specs.Setup.{kernel_number}
 use Rattle.clmodel.specs.Tree.{Program}
 use Rattle.device_store.specs.Builds.{Builds}
 use Rattle.device_store.specs.declared.command.BuildFault.{BuildFault}
 use Rattle.ends.specs.Sink.{Sink, Wrote, Stopped, CountsUp}
 use Rattle.ends.specs.Source.{Are}
-use Rattle.lower.specs.Names.{kernel_number, LowersNamed}
+use Rattle.lower.specs.Names.{LowersNamed}
 use Rattle.regcode.specs.Listing.{Listing}
 use Rattle.regcode.specs.Text.{text_of}
 use Rattle.simfile.specs.Lines.{check_line}

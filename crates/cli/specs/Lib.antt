@@ -1,4 +1,6 @@
 pub mod Session
+pub mod Faults
+pub mod Reading
 pub mod Checking
 pub mod Dumping
 pub mod Replaying

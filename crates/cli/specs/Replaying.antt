@@ -17,7 +17,7 @@ use Rattle.device_store.specs.declared.command.Reply.TheVariants as reply
 use Rattle.ends.specs.Sink.{Sink, Wrote, Stopped, CountsUp}
 use Rattle.ends.specs.Source.{Are}
 use Rattle.replay_text.specs.ScheduleFile.{IsScheduleFile, NoScheduleFile}
-use Rattle.simfile.specs.Script.{IsScript, IsBadLine}
+use Rattle.cli.specs.Reading.{ReadsScript, Misread}
 use Rattle.cli.specs.Session.{Plays}
 use Rattle.cli.specs.declared.session.Reader.TheVariants as reader
 use Rattle.cli.specs.declared.session.RunFault.{RunFault}
@@ -42,12 +42,6 @@ pub record ComesTo (commands : List Command) (ticket : ℕ) (kernel : List ℕ) 
 pub record Replays (m : Machine) (kernel : List ℕ) (range : Range) (fault : Fault) (runs : List Run) (yes : Bool) : Type 0 where
   pub admitted : first (row m (command.Launch kernel range)) ≡ None
   pub decides : Decides yes (Reaches (launch_of (setup_of m (kernel_of m kernel) range) (bytes_of m)) (events_of runs) fault)
-
--- the bytes that are read are a script
-pub record ReadsScript (rest : Option (List ℕ)) (commands : List Command) : Type 0 where
-  pub bytes : List ℕ
-  pub read : Are rest bytes
-  pub script : IsScript bytes commands
 
 -- the bytes that are read are a schedule file
 pub record ReadsFile (rest : Option (List ℕ)) (ticket : ℕ) (fault : Fault) (runs : List Run) : Type 0 where
@@ -88,12 +82,6 @@ pub record Cut (rest rest' : Option (List ℕ)) (old new : Sink) : Type 0 where
   pub yes : Bool
   pub judged : Judged rest rest' yes
   pub stopped : Stopped old new (answer_line yes)
-
--- the script's bytes have a bad line
-pub record Misread (rest : Option (List ℕ)) (n : ℕ) : Type 0 where
-  pub bytes : List ℕ
-  pub read : Are rest bytes
-  pub bad : IsBadLine bytes n
 
 -- there is a script, and a reader of the schedule file that failed
 pub record Unread (rest : Option (List ℕ)) (failures failures' : ℕ) : Type 0 where
@@ -161,18 +149,6 @@ abbrev pub replay_status_of : Result Bool RunFault → ℕ
 replay_status_of (Ok true) = 0
 replay_status_of (Ok false) = 1
 replay_status_of (Err fault) = 2
-
--- why no script was read
-abbrev pub ScriptFails : Option (List ℕ) → ℕ → ℕ → RunFault → Type 0
-ScriptFails rest failures failures' (fault.Read reader.First) = CountsUp failures failures'
-ScriptFails rest failures failures' (fault.Read reader.Second) = ⊥
-ScriptFails rest failures failures' (fault.BadLine n) = Misread rest n
-ScriptFails rest failures failures' fault.OutOfMemory = ⊤
-ScriptFails rest failures failures' fault.Write = ⊥
-ScriptFails rest failures failures' fault.NoSuchKernel = ⊥
-ScriptFails rest failures failures' fault.BadSchedule = ⊥
-ScriptFails rest failures failures' (fault.NotALaunch ticket) = ⊥
-ScriptFails rest failures failures' (fault.CommandRefused ticket) = ⊥
 
 -- why no schedule file was read
 abbrev pub FileFails : Option (List ℕ) → ℕ → ℕ → RunFault → Type 0

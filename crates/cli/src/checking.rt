@@ -6,12 +6,13 @@ ghost use Rattle.ends.specs.Sink.{Puts};
 ghost use Rattle.simfile.specs.Lines.{check_line};
 ghost use Rattle.cli.specs.Checking.{Checked, Unchecked, source_status_of};
 
+use crate::reading::bytes_of;
 use crate::session::{Reader, RunFault};
 use device_store::build::build;
 use device_store::command::BuildFault;
-use ends::{Read, ReadFault, Write, WriteFailed};
+use ends::{Read, Write, WriteFailed};
 use simfile::replies::write_check;
-use std::alloc::{AllocError, Global};
+use std::alloc::Global;
 
 /// Writes the line of a check, and lets go of it.
 pub(crate) fn tell<W: Write>(fault: Option<BuildFault>, writer: &mut W) -> Result<(), WriteFailed>
@@ -35,20 +36,10 @@ pub fn check_file<R: Read, W: Write>(
     ensures failed { IfErr result
         (Unchecked (R.rest reader.old) (R.failures reader.old) (R.failures reader.new) (W.sink writer.old) (W.sink writer.new)) }
 {
-    let source = match reader.read_all(alloc) {
-        Ok(source) => source,
-        Err(ReadFault::Failed) => return Err(RunFault::Read(Reader::First)),
-        Err(ReadFault::OutOfMemory) => return Err(RunFault::OutOfMemory),
-    };
-    let fault = match build(alloc, source.as_slice()) {
-        Ok(Ok(_)) => None,
-        Ok(Err(fault)) => Some(fault),
-        Err(AllocError) => return Err(RunFault::OutOfMemory),
-    };
-    match tell(fault, writer) {
-        Ok(()) => Ok(fault.is_none()),
-        Err(WriteFailed) => Err(RunFault::Write),
-    }
+    let source = bytes_of(alloc, reader, Reader::First)?;
+    let fault = build(alloc, source.as_slice())?.err();
+    tell(fault, writer)?;
+    Ok(fault.is_none())
 }
 
 /// The status of a check or a dump: 0 where the source builds, else 2.

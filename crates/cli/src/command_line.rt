@@ -154,8 +154,8 @@ fn replay_form<'a>(alloc: Global) -> Result<Command<'a>, AllocError>
 
 /// The budget of a run, the default where the option isn't there, and `None` where it is no budget.
 fn budget_of(run: &ArgMatches<'_>) -> Option<u32>
-    ensures given { IfSome result (λ n. GivesBudget (rows_of (found_of run.now)) n) }
-    ensures limited { IfSome result (λ n. n ≤ 1000000) }
+    ensures given { IfSome result (λ number. GivesBudget (rows_of (found_of run.now)) number) }
+    ensures limited { IfSome result (λ number. number ≤ 1000000) }
 {
     match run.try_get_one::<u32>("budget") {
         Ok(None) => Some(Options::DEFAULT_BUDGET),
@@ -166,8 +166,8 @@ fn budget_of(run: &ArgMatches<'_>) -> Option<u32>
 
 /// The number of workers of a run, the default where the option isn't there, and `None` where it is none.
 fn workers_of(run: &ArgMatches<'_>) -> Option<u32>
-    ensures given { IfSome result (λ n. GivesWorkers (rows_of (found_of run.now)) n) }
-    ensures limited { IfSome result (λ n. (1 ≤ n) × (n ≤ 16)) }
+    ensures given { IfSome result (λ number. GivesWorkers (rows_of (found_of run.now)) number) }
+    ensures limited { IfSome result (λ number. (1 ≤ number) × (number ≤ 16)) }
 {
     match run.try_get_one::<u32>("workers") {
         Ok(None) => Some(Options::DEFAULT_WORKERS),
@@ -241,17 +241,14 @@ fn runs<'a>(alloc: Global) -> Result<Command<'a>, AllocError>
         .subcommand(run)
 }
 
-/// Forms with one more, where that one was made.
+/// Forms with one more, where that one was made: `forms` would let go of its forms at an exit more for each.
 fn with_form<'a>(
     forms: Command<'a>,
     form: Result<Command<'a>, AllocError>,
 ) -> Result<Command<'a>, AllocError>
     ensures { IfOk result (λ all. (added : Command) × (form.entry ≡ Ok added) × AddsSubcommand forms.entry added all) }
 {
-    match form {
-        Ok(form) => forms.subcommand(form),
-        Err(AllocError) => Err(AllocError),
-    }
+    forms.subcommand(form?)
 }
 
 /// The forms of the command line.
@@ -264,14 +261,6 @@ fn forms<'a>(alloc: Global) -> Result<Command<'a>, AllocError>
     with_form(with_dumps, replay_form(alloc))
 }
 
-/// The error of a command line that holds no form.
-fn missing(forms: &mut Command<'_>) -> Error {
-    match forms.error(ErrorKind::MissingSubcommand, "a command is missing") {
-        Ok(error) => error,
-        Err(AllocError) => Error::from(AllocError),
-    }
-}
-
 /// Reads the words of a command line by its forms.
 fn command_by<'a>(forms: &mut Command<'a>, words: &'a [&'a str]) -> Result<Invocation<'a>, Error>
     requires { app_of forms.old ≡ program }
@@ -280,7 +269,7 @@ fn command_by<'a>(forms: &mut Command<'a>, words: &'a [&'a str]) -> Result<Invoc
     let matches = forms.try_get_matches_from_mut(words)?;
     match asked(&matches) {
         Some(asked) => Ok(asked),
-        None => Err(missing(forms)),
+        None => Err(forms.error(ErrorKind::MissingSubcommand, "a command is missing")?),
     }
 }
 

@@ -50,7 +50,7 @@ impl Desk {
         command: Command,
     ) -> Box<Request<Command, Reply>>
         requires room { length self.old.driver.driver.seat.me.0.known < 4096 }
-        ensures answered { (r : ReplyOf) × (box_value result ≡ Answered r) × Step (machine_of self.old.driver.driver.machine) command r (machine_of self.new.driver.driver.machine) }
+        ensures answered { (reply : ReplyOf) × (box_value result ≡ Answered reply) × Step (machine_of self.old.driver.driver.machine) command reply (machine_of self.new.driver.driver.machine) }
         ensures counts { length self.new.driver.driver.seat.me.0.known ≡ length self.old.driver.driver.seat.me.0.known + 1 }
     {
         *request = Request::Asked(command);

@@ -1,33 +1,21 @@
 //! A source of which a kernel's register code is written as text.
 #![tactic(auto)]
 
-ghost use Rattle.std.specs.Prelude.{◌≡◌, [], IfOk, IfErr, OnOk};
+ghost use Rattle.std.specs.Prelude.{IfOk, IfErr, OnOk};
 ghost use Rattle.clmodel.specs.Tree.{program};
-ghost use Rattle.ends.specs.Sink.{Puts};
-ghost use Rattle.regcode.specs.Text.{text_of};
 ghost use Rattle.cli.specs.Dumping.{Told, Untold, Dumped, Undumped};
 
 use crate::checking::tell;
+use crate::reading::bytes_of;
 use crate::session::{Reader, RunFault};
 use cltypes::Checked;
 use device_store::build::build;
-use ends::{Read, ReadFault, Write, WriteFailed};
-use lower::{LowerFault, lower};
-use regcode::{Code, DumpFault, dump};
-use std::alloc::{AllocError, Global};
+use ends::{Read, Write};
+use lower::lower;
+use regcode::dump;
+use std::alloc::Global;
 
-/// Writes code as text, and lets go of it.
-fn write_code<W: Write>(code: &Code, writer: &mut W) -> Result<(), WriteFailed>
-    ensures text { Puts (W.sink writer.old) result (W.sink writer.new) (text_of code.now.instructions) }
-    ensures released { OnOk result ((W.sink writer.new).held ≡ []) }
-{
-    match dump(code, writer) {
-        Ok(()) => writer.flush(),
-        Err(DumpFault::Write) => Err(WriteFailed),
-    }
-}
-
-/// Writes the code of a program's kernel.
+/// Writes the code of a program's kernel as text, and lets go of it.
 fn tell_kernel<W: Write>(
     alloc: Global,
     checked: &Checked,
@@ -37,15 +25,9 @@ fn tell_kernel<W: Write>(
     ensures told { OnOk result (Told (program checked.now.tree) kernel.now (W.sink writer.old) (W.sink writer.new)) }
     ensures untold { IfErr result (Untold (program checked.now.tree) kernel.now (W.sink writer.old) (W.sink writer.new)) }
 {
-    let code = match lower(alloc, checked, kernel) {
-        Ok(code) => code,
-        Err(LowerFault::NoSuchKernel) => return Err(RunFault::NoSuchKernel),
-        Err(LowerFault::OutOfMemory) => return Err(RunFault::OutOfMemory),
-    };
-    match write_code(&code, writer) {
-        Ok(()) => Ok(()),
-        Err(WriteFailed) => Err(RunFault::Write),
-    }
+    let code = lower(alloc, checked, kernel)?;
+    dump(&code, writer)?;
+    Ok(writer.flush()?)
 }
 
 /// Reads a source, builds it as a program is built, and writes the register code of a kernel, a line for each instruction. Of a
@@ -62,23 +44,15 @@ pub fn dump_file<R: Read, W: Write>(
     ensures failed { IfErr result
         (Undumped (R.rest reader.old) kernel.now (R.failures reader.old) (R.failures reader.new) (W.sink writer.old) (W.sink writer.new)) }
 {
-    let source = match reader.read_all(alloc) {
-        Ok(source) => source,
-        Err(ReadFault::Failed) => return Err(RunFault::Read(Reader::First)),
-        Err(ReadFault::OutOfMemory) => return Err(RunFault::OutOfMemory),
-    };
-    let checked = match build(alloc, source.as_slice()) {
-        Ok(Ok(checked)) => checked,
-        Ok(Err(fault)) => {
-            return match tell(Some(fault), writer) {
-                Ok(()) => Ok(false),
-                Err(WriteFailed) => Err(RunFault::Write),
-            };
+    let source = bytes_of(alloc, reader, Reader::First)?;
+    match build(alloc, source.as_slice())? {
+        Ok(checked) => {
+            tell_kernel(alloc, &checked, kernel, writer)?;
+            Ok(true)
         }
-        Err(AllocError) => return Err(RunFault::OutOfMemory),
-    };
-    match tell_kernel(alloc, &checked, kernel, writer) {
-        Ok(()) => Ok(true),
-        Err(fault) => Err(fault),
+        Err(fault) => {
+            tell(Some(fault), writer)?;
+            Ok(false)
+        }
     }
 }

@@ -5,6 +5,7 @@ pub mod checking;
 pub mod command_line;
 mod desk;
 pub mod dumping;
+mod reading;
 pub mod replaying;
 pub mod session;
 

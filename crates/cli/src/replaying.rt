@@ -5,18 +5,18 @@ ghost use Rattle.std.specs.Prelude.{◌≡◌, ℕ, List, [], false, None, Some,
 ghost use Rattle.device.specs.Machine.{IsRefusal, machine_of, opening};
 ghost use Rattle.clmodel.specs.declared.setup.Range.{Range};
 ghost use Rattle.ends.specs.Sink.{Puts};
-ghost use Rattle.cli.specs.Replaying.{ReadsScript, ReadsFile, ScriptFails, FileFails, NoLaunch, Performs, Leads, Replays, Judges, Unjudged, answer_line, Replayed, Unreplayed, replay_status_of};
+ghost use Rattle.cli.specs.Replaying.{ReadsFile, FileFails, NoLaunch, Performs, Leads, Replays, Judges, Unjudged, answer_line, Replayed, Unreplayed, replay_status_of};
 
+use crate::reading::{bytes_of, commands_of};
 use crate::session::{Options, Reader, RunFault};
 use clmodel::fault::Fault;
 use clmodel::schedule::Schedule;
 use clmodel::setup::Range;
 use clmodel::text::Name;
 use device::{Command, Device, Refusal, Reply};
-use ends::{Read, ReadFault, Write, WriteFailed};
+use ends::{Read, Write, WriteFailed};
 use replay::replay;
-use replay_text::{ReadFault as FileFault, read};
-use simfile::script::{ScriptFault, read_script};
+use replay_text::read;
 use std::alloc::{AllocError, Global};
 
 /// What a schedule file tells: the number of a launch among a script's commands, from 0, a fault, and events that lead there.
@@ -34,42 +34,18 @@ struct LaunchCommand {
     range: Range,
 }
 
-/// Reads a script.
-fn commands_of<R: Read>(alloc: Global, reader: &mut R) -> Result<Vec<Command>, RunFault>
-    ensures read { IfOk result (λ commands. ReadsScript (R.rest reader.old) commands.items) }
-    ensures failed { IfErr result (ScriptFails (R.rest reader.old) (R.failures reader.old) (R.failures reader.new)) }
-{
-    let bytes = match reader.read_all(alloc) {
-        Ok(bytes) => bytes,
-        Err(ReadFault::Failed) => return Err(RunFault::Read(Reader::First)),
-        Err(ReadFault::OutOfMemory) => return Err(RunFault::OutOfMemory),
-    };
-    match read_script(alloc, bytes.as_slice()) {
-        Ok(commands) => Ok(commands),
-        Err(ScriptFault::BadLine(number)) => Err(RunFault::BadLine(number)),
-        Err(ScriptFault::OutOfMemory) => Err(RunFault::OutOfMemory),
-    }
-}
-
 /// Reads a schedule file.
 fn task_of<R: Read>(alloc: Global, reader: &mut R) -> Result<Task, RunFault>
     ensures read { IfOk result (λ task. ReadsFile (R.rest reader.old) task.ticket task.fault task.schedule) }
     ensures failed { IfErr result (FileFails (R.rest reader.old) (R.failures reader.old) (R.failures reader.new)) }
 {
-    let bytes = match reader.read_all(alloc) {
-        Ok(bytes) => bytes,
-        Err(ReadFault::Failed) => return Err(RunFault::Read(Reader::Second)),
-        Err(ReadFault::OutOfMemory) => return Err(RunFault::OutOfMemory),
-    };
-    match read(alloc, bytes.as_slice()) {
-        Ok((ticket, fault, schedule)) => Ok(Task {
-            ticket,
-            fault,
-            schedule,
-        }),
-        Err(FileFault::BadText) => Err(RunFault::BadSchedule),
-        Err(FileFault::OutOfMemory) => Err(RunFault::OutOfMemory),
-    }
+    let bytes = bytes_of(alloc, reader, Reader::Second)?;
+    let (ticket, fault, schedule) = read(alloc, bytes.as_slice())?;
+    Ok(Task {
+        ticket,
+        fault,
+        schedule,
+    })
 }
 
 fn launch_in(command: Command) -> Option<LaunchCommand>
@@ -128,10 +104,8 @@ fn led(alloc: Global, commands: Vec<Command>) -> Result<Device, AllocError>
     ensures { IfOk result (λ device. Leads (opening 100000) commands.items (machine_of device)) }
 {
     let mut device = Device::new(alloc, Options::DEFAULT_BUDGET);
-    match lead(&mut device, commands) {
-        Ok(()) => Ok(device),
-        Err(AllocError) => Err(AllocError),
-    }
+    lead(&mut device, commands)?;
+    Ok(device)
 }
 
 /// Whether the events of a task lead a launch on a device to its fault. The launch is prepared, and not run.
@@ -145,16 +119,13 @@ fn decide(
     ensures refused { IfErr result (IsRefusal (machine_of device.now) (Command.Launch launched.now.kernel launched.now.range)) }
 {
     let launch = device.prepare(&launched.kernel, &launched.range)?;
-    match replay(
+    Ok(replay(
         alloc,
         &launch,
         device.buffers(),
         &task.schedule,
         &task.fault,
-    ) {
-        Ok(yes) => Ok(yes),
-        Err(AllocError) => Err(Refusal::OutOfMemory),
-    }
+    )?)
 }
 
 /// Whether the events of a task lead its launch, of these commands, to its fault.
@@ -165,10 +136,8 @@ fn judge(alloc: Global, mut commands: Vec<Command>, task: &Task) -> Result<bool,
     let Some(launched) = take_launch(&mut commands, task.ticket) else {
         return Err(RunFault::NotALaunch(task.ticket));
     };
-    let device = match led(alloc, commands) {
-        Ok(device) => device,
-        Err(AllocError) => return Err(RunFault::OutOfMemory),
-    };
+    let device = led(alloc, commands)?;
+    // A refusal's fault names the ticket, so no `From` can make it.
     match decide(alloc, &device, &launched, task) {
         Ok(yes) => Ok(yes),
         Err(Refusal::OutOfMemory) => Err(RunFault::OutOfMemory),
@@ -176,7 +145,7 @@ fn judge(alloc: Global, mut commands: Vec<Command>, task: &Task) -> Result<bool,
     }
 }
 
-/// The same, and lets go of the task.
+/// The same, and lets go of the task, so that no exit of `replay_files` has to.
 fn judge_and_drop(alloc: Global, commands: Vec<Command>, task: Task) -> Result<bool, RunFault>
     ensures judged { IfOk result (Judges commands.items task.ticket task.fault task.schedule) }
     ensures failed { IfErr result (Unjudged commands.items task.ticket) }
@@ -218,14 +187,9 @@ pub fn replay_files<R: Read, S: Read, W: Write>(
 {
     let commands = commands_of(alloc, script)?;
     let task = task_of(alloc, schedule)?;
-    let yes = match judge_and_drop(alloc, commands, task) {
-        Ok(yes) => yes,
-        Err(fault) => return Err(fault),
-    };
-    match tell(yes, writer) {
-        Ok(()) => Ok(yes),
-        Err(WriteFailed) => Err(RunFault::Write),
-    }
+    let yes = judge_and_drop(alloc, commands, task)?;
+    tell(yes, writer)?;
+    Ok(yes)
 }
 
 /// The status of a replay: 0 after yes, 1 after no, 2 where it came to no answer.

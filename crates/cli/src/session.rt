@@ -10,12 +10,16 @@ ghost use Rattle.simfile.specs.Lines.{line};
 ghost use Rattle.cli.specs.Session.{one_end, Answered, Broken, Unanswered, Ran, Failed, status_of};
 
 use crate::desk::Desk;
+use crate::reading::commands_of;
 use device_store::command::{Command, Reply};
-use ends::{Read, ReadFault, Write, WriteFailed};
+use ends::{Read, Write, WriteFailed};
 use host_queue::Request;
+use lower::LowerFault;
+use regcode::DumpFault;
+use replay_text::ReadFault as FileFault;
 use simfile::replies::write_reply;
-use simfile::script::{ScriptFault, read_script};
-use std::alloc::Global;
+use simfile::script::ScriptFault;
+use std::alloc::{AllocError, AllocFailed, Global};
 use std::marker::Sync;
 use std::sync::Wait;
 use std::thread::Threads;
@@ -98,6 +102,94 @@ pub enum RunFault {
     CommandRefused(u64),
 }
 
+impl From<AllocError> for RunFault {
+    ghost use Rattle.std.specs.Prelude.{◌≡◌};
+    ghost use Rattle.cli.specs.declared.session.RunFault.TheVariants as run_fault;
+
+    ghost from_gives = { λ _ made. made ≡ run_fault.OutOfMemory };
+
+    fn from(_: AllocError) -> Self {
+        RunFault::OutOfMemory
+    }
+}
+
+impl<T: Drop> From<AllocFailed<T>> for RunFault {
+    ghost use Rattle.std.specs.Prelude.{◌≡◌};
+    ghost use Rattle.cli.specs.declared.session.RunFault.TheVariants as run_fault;
+
+    ghost from_gives = { λ _ made. made ≡ run_fault.OutOfMemory };
+
+    fn from(_: AllocFailed<T>) -> Self {
+        RunFault::OutOfMemory
+    }
+}
+
+impl From<WriteFailed> for RunFault {
+    ghost use Rattle.std.specs.Prelude.{◌≡◌};
+    ghost use Rattle.cli.specs.declared.session.RunFault.TheVariants as run_fault;
+
+    ghost from_gives = { λ _ made. made ≡ run_fault.Write };
+
+    fn from(_: WriteFailed) -> Self {
+        RunFault::Write
+    }
+}
+
+impl From<ScriptFault> for RunFault {
+    ghost use Rattle.std.specs.Prelude.{◌≡◌};
+    ghost use Rattle.cli.specs.Faults.{script_fault};
+
+    ghost from_gives = { λ fault made. made ≡ script_fault fault };
+
+    fn from(fault: ScriptFault) -> Self {
+        match fault {
+            ScriptFault::BadLine(number) => RunFault::BadLine(number),
+            ScriptFault::OutOfMemory => RunFault::OutOfMemory,
+        }
+    }
+}
+
+impl From<FileFault> for RunFault {
+    ghost use Rattle.std.specs.Prelude.{◌≡◌};
+    ghost use Rattle.cli.specs.Faults.{file_fault};
+
+    ghost from_gives = { λ fault made. made ≡ file_fault fault };
+
+    fn from(fault: FileFault) -> Self {
+        match fault {
+            FileFault::BadText => RunFault::BadSchedule,
+            FileFault::OutOfMemory => RunFault::OutOfMemory,
+        }
+    }
+}
+
+impl From<LowerFault> for RunFault {
+    ghost use Rattle.std.specs.Prelude.{◌≡◌};
+    ghost use Rattle.cli.specs.Faults.{lower_fault};
+
+    ghost from_gives = { λ fault made. made ≡ lower_fault fault };
+
+    fn from(fault: LowerFault) -> Self {
+        match fault {
+            LowerFault::NoSuchKernel => RunFault::NoSuchKernel,
+            LowerFault::OutOfMemory => RunFault::OutOfMemory,
+        }
+    }
+}
+
+impl From<DumpFault> for RunFault {
+    ghost use Rattle.std.specs.Prelude.{◌≡◌};
+    ghost use Rattle.cli.specs.declared.session.RunFault.TheVariants as run_fault;
+
+    ghost from_gives = { λ _ made. made ≡ run_fault.Write };
+
+    fn from(fault: DumpFault) -> Self {
+        match fault {
+            DumpFault::Write => RunFault::Write,
+        }
+    }
+}
+
 fn one_end(reply: &Reply, end: RunEnd) -> RunEnd
     ensures { result ≡ one_end reply.now end }
 {
@@ -129,9 +221,9 @@ fn write_answered<W: Write>(
     end: RunEnd,
     writer: &mut W,
 ) -> Result<RunEnd, WriteFailed>
-    requires answered { (r : ReplyOf) × (request.now ≡ AnsweredBy r) }
-    ensures ok { (r : ReplyOf) → request.now ≡ AnsweredBy r → IfOk result (λ next. Wrote (W.sink writer.old) (W.sink writer.new) (line r) × (next ≡ one_end r end)) }
-    ensures err { (r : ReplyOf) → request.now ≡ AnsweredBy r → OnErr result (Stopped (W.sink writer.old) (W.sink writer.new) (line r)) }
+    requires answered { (reply : ReplyOf) × (request.now ≡ AnsweredBy reply) }
+    ensures ok { (reply : ReplyOf) → request.now ≡ AnsweredBy reply → IfOk result (λ next. Wrote (W.sink writer.old) (W.sink writer.new) (line reply) × (next ≡ one_end reply end)) }
+    ensures err { (reply : ReplyOf) → request.now ≡ AnsweredBy reply → OnErr result (Stopped (W.sink writer.old) (W.sink writer.new) (line reply)) }
 {
     match request {
         Request::Answered(reply) => write_answer(reply, end, writer),
@@ -177,16 +269,9 @@ fn perform<T: Threads + Wait + Sync, W: Write>(
     ensures ok { IfOk result (λ end. Answered options.budget commands.items (W.sink writer.old) (W.sink writer.new) end) }
     ensures err { IfErr result (Unanswered options.budget commands.items (W.sink writer.old) (W.sink writer.new)) }
 {
-    let Ok(mut desk) = Desk::open(alloc, options) else {
-        return Err(RunFault::OutOfMemory);
-    };
-    let Ok(request) = Box::new(alloc, Request::Answered(Reply::Done)) else {
-        return Err(RunFault::OutOfMemory);
-    };
-    match answer_all(rt, &mut desk, request, commands, writer) {
-        Ok(end) => Ok(end),
-        Err(WriteFailed) => Err(RunFault::Write),
-    }
+    let mut desk = Desk::open(alloc, options)?;
+    let request = Box::new(alloc, Request::Answered(Reply::Done))?;
+    Ok(answer_all(rt, &mut desk, request, commands, writer)?)
 }
 
 /// Reads a script, hands its commands to the queue of a new device, each for the next ticket, and writes a line for each reply, in order
@@ -202,16 +287,7 @@ pub fn run<T: Threads + Wait + Sync, R: Read, W: Write>(
     ensures failed { IfErr result
         (Failed (R.rest reader.old) (R.failures reader.old) (R.failures reader.new) options.budget (W.sink writer.old) (W.sink writer.new)) }
 {
-    let bytes = match reader.read_all(alloc) {
-        Ok(bytes) => bytes,
-        Err(ReadFault::Failed) => return Err(RunFault::Read(Reader::First)),
-        Err(ReadFault::OutOfMemory) => return Err(RunFault::OutOfMemory),
-    };
-    let commands = match read_script(alloc, bytes.as_slice()) {
-        Ok(commands) => commands,
-        Err(ScriptFault::BadLine(number)) => return Err(RunFault::BadLine(number)),
-        Err(ScriptFault::OutOfMemory) => return Err(RunFault::OutOfMemory),
-    };
+    let commands = commands_of(alloc, reader)?;
     perform(rt, alloc, options, commands, writer)
 }
 

@@ -33,10 +33,10 @@ fn open<'a, R: Files + Print + AllocGlobal>(
     let Ok(reader) = fs::open(rt, file) else {
         return Err(RunFault::Read(Reader::First));
     };
-    match BufWriter::new(rt.alloc(), io::writer(rt)) {
-        Ok(writer) => Ok((Input::new(reader), Output::new(writer))),
-        Err(_) => Err(RunFault::OutOfMemory),
-    }
+    let Ok(writer) = BufWriter::new(rt.alloc(), io::writer(rt)) else {
+        return Err(RunFault::OutOfMemory);
+    };
+    Ok((Input::new(reader), Output::new(writer)))
 }
 
 /// Runs the script of a file, with the replies on standard output.

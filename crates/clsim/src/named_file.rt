@@ -28,10 +28,10 @@ impl<'a, R: Files> NamedFile<'a, R> {
     }
 
     fn read(&self, alloc: Global) -> Result<Vec<u8>, ReadFault> {
-        match fs::open(self.rt, self.path) {
-            Ok(file) => Input::new(file).read_all(alloc),
-            Err(_) => Err(ReadFault::Failed),
-        }
+        let Ok(file) = fs::open(self.rt, self.path) else {
+            return Err(ReadFault::Failed);
+        };
+        Input::new(file).read_all(alloc)
     }
 }
 
@@ -41,13 +41,10 @@ impl<R: Files> Read for NamedFile<'_, R> {
     ghost failures = { λ file. file.failures };
 
     fn read_all(&mut self, alloc: Global) -> Result<Vec<u8>, ReadFault> {
-        match self.read(alloc) {
-            Ok(bytes) => Ok(bytes),
-            Err(ReadFault::OutOfMemory) => Err(ReadFault::OutOfMemory),
-            Err(ReadFault::Failed) => {
-                self.failures = self.failures.saturating_add(1);
-                Err(ReadFault::Failed)
-            }
+        let outcome = self.read(alloc);
+        if let Err(ReadFault::Failed) = outcome {
+            self.failures = self.failures.saturating_add(1);
         }
+        outcome
     }
 }

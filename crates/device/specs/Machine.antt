@@ -9,7 +9,7 @@ use Rattle.clmodel.specs.Run.{Events, State}
 use Rattle.clmodel.specs.declared.fault.Fault.{Fault}
 use Rattle.clmodel.specs.Next.{launch_of}
 use Rattle.clmodel.specs.Outcome.{events_of, IsMerged}
-use Rattle.clmodel.specs.Setup.{Setup, buffer_names, local_objects}
+use Rattle.clmodel.specs.Setup.{Setup, buffer_names, kernel_number, local_limit, local_objects}
 use Rattle.clmodel.specs.Tree.{Program, NoFunc, program}
 use Rattle.clmodel.specs.declared.setup.Argument.{Argument}
 use Rattle.clmodel.specs.declared.setup.Argument.TheVariants as argument
@@ -17,7 +17,7 @@ use Rattle.clmodel.specs.declared.setup.Range.{Range}
 use Rattle.spaces_base.specs.Buffers.{bytes_in, with_bytes, repeated}
 use Rattle.device_store.specs.Builds.{Builds}
 use Rattle.device_store.specs.Fills.{is_bad_fill}
-use Rattle.device_store.specs.Kernels.{KernelState, kernel_number, names_buffer, parameters_of, with_argument, new_kernel, no_kernel, suits}
+use Rattle.device_store.specs.Kernels.{KernelState, names_buffer, parameters_of, with_argument, new_kernel, no_kernel, suits}
 use Rattle.device_store.specs.Ranges.{is_bad_dimension, is_bad_group, is_too_many}
 use Rattle.spaces_base.specs.Tables.{Table, is, find, with_values}
 use Rattle.device_store.specs.declared.command.BuildFault.{BuildFault}
@@ -158,7 +158,7 @@ row m (command.Launch kernel range) =
     ∷ (is_bad_group range, BadGroupSize)
     ∷ (is_too_many range, TooManyItems)
     ∷ (list_any (λ a. not (is_some a)) (kernel_of m kernel).arguments, ArgumentsMissing)
-    ∷ (nat_lt 32768 (sum_by (λ o. o.size) (local_objects (setup_of m (kernel_of m kernel) range))), LocalTooLarge)
+    ∷ (nat_lt local_limit (sum_by (λ o. o.size) (local_objects (setup_of m (kernel_of m kernel) range))), LocalTooLarge)
     ∷ []
 
 -- A program that is built is there from then on. A source that isn't built is refused.

@@ -1,11 +1,12 @@
 //! Kernels with their code.
 #![tactic(auto)]
 
-ghost use Rattle.std.specs.Prelude.{◌≡◌, true, IfOk, MatchOption};
+ghost use Rattle.std.specs.Prelude.{◌≡◌, true, is_some, IfOk, MatchOption};
 ghost use Rattle.std.specs.List.{list_any};
 ghost use Rattle.std.specs.Map.{set_value, values_of};
+ghost use Rattle.clmodel.specs.Setup.{kernel_in};
 ghost use Rattle.clmodel.specs.Tree.{program};
-ghost use Rattle.device_store.specs.Kernels.{names_buffer, names_kernel};
+ghost use Rattle.device_store.specs.Kernels.{names_buffer};
 ghost use Rattle.spaces_base.specs.Tables.{is, find};
 ghost use Rattle.lower.specs.Lowers.{IsLowered};
 ghost use Rattle.device.specs.Kept.{with_argument_set};
@@ -28,7 +29,7 @@ pub(crate) struct CompiledKernel {
 
 /// The code of a program's kernel, by the number of its name. An error is out of memory.
 pub(crate) fn code_of(alloc: Global, checked: &Checked, number: u32) -> Result<Code, AllocError>
-    requires { names_kernel (program checked.now.tree) number ≡ true }
+    requires { is_some (kernel_in (program checked.now.tree).functions number) ≡ true }
     ensures { IfOk result (IsLowered (program checked.now.tree) number) }
 {
     match lower_kernel(alloc, checked, number) {

@@ -6,7 +6,7 @@ ghost use Rattle.clmodel.specs.declared.setup.Range.{Range as RangeOf};
 ghost use Rattle.device_store.specs.Ranges.{IsLaunchable};
 
 use crate::Device;
-use crate::prepared::{Launched, Prepared, copies};
+use crate::prepared::{Launched, Prepared};
 use clmodel::determinacy::{clean_is_complete, determinacy};
 use clmodel::outcome::Outcome;
 use clmodel::run_laws::report_is_shown;
@@ -78,7 +78,7 @@ impl Device {
         ensures refused { IfErr result (IsRefusal (machine_of self.now) (Command.Launch name.now range.now)) }
     {
         let launch = self.prepare(name, range)?;
-        let names = copies(self.alloc, launch.buffer_names())?;
+        let names = Name::copies(self.alloc, launch.buffer_names())?;
         let outcome = run_launch(self.alloc, &launch, &self.buffers)?;
         Ok(Launched { names, outcome })
     }
@@ -97,7 +97,7 @@ impl Device {
         ensures refused { IfErr result (IsRefusal (machine_of self.now) (Command.Launch name.now range.now)) }
     {
         let launch = self.prepare(name, range)?;
-        let names = copies(self.alloc, launch.buffer_names())?;
+        let names = Name::copies(self.alloc, launch.buffer_names())?;
         let outcome = run_parallel(rt, self.alloc, &launch, &self.buffers, workers, gate)?;
         Ok(Launched { names, outcome })
     }

@@ -19,7 +19,7 @@ use cltypes::Checked;
 use device_store::build::build;
 pub use device_store::command::{BuildFault, Command, Refusal, Reply};
 use device_store::fills::is_bad_fill;
-use device_store::kernel::{Kernel, kernel_number, parameters_of, suits};
+use device_store::kernel::{Kernel, parameters_of, suits};
 pub use item_step::Launch;
 pub use spaces_base::Buffers;
 use spaces_base::Table;
@@ -302,7 +302,7 @@ impl Device {
         let Some(checked) = self.program(&program) else {
             return Err(Refusal::NoSuchName);
         };
-        let Some(number) = kernel_number(&checked.tree, function) else {
+        let Some(number) = checked.tree.kernel_number(function.as_slice()) else {
             return Err(Refusal::NoSuchKernel);
         };
         let count = parameters_of(&checked.tree, number).len();

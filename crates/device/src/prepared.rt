@@ -35,17 +35,6 @@ pub(crate) struct Launched {
     pub(crate) outcome: Outcome,
 }
 
-/// Copies of names.
-pub(crate) fn copies(alloc: Global, names: &[Name]) -> Result<Vec<Name>, AllocError>
-    ensures { IfOk result (λ copies. copies.items ≡ names.now) }
-{
-    let mut copies = Vec::new(alloc);
-    for name in names {
-        copies.push(name.copied(alloc)?)?;
-    }
-    Ok(copies)
-}
-
 impl<'a> Prepared<'a> {
     ghost use Rattle.device.specs.Prepared.{prepared_setup};
     ghost use Rattle.item_step.specs.Launches.{setup_of};

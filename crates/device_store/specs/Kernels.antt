@@ -1,11 +1,10 @@
 -- Kernels with their arguments (OpenCL 1.2, 5.7).
-use Rattle.std.specs.Prelude.{ℕ, ℤ, Bool, true, false, not, ◌&&◌, nat_le, int_le, List, Option, None, Some, is_some, slice_set, [], replicate}
+use Rattle.std.specs.Prelude.{ℕ, ℤ, Bool, true, false, not, ◌&&◌, nat_le, int_le, List, Option, None, Some, slice_set, [], replicate}
 use Rattle.std.specs.Option.{option_map_or}
 use Rattle.clnum.specs.Integer.{least, greatest}
 use Rattle.clnum.specs.declared.int_type.IntType.{IntType}
 use Rattle.clmodel.specs.Tree.{Program}
 use Rattle.clmodel.specs.Setup.{kernel_in, local_limit}
-pub use Rattle.clmodel.specs.Setup.{kernel_number}
 use Rattle.clmodel.specs.declared.setup.Argument.{Argument}
 use Rattle.clmodel.specs.declared.setup.Argument.TheVariants as argument
 use Rattle.clmodel.specs.declared.tree.Parameter.{Parameter}
@@ -21,10 +20,6 @@ pub record KernelState : Type 0 where
   pub program : List ℕ
   pub function : ℕ
   pub arguments : List (Option Argument)
-
--- a number is that of the name of a kernel of a program
-abbrev pub names_kernel : Program → ℕ → Bool
-names_kernel program number = is_some (kernel_in program.functions number)
 
 -- the parameters of a program's kernel, by the number of its name
 abbrev pub parameters_of : Program → ℕ → List Parameter

@@ -1,11 +1,10 @@
 //! Kernels with their arguments (OpenCL 1.2, section 5.7).
 #![tactic(auto)]
 
-ghost use Rattle.std.specs.Prelude.{◌≡◌, None, replicate, IfOk, IfSome, is_some, true, not};
+ghost use Rattle.std.specs.Prelude.{◌≡◌, None, replicate, IfOk, is_some, not};
 ghost use Rattle.std.specs.List.{list_any};
 ghost use Rattle.clmodel.specs.Tree.{program};
-ghost use Rattle.clmodel.specs.Setup.{kernel_number};
-ghost use Rattle.device_store.specs.Kernels.{names_kernel, parameters_of, with_argument, new_kernel, names_buffer, is_in_range, suits};
+ghost use Rattle.device_store.specs.Kernels.{parameters_of, with_argument, new_kernel, names_buffer, is_in_range, suits};
 
 use clmodel::setup::{Argument, LOCAL_LIMIT};
 use clmodel::text::Name;
@@ -113,14 +112,6 @@ impl Kernel {
             self.arguments[index] = Some(argument);
         }
     }
-}
-
-/// The number of the name of a program's kernel.
-pub fn kernel_number(tree: &Tree, name: &Name) -> Option<u32>
-    ensures number { result ≡ kernel_number (program tree.now) name.now }
-    ensures there { IfSome result (λ number. names_kernel (program tree.now) number ≡ true) }
-{
-    tree.kernel_number(name.as_slice())
 }
 
 /// The parameters of a program's kernel, by the number of its name.

@@ -5,6 +5,8 @@ ghost use Rattle.std.specs.Prelude.{◌≡◌, ℕ, List, [], Option, OnOk};
 ghost use Rattle.ends.specs.Sink.{Sink, Puts};
 ghost use Rattle.ends.specs.Source.{ReadsAll};
 
+pub mod pieces;
+
 use std::alloc::Global;
 
 /// A writer failed.

@@ -156,7 +156,7 @@ start_fits acts bytes ro l group items globals locals log ready there writable f
     }))
 
 -- the plan as the code has it
-pub plan_same : (l : Launch) (group first count : ℕ) → first ≡ group * l.group_size → count ≡ l.group_size → record { launch = l; group = group; first = first; count = count } ≡ plan_of l group
+plan_same : (l : Launch) (group first count : ℕ) → first ≡ group * l.group_size → count ≡ l.group_size → record { launch = l; group = group; first = first; count = count } ≡ plan_of l group
 plan_same l group first count e h = ap₂ (λ f c. record { launch = l; group = group; first = f; count = c }) e h
 
 -- the group's items have numbers of 32 bits
@@ -233,38 +233,40 @@ leaves_fit acts bytes ro p items number globals locals log events s f =
       logged = f.logged;
     }
 
--- what is left where the run ends clean, by the group's plan
-pub done_result :
-    {I G : Type 0} (acts : I → List Answer → Action) (bytes : G → List (Option ℕ)) (ro : Bool) (p q : Plan) (l : Launch) (group : ℕ) (items : List I) (number : ℕ) (globals : List G)
-    (locals : List (List (Option ℕ))) (log : Log) (events other : Events) (report : Option Fault) → p ≡ plan_of l group → q ≡ p → other ≡ events → report ≡ None
-    → IsRun p (Fits acts bytes ro q items number globals locals log) (start l) events report
-    → IsRun (plan_of l group) (Leaves bytes (plan_of l group) globals log) (start l) other None
-done_result acts bytes ro p q l group items number globals locals log events other report e same told none h =
-    let r = subst (IsRun p (Fits acts bytes ro q items number globals locals log) (start l) events) none h in
-    let out : IsRun p (Leaves bytes p globals log) (start l) events None
-    = (
-      moved p (Fits acts bytes ro q items number globals locals log) (Leaves bytes p globals log) (start l) events
-          (λ es s f. subst (λ z. Leaves bytes z globals log es s) same (leaves_fit acts bytes ro q items number globals locals log es s f)) r.0,
-      r.1,
-    ) in
-    subst (λ z. IsRun (plan_of l group) (Leaves bytes (plan_of l group) globals log) (start l) z None) (sym told)
-    (subst (λ z. IsRun z (Leaves bytes z globals log) (start l) events None) e out)
+-- What is left where the run ends clean, and what is known where it ends with a report, by the group's plan. The code has it as `q`.
+module _
+    {I G : Type 0} (acts : I → List Answer → Action) (bytes : G → List (Option ℕ)) (ro : Bool) (l : Launch) (group size : ℕ) (items : List I) (number : ℕ) (globals : List G)
+    (locals : List (List (Option ℕ))) (log : Log) {events other : Events} (report : Option Fault) (sized : size ≡ l.group_size) (started : List I) (many : length started ≡ size) {q : Plan}
+    (same : q ≡ record { launch = l; group = group; first = group * size; count = length started }) (told : other ≡ events)
+    (ran : IsRun (record { launch = l; group = group; first = group * size; count = length started }) (Fits acts bytes ro q items number globals locals log) (start l) events report) where
+  abbrev here : Plan
+  here = record { launch = l; group = group; first = group * size; count = length started }
 
--- what is known where the run ends with a report
-pub stopped_result :
-    {I G : Type 0} (acts : I → List Answer → Action) (bytes : G → List (Option ℕ)) (ro : Bool) (p q : Plan) (l : Launch) (group : ℕ) (items : List I) (number : ℕ) (globals : List G)
-    (locals : List (List (Option ℕ))) (log : Log) (events other : Events) (report : Option Fault) (fault : Fault) → p ≡ plan_of l group → q ≡ p → other ≡ events → report ≡ Some fault
-    → IsRun p (Fits acts bytes ro q items number globals locals log) (start l) events report
-    → IsRun (plan_of l group) (IsLogged (plan_of l group) log) (start l) other (Some fault)
-stopped_result acts bytes ro p q l group items number globals locals log events other report fault e same told some h =
-    let r : Reported p (Fits acts bytes ro q items number globals locals log) (start l) events fault
-    = subst (IsRun p (Fits acts bytes ro q items number globals locals log) (start l) events) some h in
-    let out : IsRun p (IsLogged p log) (start l) events (Some fault)
-    = record {
-      state = r.state;
-      runs = r.runs;
-      holds = subst (λ z. IsLogged z log events r.state) same r.holds.logged;
-      reports = r.reports;
-    } in
-    subst (λ z. IsRun (plan_of l group) (IsLogged (plan_of l group) log) (start l) z (Some fault)) (sym told)
-    (subst (λ z. IsRun z (IsLogged z log) (start l) events (Some fault)) e out)
+  planned : here ≡ plan_of l group
+  planned = plan_same l group (group * size) (length started) (ap (λ n. group * n) sized) (many ∙ sized)
+
+  pub done_result : report ≡ None → IsRun (plan_of l group) (Leaves bytes (plan_of l group) globals log) (start l) other None
+  done_result none =
+      let r = subst (IsRun here (Fits acts bytes ro q items number globals locals log) (start l) events) none ran in
+      let out : IsRun here (Leaves bytes here globals log) (start l) events None
+      = (
+        moved here (Fits acts bytes ro q items number globals locals log) (Leaves bytes here globals log) (start l) events
+            (λ es s f. subst (λ z. Leaves bytes z globals log es s) same (leaves_fit acts bytes ro q items number globals locals log es s f)) r.0,
+        r.1,
+      ) in
+      subst (λ z. IsRun (plan_of l group) (Leaves bytes (plan_of l group) globals log) (start l) z None) (sym told)
+      (subst (λ z. IsRun z (Leaves bytes z globals log) (start l) events None) planned out)
+
+  pub stopped_result : (fault : Fault) → report ≡ Some fault → IsRun (plan_of l group) (IsLogged (plan_of l group) log) (start l) other (Some fault)
+  stopped_result fault some =
+      let r : Reported here (Fits acts bytes ro q items number globals locals log) (start l) events fault
+      = subst (IsRun here (Fits acts bytes ro q items number globals locals log) (start l) events) some ran in
+      let out : IsRun here (IsLogged here log) (start l) events (Some fault)
+      = record {
+        state = r.state;
+        runs = r.runs;
+        holds = subst (λ z. IsLogged z log events r.state) same r.holds.logged;
+        reports = r.reports;
+      } in
+      subst (λ z. IsRun (plan_of l group) (IsLogged (plan_of l group) log) (start l) z (Some fault)) (sym told)
+      (subst (λ z. IsRun z (IsLogged z log) (start l) events (Some fault)) planned out)

@@ -36,10 +36,12 @@ use Rattle.group_run.specs.Logs.{conflict_of, numbered, Notes, IsLogged, IsJudge
 use Rattle.group_run.specs.Loops.{Steps, IsMade, judged_as}
 use Rattle.group_run.specs.declared.machine.Made.{Made}
 use Rattle.group_run.specs.declared.machine.Made.TheVariants as made_as
+use Rattle.spaces_base.specs.declared.space.SpaceFault.{SpaceFault}
 use Rattle.spaces_base.specs.declared.space.SpaceFault.TheVariants as space_fault
 use Rattle.objects.proofs.Lists.{get_set}
 use Rattle.objects.proofs.Memory.{space_sized}
 use Rattle.group_run.proofs.Logs.{newest_is_hit, keeps_noted, mine_noted}
+use Rattle.group_run.proofs.Turns.{IsWaiting}
 
 -- ---- the turn of an access
 
@@ -322,6 +324,16 @@ released_fits acts bytes ro p items items2 number globals locals log log2 events
 
 -- ---- an item's access, as the code makes it
 
+-- where the element lies, as it was read off slices of the lists
+pub place_read :
+    {G : Type 0} (bytes : G → List (Option ℕ)) {globals xs : List G} {locals ys : List (List (Option ℕ))} (o : Object) {element told : ℤ} (op : Operation) {place : Option ℕ}
+    → place ≡ first_byte (length (space_of bytes xs ys o)) told (size_of op) → told ≡ element → xs ≡ globals → ys ≡ locals
+    → place ≡ first_byte (length (space_of bytes globals locals o)) element (size_of op)
+place_read bytes {globals} {xs} {locals} {ys} o {element} {told} op is same here there =
+    is
+    ∙ ap (λ z. first_byte (length (space_of bytes xs ys o)) z (size_of op)) same
+    ∙ ap₂ (λ a b. first_byte (length (space_of bytes a b o)) element (size_of op)) here there
+
 nothing_mapped : {A B : Type 0} (f : A → B) (o : Option A) → option_map f o ≡ None → o ≡ None
 nothing_mapped f None h = refl
 nothing_mapped f (Some a) h = absurd (none_some (f a) (sym h))
@@ -364,11 +376,12 @@ module _
   -- it reads a byte that is unset
   pub unset_made :
       (globals2 : List G) (locals2 : List (List (Option ℕ))) (first byte : ℕ) (told : Fault) → Some first ≡ first_byte (length (space_of bytes globals locals o)) element (size_of op)
-      → IsMoved (ObjectsHold bytes p.launch p.group globals locals) (ObjectsHold bytes p.launch p.group globals2 locals2) (region_of p.group o) first op (Err (space_fault.Unset byte))
+      → {outcome : Result Answer SpaceFault} → outcome ≡ Err (space_fault.Unset byte)
+      → IsMoved (ObjectsHold bytes p.launch p.group globals locals) (ObjectsHold bytes p.launch p.group globals2 locals2) (region_of p.group o) first op outcome
       → told ≡ fault.Unset (p.first + k) (kind_of op) (location_of p.launch (region_of p.group o)) byte
       → IsMade p before (Fits acts bytes ro p items number globals2 locals2 log) (p.first + k) (action.Access o element op) (made_as.Refused told)
-  unset_made globals2 locals2 first byte told place moved is events s f asked =
-      let w = moved s.memory f.holds in
+  unset_made globals2 locals2 first byte told place failed moved is events s f asked =
+      let w = subst (IsMoved (ObjectsHold bytes p.launch p.group globals locals) (ObjectsHold bytes p.launch p.group globals2 locals2) (region_of p.group o) first op) failed moved s.memory f.holds in
       let mine = f.whole.mine k inside in (
         unset_item_turn p.launch s p.first (p.first + k) o element op first byte asked (placed_at events s (Some first) f place) w.0
             (subst (λ g. lowest_unset (s.memory (region_of g o)) first (size_of op) ≡ Some byte) (sym mine) w.1)
@@ -389,14 +402,15 @@ module _
   module _
       (r : Plan) (globals2 : List G) (locals2 : List (List (Option ℕ))) (log2 : Log) (i j : I) (first : ℕ) (answer : Answer) (told : Option Fault) (last : r ≡ p)
       (there : slice_get items k ≡ Some i) (place : Some first ≡ first_byte (length (space_of bytes globals locals o)) element (size_of op))
-      (moved : IsMoved (ObjectsHold bytes p.launch p.group globals locals) (ObjectsHold bytes p.launch p.group globals2 locals2) (region_of p.group o) first op (Ok answer))
+      {outcome : Result Answer SpaceFault} (done : outcome ≡ Ok answer)
+      (moved : IsMoved (ObjectsHold bytes p.launch p.group globals locals) (ObjectsHold bytes p.launch p.group globals2 locals2) (region_of p.group o) first op outcome)
       (answered : (answers : List Answer) → acts j answers ≡ acts i (answer ∷ answers))
       (judged : IsJudged p.launch log (entry_of (p.first + k) (region_of p.group o) first op number) log2 told) where
     after :
         (events : Events) (s : State) → before events s → next_action p.launch s (p.first + k) ≡ action.Access o element op
         → Accessed acts bytes ro p (set items k j) (number + 1) globals2 locals2 log2 events s (p.first + k) judged.0
     after events s f asked =
-        let w = moved s.memory f.holds in
+        let w = subst (IsMoved (ObjectsHold bytes p.launch p.group globals locals) (ObjectsHold bytes p.launch p.group globals2 locals2) (region_of p.group o) first op) done moved s.memory f.holds in
         accessed_fits acts bytes ro p items number globals globals2 locals locals2 log log2 events s k i j o element op first answer judged.0 f inside there asked
         (placed_at events s (Some first) f place) (record { value = w.0; finds = w.1; answers = w.2; holds = w.3 }) answered judged.1
 
@@ -439,9 +453,8 @@ pub record Room (number : ℕ) (log : Log) : Type 0 where
 
 pub release_room :
     {I G : Type 0} (acts : I → List Answer → Action) (bytes : G → List (Option ℕ)) (ro : Bool) (q : Plan) (items : List I) (number : ℕ) (globals : List G)
-    (locals : List (List (Option ℕ))) (log : Log) (events : Events) (s : State) (instance : Instance) (fences : Fences)
-    → Fits acts bytes ro q items number globals locals log events s → next_action q.launch s q.first ≡ action.Barrier instance fences → Room number log
-release_room acts bytes ro q items number globals locals log events s instance fences f waiting =
+    (locals : List (List (Option ℕ))) (log : Log) (fences : Fences) → IsWaiting q (Fits acts bytes ro q items number globals locals log) fences → Room number log
+release_room acts bytes ro q items number globals locals log fences (events, s, instance, f, gathered, waiting) =
     let first_is : q.first ≡ q.first + 0 = omega arith in
     let room : number + 1 < 2 ^ 32 = roomy q number events s 0 f.whole f.counts f.whole.some (ap (λ z. is_over (next_action q.launch s z)) (sym first_is) ∙ ap is_over waiting) in
     record {

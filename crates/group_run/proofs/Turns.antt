@@ -19,7 +19,7 @@ use Rattle.clmodel.specs.declared.schedule.Event.{Event}
 use Rattle.clmodel.specs.declared.schedule.Event.TheVariants.{Item, Release}
 use Rattle.clmodel.proofs.Steps.{none_some, some_inj, lowest_is_none, item_inverse, ReleaseStep, release_inverse, answers_other, same_action}
 use Rattle.clmodel.proofs.Ending.{step_less}
-use Rattle.joining.specs.Group.{Plan, IsGroup, going, turn_of, RunsIn, Reached, Reported}
+use Rattle.joining.specs.Group.{Plan, IsGroup, going, turn_of, RunsIn, Reached, Reported, IsRun}
 use Rattle.joining.proofs.Grouped.{found_first}
 use Rattle.group_run.specs.Loops.{Accesses, Steps, IsMade, AtOneStop, Gathers, IsBrief, IsAdvanced, IsItemRun, IsGathered}
 use Rattle.group_run.specs.declared.loops.ItemRun.{ItemRun}
@@ -264,7 +264,7 @@ waits (action.Barrier j fences) i h = (fences, ap (λ z. action.Barrier z fences
 waits action.End i h = absurd (ended_at i (some_inj Ended (At i) h))
 waits (action.Fault c) i h = absurd (none_some (At i) h)
 
-pub finishes :
+finishes :
     (p : Plan) → IsGroup p → (s : State) → AtOneStop p s p.count → newest_conflict p.launch s.log ≡ None → first_stop p s ≡ Some Ended → turn_of p s ≡ Finishes
 finishes p whole s gathered calm e =
     gathered_turn p whole s gathered calm
@@ -343,12 +343,6 @@ abbrev pub IsWaiting : Plan → (Events → State → Type 0) → Fences → Typ
 IsWaiting p fits fences =
     (events : Events) × (s : State) × (instance : Instance) × (fits events s) × (straggler p.launch s p.group p.first ≡ None) × (next_action p.launch s p.first ≡ action.Barrier instance fences)
 
-pub release_asks :
-    (p q : Plan) (old new : Events → State → Type 0) (origin : State) (events : Events) (i : Instance) (fences : Fences) → q ≡ p → IsGroup p → (g : Gathers p old origin events p.count)
-    → ((es : Events) (s : State) → old es s → new es s) → next_action p.launch g.0.state p.first ≡ action.Barrier i fences → IsWaiting q new fences
-release_asks p q old new origin events i fences e whole g f h =
-    subst (λ z. IsWaiting z new fences) (sym e) (events, g.0.state, i, f events g.0.state g.0.holds, no_straggler p whole g.0.state g.1, h)
-
 -- what a release leads to, as the code is told
 abbrev pub Releases : Plan → (Events → State → Type 0) → (Events → State → Type 0) → Fences → Type 0
 Releases p old new fences =
@@ -359,18 +353,6 @@ Releases p old new fences =
 pub record Released (p : Plan) (new : Events → State → Type 0) (origin : State) (events : Events) : Type 0 where
   pub roomy : length events + 1 < 2 ^ 64
   pub reached : Reached p new origin (events ++ Release p.group ∷ [])
-
-pub after_release :
-    (p q : Plan) (old between new : Events → State → Type 0) (origin : State) (events : Events) (i : Instance) (fences : Fences) → q ≡ p → IsGroup p → IsBrief p origin
-    → (g : Gathers p old origin events p.count) → ((es : Events) (s : State) → old es s → between es s) → next_action p.launch g.0.state p.first ≡ action.Barrier i fences
-    → Releases q between new fences → Released p new origin events
-after_release p q old between new origin events i fences e whole brief g f waiting made =
-    let s = g.0.state in
-    let m = subst (λ z. Releases z between new fences) e made events s (f events s g.0.holds) (no_straggler p whole s g.1) i waiting in
-    record {
-      roomy = room p origin s m.0 events (Release p.group) brief g.0.runs m.1;
-      reached = released_on p new origin events s m.0 i fences whole g.0.runs g.0.calm g.1 waiting m.1 m.2;
-    }
 
 -- the fault of an item, by the code's plan
 pub told : (p q : Plan) (n k : ℕ) (c : Cause) → n ≡ q.first → q ≡ p → fault_of q.launch (n + k) c ≡ fault_of p.launch (p.first + k) c
@@ -389,20 +371,80 @@ pub item_ran_on :
 item_ran_on p q fits origin events k o e is h =
     subst (λ z. Gathers z fits origin events (k + 1)) e (subst (λ z. IsItemRun q fits origin events k z) is h)
 
-pub gathered_on :
+gathered_on :
     (p q : Plan) (fits : Events → State → Type 0) (origin : State) (events : Events) (o : Option Fault) → q ≡ p → o ≡ None → IsGathered q fits origin events o
     → Gathers p fits origin events p.count
 gathered_on p q fits origin events o e is h =
     subst (λ z. Gathers z fits origin events z.count) e (subst (λ z. IsGathered q fits origin events z) is h)
 
 -- the first item's action, by the first plan
-pub leading : (p q : Plan) (s : State) (x y : Action) → q ≡ p → next_action q.launch s (q.first + 0) ≡ x → x ≡ y → next_action p.launch s p.first ≡ y
+leading : (p q : Plan) (s : State) (x y : Action) → q ≡ p → next_action q.launch s (q.first + 0) ≡ x → x ≡ y → next_action p.launch s p.first ≡ y
 leading p q s x y e h i =
     let first_is : p.first ≡ p.first + 0 = omega arith in ap (next_action p.launch s) first_is ∙ subst (λ z. next_action z.launch s (z.first + 0) ≡ x) e h ∙ i
 
 -- an action at which all items are, and which is no barrier, is the end
-pub over : (a : Action) → (x : Stop) → stop_of a ≡ Some x → ((i : Instance) (fences : Fences) → a ≡ action.Barrier i fences → ⊥) → stop_of a ≡ Some Ended
+over : (a : Action) → (x : Stop) → stop_of a ≡ Some x → ((i : Instance) (fences : Fences) → a ≡ action.Barrier i fences → ⊥) → stop_of a ≡ Some Ended
 over (action.Access o element op) x h other = absurd (none_some x h)
 over (action.Barrier i fences) x h other = absurd (other i fences refl)
 over action.End x h other = refl
 over (action.Fault c) x h other = absurd (none_some x h)
+
+-- ---- an interval that is over
+
+-- the group has gathered at one stop, and this is what its first item does next; the code has the plan as `q`
+pub record AtEnd (p q : Plan) (fits : Events → State → Type 0) (origin : State) (events : Events) (act : Action) : Type 0 where
+  pub gathers : Gathers p fits origin events p.count
+  pub acts : next_action p.launch gathers.0.state p.first ≡ act
+  pub same : q ≡ p
+
+-- so it is where the code has asked the first item after an interval: it had the plan as `q1` before and as `q2` after the interval
+pub interval_ended :
+    {p q1 q2 q : Plan} {old fits : Events → State → Type 0} {origin : State} {events : Events} {report : Option Fault} {act : Action} → q1 ≡ p → q2 ≡ q1 → q ≡ q2 → report ≡ None
+    → IsGathered q1 old origin events report → ((es : Events) (s : State) → old es s → fits es s)
+    → ((es : Events) (s : State) → old es s → next_action q2.launch s (q2.first + 0) ≡ act) → AtEnd p q fits origin events act
+interval_ended {p} {q1} {q2} {q} {old} {fits} {origin} {events} {report} {act} before ran asked none gathered keeps acts =
+    let g = gathered_on p q1 old origin events report before none gathered in
+    record {
+      gathers = (moved p old fits origin events keeps g.0, g.1);
+      acts = leading p q2 g.0.state act act (ran ∙ before) (acts events g.0.state g.0.holds) refl;
+      same = asked ∙ ran ∙ before;
+    }
+
+module _
+    {p q : Plan} {fits : Events → State → Type 0} {origin : State} {events : Events} {act : Action} (whole : IsGroup p) (end : AtEnd p q fits origin events act) where
+  abbrev there : State
+  there = end.gathers.0.state
+
+  -- the items are released where they wait at a barrier
+  pub release_asks : (i : Instance) (fences : Fences) → act ≡ action.Barrier i fences → IsWaiting q fits fences
+  release_asks i fences is =
+      subst (λ z. IsWaiting z fits fences) (sym end.same) (events, there, i, end.gathers.0.holds, no_straggler p whole there end.gathers.1, end.acts ∙ is)
+
+  pub after_release :
+      (new : Events → State → Type 0) → IsBrief p origin → (i : Instance) (fences : Fences) → act ≡ action.Barrier i fences → Releases q fits new fences → Released p new origin events
+  after_release new brief i fences is made =
+      let m = subst (λ z. Releases z fits new fences) end.same made events there end.gathers.0.holds (no_straggler p whole there end.gathers.1) i (end.acts ∙ is) in
+      record {
+        roomy = room p origin there m.0 events (Release p.group) brief end.gathers.0.runs m.1;
+        reached = released_on p new origin events there m.0 i fences whole end.gathers.0.runs end.gathers.0.calm end.gathers.1 (end.acts ∙ is) m.1 m.2;
+      }
+
+  -- where they wait at none, the run is over
+  pub run_over : ((i : Instance) (fences : Fences) → act ≡ action.Barrier i fences → ⊥) → IsRun p fits origin events None
+  run_over other =
+      let w = gathered_stop p whole there end.gathers.1 in
+      let ended = ap stop_of end.acts ∙ over act w.0 (sym (ap stop_of end.acts) ∙ w.1) other in
+      (end.gathers.0, finishes p whole there end.gathers.1 end.gathers.0.calm ended)
+
+-- what the code's loop knows once it has noted the release
+pub record GoesOn (p q : Plan) (new : Events → State → Type 0) (origin : State) (events : Events) : Type 0 where
+  pub plan_same : q ≡ p
+  pub reached : Reached p new origin events
+
+pub goes_on :
+    {p q : Plan} {new : Events → State → Type 0} {origin : State} {events pushed : Events} {group : ℕ} → Released p new origin events → q ≡ p → group ≡ q.group
+    → pushed ≡ events ++ Release group ∷ [] → GoesOn p q new origin pushed
+goes_on {p} {q} {new} {origin} {events} r same named added = record {
+  plan_same = same;
+  reached = subst (Reached p new origin) (sym (added ∙ ap (λ n. events ++ Release n ∷ []) (named ∙ ap (λ z. z.group) same))) r.reached;
+}

@@ -19,7 +19,8 @@ use Rattle.lower_expr.specs.Scope.{Scope, register_at, Sees, free_level}
 use Rattle.lower_expr.specs.Agreement.{HasAt, Hold}
 use Rattle.lower_expr.proofs.Places.{has_left, has_right}
 use Rattle.lower_code.specs.Code.{Exits, variable, with_variable, Calls, no_value_code, stmts_code, parameter_variables, pass_code, result_in, body_code, call_code, arguments_code, kernel_code}
-use Rattle.lower.proofs.Scopes.{same_self, kind_small}
+use Rattle.lower.proofs.Scopes.{same_self}
+use Rattle.lower_expr.proofs.Places.{kind_below}
 use Rattle.lower.proofs.Stands.{Stands, Returned, returned_as, put_stands, stands_to, stands_here, here_at}
 use Rattle.lower.proofs.Parts.{Placed}
 use Rattle.lower.proofs.Rights.{CallsRun}
@@ -35,7 +36,7 @@ hold_above level kind registers v numbers values placed held = go (level + 1) (o
     go higher less [] (w ∷ values) placed held = absurd held
     go higher less (i ∷ numbers) [] placed held = absurd held
     go higher less (i ∷ numbers) (w ∷ values) placed held =
-        let small = kind_small kind in
+        let small = kind_below kind in
         let ne : register_at level kind ≢ i = λ e. absurd (omega (arith, e, placed.0)) in
         (reg_kept registers (register_at level kind) v i ne ∙ held.0, go (higher + 1) (omega arith) numbers values placed.1 held.1)
 

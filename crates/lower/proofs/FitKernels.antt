@@ -12,7 +12,7 @@ use Rattle.lower.proofs.LowKernels.{kernels_few_registers}
 use Rattle.lower.proofs.ShortKernels.{kernels_short}
 use Rattle.lower.proofs.TypedKernels.{kernel_typed}
 
-few_parameters : (program : Program) (name : ℕ) (f : Func) → IsTypedProgram program → kernel_in program.functions name ≡ Some f → length f.parameters ≤ parameter_limit
+pub few_parameters : (program : Program) (name : ℕ) (f : Func) → IsTypedProgram program → kernel_in program.functions name ≡ Some f → length f.parameters ≤ parameter_limit
 unfolding IsTypedProgram
 few_parameters program name f typed is = (kernel_typed (names program.functions) program.functions name f typed is).0.1.few
 

@@ -9,6 +9,7 @@ use Rattle.clmodel.specs.declared.tree.Statement.{Statement}
 use Rattle.clmodel.specs.Tree.{Stmt, Stmts, NoStmt, ThenStmt, stmt, then_stmts}
 use Rattle.lower_code.proofs.Lists.{block_is}
 use Rattle.lower_code.proofs.Trees.{row_more}
+use Rattle.lower_code.specs.Room.{levels}
 use Rattle.lower_code.specs.Trees.{all_of}
 
 module _ (f : ℕ → ℕ) where
@@ -38,8 +39,9 @@ module _ (sizes : Sizes) where
   first_nodes ss [] (suc i) = omega arith
   first_nodes ss (t ∷ ts) (suc i) = first_nodes (ThenStmt ss (stmt t)) ts i
 
-  -- one of the statements has no more nodes than all
-  pub nodes_there : (ts : List Statement) (i : ℕ) (t : Statement) → i < length ts → t ≡ get_or ts i t → (size sizes (stmt t)).nodes ≤ (row_size sizes (all_of ts)).nodes
+  -- one of the statements and those before it have no more nodes than all
+  pub nodes_there : (ts : List Statement) (i : ℕ) (t : Statement) → i < length ts → t ≡ get_or ts i t
+      → (row_size sizes (all_of (take i ts))).nodes + (size sizes (stmt t)).nodes ≤ (row_size sizes (all_of ts)).nodes
   nodes_there ts i t below is =
       let one = ap (λ ss. (row_size sizes ss).nodes) (row_more ts i t below is) in
       let all = first_nodes NoStmt ts (i + 1) in
@@ -62,4 +64,11 @@ pub block_small : (sizes : Sizes) (s : Statement) (at : ℕ) (ss : Vec Statement
     → depth + (size sizes (stmt s)).nodes ≤ n → depth + (row_size sizes (all_of ts)).nodes ≤ n
 block_small sizes s at ss ts depth n s_is ts_is small =
     let inner : depth + suc (row_size sizes (all_of ts)).nodes ≤ n = subst (λ (x : Stmt). depth + (size sizes x).nodes ≤ n) (sym (block_is s at ss ts s_is ts_is)) small in
+    omega (arith, inner)
+
+-- and need no more levels
+pub block_low : (sizes : Sizes) (s : Statement) (at : ℕ) (ss : Vec Statement Global) (ts : List Statement) (level n : ℕ) → s ≡ rust_statement.Block at ss → ts ≡ ss.items
+    → level + levels (size sizes (stmt s)).nodes < n → level + levels (row_size sizes (all_of ts)).nodes < n
+block_low sizes s at ss ts level n s_is ts_is low =
+    let inner : level + levels (suc (row_size sizes (all_of ts)).nodes) < n = subst (λ (x : Stmt). level + levels (size sizes x).nodes < n) (sym (block_is s at ss ts s_is ts_is)) low in
     omega (arith, inner)

@@ -22,11 +22,9 @@ pub mod TypedStatements
 pub mod TypedKernels
 pub mod Counted
 pub mod Lowered
-pub mod Chosen
 pub mod Rounds
 pub mod Places
 pub mod Lent
-pub mod Short
 pub mod FewSites
 pub mod Fronts
 pub mod Low

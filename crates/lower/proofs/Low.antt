@@ -1,8 +1,6 @@
 -- The registers that the code of expressions and of targets names: those of levels below one that is as far above its own as it has nodes.
 use Rattle.std.proofs.Common.{ℕ, ◌+◌, ◌*◌, ◌<◌, ◌≤◌, ◌==◌, Bool, true, false, Option, None, Some, List, [], ◌∷◌, ◌++◌, length, if◌then◌else◌, arith}
 use Rattle.std.proofs.Math.Nat.{max-le}
-use Rattle.clnum.specs.declared.int_type.IntType.{IntType}
-use Rattle.clnum.specs.declared.int_type.IntType.TheVariants.{Char, Uchar, Short, Ushort, Int, Uint, Long, Ulong}
 use Rattle.clnum.specs.declared.operators.BinaryOperator.{BinaryOperator}
 use Rattle.clmodel.specs.BuiltIns.{built_in}
 use Rattle.clmodel.specs.Next.{Variables, is_private_array, is_update, infix_type}
@@ -15,13 +13,14 @@ use Rattle.clmodel.specs.declared.setup.BuiltIn.TheVariants as built_in_function
 use Rattle.clmodel.specs.declared.tree.InfixOperator.{InfixOperator}
 use Rattle.clmodel.specs.declared.tree.InfixOperator.TheVariants.{Arithmetic, LogicalAnd, LogicalOr}
 use Rattle.clmodel.specs.declared.tree.VariableType.{VariableType}
-use Rattle.clmodel.specs.declared.tree.VariableType.TheVariants.{Integer, Pointer}
+use Rattle.clmodel.specs.declared.tree.VariableType.TheVariants.{Integer}
 use Rattle.regcode.specs.declared.instruction.Instruction.{Instruction}
-use Rattle.lower_expr.specs.Scope.{Scope, integer_number, kind_number, register_at, register_in, register_of, free_level}
+use Rattle.lower_expr.proofs.Places.{kind_below}
+use Rattle.lower_expr.specs.Scope.{Scope, register_at, register_in, register_of, free_level}
 use Rattle.lower_expr.specs.Expressions.{count, kind_of, kind_named, type_of_elements, register_for, registers_for, expr_code, terms_code, place_code, place_register, variable_code, element_code, infix_code, call_code, update_code, call_only_code}
 use Rattle.lower_code.specs.Code.{place_type, hold_code, fetch_code, put_code, combine_code}
 use Rattle.lower.specs.Tables.{registers_of, room, register_count}
-use Rattle.lower.proofs.Short.{some_node}
+use Rattle.lower_expr.proofs.Short.{some_node}
 
 -- these numbers are below n
 abbrev pub Few : ℕ → List ℕ → Type 0
@@ -61,22 +60,8 @@ either_low : (n : ℕ) (b : Bool) (x y : ℕ) → x < n → y < n → (if b then
 either_low n true x y h k = h
 either_low n false x y h k = k
 
-integer_low : (kind : IntType) → integer_number kind < 8
-integer_low Char = omega arith
-integer_low Uchar = omega arith
-integer_low Short = omega arith
-integer_low Ushort = omega arith
-integer_low Int = omega arith
-integer_low Uint = omega arith
-integer_low Long = omega arith
-integer_low Ulong = omega arith
-
-kind_low : (kind : VariableType) → kind_number kind < 16
-kind_low (Integer kind) = omega (arith, integer_low kind)
-kind_low (Pointer pointer) = omega (arith, integer_low pointer.element)
-
 pub at_low : (top level : ℕ) (kind : VariableType) → level + 1 ≤ top → register_at level kind < 16 * top
-at_low top level kind h = omega (arith, kind_low kind, h)
+at_low top level kind h = omega (arith, kind_below kind, h)
 
 low_chosen : (n i : ℕ) (o : Option ℕ) (b : Bool) → i < n → LowOption n o → LowOption n (elim b as (λ _. Option ℕ) [ true ↦ Some i | false ↦ o ])
 low_chosen n i o true h k = h

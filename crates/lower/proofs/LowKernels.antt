@@ -23,7 +23,7 @@ use Rattle.lower.proofs.Scoped.{with_params_before}
 use Rattle.lower.proofs.TypedKernels.{sizes_none, kernel_typed, new_parts, unreserved, same_signature}
 
 -- each parameter is a variable
-parameters_counted : (ps : List Parameter) (vs : Variables) → length (parameter_variables ps vs) ≡ length ps + length vs
+pub parameters_counted : (ps : List Parameter) (vs : Variables) → length (parameter_variables ps vs) ≡ length ps + length vs
 parameters_counted [] vs = omega arith
 parameters_counted (p ∷ ps) vs = let rest = parameters_counted ps (variable p.name p.kind ∷ vs) in omega (arith, rest)
 

@@ -24,7 +24,7 @@ use Rattle.lower_code.specs.Code.{Exits, past, body_exits, Calls, with_variable,
 use Rattle.lower_code.specs.Variables.{variables_after, variables_after_part, variables_after_all}
 use Rattle.lower.proofs.Low.{Few, Low, at_low, low_both, call_only_low, some_place, expr_low, terms_low, registers_low, place_low, reached_low, fetch_low, put_low, combine_low}
 use Rattle.lower.proofs.Scoped.{callable_is, after_part_before, after_all_before}
-use Rattle.lower.proofs.Short.{some_node, few_terms}
+use Rattle.lower_expr.proofs.Short.{some_node, few_terms}
 use Rattle.lower.proofs.Suited.{built_in_is, barrier_is}
 use Rattle.lower.proofs.TypedRights.{no_helper}
 
@@ -76,11 +76,11 @@ after_one sizes vs (tree.Continue at) = omega arith
 after_one sizes vs (tree.Return at) = omega arith
 after_one sizes vs (tree.ReturnValue at value) = omega arith
 
-after_part : (sizes : Sizes) (vs : Variables) (part : MaybeStmt) → length (variables_after_part vs part) ≤ length vs + (part_size sizes part).nodes
+pub after_part : (sizes : Sizes) (vs : Variables) (part : MaybeStmt) → length (variables_after_part vs part) ≤ length vs + (part_size sizes part).nodes
 after_part sizes vs Without = omega arith
 after_part sizes vs (With s) = after_one sizes vs s
 
-after_row : (sizes : Sizes) (vs : Variables) (ss : Stmts) → length (variables_after_all vs ss) ≤ length vs + (row_size sizes ss).nodes
+pub after_row : (sizes : Sizes) (vs : Variables) (ss : Stmts) → length (variables_after_all vs ss) ≤ length vs + (row_size sizes ss).nodes
 after_row sizes vs NoStmt = omega arith
 after_row sizes vs (ThenStmt ss s) = omega (arith, after_row sizes vs ss, after_one sizes (variables_after_all vs ss) s)
 

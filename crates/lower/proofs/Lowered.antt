@@ -1,24 +1,24 @@
 -- The kernel of a name, its code with tables, and what is promised of it.
-use Rattle.std.proofs.Common.{◌≡◌, ℕ, ◌==◌, ◌<◌, ◌≤◌, ◌^◌, ◌⊎◌, inl, inr, ◌&&◌, Bool, true, false, if◌then◌else◌, Option, None, Some, List, position, refl, ap, ap₂, sym, ◌∙◌, subst, arith}
+use Rattle.std.proofs.Common.{◌≡◌, ℕ, ◌==◌, ◌<◌, ◌≤◌, ◌^◌, ◌⊎◌, inl, inr, ◌&&◌, Bool, true, false, if◌then◌else◌, Option, None, Some, List, length, position, refl, ap, ap₂, sym, ◌∙◌, subst, arith}
 use Rattle.std.proofs.Math.Logic.{∥∥₁_elim}
 use Rattle.std.proofs.lemmas.Bool.{cases_lt}
 use Rattle.std.proofs.lemmas.Bool.Decides.{nat_tests}
 use Rattle.std.specs.Option.{option_map, option_and_then}
 use Rattle.clmodel.specs.Next.{all_sites, sites_in}
-use Rattle.clmodel.specs.Setup.{kernel_in, functions_before, same_text}
+use Rattle.clmodel.specs.Setup.{kernel_in, kernel_number, functions_before, same_text}
 use Rattle.clmodel.specs.Tree.{Program, Func, Funcs, NoFunc, ThenFunc}
 use Rattle.clmodel.specs.Typing.{IsTypedProgram}
 use Rattle.clmodel.specs.Typing.Functions.{size_of}
-use Rattle.clmodel.specs.Typing.Sizes.{node_limit}
+use Rattle.clmodel.specs.Typing.Sizes.{node_limit, parameter_limit}
 use Rattle.regcode.specs.Listing.{Listing}
 use Rattle.regcode.specs.Rules.{IsVerified}
 use Rattle.lower_code.specs.Code.{kernel_code}
 use Rattle.lower.specs.Accepted.{TypedKernelsVerified}
-use Rattle.lower.specs.Bounds.{FewBarriers, FewNodes, TypedKernelsFewBarriers, TypedKernelsShort}
+use Rattle.lower.specs.Bounds.{FewBarriers, FewNodes, FewArguments, TypedKernelsFewBarriers, TypedKernelsShort}
 use Rattle.lower.specs.Correct.{ActsAsTheTree}
 use Rattle.lower.specs.Lists.{Lists}
 use Rattle.lower.specs.Lowers.{IsLowered}
-use Rattle.lower.specs.Names.{kernel_number}
+use Rattle.lower.proofs.FitKernels.{few_parameters}
 
 -- what is made of a typed program's kernel is verified
 lists_verified : (p : Program) (number : ℕ) (code : Listing) → TypedKernelsVerified → IsTypedProgram p → Lists p.functions number code → IsVerified code
@@ -46,6 +46,14 @@ few_nodes p number law typed f is = go (cases_lt node_limit (size_of (functions_
     go : (node_limit < (size_of (functions_before p.functions number) f).nodes) ⊎ ((size_of (functions_before p.functions number) f).nodes ≤ node_limit)
         → (size_of (functions_before p.functions number) f).nodes ≤ node_limit
     go (inl many) = absurd (∥∥₁_elim typed (λ x y. absurd x) (λ t. let most = (law p number f t is).1 in omega (arith, most, many)))
+    go (inr few) = few
+
+-- and few parameters
+pub few_arguments : (p : Program) (number : ℕ) → ∥ IsTypedProgram p ∥₁ → FewArguments p.functions number
+few_arguments p number typed f is = go (cases_lt parameter_limit (length f.parameters))
+  where
+    go : (parameter_limit < length f.parameters) ⊎ (length f.parameters ≤ parameter_limit) → length f.parameters ≤ parameter_limit
+    go (inl more) = absurd (∥∥₁_elim typed (λ x y. absurd x) (λ t. let most = few_parameters p number f t is in omega (arith, most, more)))
     go (inr few) = few
 
 -- it is the code that is defined for the kernel

@@ -5,11 +5,12 @@ use Rattle.std.proofs.Math.Logic.{∥∥₁_elim}
 use Rattle.std.proofs.Math.Seq.{take-length}
 use Rattle.std.proofs.lemmas.Bool.{cases_lt}
 use Rattle.clmodel.specs.declared.tree.Function.{Function}
-use Rattle.clmodel.specs.Tree.{Program, func}
+use Rattle.clmodel.specs.Tree.{Program, Func, Funcs, ThenFunc, func}
 use Rattle.clmodel.specs.Typing.{IsTypedProgram}
-use Rattle.clmodel.specs.Typing.Functions.{names, size_of}
-use Rattle.clmodel.specs.Typing.Sizes.{Size, or_nothing, sizes_of}
+use Rattle.clmodel.specs.Typing.Functions.{names, size_of, AreTypedFunctions}
+use Rattle.clmodel.specs.Typing.Sizes.{Size, or_nothing, sizes_of, parameter_limit}
 use Rattle.lower_code.specs.Helpers.{functions_of, sizes_in, nodes_in, NodesCounted}
+use Rattle.lower_code.specs.Room.{FewParameters}
 use Rattle.lower_code.proofs.Lists.{functions_more}
 use Rattle.lower.specs.Accepted.{Distinct}
 use Rattle.lower.proofs.Looking.{look_last}
@@ -31,15 +32,19 @@ function_there [] i h = absurd (omega arith)
 function_there (g ∷ gs) zero h = (g, refl)
 function_there (g ∷ gs) (suc i) h = function_there gs i (omega arith)
 
+-- what functions have that lack the last of others that have it, the first functions have if all have
+first_have : (P : Funcs → Type 0) → ((fs : Funcs) (f : Func) → P (ThenFunc fs f) → P fs) → (gs : List Function) (k n : ℕ) → n + k ≡ length gs → P (functions_of gs) → P (functions_of (take n gs))
+first_have P fewer gs zero n e h =
+    let all : n ≡ length gs = omega (arith, e) in
+    subst (λ (fs : List Function). P (functions_of fs)) (sym (ap (λ m. take m gs) all ∙ take-length gs)) h
+first_have P fewer gs (suc k) n e h =
+    let g = function_there gs n (omega (arith, e)) in
+    let more : P (functions_of (take (n + 1) gs)) = first_have P fewer gs k (n + 1) (omega (arith, e)) h in
+    fewer (functions_of (take n gs)) (func g.0) (subst P (functions_more gs n g.0 (omega (arith, e)) g.1) more)
+
 -- the first functions have names of their own if all have
 first_distinct : (gs : List Function) (k n : ℕ) → n + k ≡ length gs → Distinct (functions_of gs) → Distinct (functions_of (take n gs))
-first_distinct gs zero n e h =
-    let all : n ≡ length gs = omega (arith, e) in
-    subst (λ (fs : List Function). Distinct (functions_of fs)) (sym (ap (λ m. take m gs) all ∙ take-length gs)) h
-first_distinct gs (suc k) n e h =
-    let g = function_there gs n (omega (arith, e)) in
-    let more : Distinct (functions_of (take (n + 1) gs)) = first_distinct gs k (n + 1) (omega (arith, e)) h in
-    (subst Distinct (functions_more gs n g.0 (omega (arith, e)) g.1) more).0
+first_distinct = first_have Distinct (λ fs f h. h.0)
 
 -- a function is in the table of those up to it, and of more
 found_there : (gs : List Function) (k i : ℕ) (f : Function) → i + 1 + k ≤ length gs → f ≡ get_or gs i f → Distinct (functions_of gs)
@@ -82,3 +87,18 @@ nodes_counted p gs same typed count i f below small f_is = go (cases_lt (nodes_i
         → (size_of (functions_of (take i gs)) (func f)).nodes ≤ nodes_in (take count gs) f.name
     go (inl less) = absurd (∥∥₁_elim typed (λ x y. absurd x) (λ t. let e = distinct_counted gs (typed_distinct p gs same t) count i f below small f_is in omega (arith, e, less)))
     go (inr le) = le
+
+typed_few : (p : Program) (gs : List Function) → p.functions ≡ functions_of gs → IsTypedProgram p → FewParameters gs
+unfolding IsTypedProgram
+typed_few p gs same typed i f below f_is =
+    let Typed = AreTypedFunctions (names p.functions) in
+    let first = first_have Typed (λ fs g h. h.0) gs (length gs - (i + 1)) (i + 1) (omega (arith, below)) (subst Typed same typed) in
+    (subst Typed (functions_more gs i f below f_is) first).1.few
+
+-- and few parameters
+pub few_parameters : (p : Program) (gs : List Function) → p.functions ≡ functions_of gs → ∥ IsTypedProgram p ∥₁ → FewParameters gs
+few_parameters p gs same typed i f below f_is = go (cases_lt parameter_limit (length f.parameters.items))
+  where
+    go : (parameter_limit < length f.parameters.items) ⊎ (length f.parameters.items ≤ parameter_limit) → length f.parameters.items ≤ parameter_limit
+    go (inl more) = absurd (∥∥₁_elim typed (λ x y. absurd x) (λ t. let few = typed_few p gs same t i f below f_is in omega (arith, few, more)))
+    go (inr few) = few

@@ -1,31 +1,14 @@
 -- The variables in scope as registers hold them.
 use Rattle.std.proofs.Common.{◌≡◌, ◌≢◌, ℕ, zero, suc, ◌+◌, ◌-◌, ◌*◌, ◌<◌, ◌≤◌, ◌==◌, Bool, true, false, Option, None, Some, List, [], ◌∷◌, ◌++◌, length, drop, refl, sym, ap, ap₂, ◌∙◌, subst, arith, append_assoc, length-append, length-drop, drop-drop}
-use Rattle.clnum.specs.declared.int_type.IntType.{IntType}
-use Rattle.clnum.specs.declared.int_type.IntType.TheVariants.{Char, Uchar, Short, Ushort, Int, Uint, Long, Ulong}
 use Rattle.clmodel.specs.Next.{Binding, Variables, declared_type, elements_of, has_elements, is_private_array, with_elements, held, assign, leave}
 use Rattle.clmodel.specs.declared.operand.Operand.{Operand}
 use Rattle.clmodel.specs.declared.tree.VariableType.{VariableType}
-use Rattle.clmodel.specs.declared.tree.VariableType.TheVariants.{Integer, Pointer}
 use Rattle.regcode.specs.Machine.{State, Registers, entry_at, reg, put, array_of, put_array}
 use Rattle.regcode.proofs.Registers.{reg_put, reg_kept, array_put, array_kept}
-use Rattle.lower_expr.specs.Scope.{Scope, integer_number, kind_number, register_at, register_in, register_of, level_in, level_of, seen_elements, view, seen, arrays_in, Sees, free_level}
+use Rattle.lower_expr.specs.Scope.{Scope, kind_number, register_at, register_in, register_of, level_in, level_of, seen_elements, view, seen, arrays_in, Sees, free_level}
 use Rattle.lower_expr.specs.Expressions.{kind_named}
 use Rattle.lower_expr.specs.Agreement.{Reached}
-use Rattle.lower_expr.proofs.Places.{view_kept, sees_kept, array_held, array_seen}
-
-integer_small : (kind : IntType) → integer_number kind < 8
-integer_small Char = omega arith
-integer_small Uchar = omega arith
-integer_small Short = omega arith
-integer_small Ushort = omega arith
-integer_small Int = omega arith
-integer_small Uint = omega arith
-integer_small Long = omega arith
-integer_small Ulong = omega arith
-
-pub kind_small : (kind : VariableType) → kind_number kind < 16
-kind_small (Integer kind) = let h = integer_small kind in omega arith
-kind_small (Pointer p) = let h = integer_small p.element in omega arith
+use Rattle.lower_expr.proofs.Places.{kind_below, view_kept, sees_kept, array_held, array_seen}
 
 -- registers and private arrays below a level are the same
 pub record Same (level : ℕ) (before now : Registers) : Type 0 where
@@ -83,7 +66,7 @@ register_between base [] name = tt
 register_between base (variable ∷ variables) name = go (register_between base variables name) (name == variable.name)
   where
     go : Between base (base + length variables) (register_in base variables name) → (b : Bool) → Between base (base + length (variable ∷ variables)) (elim b [ true ↦ Some (register_at (base + length variables) variable.kind) | false ↦ register_in base variables name ])
-    go rest true = let small = kind_small variable.kind in (omega arith, omega arith)
+    go rest true = let small = kind_below variable.kind in (omega arith, omega arith)
     go rest false = wider base (base + length variables) _ _ (omega arith) rest
 
 pub slot_between : (base : ℕ) (variables : Variables) (name r : ℕ) → register_in base variables name ≡ Some r → (16 * base ≤ r) × (r < 16 * (base + length variables))

@@ -19,7 +19,7 @@ use Rattle.lower.specs.Bounds.{TypedKernelsShort, TypedKernelsFewBarriers}
 use Rattle.lower.proofs.FewSites.{body_few}
 use Rattle.lower.proofs.Looking.{look_left, look_last}
 use Rattle.lower.proofs.Scoped.{with_params_before}
-use Rattle.lower.proofs.Short.{Short, single, both, within}
+use Rattle.lower_expr.proofs.Short.{Short, single, both, within}
 use Rattle.lower.proofs.ShortStatements.{CallShort, no_value_short, stmts_short}
 use Rattle.lower.proofs.TypedKernels.{sizes_none, distinct, kernel_typed, new_parts, unreserved, same_signature}
 

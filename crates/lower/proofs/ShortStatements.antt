@@ -19,7 +19,7 @@ use Rattle.lower_expr.specs.Scope.{Scope, free_level}
 use Rattle.lower_expr.specs.Expressions.{registers_for}
 use Rattle.lower_code.specs.Code.{Exits, Calls, with_variable, scope_after_part, scope_after_all, array_code, needed_code, no_value_code, value_code, wait_code, condition_code, right_code, step_code, call_only_statement, stmt_code, part_code, stmts_code}
 use Rattle.lower.proofs.Scoped.{callable_is, after_part_before, after_all_before}
-use Rattle.lower.proofs.Short.{Short, none, single, more, both, within, expr_short, terms_short, place_short, call_only_short, few_terms, fetch_short, put_short, combine_short}
+use Rattle.lower_expr.proofs.Short.{Short, none, single, more, both, within, expr_short, terms_short, place_short, call_only_short, few_terms, fetch_short, put_short, combine_short}
 use Rattle.lower.proofs.Suited.{built_in_is, barrier_is}
 use Rattle.lower.proofs.TypedRights.{no_helper}
 

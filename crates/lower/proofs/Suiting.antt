@@ -15,6 +15,7 @@ use Rattle.clmodel.specs.declared.setup.AtomicFunction.{AtomicFunction}
 use Rattle.clmodel.specs.declared.tree.VariableType.{VariableType}
 use Rattle.clmodel.specs.declared.tree.VariableType.TheVariants as variable_type
 use Rattle.clmodel.specs.declared.tree.InfixOperator.TheVariants.{Arithmetic}
+use Rattle.clmodel.specs.Next.{is_update}
 use Rattle.clmodel.specs.Typing.Rules.{Passes, integers, pointers, Operates, arithmetic, pointer_sum, pointer_difference, sum_pointer}
 use Rattle.regcode.specs.Listing.{Listing}
 use Rattle.regcode.specs.Rules.{kind_at, kind_of, held_kind, number_kind, common_kind, changed_kind, combined_kind, of_one_kind, of_two_kind, offset_kind, loaded_kind, fetched_kind, is_integer, is_pointer, is_atomic, Takes, HasType}
@@ -24,7 +25,8 @@ use Rattle.regcode.specs.declared.instruction.Instruction.TheVariants as instruc
 use Rattle.regcode.specs.declared.tables.RegisterKind.{RegisterKind}
 use Rattle.regcode.specs.declared.tables.RegisterKind.TheVariants.{Integer, Pointer}
 use Rattle.regcode.proofs.Registers.{kind_within}
-use Rattle.lower_expr.specs.Scope.{integer_number, kind_number, register_at}
+use Rattle.clnum.specs.Integer.{type_number}
+use Rattle.lower_expr.specs.Scope.{kind_number, register_at}
 use Rattle.lower_expr.proofs.Places.{register_below}
 use Rattle.lower.specs.Tables.{kinds, register_kind}
 use Rattle.lower.specs.Accepted.{Suits, Suit, Is}
@@ -33,8 +35,8 @@ pub suit_both : (parameters : List VariableType) (xs ys : List Instruction) → 
 suit_both parameters [] ys a b = b
 suit_both parameters (x ∷ xs) ys a b = (a.0, suit_both parameters xs ys a.1 b)
 
-pub suit_either : (parameters : List VariableType) (b : Bool) (xs ys : List Instruction) → Suit parameters xs → Suit parameters ys → Suit parameters (if b then xs else ys)
-suit_either parameters true xs ys a b = a
+pub suit_either : (parameters : List VariableType) (b : Bool) (xs ys : List Instruction) → (IsTrue b → Suit parameters xs) → Suit parameters ys → Suit parameters (if b then xs else ys)
+suit_either parameters true xs ys a b = a refl
 suit_either parameters false xs ys a b = b
 
 number_kind_of : (kind : VariableType) → get_or kinds (kind_number kind) (Integer Int) ≡ kind_of kind
@@ -48,7 +50,7 @@ number_kind_of (variable_type.Integer Long) = refl
 number_kind_of (variable_type.Integer Ulong) = refl
 number_kind_of (variable_type.Pointer p) = pointer_kind_of p.element
   where
-    pointer_kind_of : (element : IntType) → get_or kinds (8 + integer_number element) (Integer Int) ≡ Pointer element
+    pointer_kind_of : (element : IntType) → get_or kinds (8 + type_number element) (Integer Int) ≡ Pointer element
     pointer_kind_of Char = refl
     pointer_kind_of Uchar = refl
     pointer_kind_of Short = refl
@@ -210,14 +212,14 @@ module _ (parameters : List VariableType) where
   store_suits pointer value element kind of by code same wide =
       (subst (λ o. IsTrue (is_pointer o)) (sym (wide.registers.0 ∙ ap Some of)) refl, subst (λ o. IsTrue (is_integer o)) (sym (wide.registers.1.0 ∙ ap Some by)) refl)
 
-  pub update_suits : (function : AtomicFunction) (pointer value : ℕ) (element kind : IntType) → register_kind pointer ≡ Pointer element → IsTrue (is_atomic (Some (Pointer element)))
+  pub update_suits : (function : AtomicFunction) (pointer value : ℕ) (element kind : IntType) → IsTrue (is_update function) → register_kind pointer ≡ Pointer element → IsTrue (is_atomic (Some (Pointer element)))
       → Is value (variable_type.Integer kind) → Suits parameters (instruction.Update function pointer (Some value))
-  update_suits function pointer value element kind of known by code same wide =
-      (subst (λ o. IsTrue (is_atomic o)) (sym (wide.registers.0 ∙ ap Some of)) known, subst (λ o. IsTrue (is_integer o)) (sym (wide.registers.1.0 ∙ ap Some by)) refl)
+  update_suits function pointer value element kind updates of known by code same wide =
+      (updates, subst (λ o. IsTrue (is_atomic o)) (sym (wide.registers.0 ∙ ap Some of)) known, subst (λ o. IsTrue (is_integer o)) (sym (wide.registers.1.0 ∙ ap Some by)) refl)
 
-  pub update_by_one_suits : (function : AtomicFunction) (pointer : ℕ) (element : IntType) → register_kind pointer ≡ Pointer element → IsTrue (is_atomic (Some (Pointer element)))
+  pub update_by_one_suits : (function : AtomicFunction) (pointer : ℕ) (element : IntType) → IsTrue (is_update function) → register_kind pointer ≡ Pointer element → IsTrue (is_atomic (Some (Pointer element)))
       → Suits parameters (instruction.Update function pointer None)
-  update_by_one_suits function pointer element of known code same wide = subst (λ o. IsTrue (is_atomic o)) (sym (wide.registers.0 ∙ ap Some of)) known
+  update_by_one_suits function pointer element updates of known code same wide = (updates, subst (λ o. IsTrue (is_atomic o)) (sym (wide.registers.0 ∙ ap Some of)) known)
 
   -- an atomic operation whose old number is used
   fetched : (to pointer : ℕ) (element : IntType) (code : Listing) → kind_at code to ≡ Some (Integer element) → kind_at code pointer ≡ Some (Pointer element)

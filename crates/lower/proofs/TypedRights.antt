@@ -240,7 +240,8 @@ module _ (c : Context) (scope : Scope) (m : Matches c scope) where
         (branch_suits parameters (register_for scope level e) 1 t (is_as level (kind_of scope e) (Integer t) (type_is c scope m e (Integer t) types)), tt)
 
     -- a built-in function whose value isn't used
-    atomic_suits : (f : AtomicFunction) (ks : List VariableType) (k : VariableType) → rule.Calls (built_in_function.Atomic f) ks k → (level to : ℕ) → Is to k → Suit parameters (update_code f (numbered level ks))
+    atomic_suits : (f : AtomicFunction) (ks : List VariableType) (k : VariableType) → rule.Calls (built_in_function.Atomic f) ks k → (level to : ℕ) → Is to k
+        → (IsTrue (is_update f) → Suit parameters (update_code f (numbered level ks)))
         → Suit parameters (call_only_code (Some (built_in_function.Atomic f)) to (numbered level ks))
     atomic_suits f ks k by level to is update =
         suit_either parameters (is_update f) (update_code f (numbered level ks)) _ update (call_suits c scope m parameters (built_in_function.Atomic f) ks k by level to is)
@@ -255,15 +256,15 @@ module _ (c : Context) (scope : Scope) (m : Matches c scope) where
     only_code_suits _ _ _ (rule.clz {t = t}) level to is = call_suits c scope m parameters _ _ _ (rule.clz {t = t}) level to is
     only_code_suits _ _ _ (rule.popcount {t = t}) level to is = call_suits c scope m parameters _ _ _ (rule.popcount {t = t}) level to is
     only_code_suits _ ks k (rule.atomic {f = f} {p = p} {t = t} h a w) level to is =
-        atomic_suits f ks k (rule.atomic {f = f} {p = p} {t = t} h a w) level to is (
-          update_suits parameters f (register_at level (Pointer p)) (register_at (level + 1) (Integer t)) p.element t (is_at level (Pointer p)) (atomic_known p.element a) (is_at (level + 1) (Integer t)),
+        atomic_suits f ks k (rule.atomic {f = f} {p = p} {t = t} h a w) level to is (λ updates. (
+          update_suits parameters f (register_at level (Pointer p)) (register_at (level + 1) (Integer t)) p.element t updates (is_at level (Pointer p)) (atomic_known p.element a) (is_at (level + 1) (Integer t)),
           tt,
-        )
+        ))
     only_code_suits _ ks k (rule.atomic_alone {f = f} {p = p} h a w) level to is =
         atomic_suits f ks k (rule.atomic_alone {f = f} {p = p} h a w) level to is
-        (update_by_one_suits parameters f (register_at level (Pointer p)) p.element (is_at level (Pointer p)) (atomic_known p.element a), tt)
+        (λ updates. (update_by_one_suits parameters f (register_at level (Pointer p)) p.element updates (is_at level (Pointer p)) (atomic_known p.element a), tt))
     only_code_suits _ ks k (rule.atomic_pair {f = f} {p = p} {t = t} {u = u} h a w) level to is =
-        atomic_suits f ks k (rule.atomic_pair {f = f} {p = p} {t = t} {u = u} h a w) level to is ((λ code same wide. tt), tt)
+        atomic_suits f ks k (rule.atomic_pair {f = f} {p = p} {t = t} {u = u} h a w) level to is (λ updates. ((λ code same wide. tt), tt))
 
     module _ (calls : Calls) (results : ℕ → Option IntType) (inside : ℕ → ℕ) (result : Option IntType) where
       only_case : (waits : Bool) (f : BuiltIn) (x : ℕ) (es : Terms) (ks : List VariableType) (r : VariableType) → TypesAll c es ks → rule.Calls f ks r → (depth site : ℕ)

@@ -33,7 +33,7 @@ TypedKernelsFewRegisters =
     (program : Program) (name : ℕ) (f : Func) → IsTypedProgram program → kernel_in program.functions name ≡ Some f →
     register_count (kernel_code (functions_before program.functions name) f) ≤ 16 * (length f.parameters + node_limit + 1)
 
--- So, with the limit of parameters, its code has at most 205,538 instructions and 1,368,592 registers: each length of a jump and each register has a number of 32 bits.
+-- So, with the limit of parameters, its code has at most 153,002 instructions and 528,016 registers: each length of a jump and each register has a number of 32 bits.
 unfoldable pub TypedKernelsFit : Type 0
 TypedKernelsFit =
     (program : Program) (name : ℕ) (f : Func) → IsTypedProgram program → kernel_in program.functions name ≡ Some f →
@@ -49,3 +49,7 @@ FewBarriers functions number =
 abbrev pub FewNodes : Funcs → ℕ → Type 0
 FewNodes functions number =
     (f : Func) → kernel_in functions number ≡ Some f → (size_of (functions_before functions number) f).nodes ≤ node_limit
+
+-- nor more parameters
+abbrev pub FewArguments : Funcs → ℕ → Type 0
+FewArguments functions number = (f : Func) → kernel_in functions number ≡ Some f → length f.parameters ≤ parameter_limit

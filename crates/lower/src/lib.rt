@@ -4,7 +4,6 @@
 pub mod code_laws;
 mod expansion;
 mod kernels;
-mod lookup;
 mod lowering;
 mod sites;
 mod statements;

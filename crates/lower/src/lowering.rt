@@ -2,23 +2,23 @@
 #![tactic(auto)]
 
 ghost use Rattle.std.specs.Prelude.{◌≡◌, ◌↔◌, map, None, IfOk, IfErr, IfSome, IsSome};
-ghost use Rattle.clmodel.specs.Setup.{kernel_in};
-ghost use Rattle.clmodel.specs.Tree.{program, func, then_funcs, NoFunc};
+ghost use Rattle.clmodel.specs.Setup.{kernel_in, kernel_number};
+ghost use Rattle.clmodel.specs.Tree.{program};
 ghost use Rattle.regcode.specs.Listed.{listing};
 ghost use Rattle.lower_code.specs.Helpers.{NodesCounted};
-ghost use Rattle.lower.specs.Bounds.{FewBarriers, FewNodes};
+ghost use Rattle.lower_code.specs.Room.{FewParameters};
+ghost use Rattle.lower.specs.Bounds.{FewBarriers, FewNodes, FewArguments};
 ghost use Rattle.lower.specs.Lists.{Lists};
 ghost use Rattle.lower.specs.Lowers.{IsLowered};
-ghost use Rattle.lower.specs.Names.{kernel_number, LowersNamed, ListsNamed};
+ghost use Rattle.lower.specs.Names.{LowersNamed, ListsNamed};
 
 use crate::code_laws::acts_as_the_tree;
 use crate::kernels::emit_kernel;
-use crate::lookup::{kernel_named, kernel_number};
 use crate::table_laws::{
     typed_kernels_are_short, typed_kernels_are_verified, typed_kernels_have_few_barriers,
 };
 use crate::tables::tables_of;
-use clmodel::tree::{Function, Parameter, VariableType};
+use clmodel::tree::{Parameter, Tree, VariableType};
 use cltypes::Checked;
 use regcode::{Code, Instruction, Tables, VerifyFault, verify};
 use std::alloc::{AllocError, Global};
@@ -53,24 +53,21 @@ struct Listed {
 }
 
 /// The code of the kernel of a name's number with its tables, None where there is none. Err only where there is one.
-fn list_kernel(
-    alloc: Global,
-    functions: &[Function],
-    number: u32,
-) -> Result<Option<Listed>, AllocError>
-    requires few { FewBarriers (then_funcs NoFunc (map func functions.now)) number }
-    requires small { FewNodes (then_funcs NoFunc (map func functions.now)) number }
-    requires nodes { NodesCounted functions.now }
-    ensures code { IfOk result (λ found. IfSome found (λ code.
-        Lists (then_funcs NoFunc (map func functions.now)) number (listing code.instructions.items code.tables))) }
-    ensures none { IfOk result (λ found. found ≡ None → kernel_in (then_funcs NoFunc (map func functions.now)) number ≡ None) }
-    ensures some { IfErr result (λ fault. IsSome (kernel_in (then_funcs NoFunc (map func functions.now)) number)) }
+fn list_kernel(alloc: Global, tree: &Tree, number: u32) -> Result<Option<Listed>, AllocError>
+    requires few { FewBarriers (program tree.now).functions number }
+    requires small { FewNodes (program tree.now).functions number }
+    requires nodes { NodesCounted tree.now.functions.items }
+    requires parameters { FewParameters tree.now.functions.items }
+    requires arguments { FewArguments (program tree.now).functions number }
+    ensures code { IfOk result (λ found. IfSome found (λ code. Lists (program tree.now).functions number (listing code.instructions.items code.tables))) }
+    ensures none { IfOk result (λ found. found ≡ None → kernel_in (program tree.now).functions number ≡ None) }
+    ensures some { IfErr result (λ fault. IsSome (kernel_in (program tree.now).functions number)) }
 {
-    let Some(found) = kernel_named(functions, number as usize) else {
+    let Some(found) = tree.kernel(number as usize) else {
         return Ok(None);
     };
     let parameters = types_of(alloc, &found.function.parameters)?;
-    let Some(instructions) = emit_kernel(alloc, functions, number)? else {
+    let Some(instructions) = emit_kernel(alloc, tree, number)? else {
         return Ok(None);
     };
     let tables = tables_of(alloc, &instructions, parameters)?;
@@ -81,10 +78,9 @@ fn list_kernel(
 }
 
 /// The code of the kernel of a name's number. Err(OutOfMemory) comes where memory is refused. It would also come where the length of a
-/// jump, a register or the length of a private array passed 32 bits; by the law `typed_kernels_fit` a checked kernel's code has at most
-/// 205,538 instructions and 1,368,592 registers, and its private arrays have at most 4,096 bytes. Neither the number of a barrier nor the
-/// depth of a loop is tested, nor whether the length of a helper that it calls is known: by `typed_kernels_have_few_barriers` and
-/// `typed_kernels_are_short` they fit, and it is.
+/// jump or of a private array passed 32 bits; by the law `typed_kernels_fit` a checked kernel's code has at most 153,002 instructions, and
+/// its private arrays have at most 4,096 bytes. Neither the number of a barrier, the depth of a loop nor a register is tested, nor whether the
+/// length of a helper that it calls is known: by the limits of nodes and of parameters they fit, and it is.
 pub fn lower_kernel(alloc: Global, checked: &Checked, number: u32) -> Result<Code, LowerFault>
     ensures code { IfOk result (λ code. IsLowered (program checked.now.tree) number code) }
     ensures listed { IfOk result (λ code. Lists (program checked.now.tree).functions number code) }
@@ -94,7 +90,7 @@ pub fn lower_kernel(alloc: Global, checked: &Checked, number: u32) -> Result<Cod
     typed_kernels_are_verified();
     typed_kernels_have_few_barriers();
     typed_kernels_are_short();
-    let listed = match list_kernel(alloc, &checked.tree.functions, number) {
+    let listed = match list_kernel(alloc, &checked.tree, number) {
         Ok(Some(listed)) => listed,
         Ok(None) => return Err(LowerFault::NoSuchKernel),
         Err(AllocError) => return Err(LowerFault::OutOfMemory),
@@ -111,7 +107,7 @@ pub fn lower(alloc: Global, checked: &Checked, kernel: &str) -> Result<Code, Low
     ensures listed { IfOk result (ListsNamed (program checked.now.tree) kernel.now) }
     ensures none { IfErr result (λ fault. (fault ≡ LowerFault.NoSuchKernel) ↔ (kernel_number (program checked.now.tree) kernel.now ≡ None)) }
 {
-    match kernel_number(&checked.tree, kernel) {
+    match checked.tree.kernel_number(kernel.as_bytes()) {
         Some(number) => lower_kernel(alloc, checked, number),
         None => Err(LowerFault::NoSuchKernel),
     }

@@ -12,11 +12,13 @@ ghost use Rattle.std.specs.Option.{option_map};
 ghost use Rattle.clmodel.specs.Next.{sites, part_sites, all_sites};
 ghost use Rattle.clmodel.specs.Tree as tree;
 ghost use Rattle.clmodel.specs.Tree.{stmt, term};
-ghost use Rattle.clmodel.specs.Typing.Sizes.{size, part_size, row_size, node_limit};
+ghost use Rattle.clmodel.specs.Typing.Sizes.{size, condition_size, part_size, row_size, node_limit};
+ghost use Rattle.lower_expr.specs.Scope.{free_level};
 ghost use Rattle.lower_code.specs.Trees.{all_of, part_of};
 ghost use Rattle.lower_code.specs.Code.{condition_code, while_code};
 ghost use Rattle.lower_code.specs.Emission.{inside, sizes_in, body_of, statement_code, row_code, maybe_code, test_of};
 ghost use Rattle.lower_code.specs.Growth.{GrowsBefore, KeepsOuter};
+ghost use Rattle.lower_code.specs.Room.{levels};
 ghost use Rattle.lower.specs.Statements.{is_loop, is_single, begun_at, once_code, round_code};
 
 use crate::sites::{site_before, site_behind_all};
@@ -70,6 +72,7 @@ fn emit_single<'a>(
     requires kind { is_single statement.now ≡ true }
     requires few { sites (inside setting.now.helpers.functions.now) (stmt statement.now) ≤ ending.behind }
     requires small { ending.depth + (size (sizes_in setting.now.helpers.functions.now) (stmt statement.now)).nodes ≤ node_limit }
+    requires low { free_level scope.old + levels (size (sizes_in setting.now.helpers.functions.now) (stmt statement.now)).nodes < 2 ^ 28 }
     ensures code { IfOk result (λ site. code.new ≡ statement_code setting.now scope.old (stmt statement.now) (begun_at ending site) ++ code.old) }
     ensures site { IfOk result (λ site. site + sites (inside setting.now.helpers.functions.now) (stmt statement.now) ≡ ending.behind) }
     ensures scope { scope.new ≡ scope.old }
@@ -96,6 +99,7 @@ fn put_single<'a>(
     requires kind { is_single statement.now ≡ true }
     requires few { position.site + sites (inside setting.now.helpers.functions.now) (stmt statement.now) < 2 ^ 32 }
     requires small { position.depth + (size (sizes_in setting.now.helpers.functions.now) (stmt statement.now)).nodes ≤ node_limit }
+    requires low { free_level scope.old + levels (size (sizes_in setting.now.helpers.functions.now) (stmt statement.now)).nodes < 2 ^ 28 }
     ensures code { OnOk result (code.new ≡ statement_code setting.now scope.old (stmt statement.now) position ++ code.old) }
     ensures scope { scope.new ≡ scope.old }
     ensures longer { OnErr result (GrowsBefore code.old code.new) }
@@ -116,12 +120,14 @@ fn put_single<'a>(
 }
 
 /// The barriers of statements have numbers from 0 on where the first one behind them has its own, and the statements have no more nodes,
-/// with the loops round them, than a kernel may have. This is the contract of a function that does nothing: what it asks is shown at its call.
-fn numbers_suffice(setting: &Setting<'_>, statements: &[Statement], ending: Ending)
+/// with the loops round them, than a kernel may have; their levels have registers. This is the contract of a function that does nothing: what it asks is shown at its call.
+fn numbers_suffice(setting: &Setting<'_>, scope: &Scope, statements: &[Statement], ending: Ending)
     requires few { all_sites (inside setting.now.helpers.functions.now) (all_of statements.now) ≤ ending.behind }
     requires small { ending.depth + (row_size (sizes_in setting.now.helpers.functions.now) (all_of statements.now)).nodes ≤ node_limit }
+    requires low { free_level scope.now + levels (row_size (sizes_in setting.now.helpers.functions.now) (all_of statements.now)).nodes < 2 ^ 28 }
     ensures few { all_sites (inside setting.now.helpers.functions.now) (all_of statements.now) ≤ ending.behind }
     ensures small { ending.depth + (row_size (sizes_in setting.now.helpers.functions.now) (all_of statements.now)).nodes ≤ node_limit }
+    ensures low { free_level scope.now + levels (row_size (sizes_in setting.now.helpers.functions.now) (all_of statements.now)).nodes < 2 ^ 28 }
 {}
 
 /// Puts a statement before the code, and gives the number of its first barrier, or of the first behind it if it has none. Err if out
@@ -136,6 +142,7 @@ fn emit_statement<'a>(
 ) -> Result<u32, AllocError>
     requires few { sites (inside setting.now.helpers.functions.now) (stmt statement.now) ≤ ending.behind }
     requires small { ending.depth + (size (sizes_in setting.now.helpers.functions.now) (stmt statement.now)).nodes ≤ node_limit }
+    requires low { free_level scope.old + levels (size (sizes_in setting.now.helpers.functions.now) (stmt statement.now)).nodes < 2 ^ 28 }
     ensures code { IfOk result (λ site. code.new ≡ statement_code setting.now scope.old (stmt statement.now) (begun_at ending site) ++ code.old) }
     ensures site { IfOk result (λ site. site + sites (inside setting.now.helpers.functions.now) (stmt statement.now) ≡ ending.behind) }
     ensures scope { OnOk result (scope.new ≡ scope.old) }
@@ -145,7 +152,7 @@ fn emit_statement<'a>(
     match statement {
         Statement::Block { body, .. } => {
             let body = body.as_slice();
-            numbers_suffice(setting, body, ending);
+            numbers_suffice(setting, scope, body, ending);
             emit_all(setting, scope, body, ending, code)
         }
         Statement::If {
@@ -186,6 +193,7 @@ fn emit_loop<'a>(
     requires kind { is_loop statement.now ≡ true }
     requires few { sites (inside setting.now.helpers.functions.now) (stmt statement.now) ≤ ending.behind }
     requires small { ending.depth + (size (sizes_in setting.now.helpers.functions.now) (stmt statement.now)).nodes ≤ node_limit }
+    requires low { free_level scope.old + levels (size (sizes_in setting.now.helpers.functions.now) (stmt statement.now)).nodes < 2 ^ 28 }
     ensures code { IfOk result (λ site. code.new ≡ statement_code setting.now scope.old (stmt statement.now) (begun_at ending site) ++ code.old) }
     ensures site { IfOk result (λ site. site + sites (inside setting.now.helpers.functions.now) (stmt statement.now) ≡ ending.behind) }
     ensures scope { OnOk result (scope.new ≡ scope.old) }
@@ -243,6 +251,7 @@ fn emit_all<'a>(
 ) -> Result<u32, AllocError>
     requires few { all_sites (inside setting.now.helpers.functions.now) (all_of statements.now) ≤ ending.behind }
     requires small { ending.depth + (row_size (sizes_in setting.now.helpers.functions.now) (all_of statements.now)).nodes ≤ node_limit }
+    requires low { free_level scope.old + levels (row_size (sizes_in setting.now.helpers.functions.now) (all_of statements.now)).nodes < 2 ^ 28 }
     ensures code { IfOk result (λ site. code.new ≡ row_code setting.now scope.old (all_of statements.now) (begun_at ending site) ++ code.old) }
     ensures site { IfOk result (λ site. site + all_sites (inside setting.now.helpers.functions.now) (all_of statements.now) ≡ ending.behind) }
     ensures scope { OnOk result (scope.new ≡ scope.old) }
@@ -276,6 +285,7 @@ pub fn emit_body<'a>(
 ) -> Result<(), AllocError>
     requires few { site + all_sites (inside helpers.functions.now) (all_of function.now.body.items) < 2 ^ 32 }
     requires small { depth + (row_size (sizes_in helpers.functions.now) (all_of function.now.body.items)).nodes ≤ node_limit }
+    requires low { level + length function.now.parameters.items + levels (row_size (sizes_in helpers.functions.now) (all_of function.now.body.items)).nodes < 2 ^ 28 }
     ensures code { OnOk result (code.new ≡ body_of helpers.entry.functions.now function.now level depth site ++ code.old) }
     ensures longer { OnErr result (GrowsBefore code.old code.new) }
 {
@@ -315,6 +325,7 @@ fn emit_if<'a>(
 ) -> Result<u32, AllocError>
     requires few { sites (inside setting.now.helpers.functions.now) (stmt chosen.now) ≤ ending.behind }
     requires small { ending.depth + (size (sizes_in setting.now.helpers.functions.now) (tree.If 0 (term condition.now) (stmt chosen.now))).nodes ≤ node_limit }
+    requires low { free_level scope.old + levels (size (sizes_in setting.now.helpers.functions.now) (tree.If 0 (term condition.now) (stmt chosen.now))).nodes < 2 ^ 28 }
     ensures code { IfOk result (λ site. code.new ≡ statement_code setting.now scope.old (tree.If 0 (term condition.now) (stmt chosen.now)) (begun_at ending site) ++ code.old) }
     ensures site { IfOk result (λ site. site + sites (inside setting.now.helpers.functions.now) (stmt chosen.now) ≡ ending.behind) }
     ensures scope { OnOk result (scope.new ≡ scope.old) }
@@ -340,6 +351,7 @@ fn emit_choice<'a>(
 ) -> Result<u32, AllocError>
     requires few { sites (inside setting.now.helpers.functions.now) (stmt chosen.now) + sites (inside setting.now.helpers.functions.now) (stmt otherwise.now) ≤ ending.behind }
     requires small { ending.depth + (size (sizes_in setting.now.helpers.functions.now) (tree.IfElse 0 (term condition.now) (stmt chosen.now) (stmt otherwise.now))).nodes ≤ node_limit }
+    requires low { free_level scope.old + levels (size (sizes_in setting.now.helpers.functions.now) (tree.IfElse 0 (term condition.now) (stmt chosen.now) (stmt otherwise.now))).nodes < 2 ^ 28 }
     ensures code { IfOk result (λ site. code.new ≡ statement_code setting.now scope.old (tree.IfElse 0 (term condition.now) (stmt chosen.now) (stmt otherwise.now)) (begun_at ending site) ++ code.old) }
     ensures site { IfOk result (λ site. site + (sites (inside setting.now.helpers.functions.now) (stmt chosen.now) + sites (inside setting.now.helpers.functions.now) (stmt otherwise.now)) ≡ ending.behind) }
     ensures scope { OnOk result (scope.new ≡ scope.old) }
@@ -372,6 +384,7 @@ fn emit_part<'a>(
 ) -> Result<u32, AllocError>
     requires few { part_sites (inside setting.now.helpers.functions.now) (part_of part) ≤ ending.behind }
     requires small { ending.depth + (part_size (sizes_in setting.now.helpers.functions.now) (part_of part)).nodes ≤ node_limit }
+    requires low { free_level scope.old + levels (part_size (sizes_in setting.now.helpers.functions.now) (part_of part)).nodes < 2 ^ 28 }
     ensures code { IfOk result (λ site. code.new ≡ maybe_code setting.now scope.old (part_of part.entry) (begun_at ending site) ++ code.old) }
     ensures site { IfOk result (λ site. site + part_sites (inside setting.now.helpers.functions.now) (part_of part.entry) ≡ ending.behind) }
     ensures scope { OnOk result (scope.new ≡ scope.old) }
@@ -396,6 +409,7 @@ fn emit_do<'a>(
 ) -> Result<u32, AllocError>
     requires few { sites (inside setting.now.helpers.functions.now) (stmt body.now) ≤ ending.behind }
     requires small { ending.depth + (size (sizes_in setting.now.helpers.functions.now) (stmt body.now)).nodes < node_limit }
+    requires low { free_level scope.old + levels (size (sizes_in setting.now.helpers.functions.now) (tree.DoWhile 0 (stmt body.now) (term condition.now))).nodes < 2 ^ 28 }
     ensures code { IfOk result (λ site. code.new ≡ statement_code setting.now scope.old (tree.DoWhile 0 (stmt body.now) (term condition.now)) (begun_at ending site) ++ code.old) }
     ensures site { IfOk result (λ site. site + sites (inside setting.now.helpers.functions.now) (stmt body.now) ≡ ending.behind) }
     ensures scope { OnOk result (scope.new ≡ scope.old) }
@@ -420,6 +434,7 @@ fn emit_once<'a>(
 ) -> Result<u32, AllocError>
     requires few { sites (inside setting.now.helpers.functions.now) (stmt body.now) ≤ ending.behind }
     requires small { ending.depth + (size (sizes_in setting.now.helpers.functions.now) (stmt body.now)).nodes < node_limit }
+    requires low { free_level scope.old + levels (size (sizes_in setting.now.helpers.functions.now) (stmt body.now)).nodes < 2 ^ 28 }
     ensures code { IfOk result (λ site. turn.new ≡ once_code setting.now scope.old (stmt body.now) (begun_at ending site) (length turn.old) ++ turn.old) }
     ensures site { IfOk result (λ site. site + sites (inside setting.now.helpers.functions.now) (stmt body.now) ≡ ending.behind) }
     ensures scope { OnOk result (scope.new ≡ scope.old) }
@@ -448,6 +463,7 @@ fn emit_stepped<'a>(
     requires few { sites (inside setting.now.helpers.functions.now) (stmt third.now) + sites (inside setting.now.helpers.functions.now) (stmt body.now) ≤ ending.behind }
     requires small_third { ending.depth + (size (sizes_in setting.now.helpers.functions.now) (stmt third.now)).nodes < node_limit }
     requires small { ending.depth + (size (sizes_in setting.now.helpers.functions.now) (stmt body.now)).nodes < node_limit }
+    requires low { free_level scope.old + levels ((size (sizes_in setting.now.helpers.functions.now) (stmt third.now)).nodes + (size (sizes_in setting.now.helpers.functions.now) (stmt body.now)).nodes) < 2 ^ 28 }
     ensures code { IfOk result (λ site. turn.new ≡ round_code setting.now scope.old (tree.With (stmt third.now)) (stmt body.now) (begun_at ending site) (length turn.old) ++ turn.old) }
     ensures site { IfOk result (λ site. site + (sites (inside setting.now.helpers.functions.now) (stmt third.now) + sites (inside setting.now.helpers.functions.now) (stmt body.now)) ≡ ending.behind) }
     ensures scope { OnOk result (scope.new ≡ scope.old) }
@@ -478,6 +494,7 @@ fn emit_round<'a>(
     requires few { part_sites (inside setting.now.helpers.functions.now) (part_of third) + sites (inside setting.now.helpers.functions.now) (stmt body.now) ≤ ending.behind }
     requires small_third { ending.depth + (part_size (sizes_in setting.now.helpers.functions.now) (part_of third)).nodes < node_limit }
     requires small { ending.depth + (size (sizes_in setting.now.helpers.functions.now) (stmt body.now)).nodes < node_limit }
+    requires low { free_level scope.old + levels ((part_size (sizes_in setting.now.helpers.functions.now) (part_of third)).nodes + (size (sizes_in setting.now.helpers.functions.now) (stmt body.now)).nodes) < 2 ^ 28 }
     ensures code { IfOk result (λ site. turn.new ≡ round_code setting.now scope.old (part_of third.entry) (stmt body.now) (begun_at ending site) (length turn.old) ++ turn.old) }
     ensures site { IfOk result (λ site. site + (part_sites (inside setting.now.helpers.functions.now) (part_of third.entry) + sites (inside setting.now.helpers.functions.now) (stmt body.now)) ≡ ending.behind) }
     ensures scope { OnOk result (scope.new ≡ scope.old) }
@@ -504,6 +521,7 @@ fn emit_for<'a>(
 ) -> Result<u32, AllocError>
     requires few { sites (inside setting.now.helpers.functions.now) (tree.For 0 (part_of first) (test_of condition) (part_of third) (stmt body.now)) ≤ ending.behind }
     requires small { ending.depth + (size (sizes_in setting.now.helpers.functions.now) (tree.For 0 (part_of first) (test_of condition) (part_of third) (stmt body.now))).nodes ≤ node_limit }
+    requires low { free_level scope.old + levels (size (sizes_in setting.now.helpers.functions.now) (tree.For 0 (part_of first) (test_of condition) (part_of third) (stmt body.now))).nodes < 2 ^ 28 }
     ensures code { IfOk result (λ site. code.new ≡ statement_code setting.now scope.old (tree.For 0 (part_of first.entry) (test_of condition.entry) (part_of third.entry) (stmt body.now)) (begun_at ending site) ++ code.old) }
     ensures site { IfOk result (λ site. site + sites (inside setting.now.helpers.functions.now) (tree.For 0 (part_of first.entry) (test_of condition.entry) (part_of third.entry) (stmt body.now)) ≡ ending.behind) }
     ensures scope { OnOk result (scope.new ≡ scope.old) }
@@ -537,6 +555,7 @@ fn emit_turns<'a>(
     requires few { part_sites (inside setting.now.helpers.functions.now) (part_of third) + sites (inside setting.now.helpers.functions.now) (stmt body.now) ≤ ending.behind }
     requires small_third { ending.depth + (part_size (sizes_in setting.now.helpers.functions.now) (part_of third)).nodes < node_limit }
     requires small { ending.depth + (size (sizes_in setting.now.helpers.functions.now) (stmt body.now)).nodes < node_limit }
+    requires low { free_level scope.old + levels ((condition_size (sizes_in setting.now.helpers.functions.now) (test_of condition)).nodes + (part_size (sizes_in setting.now.helpers.functions.now) (part_of third)).nodes + (size (sizes_in setting.now.helpers.functions.now) (stmt body.now)).nodes) < 2 ^ 28 }
     ensures code { IfOk result (λ site. code.new
         ≡ while_code ending.depth (round_code setting.now scope.old (part_of third.entry) (stmt body.now) (begun_at ending site) (length (condition_code scope.old (test_of condition.entry)))) (condition_code scope.old (test_of condition.entry)) ++ code.old) }
     ensures site { IfOk result (λ site. site + (part_sites (inside setting.now.helpers.functions.now) (part_of third.entry) + sites (inside setting.now.helpers.functions.now) (stmt body.now)) ≡ ending.behind) }

@@ -6,9 +6,10 @@
 
 ghost use Rattle.std.specs.Prelude.{◌≡◌, ℕ, suc, ◌<◌, ◌≤◌, ◌^◌, min, None, Some, length, get_or, IfOk};
 ghost use Rattle.clmodel.specs.Next.{all_sites};
-ghost use Rattle.clmodel.specs.Typing.Sizes.{row_size, node_limit};
+ghost use Rattle.clmodel.specs.Typing.Sizes.{row_size, node_limit, parameter_limit};
 ghost use Rattle.clmodel.specs.declared.tree.Function.{Function};
 ghost use Rattle.lower_code.specs.Trees.{all_of};
+ghost use Rattle.lower_code.specs.Room.{FewParameters};
 ghost use Rattle.lower_code.specs.Helpers.{inside, sizes_in, body_of, BarriersKnown, BarriersCounted, LengthsKnown, LengthsCounted, NodesCounted, EndsKnown};
 
 use crate::sites::sites_in_all;
@@ -28,6 +29,7 @@ const NODE_LIMIT: u32 = 20_000;
 fn length_of(alloc: Global, helpers: Helpers<'_>, function: &Function) -> Result<usize, AllocError>
     requires few { all_sites (inside helpers.functions.now) (all_of function.now.body.items) < 2 ^ 32 }
     requires small { (row_size (sizes_in helpers.functions.now) (all_of function.now.body.items)).nodes ≤ node_limit }
+    requires parameters { length function.now.parameters.items ≤ parameter_limit }
     ensures { IfOk result (λ n. (level depth site : ℕ) → n ≡ length (body_of helpers.entry.functions.now function.now level depth site)) }
 {
     let mut code = Draft::new(alloc);
@@ -44,6 +46,7 @@ fn measured(
     nodes: u32,
 ) -> Result<Option<usize>, AllocError>
     requires few { all_sites (inside helpers.functions.now) (all_of function.now.body.items) < 2 ^ 32 }
+    requires parameters { length function.now.parameters.items ≤ parameter_limit }
     requires counted { nodes ≡ min (row_size (sizes_in helpers.functions.now) (all_of function.now.body.items)).nodes (suc node_limit) }
     ensures length { IfOk result (λ found. (n level depth site : ℕ) → found ≡ Some n → n ≡ length (body_of helpers.entry.functions.now function.now level depth site)) }
     ensures none { IfOk result (λ found. found ≡ None → node_limit < (row_size (sizes_in helpers.entry.functions.now) (all_of function.now.body.items)).nodes) }
@@ -62,7 +65,8 @@ fn known_of(
     function: &Function,
     nodes: u32,
 ) -> Result<Known, AllocError>
-    requires { nodes ≡ min (row_size (sizes_in helpers.functions.now) (all_of function.now.body.items)).nodes (suc node_limit) }
+    requires parameters { length function.now.parameters.items ≤ parameter_limit }
+    requires counted { nodes ≡ min (row_size (sizes_in helpers.functions.now) (all_of function.now.body.items)).nodes (suc node_limit) }
     ensures barriers { IfOk result (λ known. (n : ℕ) → known.barriers ≡ Some n → n ≡ all_sites (inside helpers.entry.functions.now) (all_of function.now.body.items)) }
     ensures counted { IfOk result (λ known. known.barriers ≡ None → 2 ^ 32 ≤ all_sites (inside helpers.entry.functions.now) (all_of function.now.body.items)) }
     ensures length { IfOk result (λ known. (n level depth site : ℕ) → known.length ≡ Some n → n ≡ length (body_of helpers.entry.functions.now function.now level depth site)) }
@@ -84,6 +88,7 @@ pub fn known_of_all(
 ) -> Result<Vec<Known>, AllocError>
     requires ends { EndsKnown functions.now ends.now }
     requires nodes { NodesCounted functions.now }
+    requires parameters { FewParameters functions.now }
     ensures barriers { IfOk result (λ known. BarriersKnown functions.now known.items) }
     ensures complete { IfOk result (λ known. length known.items ≡ length functions.now) }
     ensures counted { IfOk result (λ known. BarriersCounted functions.now known.items) }

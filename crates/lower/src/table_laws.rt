@@ -38,7 +38,7 @@ pub fn typed_kernels_have_few_registers()
     ensures { TypedKernelsFewRegisters }
 {}
 
-/// With the limit of parameters these are at most 205,538 instructions and 1,368,592 registers: each jump and each register has a number
+/// With the limit of parameters these are at most 153,002 instructions and 528,016 registers: each jump and each register has a number
 /// of 32 bits.
 pub fn typed_kernels_fit()
     ensures { TypedKernelsFit }

@@ -6,7 +6,7 @@ use Rattle.clmodel.specs.declared.tree.Expression.{Expression}
 use Rattle.clmodel.specs.declared.tree.Statement as rust_statement
 use Rattle.clmodel.specs.declared.tree.Target.{Target}
 use Rattle.clmodel.specs.declared.tree.VariableType.{VariableType}
-use Rattle.clmodel.specs.Tree.{Assign, Step, DeclareAs, CallOnly, place, term, terms, stmt}
+use Rattle.clmodel.specs.Tree.{Assign, Step, DeclareAs, CallOnly, ReturnValue, place, term, terms, stmt}
 use Rattle.clmodel.specs.declared.tree.Statement.{Statement}
 
 pub assign_is : (s : rust_statement.Statement) (at : ℕ) (to : Box Target Global) (operator : Option BinaryOperator) (value : Box Expression Global) (o : Option BinaryOperator) (t : Target) (v : Expression)
@@ -25,6 +25,13 @@ pub declare_is : (s : rust_statement.Statement) (at : ℕ) (kind : VariableType)
 declare_is s at kind name_at name o value v s_is o_is v_is =
     ap (λ (e : Expression). DeclareAs at kind name_at name (term e)) v_is
     ∙ ap (λ (p : Option (Box Expression Global)). stmt (rust_statement.Declare at kind name_at name p)) (sym o_is)
+    ∙ ap stmt (sym s_is)
+
+pub return_is : (s : rust_statement.Statement) (at : ℕ) (o : Option (Box Expression Global)) (value : Box Expression Global) (v : Expression)
+    → s ≡ rust_statement.Return at o → o ≡ Some value → v ≡ value.value → ReturnValue at (term v) ≡ stmt s
+return_is s at o value v s_is o_is v_is =
+    ap (λ (e : Expression). ReturnValue at (term e)) v_is
+    ∙ ap (λ (p : Option (Box Expression Global)). stmt (rust_statement.Return at p)) (sym o_is)
     ∙ ap stmt (sym s_is)
 
 pub call_is : (s : Statement) (at name : ℕ) (es : Vec Expression Global) (xs : List Expression) → s ≡ rust_statement.Call at name es → xs ≡ es.items → stmt s ≡ CallOnly at name (terms xs)

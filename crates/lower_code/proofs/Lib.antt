@@ -10,3 +10,4 @@ pub mod Turns
 pub mod Trees
 pub mod Parameters
 pub mod Growth
+pub mod Room

@@ -10,6 +10,7 @@ use Rattle.clmodel.specs.Typing.Sizes.{node_limit}
 use Rattle.lower_code.specs.Trees.{all_of}
 use Rattle.lower_code.specs.Helpers.{functions_of, inside, body_of, BarriersKnown, BarriersCounted, LengthsKnown, LengthsCounted, NodesCounted, EndsKnown, nodes_in}
 use Rattle.lower_code.specs.declared.known.Known.{Known}
+use Rattle.lower_code.specs.Room.{FewParameters}
 use Rattle.lower_code.proofs.Lengths.{function_length}
 
 -- what stands at a place doesn't depend on the default
@@ -61,6 +62,11 @@ nodes_before fs n small h count i f below there f_is =
     let at = h count i f below (omega (arith, within, small)) (f_is ∙ get_or-take n fs i f inner) in
     subst (λ gs. (size_of (functions_of gs) (func f)).nodes ≤ nodes_in (take count (take n fs)) f.name) (sym (take-take i n fs (omega (arith, inner))))
     (subst (λ gs. (size_of (functions_of (take i fs)) (func f)).nodes ≤ nodes_in gs f.name) (sym (take-take count n fs within)) at)
+
+pub parameters_before : (fs : List Function) (n : ℕ) → n ≤ length fs → FewParameters fs → FewParameters (take n fs)
+parameters_before fs n small h i f below f_is =
+    let inner : i < n = within fs n i small below in
+    h i f (omega (arith, inner, small)) (f_is ∙ get_or-take n fs i f inner)
 
 -- the function that is found by a name has no more nodes than are counted for it
 pub nodes_found : (fs : List Function) (i name : ℕ) (f : Function) → NodesCounted fs → i < length fs → f ≡ get_or fs i f → f.name ≡ name

@@ -5,3 +5,4 @@ pub mod Helpers
 pub mod Parts
 pub mod Emission
 pub mod Growth
+pub mod Room

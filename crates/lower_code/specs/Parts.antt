@@ -4,6 +4,7 @@ use Rattle.clmodel.specs.Next.{all_sites}
 use Rattle.clmodel.specs.Typing.Sizes.{row_size, node_limit}
 use Rattle.regcode.specs.declared.instruction.Instruction.{Instruction}
 use Rattle.lower_code.specs.Helpers.{inside, sizes_in, body_of, BarriersKnown, BarriersCounted, LengthsKnown, LengthsCounted, NodesCounted, EndsKnown}
+use Rattle.lower_code.specs.Room.{FewParameters, levels}
 use Rattle.lower_code.specs.Trees.{all_of}
 use Rattle.lower_code.specs.declared.holes.Hole.{Hole}
 use Rattle.lower_code.specs.declared.holes.Part.{Part}
@@ -22,8 +23,8 @@ abbrev pub whole : List Part → List Instruction
 whole [] = []
 whole (p ∷ ps) = part_code p ++ whole ps
 
--- What is known of the functions before a helper is true of them, each of them is known, the barriers of its body have numbers of 32 bits, and it has no
--- more nodes, with the loops round it, than a kernel may have.
+-- What is known of the functions before a helper is true of them, each of them is known, the barriers of its body have numbers of 32 bits, it has no
+-- more nodes, with the loops round it, than a kernel may have, and the levels that its code may need have registers.
 pub record HoleKnown (h : Hole) : Type 0 where
   pub barriers : BarriersKnown h.functions.now h.known.now
   pub complete : length h.functions.now ≤ length h.known.now
@@ -34,6 +35,8 @@ pub record HoleKnown (h : Hole) : Type 0 where
   pub nodes : NodesCounted h.functions.now
   pub few : h.site + all_sites (inside h.functions.now) (all_of h.function.now.body.items) < 2 ^ 32
   pub small : h.depth + (row_size (sizes_in h.functions.now) (all_of h.function.now.body.items)).nodes ≤ node_limit
+  pub parameters : FewParameters h.functions.now
+  pub low : h.level + length h.function.now.parameters.items + levels (row_size (sizes_in h.functions.now) (all_of h.function.now.body.items)).nodes < 2 ^ 28
 
 abbrev pub IsKnown : Part → Type 0
 IsKnown (part.Own i) = Unit {0}

@@ -1,19 +1,21 @@
 //! Assignments, declarations and calls, with the body of the helper that they call left out (C99 6.5.16 and 6.7).
 #![tactic(auto)]
 
-ghost use Rattle.std.specs.Prelude.{◌≡◌, ℕ, ◌≤◌, ◌++◌, ◌∷◌, [], Some, None, Option, false, IfOk, OnOk, OnErr};
+ghost use Rattle.std.specs.Prelude.{◌≡◌, ℕ, ◌+◌, ◌<◌, ◌≤◌, ◌^◌, ◌++◌, ◌∷◌, [], Some, None, Option, false, IfOk, OnOk, OnErr};
 ghost use Rattle.std.specs.Option.{option_map};
 ghost use Rattle.clmodel.specs.Barrier as barrier;
 ghost use Rattle.clmodel.specs.BuiltIns.{built_in};
 ghost use Rattle.clmodel.specs.Next as next;
 ghost use Rattle.clmodel.specs.Tree as tree;
 ghost use Rattle.clmodel.specs.Tree.{place, term, terms};
+ghost use Rattle.clmodel.specs.Typing.Sizes.{place_size, term_size, terms_size};
 ghost use Rattle.lower_expr.specs.Scope.{free_level};
 ghost use Rattle.lower_expr.specs.Growth.{IsLonger};
 ghost use Rattle.lower_code.specs.Code as spec;
 ghost use Rattle.lower_code.specs.Code.{Calls, result_in};
 ghost use Rattle.lower_code.specs.Emission.{functions_of, called_sites, split_code};
 ghost use Rattle.lower_code.specs.Growth.{GrowsBefore};
+ghost use Rattle.lower_code.specs.Room.{called_level};
 
 use crate::draft::Draft;
 use crate::functions::find;
@@ -26,7 +28,7 @@ use clnum::{BinaryOperator, IntType, Value};
 use lower_expr::destinations::{combine, destination_type, fetch, put, reach};
 use lower_expr::emission::{emit_arguments, emit_expression};
 use lower_expr::instructions::{add, call_only};
-use lower_expr::scope::{Scope, level_above, level_at, register_at};
+use lower_expr::scope::{Scope, register_at};
 use lower_expr::types::call_type;
 use regcode::Instruction;
 use smallvec::SmallVec;
@@ -120,10 +122,13 @@ fn right_side(
     value: &Expression,
     front: Vec<Instruction>,
 ) -> Result<Right, AllocError>
+    requires free { free_level scope.now ≤ level }
+    requires low { level + (term_size [] (term value.now)).nodes < 2 ^ 28 }
     ensures code { IfOk result (λ right. (calls : Calls) (inside : ℕ → ℕ) (kind : Option IntType) (depth site : ℕ)
         → split_code calls right.split depth site
         ≡ front.items ++ spec.right_code calls (result_in (functions_of helpers.entry.functions.now)) inside kind scope.now level (next.helper_call (term value.now)) (term value.now) depth site) }
     ensures sites { IfOk result (λ right. (inside : ℕ → ℕ) → called_sites inside right.split.call ≡ next.call_sites inside (next.helper_call (term value.now))) }
+    ensures level { IfOk result (λ right. called_level right.split.call ≤ level) }
     ensures kind { IfOk result (λ right. (calls : Calls) (inside : ℕ → ℕ) (kind : Option IntType)
         → right.kind ≡ spec.right_type calls (result_in (functions_of helpers.entry.functions.now)) inside kind scope.now (next.helper_call (term value.now)) (term value.now)) }
 {
@@ -168,17 +173,19 @@ pub fn assign(
     target: &Target,
     value: &Expression,
 ) -> Result<Split, AllocError>
+    requires { free_level scope.now + (place_size [] (place target.now)).nodes + (term_size [] (term value.now)).nodes + 1 < 2 ^ 28 }
     ensures code { IfOk result (λ split. (calls : Calls) (inside : ℕ → ℕ) (kind : Option IntType) (depth site : ℕ)
         → split_code calls split depth site
         ≡ spec.assign_code calls (result_in (functions_of helpers.entry.functions.now)) inside kind scope.now (free_level scope.now) (place target.now) (next.helper_call (term value.now)) (term value.now) depth site) }
     ensures sites { IfOk result (λ split. (inside : ℕ → ℕ) → called_sites inside split.call ≡ next.call_sites inside (next.helper_call (term value.now))) }
+    ensures level { IfOk result (λ split. called_level split.call ≤ free_level scope.now + 2) }
 {
-    let level = scope.free_level()?;
-    let above = level_above(level)?;
+    let level = scope.free_level();
+    let above = level + 1;
     let mut front = Vec::new(scope.allocator());
     let destination = reach(scope, level, target, &mut front)?;
     let mut right = right_side(helpers, scope, above, value, front)?;
-    let from = register_at(above, right.kind)?;
+    let from = register_at(above, right.kind);
     put(scope, level, destination, from, &mut right.split.back)?;
     Ok(right.split)
 }
@@ -191,21 +198,23 @@ pub fn compound(
     operator: BinaryOperator,
     value: &Expression,
 ) -> Result<Split, AllocError>
+    requires { free_level scope.now + (place_size [] (place target.now)).nodes + (term_size [] (term value.now)).nodes + 2 < 2 ^ 28 }
     ensures code { IfOk result (λ split. (calls : Calls) (inside : ℕ → ℕ) (kind : Option IntType) (depth site : ℕ)
         → split_code calls split depth site
         ≡ spec.compound_code calls (result_in (functions_of helpers.entry.functions.now)) inside kind scope.now (free_level scope.now) (place target.now) operator (next.helper_call (term value.now)) (term value.now) depth site) }
     ensures sites { IfOk result (λ split. (inside : ℕ → ℕ) → called_sites inside split.call ≡ next.call_sites inside (next.helper_call (term value.now))) }
+    ensures level { IfOk result (λ split. called_level split.call ≤ free_level scope.now + 2) }
 {
-    let level = scope.free_level()?;
-    let above = level_above(level)?;
-    let top = level_at(level, 2)?;
+    let level = scope.free_level();
+    let above = level + 1;
+    let top = level + 2;
     let mut front = Vec::new(scope.allocator());
     let destination = reach(scope, level, target, &mut front)?;
-    let old = register_at(above, destination_type(scope, destination))?;
+    let old = register_at(above, destination_type(scope, destination));
     fetch(scope, level, destination, old, &mut front)?;
     let mut right = right_side(helpers, scope, top, value, front)?;
     let kind = right.kind;
-    let operand = register_at(top, kind)?;
+    let operand = register_at(top, kind);
     combine(
         scope,
         level,
@@ -238,19 +247,20 @@ pub fn put_step(
     is_increment: bool,
     code: &mut Draft<'_>,
 ) -> Result<(), AllocError>
+    requires { free_level scope.now + (place_size [] (place target.now)).nodes + 2 < 2 ^ 28 }
     ensures code { OnOk result ((calls : Calls) (results : ℕ → Option IntType) (inside : ℕ → ℕ) (kind : Option IntType)
         → code.new ≡ spec.step_code calls results inside kind scope.now (free_level scope.now) (place target.now) (next.step_operator is_increment) ++ code.old) }
     ensures longer { OnErr result (GrowsBefore code.old code.new) }
 {
-    let level = scope.free_level()?;
-    let above = level_above(level)?;
-    let top = level_at(level, 2)?;
+    let level = scope.free_level();
+    let above = level + 1;
+    let top = level + 2;
     let int = VariableType::Integer(IntType::Int);
     let mut front = Vec::new(scope.allocator());
     let destination = reach(scope, level, target, &mut front)?;
-    let old = register_at(above, destination_type(scope, destination))?;
+    let old = register_at(above, destination_type(scope, destination));
     fetch(scope, level, destination, old, &mut front)?;
-    let one = register_at(top, int)?;
+    let one = register_at(top, int);
     add(
         &mut front,
         Instruction::Constant {
@@ -279,15 +289,17 @@ pub fn declare_as(
     name: u32,
     value: &Expression,
 ) -> Result<Split, AllocError>
+    requires { free_level scope.old + (term_size [] (term value.now)).nodes + 1 < 2 ^ 28 }
     ensures code { IfOk result (λ split. (calls : Calls) (inside : ℕ → ℕ) (result_kind : Option IntType) (depth site : ℕ) (exits : spec.Exits)
         → split_code calls split depth site
         ≡ spec.stmt_code calls (result_in (functions_of helpers.entry.functions.now)) inside result_kind scope.old (tree.DeclareAs 0 kind 0 name (term value.now)) depth site exits) }
     ensures sites { IfOk result (λ split. (inside : ℕ → ℕ) → called_sites inside split.call ≡ next.call_sites inside (next.helper_call (term value.now))) }
+    ensures level { IfOk result (λ split. called_level split.call ≤ free_level scope.old + 2) }
     ensures scope { scope.new ≡ scope.old }
 {
-    let level = scope.free_level()?;
-    let above = level_above(level)?;
-    let to = register_at(level, kind)?;
+    let level = scope.free_level();
+    let above = level + 1;
+    let to = register_at(level, kind);
     let mut front = Vec::new(scope.allocator());
     add(&mut front, Instruction::Unset { to })?;
     let count = scope.len();
@@ -295,7 +307,7 @@ pub fn declare_as(
     let right = right_side(helpers, scope, above, value, front);
     scope.leave(count);
     let mut right = right?;
-    let from = register_at(above, right.kind)?;
+    let from = register_at(above, right.kind);
     add(&mut right.split.back, Instruction::Hold { to, from, kind })?;
     Ok(right.split)
 }
@@ -320,15 +332,17 @@ fn call_built_in(
     function: BuiltIn,
     arguments: &[Expression],
 ) -> Result<Split, AllocError>
+    requires { free_level scope.now + (terms_size [] (terms arguments.now)).nodes < 2 ^ 28 }
     ensures code { IfOk result (λ split. (calls : Calls) (results : ℕ → Option IntType) (inside : ℕ → ℕ) (kind : Option IntType) (name depth site : ℕ)
         → split_code calls split depth site ≡ spec.call_only_statement calls results inside kind scope.now false (Some function) name (terms arguments.now) depth site) }
     ensures sites { IfOk result (λ split. (inside : ℕ → ℕ) → called_sites inside split.call ≡ 0) }
+    ensures level { IfOk result (λ split. called_level split.call ≤ free_level scope.now) }
 {
-    let level = scope.free_level()?;
+    let level = scope.free_level();
     let mut front = Vec::new(scope.allocator());
     let found = emit_arguments(scope, level, arguments, &mut front)?;
     let kind = VariableType::Integer(call_type(Some(function), found.kind));
-    let to = register_at(level, kind)?;
+    let to = register_at(level, kind);
     call_only(function, to, found.registers.as_slice(), &mut front)?;
     Ok(Split {
         front,
@@ -339,11 +353,13 @@ fn call_built_in(
 
 /// A call of a helper that is a whole statement.
 fn call_helper(scope: &Scope, name: u32, arguments: &[Expression]) -> Result<Split, AllocError>
+    requires { free_level scope.now + (terms_size [] (terms arguments.now)).nodes < 2 ^ 28 }
     ensures code { IfOk result (λ split. (calls : Calls) (results : ℕ → Option IntType) (inside : ℕ → ℕ) (kind : Option IntType) (depth site : ℕ)
         → split_code calls split depth site ≡ spec.call_only_statement calls results inside kind scope.now false None name (terms arguments.now) depth site) }
     ensures sites { IfOk result (λ split. (inside : ℕ → ℕ) → called_sites inside split.call ≡ inside name) }
+    ensures level { IfOk result (λ split. called_level split.call ≤ free_level scope.now) }
 {
-    let level = scope.free_level()?;
+    let level = scope.free_level();
     let mut front = Vec::new(scope.allocator());
     let found = emit_arguments(scope, level, arguments, &mut front)?;
     let call = Call {
@@ -366,9 +382,12 @@ pub fn call_statement(
     depth: u32,
     site: u32,
 ) -> Result<Split, AllocError>
+    requires { free_level scope.now + (terms_size [] (terms arguments.now)).nodes < 2 ^ 28 }
     ensures code { IfOk result (λ split. (calls : Calls) (results : ℕ → Option IntType) (inside : ℕ → ℕ) (kind : Option IntType)
         → split_code calls split depth site ≡ spec.call_only_statement calls results inside kind scope.now (barrier.is_barrier name) (built_in name) name (terms arguments.now) depth site) }
     ensures sites { IfOk result (λ split. (inside : ℕ → ℕ) → called_sites inside split.call ≤ next.statement_sites inside (barrier.is_barrier name) (built_in name) name) }
+    ensures called { IfOk result (λ split. (inside : ℕ → ℕ) → called_sites inside split.call ≤ inside name) }
+    ensures level { IfOk result (λ split. called_level split.call ≤ free_level scope.now) }
 {
     if is_barrier(name) {
         let mut front = Vec::new(scope.allocator());

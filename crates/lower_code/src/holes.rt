@@ -3,6 +3,7 @@
 
 ghost use Rattle.std.specs.Prelude.{◌≡◌, ◌≤◌, length, take};
 ghost use Rattle.lower_code.specs.Helpers.{BarriersKnown, BarriersCounted, LengthsKnown, LengthsCounted, NodesCounted, EndsKnown};
+ghost use Rattle.lower_code.specs.Room.{FewParameters};
 
 use crate::known::Known;
 use clmodel::tree::Function;
@@ -23,6 +24,7 @@ pub struct Helpers<'a> {
     pub ghost measured: { LengthsCounted functions.now known.now },
     pub ghost nodes: { NodesCounted functions.now },
     pub ghost ends_known: { EndsKnown functions.now ends.now },
+    pub ghost parameters: { FewParameters functions.now },
 }
 
 impl<'a> Helpers<'a> {

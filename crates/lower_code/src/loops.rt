@@ -1,8 +1,9 @@
 //! Tests, loops and returns, with the statements in them left out (OpenCL 1.2, section 6.9; C99 6.8.4 to 6.8.6).
 #![tactic(auto, using(crate::proofs::Growth::unchanged, crate::proofs::Growth::before, crate::proofs::Growth::one_before))]
 
-ghost use Rattle.std.specs.Prelude.{◌≡◌, [], ◌∷◌, ◌++◌, List, length, OnOk, OnErr};
+ghost use Rattle.std.specs.Prelude.{◌≡◌, ◌+◌, ◌<◌, ◌^◌, [], ◌∷◌, ◌++◌, List, length, OnOk, OnErr};
 ghost use Rattle.clmodel.specs.Tree.{term};
+ghost use Rattle.clmodel.specs.Typing.Sizes.{term_size, condition_size};
 ghost use Rattle.regcode.specs.declared.instruction.Instruction.{Instruction};
 ghost use Rattle.regcode.specs.declared.instruction.Instruction.TheVariants as instruction;
 ghost use Rattle.lower_expr.specs.Scope.{free_level};
@@ -28,14 +29,15 @@ pub fn put_test(
     by: u32,
     code: &mut Draft<'_>,
 ) -> Result<(), AllocError>
+    requires { free_level scope.now + (term_size [] (term test.now)).nodes < 2 ^ 28 }
     ensures code { OnOk result (code.new
         ≡ expr_code scope.now (free_level scope.now) (term test.now) ++ (instruction.JumpIfZero (register_for scope.now (free_level scope.now) (term test.now)) by ∷ code.old)) }
     ensures longer { OnErr result (GrowsBefore code.old code.new) }
 {
-    let level = scope.free_level()?;
+    let level = scope.free_level();
     let mut front = Vec::new(scope.allocator());
     let kind = emit_expression(scope, level, test, &mut front)?;
-    let test = register_at(level, kind)?;
+    let test = register_at(level, kind);
     code.put(Instruction::JumpIfZero { test, by })?;
     code.put_all(front)
 }
@@ -46,6 +48,7 @@ pub fn put_condition(
     condition: Option<&Expression>,
     code: &mut Draft<'_>,
 ) -> Result<(), AllocError>
+    requires { free_level scope.now + (condition_size [] (test_of condition)).nodes < 2 ^ 28 }
     ensures code { OnOk result (code.new ≡ spec.condition_code scope.now (test_of condition.entry) ++ code.old) }
     ensures longer { OnErr result (GrowsBefore code.old code.new) }
 {
@@ -129,6 +132,7 @@ fn add_value(
     from: u32,
     code: &mut Vec<Instruction>,
 ) -> Result<(), AllocError>
+    requires { level < 2 ^ 28 }
     ensures code { OnOk result (code.new.items ≡ code.old.items ++ spec.value_code kind level from) }
     ensures longer { OnErr result (IsLonger code.old.items code.new.items) }
 {
@@ -136,7 +140,7 @@ fn add_value(
         None => Ok(()),
         Some(kind) => {
             let kind = VariableType::Integer(kind);
-            let to = register_at(level, kind)?;
+            let to = register_at(level, kind);
             add(code, Instruction::Hold { to, from, kind })
         }
     }
@@ -150,15 +154,16 @@ pub fn put_return_value(
     by: u32,
     code: &mut Draft<'_>,
 ) -> Result<(), AllocError>
+    requires { free_level scope.now + (term_size [] (term value.now)).nodes < 2 ^ 28 }
     ensures code { OnOk result (code.new
         ≡ expr_code scope.now (free_level scope.now) (term value.now)
         ++ (spec.value_code kind scope.now.base (register_for scope.now (free_level scope.now) (term value.now)) ++ (instruction.Jump by ∷ code.old))) }
     ensures longer { OnErr result (GrowsBefore code.old code.new) }
 {
-    let level = scope.free_level()?;
+    let level = scope.free_level();
     let mut front = Vec::new(scope.allocator());
     let found = emit_expression(scope, level, value, &mut front)?;
-    let from = register_at(level, found)?;
+    let from = register_at(level, found);
     add_value(kind, scope.base(), from, &mut front)?;
     code.put(Instruction::Jump { by })?;
     code.put_all(front)

@@ -9,6 +9,8 @@ ghost use Rattle.clmodel.specs.Tree.{stmt};
 ghost use Rattle.clmodel.specs.Typing.Sizes.{size, node_limit};
 ghost use Rattle.lower_code.specs.Emission.{inside, sizes_in, is_declaration, is_assignment, is_jump, statement_code};
 ghost use Rattle.lower_code.specs.Growth.{GrowsBefore};
+ghost use Rattle.lower_code.specs.Room.{levels};
+ghost use Rattle.lower_expr.specs.Scope.{free_level};
 
 use crate::assignments::{assign, call_statement, compound, declare_as, put_step};
 use crate::calls::emit_split;
@@ -33,6 +35,7 @@ pub fn emit_declaration<'a>(
     requires kind { is_declaration statement.now ≡ true }
     requires few { position.site + sites (inside setting.now.helpers.functions.now) (stmt statement.now) < 2 ^ 32 }
     requires small { position.depth + (size (sizes_in setting.now.helpers.functions.now) (stmt statement.now)).nodes ≤ node_limit }
+    requires low { free_level scope.old + levels (size (sizes_in setting.now.helpers.functions.now) (stmt statement.now)).nodes < 2 ^ 28 }
     ensures code { OnOk result (code.new ≡ statement_code setting.now scope.old (stmt statement.now) position ++ code.old) }
     ensures scope { scope.new ≡ scope.old }
     ensures longer { OnErr result (GrowsBefore code.old code.new) }
@@ -71,6 +74,7 @@ pub fn emit_assignment<'a>(
     requires kind { is_assignment statement.now ≡ true }
     requires few { position.site + sites (inside setting.now.helpers.functions.now) (stmt statement.now) < 2 ^ 32 }
     requires small { position.depth + (size (sizes_in setting.now.helpers.functions.now) (stmt statement.now)).nodes ≤ node_limit }
+    requires low { free_level scope.now + levels (size (sizes_in setting.now.helpers.functions.now) (stmt statement.now)).nodes < 2 ^ 28 }
     ensures code { OnOk result (code.new ≡ statement_code setting.now scope.now (stmt statement.now) position ++ code.old) }
     ensures longer { OnErr result (GrowsBefore code.old code.new) }
 {
@@ -115,7 +119,8 @@ pub fn put_jump<'a>(
     position: Position,
     code: &mut Draft<'a>,
 ) -> Result<(), AllocError>
-    requires { is_jump statement.now ≡ true }
+    requires kind { is_jump statement.now ≡ true }
+    requires low { free_level scope.now + levels (size (sizes_in setting.now.helpers.functions.now) (stmt statement.now)).nodes < 2 ^ 28 }
     ensures code { OnOk result (code.new ≡ statement_code setting.now scope.now (stmt statement.now) position ++ code.old) }
     ensures longer { OnErr result (GrowsBefore code.old code.new) }
 {

@@ -1,7 +1,7 @@
 //! The variables of blocks and of functions, and the registers that they are given.
 #![tactic(auto, using(crate::proofs::Growth::unchanged, crate::proofs::Growth::before, crate::proofs::Growth::one_before))]
 
-ghost use Rattle.std.specs.Prelude.{◌≡◌, ◌++◌, [], ◌∷◌, drop, length, IfOk, OnOk, OnErr};
+ghost use Rattle.std.specs.Prelude.{◌≡◌, ◌+◌, ◌<◌, ◌≤◌, ◌^◌, ◌++◌, [], ◌∷◌, drop, length, IfOk, OnOk, OnErr};
 ghost use Rattle.clmodel.specs.Tree as tree;
 ghost use Rattle.clmodel.specs.Tree.{stmt};
 ghost use Rattle.regcode.specs.declared.instruction.Instruction.TheVariants as instruction;
@@ -132,21 +132,17 @@ pub fn declare_parameters(scope: &mut Scope, parameters: &[Parameter]) -> Result
 }
 
 /// The instruction that gives a parameter its argument at a level; one without an argument is unset.
-fn pass_one(
-    parameter: Parameter,
-    arguments: &[u32],
-    place: usize,
-    level: u32,
-) -> Result<Instruction, AllocError>
-    ensures { IfOk result (λ instruction. instruction ∷ [] ≡ spec.pass_code (parameter ∷ []) (drop place arguments.now) level) }
+fn pass_one(parameter: Parameter, arguments: &[u32], place: usize, level: u32) -> Instruction
+    requires { level < 2 ^ 28 }
+    ensures { result ∷ [] ≡ spec.pass_code (parameter ∷ []) (drop place arguments.now) level }
 {
-    let to = register_at(level, parameter.kind)?;
+    let to = register_at(level, parameter.kind);
     if place < arguments.len() {
         let from = arguments[place];
         let kind = parameter.kind;
-        return Ok(Instruction::Hold { to, from, kind });
+        return Instruction::Hold { to, from, kind };
     }
-    Ok(Instruction::Unset { to })
+    Instruction::Unset { to }
 }
 
 /// Puts before the code what gives the parameters of a helper from a level on the arguments of a call.
@@ -156,27 +152,29 @@ pub fn put_passed(
     level: u32,
     code: &mut Draft<'_>,
 ) -> Result<(), AllocError>
+    requires { level + length parameters.now ≤ 2 ^ 28 }
     ensures code { OnOk result (code.new ≡ spec.pass_code parameters.now arguments.now level ++ code.old) }
     ensures longer { OnErr result (GrowsBefore code.old code.new) }
 {
     for i in 0..parameters.len() {
         let place = parameters.len() - 1 - i;
-        let at = level_at(level, place)?;
-        code.put(pass_one(parameters[place], arguments, place, at)?)?;
+        let at = level_at(level, place);
+        code.put(pass_one(parameters[place], arguments, place, at))?;
     }
     Ok(())
 }
 
 /// Puts before the code what gives the parameters of a kernel the arguments of the launch.
 pub fn put_arguments(parameters: &[Parameter], code: &mut Draft<'_>) -> Result<(), AllocError>
+    requires { length parameters.now ≤ 2 ^ 28 }
     ensures code { OnOk result (code.new ≡ spec.arguments_code parameters.now 0 ++ code.old) }
     ensures longer { OnErr result (GrowsBefore code.old code.new) }
 {
     for i in 0..parameters.len() {
         let place = parameters.len() - 1 - i;
         let kind = parameters[place].kind;
-        let number = level_at(0, place)?;
-        let to = register_at(number, kind)?;
+        let number = level_at(0, place);
+        let to = register_at(number, kind);
         code.put(Instruction::Argument { to, number, kind })?;
     }
     Ok(())
@@ -184,11 +182,12 @@ pub fn put_arguments(parameters: &[Parameter], code: &mut Draft<'_>) -> Result<(
 
 /// Puts a declaration without an initialiser before the code.
 pub fn put_unset(scope: &Scope, kind: VariableType, code: &mut Draft<'_>) -> Result<(), AllocError>
+    requires { free_level scope.now < 2 ^ 28 }
     ensures code { OnOk result (code.new ≡ instruction.Unset (register_at (free_level scope.now) kind) ∷ code.old) }
     ensures longer { OnErr result (GrowsBefore code.old code.new) }
 {
-    let level = scope.free_level()?;
-    let to = register_at(level, kind)?;
+    let level = scope.free_level();
+    let to = register_at(level, kind);
     code.put(Instruction::Unset { to })
 }
 
@@ -200,20 +199,21 @@ pub fn put_array(
     size: Value,
     code: &mut Draft<'_>,
 ) -> Result<(), AllocError>
+    requires { free_level scope.now < 2 ^ 28 }
     ensures code { OnOk result (code.new ≡ spec.array_code is_local element (tree.array_length size) (length scope.now.variables) (free_level scope.now) ++ code.old) }
     ensures longer { OnErr result (GrowsBefore code.old code.new) }
 {
-    let array = scope.free_level()?;
+    let array = scope.free_level();
     if is_local {
-        let to = register_at(array, local_pointer(element))?;
-        let number = word(scope.len())?;
+        let to = register_at(array, local_pointer(element));
+        let number = scope.len() as u32;
         return code.put(Instruction::Local {
             to,
             number,
             element,
         });
     }
-    let to = register_at(array, VariableType::Integer(element))?;
+    let to = register_at(array, VariableType::Integer(element));
     let length = array_length(size)?;
     code.put(Instruction::UnsetArray { array, length })?;
     code.put(Instruction::Unset { to })

@@ -81,6 +81,10 @@ pub found_below : (entries : List Entry) (name place : ℕ) → last_place (vari
 found_below [] name place h = absurd (none_is_not_some h)
 found_below (entry ∷ entries) name place h = let f = (is_at (reverse (entry ∷ entries)) name place entry h).below in let n = length-reverse (entry ∷ entries) in omega (arith, f, n)
 
+-- each is one entry
+pub variables_count : (entries : List Entry) → length (variables_of (reverse entries)) ≡ length entries
+variables_count entries = length-map (reverse entries) (λ e. empty e.variable) ∙ length-reverse entries
+
 pub found_register : (entries : List Entry) (name place : ℕ) (default : Entry) (base : ℕ) → last_place (variables_of (reverse entries)) name ≡ Some place
     → Some (register_at (base + place) (get_or entries place default).variable.kind) ≡ register_in base (variables_of (reverse entries)) name
 found_register entries name place default base h =

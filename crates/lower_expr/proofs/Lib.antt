@@ -4,5 +4,7 @@ pub mod Index
 pub mod Arguments
 pub mod Expressions
 pub mod Lengths
+pub mod Short
+pub mod Room
 pub mod Targets
 pub mod Growth

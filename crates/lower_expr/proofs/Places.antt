@@ -2,6 +2,7 @@
 use Rattle.std.proofs.Common.{◌≡◌, ◌≢◌, ℕ, ◌+◌, ◌*◌, ◌<◌, ◌≤◌, ◌==◌, Bool, true, false, Option, None, Some, List, [], ◌∷◌, ◌++◌, length, drop, get_or, refl, ap, ap₂, sym, subst, ◌∙◌, arith}
 use Rattle.std.proofs.lemmas.Bool.{false≢true}
 use Rattle.clnum.specs.Conversions.{common}
+use Rattle.clnum.specs.Integer.{type_number}
 use Rattle.clnum.specs.Operations.{unary_kind}
 use Rattle.clnum.specs.declared.int_type.IntType.{IntType}
 use Rattle.clnum.specs.declared.int_type.IntType.TheVariants.{Char, Uchar, Short, Ushort, Int, Uint, Long, Ulong}
@@ -15,11 +16,11 @@ use Rattle.clmodel.specs.declared.tree.VariableType.TheVariants.{Integer, Pointe
 use Rattle.regcode.specs.Machine.{State, Registers, entry_at, reg, array_of, with_put, passed, onward}
 use Rattle.regcode.specs.declared.instruction.Instruction.{Instruction}
 use Rattle.regcode.proofs.Registers.{reg_kept}
-use Rattle.lower_expr.specs.Scope.{Scope, integer_number, kind_number, register_at, register_in, level_in, level_of, seen_elements, view, arrays_in, Sees, free_level}
+use Rattle.lower_expr.specs.Scope.{Scope, kind_number, register_at, register_in, level_in, level_of, seen_elements, view, arrays_in, Sees, free_level}
 use Rattle.lower_expr.specs.Expressions.{registers_for, register_for, count}
 use Rattle.lower_expr.specs.Agreement.{HasAt, Reached, Hold}
 
-integer_below : (kind : IntType) → integer_number kind < 8
+integer_below : (kind : IntType) → type_number kind < 8
 integer_below Char = omega arith
 integer_below Uchar = omega arith
 integer_below Short = omega arith
@@ -29,7 +30,7 @@ integer_below Uint = omega arith
 integer_below Long = omega arith
 integer_below Ulong = omega arith
 
-kind_below : (kind : VariableType) → kind_number kind < 16
+pub kind_below : (kind : VariableType) → kind_number kind < 16
 kind_below (Integer kind) = let h = integer_below kind in omega (arith, h)
 kind_below (Pointer pointer) = let h = integer_below pointer.element in omega (arith, h)
 

@@ -1,26 +1,16 @@
 -- Where register code keeps the variables in scope and the values of expressions (own).
 use Rattle.std.specs.Prelude.{◌≡◌, ℕ, ◌+◌, ◌*◌, ◌==◌, Bool, true, false, Option, None, Some, List, [], ◌∷◌, length, map}
 use Rattle.clnum.specs.declared.int_type.IntType.{IntType}
-use Rattle.clnum.specs.declared.int_type.IntType.TheVariants.{Char, Uchar, Short, Ushort, Int, Uint, Long, Ulong}
+use Rattle.clnum.specs.Integer.{type_number}
 use Rattle.clmodel.specs.Next.{Variables, variable, private_array, has_elements}
 use Rattle.clmodel.specs.declared.tree.VariableType.{VariableType}
 use Rattle.clmodel.specs.declared.tree.VariableType.TheVariants.{Integer, Pointer}
 use Rattle.regcode.specs.Machine.{Registers, reg, array_of}
 
-abbrev pub integer_number : IntType → ℕ
-integer_number Char = 0
-integer_number Uchar = 1
-integer_number Short = 2
-integer_number Ushort = 3
-integer_number Int = 4
-integer_number Uint = 5
-integer_number Long = 6
-integer_number Ulong = 7
-
 -- the number of a type below 16: the integer types, and then the pointers to them
 abbrev pub kind_number : VariableType → ℕ
-kind_number (Integer kind) = integer_number kind
-kind_number (Pointer pointer) = 8 + integer_number pointer.element
+kind_number (Integer kind) = type_number kind
+kind_number (Pointer pointer) = 8 + type_number pointer.element
 
 -- The register of a type at a level. Each level has one for each type, so that a register has values of one type alone.
 abbrev pub register_at : ℕ → VariableType → ℕ

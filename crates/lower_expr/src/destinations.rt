@@ -1,9 +1,10 @@
 //! The targets of assignments (C99 6.5.16).
 #![tactic(auto, using(crate::proofs::Growth::unchanged, crate::proofs::Growth::behind))]
 
-ghost use Rattle.std.specs.Prelude.{◌≡◌, ℕ, ◌+◌, ◌++◌, IfOk, OnOk, OnErr};
+ghost use Rattle.std.specs.Prelude.{◌≡◌, ℕ, ◌+◌, ◌<◌, ◌≤◌, ◌^◌, [], ◌++◌, IfOk, OnOk, OnErr};
 ghost use Rattle.clmodel.specs.Tree.{Place, place};
-ghost use Rattle.lower_expr.specs.Scope.{register_of};
+ghost use Rattle.clmodel.specs.Typing.Sizes.{place_size};
+ghost use Rattle.lower_expr.specs.Scope.{free_level, register_of};
 ghost use Rattle.lower_expr.specs.Expressions.{kind_named, variable_code, place_code, place_register};
 ghost use Rattle.lower_expr.specs.Growth.{IsLonger};
 ghost use Rattle.lower_expr.specs.Places as spec;
@@ -11,7 +12,7 @@ ghost use Rattle.lower_expr.specs.Places.{place_name, destination_of};
 
 use crate::emission::{TargetKind, emit_target};
 use crate::instructions::{add, private_load, private_store};
-use crate::scope::{Scope, level_above, register_at};
+use crate::scope::{Scope, register_at};
 use crate::types::{base_type, infix_type};
 use clmodel::tree::{InfixOperator, Target, VariableType};
 use clnum::BinaryOperator;
@@ -43,6 +44,8 @@ pub fn reach(
     target: &Target,
     code: &mut Vec<Instruction>,
 ) -> Result<Destination, AllocError>
+    requires free { free_level scope.now ≤ level }
+    requires low { level + (place_size [] (place target.now)).nodes < 2 ^ 28 }
     ensures code { IfOk result (λ _. code.new.items ≡ code.old.items ++ place_code scope.now level (place target.now)) }
     ensures found { IfOk result (λ destination. destination ≡ destination_of scope.now (place target.now)) }
     ensures longer { OnErr result (IsLonger code.old.items code.new.items) }
@@ -73,6 +76,8 @@ pub fn fetch(
     to: u32,
     code: &mut Vec<Instruction>,
 ) -> Result<(), AllocError>
+    requires free { free_level scope.now ≤ level }
+    requires low { level < 2 ^ 28 }
     ensures code { OnOk result ((place : Place) → destination ≡ destination_of scope.now place
         → code.new.items ≡ code.old.items ++ spec.fetch_code scope.now place (place_register scope.now level place) to) }
     ensures longer { OnErr result (IsLonger code.old.items code.new.items) }
@@ -80,11 +85,11 @@ pub fn fetch(
     match destination.kind {
         TargetKind::Variable => fetch_variable(scope, destination.name, to, code),
         TargetKind::Index(index) => {
-            let index = register_at(level, index)?;
+            let index = register_at(level, index);
             private_load(scope, to, destination.name, index, code)
         }
         TargetKind::Pointer(pointer) => {
-            let pointer = register_at(level, pointer)?;
+            let pointer = register_at(level, pointer);
             add(code, Instruction::Load { to, pointer })
         }
     }
@@ -97,10 +102,11 @@ fn fetch_variable(
     to: u32,
     code: &mut Vec<Instruction>,
 ) -> Result<(), AllocError>
+    requires { free_level scope.now ≤ 2 ^ 28 }
     ensures code { OnOk result (code.new.items ≡ code.old.items ++ variable_code to (register_of scope.now name) name) }
     ensures longer { OnErr result (IsLonger code.old.items code.new.items) }
 {
-    match scope.register(name)? {
+    match scope.register(name) {
         Some(from) => add(code, Instruction::Move { to, from, name }),
         None => {
             add(code, Instruction::Unset { to })?;
@@ -117,6 +123,8 @@ pub fn put(
     from: u32,
     code: &mut Vec<Instruction>,
 ) -> Result<(), AllocError>
+    requires free { free_level scope.now ≤ level }
+    requires low { level < 2 ^ 28 }
     ensures code { OnOk result ((place : Place) → destination ≡ destination_of scope.now place
         → code.new.items ≡ code.old.items ++ spec.put_code scope.now place (place_register scope.now level place) from) }
     ensures longer { OnErr result (IsLonger code.old.items code.new.items) }
@@ -124,11 +132,11 @@ pub fn put(
     match destination.kind {
         TargetKind::Variable => hold(scope, destination.name, from, code),
         TargetKind::Index(index) => {
-            let index = register_at(level, index)?;
+            let index = register_at(level, index);
             private_store(scope, destination.name, index, from, code)
         }
         TargetKind::Pointer(pointer) => {
-            let pointer = register_at(level, pointer)?;
+            let pointer = register_at(level, pointer);
             add(
                 code,
                 Instruction::Store {
@@ -142,11 +150,12 @@ pub fn put(
 
 /// Adds the code that gives a variable a register's value.
 fn hold(scope: &Scope, name: u32, from: u32, code: &mut Vec<Instruction>) -> Result<(), AllocError>
+    requires { free_level scope.now ≤ 2 ^ 28 }
     ensures code { OnOk result (code.new.items ≡ code.old.items ++ spec.hold_code (register_of scope.now name) from (kind_named scope.now name)) }
     ensures longer { OnErr result (IsLonger code.old.items code.new.items) }
 {
     let kind = scope.kind(name);
-    let to = match scope.register(name)? {
+    let to = match scope.register(name) {
         Some(to) => to,
         None => from,
     };
@@ -164,16 +173,18 @@ pub fn combine(
     right: u32,
     code: &mut Vec<Instruction>,
 ) -> Result<(), AllocError>
+    requires free { free_level scope.now ≤ level }
+    requires low { level + 1 < 2 ^ 28 }
     ensures code { OnOk result ((place : Place) → destination ≡ destination_of scope.now place
         → code.new.items ≡ code.old.items ++ spec.combine_code scope.now place level operator kind old right) }
     ensures longer { OnErr result (IsLonger code.old.items code.new.items) }
 {
     let first = destination_type(scope, destination);
-    let above = level_above(level)?;
+    let above = level + 1;
     let to = register_at(
         above,
         infix_type(InfixOperator::Arithmetic(operator), first, kind),
-    )?;
+    );
     add(
         code,
         Instruction::Binary {

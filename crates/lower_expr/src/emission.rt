@@ -1,9 +1,11 @@
 //! The emission of the code of expressions.
 #![tactic(auto, using(crate::proofs::Growth::unchanged, crate::proofs::Growth::behind))]
 
-ghost use Rattle.std.specs.Prelude.{◌≡◌, ◌++◌, IfOk, OnErr};
+ghost use Rattle.std.specs.Prelude.{◌≡◌, ◌+◌, ◌<◌, ◌≤◌, ◌^◌, [], ◌++◌, IfOk, OnErr};
 ghost use Rattle.clmodel.specs.Next.{argument_type};
 ghost use Rattle.clmodel.specs.Tree.{term, terms, place};
+ghost use Rattle.clmodel.specs.Typing.Sizes.{term_size, terms_size, place_size};
+ghost use Rattle.lower_expr.specs.Scope.{free_level};
 ghost use Rattle.lower_expr.specs.Expressions.{kind_of, kind_named, expr_code, address_code, terms_code, registers_for, place_code, place_kind};
 ghost use Rattle.lower_expr.specs.Growth.{IsLonger};
 
@@ -11,7 +13,7 @@ use crate::instructions::{
     Arguments, array_element, call, cast, load, number, offset, point, unary, variable,
 };
 use crate::jumps::{begin_choice, begin_infix, between_branches, end_choice, end_infix};
-use crate::scope::{Scope, level_above, level_at, register_at};
+use crate::scope::{Scope, level_at, register_at};
 use crate::types::base_type;
 use clmodel::setup::built_in_named;
 use clmodel::tree::{Expression, Target, VariableType};
@@ -20,8 +22,20 @@ use regcode::Instruction;
 use smallvec::SmallVec;
 use std::alloc::AllocError;
 
+/// The levels that an expression needs have registers. This is the contract of a function that does nothing: what it asks is shown at its call.
+fn level_suffices(level: u32, expression: &Expression)
+    requires { level + (term_size [] (term expression.now)).nodes < 2 ^ 28 }
+    ensures { level + (term_size [] (term expression.now)).nodes < 2 ^ 28 }
+{}
+
+/// The same of arguments.
+fn levels_suffice(level: u32, arguments: &[Expression])
+    requires { level + (terms_size [] (terms arguments.now)).nodes < 2 ^ 28 }
+    ensures { level + (terms_size [] (terms arguments.now)).nodes < 2 ^ 28 }
+{}
+
 /// Adds the code of an expression, which leaves its value in the register of its type at a level, and gives its type (OpenCL 1.2,
-/// section 6.3). The level is at least the first that is free. Err if out of memory, or if there are too few registers.
+/// section 6.3). The level is at least the first that is free. Err if out of memory.
 #[cycle(emission)]
 pub fn emit_expression(
     scope: &Scope,
@@ -29,6 +43,8 @@ pub fn emit_expression(
     expression: &Expression,
     code: &mut Vec<Instruction>,
 ) -> Result<VariableType, AllocError>
+    requires free { free_level scope.now ≤ level }
+    requires low { level + (term_size [] (term expression.now)).nodes < 2 ^ 28 }
     ensures code { IfOk result (λ kind. code.new.items ≡ code.old.items ++ expr_code scope.now level (term expression.now)) }
     ensures kind { IfOk result (λ kind. kind ≡ kind_of scope.now (term expression.now)) }
     ensures longer { OnErr result (IsLonger code.old.items code.new.items) }
@@ -56,7 +72,9 @@ pub fn emit_expression(
             arguments,
             ..
         } => {
-            let arguments = emit_arguments(scope, level, arguments, code)?;
+            let given = arguments.as_slice();
+            levels_suffice(level, given);
+            let arguments = emit_arguments(scope, level, given, code)?;
             let kind = call(level, built_in_named(*name), &arguments, code)?;
             Ok(kind)
         }
@@ -84,7 +102,7 @@ pub fn emit_expression(
         } => {
             let first = emit_expression(scope, level, left, code)?;
             let place = begin_infix(level, *operator, first, code)?;
-            let second = emit_expression(scope, level_above(level)?, right, code)?;
+            let second = emit_expression(scope, level + 1, right, code)?;
             let kind = end_infix(level, *operator, first, second, place, code)?;
             Ok(kind)
         }
@@ -105,7 +123,7 @@ pub fn emit_expression(
 }
 
 /// Adds the code of a pointer variable's value moved by an index, which leaves it at a level, and gives its type. Err if out of
-/// memory, or if there are too few registers.
+/// memory.
 #[cycle(emission)]
 fn emit_address(
     scope: &Scope,
@@ -114,18 +132,20 @@ fn emit_address(
     index: &Expression,
     code: &mut Vec<Instruction>,
 ) -> Result<VariableType, AllocError>
+    requires free { free_level scope.now ≤ level }
+    requires low { level + 1 + (term_size [] (term index.now)).nodes < 2 ^ 28 }
     ensures code { IfOk result (λ pointer. code.new.items ≡ code.old.items ++ address_code scope.now level name (term index.now)) }
     ensures kind { IfOk result (λ pointer. pointer ≡ kind_named scope.now name) }
     ensures longer { OnErr result (IsLonger code.old.items code.new.items) }
 {
     let pointer = variable(scope, level, name, code)?;
-    let index = emit_expression(scope, level_above(level)?, index, code)?;
+    let index = emit_expression(scope, level + 1, index, code)?;
     offset(level, pointer, index, code)?;
     Ok(pointer)
 }
 
 /// Adds the code of arguments, from left to right, and gives the registers where their values are, the first at a level, and each
-/// further one a level above, with the integer type of the first, or of what it points to. Err if out of memory, or if there are too few registers.
+/// further one a level above, with the integer type of the first, or of what it points to. Err if out of memory.
 #[cycle(emission)]
 pub fn emit_arguments(
     scope: &Scope,
@@ -133,6 +153,8 @@ pub fn emit_arguments(
     arguments: &[Expression],
     code: &mut Vec<Instruction>,
 ) -> Result<Arguments, AllocError>
+    requires free { free_level scope.now ≤ level }
+    requires low { level + (terms_size [] (terms arguments.now)).nodes < 2 ^ 28 }
     ensures code { IfOk result (λ found. code.new.items ≡ code.old.items ++ terms_code scope.now level (terms arguments.now)) }
     ensures registers { IfOk result (λ found. found.registers.items ≡ registers_for scope.now level (terms arguments.now)) }
     ensures kind { IfOk result (λ found. found.kind ≡ argument_type scope.now.variables (terms arguments.now)) }
@@ -141,9 +163,11 @@ pub fn emit_arguments(
     let mut registers = SmallVec::new(scope.allocator());
     let mut kind = IntType::Int;
     for i in 0..arguments.len() {
-        let above = level_at(level, i)?;
-        let found = emit_expression(scope, above, &arguments[i], code)?;
-        registers.push(register_at(above, found)?)?;
+        let argument = &arguments[i];
+        let above = level_at(level, i);
+        level_suffices(above, argument);
+        let found = emit_expression(scope, above, argument, code)?;
+        registers.push(register_at(above, found))?;
         if i == 0 {
             kind = base_type(found);
         }
@@ -163,13 +187,15 @@ pub enum TargetKind {
 }
 
 /// Adds the code of a target, which leaves its index or a pointer to it at a level, and gives which of them, and its type;
-/// nothing where it is a variable as a whole (C99 6.5.16). Err if out of memory, or if there are too few registers.
+/// nothing where it is a variable as a whole (C99 6.5.16). Err if out of memory.
 pub fn emit_target(
     scope: &Scope,
     level: u32,
     target: &Target,
     code: &mut Vec<Instruction>,
 ) -> Result<TargetKind, AllocError>
+    requires free { free_level scope.now ≤ level }
+    requires low { level + (place_size [] (place target.now)).nodes < 2 ^ 28 }
     ensures code { IfOk result (λ found. code.new.items ≡ code.old.items ++ place_code scope.now level (place target.now)) }
     ensures kind { IfOk result (λ found. found ≡ place_kind scope.now (place target.now)) }
     ensures longer { OnErr result (IsLonger code.old.items code.new.items) }

@@ -1,18 +1,18 @@
 //! The instructions of an expression behind those of its operands (OpenCL 1.2, section 6.3).
 #![tactic(auto, using(crate::proofs::Growth::unchanged, crate::proofs::Growth::behind))]
 
-ghost use Rattle.std.specs.Prelude.{◌≡◌, ℕ, ◌+◌, ◌<◌, ◌≤◌, [], ◌∷◌, ◌++◌, List, Some, length, IfOk, OnOk, OnErr};
+ghost use Rattle.std.specs.Prelude.{◌≡◌, ℕ, ◌+◌, ◌<◌, ◌≤◌, ◌^◌, [], ◌∷◌, ◌++◌, List, Some, length, IfOk, OnOk, OnErr};
 ghost use Rattle.clnum.specs.Operations as operations;
 ghost use Rattle.clmodel.specs.Next as next;
 ghost use Rattle.clmodel.specs.declared.setup.BuiltIn.TheVariants as built_in_function;
 ghost use Rattle.clmodel.specs.declared.tree.VariableType.TheVariants as kinds;
 ghost use Rattle.regcode.specs.declared.instruction.Instruction.{Instruction};
 ghost use Rattle.regcode.specs.declared.instruction.Instruction.TheVariants as instruction;
-ghost use Rattle.lower_expr.specs.Scope.{register_at, register_of};
+ghost use Rattle.lower_expr.specs.Scope.{free_level, register_at, register_of};
 ghost use Rattle.lower_expr.specs.Expressions as expressions;
 ghost use Rattle.lower_expr.specs.Growth.{IsLonger};
 
-use crate::scope::{Scope, level_above, register_at, word};
+use crate::scope::{Scope, register_at};
 use crate::types::{base_type, call_type, infix_type};
 use clmodel::setup::{AtomicFunction, BuiltIn, WorkItemFunction};
 use clmodel::tree::{InfixOperator, VariableType};
@@ -36,12 +36,13 @@ pub(crate) fn number(
     value: Value,
     code: &mut Vec<Instruction>,
 ) -> Result<VariableType, AllocError>
+    requires { level < 2 ^ 28 }
     ensures code { IfOk result (λ kind. code.new.items ≡ code.old.items ++ instruction.Constant (register_at level (kinds.Integer value.kind)) value ∷ []) }
     ensures kind { IfOk result (λ kind. kind ≡ kinds.Integer value.kind) }
     ensures longer { OnErr result (IsLonger code.old.items code.new.items) }
 {
     let kind = VariableType::Integer(value.kind());
-    let to = register_at(level, kind)?;
+    let to = register_at(level, kind);
     add(code, Instruction::Constant { to, value })?;
     Ok(kind)
 }
@@ -53,14 +54,16 @@ pub(crate) fn variable(
     name: u32,
     code: &mut Vec<Instruction>,
 ) -> Result<VariableType, AllocError>
+    requires free { free_level scope.now ≤ level }
+    requires low { level < 2 ^ 28 }
     ensures code { IfOk result (λ kind. code.new.items
         ≡ code.old.items ++ expressions.variable_code (register_at level (expressions.kind_named scope.now name)) (register_of scope.now name) name) }
     ensures kind { IfOk result (λ kind. kind ≡ expressions.kind_named scope.now name) }
     ensures longer { OnErr result (IsLonger code.old.items code.new.items) }
 {
     let kind = scope.kind(name);
-    let to = register_at(level, kind)?;
-    match scope.register(name)? {
+    let to = register_at(level, kind);
+    match scope.register(name) {
         Some(from) => add(code, Instruction::Move { to, from, name })?,
         None => {
             add(code, Instruction::Unset { to })?;
@@ -77,12 +80,13 @@ pub(crate) fn offset(
     index: VariableType,
     code: &mut Vec<Instruction>,
 ) -> Result<(), AllocError>
+    requires { level + 1 < 2 ^ 28 }
     ensures code { OnOk result (code.new.items
         ≡ code.old.items ++ instruction.Offset (register_at level pointer) (register_at level pointer) (register_at (level + 1) index) ∷ []) }
     ensures longer { OnErr result (IsLonger code.old.items code.new.items) }
 {
-    let pointer = register_at(level, pointer)?;
-    let index = register_at(level_above(level)?, index)?;
+    let pointer = register_at(level, pointer);
+    let index = register_at(level + 1, index);
     add(
         code,
         Instruction::Offset {
@@ -99,14 +103,15 @@ pub(crate) fn load(
     pointer: VariableType,
     code: &mut Vec<Instruction>,
 ) -> Result<VariableType, AllocError>
+    requires { level < 2 ^ 28 }
     ensures code { IfOk result (λ kind. code.new.items
         ≡ code.old.items ++ instruction.Load (register_at level (kinds.Integer (next.base_type pointer))) (register_at level pointer) ∷ []) }
     ensures kind { IfOk result (λ kind. kind ≡ kinds.Integer (next.base_type pointer)) }
     ensures longer { OnErr result (IsLonger code.old.items code.new.items) }
 {
     let kind = VariableType::Integer(base_type(pointer));
-    let to = register_at(level, kind)?;
-    let pointer = register_at(level, pointer)?;
+    let to = register_at(level, kind);
+    let pointer = register_at(level, pointer);
     add(code, Instruction::Load { to, pointer })?;
     Ok(kind)
 }
@@ -119,10 +124,11 @@ pub fn private_load(
     index: u32,
     code: &mut Vec<Instruction>,
 ) -> Result<(), AllocError>
+    requires { free_level scope.now ≤ 2 ^ 28 }
     ensures code { OnOk result (code.new.items ≡ code.old.items ++ expressions.private_load scope.now to name index ∷ []) }
     ensures longer { OnErr result (IsLonger code.old.items code.new.items) }
 {
-    let array = scope.level(name)?;
+    let array = scope.level(name);
     let element = base_type(scope.kind(name));
     add(
         code,
@@ -144,14 +150,16 @@ pub(crate) fn array_element(
     index: VariableType,
     code: &mut Vec<Instruction>,
 ) -> Result<VariableType, AllocError>
+    requires free { free_level scope.now ≤ level }
+    requires low { level < 2 ^ 28 }
     ensures code { IfOk result (λ kind. code.new.items ≡ code.old.items
         ++ expressions.private_load scope.now (register_at level (kinds.Integer (expressions.type_of_elements scope.now name))) name (register_at level index) ∷ []) }
     ensures kind { IfOk result (λ kind. kind ≡ kinds.Integer (expressions.type_of_elements scope.now name)) }
     ensures longer { OnErr result (IsLonger code.old.items code.new.items) }
 {
     let kind = VariableType::Integer(base_type(scope.kind(name)));
-    let to = register_at(level, kind)?;
-    let index = register_at(level, index)?;
+    let to = register_at(level, kind);
+    let index = register_at(level, index);
     private_load(scope, to, name, index, code)?;
     Ok(kind)
 }
@@ -164,10 +172,11 @@ pub fn private_store(
     value: u32,
     code: &mut Vec<Instruction>,
 ) -> Result<(), AllocError>
+    requires { free_level scope.now ≤ 2 ^ 28 }
     ensures code { OnOk result (code.new.items ≡ code.old.items ++ expressions.private_store scope.now name index value ∷ []) }
     ensures longer { OnErr result (IsLonger code.old.items code.new.items) }
 {
-    let array = scope.level(name)?;
+    let array = scope.level(name);
     let kind = scope.kind(name);
     let element = base_type(kind);
     add(
@@ -188,10 +197,11 @@ pub(crate) fn point(
     pointer: VariableType,
     code: &mut Vec<Instruction>,
 ) -> Result<(), AllocError>
+    requires { level < 2 ^ 28 }
     ensures code { OnOk result (code.new.items ≡ code.old.items ++ instruction.Point (register_at level pointer) (register_at level pointer) ∷ []) }
     ensures longer { OnErr result (IsLonger code.old.items code.new.items) }
 {
-    let from = register_at(level, pointer)?;
+    let from = register_at(level, pointer);
     add(code, Instruction::Point { to: from, from })
 }
 
@@ -202,14 +212,15 @@ pub(crate) fn unary(
     operand: VariableType,
     code: &mut Vec<Instruction>,
 ) -> Result<VariableType, AllocError>
+    requires { level < 2 ^ 28 }
     ensures code { IfOk result (λ kind. code.new.items
         ≡ code.old.items ++ instruction.Unary (register_at level (kinds.Integer (operations.unary_kind operator (next.base_type operand)))) operator (register_at level operand) ∷ []) }
     ensures kind { IfOk result (λ kind. kind ≡ kinds.Integer (operations.unary_kind operator (next.base_type operand))) }
     ensures longer { OnErr result (IsLonger code.old.items code.new.items) }
 {
     let kind = VariableType::Integer(unary_kind(operator, base_type(operand)));
-    let to = register_at(level, kind)?;
-    let operand = register_at(level, operand)?;
+    let to = register_at(level, kind);
+    let operand = register_at(level, operand);
     add(
         code,
         Instruction::Unary {
@@ -228,14 +239,15 @@ pub(crate) fn cast(
     operand: VariableType,
     code: &mut Vec<Instruction>,
 ) -> Result<VariableType, AllocError>
+    requires { level < 2 ^ 28 }
     ensures code { IfOk result (λ kind. code.new.items
         ≡ code.old.items ++ instruction.Convert (register_at level (kinds.Integer target)) (register_at level operand) target ∷ []) }
     ensures kind { IfOk result (λ kind. kind ≡ kinds.Integer target) }
     ensures longer { OnErr result (IsLonger code.old.items code.new.items) }
 {
     let kind = VariableType::Integer(target);
-    let to = register_at(level, kind)?;
-    let from = register_at(level, operand)?;
+    let to = register_at(level, kind);
+    let from = register_at(level, operand);
     add(
         code,
         Instruction::Convert {
@@ -262,13 +274,14 @@ pub(crate) fn call(
     arguments: &Arguments,
     code: &mut Vec<Instruction>,
 ) -> Result<VariableType, AllocError>
+    requires { level < 2 ^ 28 }
     ensures code { IfOk result (λ kind. code.new.items
         ≡ code.old.items ++ expressions.call_code function (register_at level (kinds.Integer (next.call_type function arguments.now.kind))) arguments.now.registers.items) }
     ensures kind { IfOk result (λ kind. kind ≡ kinds.Integer (next.call_type function arguments.now.kind)) }
     ensures longer { OnErr result (IsLonger code.old.items code.new.items) }
 {
     let kind = VariableType::Integer(call_type(function, arguments.kind));
-    let to = register_at(level, kind)?;
+    let to = register_at(level, kind);
     add(
         code,
         value_call(function, to, arguments.registers.as_slice()),

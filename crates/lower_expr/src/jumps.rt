@@ -1,7 +1,7 @@
 //! The jumps of the operators that evaluate only what they choose (OpenCL 1.2, sections 6.3.g and 6.3.i).
 #![tactic(auto, using(crate::proofs::Growth::unchanged, crate::proofs::Growth::behind))]
 
-ghost use Rattle.std.specs.Prelude.{◌≡◌, ℕ, ◌+◌, ◌<◌, ◌≤◌, [], ◌∷◌, ◌++◌, List, length, IfOk, OnOk, OnErr, slice_set};
+ghost use Rattle.std.specs.Prelude.{◌≡◌, ℕ, ◌+◌, ◌-◌, ◌<◌, ◌≤◌, ◌^◌, [], ◌∷◌, ◌++◌, List, length, IfOk, OnOk, OnErr, slice_set};
 ghost use Rattle.clnum.specs.Conversions.{common};
 ghost use Rattle.clnum.specs.declared.int_type.IntType.TheVariants as integer;
 ghost use Rattle.clmodel.specs.Next.{infix_type, base_type};
@@ -13,7 +13,7 @@ ghost use Rattle.lower_expr.specs.Expressions.{truth_code, infix_begun, infix_co
 ghost use Rattle.lower_expr.specs.Growth.{IsLonger};
 
 use crate::instructions::add;
-use crate::scope::{level_above, register_at, word};
+use crate::scope::register_at;
 use crate::types::{base_type, infix_type};
 use clmodel::tree::{InfixOperator, VariableType};
 use clnum::{BinaryOperator, IntType, Value};
@@ -27,11 +27,12 @@ pub fn begin_infix(
     first: VariableType,
     code: &mut Vec<Instruction>,
 ) -> Result<usize, AllocError>
+    requires { level < 2 ^ 28 }
     ensures code { OnOk result (code.new.items ≡ code.old.items ++ infix_begun operator (register_at level first)) }
     ensures place { IfOk result (λ place. place ≡ length code.new.items) }
     ensures longer { OnErr result (IsLonger code.old.items code.new.items) }
 {
-    let test = register_at(level, first)?;
+    let test = register_at(level, first);
     match operator {
         InfixOperator::Arithmetic(_) => {}
         InfixOperator::LogicalAnd => add(code, Instruction::JumpIfZero { test, by: 0 })?,
@@ -97,11 +98,12 @@ fn logical_and(
 ) -> Result<(), AllocError>
     requires begun { 0 < place }
     requires inside { place ≤ length code.old.items }
+    requires near { length code.old.items - place + 3 < 2 ^ 32 }
     ensures code { OnOk result ((before right : List Instruction) → code.old.items ≡ before ++ (instruction.JumpIfZero first 0 ∷ right) → place ≡ length before + 1
         → code.new.items ≡ before ++ (instruction.JumpIfZero first (length right + 3) ∷ (right ++ instruction.JumpIfZero second 2 ∷ truth_code to))) }
     ensures longer { OnErr result (IsLonger code.old.items code.new.items) }
 {
-    let by = word(code.len() - place + 3)?;
+    let by = (code.len() - place + 3) as u32;
     add(
         code,
         Instruction::JumpIfZero {
@@ -123,11 +125,12 @@ fn logical_or(
 ) -> Result<(), AllocError>
     requires begun { 0 < place }
     requires inside { place ≤ length code.old.items }
+    requires near { length code.old.items - place + 1 < 2 ^ 32 }
     ensures code { OnOk result ((before right : List Instruction) → code.old.items ≡ before ++ (instruction.Jump 0 ∷ right) → place ≡ length before + 1
         → code.new.items ≡ before ++ (instruction.Jump (length right + 1) ∷ (right ++ instruction.JumpIfZero second 2 ∷ truth_code to))) }
     ensures longer { OnErr result (IsLonger code.old.items code.new.items) }
 {
-    let by = word(code.len() - place + 1)?;
+    let by = (code.len() - place + 1) as u32;
     add(
         code,
         Instruction::JumpIfZero {
@@ -149,8 +152,10 @@ pub fn end_infix(
     place: usize,
     code: &mut Vec<Instruction>,
 ) -> Result<VariableType, AllocError>
+    requires low { level + 1 < 2 ^ 28 }
     requires begun { length (infix_begun operator 0) ≤ place }
     requires inside { place ≤ length code.old.items }
+    requires near { length code.old.items - place + 3 < 2 ^ 32 }
     ensures code { OnOk result ((before right : List Instruction) → code.old.items ≡ before ++ (infix_begun operator (register_at level first) ++ right)
         → place ≡ length before + length (infix_begun operator 0)
         → code.new.items ≡ before ++ infix_code operator (register_at level (infix_type operator first second)) (register_at level first) (register_at (level + 1) second) right) }
@@ -158,9 +163,9 @@ pub fn end_infix(
     ensures longer { OnErr result (IsLonger code.old.items code.new.items) }
 {
     let kind = infix_type(operator, first, second);
-    let to = register_at(level, kind)?;
-    let left = register_at(level, first)?;
-    let right = register_at(level_above(level)?, second)?;
+    let to = register_at(level, kind);
+    let left = register_at(level, first);
+    let right = register_at(level + 1, second);
     match operator {
         InfixOperator::Arithmetic(operator) => arithmetic(operator, to, left, right, code)?,
         InfixOperator::LogicalAnd => logical_and(to, left, right, place, code)?,
@@ -175,11 +180,12 @@ pub fn begin_choice(
     condition: VariableType,
     code: &mut Vec<Instruction>,
 ) -> Result<usize, AllocError>
+    requires { level < 2 ^ 28 }
     ensures code { OnOk result (code.new.items ≡ code.old.items ++ instruction.JumpIfZero (register_at level condition) 0 ∷ []) }
     ensures place { IfOk result (λ place. place ≡ length code.new.items) }
     ensures longer { OnErr result (IsLonger code.old.items code.new.items) }
 {
-    let test = register_at(level, condition)?;
+    let test = register_at(level, condition);
     add(code, Instruction::JumpIfZero { test, by: 0 })?;
     Ok(code.len())
 }
@@ -212,9 +218,11 @@ pub fn end_choice(
     second: usize,
     code: &mut Vec<Instruction>,
 ) -> Result<VariableType, AllocError>
+    requires low { level < 2 ^ 28 }
     requires begun { 0 < first }
     requires between { first + 2 ≤ second }
     requires inside { second ≤ length code.old.items }
+    requires near { length code.old.items - first + 1 < 2 ^ 32 }
     ensures code { OnOk result ((before one other : List Instruction)
         → code.old.items ≡ before ++ (instruction.JumpIfZero (register_at level condition) 0 ∷ (one ++ (instruction.Common 0 0 integer.Int ∷ instruction.Jump 0 ∷ other)))
         → first ≡ length before + 1 → second ≡ first + length one + 2
@@ -225,10 +233,10 @@ pub fn end_choice(
     ensures longer { OnErr result (IsLonger code.old.items code.new.items) }
 {
     let kind = VariableType::Integer(base_type(chosen).common(base_type(otherwise)));
-    let to = register_at(level, kind)?;
-    let test = register_at(level, condition)?;
-    let one = register_at(level, chosen)?;
-    let from = register_at(level, otherwise)?;
+    let to = register_at(level, kind);
+    let test = register_at(level, condition);
+    let one = register_at(level, chosen);
+    let from = register_at(level, otherwise);
     add(
         code,
         Instruction::Common {
@@ -237,8 +245,8 @@ pub fn end_choice(
             other: base_type(chosen),
         },
     )?;
-    let past = word(code.len() - second)?;
-    let by = word(second - first)?;
+    let past = (code.len() - second) as u32;
+    let by = (second - first) as u32;
     code[second - 2] = Instruction::Common {
         to,
         from: one,

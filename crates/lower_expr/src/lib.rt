@@ -3,8 +3,9 @@
 //! Code is written forward, since the type of a value, which its register depends on, is known only behind its operands. A jump past what
 //! isn't written yet is written as a jump by 0, and set once that stands.
 //!
-//! An error is want of memory, or a number above 32 bits: a register of level 2^28 or above, or a jump past 2^32 instructions. Code that was
-//! lent is only longer then: it begins with what was there.
+//! An error is want of memory. Code that was lent is only longer then: it begins with what was there. The levels below 2^28 have registers, and
+//! an expression needs no more levels than it has nodes; so each function asks that its level and the nodes are below that. Then each jump has a
+//! length of 32 bits too, since a node has at most six instructions.
 #![tactic(auto)]
 
 pub mod destinations;

@@ -1,7 +1,7 @@
 //! The variables in scope, and the registers of values.
 #![tactic(auto)]
 
-ghost use Rattle.std.specs.Prelude.{◌≡◌, ℕ, ◌+◌, ◌<◌, [], ◌∷◌, None, length, drop, IfOk, OnOk, OnErr};
+ghost use Rattle.std.specs.Prelude.{◌≡◌, ℕ, ◌+◌, ◌<◌, ◌≤◌, ◌^◌, [], ◌∷◌, None, length, drop, IfOk, OnOk, OnErr};
 ghost use Rattle.clmodel.specs.Next as next;
 ghost use Rattle.lower_expr.specs.Scope as spec;
 ghost use Rattle.lower_expr.specs.Expressions as expressions;
@@ -13,47 +13,23 @@ use indexmap::IndexMap;
 use std::alloc::{AllocError, Global};
 use std::marker::Model;
 
-/// The number of an integer type, below 8.
-fn integer_number(kind: IntType) -> u32
-    ensures value { result ≡ spec.integer_number kind }
-    ensures below { result < 8 }
-{
-    match kind {
-        IntType::Char => 0,
-        IntType::Uchar => 1,
-        IntType::Short => 2,
-        IntType::Ushort => 3,
-        IntType::Int => 4,
-        IntType::Uint => 5,
-        IntType::Long => 6,
-        IntType::Ulong => 7,
-    }
-}
-
 /// The number of a type, below 16.
 fn kind_number(kind: VariableType) -> u32
     ensures value { result ≡ spec.kind_number kind }
     ensures below { result < 16 }
 {
     match kind {
-        VariableType::Integer(kind) => integer_number(kind),
-        VariableType::Pointer(pointer) => 8 + integer_number(pointer.element),
+        VariableType::Integer(kind) => kind.number(),
+        VariableType::Pointer(pointer) => 8 + pointer.element.number(),
     }
 }
 
-/// The register of a type at a level. Err where the level is 2^28 or above, which has no registers.
-pub fn register_at(level: u32, kind: VariableType) -> Result<u32, AllocError>
-    ensures { IfOk result (λ register. register ≡ spec.register_at level kind) }
+/// The register of a type at a level. Levels from 2^28 on have none.
+pub fn register_at(level: u32, kind: VariableType) -> u32
+    requires { level < 2 ^ 28 }
+    ensures { result ≡ spec.register_at level kind }
 {
-    let first = level.checked_mul(16).ok_or(AllocError)?;
-    first.checked_add(kind_number(kind)).ok_or(AllocError)
-}
-
-/// The level above another. Err where it is 2^32.
-pub fn level_above(level: u32) -> Result<u32, AllocError>
-    ensures { IfOk result (λ above. above ≡ level + 1) }
-{
-    level.checked_add(1).ok_or(AllocError)
+    16 * level + kind_number(kind)
 }
 
 /// A count as a number of 32 bits. Err where it is 2^32 or above.
@@ -66,12 +42,12 @@ pub fn word(count: usize) -> Result<u32, AllocError>
     Ok(count as u32)
 }
 
-/// The level `count` above another. Err where it is 2^32 or above.
-pub fn level_at(base: u32, count: usize) -> Result<u32, AllocError>
-    ensures { IfOk result (λ level. level ≡ base + count) }
+/// The level `count` above another.
+pub fn level_at(base: u32, count: usize) -> u32
+    requires { base + count < 2 ^ 32 }
+    ensures { result ≡ base + count }
 {
-    let count = word(count)?;
-    base.checked_add(count).ok_or(AllocError)
+    base + count as u32
 }
 
 /// A variable: its name, its declared type, and how many elements it has, if it is a private array; its type is that of the elements then.
@@ -246,32 +222,33 @@ impl Scope {
         }
     }
 
-    /// The level of the innermost variable of a name, which is the number of its private array; the lowest where there is none. Err
-    /// where the level is 2^32 or above.
-    pub(crate) fn level(&self, name: u32) -> Result<u32, AllocError>
-        ensures { IfOk result (λ level. level ≡ spec.level_of self.now name) }
+    /// The level of the innermost variable of a name, which is the number of its private array; the lowest where there is none.
+    pub(crate) fn level(&self, name: u32) -> u32
+        requires { spec.free_level self.now ≤ 2 ^ 28 }
+        ensures { result ≡ spec.level_of self.now name }
     {
         match self.place(name) {
             Some(place) => level_at(self.base, place),
-            None => Ok(self.base),
+            None => self.base,
         }
     }
 
-    /// The register of the innermost variable of a name. Err where its level is 2^28 or above.
-    pub fn register(&self, name: u32) -> Result<Option<u32>, AllocError>
-        ensures { IfOk result (λ register. register ≡ spec.register_of self.now name) }
+    /// The register of the innermost variable of a name.
+    pub fn register(&self, name: u32) -> Option<u32>
+        requires { spec.free_level self.now ≤ 2 ^ 28 }
+        ensures { result ≡ spec.register_of self.now name }
     {
         let Some(place) = self.place(name) else {
-            return Ok(None);
+            return None;
         };
-        let level = level_at(self.base, place)?;
-        let register = register_at(level, self.entries[place].variable.kind)?;
-        Ok(Some(register))
+        let level = level_at(self.base, place);
+        Some(register_at(level, self.entries[place].variable.kind))
     }
 
-    /// The first level that is free. Err where it is 2^32 or above.
-    pub fn free_level(&self) -> Result<u32, AllocError>
-        ensures { IfOk result (λ level. level ≡ spec.free_level self.now) }
+    /// The first level that is free.
+    pub fn free_level(&self) -> u32
+        requires { spec.free_level self.now ≤ 2 ^ 28 }
+        ensures { result ≡ spec.free_level self.now }
     {
         level_at(self.base, self.entries.len())
     }

@@ -1,10 +1,11 @@
 -- How the parts of a line and the lines of code are put together.
 use Rattle.std.proofs.Common.{◌≡◌, ℕ, ◌+◌, ◌<◌, suc, List, [], ◌∷◌, ◌++◌, codes, length, take, drop, get_or, Result, ap, sym, subst, ◌∙◌, append_assoc, arith}
 use Rattle.std.proofs.lemmas.List.{append-nil, take_more, take-append-drop, length-take}
+use Rattle.ends.specs.Pieces.{joined}
 use Rattle.ends.specs.Sink.{Sink, Wrote, Stopped, Puts}
 use Rattle.ends.proofs.Puts.{wrote_then, stopped_then, stopped_more}
 use Rattle.regcode.specs.declared.instruction.Instruction.{Instruction}
-use Rattle.regcode.specs.Text.{joined, line_of, lines_from}
+use Rattle.regcode.specs.Text.{line_of, lines_from}
 
 -- the text of a line, by what is written of it one after another
 abbrev pub written_line : (place word first second third fourth : List ℕ) → List ℕ

@@ -174,9 +174,9 @@ module _ (code : Listing) where
   in_tables (instruction.Store pointer value) h =
       record { reads = (register pointer (pointer_there _ h.0), (register value (integer_there _ h.1), tt)); writes = tt; arrays = tt; objects = tt; names = tt; parameters = tt }
   in_tables (instruction.Update function pointer None) h =
-      record { reads = (register pointer (atomic_there _ h), tt); writes = tt; arrays = tt; objects = tt; names = tt; parameters = tt }
+      record { reads = (register pointer (atomic_there _ h.1), tt); writes = tt; arrays = tt; objects = tt; names = tt; parameters = tt }
   in_tables (instruction.Update function pointer (Some value)) h =
-      record { reads = (register pointer (atomic_there _ h.0), (register value (integer_there _ h.1), tt)); writes = tt; arrays = tt; objects = tt; names = tt; parameters = tt }
+      record { reads = (register pointer (atomic_there _ h.1), (register value (integer_there _ h.2), tt)); writes = tt; arrays = tt; objects = tt; names = tt; parameters = tt }
   in_tables (instruction.Fetch to function pointer given) h =
       record { reads = (register pointer (fetched_there _ _ h.0), operand_registers given h.1); writes = (target to _ h.0, tt); arrays = tt; objects = tt; names = tt; parameters = tt }
   in_tables (instruction.Barrier site depth fences) h = record { reads = tt; writes = tt; arrays = tt; objects = tt; names = tt; parameters = tt }

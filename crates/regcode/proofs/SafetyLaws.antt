@@ -417,12 +417,12 @@ module _ (code : Listing) (s : State) (suits : Suits code s) where
         store_safe _ _ on after q v _ (subst (λ k. IsTrue (is_integer k)) (suits.typed value v e') fits.1) (after_at _ (onward_next _ (omega arith) goes)))))
     does (instruction.Update function pointer None) fits named goes =
         known_safe _ _ on after _ _ _ (λ p e.
-        update_by_one_safe _ _ on after function p _ (subst (λ k. IsTrue (is_atomic k)) (suits.typed pointer p e) fits) (after_at _ (onward_next _ (omega arith) goes)))
+        update_by_one_safe _ _ on after function p _ (subst (λ k. IsTrue (is_atomic k)) (suits.typed pointer p e) fits.1) (after_at _ (onward_next _ (omega arith) goes)))
     does (instruction.Update function pointer (Some value)) fits named goes =
         known_safe _ _ on after _ _ _ (λ p e.
         known_safe _ _ on after _ _ _ (λ v e'.
-        update_safe _ _ on after function p v _ (subst (λ k. IsTrue (is_atomic k)) (suits.typed pointer p e) fits.0)
-        (subst (λ k. IsTrue (is_integer k)) (suits.typed value v e') fits.1) (after_at _ (onward_next _ (omega arith) goes))))
+        update_safe _ _ on after function p v _ (subst (λ k. IsTrue (is_atomic k)) (suits.typed pointer p e) fits.1)
+        (subst (λ k. IsTrue (is_integer k)) (suits.typed value v e') fits.2) (after_at _ (onward_next _ (omega arith) goes))))
     does (instruction.Fetch to function pointer operands.Alone) fits named goes =
         known_safe _ _ on after _ _ _ (λ p e.
         fetch_alone_safe _ _ on after function p _ (kind_at code to) (subst (λ k. Takes (kind_at code to) (fetched_kind k)) (suits.typed pointer p e) fits.0)

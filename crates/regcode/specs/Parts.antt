@@ -1,17 +1,10 @@
 -- The text of the parts of a line.
 use Rattle.std.specs.Prelude.{ℕ, Option, None, Some, List, [], ◌∷◌, ◌++◌, codes, decimal}
-use Rattle.std.specs.Fmt.{signed_decimal}
 use Rattle.regcode.specs.declared.dumping.Part.{Part}
 use Rattle.regcode.specs.declared.dumping.Part.TheVariants as part
-use Rattle.regcode.specs.declared.dumping.Piece.{Piece}
-use Rattle.regcode.specs.declared.dumping.Piece.TheVariants as piece
 use Rattle.clnum.specs.Integer.{type_word}
-use Rattle.regcode.specs.Text.{joined, fences_word, register, pointed, private, typed, variable_type}
-
-abbrev pub piece_text : Piece → List ℕ
-piece_text (piece.Word word) = word.now
-piece_text (piece.Number number) = decimal number
-piece_text (piece.Signed number) = signed_decimal number
+use Rattle.ends.specs.Pieces.{joined}
+use Rattle.regcode.specs.Text.{fences_word, register, pointed, private, typed, variable_type}
 
 abbrev pub part_text : Part → List ℕ
 part_text (part.Register r) = register r

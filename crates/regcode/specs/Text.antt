@@ -2,6 +2,7 @@
 use Rattle.std.specs.Prelude.{ℕ, ◌+◌, ◌-◌, suc, if◌then◌else◌, Option, None, Some, List, [], ◌∷◌, ◌++◌, codes, decimal}
 use Rattle.std.specs.Fmt.{signed_decimal}
 use Rattle.std.specs.List.{flat_map}
+use Rattle.ends.specs.Pieces.{joined}
 use Rattle.clnum.specs.declared.operators.BinaryOperator.{BinaryOperator}
 use Rattle.clnum.specs.declared.operators.BinaryOperator.TheVariants as binary
 use Rattle.clnum.specs.declared.operators.Builtin.{Builtin}
@@ -22,11 +23,6 @@ use Rattle.regcode.specs.declared.instruction.FetchOperands.{FetchOperands}
 use Rattle.regcode.specs.declared.instruction.FetchOperands.TheVariants as operands
 use Rattle.regcode.specs.declared.instruction.Instruction.{Instruction}
 use Rattle.regcode.specs.declared.instruction.Instruction.TheVariants as instruction
-
--- texts one after another
-abbrev pub joined : List (List ℕ) → List ℕ
-joined [] = []
-joined (part ∷ parts) = part ++ joined parts
 
 -- ---- words
 

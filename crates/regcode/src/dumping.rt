@@ -2,10 +2,9 @@
 #![tactic(auto)]
 
 ghost use Rattle.std.specs.Prelude.{◌≡◌, ◌+◌, ◌-◌, ◌<◌, ◌^◌, Some};
-ghost use Rattle.std.specs.List.{flat_map};
 ghost use Rattle.ends.specs.Sink.{Puts};
 ghost use Rattle.regcode.specs.declared.dumping.Part.TheVariants as part;
-ghost use Rattle.regcode.specs.Parts.{piece_text, part_text, behind, parts_text};
+ghost use Rattle.regcode.specs.Parts.{part_text, behind, parts_text};
 ghost use Rattle.regcode.specs.Text.{listed, names_in, line_of, text_of, variable_type};
 
 use crate::code::Code;
@@ -14,8 +13,8 @@ use crate::words::{fences_word, instruction_word, space_word};
 use clmodel::action::Fences;
 use clmodel::tree::VariableType;
 use clnum::{IntType, Value};
+use ends::pieces::{Piece, write_number, write_pieces};
 use ends::{Write, WriteFailed};
-use itoa::Buffer;
 
 /// Why code was not dumped.
 #[derive(Clone, Copy, Debug, PartialEq, Eq)]
@@ -41,16 +40,6 @@ enum Part {
 
 /// What an instruction names, one after another.
 type Parts = (Option<Part>, Option<Part>, Option<Part>, Option<Part>);
-
-/// A piece of a line.
-#[derive(Clone, Copy)]
-enum Piece {
-    Word(&'static str),
-    /// In decimal
-    Number(u64),
-    /// In decimal, with a sign where it is below 0
-    Signed(i128),
-}
 
 /// What the instruction at a place names. Jumps name the place that they lead to.
 fn parts(place: usize, instruction: &Instruction) -> Parts
@@ -242,41 +231,20 @@ fn back(place: usize, by: u32) -> Option<Part>
     Some(Part::Number((place as u64).saturating_sub(u64::from(by))))
 }
 
-/// Writes a piece of a line.
-fn write_piece<W: Write>(piece: Piece, writer: &mut W) -> Result<(), WriteFailed>
-    ensures { Puts (W.sink writer.old) result (W.sink writer.new) (piece_text piece) }
-{
-    match piece {
-        Piece::Word(word) => writer.write(word.as_bytes()),
-        Piece::Number(number) => writer.write(Buffer::new().format(number).as_bytes()),
-        Piece::Signed(number) => writer.write(Buffer::new().format(number).as_bytes()),
-    }
-}
-
-/// Writes pieces one after another.
-fn write_pieces<W: Write>(pieces: &[Piece], writer: &mut W) -> Result<(), WriteFailed>
-    ensures { Puts (W.sink writer.old) result (W.sink writer.new) (flat_map piece_text pieces.now) }
-{
-    for piece in pieces {
-        write_piece(*piece, writer)?;
-    }
-    Ok(())
-}
-
 /// Writes a variable's type.
 fn write_variable<W: Write>(kind: VariableType, writer: &mut W) -> Result<(), WriteFailed>
     ensures { Puts (W.sink writer.old) result (W.sink writer.new) (variable_type kind) }
 {
     match kind {
-        VariableType::Integer(kind) => write_piece(Piece::Word(kind.name()), writer),
+        VariableType::Integer(kind) => writer.write(kind.name().as_bytes()),
         VariableType::Pointer(pointer) => {
             let constant = if pointer.is_const { "const " } else { "" };
             write_pieces(
                 &[
-                    Piece::Word(space_word(pointer.space)),
-                    Piece::Word(constant),
-                    Piece::Word(pointer.element.name()),
-                    Piece::Word(" *"),
+                    Piece::Text(space_word(pointer.space)),
+                    Piece::Text(constant),
+                    Piece::Text(pointer.element.name()),
+                    Piece::Text(" *"),
                 ],
                 writer,
             )
@@ -290,54 +258,50 @@ fn write_part<W: Write>(part: Part, writer: &mut W) -> Result<(), WriteFailed>
 {
     match part {
         Part::Register(number) => write_pieces(
-            &[Piece::Word("r"), Piece::Number(u64::from(number))],
+            &[Piece::Text("r"), Piece::Number32(number)],
             writer,
         ),
         Part::Element(number) => write_pieces(
-            &[
-                Piece::Word("[r"),
-                Piece::Number(u64::from(number)),
-                Piece::Word("]"),
-            ],
+            &[Piece::Text("[r"), Piece::Number32(number), Piece::Text("]")],
             writer,
         ),
         Part::Private { array, index } => write_pieces(
             &[
-                Piece::Word("a"),
-                Piece::Number(u64::from(array)),
-                Piece::Word("[r"),
-                Piece::Number(u64::from(index)),
-                Piece::Word("]"),
+                Piece::Text("a"),
+                Piece::Number32(array),
+                Piece::Text("[r"),
+                Piece::Number32(index),
+                Piece::Text("]"),
             ],
             writer,
         ),
-        Part::Number(number) => write_piece(Piece::Number(number), writer),
+        Part::Number(number) => write_number(number, writer),
         Part::Value(value) => write_pieces(
             &[
-                Piece::Word(value.kind().name()),
-                Piece::Word(" "),
+                Piece::Text(value.kind().name()),
+                Piece::Text(" "),
                 Piece::Signed(value.number()),
             ],
             writer,
         ),
-        Part::Type(kind) => write_piece(Piece::Word(kind.name()), writer),
+        Part::Type(kind) => writer.write(kind.name().as_bytes()),
         Part::Variable(kind) => write_variable(kind, writer),
-        Part::Fences(fences) => write_piece(Piece::Word(fences_word(fences)), writer),
+        Part::Fences(fences) => writer.write(fences_word(fences).as_bytes()),
     }
 }
 
 /// Writes what an instruction names, if it names something here, behind what stands in front of it.
 fn write_behind<W: Write>(
-    front: Piece,
+    front: &str,
     part: Option<Part>,
     writer: &mut W,
 ) -> Result<(), WriteFailed>
-    ensures { Puts (W.sink writer.old) result (W.sink writer.new) (behind (piece_text front) part) }
+    ensures { Puts (W.sink writer.old) result (W.sink writer.new) (behind front.now part) }
 {
     let Some(part) = part else {
         return Ok(());
     };
-    write_piece(front, writer)?;
+    writer.write(front.as_bytes())?;
     write_part(part, writer)
 }
 
@@ -353,16 +317,16 @@ fn write_line<W: Write>(
     write_pieces(
         &[
             Piece::Number(place as u64),
-            Piece::Word(" "),
-            Piece::Word(instruction_word(instruction)),
+            Piece::Text(" "),
+            Piece::Text(instruction_word(instruction)),
         ],
         writer,
     )?;
     let (first, second, third, fourth) = parts(place, instruction);
-    write_behind(Piece::Word(" "), first, writer)?;
-    write_behind(Piece::Word(", "), second, writer)?;
-    write_behind(Piece::Word(", "), third, writer)?;
-    write_behind(Piece::Word(", "), fourth, writer)?;
+    write_behind(" ", first, writer)?;
+    write_behind(", ", second, writer)?;
+    write_behind(", ", third, writer)?;
+    write_behind(", ", fourth, writer)?;
     writer.write(b"\n")
 }
 

@@ -135,7 +135,7 @@ pub enum Instruction {
         pointer: u32,
         value: u32,
     },
-    /// An atomic update; without a value the function adds or takes 1
+    /// An atomic update, by no exchange and no compare-exchange; without a value the function adds or takes 1
     Update {
         function: AtomicFunction,
         pointer: u32,

@@ -1,11 +1,11 @@
 -- A conflict that a fault tells, and the spots of the log.
-use Rattle.std.proofs.Common.{◌≡◌, ℕ, zero, suc, ◌<◌, ◌⊎◌, ◌==◌, ◌&&◌, ◌||◌, not, Bool, true, false, if◌then◌else◌, Option, None, Some, List, [], ◌∷◌, ◌++◌, length, refl, sym, ap, ap₂, ◌∙◌, subst, inl, inr, arith, eqb-true, eq-eqb}
+use Rattle.std.proofs.Common.{◌≡◌, ℕ, zero, suc, ◌<◌, ◌⊎◌, ◌==◌, ◌&&◌, Bool, true, false, if◌then◌else◌, Option, None, Some, List, [], ◌∷◌, ◌++◌, length, refl, sym, ap, ap₂, ◌∙◌, subst, inl, inr, arith, eqb-true, eq-eqb}
 use Rattle.std.specs.Prelude.{slice_get, reverse}
 use Rattle.std.specs.Bool.{Decides}
-use Rattle.std.proofs.lemmas.Bool.{and_parts, and_from, false≢true}
+use Rattle.std.proofs.lemmas.Bool.{and_parts, and_from, cases_eq, false≢true}
 use Rattle.std.proofs.lemmas.List.{reverse-reverse, reverse-append}
 use Rattle.clmodel.specs.Cells.{byte_count, covers}
-use Rattle.clmodel.specs.Launch.{Launch, same_region, clash, both_store, left_at, same_store, clash_at, group_of, location_of, rule_of, unordered, share, conflict_between, conflict}
+use Rattle.clmodel.specs.Launch.{Launch, clash, both_store, left_at, same_store, clash_at, group_of, location_of, rule_of, unordered, share, conflict_between, conflict}
 use Rattle.clmodel.specs.Law.{Logged, Shows}
 use Rattle.clmodel.specs.Run.{State}
 use Rattle.clmodel.specs.declared.access.Access.{Access}
@@ -17,9 +17,9 @@ use Rattle.clmodel.specs.declared.access.Rule.{Rule}
 use Rattle.clmodel.specs.declared.fault.Fault.TheVariants as fault
 use Rattle.clmodel.specs.declared.fault.Location.{Location}
 use Rattle.clmodel.specs.declared.fault.Location.TheVariants as location
-use Rattle.clmodel.proofs.Conflicts.{Meet}
+use Rattle.clmodel.proofs.Conflicts.{Meet, no_clash, no_conflict}
 use Rattle.clmodel.proofs.Steps.{none_some, some_inj, if_some, if_true}
-use Rattle.clmodel.proofs.Swaps.{same_region_self, same_region-true}
+use Rattle.clmodel.proofs.Swaps.{cases_region}
 use Rattle.replay.specs.Spots.{number_in, HasOther, AnyMeets}
 use Rattle.replay.specs.declared.conflicts.Spot.{Spot}
 
@@ -54,52 +54,27 @@ logged_reverse (y ∷ log) x h = subst (λ z. Logged z x) (sym (reverse-append (
 
 -- ---- two accesses that conflict
 
-and_three : (a b c : Bool) → (a && b && c) ≡ true → (a ≡ true) × (b ≡ true) × (c ≡ true)
-and_three true true true h = (refl, refl, refl)
-and_three true true false h = absurd (false≢true h)
-and_three true false c h = absurd (false≢true h)
-and_three false b c h = absurd (false≢true h)
+-- what is decided holds where it isn't refuted
+stable : {A : Type 0} → A ⊎ (A → ⊥) → ((A → ⊥) → ⊥) → A
+stable (inl a) h = a
+stable (inr n) h = absurd (h n)
 
-and_three_from : (a b c : Bool) → a ≡ true → b ≡ true → c ≡ true → (a && b && c) ≡ true
-and_three_from a b c p q r = ap₂ ◌&&◌ (ap₂ ◌&&◌ p q) r
+cases_true : (b : Bool) → (b ≡ true) ⊎ (b ≡ true → ⊥)
+cases_true true = inl refl
+cases_true false = inr (λ e. false≢true e)
 
-not_parts : (a : Bool) → not a ≡ true → a ≡ true → ⊥
-not_parts true h e = false≢true h
-not_parts false h e = false≢true e
-
-not_made : (a : Bool) → (a ≡ true → ⊥) → not a ≡ true
-not_made true h = absurd (h refl)
-not_made false h = refl
-
-or_at : (a b : Bool) → (not a || b) ≡ true → a ≡ true → b ≡ true
-or_at true b h e = h
-or_at false b h e = absurd (false≢true e)
-
-or_made : (a b : Bool) → (a ≡ true → b ≡ true) → (not a || b) ≡ true
-or_made true b h = h refl
-or_made false b h = refl
-
-meet_parts : (rule : Rule) (x y : Access) (byte : ℕ) → unordered rule x y ≡ true → share x y byte ≡ true → Meet rule x y byte
-meet_parts rule x y byte free both =
-    let u : (not (x.item == y.item) ≡ true) × ((not rule.one_group || (x.interval == y.interval)) ≡ true)
-    = and_parts (not (x.item == y.item)) (not rule.one_group || (x.interval == y.interval)) free in
-    let s : (same_region x.region y.region ≡ true) × (covers x.first (byte_count x.width) byte ≡ true) × (covers y.first (byte_count y.width) byte ≡ true)
-    = and_three (same_region x.region y.region) (covers x.first (byte_count x.width) byte) (covers y.first (byte_count y.width) byte) both in
-    record {
-      items = λ e. not_parts (x.item == y.item) u.0 (eq-eqb x.item y.item e);
-      intervals = λ e. eqb-true x.interval y.interval (or_at rule.one_group (x.interval == y.interval) u.1 e);
-      regions = same_region-true x.region y.region s.0;
-      first_covers = s.1;
-      second_covers = s.2;
-    }
-
-meet_from : (rule : Rule) (x y : Access) (byte : ℕ) → Meet rule x y byte → (unordered rule x y && share x y byte) ≡ true
-meet_from rule x y byte m =
-    and_from (unordered rule x y) (share x y byte)
-    (and_from (not (x.item == y.item)) (not rule.one_group || (x.interval == y.interval)) (not_made (x.item == y.item) (λ e. m.items (eqb-true x.item y.item e)))
-    (or_made rule.one_group (x.interval == y.interval) (λ e. eq-eqb x.interval y.interval (m.intervals e))))
-    (and_three_from (same_region x.region y.region) (covers x.first (byte_count x.width) byte) (covers y.first (byte_count y.width) byte)
-    (ap (same_region x.region) (sym m.regions) ∙ same_region_self x.region) m.first_covers m.second_covers)
+-- two accesses that conflict meet: they aren't without a conflict
+conflict_meets : (l : Launch) (x y : Access) (byte : ℕ) (c : Clash) → conflict l x y byte ≡ Some c → Meet (rule_of l x y) x y byte
+conflict_meets l x y byte c h = record {
+  items = λ e. met (λ m. m.items e);
+  intervals = λ e. stable (cases_eq x.interval y.interval) (λ ne. met (λ m. ne (m.intervals e)));
+  regions = stable (cases_region x.region y.region) (λ ne. met (λ m. ne m.regions));
+  first_covers = stable (cases_true (covers x.first (byte_count x.width) byte)) (λ ne. met (λ m. ne m.first_covers));
+  second_covers = stable (cases_true (covers y.first (byte_count y.width) byte)) (λ ne. met (λ m. ne m.second_covers));
+}
+  where
+    met : (Meet (rule_of l x y) x y byte → ⊥) → ⊥
+    met apart = none_some c (sym (no_conflict l x y byte (λ m. absurd (apart m))) ∙ h)
 
 -- two accesses that clash aren't stores that may meet
 clashing : (same : Bool) (o : Option Clash) (c : Clash) → (if same then None else o) ≡ Some c → (o ≡ Some c) × (same ≡ false)
@@ -116,19 +91,22 @@ conflict_is :
     → Meet (rule_of l x y) x y byte × (clash x.kind y.kind ≡ Some c) × (same_store (rule_of l x y) x y byte ≡ false)
 unfolding conflict conflict_between
 conflict_is l x y byte c h =
-    let r : ((unordered (rule_of l x y) x y && share x y byte) ≡ true) × (clash_at (rule_of l x y) x y byte ≡ Some c) =
-    if_some (unordered (rule_of l x y) x y && share x y byte) (clash_at (rule_of l x y) x y byte) c h in
-    let p : (unordered (rule_of l x y) x y ≡ true) × (share x y byte ≡ true) = and_parts (unordered (rule_of l x y) x y) (share x y byte) r.0 in
-    let q : (clash x.kind y.kind ≡ Some c) × (same_store (rule_of l x y) x y byte ≡ false) = clashing (same_store (rule_of l x y) x y byte) (clash x.kind y.kind) c r.1 in
-    (meet_parts (rule_of l x y) x y byte p.0 p.1, q.0, q.1)
+    let r = if_some (unordered (rule_of l x y) x y && share x y byte) (clash_at (rule_of l x y) x y byte) c h in
+    let q = clashing (same_store (rule_of l x y) x y byte) (clash x.kind y.kind) c r.1 in
+    (conflict_meets l x y byte c h, q.0, q.1)
+
+-- a test that never leaves out what there is
+some_if : {A : Type 0} (b : Bool) (o : Option A) (a : A) → ((if b then o else None) ≡ None → o ≡ None) → o ≡ Some a → (if b then o else None) ≡ Some a
+some_if true o a h e = e
+some_if false o a h e = absurd (none_some a (sym (h refl) ∙ e))
 
 conflict_made :
     (l : Launch) (x y : Access) (byte : ℕ) (c : Clash) → Meet (rule_of l x y) x y byte → clash x.kind y.kind ≡ Some c → same_store (rule_of l x y) x y byte ≡ false
     → conflict l x y byte ≡ Some c
 unfolding conflict conflict_between
 conflict_made l x y byte c m e apart =
-    if_true (unordered (rule_of l x y) x y && share x y byte) (clash_at (rule_of l x y) x y byte) None (meet_from (rule_of l x y) x y byte m)
-    ∙ clash_made (same_store (rule_of l x y) x y byte) (clash x.kind y.kind) c e apart
+    some_if (unordered (rule_of l x y) x y && share x y byte) (clash_at (rule_of l x y) x y byte) c (λ none. no_clash l x y byte none m)
+    (clash_made (same_store (rule_of l x y) x y byte) (clash x.kind y.kind) c e apart)
 
 -- stores that may meet are those that left the same byte, where the two partners are stores of a uniform launch
 apart_stores :

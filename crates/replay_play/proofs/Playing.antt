@@ -1,5 +1,5 @@
 -- Events of items, in what a program keeps of a state.
-use Rattle.std.proofs.Common.{◌≡◌, ℕ, zero, suc, ◌*◌, ◌<◌, ◌≤◌, ◌⊎◌, ℤ, Bool, true, false, ◌&&◌, ◌==◌, nat_lt, Option, None, Some, List, [], ◌∷◌, ◌++◌, length, map, replicate, set, refl, sym, ap, ◌∙◌, subst, inl, inr, arith, lt-ltb, ltb-true, eqb-true, eq-eqb, ne_eqb}
+use Rattle.std.proofs.Common.{◌≡◌, ℕ, zero, suc, ◌*◌, ◌<◌, ◌≤◌, ◌⊎◌, ℤ, Bool, true, false, ◌&&◌, ◌==◌, nat_lt, Option, None, Some, List, [], ◌∷◌, ◌++◌, length, map, replicate, set, refl, sym, ap, ap₂, ◌∙◌, subst, inl, inr, arith, lt-ltb, ltb-true, eqb-true, eq-eqb, ne_eqb}
 use Rattle.std.specs.Prelude.{slice_get, slice_index, if◌then◌else◌, reverse, Result, Ok, Err}
 use Rattle.std.specs.Option.{option_map, option_and_then}
 use Rattle.std.proofs.Math.Path.{fun_ext}
@@ -395,27 +395,33 @@ pub never_read_only :
     (old new : Memory → Type 0) (at : Region) (first : ℕ) (op : Operation) (r : Result Answer SpaceFault) (f : SpaceFault) → r ≡ Err f → f ≡ space_fault.ReadOnly → IsMoved old new at first op r → ⊥
 never_read_only old new at first op r f e q h = subst (IsMoved old new at first op) (e ∙ ap Err q) h
 
--- an operation on the space of an object was done
-pub performed_ok :
-    (l : Launch) (g : ℕ) (m : Memory) (bs ls cs ks : List (List (Option ℕ))) (o : Object) (element : ℤ) (op : Operation) (first : ℕ) (r : Result Answer SpaceFault) (answer : Answer)
-    → Some first ≡ first_byte (length (space_of (λ b. b) bs ls o)) element (size_of op) → r ≡ Ok answer
-    → IsMoved (ObjectsHold (λ b. b) l g bs ls) (ObjectsHold (λ b. b) l g cs ks) (region_of g o) first op r → ObjectsHold (λ b. b) l g bs ls m
-    → IsPerformed l g (ObjectsHold (λ b. b) l g cs ks) m o element op (Some (record { first = first; answer = answer }))
-performed_ok l g m bs ls cs ks o element op first r answer place e moved held =
-    is_done l g m (ObjectsHold (λ b. b) l g cs ks) o element op (record { first = first; answer = answer }) (placed_as l g m bs ls o element op (Some first) place held)
-    (subst (IsMoved (ObjectsHold (λ b. b) l g bs ls) (ObjectsHold (λ b. b) l g cs ks) (region_of g o) first op) e moved m held)
+-- where the code finds an element in `xs` and `ys`, slices of the lists
+placed :
+    (l : Launch) (g : ℕ) (m : Memory) {bs ls xs ys : List (List (Option ℕ))} (o : Object) {element told : ℤ} (op : Operation) {first : ℕ}
+    → Some first ≡ first_byte (length (space_of (λ b. b) xs ys o)) told (size_of op) → told ≡ element → xs ≡ bs → ys ≡ ls → ObjectsHold (λ b. b) l g bs ls m
+    → first_byte (bytes_of l (region_of g o)) element (size_of op) ≡ Some first
+placed l g m {bs} {ls} {xs} {ys} o {element} {told} op {first} at same here there held =
+    placed_as l g m bs ls o element op (Some first)
+    (at
+    ∙ ap (λ z. first_byte (length (space_of (λ b. b) xs ys o)) z (size_of op)) same
+    ∙ ap₂ (λ x y. first_byte (length (space_of (λ b. b) x y o)) element (size_of op)) here there) held
 
--- an operation on the space of an object reads an unset byte
-pub performed_unset :
-    (l : Launch) (g : ℕ) (m : Memory) (bs ls cs ks : List (List (Option ℕ))) (o : Object) (element : ℤ) (op : Operation) (first : ℕ) (r : Result Answer SpaceFault) (f : SpaceFault) (byte : ℕ)
-    → Some first ≡ first_byte (length (space_of (λ b. b) bs ls o)) element (size_of op) → r ≡ Err f → f ≡ space_fault.Unset byte
-    → IsMoved (ObjectsHold (λ b. b) l g bs ls) (ObjectsHold (λ b. b) l g cs ks) (region_of g o) first op r → ObjectsHold (λ b. b) l g bs ls m
-    → IsPerformed l g (ObjectsHold (λ b. b) l g cs ks) m o element op None
-performed_unset l g m bs ls cs ks o element op first r f byte place e q moved held =
-    let h = subst (IsMoved (ObjectsHold (λ b. b) l g bs ls) (ObjectsHold (λ b. b) l g cs ks) (region_of g o) first op) (e ∙ ap Err q) moved m held in (
-      reads_unset l g m o element op first byte (placed_as l g m bs ls o element op (Some first) place held) h.0 h.1,
-      h.2,
-    )
+-- an operation on the space of an object, as the code does it; the lists are `cs` and `ks` after it
+module _
+    (l : Launch) (g : ℕ) (m : Memory) {bs ls cs ks xs ys : List (List (Option ℕ))} (o : Object) {element told : ℤ} (op : Operation) {first : ℕ} {r : Result Answer SpaceFault}
+    (at : Some first ≡ first_byte (length (space_of (λ b. b) xs ys o)) told (size_of op)) (same : told ≡ element) (here : xs ≡ bs) (there : ys ≡ ls)
+    (moved : IsMoved (ObjectsHold (λ b. b) l g bs ls) (ObjectsHold (λ b. b) l g cs ks) (region_of g o) first op r) (held : ObjectsHold (λ b. b) l g bs ls m) where
+  -- it is possible
+  pub performed_ok : (answer : Answer) → r ≡ Ok answer → IsPerformed l g (ObjectsHold (λ b. b) l g cs ks) m o element op (Some (record { first = first; answer = answer }))
+  performed_ok answer e =
+      is_done l g m (ObjectsHold (λ b. b) l g cs ks) o element op (record { first = first; answer = answer }) (placed l g m o op at same here there held)
+      (subst (IsMoved (ObjectsHold (λ b. b) l g bs ls) (ObjectsHold (λ b. b) l g cs ks) (region_of g o) first op) e moved m held)
+
+  -- it reads an unset byte
+  pub performed_unset : (f : SpaceFault) (byte : ℕ) → r ≡ Err f → f ≡ space_fault.Unset byte → IsPerformed l g (ObjectsHold (λ b. b) l g cs ks) m o element op None
+  performed_unset f byte e q =
+      let h = subst (IsMoved (ObjectsHold (λ b. b) l g bs ls) (ObjectsHold (λ b. b) l g cs ks) (region_of g o) first op) (e ∙ ap Err q) moved m held in
+      (reads_unset l g m o element op first byte (placed l g m o op at same here there held) h.0 h.1, h.2)
 
 -- an item's next action in a state
 pub action_as :

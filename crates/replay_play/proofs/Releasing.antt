@@ -21,7 +21,7 @@ use Rattle.clmodel.proofs.Steps.{if_true, if_false, lowest_some, lowest_least, l
 use Rattle.objects.proofs.Lists.{get_set}
 use Rattle.replay_play.specs.Items.{acts_of, AreAlike, AreAt, AreAnswered}
 use Rattle.launches.specs.Groups.{IsRunnable}
-use Rattle.replay_play.specs.States.{IsGroupIn, IsPaced, Tells, Gathers, passed}
+use Rattle.replay_play.specs.States.{ActsNext, IsGroupIn, IsPaced, Tells, Gathers, passed}
 use Rattle.replay_play.specs.declared.group.Group.{Group}
 use Rattle.replay_play.specs.declared.slot.Slot.{Slot}
 use Rattle.replay_play.proofs.Playing.{group_there, action_as}
@@ -95,6 +95,24 @@ pub leads : (l : Launch) (g : ℕ) → 0 < l.group_size → g * l.group_size < l
 leads l g some there =
     found_first (λ item. group_of l item == g) l.items (g * l.group_size) there (eq-eqb (g * l.group_size / l.group_size) g (first_in l.group_size g some))
     (λ j b. ne_eqb (j / l.group_size) g (λ e. not_both (g * l.group_size) j b (of_group l.group_size g j some e).0))
+
+-- a group that is there: it begins in the launch, and this is what its leader does next
+pub record IsLed (l : Launch) (s : State) (g : ℕ) (a : Action) : Type 0 where
+  pub begins : g * l.group_size < l.items
+  pub led : first_item l g ≡ Some (g * l.group_size)
+  pub acts : next_action l s (g * l.group_size) ≡ a
+
+-- as the code is told
+pub led_by :
+    (l : Launch) (s : State) (groups : List Group) (g size : ℕ) {o : Option Action} (a : Action) → IsRunnable l → length groups * l.group_size ≡ l.items → g < length groups
+    → size ≡ l.group_size → ActsNext l s (g * size) o → o ≡ Some a → IsLed l s g a
+led_by l s groups g size a ready whole below same told is =
+    let begins = group_begins l groups g ready whole below in
+    record {
+      begins = begins;
+      led = leads l g ready.grouped begins;
+      acts = subst (λ z. next_action l s z ≡ a) (ap (λ z. g * z) same) (subst (ActsNext l s (g * size)) is told).1;
+    }
 
 -- a group that isn't there has none
 pub no_leader : (l : Launch) (groups : List Group) (g : ℕ) → 0 < l.group_size → length groups * l.group_size ≡ l.items → length groups ≤ g → first_item l g ≡ None

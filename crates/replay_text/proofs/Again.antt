@@ -111,33 +111,19 @@ variable_again item variable more h = rw (name_before_again variable h more) ref
 
 -- a kind is none of the other words
 
-kind_is_no_private : (k : AccessKind) (more : List ℕ) → after (codes "private ") (kind_text k ++ 32 ∷ more) ≡ None
+kind_is_neither : (k : AccessKind) (more : List ℕ) → (after (codes "private ") (kind_text k ++ 32 ∷ more) ≡ None) × (after (codes "variable ") (kind_text k ++ 32 ∷ more) ≡ None)
 unfolding after
-kind_is_no_private kind.Load more = refl
-kind_is_no_private kind.Store more = refl
-kind_is_no_private (kind.Update class.Add) more = refl
-kind_is_no_private (kind.Update class.And) more = refl
-kind_is_no_private (kind.Update class.Or) more = refl
-kind_is_no_private (kind.Update class.Xor) more = refl
-kind_is_no_private (kind.Update class.SignedMin) more = refl
-kind_is_no_private (kind.Update class.UnsignedMin) more = refl
-kind_is_no_private (kind.Update class.SignedMax) more = refl
-kind_is_no_private (kind.Update class.UnsignedMax) more = refl
-kind_is_no_private kind.Fetch more = refl
-
-kind_is_no_variable : (k : AccessKind) (more : List ℕ) → after (codes "variable ") (kind_text k ++ 32 ∷ more) ≡ None
-unfolding after
-kind_is_no_variable kind.Load more = refl
-kind_is_no_variable kind.Store more = refl
-kind_is_no_variable (kind.Update class.Add) more = refl
-kind_is_no_variable (kind.Update class.And) more = refl
-kind_is_no_variable (kind.Update class.Or) more = refl
-kind_is_no_variable (kind.Update class.Xor) more = refl
-kind_is_no_variable (kind.Update class.SignedMin) more = refl
-kind_is_no_variable (kind.Update class.UnsignedMin) more = refl
-kind_is_no_variable (kind.Update class.SignedMax) more = refl
-kind_is_no_variable (kind.Update class.UnsignedMax) more = refl
-kind_is_no_variable kind.Fetch more = refl
+kind_is_neither kind.Load more = (refl, refl)
+kind_is_neither kind.Store more = (refl, refl)
+kind_is_neither (kind.Update class.Add) more = (refl, refl)
+kind_is_neither (kind.Update class.And) more = (refl, refl)
+kind_is_neither (kind.Update class.Or) more = (refl, refl)
+kind_is_neither (kind.Update class.Xor) more = (refl, refl)
+kind_is_neither (kind.Update class.SignedMin) more = (refl, refl)
+kind_is_neither (kind.Update class.UnsignedMin) more = (refl, refl)
+kind_is_neither (kind.Update class.SignedMax) more = (refl, refl)
+kind_is_neither (kind.Update class.UnsignedMax) more = (refl, refl)
+kind_is_neither kind.Fetch more = (refl, refl)
 
 private_is_no_variable : (more : List ℕ) → after (codes "variable ") (codes "private " ++ more) ≡ None
 unfolding after
@@ -149,7 +135,7 @@ bounds_of_private item bytes x h e = rw (number32_before_again 32 item h (codes 
 
 bounds_of_access : (item : ℕ) (kind : AccessKind) (bytes : List ℕ) (x : Fault × List ℕ) → item < 2 ^ 32 → access_bounds_at item (kind_text kind ++ 32 ∷ bytes) ≡ Some x → bounds_at (decimal item ++ 32 ∷ (kind_text kind ++ 32 ∷ bytes)) ≡ Some x
 unfolding bounds_at
-bounds_of_access item kind bytes x h e = rw (number32_before_again 32 item h (kind_text kind ++ 32 ∷ bytes) refl, kind_is_no_private kind bytes) e
+bounds_of_access item kind bytes x h e = rw (number32_before_again 32 item h (kind_text kind ++ 32 ∷ bytes) refl, (kind_is_neither kind bytes).0) e
 
 unset_of_variable : (item : ℕ) (bytes : List ℕ) (x : Fault × List ℕ) → item < 2 ^ 32 → variable_at item bytes ≡ Some x → unset_at (decimal item ++ 32 ∷ (codes "variable " ++ bytes)) ≡ Some x
 unfolding unset_at
@@ -161,7 +147,7 @@ unset_of_private item bytes x h e = rw (number32_before_again 32 item h (codes "
 
 unset_of_access : (item : ℕ) (kind : AccessKind) (bytes : List ℕ) (x : Fault × List ℕ) → item < 2 ^ 32 → access_unset_at item (kind_text kind ++ 32 ∷ bytes) ≡ Some x → unset_at (decimal item ++ 32 ∷ (kind_text kind ++ 32 ∷ bytes)) ≡ Some x
 unfolding unset_at
-unset_of_access item kind bytes x h e = rw (number32_before_again 32 item h (kind_text kind ++ 32 ∷ bytes) refl, kind_is_no_variable kind bytes, kind_is_no_private kind bytes) e
+unset_of_access item kind bytes x h e = rw (number32_before_again 32 item h (kind_text kind ++ 32 ∷ bytes) refl, (kind_is_neither kind bytes).1, (kind_is_neither kind bytes).0) e
 
 divide_by_zero_again : (item : ℕ) (more : List ℕ) → item < 2 ^ 32 → divide_by_zero_at (decimal item ++ 32 ∷ more) ≡ Some (fault.DivideByZero item, more)
 unfolding divide_by_zero_at

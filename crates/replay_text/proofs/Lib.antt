@@ -1,4 +1,5 @@
 pub mod FieldLaws
+mod Fronts
 pub mod Grammar
 pub mod Again
 pub mod Files

@@ -1,4 +1,3 @@
-pub mod Pieces
 pub mod Text
 pub mod Parts
 pub mod Fields

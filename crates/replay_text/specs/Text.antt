@@ -16,7 +16,7 @@ use Rattle.clmodel.specs.declared.fault.Location.{Location}
 use Rattle.clmodel.specs.declared.fault.Location.TheVariants as location
 use Rattle.clmodel.specs.declared.schedule.Run.{Run}
 use Rattle.clmodel.specs.declared.schedule.Run.TheVariants as run
-use Rattle.replay_text.specs.Pieces.{joined}
+use Rattle.ends.specs.Pieces.{joined}
 
 abbrev pub class_text : Class → List ℕ
 class_text class.Add = codes "add"

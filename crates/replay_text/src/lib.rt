@@ -3,7 +3,6 @@
 
 mod fields;
 mod forms;
-pub mod pieces;
 mod reading;
 mod runs;
 mod told;

@@ -63,7 +63,7 @@ fn turns_of(alloc: Global, turns: Option<&[u8]>) -> Result<Turns, AllocError>
     ensures { IfOk result (λ made. made ≡ turns_of (option_map (λ list. list.now) turns.entry)) }
 {
     match turns {
-        None => Ok(Turns::new(alloc)),
+        None => Ok(Turns::empty(alloc)),
         Some(text) => listed_turns(alloc, text),
     }
 }

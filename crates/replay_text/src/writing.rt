@@ -3,17 +3,17 @@
 
 ghost use Rattle.std.specs.Prelude.{◌≡◌};
 ghost use Rattle.std.specs.List.{flat_map};
+ghost use Rattle.ends.specs.Pieces.{joined};
 ghost use Rattle.ends.specs.Sink.{Puts};
 ghost use Rattle.replay_text.specs.Text.{class_text, kind_text, clash_text, location_text, later_turn_text, turns_text, stop_text, run_text, schedule_text, fault_words, fault_item, byte_texts, element_texts, private_texts, variable_texts, conflict_texts, divergence_texts, fault_details, fault_text, fault_line};
 ghost use Rattle.replay_text.specs.Parts.{part_text};
-ghost use Rattle.replay_text.specs.Pieces.{joined};
 
-use crate::pieces::{Piece, write_number, write_pieces, write_signed};
 use clmodel::access::{AccessKind, Clash, Class};
 use clmodel::action::Stop;
 use clmodel::fault::{Fault, Location};
 use clmodel::schedule::{Run, Schedule};
 use clmodel::text::Name;
+use ends::pieces::{Piece, write_number, write_pieces, write_signed};
 use ends::{Write, WriteFailed};
 
 /// A part of a fault's line.
@@ -170,7 +170,7 @@ fn write_part<W: Write>(part: &Part<'_>, writer: &mut W) -> Result<(), WriteFail
         Part::Name(name) => writer.write(name),
         Part::Number(number) => write_number(*number, writer),
         Part::Number32(number) => write_number(u64::from(*number), writer),
-        Part::Signed(number) => write_signed(*number, writer),
+        Part::Signed(number) => write_signed(i128::from(*number), writer),
         Part::Clash(clash) => writer.write(clash_words(*clash).as_bytes()),
         Part::Kind(kind) => writer.write(kind_word(*kind).as_bytes()),
         Part::Location(location) => write_location(location, writer),

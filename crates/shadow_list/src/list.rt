@@ -20,7 +20,8 @@ use std::alloc::{AllocError, Global};
 /// an equal access is there, nor at a byte that was accessed by several items in the same way. The index takes some 150 bytes for each cell
 /// that was accessed, and some 30 for each entry.
 ///
-/// The list is asked by `get`, `len` and `conflicts_with`, so by the join of several groups, which goes over all of it (`into_list`). `note`
+/// A launch that runs keeps its groups' accesses in logs without a list of them, and joins the groups by those accesses alone that tell other
+/// groups something new. This list, of all of them, is for results that are merged whole: `get`, `len` and `conflicts_with` ask it. `note`
 /// reads one entry of it at most, that of the same key: but where an access may conflict, all entries since the barrier are walked for the
 /// exact answer, which ends a launch where there is a conflict. `fence` and `cleared` read none.
 #[derive(Drop)]
@@ -86,8 +87,8 @@ impl ListLog {
         log
     }
 
-    /// The accesses of the log alone. The index is given back, and memory to spare too, where the smaller block isn't refused: nothing is lost
-    /// where it is.
+    /// The accesses of the log alone, for a result that is kept and asked for all of them: the join of running groups asks for fewer. The index
+    /// is given back, and memory to spare too, where the smaller block isn't refused: nothing is lost where it is.
     pub fn into_list(self) -> AccessList
         ensures { logged result.entries.items result.local_interval result.global_interval result.uniform ≡ logged self.entries.items self.local_interval self.global_interval self.uniform }
     {

@@ -12,7 +12,7 @@ use Rattle.device_store.specs.declared.command.Refusal.{Refusal}
 use Rattle.device_store.specs.declared.command.Refusal.TheVariants as refusal
 use Rattle.device_store.specs.declared.command.Reply.{Reply}
 use Rattle.device_store.specs.declared.command.Reply.TheVariants as reply
-use Rattle.replay_text.specs.Pieces.{joined}
+use Rattle.ends.specs.Pieces.{joined}
 use Rattle.replay_text.specs.Text.{fault_line}
 use Rattle.simfile.specs.Fields.{hex}
 

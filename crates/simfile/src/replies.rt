@@ -2,8 +2,8 @@
 #![tactic(auto)]
 
 ghost use Rattle.std.specs.Prelude.{◌≡◌, [], ◌∷◌, codes};
+ghost use Rattle.ends.specs.Pieces.{joined};
 ghost use Rattle.ends.specs.Sink.{Puts};
-ghost use Rattle.replay_text.specs.Pieces.{joined};
 ghost use Rattle.simfile.specs.Fields.{hex};
 ghost use Rattle.simfile.specs.Lines.{syntax_words, syntax_place, type_words, build_words, build_place, refusal_word, fault_of, refused_line, line, check_line};
 
@@ -11,8 +11,8 @@ use crate::hex::write_hex;
 use clmodel::type_fault::TypeFault;
 use clsyntax_lex::token::SyntaxFault;
 use device_store::command::{BuildFault, Refusal, Reply};
+use ends::pieces::{Piece, write_pieces};
 use ends::{Write, WriteFailed};
-use replay_text::pieces::{Piece, write_pieces};
 
 fn syntax_words(fault: SyntaxFault) -> &'static str
     ensures { result.now ≡ syntax_words fault }

@@ -12,6 +12,8 @@ mod overlays;
 #[cfg(test)]
 mod printing;
 #[cfg(test)]
+mod running_logs;
+#[cfg(test)]
 mod schedules;
 #[cfg(test)]
 mod slow_streams;

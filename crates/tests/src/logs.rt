@@ -99,7 +99,7 @@ fn local_objects_are_told_apart(rt: HostRuntime) -> Result<(), Fail> {
 }
 
 /// The item, the first byte of buffer 0, and the operation of an access; the byte of its conflict in a uniform launch, and in another.
-const STORES: [(u32, u8, Operation, Option<u64>, Option<u64>); 9] = [
+pub(crate) const STORES: [(u32, u8, Operation, Option<u64>, Option<u64>); 9] = [
     (0, 0, Operation::Store(Width::Four, 7), None, None),
     (1, 0, Operation::Store(Width::Four, 7), None, Some(0)),
     (2, 0, Operation::Store(Width::One, 7), None, Some(0)),

@@ -13,7 +13,6 @@ use clmodel::schedule::Run;
 use clmodel::setup::{Argument, Range};
 use clmodel::text::{Bytes, Name, Numbers};
 use device_store::build::build;
-use device_store::kernel::kernel_number;
 use device_store::ranges::{group_items, is_bad_dimension, is_bad_group, is_too_many};
 use group_run::GroupResult;
 use item_step::{Launch, Setup};
@@ -125,7 +124,7 @@ fn outcomes(
     let Ok(checked) = build(alloc, source.as_bytes())? else {
         return Ok(None);
     };
-    let Some(number) = kernel_number(&checked.tree, &Name::copy_of(alloc, b"k")?) else {
+    let Some(number) = checked.tree.kernel_number(b"k") else {
         return Ok(None);
     };
     let Ok(code) = lower_kernel(alloc, &checked, number) else {

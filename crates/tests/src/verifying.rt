@@ -148,7 +148,7 @@ fn ways(rt: HostRuntime) -> Result<(), Fail> {
 
 /// Instructions each of which names a register or an entry of a table that isn't there, or one of a kind that it doesn't want.
 /// Changed in one number or one operator, each would fit.
-const MISFITS: [Instruction; 24] = [
+const MISFITS: [Instruction; 27] = [
     Unset { to: 5 },
     Move {
         to: 0,
@@ -251,6 +251,21 @@ const MISFITS: [Instruction; 24] = [
         function: AtomicFunction::Add,
         pointer: 2,
         value: Some(4),
+    },
+    Update {
+        function: AtomicFunction::Exchange,
+        pointer: 2,
+        value: Some(0),
+    },
+    Update {
+        function: AtomicFunction::CompareExchange,
+        pointer: 2,
+        value: Some(0),
+    },
+    Update {
+        function: AtomicFunction::Exchange,
+        pointer: 2,
+        value: None,
     },
     JumpIfZero { test: 2, by: 0 },
 ];

@@ -2,7 +2,6 @@
 ghost use Rattle.std.specs.Prelude.{◌≡◌};
 
 use crate::desk::drive;
-use crate::gates::comes_to;
 use crate::pair::{boxed, open_one};
 use host_queue::{Client, Driver, Machine, Queue};
 use std::alloc::{AllocError, Global};
@@ -10,6 +9,20 @@ use std::sync::Arc;
 use std::sync::atomic::{AtomicU64, Ordering};
 use std::test::Fail;
 use std::thread;
+
+/// How often a count is looked at.
+const TURNS: u32 = 10_000_000;
+
+/// Looks until a count has come to a number, and answers whether it has.
+fn comes_to(count: &AtomicU64, number: u64) -> bool {
+    for _ in 0..TURNS {
+        if count.load(Ordering::SeqCst) >= number {
+            return true;
+        }
+        thread::yield_now();
+    }
+    false
+}
 
 /// How many commands have begun, how many submits have returned, and how many commands saw that.
 #[derive(Drop)]

@@ -5,6 +5,7 @@ mod beside;
 mod overlap;
 mod round;
 mod round_gate;
+mod round_size;
 mod run;
 mod shares;
 

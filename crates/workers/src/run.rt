@@ -11,6 +11,7 @@ ghost use Rattle.spaces_base.specs.Buffers.{bytes_in};
 
 use crate::overlap::{join_and_run, run_round};
 use crate::round_gate::GateAround;
+use crate::round_size::{first_round, next_round};
 use clmodel::outcome::Outcome;
 use item_step::Launch;
 use snapshot_merge::{
@@ -21,21 +22,6 @@ use std::alloc::{AllocError, Global};
 use std::sync::Wait;
 use std::thread::Threads;
 use workers_draw::gate::Gate;
-
-/// How many groups are in a round for each worker.
-const GROUPS_EACH: u32 = 6;
-
-/// About how many work-items are in a round of small groups.
-const ROUND_ITEMS: u32 = 2048;
-
-/// How many groups are in a round: some for each worker, and more where they are small. The workers wait for each other at its end, and the
-/// results of two rounds wait for their join, so a larger round is sooner done and holds more.
-fn round_size(launch: &Launch<'_>, workers: u32) -> u32
-    requires { (1 ≤ workers) × (workers ≤ 16) }
-    ensures { 1 ≤ result }
-{
-    (GROUPS_EACH * workers).max(ROUND_ITEMS / launch.group_size())
-}
 
 /// What a launch comes to, of which all groups are joined or one brought a report.
 fn outcome_of(launch: &Launch<'_>, buffers: &Buffers, end: RoundEnd<'_>, groups: u32) -> Outcome
@@ -67,13 +53,13 @@ fn run_rounds<G: Gate, R: Threads + Wait + Sync>(
     ensures { IfOk result (Concludes (launch_of (setup_of launch.now) (bytes_in buffers.now))) }
 {
     let groups = group_count(launch);
-    let most = round_size(launch, workers);
     let mut so_far = JoinedGroups::new(alloc, launch, buffers)?;
     let mut first = 0;
-    let mut last = most.min(groups);
+    let mut last = first_round(workers).min(groups);
     let mut results = run_round(rt, alloc, launch, buffers, workers, gate, first, last)?;
     while last < groups {
-        let end = last + most.min(groups - last);
+        let left = groups - last;
+        let end = last + next_round(&results, workers, left).min(left);
         let (next, joined) = join_and_run(
             rt, alloc, launch, buffers, workers, gate, so_far, results, first, last, end,
         );

@@ -121,9 +121,10 @@ byte_limit = 4096
 abbrev pub node_limit : ℕ
 node_limit = 20000
 
--- how many parameters a function may have: OpenCL 1.2 bounds their bytes (table 4.3, CL_DEVICE_MAX_PARAMETER_SIZE), the number is this project's own
+-- How many parameters a function may have: OpenCL 1.2 bounds their bytes (table 4.3, CL_DEVICE_MAX_PARAMETER_SIZE), the number is this project's own. No
+-- source has so many: it has at most 65,536 bytes, and a parameter with its comma at least 6.
 abbrev pub parameter_limit : ℕ
-parameter_limit = 65536
+parameter_limit = 13000
 
 -- Whether a statement always returns (own): `return`, a block with a statement that does, or an `if` with an `else` both of whose parts do.
 abbrev mutual

@@ -1,10 +1,9 @@
-use Rattle.std.proofs.Common.{lives, subst, ◌*◌, ◌+◌, ◌<◌, ◌^◌, ◌≡◌, length, refl, sym, ap, ◌∙◌, map, replicate, None}
+use Rattle.std.proofs.Common.{lives, subst, ◌*◌, ◌+◌, ◌<◌, ◌^◌, length, refl, sym, ap, ◌∙◌, map, replicate, None}
 use Rattle.group_run.specs.Items.{acts_of}
-use Rattle.clmodel.specs.Outcome.{events_of}
 use Rattle.clmodel.specs.Run.{State, Events, start}
 use Rattle.group_run.specs.Fits.{Fits}
-use Rattle.joining.specs.Group.{Plan, Reached, plan_of}
-use Rattle.group_run.proofs.Starting.{begins, items_fit, plan_same, done_result, stopped_result}
+use Rattle.joining.specs.Group.{Plan, Reached}
+use Rattle.group_run.proofs.Starting.{begins, items_fit, done_result, stopped_result}
 use Rattle.group_run.proofs.running.run_group.Goals as goal
 
 pub run_items-requires : goal.run_items-requires
@@ -24,38 +23,20 @@ run_items-requires g c κs within =
     )
 
 pub returns-in-None : goal.returns-in-None
-returns-in-None g c =
-    let l = g.D.Described.launch c.args.launch.now in
-    let size = c.group_size-count in
-    let items = c.in_ok-items.items.items in
-    let first = c.args.group * size.result in
-    let m = c.run_items.new.m in
-    let p : Plan = record { launch = l; group = c.args.group; first = first; count = length items } in
-    let q : Plan = record { launch = g.D.Described.launch m.launch.now; group = m.number; first = m.first; count = length m.items.items } in
-    let e : p ≡ plan_of l c.args.group = plan_same l c.args.group first (length items) (ap (λ n. c.args.group * n) size.ensures.value) (c.in_ok-items.ensures.many ∙ size.ensures.value) in (
-      refl,
-      c.into_schedule-runs.ensures.merged,
-      done_result (acts_of g.D.Described.launch) g.G.Space.bytes g.G.Space.read_only p q l c.args.group m.items.items m.made m.buffers.items m.locals.items (g.L.Logged.log m.log)
-          c.run_items.new.runs (events_of c.into_schedule-runs.result) c.in_ok-report.report e c.in_ok-report.ensures.plan_same c.into_schedule-runs.ensures.events c.in-None.is
-          c.in_ok-report.ensures.ran,
-    )
+returns-in-None g c = let m = c.run_items.new.m in (
+  refl,
+  c.into_schedule-runs.ensures.merged,
+  done_result (acts_of g.D.Described.launch) g.G.Space.bytes g.G.Space.read_only (g.D.Described.launch c.args.launch.now) c.args.group c.group_size-count.result
+      m.items.items m.made m.buffers.items m.locals.items (g.L.Logged.log m.log) c.in_ok-report.report c.group_size-count.ensures.value c.in_ok-items.items.items c.in_ok-items.ensures.many c.in_ok-report.ensures.plan_same c.into_schedule-runs.ensures.events c.in_ok-report.ensures.ran c.in-None.is,
+)
 
 pub returns-in-Some : goal.returns-in-Some
-returns-in-Some g c =
-    let l = g.D.Described.launch c.args.launch.now in
-    let size = c.group_size-count in
-    let items = c.in_ok-items.items.items in
-    let first = c.args.group * size.result in
-    let m = c.run_items.new.m in
-    let p : Plan = record { launch = l; group = c.args.group; first = first; count = length items } in
-    let q : Plan = record { launch = g.D.Described.launch m.launch.now; group = m.number; first = m.first; count = length m.items.items } in
-    let e : p ≡ plan_of l c.args.group = plan_same l c.args.group first (length items) (ap (λ n. c.args.group * n) size.ensures.value) (c.in_ok-items.ensures.many ∙ size.ensures.value) in (
-      refl,
-      c.into_schedule-runs.ensures.merged,
-      stopped_result (acts_of g.D.Described.launch) g.G.Space.bytes g.G.Space.read_only p q l c.args.group m.items.items m.made m.buffers.items m.locals.items (g.L.Logged.log m.log)
-          c.run_items.new.runs (events_of c.into_schedule-runs.result) c.in_ok-report.report c.in-Some.fault e c.in_ok-report.ensures.plan_same
-          c.into_schedule-runs.ensures.events c.in-Some.is c.in_ok-report.ensures.ran,
-    )
+returns-in-Some g c = let m = c.run_items.new.m in (
+  refl,
+  c.into_schedule-runs.ensures.merged,
+  stopped_result (acts_of g.D.Described.launch) g.G.Space.bytes g.G.Space.read_only (g.D.Described.launch c.args.launch.now) c.args.group c.group_size-count.result
+      m.items.items m.made m.buffers.items m.locals.items (g.L.Logged.log m.log) c.in_ok-report.report c.group_size-count.ensures.value c.in_ok-items.items.items c.in_ok-items.ensures.many c.in_ok-report.ensures.plan_same c.into_schedule-runs.ensures.events c.in_ok-report.ensures.ran c.in-Some.fault c.in-Some.is,
+)
 
 pub waiting_items-requires : goal.waiting_items-requires
 waiting_items-requires g c =

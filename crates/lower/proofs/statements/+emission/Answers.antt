@@ -1,6 +1,8 @@
-use Rattle.std.proofs.Common.{◌≡◌, ℕ, ◌+◌, ◌-◌, ◌<◌, ◌≤◌, ◌++◌, refl, Option, Bor, List, length, take, ap, ap₂, sym, subst, ◌∙◌, arith, rules, IfOk}
+use Rattle.std.proofs.Common.{◌≡◌, ℕ, ◌+◌, ◌-◌, ◌<◌, ◌≤◌, ◌^◌, ◌++◌, refl, Option, Bor, List, length, take, ap, ap₂, sym, subst, ◌∙◌, arith, rules, IfOk}
 use Rattle.std.proofs.lemmas.Result.{IfOk-weaker}
-use Rattle.lower.proofs.Fronts.{block_few, block_small, nodes_there}
+use Rattle.lower.proofs.Fronts.{block_few, block_small, block_low, nodes_there}
+use Rattle.lower.proofs.LowStatements.{after_part as part_levels, after_row}
+use Rattle.lower_code.proofs.Room.{fewer, fewer_asked}
 use denote.Param.Weighed.{most, at_most}
 use Rattle.std.specs.Option.{option_map}
 use Rattle.clmodel.specs.Next.{sites, part_sites, all_sites}
@@ -8,8 +10,8 @@ use Rattle.clmodel.specs.Typing.Sizes.{node_limit}
 use Rattle.clmodel.specs.Tree.{Stmt, ThenStmt, Without, While_, stmt, term}
 use Rattle.clmodel.specs.declared.tree.Statement.{Statement, size-Statement}
 use Rattle.regcode.specs.declared.instruction.Instruction.{Instruction}
-use Rattle.lower_expr.specs.Scope.{Scope}
-use Rattle.lower_code.specs.Variables.{scope_after_all}
+use Rattle.lower_expr.specs.Scope.{Scope, free_level}
+use Rattle.lower_code.specs.Variables.{scope_after_all, scope_after_part}
 use Rattle.lower_code.specs.Trees.{all_of, part_of}
 use Rattle.lower_code.specs.Code.{Exits, past, stmt_code, stmts_code, condition_code, call_code, result_in}
 use Rattle.lower_code.specs.Emission.{functions_of, inside, sizes_in, statement_code, row_code, test_of, exits_of}
@@ -287,16 +289,73 @@ emit_all-emit_statement-requires t c =
     ap (λ m. all_sites f (all_of (take m ss))) left ∙ ap (λ r. all_sites f r) (row_more ss place x below c.index-statements-statements.is) in
     let few : all_sites f (all_of ss) ≤ c.args.ending.behind = c.requires.few in
     let size : size-Statement x ≤ most size-Statement ss = subst (λ (y : Statement). size-Statement y ≤ most size-Statement ss) (sym c.index-statements-statements.is) (at_most size-Statement ss place x below) in
-    let nodes = nodes_there (sizes_in c.args.setting.now.helpers.functions.now) ss place x below c.index-statements-statements.is in
+    let sizes = sizes_in c.args.setting.now.helpers.functions.now in
+    let nodes = nodes_there sizes ss place x below c.index-statements-statements.is in
     let all = c.requires.small in
-    (omega (arith, size), omega (arith, c.loop-i.invariant.site, count, few, nodes, all))
+    let low = c.requires.low in
+    let start = c.args.scope.now in
+    let front = all_of (take place ss) in
+    let more : all_of (take (length ss - c.loop-i.i) ss) ≡ ThenStmt front (stmt x) = ap (λ m. all_of (take m ss)) left ∙ row_more ss place x below c.index-statements-statements.is in
+    let inner : c.leave.new.scope ≡ scope_after_all start front = c.leave.ensures (scope_after_all start front) (c.loop-i.invariant.scope ∙ ap (λ r. scope_after_all start r) more) in
+    let level : free_level c.leave.new.scope ≡ free_level (scope_after_all start front) = ap (λ (z : Scope). free_level z) inner in
+    let after = after_row sizes start.variables front in
+    (omega (arith, size), (omega (arith, c.loop-i.invariant.site, count, few), (omega (arith, nodes, all), omega (arith, level, after, nodes, low))))
 
 pub emit_choice-emit_statement-requires-2 : goal.emit_choice-emit_statement-requires-2
 emit_choice-emit_statement-requires-2 t c =
     let f = inside c.args.setting.now.helpers.functions.now in
     let between : c.in_ok-between.between + sites f (stmt c.args.otherwise.now) ≡ c.args.ending.behind = c.in_ok-between.ensures.site in
     let few : sites f (stmt c.args.chosen.now) + sites f (stmt c.args.otherwise.now) ≤ c.args.ending.behind = c.requires.few in
-    (search rules, omega (arith, between, few))
+    let level : free_level c.emit_statement.new.scope ≡ free_level c.args.scope.now = ap (λ (z : Scope). free_level z) c.in_ok-between.ensures.scope in
+    let small = c.requires.small in
+    let low = c.requires.low in
+    (search rules, (omega (arith, between, few), (omega (arith, small), omega (arith, level, low))))
+
+pub emit_if-put_test-requires : goal.emit_if-put_test-requires
+emit_if-put_test-requires t c =
+    let fewer_nodes = fewer (sizes_in c.args.setting.now.helpers.functions.now) (term c.args.condition.now) in
+    let level : free_level c.emit_statement.new.scope ≡ free_level c.args.scope.now = ap (λ (z : Scope). free_level z) c.in_ok-site.ensures.scope in
+    let low = c.requires.low in
+    omega (arith, fewer_nodes, level, low)
+
+pub emit_choice-put_test-requires : goal.emit_choice-put_test-requires
+emit_choice-put_test-requires t c =
+    let fewer_nodes = fewer (sizes_in c.args.setting.now.helpers.functions.now) (term c.args.condition.now) in
+    let level : free_level c.emit_statement-2.new.scope ≡ free_level c.args.scope.now = ap (λ (z : Scope). free_level z) (c.in_ok-site.ensures.scope ∙ c.in_ok-between.ensures.scope) in
+    let low = c.requires.low in
+    omega (arith, fewer_nodes, level, low)
+
+pub emit_do-put_condition-requires : goal.emit_do-put_condition-requires
+emit_do-put_condition-requires t c =
+    let fewer_nodes = fewer (sizes_in c.args.setting.now.helpers.functions.now) (term c.args.condition.now) in
+    let low = c.requires.low in
+    omega (arith, fewer_nodes, low)
+
+pub emit_turns-put_condition-requires : goal.emit_turns-put_condition-requires
+emit_turns-put_condition-requires t c =
+    let fewer_nodes = fewer_asked (sizes_in c.args.setting.now.helpers.functions.now) (test_of c.args.condition) in
+    let low = c.requires.low in
+    omega (arith, fewer_nodes, low)
+
+pub emit_for-emit_turns-requires : goal.emit_for-emit_turns-requires
+emit_for-emit_turns-requires t c =
+    let sizes = sizes_in c.args.setting.now.helpers.functions.now in
+    let after = part_levels sizes c.args.scope.now.variables (part_of c.args.first) in
+    let level : free_level c.declare_part.new.scope ≡ free_level (scope_after_part c.args.scope.now (part_of c.args.first)) = ap (λ (z : Scope). free_level z) c.in_ok-declare_part.ensures.declared in
+    let few = c.requires.few in
+    let small = c.requires.small in
+    let low = c.requires.low in
+    (search rules, (omega (arith, few), (omega (arith, small), (omega (arith, small), omega (arith, level, after, low)))))
+
+pub emit_for-emit_part-requires : goal.emit_for-emit_part-requires
+emit_for-emit_part-requires t c =
+    let level : free_level c.leave_part.new.scope ≡ free_level c.args.scope.now =
+    ap (λ (z : Scope). free_level z) (c.leave_part.ensures c.args.scope.now (c.in_ok-behind.ensures.scope ∙ c.in_ok-declare_part.ensures.declared)) in
+    let few = c.requires.few in
+    let behind = c.in_ok-behind.ensures.site in
+    let small = c.requires.small in
+    let low = c.requires.low in
+    (search rules, (omega (arith, few, behind), (omega (arith, small), omega (arith, level, low))))
 
 pub emit_statement-numbers_suffice-requires : goal.emit_statement-numbers_suffice-requires
 emit_statement-numbers_suffice-requires t c = record {
@@ -304,4 +363,6 @@ emit_statement-numbers_suffice-requires t c = record {
       c.in-Block.is c.as_slice-body.ensures.value c.requires.few;
   small = block_small (sizes_in c.args.setting.now.helpers.functions.now) c.args.statement.now c.in-Block.at c.in-Block.body c.as_slice-body.result.now c.args.ending.depth node_limit
       c.in-Block.is c.as_slice-body.ensures.value c.requires.small;
+  low = block_low (sizes_in c.args.setting.now.helpers.functions.now) c.args.statement.now c.in-Block.at c.in-Block.body c.as_slice-body.result.now (free_level c.args.scope.now) (2 ^ 28)
+      c.in-Block.is c.as_slice-body.ensures.value c.requires.low;
 }

@@ -1,6 +1,10 @@
-use Rattle.std.proofs.Common.{◌-◌, length, ap, ap₂, ◌∙◌}
-use Rattle.lower_expr.specs.Scope.{Scope}
+use Rattle.std.proofs.Common.{◌≡◌, ◌+◌, ◌-◌, [], length, ap, ap₂, ◌∙◌, arith}
+use Rattle.clmodel.specs.Typing.Sizes.{row_size}
+use Rattle.lower_expr.specs.Scope.{Scope, free_level}
 use Rattle.lower_code.specs.Code.{parameter_variables}
+use Rattle.lower_code.specs.Emission.{sizes_in}
+use Rattle.lower_code.specs.Trees.{all_of}
+use Rattle.lower.proofs.LowKernels.{parameters_counted}
 use Rattle.lower.proofs.Rounds.{body_placed}
 use Rattle.lower.proofs.statements.emit_body.Goals as goal
 
@@ -12,3 +16,15 @@ returns-clause-code c =
     c.as_slice-body.ensures.value c.site_behind_all-behind.ensures c.in_ok-emit_all.ensures.site
     (c.in_ok-declare_parameters.ensures.declared ∙ ap₂ (λ (z : Scope) ps. record z { variables = parameter_variables ps z.variables }) c.new-scope.ensures c.as_slice.ensures.value)
     c.in_ok-put_no_value.ensures.code (c.in_ok-added.ensures ∙ ap (λ n. length one - n) c.len-end.ensures) c.in_ok-emit_all.ensures.code
+
+pub emit_all-requires-clause-low : goal.emit_all-requires-clause-low
+emit_all-requires-clause-low c =
+    let ps = c.args.function.now.parameters.items in
+    let scope : c.declare_parameters.new.scope ≡ record { base = c.args.level; variables = parameter_variables ps [] } =
+    c.in_ok-declare_parameters.ensures.declared ∙ ap₂ (λ (z : Scope) qs. record z { variables = parameter_variables qs z.variables }) c.new-scope.ensures c.as_slice.ensures.value in
+    let level : free_level c.declare_parameters.new.scope ≡ c.args.level + length (parameter_variables ps []) = ap (λ (z : Scope). free_level z) scope in
+    let count = parameters_counted ps [] in
+    let nodes : (row_size (sizes_in c.args.helpers.functions.now) (all_of c.as_slice-body.result.now)).nodes ≡ (row_size (sizes_in c.args.helpers.functions.now) (all_of c.args.function.now.body.items)).nodes =
+    ap (λ ss. (row_size (sizes_in c.args.helpers.functions.now) (all_of ss)).nodes) c.as_slice-body.ensures.value in
+    let low = c.requires.low in
+    omega (arith, level, count, nodes, low)

@@ -1,4 +1,4 @@
-use Rattle.std.proofs.Common.{◌++◌, ap, ◌∙◌}
+use Rattle.std.proofs.Common.{◌++◌, ap, ◌∙◌, refl, ◌+◌}
 use Rattle.clmodel.specs.Next.{helper_call}
 use Rattle.clmodel.specs.Tree.{place, term}
 use Rattle.lower_expr.specs.Expressions.{place_code}
@@ -13,9 +13,9 @@ returns-clause-code c calls inside kind depth site =
     let to = place c.args.target.now in
     let value = term c.args.value.now in
     let results = result_in (functions_of c.args.helpers.functions.now) in
-    let level = c.in_ok-level.level in
+    let level = c.free_level-level.result in
     let right = c.in_ok-right.right in
-    assign_laid calls results inside kind scope to (helper_call value) value depth site level c.in_ok-above.above c.in_ok-from.from right.kind c.reach.new.code.items _
-    c.in_ok-level.ensures c.in_ok-above.ensures (c.in_ok-destination.ensures.code ∙ ap (λ xs. xs ++ place_code scope level to) c.new-front.ensures.items)
-    c.in_ok-from.ensures (c.in_ok-right.ensures.kind calls inside kind)
+    assign_laid calls results inside kind scope to (helper_call value) value depth site level (c.free_level-level.result + 1) c.register_at-from.result right.kind c.reach.new.code.items _
+    c.free_level-level.ensures refl (c.in_ok-destination.ensures.code ∙ ap (λ xs. xs ++ place_code scope level to) c.new-front.ensures.items)
+    c.register_at-from.ensures (c.in_ok-right.ensures.kind calls inside kind)
     (split_tail calls right.split c.put.new.code _ _ depth site (c.in_ok-put.ensures.code to c.in_ok-destination.ensures.found) (c.in_ok-right.ensures.code calls inside kind depth site))

@@ -1,4 +1,4 @@
-use Rattle.std.proofs.Common.{◌++◌, ap, ◌∙◌}
+use Rattle.std.proofs.Common.{◌++◌, ap, ◌∙◌, refl, ◌+◌}
 use Rattle.clmodel.specs.Next.{helper_call}
 use Rattle.clmodel.specs.Tree.{place, term}
 use Rattle.lower_expr.specs.Expressions.{place_code, place_register}
@@ -14,13 +14,13 @@ returns-clause-code c calls inside kind depth site =
     let to = place c.args.target.now in
     let value = term c.args.value.now in
     let results = result_in (functions_of c.args.helpers.functions.now) in
-    let level = c.in_ok-level.level in
+    let level = c.free_level-level.result in
     let right = c.in_ok-right.right in
     let found = c.in_ok-destination.ensures.found in
     let reached = c.in_ok-destination.ensures.code ∙ ap (λ xs. xs ++ place_code scope level to) c.new-front.ensures.items in
-    compound_laid calls results inside kind scope to (helper_call value) value depth site c.args.operator level c.in_ok-above.above c.in_ok-top.top c.in_ok-old.old c.in_ok-operand.operand
+    compound_laid calls results inside kind scope to (helper_call value) value depth site c.args.operator level (c.free_level-level.result + 1) (c.free_level-level.result + 2) c.register_at-old.result c.register_at-operand.result
     right.kind c.destination_type.result c.fetch.new.code.items _
-    c.in_ok-level.ensures c.in_ok-above.ensures c.in_ok-top.ensures c.in_ok-old.ensures (c.destination_type.ensures to found)
-    (c.in_ok-fetch.ensures.code to found ∙ ap (λ xs. xs ++ fetch_code scope to (place_register scope level to) c.in_ok-old.old) reached)
-    c.in_ok-operand.ensures (c.in_ok-right.ensures.kind calls inside kind)
+    c.free_level-level.ensures refl refl c.register_at-old.ensures (c.destination_type.ensures to found)
+    (c.in_ok-fetch.ensures.code to found ∙ ap (λ xs. xs ++ fetch_code scope to (place_register scope level to) c.register_at-old.result) reached)
+    c.register_at-operand.ensures (c.in_ok-right.ensures.kind calls inside kind)
     (split_tail calls right.split c.combine.new.code _ _ depth site (c.in_ok-combine.ensures.code to found) (c.in_ok-right.ensures.code calls inside kind depth site))

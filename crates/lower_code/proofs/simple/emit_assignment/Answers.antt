@@ -1,12 +1,14 @@
-use Rattle.std.proofs.Common.{◌≡◌, ◌++◌, List, None, Some, ap, sym, ◌∙◌}
+use Rattle.std.proofs.Common.{◌≡◌, ◌++◌, List, None, Some, ap, sym, ◌∙◌, arith}
 use Rattle.std.proofs.lemmas.Result.{on_ok_weaker}
 use Rattle.clmodel.specs.Next.{step_operator}
-use Rattle.clmodel.specs.Tree.{stmt, place}
+use Rattle.clmodel.specs.Tree.{stmt, place, term, terms}
+use Rattle.clmodel.specs.Typing.Sizes.{size}
 use Rattle.regcode.specs.declared.instruction.Instruction.{Instruction}
 use Rattle.lower_expr.specs.Scope.{free_level}
 use Rattle.lower_code.specs.Code.{step_code, call_code, result_in}
-use Rattle.lower_code.specs.Emission.{functions_of, inside, statement_code, split_code}
+use Rattle.lower_code.specs.Emission.{functions_of, inside, nodes_in, sizes_in, statement_code, split_code}
 use Rattle.lower_code.proofs.Calling.{assign_is, step_is, call_is}
+use Rattle.lower_code.proofs.Room.{fewer, fewer_all, fewer_there, split_low}
 use Rattle.lower_code.proofs.Rows.{placed}
 use Rattle.lower_code.proofs.simple.emit_assignment.Goals as goal
 
@@ -54,3 +56,37 @@ returns-in-Step-clause-code c =
     ap (λ x. statement_code s c.args.scope.now x p) (step_is c.args.statement.now c.in-Step.at c.in-Step.target c.in-Step.is_increment c.deref-in-Step.result.now c.in-Step.is c.deref-in-Step.ensures) in
     placed c.put_step.result c.put_step.new.code c.args.code.now stepped (statement_code s c.args.scope.now (stmt c.args.statement.now) p) same
     (on_ok_weaker {Q = c.put_step.new.code ≡ stepped ++ c.args.code.now} c.put_step.result (λ h. h (call_code fs) (result_in fs) (inside s.helpers.functions.now) s.result) c.put_step.ensures.code)
+
+pub assign-requires : goal.assign-requires
+assign-requires c =
+    let sizes = sizes_in c.args.setting.now.helpers.functions.now in
+    let whole = ap (λ s. (size sizes s).nodes) (assign_is c.args.statement.now c.in-Assign.at c.in-Assign.target c.in-Assign.operator c.in-Assign.value None c.deref.result.now c.deref-in-None.result.now c.in-Assign.is c.in-None.is c.deref.ensures c.deref-in-None.ensures) in
+    let to = fewer_there sizes (place c.deref.result.now) in
+    let value = fewer sizes (term c.deref-in-None.result.now) in
+    let low = c.requires.low in
+    omega (arith, whole, to, value, low)
+
+pub compound-requires : goal.compound-requires
+compound-requires c =
+    let sizes = sizes_in c.args.setting.now.helpers.functions.now in
+    let whole = ap (λ s. (size sizes s).nodes) (assign_is c.args.statement.now c.in-Assign.at c.in-Assign.target c.in-Assign.operator c.in-Assign.value (Some c.in-Some.operator) c.deref-in-Some.result.now c.deref-in-Some-2.result.now c.in-Assign.is c.in-Some.is c.deref-in-Some.ensures c.deref-in-Some-2.ensures) in
+    let to = fewer_there sizes (place c.deref-in-Some.result.now) in
+    let value = fewer sizes (term c.deref-in-Some-2.result.now) in
+    let low = c.requires.low in
+    omega (arith, whole, to, value, low)
+
+pub put_step-requires : goal.put_step-requires
+put_step-requires c =
+    let sizes = sizes_in c.args.setting.now.helpers.functions.now in
+    let whole = ap (λ s. (size sizes s).nodes) (step_is c.args.statement.now c.in-Step.at c.in-Step.target c.in-Step.is_increment c.deref-in-Step.result.now c.in-Step.is c.deref-in-Step.ensures) in
+    let to = fewer_there sizes (place c.deref-in-Step.result.now) in
+    let low = c.requires.low in
+    omega (arith, whole, to, low)
+
+pub call_statement-requires : goal.call_statement-requires
+call_statement-requires c =
+    let sizes = sizes_in c.args.setting.now.helpers.functions.now in
+    let whole = ap (λ s. (size sizes s).nodes) (call_is c.args.statement.now c.in-Call.at c.in-Call.name c.in-Call.arguments c.deref-in-Call.result.now c.in-Call.is c.deref-in-Call.ensures.value) in
+    let arguments = fewer_all sizes (terms c.deref-in-Call.result.now) in
+    let low = c.requires.low in
+    omega (arith, whole, arguments, low)

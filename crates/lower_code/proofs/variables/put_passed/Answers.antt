@@ -14,8 +14,8 @@ loop-i-preserved c =
     let ps = c.args.parameters.now in
     let n = length ps - 1 - c.loop-i.i in
     c.in_ok-put.ensures.code
-    ∙ passed_more c.in_ok-pass_one.field-0 ps _ c.args.arguments.now c.args.level c.in_ok-at.at n (length ps - c.loop-i.i) (length ps - (c.loop-i.i + 1)) c.loop-i.code c.args.code.now
-    (omega (arith, c.loop-i-test.true)) (omega (arith, c.loop-i-test.true)) (omega arith) c.in_ok-at.ensures c.in_ok-pass_one.ensures c.loop-i.invariant
+    ∙ passed_more c.pass_one.result ps _ c.args.arguments.now c.args.level c.level_at-at.result n (length ps - c.loop-i.i) (length ps - (c.loop-i.i + 1)) c.loop-i.code c.args.code.now
+    (omega (arith, c.loop-i-test.true)) (omega (arith, c.loop-i-test.true)) (omega arith) c.level_at-at.ensures c.pass_one.ensures c.loop-i.invariant
 
 pub returns-clause-code : goal.returns-clause-code
 returns-clause-code c =

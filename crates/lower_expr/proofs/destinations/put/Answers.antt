@@ -8,8 +8,8 @@ use Rattle.lower_expr.specs.Places.{destination_of}
 use Rattle.lower_expr.proofs.Targets.{put_at}
 use Rattle.lower_expr.proofs.destinations.put.Goals as goal
 
-pub returns-in_ok-index-in-Index-clause-code : goal.returns-in_ok-index-in-Index-clause-code
-returns-in_ok-index-in-Index-clause-code c =
+pub returns-in-Index-clause-code : goal.returns-in-Index-clause-code
+returns-in-Index-clause-code c =
     let scope = c.args.scope.now in
     let old = c.args.code.now.items in
     let d = c.args.destination in
@@ -17,6 +17,6 @@ returns-in_ok-index-in-Index-clause-code c =
     let level = c.args.level in
     on_ok_weaker {Q = (place : Place) → d ≡ destination_of scope place → c.private_store.new.code.items ≡ old ++ put_code scope place (place_register scope level place) from} c.private_store.result
     (λ h place e.
-    h ∙ ap (λ n. old ++ private_store scope d.name n from ∷ []) c.in_ok-index-in-Index.ensures
+    h ∙ ap (λ n. old ++ private_store scope d.name n from ∷ []) c.register_at-index.ensures
     ∙ ap (λ xs. old ++ xs) (put_at scope place d (target.Index c.in-Index.index) level from e c.in-Index.is))
     c.private_store.ensures.code

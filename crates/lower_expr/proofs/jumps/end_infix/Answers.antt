@@ -11,8 +11,8 @@ returns-in_ok-logical_or-in-LogicalOr-clause-code c =
     rw c.in-LogicalOr.is (λ before right e p.
     let a = c.args in
     let test = instruction.JumpIfZero (register_at a.level a.first) 1 in
-    let to = c.in_ok-to.ensures ∙ ap (register_at a.level) (c.infix_type-kind.ensures ∙ ap (λ o. infix_type o a.first a.second) c.in-LogicalOr.is) in
-    let second = c.in_ok-right.ensures ∙ ap (λ n. register_at n a.second) c.in_ok-level_above.ensures in
+    let to = c.register_at-to.ensures ∙ ap (register_at a.level) (c.infix_type-kind.ensures ∙ ap (λ o. infix_type o a.first a.second) c.in-LogicalOr.is) in
+    let second = c.register_at-right.ensures in
     c.in_ok-logical_or-in-LogicalOr.ensures.code (before ++ test ∷ []) right (e ∙ sym (append_assoc before (test ∷ []) (instruction.Jump 0 ∷ right))) (omega (arith, p, length-append before (test ∷ [])))
     ∙ append_assoc before (test ∷ []) _
     ∙ ap₂ (λ r t. before ++ test ∷ instruction.Jump (length right + 1) ∷ (right ++ instruction.JumpIfZero r 2 ∷ truth_code t)) second to)

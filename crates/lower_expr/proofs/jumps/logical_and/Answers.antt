@@ -10,7 +10,7 @@ returns-clause-code c before right e p =
     let a = c.args in
     let tail = instruction.JumpIfZero a.second 2 ∷ truth_code a.to in
     let count = ap length e ∙ length-append before (instruction.JumpIfZero a.first 0 ∷ right) in
-    let by : c.in_ok-by.by ≡ length right + 3 = omega (arith, c.in_ok-by.ensures, c.len.ensures, a.code.now.ok.0, count, p) in
-    ap (λ xs. slice_set xs (a.place - 1) (instruction.JumpIfZero a.first c.in_ok-by.by)) (twice _ _ _ _ _ c.in_ok-add.ensures.code c.in_ok-truth.ensures.code)
-    ∙ patched a.code.now.items before right tail (instruction.JumpIfZero a.first 0) (instruction.JumpIfZero a.first c.in_ok-by.by) a.place e p
+    let by : (c.len.result - a.place + 3) ≡ length right + 3 = omega (arith, c.len.ensures, a.code.now.ok.0, count, p) in
+    ap (λ xs. slice_set xs (a.place - 1) (instruction.JumpIfZero a.first (c.len.result - a.place + 3))) (twice _ _ _ _ _ c.in_ok-add.ensures.code c.in_ok-truth.ensures.code)
+    ∙ patched a.code.now.items before right tail (instruction.JumpIfZero a.first 0) (instruction.JumpIfZero a.first (c.len.result - a.place + 3)) a.place e p
     ∙ ap (λ n. before ++ instruction.JumpIfZero a.first n ∷ (right ++ tail)) by

@@ -10,7 +10,7 @@ returns-clause-code c before right e p =
     let a = c.args in
     let tail = instruction.JumpIfZero a.second 2 ∷ truth_code a.to in
     let count = ap length e ∙ length-append before (instruction.Jump 0 ∷ right) in
-    let by : c.in_ok-by.by ≡ length right + 1 = omega (arith, c.in_ok-by.ensures, c.len.ensures, a.code.now.ok.0, count, p) in
-    ap (λ xs. slice_set xs (a.place - 1) (instruction.Jump c.in_ok-by.by)) (twice _ _ _ _ _ c.in_ok-add.ensures.code c.in_ok-truth.ensures.code)
-    ∙ patched a.code.now.items before right tail (instruction.Jump 0) (instruction.Jump c.in_ok-by.by) a.place e p
+    let by : (c.len.result - a.place + 1) ≡ length right + 1 = omega (arith, c.len.ensures, a.code.now.ok.0, count, p) in
+    ap (λ xs. slice_set xs (a.place - 1) (instruction.Jump (c.len.result - a.place + 1))) (twice _ _ _ _ _ c.in_ok-add.ensures.code c.in_ok-truth.ensures.code)
+    ∙ patched a.code.now.items before right tail (instruction.Jump 0) (instruction.Jump (c.len.result - a.place + 1)) a.place e p
     ∙ ap (λ n. before ++ instruction.Jump n ∷ (right ++ tail)) by

@@ -3,10 +3,10 @@ use Rattle.ends.proofs.Puts.{stopped_more, puts_then}
 use Rattle.regcode.specs.Parts.{part_text}
 use Rattle.regcode.proofs.dumping.write_behind.Goals as goal
 
-pub returns-in_err-write_piece : goal.returns-in_err-write_piece
-returns-in_err-write_piece g c =
+pub returns-in_err-write : goal.returns-in_err-write
+returns-in_err-write g c =
     let p = err_from_is_err_and c.from_residual.result c.from_residual.ensures.1 in
-    rw c.in-Some.is (rw p.1 (stopped_more (part_text c.in-Some.part) c.in_err-write_piece.ensures))
+    rw c.in-Some.is (rw p.1 (stopped_more (part_text c.in-Some.part) (rw c.as_bytes.ensures.value at c.in_err-write.ensures)))
 
 pub returns : goal.returns
-returns g c = rw c.in-Some.is (puts_then _ _ c.write_part.result c.in_ok-write_piece.ensures c.write_part.ensures)
+returns g c = rw c.in-Some.is (puts_then _ _ c.write_part.result (rw c.as_bytes.ensures.value at c.in_ok-write.ensures) c.write_part.ensures)

@@ -6,28 +6,13 @@ use Rattle.group_run.specs.Items.{acts_of}
 use Rattle.group_run.proofs.group.GroupMachine.release.Goals as goal
 
 pub pass-requires-clause-local : goal.pass-requires-clause-local
-pass-requires-clause-local g c =
-    let t = c.args.self.now in
-    let p : Plan = record { launch = g.D.Described.launch t.launch.now; group = t.number; first = t.first; count = length t.items.items } in
-    let w = c.requires in
-    let room = release_room (acts_of g.D.Described.launch) g.G.Space.bytes g.G.Space.read_only p t.items.items t.made t.buffers.items t.locals.items (g.L.Logged.log t.log) w.0 w.1 w.2 c.args.fences w.3 w.5 in
-    room.local
+pass-requires-clause-local g c = (release_room _ _ _ _ _ _ _ _ _ c.args.fences c.requires).local
 
 pub pass-requires-clause-global : goal.pass-requires-clause-global
-pass-requires-clause-global g c =
-    let t = c.args.self.now in
-    let p : Plan = record { launch = g.D.Described.launch t.launch.now; group = t.number; first = t.first; count = length t.items.items } in
-    let w = c.requires in
-    let room = release_room (acts_of g.D.Described.launch) g.G.Space.bytes g.G.Space.read_only p t.items.items t.made t.buffers.items t.locals.items (g.L.Logged.log t.log) w.0 w.1 w.2 c.args.fences w.3 w.5 in
-    room.global
+pass-requires-clause-global g c = (release_room _ _ _ _ _ _ _ _ _ c.args.fences c.requires).global
 
 pub overflow_add-self : goal.overflow_add-self
-overflow_add-self g c =
-    let t = c.args.self.now in
-    let p : Plan = record { launch = g.D.Described.launch t.launch.now; group = t.number; first = t.first; count = length t.items.items } in
-    let w = c.requires in
-    let room = release_room (acts_of g.D.Described.launch) g.G.Space.bytes g.G.Space.read_only p t.items.items t.made t.buffers.items t.locals.items (g.L.Logged.log t.log) w.0 w.1 w.2 c.args.fences w.3 w.5 in
-    Fits-of_lt room.events
+overflow_add-self g c = Fits-of_lt (release_room _ _ _ _ _ _ _ _ _ c.args.fences c.requires).events
 
 pub returns-clause-made : goal.returns-clause-made
 returns-clause-made g c = λ events s fits gathered instance waits.

@@ -1,10 +1,10 @@
-use Rattle.std.proofs.Common.{◌≡◌, ◌*◌, ◌<◌, ◌≤◌, length, ap, ◌∙◌, subst, arith}
-use Rattle.clmodel.specs.Run.{next_action, released, stop_of}
+use Rattle.std.proofs.Common.{◌*◌, ◌<◌, ◌≤◌, length, ap, ◌∙◌, subst, arith}
+use Rattle.clmodel.specs.Run.{released, stop_of}
 use Rattle.clmodel.specs.declared.action.Stop.TheVariants.{At}
 use Rattle.clmodel.proofs.Steps.{release_at}
 use Rattle.replay_play.specs.States.{ActsNext, Gathers}
 use Rattle.replay_play.proofs.Playing.{is_none}
-use Rattle.replay_play.proofs.Releasing.{group_begins, group_ends, leads, no_leader, no_group, not_waiting, straggles, gathered, not_both}
+use Rattle.replay_play.proofs.Releasing.{group_begins, group_ends, led_by, no_leader, no_group, not_waiting, straggles, gathered, not_both}
 use Rattle.replay_play.proofs.player.Player.play_release.Goals as goal
 
 pub returns-then-group-len : goal.returns-then-group-len
@@ -39,10 +39,8 @@ returns-in_default-action g c = λ l s at.
     let n = c.args.group in
     let gs = c.args.self.now.groups in
     let below : n < length gs.items = omega (arith, c.if-group-len.false, c.len.ensures, gs.ok.0) in
-    let there = group_begins l gs.items n at.runnable at.tells.grouped below in
-    let first = ap (λ z. n * z) (c.group_size.ensures.value ∙ ap (λ z. z.group_size) at.plays) in
-    let acts = subst (λ z. next_action l s z ≡ c.in-Some.action) first (subst (ActsNext l s (n * c.group_size.result)) c.in-Some.is (c.in_ok-action.ensures.value l s at)).1 in
-    (not_waiting l s n (n * l.group_size) c.in-Some.action (leads l n at.runnable.grouped there) acts c.in_default-action.not-Barrier, c.action.ensures.same l s at)
+    let w = led_by l s gs.items n c.group_size.result c.in-Some.action at.runnable at.tells.grouped below (c.group_size.ensures.value ∙ ap (λ z. z.group_size) at.plays) (c.in_ok-action.ensures.value l s at) c.in-Some.is in
+    (not_waiting l s n (n * l.group_size) c.in-Some.action w.led w.acts c.in_default-action.not-Barrier, c.action.ensures.same l s at)
 
 pub gathers-requires : goal.gathers-requires
 gathers-requires g c =
@@ -58,11 +56,9 @@ returns-then-not-branch g c = λ l s at.
     let n = c.args.group in
     let gs = c.args.self.now.groups in
     let below : n < length gs.items = omega (arith, c.if-group-len.false, c.len.ensures, gs.ok.0) in
-    let there = group_begins l gs.items n at.runnable at.tells.grouped below in
-    let first = ap (λ z. n * z) (c.group_size.ensures.value ∙ ap (λ z. z.group_size) at.plays) in
-    let acts = subst (λ z. next_action l s z ≡ c.in-Some.action) first (subst (ActsNext l s (n * c.group_size.result)) c.in-Some.is (c.in_ok-action.ensures.value l s at)).1 in
+    let w = led_by l s gs.items n c.group_size.result c.in-Some.action at.runnable at.tells.grouped below (c.group_size.ensures.value ∙ ap (λ z. z.group_size) at.plays) (c.in_ok-action.ensures.value l s at) c.in-Some.is in
     let same = c.action.ensures.same l s at in (
-      straggles l s n (n * l.group_size) (At c.in-Barrier.instance) (leads l n at.runnable.grouped there) (ap stop_of (acts ∙ c.in-Barrier.is))
+      straggles l s n (n * l.group_size) (At c.in-Barrier.instance) w.led (ap stop_of (w.acts ∙ c.in-Barrier.is))
           (subst (Gathers l s n (At c.in-Barrier.instance)) c.if-not-branch.true (c.in_ok-gathers.ensures.value l s same)),
       c.gathers.ensures.same l s same,
     )
@@ -75,25 +71,20 @@ release-requires g c =
     let n = c.args.group in
     let gs = c.args.self.now.groups in
     let below : n < length gs.items = omega (arith, c.if-group-len.false, c.len.ensures, gs.ok.0) in
-    let there = group_begins l gs.items n at.runnable at.tells.grouped below in
-    let first = ap (λ z. n * z) (c.group_size.ensures.value ∙ ap (λ z. z.group_size) at.plays) in
-    let acts = subst (λ z. next_action l s z ≡ c.in-Some.action) first (subst (ActsNext l s (n * c.group_size.result)) c.in-Some.is (c.in_ok-action.ensures.value l s at)).1 in
-    (l, s, c.in-Barrier.instance, c.gathers.ensures.same l s (c.action.ensures.same l s at), there, acts ∙ c.in-Barrier.is)
+    let w = led_by l s gs.items n c.group_size.result c.in-Some.action at.runnable at.tells.grouped below (c.group_size.ensures.value ∙ ap (λ z. z.group_size) at.plays) (c.in_ok-action.ensures.value l s at) c.in-Some.is in
+    (l, s, c.in-Barrier.instance, c.gathers.ensures.same l s (c.action.ensures.same l s at), w.begins, w.acts ∙ c.in-Barrier.is)
 
 pub returns : goal.returns
 returns g c = λ l s at.
     let n = c.args.group in
     let gs = c.args.self.now.groups in
     let below : n < length gs.items = omega (arith, c.if-group-len.false, c.len.ensures, gs.ok.0) in
-    let there = group_begins l gs.items n at.runnable at.tells.grouped below in
-    let first = ap (λ z. n * z) (c.group_size.ensures.value ∙ ap (λ z. z.group_size) at.plays) in
-    let acts = subst (λ z. next_action l s z ≡ c.in-Some.action) first (subst (ActsNext l s (n * c.group_size.result)) c.in-Some.is (c.in_ok-action.ensures.value l s at)).1 in
-    let same = c.action.ensures.same l s at in
-    let led = leads l n at.runnable.grouped there in (
+    let w = led_by l s gs.items n c.group_size.result c.in-Some.action at.runnable at.tells.grouped below (c.group_size.ensures.value ∙ ap (λ z. z.group_size) at.plays) (c.in_ok-action.ensures.value l s at) c.in-Some.is in
+    let same = c.action.ensures.same l s at in (
       released l s n c.in-Barrier.fences,
-      release_at l s n (n * l.group_size) c.in-Barrier.instance c.in-Barrier.fences led
-          (gathered l s n (n * l.group_size) (At c.in-Barrier.instance) (ap stop_of (acts ∙ c.in-Barrier.is))
+      release_at l s n (n * l.group_size) c.in-Barrier.instance c.in-Barrier.fences w.led
+          (gathered l s n (n * l.group_size) (At c.in-Barrier.instance) (ap stop_of (w.acts ∙ c.in-Barrier.is))
           (subst (Gathers l s n (At c.in-Barrier.instance)) c.if-not-branch.false (c.in_ok-gathers.ensures.value l s same)))
-          (acts ∙ c.in-Barrier.is),
+          (w.acts ∙ c.in-Barrier.is),
       c.in_ok-release.ensures l s (c.gathers.ensures.same l s same),
     )

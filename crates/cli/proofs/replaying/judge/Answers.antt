@@ -1,0 +1,31 @@
+use Rattle.std.proofs.Common.{◌≡◌, refl, inl, inr, List, Some, subst, rules}
+use Rattle.device.specs.Machine.{Machine, IsRefusal, first, row, machine_of, opening}
+use Rattle.device_store.specs.declared.command.Command.{Command}
+use Rattle.device_store.specs.declared.command.Command.TheVariants as command
+use Rattle.device_store.specs.declared.command.Refusal.{Refusal}
+use Rattle.device_store.specs.declared.command.Refusal.TheVariants as refusal
+use Rattle.cli.specs.Replaying.{Leads}
+use Rattle.cli.proofs.replaying.judge.Goals as goal
+
+by_row : (m : Machine) (c : Command) (r : Refusal) → IsRefusal m c r → (r ≡ refusal.OutOfMemory → ⊥) → first (row m c) ≡ Some r
+by_row m c r (inl h) other = h
+by_row m c r (inr h) other = absurd (other h.1)
+
+pub returns : goal.returns
+returns c = record {
+  judged = tt;
+  failed = (
+    refl,
+    record {
+      kernel = c.in-Some.launched.kernel;
+      range = c.in-Some.launched.range;
+      machine = machine_of c.in_ok-device.device;
+      refusal = c.in-Err.field-0;
+      comes = record {
+        launch = c.in-Some.ensures.launch;
+        leads = subst (λ (done : List Command). Leads (opening 100000) done (machine_of c.in_ok-device.device)) c.in-Some.ensures.before c.in_ok-device.ensures;
+      };
+      refused = by_row (machine_of c.in_ok-device.device) (command.Launch c.in-Some.launched.kernel c.in-Some.launched.range) c.in-Err.field-0 c.in-Err.ensures.refused (λ e. search rules);
+    },
+  );
+}

@@ -1,0 +1,21 @@
+-- Which fault of a command an error below it is.
+use Rattle.cli.specs.declared.session.RunFault.{RunFault}
+use Rattle.cli.specs.declared.session.RunFault.TheVariants as fault
+use Rattle.lower.specs.declared.lowering.LowerFault.{LowerFault}
+use Rattle.lower.specs.declared.lowering.LowerFault.TheVariants as lowering
+use Rattle.replay_text.specs.declared.reading.ReadFault.{ReadFault}
+use Rattle.replay_text.specs.declared.reading.ReadFault.TheVariants as file
+use Rattle.simfile.specs.declared.script.ScriptFault.{ScriptFault}
+use Rattle.simfile.specs.declared.script.ScriptFault.TheVariants as script
+
+abbrev pub script_fault : ScriptFault → RunFault
+script_fault (script.BadLine n) = fault.BadLine n
+script_fault script.OutOfMemory = fault.OutOfMemory
+
+abbrev pub file_fault : ReadFault → RunFault
+file_fault file.BadText = fault.BadSchedule
+file_fault file.OutOfMemory = fault.OutOfMemory
+
+abbrev pub lower_fault : LowerFault → RunFault
+lower_fault lowering.NoSuchKernel = fault.NoSuchKernel
+lower_fault lowering.OutOfMemory = fault.OutOfMemory

@@ -1,0 +1,123 @@
+//! The log of a running group, called directly: which conflicts it tells, and which accesses last for other groups.
+
+use crate::logs::STORES;
+use clmodel::access::{Operation, Region, Width};
+use group_log::GroupLog;
+use shadow::{GroupAccesses, LastingList};
+use shadow_list::{AccessLog, Entry, Fenced, ListLog};
+use std::alloc::{AllocError, Global};
+use std::test::Fail;
+
+const BUFFER: Region = Region::Buffer(0);
+
+const LOCAL: Region = Region::Local {
+    group: 0,
+    number: 0,
+};
+
+/// The item, the object, the first byte and the operation of an access; the byte of its conflict; whether it tells other groups something
+/// new, as the first access of a byte does, and the first of another kind or by which a store leaves another byte. Behind a barrier, before
+/// which item 5 has stored 7 at byte 6 of the buffer.
+const ROWS: [(u32, Region, u8, Operation, Option<u64>, bool); 10] = [
+    (0, BUFFER, 0, Operation::Load(Width::Four), None, true),
+    (0, BUFFER, 0, Operation::Load(Width::Four), None, false),
+    (1, BUFFER, 0, Operation::Load(Width::Four), None, false),
+    (0, LOCAL, 0, Operation::Store(Width::One, 7), None, false),
+    (1, LOCAL, 0, Operation::Load(Width::One), Some(0), false),
+    (0, BUFFER, 2, Operation::Load(Width::Four), None, true),
+    (0, BUFFER, 4, Operation::Store(Width::Two, 1), None, true),
+    (0, BUFFER, 4, Operation::Store(Width::Two, 2), None, false),
+    (
+        1,
+        BUFFER,
+        3,
+        Operation::Store(Width::Four, 7),
+        Some(3),
+        true,
+    ),
+    (1, BUFFER, 6, Operation::Load(Width::One), None, false),
+];
+
+/// The numbers of the events that last: 0 is the store before the barrier.
+const LASTING: [u32; 5] = [0, 1, 6, 7, 9];
+
+/// The numbers of the events of a group's accesses, as other groups ask for them.
+fn events_of<L: GroupAccesses>(alloc: Global, log: &L) -> Result<Vec<u32>, AllocError> {
+    let mut events = Vec::new(alloc);
+    for i in 0..log.len() {
+        events.push(log.get(i).event)?;
+    }
+    Ok(events)
+}
+
+#[test]
+fn what_lasts_of_a_running_log(rt: HostRuntime) -> Result<(), Fail> {
+    let mut log = GroupLog::new(rt.alloc(), false);
+    let before = Entry::of(5, BUFFER, 6, Operation::Store(Width::One, 7), 0);
+    assert!(rt; log.note(before)?.is_none());
+    log.fence(Fenced::Global);
+    let mut event = 0u32;
+    for (item, region, first, operation, byte, lasts) in ROWS {
+        event = event.wrapping_add(1);
+        let found = match log.note(Entry::of(item, region, first as u64, operation, event))? {
+            Some(hit) => Some(hit.byte),
+            None => None,
+        };
+        assert_eq!(rt; found, byte, "{event}");
+        assert_eq!(rt; log.has_last(), lasts, "{event}");
+    }
+    assert_eq!(rt; events_of(rt.alloc(), &log)?.as_slice(), LASTING.as_slice());
+    let list = log.into_list();
+    assert_eq!(rt;
+        events_of(rt.alloc(), &list)?.as_slice(),
+        LASTING.as_slice()
+    );
+    assert!(rt; !list.has_last());
+    Ok(())
+}
+
+// The same of the list of all accesses.
+#[test]
+fn what_lasts_of_a_list(rt: HostRuntime) -> Result<(), Fail> {
+    let mut log = ListLog::new(rt.alloc(), false);
+    let before = Entry::of(5, BUFFER, 6, Operation::Store(Width::One, 7), 0);
+    assert!(rt; log.note(before)?.is_none());
+    log.fence(Fenced::Global);
+    let mut event = 0u32;
+    for (item, region, first, operation, byte, _) in ROWS {
+        event = event.wrapping_add(1);
+        let found = match log.note(Entry::of(item, region, first as u64, operation, event))? {
+            Some(hit) => Some(hit.byte),
+            None => None,
+        };
+        assert_eq!(rt; found, byte, "{event}");
+    }
+    let list = LastingList::of(rt.alloc(), &log)?;
+    assert_eq!(rt;
+        events_of(rt.alloc(), &list)?.as_slice(),
+        LASTING.as_slice()
+    );
+    assert!(rt; !list.has_last());
+    Ok(())
+}
+
+// A running log judges stores as the list of all accesses does, and again once it is cleared.
+#[test]
+fn stores_of_the_same_byte_pass_in_a_uniform_launch(rt: HostRuntime) -> Result<(), Fail> {
+    for uniform in [true, false] {
+        let mut log = GroupLog::new(rt.alloc(), uniform);
+        for _ in 0..2u32 {
+            for (item, first, operation, with, without) in STORES {
+                let entry = Entry::of(item, BUFFER, first as u64, operation, 0);
+                let found = match log.note(entry)? {
+                    Some(hit) => Some(hit.byte),
+                    None => None,
+                };
+                assert_eq!(rt; found, if uniform { with } else { without });
+            }
+            log = log.cleared(rt.alloc());
+            assert_eq!(rt; log.len(), 0);
+        }
+    }
+    Ok(())
+}

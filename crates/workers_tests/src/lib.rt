@@ -1,0 +1,15 @@
+//! Tests with threads: the groups that workers draw at gates that hold them, and two workers at a gate in a launch, by itself and on a device.
+#![tactic(auto)]
+
+#[cfg(test)]
+mod drawn;
+#[cfg(test)]
+mod gates;
+#[cfg(test)]
+mod launched;
+#[cfg(test)]
+mod numbers;
+#[cfg(test)]
+mod scripts;
+#[cfg(test)]
+mod two_workers;
