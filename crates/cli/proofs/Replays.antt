@@ -11,8 +11,8 @@ use Rattle.clmodel.specs.declared.schedule.Run.{Run}
 use Rattle.clmodel.specs.declared.setup.Range.{Range}
 use Rattle.device.specs.Machine.{Machine, kernel_of, setup_of}
 use Rattle.device.specs.Prepared.{IsPrepared}
-use Rattle.device_store.specs.declared.command.Command.{Command}
-use Rattle.ends.specs.Sink.{Sink}
+use Rattle.host_commands.specs.declared.command.Command.{Command}
+use Rattle.counted_io.specs.Sink.{Sink}
 use Rattle.item_step.specs.Launches as launches
 use Rattle.item_step.specs.declared.launch.Launch.{Launch}
 use Rattle.spaces_base.specs.Buffers.{bytes_in}

@@ -4,13 +4,13 @@ use Rattle.std.proofs.lemmas.List.{append-nil}
 use Rattle.std.proofs.lemmas.Grind.{flat_map-append}
 use Rattle.std.specs.List.{fold}
 use Rattle.device.specs.Machine.{Machine, Step, opening}
-use Rattle.device_store.specs.declared.command.Command.{Command}
-use Rattle.device_store.specs.declared.command.Reply.{Reply}
+use Rattle.host_commands.specs.declared.command.Command.{Command}
+use Rattle.host_commands.specs.declared.command.Reply.{Reply}
 use Rattle.cli.specs.declared.session.RunEnd.{RunEnd}
-use Rattle.ends.specs.Sink.{Sink, Wrote, Stopped}
+use Rattle.counted_io.specs.Sink.{Sink, Wrote, Stopped}
 use Rattle.simfile.specs.Lines.{line, lines}
 use Rattle.cli.specs.Session.{Plays, one_end, end_of, Answered, Broken}
-use Rattle.ends.proofs.Puts.{wrote_none, wrote_then, stopped_then}
+use Rattle.counted_io.proofs.Puts.{wrote_none, wrote_then, stopped_then}
 
 -- a command was answered: the machine made a step, and the reply's line was written
 pub record AnswersOne (old : Machine) (command : Command) (new : Machine) (before after : Sink) (end next : RunEnd) : Type 0 where

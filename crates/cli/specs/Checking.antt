@@ -1,13 +1,13 @@
 -- A source that is checked, and the line that tells what was found.
 use Rattle.std.specs.Prelude.{◌≡◌, ℕ, Bool, true, false, Option, None, Some, Result, Ok, Err, is_ok, List, []}
 use Rattle.clmodel.specs.Tree.{Program}
-use Rattle.device_store.specs.Builds.{Builds}
-use Rattle.device_store.specs.declared.command.BuildFault.{BuildFault}
+use Rattle.host_commands.specs.Builds.{Builds}
+use Rattle.host_commands.specs.declared.command.BuildFault.{BuildFault}
 use Rattle.cli.specs.declared.session.Reader.TheVariants as reader
 use Rattle.cli.specs.declared.session.RunFault.{RunFault}
 use Rattle.cli.specs.declared.session.RunFault.TheVariants as fault
-use Rattle.ends.specs.Sink.{Sink, Wrote, Stopped, CountsUp}
-use Rattle.ends.specs.Source.{Are}
+use Rattle.counted_io.specs.Sink.{Sink, Wrote, Stopped, CountsUp}
+use Rattle.counted_io.specs.Source.{Are}
 use Rattle.simfile.specs.Lines.{check_line}
 
 abbrev pub fault_of : Result Program BuildFault → Option BuildFault

@@ -2,10 +2,10 @@
 use Rattle.std.specs.Prelude.{◌≡◌, ℕ, Bool, true, false, Option, None, Some, Result, Ok, Err, List, []}
 use Rattle.clmodel.specs.Setup.{kernel_number}
 use Rattle.clmodel.specs.Tree.{Program}
-use Rattle.device_store.specs.Builds.{Builds}
-use Rattle.device_store.specs.declared.command.BuildFault.{BuildFault}
-use Rattle.ends.specs.Sink.{Sink, Wrote, Stopped, CountsUp}
-use Rattle.ends.specs.Source.{Are}
+use Rattle.host_commands.specs.Builds.{Builds}
+use Rattle.host_commands.specs.declared.command.BuildFault.{BuildFault}
+use Rattle.counted_io.specs.Sink.{Sink, Wrote, Stopped, CountsUp}
+use Rattle.counted_io.specs.Source.{Are}
 use Rattle.lower.specs.Names.{LowersNamed}
 use Rattle.regcode.specs.Listing.{Listing}
 use Rattle.regcode.specs.Text.{text_of}

@@ -5,8 +5,8 @@ pub mod Checking
 pub mod Dumping
 pub mod Replaying
 pub mod CommandLine
-pub use Rattle.ends.specs.Sink
-pub use Rattle.ends.specs.Source
+pub use Rattle.counted_io.specs.Sink
+pub use Rattle.counted_io.specs.Source
 pub use Rattle.replay_text.specs.ScheduleFile
 pub use Rattle.simfile.specs.Script
 pub use Rattle.simfile.specs.Lines

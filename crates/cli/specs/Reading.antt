@@ -1,8 +1,8 @@
 -- What a command reads, and why it wasn't read.
 use Rattle.std.specs.Prelude.{◌≡◌, ◌⊎◌, ℕ, ⊤, Option, List}
-use Rattle.device_store.specs.declared.command.Command.{Command}
-use Rattle.ends.specs.Sink.{CountsUp}
-use Rattle.ends.specs.Source.{Are}
+use Rattle.host_commands.specs.declared.command.Command.{Command}
+use Rattle.counted_io.specs.Sink.{CountsUp}
+use Rattle.counted_io.specs.Source.{Are}
 use Rattle.simfile.specs.Script.{IsScript, IsBadLine}
 use Rattle.cli.specs.declared.session.Reader.{Reader}
 use Rattle.cli.specs.declared.session.Reader.TheVariants as reader

@@ -8,14 +8,14 @@ use Rattle.clmodel.specs.declared.fault.Fault.{Fault}
 use Rattle.clmodel.specs.declared.schedule.Run.{Run}
 use Rattle.clmodel.specs.declared.setup.Range.{Range}
 use Rattle.device.specs.Machine.{Machine, Step, opening, first, row, kernel_of, setup_of, bytes_of}
-use Rattle.device_store.specs.declared.command.Command.{Command}
-use Rattle.device_store.specs.declared.command.Command.TheVariants as command
-use Rattle.device_store.specs.declared.command.Refusal.{Refusal}
-use Rattle.device_store.specs.declared.command.Refusal.TheVariants as refusal
-use Rattle.device_store.specs.declared.command.Reply.{Reply}
-use Rattle.device_store.specs.declared.command.Reply.TheVariants as reply
-use Rattle.ends.specs.Sink.{Sink, Wrote, Stopped, CountsUp}
-use Rattle.ends.specs.Source.{Are}
+use Rattle.host_commands.specs.declared.command.Command.{Command}
+use Rattle.host_commands.specs.declared.command.Command.TheVariants as command
+use Rattle.host_commands.specs.declared.command.Refusal.{Refusal}
+use Rattle.host_commands.specs.declared.command.Refusal.TheVariants as refusal
+use Rattle.host_commands.specs.declared.command.Reply.{Reply}
+use Rattle.host_commands.specs.declared.command.Reply.TheVariants as reply
+use Rattle.counted_io.specs.Sink.{Sink, Wrote, Stopped, CountsUp}
+use Rattle.counted_io.specs.Source.{Are}
 use Rattle.replay_text.specs.ScheduleFile.{IsScheduleFile, NoScheduleFile}
 use Rattle.cli.specs.Reading.{ReadsScript, Misread}
 use Rattle.cli.specs.Session.{Plays}

@@ -2,15 +2,15 @@
 use Rattle.std.specs.Prelude.{◌≡◌, ℕ, true, false, Option, Result, Ok, Err, List, [], ◌∷◌, ◌++◌, if◌then◌else◌}
 use Rattle.std.specs.List.{fold}
 use Rattle.device.specs.Machine.{Machine, Step, opening}
-use Rattle.device_store.specs.declared.command.Command.{Command}
-use Rattle.device_store.specs.declared.command.Reply.{Reply}
-use Rattle.device_store.specs.declared.command.Reply.TheVariants as reply
+use Rattle.host_commands.specs.declared.command.Command.{Command}
+use Rattle.host_commands.specs.declared.command.Reply.{Reply}
+use Rattle.host_commands.specs.declared.command.Reply.TheVariants as reply
 use Rattle.cli.specs.declared.session.Reader.TheVariants as reader
 use Rattle.cli.specs.declared.session.RunEnd.{RunEnd}
 use Rattle.cli.specs.declared.session.RunFault.{RunFault}
 use Rattle.cli.specs.declared.session.RunFault.TheVariants as fault
-use Rattle.ends.specs.Sink.{Sink, Wrote, Stopped, CountsUp}
-use Rattle.ends.specs.Source.{Are}
+use Rattle.counted_io.specs.Sink.{Sink, Wrote, Stopped, CountsUp}
+use Rattle.counted_io.specs.Source.{Are}
 use Rattle.simfile.specs.Script.{IsScript, IsBadLine}
 use Rattle.simfile.specs.Lines.{lines}
 

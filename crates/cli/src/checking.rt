@@ -2,15 +2,15 @@
 #![tactic(auto)]
 
 ghost use Rattle.std.specs.Prelude.{◌≡◌, [], IfOk, IfErr, OnOk};
-ghost use Rattle.ends.specs.Sink.{Puts};
+ghost use Rattle.counted_io.specs.Sink.{Puts};
 ghost use Rattle.simfile.specs.Lines.{check_line};
 ghost use Rattle.cli.specs.Checking.{Checked, Unchecked, source_status_of};
 
 use crate::reading::bytes_of;
 use crate::session::{Reader, RunFault};
-use device_store::build::build;
-use device_store::command::BuildFault;
-use ends::{Read, Write, WriteFailed};
+use counted_io::{Read, Write, WriteFailed};
+use host_commands::build::build;
+use host_commands::command::BuildFault;
 use simfile::replies::write_check;
 use std::alloc::Global;
 

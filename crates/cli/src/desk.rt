@@ -4,13 +4,13 @@
 ghost use Rattle.std.specs.Prelude.{◌≡◌, ◌≤◌, ◌<◌, ◌+◌, IfOk, length};
 ghost use Rattle.std.specs.Box.{box_value};
 ghost use Rattle.device.specs.Machine.{Step, machine_of, opening};
-ghost use Rattle.device_store.specs.declared.command.Reply.{Reply as ReplyOf};
+ghost use Rattle.host_commands.specs.declared.command.Reply.{Reply as ReplyOf};
 ghost use Rattle.host_queue.specs.declared.view.Request.TheVariants.{Answered};
 ghost use Rattle.host_queue.specs.Clients.{IsOnly};
 
 use crate::session::Options;
 use device::{Device, Driver, OpenGate, open};
-use device_store::command::{Command, Reply};
+use host_commands::command::{Command, Reply};
 use host_queue::{Client, Queue, Request};
 use std::alloc::{AllocError, Global};
 use std::marker::Sync;

@@ -11,7 +11,7 @@ pub mod session;
 
 pub use checking::check_file;
 pub use command_line::command;
+pub use counted_io::{Read, ReadFault, Write, WriteFailed};
 pub use dumping::dump_file;
-pub use ends::{Read, ReadFault, Write, WriteFailed};
 pub use replaying::replay_files;
 pub use session::{run, status};

@@ -2,12 +2,12 @@
 #![tactic(auto)]
 
 ghost use Rattle.std.specs.Prelude.{IfOk, IfErr};
-ghost use Rattle.ends.specs.Source.{Are};
+ghost use Rattle.counted_io.specs.Source.{Are};
 ghost use Rattle.cli.specs.Reading.{ReadFails, ReadsScript, ScriptFails};
 
 use crate::session::{Reader, RunFault};
-use device_store::command::Command;
-use ends::{Read, ReadFault};
+use counted_io::{Read, ReadFault};
+use host_commands::command::Command;
 use simfile::script::read_script;
 use std::alloc::Global;
 

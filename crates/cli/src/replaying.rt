@@ -4,7 +4,7 @@
 ghost use Rattle.std.specs.Prelude.{◌≡◌, ℕ, List, [], false, None, Some, IfOk, IfErr, IfSome, IfNone, OnOk, Decides, slice_get, take};
 ghost use Rattle.device.specs.Machine.{IsRefusal, machine_of, opening};
 ghost use Rattle.clmodel.specs.declared.setup.Range.{Range};
-ghost use Rattle.ends.specs.Sink.{Puts};
+ghost use Rattle.counted_io.specs.Sink.{Puts};
 ghost use Rattle.cli.specs.Replaying.{ReadsFile, FileFails, NoLaunch, Performs, Leads, Replays, Judges, Unjudged, answer_line, Replayed, Unreplayed, replay_status_of};
 
 use crate::reading::{bytes_of, commands_of};
@@ -13,8 +13,8 @@ use clmodel::fault::Fault;
 use clmodel::schedule::Schedule;
 use clmodel::setup::Range;
 use clmodel::text::Name;
+use counted_io::{Read, Write, WriteFailed};
 use device::{Command, Device, Refusal, Reply};
-use ends::{Read, Write, WriteFailed};
 use replay::replay;
 use replay_text::read;
 use std::alloc::{AllocError, Global};

@@ -3,16 +3,16 @@
 
 ghost use Rattle.std.specs.Prelude.{◌≡◌, ◌≤◌, ℕ, IfOk, IfErr, OnErr, length};
 ghost use Rattle.device.specs.Machine.{machine_of, opening};
-ghost use Rattle.device_store.specs.declared.command.Reply.{Reply as ReplyOf};
+ghost use Rattle.host_commands.specs.declared.command.Reply.{Reply as ReplyOf};
 ghost use Rattle.host_queue.specs.declared.view.Request.TheVariants.{Answered as AnsweredBy};
-ghost use Rattle.ends.specs.Sink.{Wrote, Stopped};
+ghost use Rattle.counted_io.specs.Sink.{Wrote, Stopped};
 ghost use Rattle.simfile.specs.Lines.{line};
 ghost use Rattle.cli.specs.Session.{one_end, Answered, Broken, Unanswered, Ran, Failed, status_of};
 
 use crate::desk::Desk;
 use crate::reading::commands_of;
-use device_store::command::{Command, Reply};
-use ends::{Read, Write, WriteFailed};
+use counted_io::{Read, Write, WriteFailed};
+use host_commands::command::{Command, Reply};
 use host_queue::Request;
 use lower::LowerFault;
 use regcode::DumpFault;

@@ -16,7 +16,7 @@ use Rattle.clmodel.specs.declared.operand.Operand.{Operand}
 use Rattle.clmodel.specs.declared.operand.Operand.TheVariants.{Integral, Pointed}
 pub mod Expressions
 pub mod Statements
-pub use Rattle.clmodel.specs.Next.Expressions.{Run, finish, fail, ask, tick, walk, Binding, variable, Destination, Variables, look, declared_type, held, assign, elements_of, has_elements, is_private_array, with_elements, leave, known, element_width, answered, at_offset, moved, moved_back, number, pointing, load, store, index_of, element_at, element_value, read_element, element_set, write_element, class_of, amount, update, atomic_call, fetch_op_of, fetch_number, fetch_call, is_update, arithmetic, combined, test, Here, dimension, given_value, integer_call, call, call_only, base_type, load_element, store_element, infix_type, call_type, type_of, argument_type, settle, join, chosen_value, eval, eval_all, reach, fetch, put, step_operator, one}
+pub use Rattle.clmodel.specs.Next.Expressions.{Continuation, finish, fail, ask, tick, walk, Binding, variable, Destination, Variables, look, declared_type, held, assign, elements_of, has_elements, is_private_array, with_elements, leave, known, element_width, answered, at_offset, moved, moved_back, number, pointing, load, store, index_of, element_at, element_value, read_element, element_set, write_element, class_of, amount, update, atomic_call, fetch_op_of, fetch_number, fetch_call, is_update, arithmetic, combined, test, ItemPosition, dimension, given_value, integer_call, call, call_only, base_type, load_element, store_element, infix_type, call_type, type_of, argument_type, settle, join, chosen_value, eval, eval_all, reach, fetch, put, step_operator, one}
 pub use Rattle.clmodel.specs.Next.Statements.{Follows, Helpers, leaving, in_loop, turns, condition, HelperCall, helper_or, helper_call, value_of, call_sites, statement_sites, sites, part_sites, all_sites, wait, local_array, private_array, declared_array, assigned, call_statement, exec, exec_part, exec_all, passed, returned_by, as_body, sites_in, helper}
 
 -- what the parameter at a place holds: a pointer to the start of its buffer or of its local object, or its number
@@ -38,7 +38,7 @@ bound buffers place [] arguments variables = variables
 bound buffers place (p ∷ ps) [] variables = bound buffers (place + 1) ps [] (bound_to buffers place p None ∷ variables)
 bound buffers place (p ∷ ps) (argument ∷ arguments) variables = bound buffers (place + 1) ps arguments (bound_to buffers place p argument ∷ variables)
 
-abbrev pub here_of : Setup → ℕ → Here
+abbrev pub here_of : Setup → ℕ → ItemPosition
 here_of setup item = record { range = setup.range; item = item }
 
 -- an item ends where its kernel's body ends
@@ -46,7 +46,7 @@ abbrev pub at_the_end : Follows
 at_the_end = record { next = λ _. finish; broken = λ _. finish; continued = λ _. finish; returned = λ _. finish }
 
 -- What an item of a launch does: a kernel's body with the helpers before it. A loop makes at most as many turns as the budget has ticks.
-abbrev pub run_of : Setup → ℕ → Funcs → Option Func → Run
+abbrev pub run_of : Setup → ℕ → Funcs → Option Func → Continuation
 run_of setup item earlier None = finish
 run_of setup item earlier (Some f) =
     exec_all (setup.budget + 1) (here_of setup item) (helper (setup.budget + 1) (here_of setup item) earlier) (sites_in earlier)

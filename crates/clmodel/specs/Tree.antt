@@ -84,15 +84,15 @@ abbrev mutual
   row_terms ts (rust_expression.more_of-Expression e rest) = row_terms (ThenTerm ts (term e)) rest
 
 -- the target
-pub data Place : Type 0 where
-  Whole : (at name : ℕ) → Place
-  Part : (at name : ℕ) → Term → Place
-  Behind : (at : ℕ) → Term → Place
+pub data Target : Type 0 where
+  TargetVariable : (at name : ℕ) → Target
+  TargetElement : (at name : ℕ) → Term → Target
+  TargetDereference : (at : ℕ) → Term → Target
 
-abbrev pub place : rust_target.Target → Place
-place (target.Variable at name) = Whole at name
-place (target.Element at name index) = Part at name (term index.value)
-place (target.Dereference at pointer) = Behind at (term pointer.value)
+abbrev pub tree_target : rust_target.Target → Target
+tree_target (target.Variable at name) = TargetVariable at name
+tree_target (target.Element at name index) = TargetElement at name (term index.value)
+tree_target (target.Dereference at pointer) = TargetDereference at (term pointer.value)
 
 mutual
   pub data Stmt : Type 0 where
@@ -101,8 +101,8 @@ mutual
     Declare : (at : ℕ) → VariableType → (name_at name : ℕ) → Stmt
     DeclareAs : (at : ℕ) → VariableType → (name_at name : ℕ) → Term → Stmt
     DeclareArray : (at : ℕ) → (is_local : Bool) → IntType → (name_at name length_at : ℕ) → (length : Integer) → Stmt
-    Assign : (at : ℕ) → Place → Option BinaryOperator → Term → Stmt
-    Step : (at : ℕ) → Place → (is_increment : Bool) → Stmt
+    Assign : (at : ℕ) → Target → Option BinaryOperator → Term → Stmt
+    Step : (at : ℕ) → Target → (is_increment : Bool) → Stmt
     CallOnly : (at name : ℕ) → Terms → Stmt
     If : (at : ℕ) → Term → Stmt → Stmt
     IfElse : (at : ℕ) → Term → Stmt → Stmt → Stmt
@@ -124,8 +124,8 @@ mutual
     With : Stmt → MaybeStmt
 
   pub data MaybeTerm : Type 0 where
-    Always : MaybeTerm
-    While_ : Term → MaybeTerm
+    WithoutTerm : MaybeTerm
+    WithTerm : Term → MaybeTerm
 
 abbrev pub declared : ℕ → VariableType → ℕ → ℕ → Option (Box Expression Global) → Stmt
 declared at kind name_at name None = Declare at kind name_at name
@@ -136,8 +136,8 @@ returned at None = Return at
 returned at (Some value) = ReturnValue at (term value.value)
 
 abbrev pub maybe_term : Option (Box Expression Global) → MaybeTerm
-maybe_term None = Always
-maybe_term (Some value) = While_ (term value.value)
+maybe_term None = WithoutTerm
+maybe_term (Some value) = WithTerm (term value.value)
 
 abbrev pub terms : List rust_expression.Expression → Terms
 terms es = then_all NoTerm (map term es)
@@ -148,8 +148,8 @@ abbrev mutual
   stmt (rust_statement.Block' at shape body) = Block at (row_stmts NoStmt body)
   stmt (rust_statement.Declare at kind name_at name value) = declared at kind name_at name value
   stmt (rust_statement.DeclareArray at is_local element name_at name length_at len) = DeclareArray at is_local element name_at name length_at len
-  stmt (rust_statement.Assign at to operator value) = Assign at (place to.value) operator (term value.value)
-  stmt (rust_statement.Step at to is_increment) = Step at (place to.value) is_increment
+  stmt (rust_statement.Assign at to operator value) = Assign at (tree_target to.value) operator (term value.value)
+  stmt (rust_statement.Step at to is_increment) = Step at (tree_target to.value) is_increment
   stmt (rust_statement.Call at name arguments) = CallOnly at name (terms arguments.items)
   stmt (rust_statement.If' at condition p chosen) = If at (term condition.value) (stmt chosen)
   stmt (rust_statement.IfElse' at condition p chosen q otherwise) = IfElse at (term condition.value) (stmt chosen) (stmt otherwise)

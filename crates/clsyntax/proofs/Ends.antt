@@ -7,7 +7,7 @@ use Rattle.clnum.specs.declared.operators.BinaryOperator.{BinaryOperator}
 use Rattle.clmodel.specs.declared.tree.AddressSpace.{AddressSpace}
 use Rattle.clmodel.specs.declared.tree.VariableType.{VariableType}
 use Rattle.clmodel.specs.declared.tree.VariableType.TheVariants.{Integer}
-use Rattle.clmodel.specs.Tree.{Term, Binary, Choice, Place, Behind, Stmt, Empty, Block, Declare, Assign, Step, If, IfElse, While, For, DoWhile, Stmts, ThenStmt, MaybeStmt, MaybeTerm, Func, Funcs, ThenFunc}
+use Rattle.clmodel.specs.Tree.{Term, Binary, Choice, Target, TargetDereference, Stmt, Empty, Block, Declare, Assign, Step, If, IfElse, While, For, DoWhile, Stmts, ThenStmt, MaybeStmt, MaybeTerm, Func, Funcs, ThenFunc}
 use Rattle.clsyntax_lex.specs.declared.token.TokenKind.{TokenKind}
 use Rattle.clsyntax_lex.specs.declared.token.TokenKind.TheVariants as kinds
 use Rattle.clsyntax_terms.specs.Grammar.{Placed, put, Head, Prefix, Convert, prefixed_by, infix_of}
@@ -228,26 +228,26 @@ done_ended_by n s true c = earlier (put n kinds.CloseRound 0) c.moves c.done
 done_ended : {w qs : List Placed} {fs : List Frame} {n : ℕ} (s : Stmt) → Stands w (ASimple n) fs qs → Done (in_mode (Ended n s) fs)
 done_ended {n = n} s h = let x = ends_simply h in done_ended_by n s x.is_bracket (x.closes s)
 
-assign_ends_by : {fs : List Frame} (n a : ℕ) (p : Place) (op : Option BinaryOperator) (u : Bool) → ((s : Stmt) → Ends u n s fs) → EndsWith (InAssign a n p op ∷ fs)
+assign_ends_by : {fs : List Frame} (n a : ℕ) (p : Target) (op : Option BinaryOperator) (u : Bool) → ((s : Stmt) → Ends u n s fs) → EndsWith (InAssign a n p op ∷ fs)
 assign_ends_by n a p op false c =
     record { kind = kinds.Semicolon; no_infix = refl; no_level = refl; closes = λ m from e. let x = c (Assign a p op e) in record { nesting = n; state = x.state; moves = x.moves; done = x.done } }
 assign_ends_by n a p op true c =
     record { kind = kinds.CloseRound; no_infix = refl; no_level = refl; closes = λ m from e. let x = c (Assign a p op e) in record { nesting = n; state = x.state; moves = x.moves; done = x.done } }
 
-assign_ends : {w qs : List Placed} {fs : List Frame} {n : ℕ} (a : ℕ) (p : Place) (op : Option BinaryOperator) → Stands w (ASimple n) fs qs → EndsWith (InAssign a n p op ∷ fs)
+assign_ends : {w qs : List Placed} {fs : List Frame} {n : ℕ} (a : ℕ) (p : Target) (op : Option BinaryOperator) → Stands w (ASimple n) fs qs → EndsWith (InAssign a n p op ∷ fs)
 assign_ends {n = n} a p op h = let x = ends_simply h in assign_ends_by n a p op x.is_bracket x.closes
 
 step_ends_by : {fs : List Frame} (n a b k : ℕ) (up : Bool) (u : Bool) → ((s : Stmt) → Ends u n s fs) → EndsWith (InBehind true b k ∷ InStep a n up ∷ fs)
 step_ends_by n a b k up false c =
-    record { kind = kinds.Semicolon; no_infix = refl; no_level = refl; closes = λ m from e. let x = c (Step a (Behind b e) up) in record { nesting = n; state = x.state; moves = x.moves; done = x.done } }
+    record { kind = kinds.Semicolon; no_infix = refl; no_level = refl; closes = λ m from e. let x = c (Step a (TargetDereference b e) up) in record { nesting = n; state = x.state; moves = x.moves; done = x.done } }
 step_ends_by n a b k up true c =
-    record { kind = kinds.CloseRound; no_infix = refl; no_level = refl; closes = λ m from e. let x = c (Step a (Behind b e) up) in record { nesting = n; state = x.state; moves = x.moves; done = x.done } }
+    record { kind = kinds.CloseRound; no_infix = refl; no_level = refl; closes = λ m from e. let x = c (Step a (TargetDereference b e) up) in record { nesting = n; state = x.state; moves = x.moves; done = x.done } }
 
-done_stepped_by : {fs : List Frame} (n a b k : ℕ) (p : Place) (up : Bool) (u : Bool) → Ends u n (Step a p up) fs → Done (in_mode (Aimed true k b p) (InStep a n up ∷ fs))
+done_stepped_by : {fs : List Frame} (n a b k : ℕ) (p : Target) (up : Bool) (u : Bool) → Ends u n (Step a p up) fs → Done (in_mode (Aimed true k b p) (InStep a n up ∷ fs))
 done_stepped_by n a b k p up false c = earlier (put n kinds.Semicolon 0) c.moves c.done
 done_stepped_by n a b k p up true c = earlier (put n kinds.CloseRound 0) c.moves c.done
 
-done_aimed : {w qs : List Placed} {fs : List Frame} {n : ℕ} (u : Bool) (a : ℕ) (p : Place) → Stands w (target_need u n) fs qs → Done (in_mode (Aimed u n a p) fs)
+done_aimed : {w qs : List Placed} {fs : List Frame} {n : ℕ} (u : Bool) (a : ℕ) (p : Target) → Stands w (target_need u n) fs qs → Done (in_mode (Aimed u n a p) fs)
 done_aimed {n = n} false a p s = earlier (put n kinds.Assign 0) refl (done_operand n (assign_ends a p None s))
 done_aimed {n = k} true b p (in_step {n = n} {a = a} {up = up} s i) = let x = ends_simply s in done_stepped_by n a b k p up x.is_bracket (x.closes (Step a p up))
 
@@ -377,7 +377,7 @@ done_call_open (call_open {u = true} {n = n} s) = earlier (put (suc n) kinds.Clo
 done_has_expr : {w qs : List Placed} {fs : List Frame} {m from : ℕ} {e : Term} → HasExpr w m from e fs qs → Done (in_mode (Have m from e) fs)
 done_has_expr {m = m} {from = from} {e = e} (has_expr s r) = done_have m from e (ends_with s)
 
-done_has_target : {w qs : List Placed} {fs : List Frame} {u : Bool} {n from : ℕ} {p : Place} → HasTarget w u n from p fs qs → Done (in_mode (Aimed u n from p) fs)
+done_has_target : {w qs : List Placed} {fs : List Frame} {u : Bool} {n from : ℕ} {p : Target} → HasTarget w u n from p fs qs → Done (in_mode (Aimed u n from p) fs)
 done_has_target {u = u} {from = from} {p = p} (has_target s g r) = done_aimed u from p s
 
 done_optional : {fs : List Frame} (n : ℕ) → EndsWith fs → Done (in_mode (Optional n) fs)

@@ -6,7 +6,7 @@ use Rattle.clnum.specs.declared.int_type.IntType.{IntType}
 use Rattle.clnum.specs.declared.operators.BinaryOperator.{BinaryOperator}
 use Rattle.clmodel.specs.declared.tree.InfixOperator.{InfixOperator}
 use Rattle.clmodel.specs.declared.tree.VariableType.{VariableType}
-use Rattle.clmodel.specs.Tree.{Term, Variable, Element, ElementAddress, Call, Binary, Choice, Terms, ThenTerm, Place, Part, Behind, Stmt, DeclareAs, Assign, Step, CallOnly, DoWhile, ReturnValue, Return, Stmts, ThenStmt, MaybeStmt, With, MaybeTerm, While_, Always}
+use Rattle.clmodel.specs.Tree.{Term, Variable, Element, ElementAddress, Call, Binary, Choice, Terms, ThenTerm, Target, TargetElement, TargetDereference, Stmt, DeclareAs, Assign, Step, CallOnly, DoWhile, ReturnValue, Return, Stmts, ThenStmt, MaybeStmt, With, MaybeTerm, WithTerm, WithoutTerm}
 use Rattle.clsyntax_lex.specs.declared.token.TokenKind.{TokenKind}
 use Rattle.clsyntax_lex.specs.declared.token.TokenKind.TheVariants as kinds
 use Rattle.clsyntax_terms.specs.Grammar.{Placed, put, start, prefixed_by, infix_of, level, tight, assign_of, Expr, Simple, Declaration, Reads, number, variable, element, address, bare_call, call, round, operator, cast, prefixed, binary, choice, part, behind_star, assign, step_before, bare_call_only, call_only, simple, do_loop, simple_initial, declared_initial, no_condition, condition, simple_final, return_only, return_value, declare_as, declaration}
@@ -131,16 +131,16 @@ element_end (has_folded (in_element s) g h f r) = has_expr s (λ l. element (r 0
 address_end : {w qs : List Placed} {fs : List Frame} {m from a b x n c : ℕ} {e : Term} → HasFolded w 0 m from e (InAddress a b x n ∷ fs) (put (suc n) kinds.CloseSquare c ∷ qs) → HasExpr w n a (ElementAddress a b x e) fs qs
 address_end (has_folded (in_address s) g h f r) = has_expr s (λ l. address (r 0 f))
 
-part_end : {w qs : List Placed} {fs : List Frame} {u : Bool} {m from a x n c : ℕ} {e : Term} → HasFolded w 0 m from e (InPart u a x n ∷ fs) (put (suc n) kinds.CloseSquare c ∷ qs) → HasTarget w u n a (Part a x e) fs qs
+part_end : {w qs : List Placed} {fs : List Frame} {u : Bool} {m from a x n c : ℕ} {e : Term} → HasFolded w 0 m from e (InPart u a x n ∷ fs) (put (suc n) kinds.CloseSquare c ∷ qs) → HasTarget w u n a (TargetElement a x e) fs qs
 part_end (has_folded (in_part s) g h f r) = has_target s tt (part (r 0 f))
 
 colon_end : {w qs : List Placed} {fs : List Frame} {m from b c : ℕ} {d e : Term} → HasFolded w 0 m from e (Asked b d ∷ fs) (put m kinds.Colon c ∷ qs) → Stands w (AnExpr m) (Chosen b d e ∷ fs) qs
 colon_end (has_folded (in_asked s y q) g h f r) = in_chosen s y q (r 0 f)
 
-assigned : {w qs : List Placed} {fs : List Frame} {a n m from : ℕ} {p : Place} {op : Option BinaryOperator} {e : Term} → HasFolded w 0 m from e (InAssign a n p op ∷ fs) qs → HasEnded w n (Assign a p op e) fs qs
+assigned : {w qs : List Placed} {fs : List Frame} {a n m from : ℕ} {p : Target} {op : Option BinaryOperator} {e : Term} → HasFolded w 0 m from e (InAssign a n p op ∷ fs) qs → HasEnded w n (Assign a p op e) fs qs
 assigned (has_folded (in_assign {ps = ps} s i r) g h f q) = record { from = ps; stands = s; reads = assign i r (q 0 f) }
 
-stepped : {w qs : List Placed} {fs : List Frame} {a n b k m from : ℕ} {up : Bool} {e : Term} → HasFolded w 0 m from e (InBehind true a n ∷ InStep b k up ∷ fs) qs → HasEnded w k (Step b (Behind a e) up) fs qs
+stepped : {w qs : List Placed} {fs : List Frame} {a n b k m from : ℕ} {up : Bool} {e : Term} → HasFolded w 0 m from e (InBehind true a n ∷ InStep b k up ∷ fs) qs → HasEnded w k (Step b (TargetDereference a e) up) fs qs
 stepped (has_folded (in_behind (in_step s i)) g h f r) = record { from = _; stands = s; reads = step_before i (behind_star (r tight h)) }
 
 -- ---- where a simple statement ends
@@ -200,7 +200,7 @@ initially_end (has_folded (in_declare s r) g h f q) = elim s [ ]
 return_end : {w qs : List Placed} {fs : List Frame} {a n m from c : ℕ} {e : Term} → HasFolded w 0 m from e (InReturn a n ∷ fs) (put n kinds.Semicolon c ∷ qs) → HasStatement w (ReturnValue a e) fs qs
 return_end (has_folded (in_return {n = n} s) g h f r) = record { n = n; from = _; stands = s; reads = return_value (r 0 f) }
 
-condition_end : {w qs : List Placed} {fs : List Frame} {a n m from d : ℕ} {i : MaybeStmt} {e : Term} → HasFolded w 0 m from e (InCondition a n i ∷ fs) (put n kinds.Semicolon d ∷ qs) → Stands w (ASimple n) (InFinal a i (While_ e) ∷ fs) qs
+condition_end : {w qs : List Placed} {fs : List Frame} {a n m from d : ℕ} {i : MaybeStmt} {e : Term} → HasFolded w 0 m from e (InCondition a n i ∷ fs) (put n kinds.Semicolon d ∷ qs) → Stands w (ASimple n) (InFinal a i (WithTerm e) ∷ fs) qs
 condition_end (has_folded (in_condition s q) g h f r) = in_final s q (condition (r 0 f))
 
 if_end : {w qs : List Placed} {fs : List Frame} {a n m from c : ℕ} {e : Term} → HasFolded w 0 m from e (InIf a n ∷ fs) (put (suc n) kinds.CloseRound c ∷ qs) → Stands w (AStatement (suc n)) (Then a n e ∷ fs) qs
@@ -215,21 +215,21 @@ do_end {n = n} {m = m} {c = d} {e = e} (has_folded {ps = ps} (in_do s q) g h f r
     record { from = _; stands = s; reads = λ b rs same. do_loop q (subst R same (r 0 f)) }
 
 behind_end : {w qs : List Placed} {fs : List Frame} {a n m from c : ℕ} {k : TokenKind} {op : Option BinaryOperator} {e : Term} → HasFolded w 0 m from e (InBehind false a n ∷ fs) (put n k c ∷ qs) → assign_of k ≡ Some op
-    → Stands w (AnExpr n) (InAssign a n (Behind a e) op ∷ fs) qs
+    → Stands w (AnExpr n) (InAssign a n (TargetDereference a e) op ∷ fs) qs
 behind_end (has_folded (in_behind s) g h f r) i = in_assign s i (behind_star (r tight h))
 
 abbrev Ending : (m from : ℕ) → Term → List Frame → TokenKind → (w qs : List Placed) → ℕ → Moved → Type 0
 Ending m from e fs kind w qs a x = KeepsFrom w qs (λ k. HasFolded w 0 m from e fs (put k kind a ∷ qs)) x
 
-safe_assigned : (u : Bool) (m from b n : ℕ) (p : Place) (op : Option BinaryOperator) (e : Term) (fs : List Frame) (w qs : List Placed) (a : ℕ) → Ending m from e (InAssign b n p op ∷ fs) (end_kind u) w qs a (ends_simple u n (Assign b p op e) fs)
+safe_assigned : (u : Bool) (m from b n : ℕ) (p : Target) (op : Option BinaryOperator) (e : Term) (fs : List Frame) (w qs : List Placed) (a : ℕ) → Ending m from e (InAssign b n p op ∷ fs) (end_kind u) w qs a (ends_simple u n (Assign b p op e) fs)
 safe_assigned u m from b n p op e fs w qs a =
     kept w qs (λ k. HasEnded w n (Assign b p op e) fs (put k (end_kind u) a ∷ qs)) (λ k. HasFolded w 0 m from e (InAssign b n p op ∷ fs) (put k (end_kind u) a ∷ qs)) (ends_simple u n (Assign b p op e) fs)
     (λ k g. assigned g) (safe_ends_simple u n (Assign b p op e) fs w qs a)
 
-safe_end_step : (u : Bool) (m from b n : ℕ) (e : Term) (fs : List Frame) (w qs : List Placed) (a : ℕ) → Ending m from e (InBehind true b n ∷ fs) (end_kind u) w qs a (end_step u (Behind b e) fs)
+safe_end_step : (u : Bool) (m from b n : ℕ) (e : Term) (fs : List Frame) (w qs : List Placed) (a : ℕ) → Ending m from e (InBehind true b n ∷ fs) (end_kind u) w qs a (end_step u (TargetDereference b e) fs)
 safe_end_step u m from b n e (InStep c j up ∷ fs) w qs a =
-    kept w qs (λ k. HasEnded w j (Step c (Behind b e) up) fs (put k (end_kind u) a ∷ qs)) (λ k. HasFolded w 0 m from e (InBehind true b n ∷ InStep c j up ∷ fs) (put k (end_kind u) a ∷ qs)) (ends_simple u j (Step c (Behind b e) up) fs)
-    (λ k g. stepped g) (safe_ends_simple u j (Step c (Behind b e) up) fs w qs a)
+    kept w qs (λ k. HasEnded w j (Step c (TargetDereference b e) up) fs (put k (end_kind u) a ∷ qs)) (λ k. HasFolded w 0 m from e (InBehind true b n ∷ InStep c j up ∷ fs) (put k (end_kind u) a ∷ qs)) (ends_simple u j (Step c (TargetDereference b e) up) fs)
+    (λ k g. stepped g) (safe_ends_simple u j (Step c (TargetDereference b e) up) fs w qs a)
 safe_end_step u m from b n e _ w qs a = tt
 
 safe_round : (m from : ℕ) (e : Term) (fs : List Frame) (w qs : List Placed) (a : ℕ) → Ending m from e fs kinds.CloseRound w qs a (on_close_round e fs)
@@ -352,7 +352,7 @@ safe_call_open k fs kind = λ w qs a.
 no_value : {w qs : List Placed} {fs : List Frame} {k a n c : ℕ} → Stands w (AnExpr k) (InReturn a n ∷ fs) (put n kinds.Semicolon c ∷ qs) → HasStatement w (Return a) fs qs
 no_value (in_return {n = n} s) = record { n = n; from = _; stands = s; reads = return_only }
 
-always : {w qs : List Placed} {fs : List Frame} {k a n d : ℕ} {i : MaybeStmt} → Stands w (AnExpr k) (InCondition a n i ∷ fs) (put n kinds.Semicolon d ∷ qs) → Stands w (ASimple n) (InFinal a i Always ∷ fs) qs
+always : {w qs : List Placed} {fs : List Frame} {k a n d : ℕ} {i : MaybeStmt} → Stands w (AnExpr k) (InCondition a n i ∷ fs) (put n kinds.Semicolon d ∷ qs) → Stands w (ASimple n) (InFinal a i WithoutTerm ∷ fs) qs
 always (in_condition s q) = in_final s q no_condition
 
 safe_without : (k : ℕ) (fs : List Frame) (w qs : List Placed) (a : ℕ) → Keeps w (Optional k) fs (record { kind = kinds.Semicolon; at = a }) qs (without fs)

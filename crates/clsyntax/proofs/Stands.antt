@@ -8,13 +8,13 @@ use Rattle.clmodel.specs.declared.tree.AddressSpace.{AddressSpace}
 use Rattle.clmodel.specs.declared.tree.VariableType.{VariableType}
 use Rattle.clmodel.specs.declared.tree.VariableType.TheVariants.{Integer}
 use Rattle.clmodel.specs.declared.tree.Parameter.{Parameter}
-use Rattle.clmodel.specs.Tree.{Term, Terms, NoTerm, ThenTerm, Place, Stmt, DeclareArray, Stmts, MaybeStmt, MaybeTerm, Funcs}
+use Rattle.clmodel.specs.Tree.{Term, Terms, NoTerm, ThenTerm, Target, Stmt, DeclareArray, Stmts, MaybeStmt, MaybeTerm, Funcs}
 use Rattle.clsyntax_lex.specs.declared.token.Token.{Token}
 use Rattle.clsyntax_lex.specs.declared.token.TokenKind.{TokenKind}
 use Rattle.clsyntax_lex.specs.declared.token.TokenKind.TheVariants as kinds
 use Rattle.clsyntax_terms.specs.Grammar as grammar
 use Rattle.clsyntax_terms.specs.Machine as machine
-use Rattle.clsyntax_terms.specs.Grammar.{Placed, put, start, Head, Prefix, infix_of, level, head, type_of, assign_of, step_of, IsNamed, Expr, Arguments, Target, Simple, Statement, Initial, Condition, Typing, Declaration, Items, Parameters, Returning, Heading, Program, Reads, one_argument, next_argument}
+use Rattle.clsyntax_terms.specs.Grammar.{Placed, put, start, Head, Prefix, infix_of, level, head, type_of, assign_of, step_of, IsNamed, Expr, Arguments, Assignee, Simple, Statement, Initial, Condition, Typing, Declaration, Items, Parameters, Returning, Heading, Program, Reads, one_argument, next_argument}
 use Rattle.clsyntax_terms.specs.Machine.{Frame, After, Before, Asked, Chosen, InRound, InElement, InAddress, InCall, InPart, InBehind, InStep, InAssign, InDeclare, InReturn, InIf, InWhile, InDo, InInitial, InCondition, InFinal, Then, Otherwise, Turns, DoTurns, ForTurns, InItems, InBlock, InBody, InHead, InProgram, Purpose, ForParameter, ForDeclaration, takes_size, nesting_of, Mode, Operand, Have, Named, Opened, CastType, AfterAnd, AndName, CallOpen, Optional, Item, Begin, Aim, BeginName, Aimed, Ended, Closing, Did, AfterIf, AfterWhile, AfterFor, AfterDo, AfterSpace, AfterConst, AfterElement, AfterTyping, Declared, ArrayNamed, ArrayOpened, ArraySized, ArrayClosed, Top, AfterKernel, AfterReturning, AfterName, HeadOpen, WantParameter, AfterParameter, HeadDone, State, in_mode, Moved, step}
 use Rattle.clsyntax.proofs.Levels.{reach}
 
@@ -113,8 +113,8 @@ pub data Stands : List Placed → Need → List Frame → List Placed → Type 0
       → Stands w (ASimple n) fs (put n k a ∷ qs) → step_of k ≡ Some up → Stands w (AStepTarget (suc n)) (InStep a n up ∷ fs) qs
   in_part : {w qs : List Placed} {fs : List Frame} {u : Bool} {n a b x : ℕ} → Stands w (target_need u n) fs (put n (kinds.Name x) a ∷ put n kinds.OpenSquare b ∷ qs) → Stands w (AnExpr (suc n)) (InPart u a x n ∷ fs) qs
   in_behind : {w qs : List Placed} {fs : List Frame} {u : Bool} {n a : ℕ} → Stands w (target_need u n) fs (put n kinds.Star a ∷ qs) → Stands w (AnExpr (suc n)) (InBehind u a n ∷ fs) qs
-  in_assign : {w ps qs : List Placed} {fs : List Frame} {n b : ℕ} {k : TokenKind} {op : Option BinaryOperator} {t : Place}
-      → Stands w (ASimple n) fs ps → assign_of k ≡ Some op → Reads (Target n t) ps (put n k b ∷ qs) → Stands w (AnExpr n) (InAssign (start ps) n t op ∷ fs) qs
+  in_assign : {w ps qs : List Placed} {fs : List Frame} {n b : ℕ} {k : TokenKind} {op : Option BinaryOperator} {t : Target}
+      → Stands w (ASimple n) fs ps → assign_of k ≡ Some op → Reads (Assignee n t) ps (put n k b ∷ qs) → Stands w (AnExpr n) (InAssign (start ps) n t op ∷ fs) qs
   in_declare : {w ps qs : List Placed} {fs : List Frame} {n b c x : ℕ} {kind : VariableType}
       → Stands w (AnItem n) fs ps → Reads (Typing true n kind) ps (put n (kinds.Name x) b ∷ put n kinds.Assign c ∷ qs) → Stands w (AnExpr n) (InDeclare (start ps) n kind b x ∷ fs) qs
   declared_initially : {w qs : List Placed} {fs : List Frame} {n a b c x : ℕ} {k : TokenKind} {type : IntType}
@@ -139,8 +139,8 @@ pub data HasExpr (w : List Placed) (m : ℕ) : (from : ℕ) → Term → List Fr
   has_expr : {ps qs : List Placed} {fs : List Frame} {n : ℕ} {e : Term} → Stands w (AnExpr n) fs ps → ((l : ℕ) → Reads (Expr l n e m) ps qs) → HasExpr w m (start ps) e fs qs
 
 -- a name or an element that is a target was read
-pub data HasTarget (w : List Placed) (u : Bool) (n : ℕ) : (from : ℕ) → Place → List Frame → List Placed → Type 0 where
-  has_target : {ps qs : List Placed} {fs : List Frame} {t : Place} → Stands w (target_need u n) fs ps → IsNamed t → Reads (Target n t) ps qs → HasTarget w u n (start ps) t fs qs
+pub data HasTarget (w : List Placed) (u : Bool) (n : ℕ) : (from : ℕ) → Target → List Frame → List Placed → Type 0 where
+  has_target : {ps qs : List Placed} {fs : List Frame} {t : Target} → Stands w (target_need u n) fs ps → IsNamed t → Reads (Assignee n t) ps qs → HasTarget w u n (start ps) t fs qs
 
 pub record HasStatement (w : List Placed) (s : Stmt) (fs : List Frame) (qs : List Placed) : Type 0 where
   pub n : ℕ

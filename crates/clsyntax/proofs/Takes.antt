@@ -7,7 +7,7 @@ use Rattle.clmodel.specs.declared.tree.InfixOperator.{InfixOperator}
 use Rattle.clmodel.specs.declared.tree.AddressSpace.{AddressSpace}
 use Rattle.clmodel.specs.declared.tree.AddressSpace.TheVariants.{Local}
 use Rattle.clmodel.specs.declared.tree.VariableType.TheVariants.{Integer}
-use Rattle.clmodel.specs.Tree.{Term, Variable, Binary, Choice, Place, Whole, Behind, Stmt, If, IfElse, While, For, Assign, Step, Stmts, ThenStmt, MaybeStmt, MaybeTerm}
+use Rattle.clmodel.specs.Tree.{Term, Variable, Binary, Choice, Target, TargetVariable, TargetDereference, Stmt, If, IfElse, While, For, Assign, Step, Stmts, ThenStmt, MaybeStmt, MaybeTerm}
 use Rattle.clsyntax_lex.specs.declared.token.Token.{Token}
 use Rattle.clsyntax_lex.specs.declared.token.TokenKind.{TokenKind}
 use Rattle.clsyntax_lex.specs.declared.token.TokenKind.TheVariants as kinds
@@ -153,12 +153,12 @@ pub data AtEnd : List Placed → Type 0 where
   at_bracket : {n d : ℕ} {rest : List Placed} → AtEnd (put n kinds.CloseRound d ∷ rest)
 
 -- what follows a target: an assignment or a step; behind a step before it, the end of a simple statement
-pub data AfterTarget : Bool → Place → List Placed → Type 0 where
-  assigns : {n d : ℕ} {k : TokenKind} {op : Option BinaryOperator} {t : Place} {rest : List Placed} → assign_of k ≡ Some op → AfterTarget false t (put n k d ∷ rest)
-  steps : {n d : ℕ} {k : TokenKind} {up : Bool} {t : Place} {rest : List Placed} → step_of k ≡ Some up → IsNamed t → AfterTarget false t (put n k d ∷ rest)
-  stops : {t : Place} {qs : List Placed} → AtEnd qs → AfterTarget true t qs
+pub data AfterTarget : Bool → Target → List Placed → Type 0 where
+  assigns : {n d : ℕ} {k : TokenKind} {op : Option BinaryOperator} {t : Target} {rest : List Placed} → assign_of k ≡ Some op → AfterTarget false t (put n k d ∷ rest)
+  steps : {n d : ℕ} {k : TokenKind} {up : Bool} {t : Target} {rest : List Placed} → step_of k ≡ Some up → IsNamed t → AfterTarget false t (put n k d ∷ rest)
+  stops : {t : Target} {qs : List Placed} → AtEnd qs → AfterTarget true t qs
 
-pub end_stops : {t : Place} {qs : List Placed} → AtEnd qs → AfterTarget true t qs
+pub end_stops : {t : Target} {qs : List Placed} → AtEnd qs → AfterTarget true t qs
 end_stops h = stops h
 
 pub end_follows : (l : ℕ) (qs : List Placed) → AtEnd qs → Follows l qs
@@ -175,12 +175,12 @@ step_no_opening kinds.OpenRound up e = let clash : None ≡ Some up = e in cc
 step_no_opening kinds.OpenSquare up e = let clash : None ≡ Some up = e in cc
 step_no_opening _ up e = tt
 
-begin_same : (u : Bool) (n a x : ℕ) (fs : List Frame) (k : TokenKind) (at : ℕ) → IsNoOpening k → on_begin_name u n a x fs (token_of k at) ≡ on_aimed u n a (Whole a x) fs k
+begin_same : (u : Bool) (n a x : ℕ) (fs : List Frame) (k : TokenKind) (at : ℕ) → IsNoOpening k → on_begin_name u n a x fs (token_of k at) ≡ on_aimed u n a (TargetVariable a x) fs k
 begin_same u n a x fs kinds.OpenRound at h = absurd h
 begin_same u n a x fs kinds.OpenSquare at h = absurd h
 begin_same u n a x fs _ at h = refl
 
-pub begin_alike : (u : Bool) (n a x : ℕ) (fs : List Frame) {t : Place} (qs : List Placed) → AfterTarget u t qs → Alike (in_mode (BeginName u n a x) fs) (in_mode (Aimed u n a (Whole a x)) fs) qs
+pub begin_alike : (u : Bool) (n a x : ℕ) (fs : List Frame) {t : Target} (qs : List Placed) → AfterTarget u t qs → Alike (in_mode (BeginName u n a x) fs) (in_mode (Aimed u n a (TargetVariable a x)) fs) qs
 begin_alike u n a x fs _ (assigns {d = d} {k = k} {op = op} e) = begin_same false n a x fs k d (assign_no_opening k op e)
 begin_alike u n a x fs _ (steps {d = d} {k = k} {up = up} e g) = begin_same false n a x fs k d (step_no_opening k up e)
 begin_alike u n a x fs _ (stops at_semicolon) = refl
@@ -201,13 +201,13 @@ assign_asks kinds.CaretAssign op e = refl
 assign_asks kinds.OrAssign op e = refl
 assign_asks _ op e = let clash : None ≡ Some op = e in absurd cc
 
-pub target_ends : (t : Place) (u : Bool) (qs : List Placed) → AfterTarget u t qs → (IsNamed t → ⊥) → Follows tight qs
+pub target_ends : (t : Target) (u : Bool) (qs : List Placed) → AfterTarget u t qs → (IsNamed t → ⊥) → Follows tight qs
 target_ends t u _ (assigns {k = k} {op = op} e) h = record { level_ = (let g = assign_asks k op e in omega arith); no_opening = assign_no_opening k op e }
 target_ends t u _ (steps e g) h = absurd (h g)
 target_ends t u qs (stops f) h = end_follows tight qs f
 
 behind_assign : (n m a from d : ℕ) (e : Term) (fs : List Frame) (k : TokenKind) (op : Option BinaryOperator) → assign_of k ≡ Some op
-    → on_have m from e (InBehind false a n ∷ fs) (token_of k d) ≡ on_aimed false n a (Behind a e) fs k
+    → on_have m from e (InBehind false a n ∷ fs) (token_of k d) ≡ on_aimed false n a (TargetDereference a e) fs k
 behind_assign n m a from d e fs kinds.Assign op h = refl
 behind_assign n m a from d e fs kinds.PlusAssign op h = refl
 behind_assign n m a from d e fs kinds.MinusAssign op h = refl
@@ -221,8 +221,8 @@ behind_assign n m a from d e fs kinds.CaretAssign op h = refl
 behind_assign n m a from d e fs kinds.OrAssign op h = refl
 behind_assign n m a from d e fs _ op h = let clash : None ≡ Some op = h in absurd cc
 
-pub behind_alike : (u : Bool) (n m a from : ℕ) (e : Term) (fs : List Frame) (qs : List Placed) → AfterTarget u (Behind a e) qs
-    → Alike (in_mode (Have m from e) (InBehind u a n ∷ fs)) (in_mode (Aimed u n a (Behind a e)) fs) qs
+pub behind_alike : (u : Bool) (n m a from : ℕ) (e : Term) (fs : List Frame) (qs : List Placed) → AfterTarget u (TargetDereference a e) qs
+    → Alike (in_mode (Have m from e) (InBehind u a n ∷ fs)) (in_mode (Aimed u n a (TargetDereference a e)) fs) qs
 behind_alike u n m a from e fs _ (assigns {d = d} {k = k} {op = op} h) = behind_assign n m a from d e fs k op h
 behind_alike u n m a from e fs _ (steps h g) = absurd g
 behind_alike u n m a from e fs _ (stops at_semicolon) = refl
@@ -243,10 +243,10 @@ star_begins a ps from_aim = onward refl stop
 
 -- ---- simple statements
 
-pub assign_step : (n a : ℕ) (p : Place) (fs : List Frame) (k : TokenKind) (op : Option BinaryOperator) → assign_of k ≡ Some op → on_aimed false n a p fs k ≡ go n (Operand n) (InAssign a n p op ∷ fs)
+pub assign_step : (n a : ℕ) (p : Target) (fs : List Frame) (k : TokenKind) (op : Option BinaryOperator) → assign_of k ≡ Some op → on_aimed false n a p fs k ≡ go n (Operand n) (InAssign a n p op ∷ fs)
 assign_step n a p fs k op e = ap (λ o. on_placed o (step_of k) n a p fs) e
 
-pub assign_alike : (n m from a : ℕ) (p : Place) (op : Option BinaryOperator) (e : Term) (fs : List Frame) (qs : List Placed) → AtEnd qs
+pub assign_alike : (n m from a : ℕ) (p : Target) (op : Option BinaryOperator) (e : Term) (fs : List Frame) (qs : List Placed) → AtEnd qs
     → Alike (in_mode (Have m from e) (InAssign a n p op ∷ fs)) (in_mode (Ended n (Assign a p op e)) fs) qs
 assign_alike n m from a p op e fs _ at_semicolon = refl
 assign_alike n m from a p op e fs _ at_bracket = refl
@@ -256,12 +256,12 @@ step_begins n a fs kinds.PlusPlus up e = let same : true ≡ up = cc in ap (λ z
 step_begins n a fs kinds.MinusMinus up e = let same : false ≡ up = cc in ap (λ z. go n (Aim (suc n)) (InStep a n z ∷ fs)) same
 step_begins n a fs _ up e = let clash : None ≡ Some up = e in absurd cc
 
-pub step_ends : (n a : ℕ) (p : Place) (fs : List Frame) (k : TokenKind) (up : Bool) → step_of k ≡ Some up → on_aimed false n a p fs k ≡ go n (Ended n (Step a p up)) fs
+pub step_ends : (n a : ℕ) (p : Target) (fs : List Frame) (k : TokenKind) (up : Bool) → step_of k ≡ Some up → on_aimed false n a p fs k ≡ go n (Ended n (Step a p up)) fs
 step_ends n a p fs kinds.PlusPlus up e = let same : true ≡ up = cc in ap (λ z. go n (Ended n (Step a p z)) fs) same
 step_ends n a p fs kinds.MinusMinus up e = let same : false ≡ up = cc in ap (λ z. go n (Ended n (Step a p z)) fs) same
 step_ends n a p fs _ up e = let clash : None ≡ Some up = e in absurd cc
 
-pub step_alike : (n k a b : ℕ) (p : Place) (up : Bool) (fs : List Frame) (qs : List Placed) → AtEnd qs → Alike (in_mode (Aimed true k b p) (InStep a n up ∷ fs)) (in_mode (Ended n (Step a p up)) fs) qs
+pub step_alike : (n k a b : ℕ) (p : Target) (up : Bool) (fs : List Frame) (qs : List Placed) → AtEnd qs → Alike (in_mode (Aimed true k b p) (InStep a n up ∷ fs)) (in_mode (Ended n (Step a p up)) fs) qs
 step_alike n k a b p up fs _ at_semicolon = refl
 step_alike n k a b p up fs _ at_bracket = refl
 

@@ -3,7 +3,7 @@
 
 ghost use Rattle.std.specs.Prelude.{◌≡◌, ◌∷◌, suc, false};
 ghost use Rattle.clmodel.specs.Tree as tree;
-ghost use Rattle.clmodel.specs.Tree.{place, stmt, NoTerm, NoStmt, func};
+ghost use Rattle.clmodel.specs.Tree.{tree_target, stmt, NoTerm, NoStmt, func};
 ghost use Rattle.clsyntax_terms.specs.Grammar as grammar;
 ghost use Rattle.clsyntax_terms.specs.Machine as machine;
 ghost use Rattle.clsyntax_terms.specs.Views.{opened, frame_of, stmts_of, Steps};
@@ -268,7 +268,7 @@ fn step_of(kind: TokenKind) -> Option<bool>
 
 /// After the target with which a statement begins.
 fn on_placed(nesting: u32, at: u32, target: Box<Target>, stack: Stack, token: Token) -> Moved
-    ensures { Steps result (machine.on_aimed false nesting at (place target.value) (opened stack) token.kind) }
+    ensures { Steps result (machine.on_aimed false nesting at (tree_target target.value) (opened stack) token.kind) }
 {
     match assign_of(token.kind) {
         Some(operator) => {
@@ -297,7 +297,7 @@ fn on_placed(nesting: u32, at: u32, target: Box<Target>, stack: Stack, token: To
 
 /// After a name or an element that is a target.
 pub(crate) fn on_aimed(aimed: Aimed, stack: Stack, token: Token) -> Moved
-    ensures { Steps result (machine.on_aimed aimed.is_step aimed.nesting aimed.at (place aimed.target.value) (opened stack) token.kind) }
+    ensures { Steps result (machine.on_aimed aimed.is_step aimed.nesting aimed.at (tree_target aimed.target.value) (opened stack) token.kind) }
 {
     let Aimed {
         is_step,

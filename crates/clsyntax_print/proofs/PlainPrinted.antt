@@ -2,10 +2,10 @@
 use Rattle.std.proofs.Common.{◌≡◌, ℕ, suc, List, [], ◌∷◌, map, Bool, refl, sym, ◌∙◌, ap}
 use Rattle.std.specs.Prelude.{nat_lt}
 use Rattle.clmodel.specs.declared.tree.Parameter.{Parameter}
-use Rattle.clmodel.specs.Tree.{Term, Number, Variable, Element, ElementAddress, Dereference, Call, Unary, Cast, Binary, Choice, Terms, NoTerm, ThenTerm, Place, Whole, Part, Behind, Stmt, Empty, Block, Declare, DeclareAs, DeclareArray, Assign, Step, CallOnly, If, IfElse, While, DoWhile, For, Break, Continue, Return, ReturnValue, MaybeStmt, Without, With, MaybeTerm, Always, While_, Stmts, NoStmt, ThenStmt, Func, Funcs, NoFunc, ThenFunc}
+use Rattle.clmodel.specs.Tree.{Term, Number, Variable, Element, ElementAddress, Dereference, Call, Unary, Cast, Binary, Choice, Terms, NoTerm, ThenTerm, Target, TargetVariable, TargetElement, TargetDereference, Stmt, Empty, Block, Declare, DeclareAs, DeclareArray, Assign, Step, CallOnly, If, IfElse, While, DoWhile, For, Break, Continue, Return, ReturnValue, MaybeStmt, Without, With, MaybeTerm, WithoutTerm, WithTerm, Stmts, NoStmt, ThenStmt, Func, Funcs, NoFunc, ThenFunc}
 use Rattle.clsyntax_lex.specs.declared.token.TokenKind.TheVariants as kinds
 use Rattle.clsyntax_terms.specs.Grammar.{level, tight}
-use Rattle.clsyntax_print.specs.Printing.{plain_term, plain_terms, plain_place, plain_maybe_term, plain_stmt, plain_stmts, plain_maybe_stmt, plain_parameter, plain_func, plain_funcs, Kinds, infix_kind, unary_kind, assign_kind, step_kind, bracketed, print_term, print_terms, print_place, print_type, print_simple, print_part, print_condition, with_token, print_stmt, print_stmts, print_parameter, print_parameters, result_kind, print_func, print_funcs, printed}
+use Rattle.clsyntax_print.specs.Printing.{plain_term, plain_terms, plain_target, plain_maybe_term, plain_stmt, plain_stmts, plain_maybe_stmt, plain_parameter, plain_func, plain_funcs, Kinds, infix_kind, unary_kind, assign_kind, step_kind, bracketed, print_term, print_terms, print_target, print_type, print_simple, print_part, print_condition, with_token, print_stmt, print_stmts, print_parameter, print_parameters, result_kind, print_func, print_funcs, printed}
 
 mutual
   term_plain : (l : ℕ) (e : Term) (rest : Kinds) → print_term l e rest ≡ print_term l (plain_term e) rest
@@ -29,15 +29,15 @@ mutual
   terms_plain (ThenTerm (ThenTerm es d) e) rest =
       terms_plain (ThenTerm es d) (kinds.Comma ∷ print_term 0 e rest) ∙ ap (λ ks. print_terms (plain_terms (ThenTerm es d)) (kinds.Comma ∷ ks)) (term_plain 0 e rest)
 
-place_plain : (p : Place) (rest : Kinds) → print_place p rest ≡ print_place (plain_place p) rest
-place_plain (Whole at x) rest = refl
-place_plain (Part at x e) rest = ap (λ ks. kinds.Name x ∷ kinds.OpenSquare ∷ ks) (term_plain 0 e (kinds.CloseSquare ∷ rest))
-place_plain (Behind at e) rest = ap (λ ks. kinds.Star ∷ ks) (term_plain tight e rest)
+target_plain : (p : Target) (rest : Kinds) → print_target p rest ≡ print_target (plain_target p) rest
+target_plain (TargetVariable at x) rest = refl
+target_plain (TargetElement at x e) rest = ap (λ ks. kinds.Name x ∷ kinds.OpenSquare ∷ ks) (term_plain 0 e (kinds.CloseSquare ∷ rest))
+target_plain (TargetDereference at e) rest = ap (λ ks. kinds.Star ∷ ks) (term_plain tight e rest)
 
 simple_plain : (s : Stmt) (rest : Kinds) → print_simple s rest ≡ print_simple (plain_stmt s) rest
 simple_plain (DeclareAs at kind b x e) rest = ap (λ ks. print_type kind (kinds.Name x ∷ kinds.Assign ∷ ks)) (term_plain 0 e rest)
-simple_plain (Assign at p op e) rest = place_plain p (assign_kind op ∷ print_term 0 e rest) ∙ ap (λ ks. print_place (plain_place p) (assign_kind op ∷ ks)) (term_plain 0 e rest)
-simple_plain (Step at p is_increment) rest = ap (λ ks. step_kind is_increment ∷ ks) (place_plain p rest)
+simple_plain (Assign at p op e) rest = target_plain p (assign_kind op ∷ print_term 0 e rest) ∙ ap (λ ks. print_target (plain_target p) (assign_kind op ∷ ks)) (term_plain 0 e rest)
+simple_plain (Step at p is_increment) rest = ap (λ ks. step_kind is_increment ∷ ks) (target_plain p rest)
 simple_plain (CallOnly at x es) rest = ap (λ ks. kinds.Name x ∷ kinds.OpenRound ∷ ks) (terms_plain es (kinds.CloseRound ∷ rest))
 simple_plain _ rest = refl
 
@@ -46,8 +46,8 @@ part_plain Without rest = refl
 part_plain (With s) rest = simple_plain s rest
 
 condition_plain : (e : MaybeTerm) (rest : Kinds) → print_condition e rest ≡ print_condition (plain_maybe_term e) rest
-condition_plain Always rest = refl
-condition_plain (While_ e) rest = term_plain 0 e rest
+condition_plain WithoutTerm rest = refl
+condition_plain (WithTerm e) rest = term_plain 0 e rest
 
 mutual
   stmt_plain : (s : Stmt) (rest : Kinds) → print_stmt s rest ≡ print_stmt (plain_stmt s) rest

@@ -2,7 +2,7 @@
 use Rattle.std.proofs.Common.{◌≡◌, ℕ, suc, List, [], ◌∷◌, ◌++◌, map, Bool, refl, sym, ◌∙◌, ap, subst}
 use Rattle.clmodel.specs.declared.tree.VariableType.TheVariants.{Integer}
 use Rattle.clmodel.specs.declared.tree.Parameter.{Parameter}
-use Rattle.clmodel.specs.Tree.{Stmt, Empty, Block, Declare, DeclareAs, If, IfElse, While, DoWhile, For, Break, Continue, Return, ReturnValue, MaybeStmt, Without, With, MaybeTerm, Always, While_, Stmts, NoStmt, ThenStmt, Func, Funcs, NoFunc, ThenFunc}
+use Rattle.clmodel.specs.Tree.{Stmt, Empty, Block, Declare, DeclareAs, If, IfElse, While, DoWhile, For, Break, Continue, Return, ReturnValue, MaybeStmt, Without, With, MaybeTerm, WithoutTerm, WithTerm, Stmts, NoStmt, ThenStmt, Func, Funcs, NoFunc, ThenFunc}
 use Rattle.clsyntax_lex.specs.declared.token.Token.{Token}
 use Rattle.clsyntax_lex.specs.declared.token.TokenKind.TheVariants as kinds
 use Rattle.clsyntax_terms.specs.Grammar.{Placed, put, parameter_of, IsNoElse, Head, head, with_body, Goal, Statement, Declaration, Items, Initial, Condition, Final, OneParameter, Parameters, Returning, Heading, Program, Reads, simple, empty, block, if_only, if_else, while_loop, do_loop, for_loop, no_initial, simple_initial, declared_initial, no_condition, condition, no_final, simple_final, break_only, continue_only, return_only, return_value, declare, declare_as, array, local_array, no_items, statement, declaration, parameter, first_parameter, next_parameter, kernel, void, typed, bare_heading, heading, no_functions, function}
@@ -217,15 +217,15 @@ again (declared_initial {n = n} {x = x} {type = type} {e = e} i r) = λ rest ts 
     }
 again (no_condition {n = n}) = λ rest ts s.
     let f = first_of_kinds kinds.Semicolon rest ts s in
-    record { tree = Always; after = f.rest; kinds = f.kinds; same = refl; place = λ qs q. record { placed = put n kinds.Semicolon f.at ∷ qs; same = behind_one n f qs q; reads = no_condition } }
+    record { tree = WithoutTerm; after = f.rest; kinds = f.kinds; same = refl; place = λ qs q. record { placed = put n kinds.Semicolon f.at ∷ qs; same = behind_one n f qs q; reads = no_condition } }
 again (condition {n = n} {e = e} r) = λ rest ts s.
     let value = term_again e 0 n (kinds.Semicolon ∷ rest) ts s in
     let end_ = first_of_kinds kinds.Semicolon rest value.after value.kinds in
     record {
-      tree = While_ value.tree.0;
+      tree = WithTerm value.tree.0;
       after = end_.rest;
       kinds = end_.kinds;
-      same = ap While_ value.same;
+      same = ap WithTerm value.same;
       place = λ qs q. let f = value.place (put n kinds.Semicolon end_.at ∷ qs) (behind_one n end_ qs q) in record { placed = f.placed; same = f.same; reads = condition f.reads };
     }
 again (no_final {n = n}) = λ rest ts s.

@@ -7,47 +7,47 @@ use Rattle.clnum.specs.declared.operators.BinaryOperator.TheVariants.{Add, Subtr
 use Rattle.clmodel.specs.declared.tree.AddressSpace.TheVariants.{Local}
 use Rattle.clmodel.specs.declared.tree.VariableType.{VariableType}
 use Rattle.clmodel.specs.declared.tree.VariableType.TheVariants.{Integer, Pointer}
-use Rattle.clmodel.specs.Tree.{Term, Terms, NoTerm, ThenTerm, Place, Whole, Part, Behind, Stmt, DeclareArray, Assign, Step, CallOnly}
+use Rattle.clmodel.specs.Tree.{Term, Terms, NoTerm, ThenTerm, Target, TargetVariable, TargetElement, TargetDereference, Stmt, DeclareArray, Assign, Step, CallOnly}
 use Rattle.clsyntax_lex.specs.declared.token.Token.{Token}
 use Rattle.clsyntax_lex.specs.declared.token.TokenKind.{TokenKind}
 use Rattle.clsyntax_lex.specs.declared.token.TokenKind.TheVariants as kinds
-use Rattle.clsyntax_terms.specs.Grammar.{Placed, put, start, tight, type_of, assign_of, step_of, IsNoElse, Target, Simple, Statement, Typing, Declaration, Reads, whole_place, part, behind_star, assign, step_before, step_behind, bare_call_only, call_only, simple, empty, block, if_only, if_else, while_loop, do_loop, for_loop, break_only, continue_only, return_only, return_value, integer, pointer, const_pointer, declare, declare_as, array, local_array}
+use Rattle.clsyntax_terms.specs.Grammar.{Placed, put, start, tight, type_of, assign_of, step_of, IsNoElse, Assignee, Simple, Statement, Typing, Declaration, Reads, variable_target, part, behind_star, assign, step_before, step_behind, bare_call_only, call_only, simple, empty, block, if_only, if_else, while_loop, do_loop, for_loop, break_only, continue_only, return_only, return_value, integer, pointer, const_pointer, declare, declare_as, array, local_array}
 use Rattle.clsyntax.specs.Correct.{tokens}
 use Rattle.clsyntax_lex.specs.Printed.{kinds_of}
-use Rattle.clsyntax_print.specs.Printing.{plain_term, plain_place, plain_stmt, Kinds, assign_kind, step_kind, print_term, print_place, print_type, print_simple, print_stmt}
+use Rattle.clsyntax_print.specs.Printing.{plain_term, plain_target, plain_stmt, Kinds, assign_kind, step_kind, print_term, print_target, print_type, print_simple, print_stmt}
 use Rattle.clsyntax_print.proofs.PrintedTerms.{first_of_kinds, begin, begins, behind_one, Again, term_again, terms_again}
 
 -- ---- targets and simple statements
 
-abbrev AgainPlace : (n : ℕ) → Place → Kinds → List Token → Type 0
-AgainPlace n t rest ts = Again Place (λ x. Target n x) (λ x. plain_place x ≡ plain_place t) rest ts
+abbrev AgainTarget : (n : ℕ) → Target → Kinds → List Token → Type 0
+AgainTarget n t rest ts = Again Target (λ x. Assignee n x) (λ x. plain_target x ≡ plain_target t) rest ts
 
-pub place_again : (t : Place) (n : ℕ) (rest : Kinds) (ts : List Token) → kinds_of ts ≡ print_place t rest → AgainPlace n t rest ts
-place_again (Whole at x) n rest ts s =
+pub target_again : (t : Target) (n : ℕ) (rest : Kinds) (ts : List Token) → kinds_of ts ≡ print_target t rest → AgainTarget n t rest ts
+target_again (TargetVariable at x) n rest ts s =
     let f = first_of_kinds (kinds.Name x) rest ts s in
-    record { tree = Whole f.at x; after = f.rest; kinds = f.kinds; same = refl; place = λ qs q. record { placed = put n (kinds.Name x) f.at ∷ qs; same = behind_one n f qs q; reads = whole_place } }
-place_again (Part at x e) n rest ts s =
+    record { tree = TargetVariable f.at x; after = f.rest; kinds = f.kinds; same = refl; place = λ qs q. record { placed = put n (kinds.Name x) f.at ∷ qs; same = behind_one n f qs q; reads = variable_target } }
+target_again (TargetElement at x e) n rest ts s =
     let name = first_of_kinds (kinds.Name x) _ ts s in
     let open_ = first_of_kinds kinds.OpenSquare _ name.rest name.kinds in
     let inside = term_again e 0 (suc n) (kinds.CloseSquare ∷ rest) open_.rest open_.kinds in
     let close_ = first_of_kinds kinds.CloseSquare rest inside.after inside.kinds in
     record {
-      tree = Part name.at x inside.tree.0;
+      tree = TargetElement name.at x inside.tree.0;
       after = close_.rest;
       kinds = close_.kinds;
-      same = ap (Part 0 x) inside.same;
+      same = ap (TargetElement 0 x) inside.same;
       place = λ qs q. let f = inside.place (put (suc n) kinds.CloseSquare close_.at ∷ qs) (behind_one (suc n) close_ qs q) in
           let opened : List Placed = put n kinds.OpenSquare open_.at ∷ f.placed in
           record { placed = put n (kinds.Name x) name.at ∷ opened; same = behind_one n name opened (behind_one n open_ f.placed f.same); reads = part f.reads };
     }
-place_again (Behind at e) n rest ts s =
+target_again (TargetDereference at e) n rest ts s =
     let star = first_of_kinds kinds.Star _ ts s in
     let inside = term_again e tight (suc n) rest star.rest star.kinds in
     record {
-      tree = Behind star.at inside.tree.0;
+      tree = TargetDereference star.at inside.tree.0;
       after = inside.after;
       kinds = inside.kinds;
-      same = ap (Behind 0) inside.same;
+      same = ap (TargetDereference 0) inside.same;
       place = λ qs q. let f = inside.place qs q in record { placed = put n kinds.Star star.at ∷ f.placed; same = behind_one n star f.placed f.same; reads = behind_star f.reads };
     }
 
@@ -72,17 +72,17 @@ step_step : (up : Bool) → step_of (step_kind up) ≡ Some up
 step_step true = refl
 step_step false = refl
 
-pub assign_again : (n at : ℕ) (t : Place) (op : Option BinaryOperator) (e : Term) (rest : Kinds) (ts : List Token) → assign_of (assign_kind op) ≡ Some op
+pub assign_again : (n at : ℕ) (t : Target) (op : Option BinaryOperator) (e : Term) (rest : Kinds) (ts : List Token) → assign_of (assign_kind op) ≡ Some op
     → kinds_of ts ≡ print_simple (Assign at t op e) rest → AgainSimple n (Assign at t op e) rest ts
 assign_again n at t op e rest ts i s =
-    let target = place_again t n (assign_kind op ∷ print_term 0 e rest) ts s in
+    let target = target_again t n (assign_kind op ∷ print_term 0 e rest) ts s in
     let sign = first_of_kinds (assign_kind op) _ target.after target.kinds in
     let value = term_again e 0 n rest sign.rest sign.kinds in
     record {
       tree = Assign (begin ts) target.tree op value.tree.0;
       after = value.after;
       kinds = value.kinds;
-      same = ap (λ z. Assign 0 z op (plain_term value.tree.0)) target.same ∙ ap (Assign 0 (plain_place t) op) value.same;
+      same = ap (λ z. Assign 0 z op (plain_term value.tree.0)) target.same ∙ ap (Assign 0 (plain_target t) op) value.same;
       place = λ qs q.
           let g = value.place qs q in
           let f = target.place (put n (assign_kind op) sign.at ∷ g.placed) (behind_one n sign g.placed g.same) in
@@ -90,10 +90,10 @@ assign_again n at t op e rest ts i s =
           record { placed = f.placed; same = f.same; reads = subst R (begins f.placed ts f.same) (assign i f.reads g.reads) };
     }
 
-pub step_again : (n at : ℕ) (t : Place) (up : Bool) (rest : Kinds) (ts : List Token) → kinds_of ts ≡ print_simple (Step at t up) rest → AgainSimple n (Step at t up) rest ts
+pub step_again : (n at : ℕ) (t : Target) (up : Bool) (rest : Kinds) (ts : List Token) → kinds_of ts ≡ print_simple (Step at t up) rest → AgainSimple n (Step at t up) rest ts
 step_again n at t up rest ts s =
     let sign = first_of_kinds (step_kind up) _ ts s in
-    let target = place_again t (suc n) rest sign.rest sign.kinds in
+    let target = target_again t (suc n) rest sign.rest sign.kinds in
     record {
       tree = Step sign.at target.tree up;
       after = target.after;
@@ -160,10 +160,10 @@ no_else [] ts rest q k h = tt
 no_else (p ∷ ps) ts [] q k h = let clash : p.token.kind ∷ kinds_of (tokens ps) ≡ [] = ap kinds_of q ∙ k in absurd cc
 no_else (p ∷ ps) ts (r ∷ rest) q k h = λ e. let both : p.token.kind ∷ kinds_of (tokens ps) ≡ r ∷ rest = ap kinds_of q ∙ k in let same : r ≡ kinds.Else = cc in h same
 
-place_no_else : (t : Place) (rest : Kinds) → NoElse (print_place t rest)
-place_no_else (Whole at x) rest = λ e. cc
-place_no_else (Part at x i) rest = λ e. cc
-place_no_else (Behind at d) rest = λ e. cc
+target_no_else : (t : Target) (rest : Kinds) → NoElse (print_target t rest)
+target_no_else (TargetVariable at x) rest = λ e. cc
+target_no_else (TargetElement at x i) rest = λ e. cc
+target_no_else (TargetDereference at d) rest = λ e. cc
 
 step_no_else : (up : Bool) (rest : Kinds) → NoElse (step_kind up ∷ rest)
 step_no_else true rest = λ e. cc
@@ -174,9 +174,9 @@ type_no_else (Integer type) rest = λ e. cc
 type_no_else (Pointer p) rest = λ e. cc
 
 pub simple_no_else : {n : ℕ} {s : Stmt} {ps qs : List Placed} → Reads (Simple n s) ps qs → (rest : Kinds) → NoElse (print_simple s rest)
-simple_no_else (assign {op = op} {t = t} {e = e} i r q) rest = place_no_else t (assign_kind op ∷ print_term 0 e rest)
-simple_no_else (step_before {is_increment = up} {t = t} i r) rest = step_no_else up (print_place t rest)
-simple_no_else (step_behind {is_increment = up} {t = t} i h r) rest = step_no_else up (print_place t rest)
+simple_no_else (assign {op = op} {t = t} {e = e} i r q) rest = target_no_else t (assign_kind op ∷ print_term 0 e rest)
+simple_no_else (step_before {is_increment = up} {t = t} i r) rest = step_no_else up (print_target t rest)
+simple_no_else (step_behind {is_increment = up} {t = t} i h r) rest = step_no_else up (print_target t rest)
 simple_no_else bare_call_only rest = λ e. cc
 simple_no_else (call_only r) rest = λ e. cc
 

@@ -10,10 +10,10 @@ use Rattle.clmodel.specs.Tree.{Term, Terms, NoTerm, ThenTerm}
 use Rattle.clsyntax_lex.specs.declared.token.TokenKind.{TokenKind}
 use Rattle.clsyntax_lex.specs.declared.token.TokenKind.TheVariants as kinds
 use Rattle.clsyntax_terms.specs.Grammar as grammar
-use Rattle.clsyntax_terms.specs.Grammar.{Placed, start, level, tight, Prefix, Operator, Fetch, Convert, prefixed_by, prefix_of, infix_of, type_of, assign_of, step_of, with_body, Goal, Expr, Arguments, Target, Simple, Statement, Typing, Declaration, Items, OneParameter, Parameters, Heading, Program, Reads, number, variable, element, address, bare_call, call, round, operator, cast, prefixed, binary, choice, one_argument, next_argument, whole_place, part, behind_star, assign, step_before, step_behind, bare_call_only, call_only, simple, empty, block, if_only, if_else, while_loop, do_loop, for_loop, no_initial, simple_initial, declared_initial, no_condition, condition, no_final, simple_final, break_only, continue_only, return_only, return_value, integer, pointer, const_pointer, declare, declare_as, array, local_array, no_items, statement, declaration, parameter, first_parameter, next_parameter, kernel, void, typed, bare_heading, heading, no_functions, function}
+use Rattle.clsyntax_terms.specs.Grammar.{Placed, start, level, tight, Prefix, Operator, Fetch, Convert, prefixed_by, prefix_of, infix_of, type_of, assign_of, step_of, with_body, Goal, Expr, Arguments, Assignee, Simple, Statement, Typing, Declaration, Items, OneParameter, Parameters, Heading, Program, Reads, number, variable, element, address, bare_call, call, round, operator, cast, prefixed, binary, choice, one_argument, next_argument, variable_target, part, behind_star, assign, step_before, step_behind, bare_call_only, call_only, simple, empty, block, if_only, if_else, while_loop, do_loop, for_loop, no_initial, simple_initial, declared_initial, no_condition, condition, no_final, simple_final, break_only, continue_only, return_only, return_value, integer, pointer, const_pointer, declare, declare_as, array, local_array, no_items, statement, declaration, parameter, first_parameter, next_parameter, kernel, void, typed, bare_heading, heading, no_functions, function}
 use Rattle.clsyntax.specs.Correct.{tokens}
 use Rattle.clsyntax_lex.specs.Printed.{kinds_of}
-use Rattle.clsyntax_print.specs.Printing.{Kinds, infix_kind, unary_kind, assign_kind, step_kind, bracketed, print_term, print_terms, print_place, print_type, with_token, print_simple, print_part, print_condition, print_stmt, print_stmts, print_parameter, print_parameters, result_kind, print_func, print_funcs, with_word, words_in, HasWords}
+use Rattle.clsyntax_print.specs.Printing.{Kinds, infix_kind, unary_kind, assign_kind, step_kind, bracketed, print_term, print_terms, print_target, print_type, with_token, print_simple, print_part, print_condition, print_stmt, print_stmts, print_parameter, print_parameters, result_kind, print_func, print_funcs, with_word, words_in, HasWords}
 use Rattle.clsyntax_print.proofs.PrintedTerms.{IsSome, infix_infix}
 use Rattle.clsyntax_print.proofs.PrintedStatements.{assign_assign, simple_ended}
 use Rattle.clsyntax_print.proofs.PrintedPrograms.{some_parameter, print_next, print_head}
@@ -85,7 +85,7 @@ abbrev Claim : Goal → List Placed → List Placed → Type 0
 Claim (grammar.Before n p) ps qs = words ps ≡ words qs
 Claim (Expr l n e m) ps qs = (j : ℕ) (rest : Kinds) → words qs ≡ words_in rest → words ps ≡ words_in (print_term j e rest)
 Claim (Arguments n es) ps qs = (rest : Kinds) → words qs ≡ words_in rest → words ps ≡ words_in (print_terms es rest)
-Claim (Target n t) ps qs = (rest : Kinds) → words qs ≡ words_in rest → words ps ≡ words_in (print_place t rest)
+Claim (Assignee n t) ps qs = (rest : Kinds) → words qs ≡ words_in rest → words ps ≡ words_in (print_target t rest)
 Claim (Simple n s) ps qs = (rest : Kinds) → words qs ≡ words_in rest → words ps ≡ words_in (print_simple s rest)
 Claim (Statement n s) ps qs = (rest : Kinds) → words qs ≡ words_in rest → words ps ≡ words_in (print_stmt s rest)
 Claim (Typing u n kind) ps qs = (rest : Kinds) → words qs ≡ words_in rest → words ps ≡ words_in (print_type kind rest)
@@ -126,15 +126,15 @@ same_words (choice {d = d} {e = e} {f = z} {ps = ps} r q t) = λ j rest h.
 same_words (one_argument r) = λ rest h. same_words r 0 rest h
 same_words (next_argument {es = es} {e = e} r q) = λ rest h.
     same_words r (kinds.Comma ∷ print_term 0 e rest) (same_words q 0 rest h) ∙ ap words_in (terms_then es e rest (some_argument r))
-same_words (whole_place {x = x}) = λ rest h. name_then x h
+same_words (variable_target {x = x}) = λ rest h. name_then x h
 same_words (part {x = x} r) = λ rest h. name_then x (same_words r 0 (kinds.CloseSquare ∷ rest) h)
 same_words (behind_star r) = λ rest h. same_words r tight rest h
 same_words (assign {k = k} {op = op} {e = e} {qs = qs} i r q) = λ rest h.
     let value = same_words q 0 rest h in
     let sign = assign_is_none (assign_kind op) op (words_in (print_term 0 e rest)) (assign_assign k op i) in
     same_words r (assign_kind op ∷ print_term 0 e rest) (assign_is_none k op (words qs) i ∙ (value ∙ sym sign))
-same_words (step_before {k = k} {is_increment = up} {t = t} {ps = ps} i r) = λ rest h. step_is_none k up (words ps) i ∙ (same_words r rest h ∙ step_kind_is_none up (words_in (print_place t rest)))
-same_words (step_behind {k = k} {is_increment = up} {t = t} {qs = qs} i g r) = λ rest h. same_words r rest (step_is_none k up (words qs) i ∙ h) ∙ step_kind_is_none up (words_in (print_place t rest))
+same_words (step_before {k = k} {is_increment = up} {t = t} {ps = ps} i r) = λ rest h. step_is_none k up (words ps) i ∙ (same_words r rest h ∙ step_kind_is_none up (words_in (print_target t rest)))
+same_words (step_behind {k = k} {is_increment = up} {t = t} {qs = qs} i g r) = λ rest h. same_words r rest (step_is_none k up (words qs) i ∙ h) ∙ step_kind_is_none up (words_in (print_target t rest))
 same_words (bare_call_only {x = x}) = λ rest h. name_then x h
 same_words (call_only {x = x} r) = λ rest h. name_then x (same_words r (kinds.CloseRound ∷ rest) h)
 same_words (simple r) = λ rest h. same_words r (kinds.Semicolon ∷ rest) h ∙ ap words_in (sym (simple_ended r rest))

@@ -11,7 +11,7 @@ use Rattle.clmodel.specs.declared.tree.AddressSpace.TheVariants.{Local}
 use Rattle.clmodel.specs.declared.tree.VariableType.{VariableType}
 use Rattle.clmodel.specs.declared.tree.VariableType.TheVariants.{Integer, Pointer}
 use Rattle.clmodel.specs.declared.tree.Parameter.{Parameter}
-use Rattle.clmodel.specs.Tree.{Term, Number, Variable, Element, ElementAddress, Dereference, Call, Unary, Cast, Binary, Choice, Terms, NoTerm, ThenTerm, Place, Whole, Part, Behind, Stmt, Empty, Block, Declare, DeclareAs, DeclareArray, Assign, Step, CallOnly, If, IfElse, While, DoWhile, For, Break, Continue, Return, ReturnValue, MaybeStmt, Without, With, MaybeTerm, Always, While_, Stmts, NoStmt, ThenStmt, Func, Funcs, NoFunc, ThenFunc}
+use Rattle.clmodel.specs.Tree.{Term, Number, Variable, Element, ElementAddress, Dereference, Call, Unary, Cast, Binary, Choice, Terms, NoTerm, ThenTerm, Target, TargetVariable, TargetElement, TargetDereference, Stmt, Empty, Block, Declare, DeclareAs, DeclareArray, Assign, Step, CallOnly, If, IfElse, While, DoWhile, For, Break, Continue, Return, ReturnValue, MaybeStmt, Without, With, MaybeTerm, WithoutTerm, WithTerm, Stmts, NoStmt, ThenStmt, Func, Funcs, NoFunc, ThenFunc}
 use Rattle.clsyntax_lex.specs.declared.token.Token.{Token}
 use Rattle.clsyntax_lex.specs.declared.token.TokenKind.{TokenKind}
 use Rattle.clsyntax_lex.specs.declared.token.TokenKind.TheVariants as kinds
@@ -38,14 +38,14 @@ abbrev mutual
   plain_terms NoTerm = NoTerm
   plain_terms (ThenTerm es e) = ThenTerm (plain_terms es) (plain_term e)
 
-abbrev pub plain_place : Place → Place
-plain_place (Whole at x) = Whole 0 x
-plain_place (Part at x e) = Part 0 x (plain_term e)
-plain_place (Behind at e) = Behind 0 (plain_term e)
+abbrev pub plain_target : Target → Target
+plain_target (TargetVariable at x) = TargetVariable 0 x
+plain_target (TargetElement at x e) = TargetElement 0 x (plain_term e)
+plain_target (TargetDereference at e) = TargetDereference 0 (plain_term e)
 
 abbrev pub plain_maybe_term : MaybeTerm → MaybeTerm
-plain_maybe_term Always = Always
-plain_maybe_term (While_ e) = While_ (plain_term e)
+plain_maybe_term WithoutTerm = WithoutTerm
+plain_maybe_term (WithTerm e) = WithTerm (plain_term e)
 
 abbrev mutual
   pub plain_stmt : Stmt → Stmt
@@ -54,8 +54,8 @@ abbrev mutual
   plain_stmt (Declare at kind b x) = Declare 0 kind 0 x
   plain_stmt (DeclareAs at kind b x e) = DeclareAs 0 kind 0 x (plain_term e)
   plain_stmt (DeclareArray at is_local type b x c length) = DeclareArray 0 is_local type 0 x 0 length
-  plain_stmt (Assign at p op e) = Assign 0 (plain_place p) op (plain_term e)
-  plain_stmt (Step at p is_increment) = Step 0 (plain_place p) is_increment
+  plain_stmt (Assign at p op e) = Assign 0 (plain_target p) op (plain_term e)
+  plain_stmt (Step at p is_increment) = Step 0 (plain_target p) is_increment
   plain_stmt (CallOnly at x es) = CallOnly 0 x (plain_terms es)
   plain_stmt (If at e s) = If 0 (plain_term e) (plain_stmt s)
   plain_stmt (IfElse at e s t) = IfElse 0 (plain_term e) (plain_stmt s) (plain_stmt t)
@@ -163,10 +163,10 @@ abbrev mutual
   print_terms (ThenTerm NoTerm e) rest = print_term 0 e rest
   print_terms (ThenTerm (ThenTerm es d) e) rest = print_terms (ThenTerm es d) (kinds.Comma ∷ print_term 0 e rest)
 
-abbrev pub print_place : Place → Kinds → Kinds
-print_place (Whole at x) rest = kinds.Name x ∷ rest
-print_place (Part at x e) rest = kinds.Name x ∷ kinds.OpenSquare ∷ print_term 0 e (kinds.CloseSquare ∷ rest)
-print_place (Behind at e) rest = kinds.Star ∷ print_term tight e rest
+abbrev pub print_target : Target → Kinds → Kinds
+print_target (TargetVariable at x) rest = kinds.Name x ∷ rest
+print_target (TargetElement at x e) rest = kinds.Name x ∷ kinds.OpenSquare ∷ print_term 0 e (kinds.CloseSquare ∷ rest)
+print_target (TargetDereference at e) rest = kinds.Star ∷ print_term tight e rest
 
 abbrev pub print_const : Bool → Kinds → Kinds
 print_const true rest = kinds.Const ∷ rest
@@ -186,8 +186,8 @@ abbrev pub print_simple : Stmt → Kinds → Kinds
 print_simple (Declare at kind b x) rest = print_type kind (kinds.Name x ∷ rest)
 print_simple (DeclareAs at kind b x e) rest = print_type kind (kinds.Name x ∷ kinds.Assign ∷ print_term 0 e rest)
 print_simple (DeclareArray at is_local type b x c v) rest = with_token is_local (kinds.Space Local) (kinds.Type type ∷ kinds.Name x ∷ kinds.OpenSquare ∷ kinds.Number v ∷ kinds.CloseSquare ∷ rest)
-print_simple (Assign at p op e) rest = print_place p (assign_kind op ∷ print_term 0 e rest)
-print_simple (Step at p is_increment) rest = step_kind is_increment ∷ print_place p rest
+print_simple (Assign at p op e) rest = print_target p (assign_kind op ∷ print_term 0 e rest)
+print_simple (Step at p is_increment) rest = step_kind is_increment ∷ print_target p rest
 print_simple (CallOnly at x es) rest = kinds.Name x ∷ kinds.OpenRound ∷ print_terms es (kinds.CloseRound ∷ rest)
 print_simple _ rest = rest
 
@@ -197,8 +197,8 @@ print_part Without rest = rest
 print_part (With s) rest = print_simple s rest
 
 abbrev pub print_condition : MaybeTerm → Kinds → Kinds
-print_condition Always rest = rest
-print_condition (While_ e) rest = print_term 0 e rest
+print_condition WithoutTerm rest = rest
+print_condition (WithTerm e) rest = print_term 0 e rest
 
 abbrev mutual
   pub print_stmt : Stmt → Kinds → Kinds

@@ -12,7 +12,7 @@ use crate::tokens::{write_if, write_tokens};
 use clmodel::text::Name;
 use clmodel::tree::Expression;
 use clsyntax_lex::token::TokenKind;
-use ends::{Write, WriteFailed};
+use counted_io::{Write, WriteFailed};
 
 /// Writes an expression where one of a level is wanted: round brackets stand around it where its outermost operator binds less
 /// tightly.

@@ -14,7 +14,7 @@ use clmodel::text::Name;
 use clmodel::tree::{Function, Parameter};
 use clnum::IntType;
 use clsyntax_lex::token::TokenKind;
-use ends::{Write, WriteFailed};
+use counted_io::{Write, WriteFailed};
 
 /// Writes tokens and a parameter.
 fn write_parameter<W: Write>(

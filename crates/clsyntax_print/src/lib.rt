@@ -2,7 +2,7 @@
 #![tactic(auto)]
 
 ghost use Rattle.clmodel.specs.Tree.{program};
-ghost use Rattle.ends.specs.Sink.{Puts};
+ghost use Rattle.counted_io.specs.Sink.{Puts};
 ghost use Rattle.clsyntax_print.specs.Text.{printed_text, IsOfGrammar, IsReadBack};
 
 mod expressions;
@@ -14,7 +14,7 @@ mod tokens;
 
 use crate::functions::write_functions;
 use clmodel::tree::Tree;
-use ends::{Write, WriteFailed};
+use counted_io::{Write, WriteFailed};
 
 /// Why a tree was not printed.
 #[derive(Clone, Copy, Debug, PartialEq, Eq)]

@@ -3,10 +3,10 @@
 
 ghost use Rattle.std.specs.Prelude.{◌≡◌, ◌++◌, ◌∷◌, List, map};
 ghost use Rattle.clmodel.specs.declared.tree.AddressSpace.TheVariants.{Local};
-ghost use Rattle.clmodel.specs.Tree.{term, place, stmt, maybe_term, then_stmts, NoStmt};
+ghost use Rattle.clmodel.specs.Tree.{term, tree_target, stmt, maybe_term, then_stmts, NoStmt};
 ghost use Rattle.clsyntax_lex.specs.declared.token.TokenKind.{TokenKind};
 ghost use Rattle.clsyntax_lex.specs.declared.token.TokenKind.TheVariants as kinds;
-ghost use Rattle.clsyntax_print.specs.Printing.{with_token, print_place, print_type, print_term, print_simple, print_part, print_condition, print_stmt, print_stmts};
+ghost use Rattle.clsyntax_print.specs.Printing.{with_token, print_target, print_type, print_term, print_simple, print_part, print_condition, print_stmt, print_stmts};
 ghost use Rattle.clsyntax_print.specs.Writing.{part_of, Passes};
 
 use crate::expressions::{write_arguments, write_between};
@@ -16,7 +16,7 @@ use clmodel::text::Name;
 use clmodel::tree::{AddressSpace, Expression, Statement, Target, VariableType};
 use clnum::{IntType, Value};
 use clsyntax_lex::token::TokenKind;
-use ends::{Write, WriteFailed};
+use counted_io::{Write, WriteFailed};
 
 /// Writes a target.
 fn write_target<W: Write>(
@@ -24,7 +24,7 @@ fn write_target<W: Write>(
     names: &[Name],
     writer: &mut W,
 ) -> Result<(), WriteFailed>
-    ensures { (rest : List TokenKind) → Passes names.now (W.sink writer.old) result (W.sink writer.new) (print_place (place target.now) rest) rest }
+    ensures { (rest : List TokenKind) → Passes names.now (W.sink writer.old) result (W.sink writer.new) (print_target (tree_target target.now) rest) rest }
 {
     match target {
         Target::Variable { name, .. } => write_tokens(&[TokenKind::Name(*name)], names, writer),

@@ -14,7 +14,7 @@ use Rattle.clmodel.specs.declared.tree.AddressSpace.TheVariants.{Local}
 use Rattle.clmodel.specs.declared.tree.VariableType.{VariableType}
 use Rattle.clmodel.specs.declared.tree.VariableType.TheVariants.{Integer, Pointer}
 use Rattle.clmodel.specs.declared.tree.Parameter.{Parameter}
-use Rattle.clmodel.specs.Tree.{Term, Number, Variable, Element, ElementAddress, Dereference, Call, Unary, Cast, Binary, Choice, Terms, NoTerm, ThenTerm, Place, Whole, Part, Behind, Stmt, Empty, Block, Declare, DeclareAs, DeclareArray, Assign, Step, CallOnly, If, IfElse, While, DoWhile, For, Break, Continue, Return, ReturnValue, Stmts, NoStmt, ThenStmt, MaybeStmt, Without, With, MaybeTerm, Always, While_, Func, Funcs, NoFunc, ThenFunc}
+use Rattle.clmodel.specs.Tree.{Term, Number, Variable, Element, ElementAddress, Dereference, Call, Unary, Cast, Binary, Choice, Terms, NoTerm, ThenTerm, Target, TargetVariable, TargetElement, TargetDereference, Stmt, Empty, Block, Declare, DeclareAs, DeclareArray, Assign, Step, CallOnly, If, IfElse, While, DoWhile, For, Break, Continue, Return, ReturnValue, Stmts, NoStmt, ThenStmt, MaybeStmt, Without, With, MaybeTerm, WithoutTerm, WithTerm, Func, Funcs, NoFunc, ThenFunc}
 pub use Rattle.clmodel.specs.Tree.{level}
 use Rattle.clsyntax_lex.specs.declared.token.Token.{Token}
 use Rattle.clsyntax_lex.specs.declared.token.TokenKind.{TokenKind}
@@ -113,8 +113,8 @@ step_of kinds.MinusMinus = Some false
 step_of _ = None
 
 -- a name or an element: `*p++;` is no statement
-abbrev pub IsNamed : Place → Type 0
-IsNamed (Behind at e) = ⊥
+abbrev pub IsNamed : Target → Type 0
+IsNamed (TargetDereference at e) = ⊥
 IsNamed _ = Unit {0}
 
 -- a pointer into a memory (OpenCL 1.2, 6.5)
@@ -153,7 +153,7 @@ pub data Goal : Type 0 where
   Before : (n : ℕ) → Prefix → Goal
   Expr : (l n : ℕ) → Term → (m : ℕ) → Goal
   Arguments : (n : ℕ) → Terms → Goal
-  Target : (n : ℕ) → Place → Goal
+  Assignee : (n : ℕ) → Target → Goal
   Simple : (n : ℕ) → Stmt → Goal
   Statement : (n : ℕ) → Stmt → Goal
   Typing : (takes_size : Bool) → (n : ℕ) → VariableType → Goal
@@ -216,27 +216,27 @@ pub data Reads : Goal → List Placed → List Placed → Type 0 where
       → Reads (Arguments n es) ps (put (suc n) kinds.Comma b ∷ qs)
       → Reads (Expr 0 (suc n) e m) qs rs
       → Reads (Arguments n (ThenTerm es e)) ps rs
-  whole_place : {n x a : ℕ} {qs : List Placed} → Reads (Target n (Whole a x)) (put n (kinds.Name x) a ∷ qs) qs
+  variable_target : {n x a : ℕ} {qs : List Placed} → Reads (Assignee n (TargetVariable a x)) (put n (kinds.Name x) a ∷ qs) qs
   part : {n x a b c m : ℕ} {e : Term} {ps qs : List Placed}
       → Reads (Expr 0 (suc n) e m) ps (put (suc n) kinds.CloseSquare c ∷ qs)
-      → Reads (Target n (Part a x e)) (put n (kinds.Name x) a ∷ put n kinds.OpenSquare b ∷ ps) qs
+      → Reads (Assignee n (TargetElement a x e)) (put n (kinds.Name x) a ∷ put n kinds.OpenSquare b ∷ ps) qs
   behind_star : {n a m : ℕ} {e : Term} {ps qs : List Placed}
       → Reads (Expr tight (suc n) e m) ps qs
-      → Reads (Target n (Behind a e)) (put n kinds.Star a ∷ ps) qs
+      → Reads (Assignee n (TargetDereference a e)) (put n kinds.Star a ∷ ps) qs
   -- the value's expression begins anew: operators of the target count no more
-  assign : {n b m : ℕ} {k : TokenKind} {op : Option BinaryOperator} {t : Place} {e : Term} {ps qs rs : List Placed}
+  assign : {n b m : ℕ} {k : TokenKind} {op : Option BinaryOperator} {t : Target} {e : Term} {ps qs rs : List Placed}
       → assign_of k ≡ Some op
-      → Reads (Target n t) ps (put n k b ∷ qs)
+      → Reads (Assignee n t) ps (put n k b ∷ qs)
       → Reads (Expr 0 n e m) qs rs
       → Reads (Simple n (Assign (start ps) t op e)) ps rs
-  step_before : {n a : ℕ} {k : TokenKind} {is_increment : Bool} {t : Place} {ps qs : List Placed}
+  step_before : {n a : ℕ} {k : TokenKind} {is_increment : Bool} {t : Target} {ps qs : List Placed}
       → step_of k ≡ Some is_increment
-      → Reads (Target (suc n) t) ps qs
+      → Reads (Assignee (suc n) t) ps qs
       → Reads (Simple n (Step a t is_increment)) (put n k a ∷ ps) qs
-  step_behind : {n b : ℕ} {k : TokenKind} {is_increment : Bool} {t : Place} {ps qs : List Placed}
+  step_behind : {n b : ℕ} {k : TokenKind} {is_increment : Bool} {t : Target} {ps qs : List Placed}
       → step_of k ≡ Some is_increment
       → IsNamed t
-      → Reads (Target n t) ps (put n k b ∷ qs)
+      → Reads (Assignee n t) ps (put n k b ∷ qs)
       → Reads (Simple n (Step (start ps) t is_increment)) ps qs
   bare_call_only : {n x a b c : ℕ} {qs : List Placed}
       → Reads (Simple n (CallOnly a x NoTerm)) (put n (kinds.Name x) a ∷ put n kinds.OpenRound b ∷ put (suc n) kinds.CloseRound c ∷ qs) qs
@@ -285,10 +285,10 @@ pub data Reads : Goal → List Placed → List Placed → Type 0 where
       → type_of true k ≡ Some type
       → Reads (Expr 0 n e m) ps (put n kinds.Semicolon d ∷ qs)
       → Reads (Initial n (With (DeclareAs a (Integer type) b x e))) (put n k a ∷ put n (kinds.Name x) b ∷ put n kinds.Assign c ∷ ps) qs
-  no_condition : {n a : ℕ} {qs : List Placed} → Reads (Condition n Always) (put n kinds.Semicolon a ∷ qs) qs
+  no_condition : {n a : ℕ} {qs : List Placed} → Reads (Condition n WithoutTerm) (put n kinds.Semicolon a ∷ qs) qs
   condition : {n a m : ℕ} {e : Term} {ps qs : List Placed}
       → Reads (Expr 0 n e m) ps (put n kinds.Semicolon a ∷ qs)
-      → Reads (Condition n (While_ e)) ps qs
+      → Reads (Condition n (WithTerm e)) ps qs
   no_final : {n a : ℕ} {qs : List Placed} → Reads (Final n Without) (put n kinds.CloseRound a ∷ qs) qs
   simple_final : {n a : ℕ} {s : Stmt} {ps qs : List Placed}
       → Reads (Simple n s) ps (put n kinds.CloseRound a ∷ qs)

@@ -9,7 +9,7 @@ use Rattle.clmodel.specs.declared.tree.AddressSpace.TheVariants.{Local}
 use Rattle.clmodel.specs.declared.tree.VariableType.{VariableType}
 use Rattle.clmodel.specs.declared.tree.VariableType.TheVariants.{Integer}
 use Rattle.clmodel.specs.declared.tree.Parameter.{Parameter}
-use Rattle.clmodel.specs.Tree.{Term, Number, Variable, Element, ElementAddress, Call, Binary, Choice, Terms, NoTerm, ThenTerm, Place, Whole, Part, Behind, Stmt, Empty, Block, Declare, DeclareAs, DeclareArray, Assign, Step, CallOnly, If, IfElse, While, DoWhile, For, Break, Continue, Return, ReturnValue, Stmts, NoStmt, ThenStmt, MaybeStmt, Without, With, MaybeTerm, Always, While_, Func, Funcs, NoFunc, ThenFunc}
+use Rattle.clmodel.specs.Tree.{Term, Number, Variable, Element, ElementAddress, Call, Binary, Choice, Terms, NoTerm, ThenTerm, Target, TargetVariable, TargetElement, TargetDereference, Stmt, Empty, Block, Declare, DeclareAs, DeclareArray, Assign, Step, CallOnly, If, IfElse, While, DoWhile, For, Break, Continue, Return, ReturnValue, Stmts, NoStmt, ThenStmt, MaybeStmt, Without, With, MaybeTerm, WithoutTerm, WithTerm, Func, Funcs, NoFunc, ThenFunc}
 use Rattle.clsyntax_lex.specs.declared.token.Token.{Token}
 use Rattle.clsyntax_lex.specs.declared.token.TokenKind.{TokenKind}
 use Rattle.clsyntax_lex.specs.declared.token.TokenKind.TheVariants as kinds
@@ -34,7 +34,7 @@ pub data Frame : Type 0 where
   InBehind : (is_step : Bool) → (at n : ℕ) → Frame
   -- a step before its target
   InStep : (at n : ℕ) → (is_increment : Bool) → Frame
-  InAssign : (at n : ℕ) → Place → Option BinaryOperator → Frame
+  InAssign : (at n : ℕ) → Target → Option BinaryOperator → Frame
   InDeclare : (at n : ℕ) → VariableType → (name_at name : ℕ) → Frame
   InReturn : (at n : ℕ) → Frame
   -- the condition of an `if`, a `while`, or behind the body of a `do`
@@ -92,7 +92,7 @@ pub data Mode : Type 0 where
   -- a target is wanted; a first name was read; a target; a statement but its semicolon, simple or not; a whole statement
   Aim : (n : ℕ) → Mode
   BeginName : (is_step : Bool) → (n at name : ℕ) → Mode
-  Aimed : (is_step : Bool) → (n at : ℕ) → Place → Mode
+  Aimed : (is_step : Bool) → (n at : ℕ) → Target → Mode
   Ended : (n : ℕ) → Stmt → Mode
   Closing : (n : ℕ) → Stmt → Mode
   Did : Stmt → Mode
@@ -210,7 +210,7 @@ ends_simple false n s fs = end_simple n s fs
 ends_simple true n s fs = end_final n s fs
 
 -- so a step before its target
-abbrev pub end_step : (is_bracket : Bool) → Place → List Frame → Moved
+abbrev pub end_step : (is_bracket : Bool) → Target → List Frame → Moved
 end_step is_bracket p (InStep a n is_increment ∷ fs) = ends_simple is_bracket n (Step a p is_increment) fs
 end_step is_bracket p _ = None
 
@@ -220,7 +220,7 @@ end_bracket e (InIf a n ∷ fs) = go (suc n) (Begin (suc n)) (Then a n e ∷ fs)
 end_bracket e (InWhile a n ∷ fs) = go (suc n) (Begin (suc n)) (Turns a e ∷ fs)
 end_bracket e (InDo a n s ∷ fs) = go (suc n) (Closing n (DoWhile a s e)) fs
 end_bracket e (InAssign a n p op ∷ fs) = end_final n (Assign a p op e) fs
-end_bracket e (InBehind true a n ∷ fs) = end_step true (Behind a e) fs
+end_bracket e (InBehind true a n ∷ fs) = end_step true (TargetDereference a e) fs
 end_bracket e _ = None
 
 abbrev pub on_close_round : Term → List Frame → Moved
@@ -235,7 +235,7 @@ on_comma e _ = None
 abbrev pub on_close_square : Term → List Frame → Moved
 on_close_square e (InElement a x n ∷ fs) = go (suc n) (Have n a (Element a x e)) fs
 on_close_square e (InAddress a b x n ∷ fs) = go (suc n) (Have n a (ElementAddress a b x e)) fs
-on_close_square e (InPart is_step a x n ∷ fs) = go (suc n) (Aimed is_step n a (Part a x e)) fs
+on_close_square e (InPart is_step a x n ∷ fs) = go (suc n) (Aimed is_step n a (TargetElement a x e)) fs
 on_close_square e _ = None
 
 abbrev pub on_colon : ℕ → Term → List Frame → Moved
@@ -254,21 +254,21 @@ end_declaration n s fs = add_declaration n s fs
 
 abbrev pub on_semicolon : Term → List Frame → Moved
 on_semicolon e (InAssign a n p op ∷ fs) = end_simple n (Assign a p op e) fs
-on_semicolon e (InBehind true a n ∷ fs) = end_step false (Behind a e) fs
+on_semicolon e (InBehind true a n ∷ fs) = end_step false (TargetDereference a e) fs
 on_semicolon e (InDeclare a n kind b x ∷ fs) = end_declaration n (DeclareAs a kind b x e) fs
 on_semicolon e (InReturn a n ∷ fs) = go n (Did (ReturnValue a e)) fs
-on_semicolon e (InCondition a n i ∷ fs) = go n (Final n) (InFinal a i (While_ e) ∷ fs)
+on_semicolon e (InCondition a n i ∷ fs) = go n (Final n) (InFinal a i (WithTerm e) ∷ fs)
 on_semicolon e _ = None
 
 -- a semicolon in place of an expression
 abbrev pub without : List Frame → Moved
 without (InReturn a n ∷ fs) = go n (Did (Return a)) fs
-without (InCondition a n i ∷ fs) = go n (Final n) (InFinal a i Always ∷ fs)
+without (InCondition a n i ∷ fs) = go n (Final n) (InFinal a i WithoutTerm ∷ fs)
 without _ = None
 
 -- an assignment, behind `*` and an operand
 abbrev pub on_assignment : Option (Option BinaryOperator) → Term → List Frame → Moved
-on_assignment (Some op) e (InBehind false a n ∷ fs) = go n (Operand n) (InAssign a n (Behind a e) op ∷ fs)
+on_assignment (Some op) e (InBehind false a n ∷ fs) = go n (Operand n) (InAssign a n (TargetDereference a e) op ∷ fs)
 on_assignment _ e _ = None
 
 -- Behind `*` and an operand at a statement's begin no operator can come.
@@ -550,13 +550,13 @@ on_aim n fs t = elim t.kind [
 ]
 
 -- after a target: an assignment or a step
-abbrev pub on_placed : Option (Option BinaryOperator) → Option Bool → ℕ → ℕ → Place → List Frame → Moved
+abbrev pub on_placed : Option (Option BinaryOperator) → Option Bool → ℕ → ℕ → Target → List Frame → Moved
 on_placed (Some op) _ n a p fs = go n (Operand n) (InAssign a n p op ∷ fs)
 on_placed None (Some is_increment) n a p fs = go n (Ended n (Step a p is_increment)) fs
 on_placed None None n a p fs = None
 
 -- after a step's target
-abbrev pub on_stepped : Place → List Frame → TokenKind → Moved
+abbrev pub on_stepped : Target → List Frame → TokenKind → Moved
 on_stepped p fs kind = elim kind [
   | kinds.Semicolon ↦ end_step false p fs
   | kinds.CloseRound ↦ end_step true p fs
@@ -564,7 +564,7 @@ on_stepped p fs kind = elim kind [
 ]
 
 -- after a name or an element that is a target
-abbrev pub on_aimed : Bool → ℕ → ℕ → Place → List Frame → TokenKind → Moved
+abbrev pub on_aimed : Bool → ℕ → ℕ → Target → List Frame → TokenKind → Moved
 on_aimed false n a p fs kind = on_placed (assign_of kind) (step_of kind) n a p fs
 on_aimed true n a p fs kind = on_stepped p fs kind
 
@@ -577,7 +577,7 @@ abbrev pub on_begin_name : Bool → ℕ → ℕ → ℕ → List Frame → Token
 on_begin_name is_step n a x fs t = elim t.kind [
   | kinds.OpenSquare ↦ go n (Operand (suc n)) (InPart is_step a x n ∷ fs)
   | kinds.OpenRound ↦ begin_call is_step n a x fs
-  | _ ↦ on_aimed is_step n a (Whole a x) fs t.kind
+  | _ ↦ on_aimed is_step n a (TargetVariable a x) fs t.kind
 ]
 
 -- after a simple statement

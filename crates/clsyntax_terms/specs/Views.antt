@@ -7,7 +7,7 @@ use Rattle.clsyntax_lex.specs.declared.token.TokenKind.TheVariants as kinds
 use Rattle.clmodel.specs.declared.tree.Statement as rust_statement
 use Rattle.clmodel.specs.declared.tree.Function as rust_function
 use Rattle.clmodel.specs.declared.tree.Statement.{Statement}
-use Rattle.clmodel.specs.Tree.{term, terms, place, maybe_term, Stmts, NoStmt, stmt, then_stmts, MaybeStmt, Without, With, Funcs, NoFunc, func, then_funcs}
+use Rattle.clmodel.specs.Tree.{term, terms, tree_target, maybe_term, Stmts, NoStmt, stmt, then_stmts, MaybeStmt, Without, With, Funcs, NoFunc, func, then_funcs}
 use Rattle.clsyntax_terms.specs.Grammar as grammar
 use Rattle.clsyntax_terms.specs.Grammar.{limit, level}
 use Rattle.clsyntax_terms.specs.Machine as machine
@@ -78,7 +78,7 @@ frame_of (frames.InCall call) = in_call call
 frame_of (frames.InPart n) = machine.InPart n.is_step n.at n.name n.nesting
 frame_of (frames.InBehind is_step at nesting) = machine.InBehind is_step at nesting
 frame_of (frames.InStep at nesting is_increment) = machine.InStep at nesting is_increment
-frame_of (frames.InAssign a) = machine.InAssign a.at a.nesting (place a.target.value) a.operator
+frame_of (frames.InAssign a) = machine.InAssign a.at a.nesting (tree_target a.target.value) a.operator
 frame_of (frames.InDeclare d) = machine.InDeclare d.at d.nesting d.kind d.name_at d.name
 frame_of (frames.InReturn at nesting) = machine.InReturn at nesting
 frame_of (frames.InIf at nesting) = machine.InIf at nesting
@@ -140,7 +140,7 @@ mode_of (modes.Initial nesting) = machine.Initial nesting
 mode_of (modes.Final nesting) = machine.Final nesting
 mode_of (modes.Aim nesting) = machine.Aim nesting
 mode_of (modes.BeginName n) = machine.BeginName n.is_step n.nesting n.at n.name
-mode_of (modes.Aimed a) = machine.Aimed a.is_step a.nesting a.at (place a.target.value)
+mode_of (modes.Aimed a) = machine.Aimed a.is_step a.nesting a.at (tree_target a.target.value)
 mode_of (modes.Ended nesting statement) = machine.Ended nesting (stmt statement.value)
 mode_of (modes.Closing nesting statement) = machine.Closing nesting (stmt statement.value)
 mode_of (modes.Did statement) = machine.Did (stmt statement.value)

@@ -3,7 +3,7 @@
 
 ghost use Rattle.std.specs.Prelude.{◌≡◌, ◌∷◌, suc, IfOk};
 ghost use Rattle.clmodel.specs.Tree as tree;
-ghost use Rattle.clmodel.specs.Tree.{term, place, stmt, maybe_term, ThenStmt};
+ghost use Rattle.clmodel.specs.Tree.{term, tree_target, stmt, maybe_term, ThenStmt};
 ghost use Rattle.clsyntax_terms.specs.Machine as machine;
 ghost use Rattle.clsyntax_terms.specs.Views.{opened, frame_of, stmts_of, maybe_statement, Steps};
 
@@ -151,7 +151,7 @@ pub fn on_ended(nesting: u32, statement: Box<Statement>, stack: Stack, kind: Tok
 
 /// Where `++` or `--` and its target end.
 pub fn end_step(is_bracket: bool, target: Box<Target>, stack: Stack) -> Moved
-    ensures { Steps result (machine.end_step is_bracket (place target.value) (opened stack)) }
+    ensures { Steps result (machine.end_step is_bracket (tree_target target.value) (opened stack)) }
 {
     let Some((frame, stack)) = stack.pop() else {
         return Ok(Step::Refused);
@@ -179,7 +179,7 @@ pub fn end_step(is_bracket: bool, target: Box<Target>, stack: Stack) -> Moved
 
 /// Where an assignment of a value ends.
 fn end_assign(is_bracket: bool, assign: Assign, value: Box<Expression>, stack: Stack) -> Moved
-    ensures { Steps result (machine.ends_simple is_bracket assign.nesting (tree.Assign assign.at (place assign.target.value) assign.operator (term value.value)) (opened stack)) }
+    ensures { Steps result (machine.ends_simple is_bracket assign.nesting (tree.Assign assign.at (tree_target assign.target.value) assign.operator (term value.value)) (opened stack)) }
 {
     let Assign {
         at,

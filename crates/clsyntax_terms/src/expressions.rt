@@ -130,7 +130,7 @@ fn on_comma(value: Box<Expression>, stack: Stack) -> Moved
 
 /// Where the index of a target ends.
 fn end_part(array: FirstName, index: Box<Expression>, stack: Stack) -> Moved
-    ensures { Steps result (machine.go (suc array.nesting) (machine.Aimed array.is_step array.nesting array.at (tree.Part array.at array.name (term index.value))) (opened stack)) }
+    ensures { Steps result (machine.go (suc array.nesting) (machine.Aimed array.is_step array.nesting array.at (tree.TargetElement array.at array.name (term index.value))) (opened stack)) }
 {
     let FirstName {
         is_step,

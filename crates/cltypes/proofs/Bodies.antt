@@ -5,13 +5,13 @@ use Rattle.clmodel.specs.declared.tree.Statement.{Statement}
 use Rattle.clmodel.specs.declared.type_fault.TypeFault.{TypeFault}
 use Rattle.clmodel.specs.declared.type_fault.TypeFault.TheVariants as fault
 use Rattle.clmodel.specs.Tree as tree
-use Rattle.clmodel.specs.Tree.{Place, Stmt, Stmts, NoStmt, ThenStmt, MaybeStmt, Without, With, then_stmts, stmt, row_stmts}
+use Rattle.clmodel.specs.Tree.{Target, Stmt, Stmts, NoStmt, ThenStmt, MaybeStmt, Without, With, then_stmts, stmt, row_stmts}
 use Rattle.clmodel.specs.declared.declaration.Declaration.TheVariants.{Single}
 use Rattle.clmodel.specs.Typing.Context.{Context, Scope, array, bind, enter, after, after_part, after_all}
 use Rattle.clmodel.specs.Typing.Least.{first}
-use Rattle.clmodel.specs.Typing.Faults.{place_faults, faults, row_faults}
+use Rattle.clmodel.specs.Typing.Faults.{target_faults, faults, row_faults}
 use Rattle.cltypes_scope.specs.Names.{left, without_innermost}
-use Rattle.cltypes_scope.specs.declared.faults.Operand.{Operand}
+use Rattle.cltypes_scope.specs.declared.faults.TypedOperand.{TypedOperand}
 use Rattle.cltypes_scope.specs.Answers.{Checks}
 use Rattle.cltypes_limits.specs.Limits.{statements}
 use Rattle.clmodel.proofs.Trees.{next_statement, then_rest}
@@ -20,11 +20,11 @@ use Rattle.cltypes_scope.proofs.Follows.{inside_first, inside_second, neither_of
 
 -- the target, and that is another
 
-pub place_along : (c : Context) (p q : Place) (r : Result Operand TypeFault) → q ≡ p → Checks r (first (place_faults c p)) (target_of c p) → Checks r (first (place_faults c q)) (target_of c q)
-place_along c p q r h x = subst (λ z. Checks r (first (place_faults c z)) (target_of c z)) (sym h) x
+pub target_along : (c : Context) (p q : Target) (r : Result TypedOperand TypeFault) → q ≡ p → Checks r (first (target_faults c p)) (target_of c p) → Checks r (first (target_faults c q)) (target_of c q)
+target_along c p q r h x = subst (λ z. Checks r (first (target_faults c z)) (target_of c z)) (sym h) x
 
-pub place_fault_along : (c : Context) (p q : Place) (f : TypeFault) → q ≡ p → first (place_faults c p) ≡ Some f → first (place_faults c q) ≡ Some f
-place_fault_along c p q f h x = ap (λ z. first (place_faults c z)) h ∙ x
+pub target_fault_along : (c : Context) (p q : Target) (f : TypeFault) → q ≡ p → first (target_faults c p) ≡ Some f → first (target_faults c q) ≡ Some f
+target_fault_along c p q f h x = ap (λ z. first (target_faults c z)) h ∙ x
 
 -- a block leaves what was known before it
 

@@ -7,13 +7,13 @@ use Rattle.clmodel.specs.declared.tree.VariableType.{VariableType}
 use Rattle.clmodel.specs.declared.tree.VariableType.TheVariants.{Integer as Number, Pointer}
 use Rattle.clmodel.specs.declared.type_fault.TypeFault.TheVariants as fault
 use Rattle.clmodel.specs.Tree as tree
-use Rattle.clmodel.specs.Tree.{Term, Terms, array_length, Place, Stmt, Stmts, NoStmt, ThenStmt, MaybeStmt, Without, With, MaybeTerm, Always, While_}
+use Rattle.clmodel.specs.Tree.{Term, Terms, array_length, Target, Stmt, Stmts, NoStmt, ThenStmt, MaybeStmt, Without, With, MaybeTerm, WithoutTerm, WithTerm}
 use Rattle.clmodel.specs.declared.declaration.Declaration.TheVariants.{Single}
 use Rattle.clmodel.specs.Typing.Context.{Context, meaning, Bound, is_outermost, is_free, bind, enter, turning, for_context, after_all}
 use Rattle.clmodel.specs.Typing.Least.{least, first, node}
 use Rattle.clmodel.specs.Typing.Rules as rule
-use Rattle.clmodel.specs.Typing.Rules.{count, is_writable, is_stored, length_limit, Passes, Types, TypesPlace, Gives, IsCondition, IsTyped, IsTypedPart, AreTyped}
-use Rattle.clmodel.specs.Typing.Faults.{unless, start, place_start, integer_faults, pointer_faults, passing_faults, whole_faults, front_faults, assigning_faults, WholeStatement, wanted, name_kind, number_or_int, front_kind, element_kind, kind_of, arguments_faults, inside_call, barrier_faults, call_faults, term_faults, terms_faults, store_faults, stored_faults, target_faults, place_faults, place_kind, value_faults, void_faults, declared_faults, array_faults, initial_faults, assignment_faults, condition_parts, condition_faults, return_faults, faults, part_faults, row_faults}
+use Rattle.clmodel.specs.Typing.Rules.{count, is_writable, is_stored, length_limit, Passes, Types, TypesTarget, Gives, IsCondition, IsTyped, IsTypedPart, AreTyped}
+use Rattle.clmodel.specs.Typing.Faults.{unless, start, target_start, integer_faults, pointer_faults, passing_faults, whole_faults, front_faults, assigning_faults, WholeStatement, wanted, name_kind, number_or_int, front_kind, element_kind, kind_of, arguments_faults, inside_call, barrier_faults, call_faults, term_faults, terms_faults, store_faults, stored_faults, element_target_faults, target_faults, target_kind, value_faults, void_faults, declared_faults, array_faults, initial_faults, assignment_faults, condition_parts, condition_faults, return_faults, faults, part_faults, row_faults}
 use Rattle.cltypes_scope.proofs.Least.{earlier_none}
 use Rattle.cltypes.proofs.Splits.{none_split, none_joined, places_split, places_joined, node_split, node_joined, one_place, place_then, some_fault, unless_none, unless_true, and_true, and_left, and_right, same_le, le_test, where_it, or_not}
 use Rattle.cltypes.proofs.Tables.{integer_sound, whole_sound, front_sound, front_complete, passing_sound, passing_complete, assigning_sound, assigning_complete, store_sound, store_complete}
@@ -24,34 +24,34 @@ use Rattle.cltypes.proofs.Helpers.{some_type, helper_sound, helper_faultless, va
 
 -- typed where there is no fault
 
-behind_sound : (c : Context) (a b : ℕ) (e : Term) (k : VariableType) → Types c e k → least (pointer_faults k b ++ store_faults k a) ≡ None → TypesPlace c (tree.Behind a e) (element_kind k)
+behind_sound : (c : Context) (a b : ℕ) (e : Term) (k : VariableType) → Types c e k → least (pointer_faults k b ++ store_faults k a) ≡ None → TypesTarget c (tree.TargetDereference a e) (element_kind k)
 behind_sound c a b e (Pointer p) t n = rule.behind (store_sound p a n) t
 behind_sound c a b e (Number u) t n = absurd (some_fault (fault.TypeMismatch b) [] n)
 
-place_sound : (c : Context) (p : Place) → first (place_faults c p) ≡ None → TypesPlace c p (place_kind c p)
-place_sound c (tree.Whole a x) n = rule.whole (whole_sound (meaning c x) a (one_place (whole_faults (meaning c x) a) n))
-place_sound c (tree.Part a x e) n =
+target_sound : (c : Context) (p : Target) → first (target_faults c p) ≡ None → TypesTarget c p (target_kind c p)
+target_sound c (tree.TargetVariable a x) n = rule.whole (whole_sound (meaning c x) a (one_place (whole_faults (meaning c x) a) n))
+target_sound c (tree.TargetElement a x e) n =
     let m = meaning c x in
-    let r = node_split (term_faults c e) (target_faults m a ++ integer_faults (kind_of c e) (start e)) n in
-    let s = none_split (target_faults m a) (integer_faults (kind_of c e) (start e)) r.1 in
+    let r = node_split (term_faults c e) (element_target_faults m a ++ integer_faults (kind_of c e) (start e)) n in
+    let s = none_split (element_target_faults m a) (integer_faults (kind_of c e) (start e)) r.1 in
     let t = none_split (front_faults m a) (stored_faults m a) s.0 in
     let p = front_sound m a t.0 in
     let w = unless_none (is_stored p.declared) (fault.NotAssignable a) (subst (λ v. least (stored_faults v a) ≡ None) p.is t.1) in
     let u = integer_sound (kind_of c e) (start e) s.1 in
-    subst (λ k. TypesPlace c (tree.Part a x e) k) (sym p.kind)
+    subst (λ k. TypesTarget c (tree.TargetElement a x e) k) (sym p.kind)
     (rule.part p.is p.typed w (as_integer c e (kind_of c e) u.0 u.1 (term_sound c e r.0)))
-place_sound c (tree.Behind a e) n =
+target_sound c (tree.TargetDereference a e) n =
     let r = node_split (term_faults c e) (pointer_faults (kind_of c e) (start e) ++ store_faults (kind_of c e) a) n in
     behind_sound c a (start e) e (kind_of c e) (term_sound c e r.0) r.1
 
-assignment_sound : (c : Context) (a : ℕ) (p : Place) (op : Option BinaryOperator) (e : Term) → TypesPlace c p (place_kind c p) → first (value_faults c e) ≡ None
+assignment_sound : (c : Context) (a : ℕ) (p : Target) (op : Option BinaryOperator) (e : Term) → TypesTarget c p (target_kind c p) → first (value_faults c e) ≡ None
     → least (assignment_faults c p op e) ≡ None → IsTyped c (tree.Assign a p op e)
 assignment_sound c a p None e t n o =
-    let r = none_split (void_faults c e) (passing_faults (place_kind c p) (kind_of c e) (start e)) o in
-    rule.assign t (value_sound c e n r.0) (passing_sound (place_kind c p) (kind_of c e) (start e) r.1)
+    let r = none_split (void_faults c e) (passing_faults (target_kind c p) (kind_of c e) (start e)) o in
+    rule.assign t (value_sound c e n r.0) (passing_sound (target_kind c p) (kind_of c e) (start e) r.1)
 assignment_sound c a p (Some op) e t n o =
-    let r = none_split (void_faults c e) (assigning_faults op (place_kind c p) (kind_of c e) (place_start p) (start e)) o in
-    let s = assigning_sound op (place_kind c p) (kind_of c e) (place_start p) (start e) r.1 in
+    let r = none_split (void_faults c e) (assigning_faults op (target_kind c p) (kind_of c e) (target_start p) (start e)) o in
+    let s = assigning_sound op (target_kind c p) (kind_of c e) (target_start p) (start e) r.1 in
     rule.assign_by t (value_sound c e n r.0) s.operates s.passes
 
 call_sound : (c : Context) (a x : ℕ) (es : Terms) → first (node (terms_faults (inside_call (meaning c x) c) es) (call_faults c WholeStatement (meaning c x) a es)) ≡ None → IsTyped c (tree.CallOnly a x es)
@@ -74,8 +74,8 @@ integer_of c e n o =
     (u.0, as_integer c e (kind_of c e) u.0 u.1 (term_sound c e n))
 
 condition_sound : (c : Context) (e : MaybeTerm) → first (condition_parts c e) ≡ None → least (condition_faults c e) ≡ None → IsCondition c e
-condition_sound c Always n o = rule.always
-condition_sound c (While_ e) n o = rule.condition (integer_of c e n o).1
+condition_sound c WithoutTerm n o = rule.always
+condition_sound c (WithTerm e) n o = rule.condition (integer_of c e n o).1
 
 -- the declaration of an array
 
@@ -119,26 +119,26 @@ mutual
       rule.declare_as (unless_none (is_free c x) (fault.Redeclared b) r.0) (value_sound d e s.0 t.0) (passing_sound k (kind_of d e) (start e) t.1)
   sound c (tree.DeclareArray a is_local t b x d m) n = array_sound c a is_local t b x d m (one_place (array_faults c is_local b x d m) n)
   sound c (tree.Assign a p op e) n =
-      let r = node_split (place_faults c p ++ value_faults c e) (assignment_faults c p op e) n in
-      let s = places_split (place_faults c p) (value_faults c e) r.0 in
-      assignment_sound c a p op e (place_sound c p s.0) s.1 r.1
-  sound c (tree.Step a p is_increment) n = rule.step (place_sound c p n)
+      let r = node_split (target_faults c p ++ value_faults c e) (assignment_faults c p op e) n in
+      let s = places_split (target_faults c p) (value_faults c e) r.0 in
+      assignment_sound c a p op e (target_sound c p s.0) s.1 r.1
+  sound c (tree.Step a p is_increment) n = rule.step (target_sound c p n)
   sound c (tree.CallOnly a x es) n = call_sound c a x es n
   sound c (tree.If a e s) n =
-      let r = node_split (term_faults c e ++ faults (enter c) s) (condition_faults c (While_ e)) n in
+      let r = node_split (term_faults c e ++ faults (enter c) s) (condition_faults c (WithTerm e)) n in
       let t = places_split (term_faults c e) (faults (enter c) s) r.0 in
       rule.if (integer_of c e t.0 r.1).1 (sound (enter c) s t.1)
   sound c (tree.IfElse a e s r) n =
-      let p = node_split (term_faults c e ++ faults (enter c) s ++ faults (enter c) r) (condition_faults c (While_ e)) n in
+      let p = node_split (term_faults c e ++ faults (enter c) s ++ faults (enter c) r) (condition_faults c (WithTerm e)) n in
       let q = places_split (term_faults c e ++ faults (enter c) s) (faults (enter c) r) p.0 in
       let t = places_split (term_faults c e) (faults (enter c) s) q.0 in
       rule.if_else (integer_of c e t.0 p.1).1 (sound (enter c) s t.1) (sound (enter c) r q.1)
   sound c (tree.While a e s) n =
-      let r = node_split (term_faults c e ++ faults (turning c) s) (condition_faults c (While_ e)) n in
+      let r = node_split (term_faults c e ++ faults (turning c) s) (condition_faults c (WithTerm e)) n in
       let t = places_split (term_faults c e) (faults (turning c) s) r.0 in
       rule.while (integer_of c e t.0 r.1).1 (sound (turning c) s t.1)
   sound c (tree.DoWhile a s e) n =
-      let r = node_split (faults (turning c) s ++ term_faults c e) (condition_faults c (While_ e)) n in
+      let r = node_split (faults (turning c) s ++ term_faults c e) (condition_faults c (WithTerm e)) n in
       let t = places_split (faults (turning c) s) (term_faults c e) r.0 in
       rule.do_while (sound (turning c) s t.0) (integer_of c e t.1 r.1).1
   sound c (tree.For a begin e third s) n =
@@ -176,26 +176,26 @@ mutual
 -- no fault where it is typed
 
 -- what can be a target, without a fault, of this type
-pub record IsPlaceOf (c : Context) (p : Place) (k : VariableType) : Type 0 where
-  pub faultless : first (place_faults c p) ≡ None
-  pub same : place_kind c p ≡ k
+pub record IsTargetOf (c : Context) (p : Target) (k : VariableType) : Type 0 where
+  pub faultless : first (target_faults c p) ≡ None
+  pub same : target_kind c p ≡ k
 
-place_complete : (c : Context) (p : Place) (k : VariableType) → TypesPlace c p k → IsPlaceOf c p k
-place_complete c _ _ (rule.whole {a = a} {x = x} m) = record {
+target_complete : (c : Context) (p : Target) (k : VariableType) → TypesTarget c p k → IsTargetOf c p k
+target_complete c _ _ (rule.whole {a = a} {x = x} m) = record {
   faultless = subst (λ v. first (whole_faults v a ∷ []) ≡ None) (sym m) refl;
   same = ap name_kind m;
 }
-place_complete c _ _ (rule.part {a = a} {x = x} {d = d} {t = t} {u = u} {e = e} m v w h) =
+target_complete c _ _ (rule.part {a = a} {x = x} {d = d} {t = t} {u = u} {e = e} m v w h) =
     let r = term_complete c e (Number u) h in
     record {
-      faultless = node_joined (term_faults c e) (target_faults (meaning c x) a ++ integer_faults (kind_of c e) (start e)) r.faultless
-          (none_joined (target_faults (meaning c x) a) (integer_faults (kind_of c e) (start e))
-          (subst (λ z. least (target_faults z a) ≡ None) (sym m)
+      faultless = node_joined (term_faults c e) (element_target_faults (meaning c x) a ++ integer_faults (kind_of c e) (start e)) r.faultless
+          (none_joined (element_target_faults (meaning c x) a) (integer_faults (kind_of c e) (start e))
+          (subst (λ z. least (element_target_faults z a) ≡ None) (sym m)
           (none_joined (front_faults (Bound d) a) (stored_faults (Bound d) a) (front_complete d t a v) (unless_true (is_stored d) (fault.NotAssignable a) w)))
           (subst (λ v. least (integer_faults v (start e)) ≡ None) (sym r.same) refl));
       same = ap front_kind m ∙ ap number_or_int v;
     }
-place_complete c _ _ (rule.behind {a = a} {p = p} {e = e} w h) =
+target_complete c _ _ (rule.behind {a = a} {p = p} {e = e} w h) =
     let r = term_complete c e (Pointer p) h in
     record {
       faultless = node_joined (term_faults c e) (pointer_faults (kind_of c e) (start e) ++ store_faults (kind_of c e) a) r.faultless
@@ -203,10 +203,10 @@ place_complete c _ _ (rule.behind {a = a} {p = p} {e = e} w h) =
       same = ap element_kind r.same;
     }
 
-assigned : (c : Context) (a : ℕ) (p : Place) (op : Option BinaryOperator) (e : Term) → first (place_faults c p) ≡ None → first (value_faults c e) ≡ None
+assigned : (c : Context) (a : ℕ) (p : Target) (op : Option BinaryOperator) (e : Term) → first (target_faults c p) ≡ None → first (value_faults c e) ≡ None
     → least (assignment_faults c p op e) ≡ None → first (faults c (tree.Assign a p op e)) ≡ None
 assigned c a p op e x y n =
-    node_joined (place_faults c p ++ value_faults c e) (assignment_faults c p op e) (places_joined (place_faults c p) (value_faults c e) x y) n
+    node_joined (target_faults c p ++ value_faults c e) (assignment_faults c p op e) (places_joined (target_faults c p) (value_faults c e) x y) n
 
 -- an integer as a condition
 record IsInteger (c : Context) (e : Term) : Type 0 where
@@ -237,20 +237,20 @@ mutual
   complete _ _ (rule.declare_array {c = c} {b = b} {x = x} {d = d} {is_local = is_local} {n = n} f o l u) =
       place_then (array_faults c is_local b x d n) [] (array_complete c is_local b x d n f o l u) refl
   complete _ _ (rule.assign {c = c} {a = a} {p = p} {e = e} {k = k} {j = j} t u s) =
-      let q = place_complete c p k t in
+      let q = target_complete c p k t in
       let r = value_complete c e j u in
       assigned c a p None e q.faultless r.faultless
-      (none_joined (void_faults c e) (passing_faults (place_kind c p) (kind_of c e) (start e)) r.given
+      (none_joined (void_faults c e) (passing_faults (target_kind c p) (kind_of c e) (start e)) r.given
       (subst (λ v. least (passing_faults v (kind_of c e) (start e)) ≡ None) (sym q.same)
       (subst (λ v. least (passing_faults k v (start e)) ≡ None) (sym r.same) (passing_complete k j (start e) s))))
   complete _ _ (rule.assign_by {c = c} {a = a} {p = p} {op = op} {e = e} {k = k} {j = j} {r = i} t u o s) =
-      let q = place_complete c p k t in
+      let q = target_complete c p k t in
       let r = value_complete c e j u in
       assigned c a p (Some op) e q.faultless r.faultless
-      (none_joined (void_faults c e) (assigning_faults op (place_kind c p) (kind_of c e) (place_start p) (start e)) r.given
-      (subst (λ v. least (assigning_faults op v (kind_of c e) (place_start p) (start e)) ≡ None) (sym q.same)
-      (subst (λ v. least (assigning_faults op k v (place_start p) (start e)) ≡ None) (sym r.same) (assigning_complete op k j i (place_start p) (start e) o s))))
-  complete _ _ (rule.step {c = c} {p = p} {k = k} t) = (place_complete c p k t).faultless
+      (none_joined (void_faults c e) (assigning_faults op (target_kind c p) (kind_of c e) (target_start p) (start e)) r.given
+      (subst (λ v. least (assigning_faults op v (kind_of c e) (target_start p) (start e)) ≡ None) (sym q.same)
+      (subst (λ v. least (assigning_faults op k v (target_start p) (start e)) ≡ None) (sym r.same) (assigning_complete op k j i (target_start p) (start e) o s))))
+  complete _ _ (rule.step {c = c} {p = p} {k = k} t) = (target_complete c p k t).faultless
   complete _ _ (rule.call_only {c = c} {a = a} {x = x} {f = f} {es = es} {ks = ks} {r = r} m h g) =
       let s = terms_complete c es ks h in
       call_complete c WholeStatement a x f es ks r m s (calls_complete c f es ks r g s.same)
@@ -258,18 +258,18 @@ mutual
   complete _ _ (rule.call_helper {c = c} {a = a} {x = x} {es = es} {s = s} h) = helper_faultless c WholeStatement a x es s refl h
   complete _ _ (rule.if {c = c} {e = e} {s = s} {t = t} h k) =
       let r = integer_complete c e t h in
-      node_joined (term_faults c e ++ faults (enter c) s) (condition_faults c (While_ e)) (places_joined (term_faults c e) (faults (enter c) s) r.faultless (complete (enter c) s k)) r.own
+      node_joined (term_faults c e ++ faults (enter c) s) (condition_faults c (WithTerm e)) (places_joined (term_faults c e) (faults (enter c) s) r.faultless (complete (enter c) s k)) r.own
   complete _ _ (rule.if_else {c = c} {e = e} {s = s} {r = o} {t = t} h k l) =
       let r = integer_complete c e t h in
-      node_joined (term_faults c e ++ faults (enter c) s ++ faults (enter c) o) (condition_faults c (While_ e))
+      node_joined (term_faults c e ++ faults (enter c) s ++ faults (enter c) o) (condition_faults c (WithTerm e))
       (places_joined (term_faults c e ++ faults (enter c) s) (faults (enter c) o)
       (places_joined (term_faults c e) (faults (enter c) s) r.faultless (complete (enter c) s k)) (complete (enter c) o l)) r.own
   complete _ _ (rule.while {c = c} {e = e} {s = s} {t = t} h k) =
       let r = integer_complete c e t h in
-      node_joined (term_faults c e ++ faults (turning c) s) (condition_faults c (While_ e)) (places_joined (term_faults c e) (faults (turning c) s) r.faultless (complete (turning c) s k)) r.own
+      node_joined (term_faults c e ++ faults (turning c) s) (condition_faults c (WithTerm e)) (places_joined (term_faults c e) (faults (turning c) s) r.faultless (complete (turning c) s k)) r.own
   complete _ _ (rule.do_while {c = c} {e = e} {s = s} {t = t} k h) =
       let r = integer_complete c e t h in
-      node_joined (faults (turning c) s ++ term_faults c e) (condition_faults c (While_ e)) (places_joined (faults (turning c) s) (term_faults c e) (complete (turning c) s k) r.faultless) r.own
+      node_joined (faults (turning c) s ++ term_faults c e) (condition_faults c (WithTerm e)) (places_joined (faults (turning c) s) (term_faults c e) (complete (turning c) s k) r.faultless) r.own
   complete _ _ (rule.for {c = c} {first = begin} {third = third} {e = e} {s = s} b h k l) =
       let d = for_context c begin in
       let p = part_faults (enter c) begin in

@@ -11,7 +11,7 @@ use Rattle.clmodel.specs.declared.tree.VariableType.{VariableType}
 use Rattle.clmodel.specs.declared.tree.VariableType.TheVariants as kind
 use Rattle.clmodel.specs.declared.type_fault.TypeFault.{TypeFault}
 use Rattle.clmodel.specs.declared.type_fault.TypeFault.TheVariants.{UnknownName, Redeclared, TypeMismatch, NotAssignable, Recursion, WrongArgumentCount, WrongSpace, BadBarrierFlags, TooManyLoops, TooLarge, MissingReturn}
-use Rattle.clmodel.specs.Tree.{Term, NoTerm, Number, Variable, Element, ElementAddress, Dereference, Call, Cast, Binary, Choice, Whole, Part, Behind, Stmt, Stmts, NoStmt, then_all, then_stmts, Func, Funcs, NoFunc, ThenFunc, then_funcs, Empty, Block, Declare, DeclareAs, DeclareArray, Assign, Step, CallOnly, If, IfElse, While, DoWhile, For, Break, Continue, Return, ReturnValue, Without, With, Always, While_}
+use Rattle.clmodel.specs.Tree.{Term, NoTerm, Number, Variable, Element, ElementAddress, Dereference, Call, Cast, Binary, Choice, TargetVariable, TargetElement, TargetDereference, Stmt, Stmts, NoStmt, then_all, then_stmts, Func, Funcs, NoFunc, ThenFunc, then_funcs, Empty, Block, Declare, DeclareAs, DeclareArray, Assign, Step, CallOnly, If, IfElse, While, DoWhile, For, Break, Continue, Return, ReturnValue, Without, With, WithoutTerm, WithTerm}
 use Rattle.clmodel.specs.declared.declaration.Declaration.TheVariants.{Single}
 use Rattle.clmodel.specs.Typing.Context.{Context, Signature}
 use Rattle.clmodel.specs.Typing.Least.{first}
@@ -84,7 +84,7 @@ call at name es = Call at name (then_all NoTerm es)
 
 -- `n = ` this
 abbrev set : Term → Stmts
-set e = then_stmts NoStmt (Assign 0 (Whole 0 105) None e ∷ [])
+set e = then_stmts NoStmt (Assign 0 (TargetVariable 0 105) None e ∷ [])
 
 abbrev only : Stmt → Stmts
 only s = then_stmts NoStmt (s ∷ [])
@@ -113,24 +113,24 @@ samples =
     -- n = *n;
     ∷ (set (Dereference 4 (n 5)), Some (TypeMismatch 5))
     -- c[1] = z;  What is stored to comes before the value.
-    ∷ (only (Assign 0 (Part 0 102 (one 2)) None (z 7)), Some (NotAssignable 0))
+    ∷ (only (Assign 0 (TargetElement 0 102 (one 2)) None (z 7)), Some (NotAssignable 0))
     -- t[1] = 1;
-    ∷ (only (Assign 0 (Part 0 103 (one 2)) None (one 7)), Some (NotAssignable 0))
+    ∷ (only (Assign 0 (TargetElement 0 103 (one 2)) None (one 7)), Some (NotAssignable 0))
     -- *c = 1;
-    ∷ (only (Assign 0 (Behind 0 (c 1)) None (one 5)), Some (NotAssignable 0))
+    ∷ (only (Assign 0 (TargetDereference 0 (c 1)) None (one 5)), Some (NotAssignable 0))
     -- ++c[1];
-    ∷ (only (Step 0 (Part 2 102 (one 4)) true), Some (NotAssignable 2))
+    ∷ (only (Step 0 (TargetElement 2 102 (one 4)) true), Some (NotAssignable 2))
     -- int x = 1; { int x = x; } x++;
     ∷ (
       then_stmts NoStmt
           (DeclareAs 0 (kind.Integer Int) 4 107 (one 8)
           ∷ Block 11 (then_stmts NoStmt (DeclareAs 13 (kind.Integer Int) 17 107 (x 21) ∷ []))
-          ∷ Step 26 (Whole 26 107) true
+          ∷ Step 26 (TargetVariable 26 107) true
           ∷ []),
       None,
     )
     -- { int x = 1; } x++;
-    ∷ (then_stmts NoStmt (Block 0 (then_stmts NoStmt (DeclareAs 2 (kind.Integer Int) 6 107 (one 10) ∷ [])) ∷ Step 15 (Whole 15 107) true ∷ []), Some (UnknownName 15))
+    ∷ (then_stmts NoStmt (Block 0 (then_stmts NoStmt (DeclareAs 2 (kind.Integer Int) 6 107 (one 10) ∷ [])) ∷ Step 15 (TargetVariable 15 107) true ∷ []), Some (UnknownName 15))
     -- int x; int x = z;
     ∷ (then_stmts NoStmt (Declare 0 (kind.Integer Int) 4 107 ∷ DeclareAs 7 (kind.Integer Int) 11 107 (z 15) ∷ []), Some (Redeclared 11))
     -- int n = z;  A parameter's scope is that of the outermost block.
@@ -169,13 +169,13 @@ samples =
     ∷ (set (call 4 27 (a 19 ∷ one 22 ∷ n 25 ∷ [])), None)
     -- a[atomic_inc(a)] = atomic_add(&a[1], 1) + 1;
     ∷ (
-      only (Assign 0 (Part 0 101 (call 2 22 (a 13 ∷ []))) None (Binary 19 (Arithmetic Add) (call 19 15 (ElementAddress 30 31 101 (one 33) ∷ one 37 ∷ [])) (one 42))),
+      only (Assign 0 (TargetElement 0 101 (call 2 22 (a 13 ∷ []))) None (Binary 19 (Arithmetic Add) (call 19 15 (ElementAddress 30 31 101 (one 33) ∷ one 37 ∷ [])) (one 42))),
       None,
     )
     -- if (atomic_cmpxchg(a, 1, n)) return;
     ∷ (only (If 0 (call 4 27 (a 19 ∷ one 22 ∷ n 25 ∷ [])) (Return 29)), None)
     -- a = atomic_inc(a);  The value is of the element's type, and no pointer.
-    ∷ (only (Assign 0 (Whole 0 101) None (call 4 22 (a 15 ∷ []))), Some (TypeMismatch 4))
+    ∷ (only (Assign 0 (TargetVariable 0 101) None (call 4 22 (a 15 ∷ []))), Some (TypeMismatch 4))
     -- n = min(atomic_xchg(a, b), 1);  The first argument tells the type, and not the last.
     ∷ (set (call 4 8 (call 8 26 (a 20 ∷ b 23 ∷ []) ∷ one 27 ∷ [])), None)
     -- n = min(atomic_cmpxchg(a, 1, b), b);
@@ -227,23 +227,23 @@ samples =
     -- barrier(1);
     ∷ (only (CallOnly 0 14 (then_all NoTerm (one 8 ∷ []))), Some (BadBarrierFlags 8))
     -- a = c;  A const dropped; then a pointer to another type, to another space, and a const added.
-    ∷ (only (Assign 0 (Whole 0 101) None (c 4)), Some (NotAssignable 4))
+    ∷ (only (Assign 0 (TargetVariable 0 101) None (c 4)), Some (NotAssignable 4))
     -- a = w;
-    ∷ (only (Assign 0 (Whole 0 101) None (w 4)), Some (TypeMismatch 4))
+    ∷ (only (Assign 0 (TargetVariable 0 101) None (w 4)), Some (TypeMismatch 4))
     -- a = t;
-    ∷ (only (Assign 0 (Whole 0 101) None (t 4)), Some (WrongSpace 4))
+    ∷ (only (Assign 0 (TargetVariable 0 101) None (t 4)), Some (WrongSpace 4))
     -- c = a;
-    ∷ (only (Assign 0 (Whole 0 102) None (a 4)), None)
+    ∷ (only (Assign 0 (TargetVariable 0 102) None (a 4)), None)
     -- a *= n;  Of the operators that assign, += and -= take a pointer.
-    ∷ (only (Assign 0 (Whole 0 101) (Some Multiply) (n 5)), Some (TypeMismatch 0))
+    ∷ (only (Assign 0 (TargetVariable 0 101) (Some Multiply) (n 5)), Some (TypeMismatch 0))
     -- a += c;
-    ∷ (only (Assign 0 (Whole 0 101) (Some Add) (c 5)), Some (TypeMismatch 5))
+    ∷ (only (Assign 0 (TargetVariable 0 101) (Some Add) (c 5)), Some (TypeMismatch 5))
     -- n += a;
-    ∷ (only (Assign 0 (Whole 0 105) (Some Add) (a 5)), Some (TypeMismatch 5))
+    ∷ (only (Assign 0 (TargetVariable 0 105) (Some Add) (a 5)), Some (TypeMismatch 5))
     -- a -= 1;
-    ∷ (only (Assign 0 (Whole 0 101) (Some Subtract) (one 5)), None)
+    ∷ (only (Assign 0 (TargetVariable 0 101) (Some Subtract) (one 5)), None)
     -- a = 1 + a;
-    ∷ (only (Assign 0 (Whole 0 101) None (Binary 4 (Arithmetic Add) (one 4) (a 8))), None)
+    ∷ (only (Assign 0 (TargetVariable 0 101) None (Binary 4 (Arithmetic Add) (one 4) (a 8))), None)
     -- n = 1 - a;
     ∷ (set (Binary 4 (Arithmetic Subtract) (one 4) (a 8)), Some (TypeMismatch 8))
     -- n = a == c;
@@ -253,9 +253,9 @@ samples =
     -- n = n ? 1 : a;
     ∷ (set (Choice 4 (n 4) (one 8) (a 12)), Some (TypeMismatch 12))
     -- if (a) z = 1;  A condition comes after what it controls.
-    ∷ (only (If 0 (a 4) (Assign 7 (Whole 7 115) None (one 11))), Some (UnknownName 7))
+    ∷ (only (If 0 (a 4) (Assign 7 (TargetVariable 7 115) None (one 11))), Some (UnknownName 7))
     -- if (a) n = 1;
-    ∷ (only (If 0 (a 4) (Assign 7 (Whole 7 105) None (one 11))), Some (TypeMismatch 4))
+    ∷ (only (If 0 (a 4) (Assign 7 (TargetVariable 7 105) None (one 11))), Some (TypeMismatch 4))
     -- if (n) ; else break;
     ∷ (only (IfElse 0 (n 4) (Empty 7) (Break 14)), Some (TypeMismatch 14))
     -- while (n) { if (n) break; else continue; }
@@ -263,24 +263,24 @@ samples =
     -- continue;
     ∷ (only (Continue 0), Some (TypeMismatch 0))
     -- do z++; while (a);
-    ∷ (only (DoWhile 0 (Step 3 (Whole 3 115) true) (a 14)), Some (UnknownName 3))
+    ∷ (only (DoWhile 0 (Step 3 (TargetVariable 3 115) true) (a 14)), Some (UnknownName 3))
     -- do n++; while (a);
-    ∷ (only (DoWhile 0 (Step 3 (Whole 3 105) true) (a 14)), Some (TypeMismatch 14))
+    ∷ (only (DoWhile 0 (Step 3 (TargetVariable 3 105) true) (a 14)), Some (TypeMismatch 14))
     -- for (int x = 0; x; x++) { int x = x; }
     ∷ (
-      only (For 0 (With (DeclareAs 5 (kind.Integer Int) 9 107 (one 13))) (While_ (x 16)) (With (Step 19 (Whole 19 107) true))
+      only (For 0 (With (DeclareAs 5 (kind.Integer Int) 9 107 (one 13))) (WithTerm (x 16)) (With (Step 19 (TargetVariable 19 107) true))
           (Block 24 (then_stmts NoStmt (DeclareAs 26 (kind.Integer Int) 30 107 (x 34) ∷ [])))),
       None,
     )
     -- for (int x = 1; ; ) ; x++;
     ∷ (
-      then_stmts NoStmt (For 0 (With (DeclareAs 5 (kind.Integer Int) 9 107 (one 13))) Always Without (Empty 20) ∷ Step 22 (Whole 22 107) true ∷ []),
+      then_stmts NoStmt (For 0 (With (DeclareAs 5 (kind.Integer Int) 9 107 (one 13))) WithoutTerm Without (Empty 20) ∷ Step 22 (TargetVariable 22 107) true ∷ []),
       Some (UnknownName 22),
     )
     -- for (; a; z++) y++;  In the order of the text, and the condition last.
-    ∷ (only (For 0 Without (While_ (a 7)) (With (Step 10 (Whole 10 115) true)) (Step 15 (Whole 15 114) true)), Some (UnknownName 10))
+    ∷ (only (For 0 Without (WithTerm (a 7)) (With (Step 10 (TargetVariable 10 115) true)) (Step 15 (TargetVariable 15 114) true)), Some (UnknownName 10))
     -- for (; a; n++) n++;
-    ∷ (only (For 0 Without (While_ (a 7)) (With (Step 10 (Whole 10 105) true)) (Step 15 (Whole 15 105) true)), Some (TypeMismatch 7))
+    ∷ (only (For 0 Without (WithTerm (a 7)) (With (Step 10 (TargetVariable 10 105) true)) (Step 15 (TargetVariable 15 105) true)), Some (TypeMismatch 7))
     -- return 1;
     ∷ (only (ReturnValue 0 (one 7)), Some (TypeMismatch 0))
     -- return;
@@ -290,7 +290,7 @@ samples =
     -- n = h(1);
     ∷ (set (call 4 116 (one 6 ∷ [])), None)
     -- n += h(1);
-    ∷ (only (Assign 0 (Whole 0 105) (Some Add) (call 5 116 (one 7 ∷ []))), None)
+    ∷ (only (Assign 0 (TargetVariable 0 105) (Some Add) (call 5 116 (one 7 ∷ []))), None)
     -- int x = h(1);
     ∷ (only (DeclareAs 0 (kind.Integer Int) 4 107 (call 8 116 (one 10 ∷ []))), None)
     -- n = h(1) + 1;  A helper isn't called inside an expression.
@@ -304,7 +304,7 @@ samples =
     -- n = v(1);
     ∷ (set (call 4 117 (one 6 ∷ [])), Some (WrongArgumentCount 4))
     -- a *= v();
-    ∷ (only (Assign 0 (Whole 0 101) (Some Multiply) (call 5 117 [])), Some (TypeMismatch 0))
+    ∷ (only (Assign 0 (TargetVariable 0 101) (Some Multiply) (call 5 117 [])), Some (TypeMismatch 0))
     -- v();
     ∷ (only (CallOnly 0 117 NoTerm), None)
     -- h();
@@ -320,7 +320,7 @@ samples =
     -- g(t);
     ∷ (only (CallOnly 0 118 (then_all NoTerm (t 2 ∷ []))), Some (WrongSpace 2))
     -- a = g(a);
-    ∷ (only (Assign 0 (Whole 0 101) None (call 4 118 (a 6 ∷ []))), Some (TypeMismatch 4))
+    ∷ (only (Assign 0 (TargetVariable 0 101) None (call 4 118 (a 6 ∷ []))), Some (TypeMismatch 4))
     -- k();  No kernel is called, nor this one.
     ∷ (only (CallOnly 0 119 NoTerm), Some (TypeMismatch 0))
     -- f();
@@ -332,40 +332,40 @@ samples =
     -- int h;
     ∷ (only (Declare 0 (kind.Integer Int) 4 116), Some (Redeclared 4))
     -- int x[2]; a[1] = x;  A private array is no value, and there is no pointer to it.
-    ∷ (behind_private (Assign 10 (Part 10 101 (one 12)) None (x 17)), Some (WrongSpace 17))
+    ∷ (behind_private (Assign 10 (TargetElement 10 101 (one 12)) None (x 17)), Some (WrongSpace 17))
     -- int x[2]; a[1] = x[1];
-    ∷ (behind_private (Assign 10 (Part 10 101 (one 12)) None (Element 17 107 (one 19))), None)
+    ∷ (behind_private (Assign 10 (TargetElement 10 101 (one 12)) None (Element 17 107 (one 19))), None)
     -- int x[2]; x = y;  The target comes before the value.
-    ∷ (behind_private (Assign 10 (Whole 10 107) None (Variable 14 114)), Some (NotAssignable 10))
+    ∷ (behind_private (Assign 10 (TargetVariable 10 107) None (Variable 14 114)), Some (NotAssignable 10))
     -- int x[2]; ++x;
-    ∷ (behind_private (Step 10 (Whole 12 107) true), Some (NotAssignable 12))
+    ∷ (behind_private (Step 10 (TargetVariable 12 107) true), Some (NotAssignable 12))
     -- int x[2]; a[1] = *x;
-    ∷ (behind_private (Assign 10 (Part 10 101 (one 12)) None (Dereference 17 (x 18))), Some (WrongSpace 18))
+    ∷ (behind_private (Assign 10 (TargetElement 10 101 (one 12)) None (Dereference 17 (x 18))), Some (WrongSpace 18))
     -- int x[2]; atomic_add(&x[1], 1);
     ∷ (behind_private (CallOnly 10 15 (then_all NoTerm (ElementAddress 21 22 107 (one 24) ∷ one 28 ∷ []))), Some (WrongSpace 21))
     -- int x[2]; atomic_add(&x[a], 1);  Of one node the lowest number.
     ∷ (behind_private (CallOnly 10 15 (then_all NoTerm (ElementAddress 21 22 107 (a 24) ∷ one 28 ∷ []))), Some (TypeMismatch 24))
     -- int x[2]; y[x] = 1;
-    ∷ (behind_private (Assign 10 (Part 10 114 (x 12)) None (one 17)), Some (WrongSpace 12))
+    ∷ (behind_private (Assign 10 (TargetElement 10 114 (x 12)) None (one 17)), Some (WrongSpace 12))
     -- int x[2]; x();
     ∷ (behind_private (CallOnly 10 107 NoTerm), Some (TypeMismatch 10))
     -- int x[2]; if (x) y = 1;
-    ∷ (behind_private (If 10 (x 14) (Assign 17 (Whole 17 114) None (one 21))), Some (WrongSpace 14))
+    ∷ (behind_private (If 10 (x 14) (Assign 17 (TargetVariable 17 114) None (one 21))), Some (WrongSpace 14))
     -- int x[2]; { int x; x = 1; }  An inner variable hides it.
     ∷ (
-      behind_private (Block 10 (then_stmts NoStmt (Declare 12 (kind.Integer Int) 16 107 ∷ Assign 19 (Whole 19 107) None (one 23) ∷ []))),
+      behind_private (Block 10 (then_stmts NoStmt (Declare 12 (kind.Integer Int) 16 107 ∷ Assign 19 (TargetVariable 19 107) None (one 23) ∷ []))),
       None,
     )
     -- __local int x[2]; if (x) y = 1;  The kind of a condition comes behind what is controlled.
-    ∷ (behind_local (If 18 (x 22) (Assign 25 (Whole 25 114) None (one 29))), Some (UnknownName 25))
+    ∷ (behind_local (If 18 (x 22) (Assign 25 (TargetVariable 25 114) None (one 29))), Some (UnknownName 25))
     -- __local int x[2]; if (x) n = 1;
-    ∷ (behind_local (If 18 (x 22) (Assign 25 (Whole 25 105) None (one 29))), Some (TypeMismatch 22))
+    ∷ (behind_local (If 18 (x 22) (Assign 25 (TargetVariable 25 105) None (one 29))), Some (TypeMismatch 22))
     -- __local int x[2]; x += 1;
-    ∷ (behind_local (Assign 18 (Whole 18 107) (Some Add) (one 23)), Some (NotAssignable 18))
+    ∷ (behind_local (Assign 18 (TargetVariable 18 107) (Some Add) (one 23)), Some (NotAssignable 18))
     -- __local int x[2]; __global int *p = x;
     ∷ (behind_local (DeclareAs 18 (global Int) 32 108 (x 36)), Some (WrongSpace 36))
     -- __local int x[2]; *(x + 1) = x[1];
-    ∷ (behind_local (Assign 18 (Behind 18 (Binary 20 (Arithmetic Add) (x 20) (one 24))) None (Element 29 107 (one 31))), None)
+    ∷ (behind_local (Assign 18 (TargetDereference 18 (Binary 20 (Arithmetic Add) (x 20) (one 24))) None (Element 29 107 (one 31))), None)
     -- { __local int x[0]; }  Of one place the lowest number.
     ∷ (only (Block 0 (then_stmts NoStmt (array true Int 2 14 107 16 0 ∷ []))), Some (WrongSpace 14))
     ∷ []
@@ -378,19 +378,19 @@ bodies = (118, record { loops = 0; bytes = 0; nodes = 2 }) ∷ (116, record { lo
 abbrev pub counted : List (Stmt × (ℕ × ℕ))
 counted =
     -- n++;
-    (Step 0 (Whole 0 105) true, (2, 0))
+    (Step 0 (TargetVariable 0 105) true, (2, 0))
     -- n = 1;
-    ∷ (Assign 0 (Whole 0 105) None (one 4), (3, 0))
+    ∷ (Assign 0 (TargetVariable 0 105) None (one 4), (3, 0))
     -- a[n] = 1;
-    ∷ (Assign 0 (Part 0 101 (n 2)) None (one 7), (4, 0))
+    ∷ (Assign 0 (TargetElement 0 101 (n 2)) None (one 7), (4, 0))
     -- *a = 1;
-    ∷ (Assign 0 (Behind 0 (a 1)) None (one 5), (4, 0))
+    ∷ (Assign 0 (TargetDereference 0 (a 1)) None (one 5), (4, 0))
     -- abs(1);
     ∷ (CallOnly 0 10 (then_all NoTerm (one 4 ∷ [])), (2, 0))
     -- min(1, 1);
     ∷ (CallOnly 0 8 (then_all NoTerm (one 4 ∷ one 7 ∷ [])), (3, 0))
     -- n = atomic_cmpxchg(a, 1, 1);
-    ∷ (Assign 0 (Whole 0 105) None (call 4 27 (a 19 ∷ one 22 ∷ one 25 ∷ [])), (6, 0))
+    ∷ (Assign 0 (TargetVariable 0 105) None (call 4 27 (a 19 ∷ one 22 ∷ one 25 ∷ [])), (6, 0))
     -- ;
     ∷ (Empty 0, (1, 0))
     -- { }
@@ -409,13 +409,13 @@ counted =
     -- if (n) ;
     ∷ (If 0 (n 4) (Empty 7), (3, 0))
     -- n = g(1);
-    ∷ (Assign 0 (Whole 0 105) None (call 4 118 (one 6 ∷ [])), (6, 0))
+    ∷ (Assign 0 (TargetVariable 0 105) None (call 4 118 (one 6 ∷ [])), (6, 0))
     -- while (n) h(1);
     ∷ (While 0 (n 7) (CallOnly 10 116 (then_all NoTerm (one 12 ∷ []))), (14, 3))
     -- for (h(1); n; g(1)) ;  The first part isn't in the loop, the third is.
-    ∷ (For 0 (With (CallOnly 5 116 (then_all NoTerm (one 7 ∷ [])))) (While_ (n 11)) (With (CallOnly 14 118 (then_all NoTerm (one 16 ∷ [])))) (Empty 20), (19, 2))
+    ∷ (For 0 (With (CallOnly 5 116 (then_all NoTerm (one 7 ∷ [])))) (WithTerm (n 11)) (With (CallOnly 14 118 (then_all NoTerm (one 16 ∷ [])))) (Empty 20), (19, 2))
     -- for (; ; h(1)) ;
-    ∷ (For 0 Without Always (With (CallOnly 9 116 (then_all NoTerm (one 11 ∷ [])))) (Empty 15), (14, 3))
+    ∷ (For 0 Without WithoutTerm (With (CallOnly 9 116 (then_all NoTerm (one 11 ∷ [])))) (Empty 15), (14, 3))
     -- do while (n) ; while (n);
     ∷ (DoWhile 0 (While 3 (n 10) (Empty 13)) (n 22), (5, 2))
     ∷ []
@@ -465,7 +465,7 @@ texts =
     -- kernel void f(int p) { p++; } kernel void g(int p) { { int p = p; } }
     ∷ (
       then_funcs NoFunc
-          (kernel 12 100 (parameter 18 102 ∷ []) (Step 23 (Whole 23 102) true ∷ [])
+          (kernel 12 100 (parameter 18 102 ∷ []) (Step 23 (TargetVariable 23 102) true ∷ [])
           ∷ kernel 42 101 (parameter 48 102 ∷ []) (Block 53 (then_stmts NoStmt (DeclareAs 55 (kind.Integer Int) 59 102 (Variable 63 102) ∷ [])) ∷ [])
           ∷ []),
       None,
@@ -515,7 +515,7 @@ texts =
     -- void g(__local int *p) { } __kernel void f() { __local int t[2]; g(t); }
     ∷ (then_funcs NoFunc (function None 5 101 (local_parameter 20 102 ∷ []) [] ∷ kernel 41 100 [] (array true Int 47 59 103 61 2 ∷ CallOnly 65 101 (then_all NoTerm (Variable 67 103 ∷ [])) ∷ []) ∷ []), None)
     -- __kernel void f() { do { int t[1]; t[0] = 0; } while (t[0]); }  The condition stands behind the block.
-    ∷ (then_funcs NoFunc (kernel 14 100 [] (DoWhile 20 (Block 23 (then_stmts NoStmt (array false Int 25 29 103 31 1 ∷ Assign 35 (Part 35 103 (number 37 0)) None (number 42 0) ∷ []))) (Element 54 103 (number 56 0)) ∷ []) ∷ []), Some (UnknownName 54))
+    ∷ (then_funcs NoFunc (kernel 14 100 [] (DoWhile 20 (Block 23 (then_stmts NoStmt (array false Int 25 29 103 31 1 ∷ Assign 35 (TargetElement 35 103 (number 37 0)) None (number 42 0) ∷ []))) (Element 54 103 (number 56 0)) ∷ []) ∷ []), Some (UnknownName 54))
     -- __kernel void f() { __local char t[32768]; }
     ∷ (then_funcs NoFunc (kernel 14 100 [] (array true Char 20 33 103 35 32768 ∷ []) ∷ []), None)
     -- __kernel void f() { __local char t[32769]; }
@@ -527,7 +527,7 @@ texts =
     -- void g() { uchar t[2048]; } __kernel void f() { uchar u[1]; g(); g(); }
     ∷ (then_funcs NoFunc (function None 5 101 [] (array false Uchar 11 17 103 19 2048 ∷ []) ∷ kernel 42 100 [] (array false Uchar 48 54 104 56 1 ∷ CallOnly 60 101 NoTerm ∷ CallOnly 65 101 NoTerm ∷ []) ∷ []), Some (TooLarge 42))
     -- void g() { int t[0]; } __kernel void f() { y = 1; }
-    ∷ (then_funcs NoFunc (function None 5 101 [] (array false Int 11 15 103 17 0 ∷ []) ∷ kernel 37 100 [] (Assign 43 (Whole 43 114) None (one 47) ∷ []) ∷ []), Some (TooLarge 17))
+    ∷ (then_funcs NoFunc (function None 5 101 [] (array false Int 11 15 103 17 0 ∷ []) ∷ kernel 37 100 [] (Assign 43 (TargetVariable 43 114) None (one 47) ∷ []) ∷ []), Some (TooLarge 17))
     -- void g() { long t[32768]; } __kernel void f() { }
     ∷ (then_funcs NoFunc (function None 5 101 [] (array false Long 11 16 103 18 32768 ∷ []) ∷ kernel 42 100 [] [] ∷ []), None)
     ∷ []

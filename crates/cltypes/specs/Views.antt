@@ -1,18 +1,18 @@
 -- What the checker's values stand for.
 use Rattle.std.specs.Prelude.{ℕ, List, ◌++◌, map, Option, None, Some, Box}
 use Rattle.std.specs.declared.alloc.Global.{Global}
-use Rattle.clmodel.specs.Tree.{Place, Stmt, stmt, MaybeStmt, Without, With, MaybeTerm, Funcs, NoFunc, then_funcs, func}
+use Rattle.clmodel.specs.Tree.{Target, Stmt, stmt, MaybeStmt, Without, With, MaybeTerm, Funcs, NoFunc, then_funcs, func}
 use Rattle.clmodel.specs.declared.tree.Function.{Function}
 use Rattle.clmodel.specs.declared.tree.Statement.{Statement}
 use Rattle.clmodel.specs.Typing.Context.{Context, enter, turning}
 use Rattle.clmodel.specs.Typing.Least.{Places, node}
-use Rattle.clmodel.specs.Typing.Faults.{place_start, place_kind, condition_parts, condition_faults, part_faults, faults}
+use Rattle.clmodel.specs.Typing.Faults.{target_start, target_kind, condition_parts, condition_faults, part_faults, faults}
 use Rattle.cltypes_scope.specs.Names.{nowhere}
-use Rattle.cltypes_scope.specs.declared.faults.Operand.{Operand}
+use Rattle.cltypes_scope.specs.declared.faults.TypedOperand.{TypedOperand}
 
 -- the type of the target, and its first byte
-abbrev pub target_of : Context → Place → Operand
-target_of c p = record { kind = place_kind c p; at = place_start p }
+abbrev pub target_of : Context → Target → TypedOperand
+target_of c p = record { kind = target_kind c p; at = target_start p }
 
 -- a statement that may be left out
 abbrev pub held : Option (Box Statement Global) → MaybeStmt

@@ -2,9 +2,9 @@
 #![tactic(auto)]
 
 ghost use Rattle.std.specs.Prelude.{◌≡◌, ◌++◌};
-ghost use Rattle.clmodel.specs.Tree.{term, place};
+ghost use Rattle.clmodel.specs.Tree.{term, tree_target};
 ghost use Rattle.clmodel.specs.Typing.Least.{least, first, node};
-ghost use Rattle.clmodel.specs.Typing.Faults.{integer_faults, pointer_faults, assigning_faults, whole_faults, store_faults, stored_faults, target_faults, place_faults, value_faults, initial_faults, assignment_faults};
+ghost use Rattle.clmodel.specs.Typing.Faults.{integer_faults, pointer_faults, assigning_faults, whole_faults, store_faults, stored_faults, element_target_faults, target_faults, value_faults, initial_faults, assignment_faults};
 ghost use Rattle.cltypes_scope.specs.Answers.{Checks};
 ghost use Rattle.cltypes_scope.specs.Names.{meaning_of};
 ghost use Rattle.cltypes.specs.Views.{target_of};
@@ -15,12 +15,16 @@ use clmodel::type_fault::TypeFault;
 use clnum::BinaryOperator;
 use cltypes_scope::kinds::{element_kind, front_kind, name_kind};
 use cltypes_scope::{
-    Context, Meaning, Operand, check_expression, check_value, checked, front_fault, integer_fault,
-    lesser, moves, name_fault, passing_fault, pointer_fault, void_fault,
+    Context, Meaning, TypedOperand, check_expression, check_value, checked, front_fault,
+    integer_fault, lesser, moves, name_fault, passing_fault, pointer_fault, void_fault,
 };
 
 /// What an operator assigns to, and the value.
-fn assigning_fault(operator: BinaryOperator, to: Operand, value: Operand) -> Option<TypeFault>
+fn assigning_fault(
+    operator: BinaryOperator,
+    to: TypedOperand,
+    value: TypedOperand,
+) -> Option<TypeFault>
     ensures { result ≡ least (assigning_faults operator to.kind value.kind to.at value.at) }
 {
     match to.kind {
@@ -69,8 +73,8 @@ fn stored_fault(meaning: Meaning<'_>, at: u32) -> Option<TypeFault>
 
 /// An element that is a target: the name in front, and the index.
 #[tactic(auto, using(cltypes_scope::proofs::Least::least_append))]
-fn target_fault(meaning: Meaning<'_>, at: u32, index: Operand) -> Option<TypeFault>
-    ensures { result ≡ least (target_faults (meaning_of meaning.entry) at ++ integer_faults index.kind index.at) }
+fn target_fault(meaning: Meaning<'_>, at: u32, index: TypedOperand) -> Option<TypeFault>
+    ensures { result ≡ least (element_target_faults (meaning_of meaning.entry) at ++ integer_faults index.kind index.at) }
 {
     lesser(
         lesser(front_fault(meaning, at), stored_fault(meaning, at)),
@@ -80,15 +84,15 @@ fn target_fault(meaning: Meaning<'_>, at: u32, index: Operand) -> Option<TypeFau
 
 /// What a pointer points to, a target at `at`.
 #[tactic(auto, using(cltypes_scope::proofs::Least::least_append))]
-fn behind_fault(pointer: Operand, at: u32) -> Option<TypeFault>
+fn behind_fault(pointer: TypedOperand, at: u32) -> Option<TypeFault>
     ensures { result ≡ least (pointer_faults pointer.kind pointer.at ++ store_faults pointer.kind at) }
 {
     lesser(pointer_fault(pointer), store_fault(pointer.kind, at))
 }
 
 /// The type of the target and where it begins, or its first fault.
-pub(crate) fn check_target(context: &Context, target: &Target) -> Result<Operand, TypeFault>
-    ensures { Checks result (first (place_faults context.now (place target.now))) (target_of context.now (place target.now)) }
+pub(crate) fn check_target(context: &Context, target: &Target) -> Result<TypedOperand, TypeFault>
+    ensures { Checks result (first (target_faults context.now (tree_target target.now))) (target_of context.now (tree_target target.now)) }
 {
     match target {
         Target::Variable { at, name } => {
@@ -117,7 +121,7 @@ pub(crate) fn assignment_fault(
     ensures { let c = context.now in
         let p = place target.now in
         let e = term value.now in
-        result ≡ first (node (place_faults c p ++ value_faults c e) (assignment_faults c p operator e)) }
+        result ≡ first (node (target_faults c p ++ value_faults c e) (assignment_faults c p operator e)) }
 {
     match check_target(context, target) {
         Err(fault) => Some(fault),

@@ -5,9 +5,9 @@ use Rattle.std.specs.Option.{option_map, option_or}
 use Rattle.std.specs.Map.{lookup}
 use Rattle.std.proofs.lemmas.Map.Made.{lookup-map_values}
 use Rattle.clmodel.specs.Tree as tree
-use Rattle.clmodel.specs.Tree.{Term, Terms, NoTerm, ThenTerm, Place, Stmt, Stmts, NoStmt, ThenStmt, MaybeStmt, Without, With, MaybeTerm, Always, While_, Func, Funcs, ThenFunc}
+use Rattle.clmodel.specs.Tree.{Term, Terms, NoTerm, ThenTerm, Target, Stmt, Stmts, NoStmt, ThenStmt, MaybeStmt, Without, With, MaybeTerm, WithoutTerm, WithTerm, Func, Funcs, ThenFunc}
 use Rattle.clmodel.specs.Typing.Sizes as counted
-use Rattle.clmodel.specs.Typing.Sizes.{Sizes, nothing, beside, one_node, one_loop, or_nothing, size_in, term_size, terms_size, place_size, condition_size, size, part_size, row_size, sizes_of}
+use Rattle.clmodel.specs.Typing.Sizes.{Sizes, nothing, beside, one_node, one_loop, or_nothing, size_in, term_size, terms_size, target_size, condition_size, size, part_size, row_size, sizes_of}
 use Rattle.clmodel.specs.Typing.Functions.{size_of}
 use Rattle.cltypes_limits.specs.declared.size.Size.{Size}
 use Rattle.cltypes_limits.specs.Limits.{capped, plain, plain_entry, IsSummary}
@@ -65,14 +65,14 @@ module _ (A B : Sizes) (same : (x : ℕ) → Alike (size_in A x) (size_in B x)) 
     same_terms NoTerm = equal _
     same_terms (ThenTerm es e) = same_beside (same_terms es) (same_term e)
 
-  same_place : (p : Place) → Alike (place_size A p) (place_size B p)
-  same_place (tree.Whole a x) = equal _
-  same_place (tree.Part a x e) = same_node (same_term e)
-  same_place (tree.Behind a e) = same_node (same_term e)
+  same_place : (p : Target) → Alike (target_size A p) (target_size B p)
+  same_place (tree.TargetVariable a x) = equal _
+  same_place (tree.TargetElement a x e) = same_node (same_term e)
+  same_place (tree.TargetDereference a e) = same_node (same_term e)
 
   same_condition : (e : MaybeTerm) → Alike (condition_size A e) (condition_size B e)
-  same_condition Always = equal _
-  same_condition (While_ e) = same_term e
+  same_condition WithoutTerm = equal _
+  same_condition (WithTerm e) = same_term e
 
   mutual
     same_statement : (s : Stmt) → Alike (size A s) (size B s)

@@ -2,8 +2,8 @@
 #![tactic(auto)]
 
 ghost use Rattle.std.specs.Prelude.{◌≡◌};
-ghost use Rattle.clmodel.specs.Tree.{term, terms, place, maybe_term};
-ghost use Rattle.clmodel.specs.Typing.Sizes.{term_size, terms_size, place_size, condition_size};
+ghost use Rattle.clmodel.specs.Tree.{term, terms, tree_target, maybe_term};
+ghost use Rattle.clmodel.specs.Typing.Sizes.{term_size, terms_size, target_size, condition_size};
 ghost use Rattle.cltypes_limits.specs.Limits.{capped};
 
 use crate::size::Size;
@@ -58,7 +58,7 @@ pub(crate) fn arguments_size(table: &Summaries, arguments: &[Expression]) -> Siz
 
 /// The size of a target.
 pub(crate) fn target_size(table: &Summaries, target: &Target) -> Size
-    ensures { result ≡ capped (place_size table.now (place target.now)) }
+    ensures { result ≡ capped (target_size table.now (tree_target target.now)) }
 {
     match target {
         Target::Variable { .. } => Size::leaf(),

@@ -14,7 +14,7 @@ use Rattle.clmodel.specs.Typing.Least.{lesser, least, first}
 use Rattle.clmodel.specs.Typing.Rules.{count}
 use Rattle.clmodel.specs.Typing.Faults.{Want, last_kind, first_kind}
 use Rattle.clmodel.specs.Typing.Faults.{unless, start, argument_faults, kind_of, arguments_faults, flags_faults, term_faults, terms_faults}
-use Rattle.cltypes_scope.specs.declared.faults.Operand.{Operand}
+use Rattle.cltypes_scope.specs.declared.faults.TypedOperand.{TypedOperand}
 use Rattle.cltypes_scope.specs.Views.{operand_of}
 use Rattle.cltypes_scope.proofs.Least.{least_append}
 use Rattle.cltypes_scope.proofs.Follows.{inside_first, inside_second, neither_of}
@@ -47,7 +47,7 @@ arguments_inside c es i e h g n s =
 counted : (es : List Expression) (i : ℕ) → i < length es → count (terms (take i es)) ≡ i
 counted es i h = count_terms (take i es) ∙ length-take-le i es (omega arith)
 
-pub arguments_own : (c : Context) (ws : List Want) (es : List Expression) (i : ℕ) (e : Expression) (t : Operand) (last : VariableType) (w : Option Want) (own one now : Option TypeFault)
+pub arguments_own : (c : Context) (ws : List Want) (es : List Expression) (i : ℕ) (e : Expression) (t : TypedOperand) (last : VariableType) (w : Option Want) (own one now : Option TypeFault)
     → i < length es → e ≡ get_or es i e → own ≡ least (arguments_faults c ws (terms (take i es))) → last ≡ last_kind c (terms (take i es)) → t ≡ operand_of c (term e)
     → w ≡ slice_get ws i → one ≡ least (argument_faults w last t.kind t.at) → now ≡ lesser own one → now ≡ least (arguments_faults c ws (terms (take (i + 1) es)))
 arguments_own c ws es i e t last w own one now h g o l p r s n =
@@ -60,7 +60,7 @@ arguments_own c ws es i e t last w own one now h g o l p r s n =
     ∙ sym (least_append (arguments_faults c ws ts) (argument_faults (slice_get ws (count ts)) (last_kind c ts) (kind_of c (term e)) (start (term e))))
     ∙ ap (λ z. least (arguments_faults c ws z)) (sym (next_argument es i e h g))
 
-pub arguments_last : (c : Context) (es : List Expression) (i : ℕ) (e : Expression) (t : Operand) → i < length es → e ≡ get_or es i e → t ≡ operand_of c (term e)
+pub arguments_last : (c : Context) (es : List Expression) (i : ℕ) (e : Expression) (t : TypedOperand) → i < length es → e ≡ get_or es i e → t ≡ operand_of c (term e)
     → t.kind ≡ last_kind c (terms (take (i + 1) es))
 arguments_last c es i e t h g p = ap (λ z. z.kind) p ∙ ap (λ z. last_kind c z) (sym (next_argument es i e h g))
 
@@ -74,7 +74,7 @@ first_stays : (c : Context) (ts : Terms) (e : Term) → (count ts ≡ 0 → ⊥)
 first_stays c NoTerm e h = absurd (h refl)
 first_stays c (ThenTerm ts d) e h = refl
 
-pub arguments_begin : (c : Context) (es : List Expression) (i : ℕ) (e : Expression) (t : Operand) → i < length es → e ≡ get_or es i e → t ≡ operand_of c (term e)
+pub arguments_begin : (c : Context) (es : List Expression) (i : ℕ) (e : Expression) (t : TypedOperand) → i < length es → e ≡ get_or es i e → t ≡ operand_of c (term e)
     → i ≡ 0 → t.kind ≡ first_kind c (terms (take (i + 1) es))
 arguments_begin c es i e t h g p z =
     ap (λ z. z.kind) p ∙ sym (first_here c (terms (take i es)) (term e) (counted es i h ∙ z)) ∙ ap (λ z. first_kind c z) (sym (next_argument es i e h g))

@@ -7,7 +7,7 @@ use Rattle.clmodel.specs.Typing.Context.{Context, Meaning, meaning}
 use Rattle.clmodel.specs.Typing.Least.{lesser, least, first, node}
 use Rattle.clmodel.specs.Typing.Rules.{count}
 use Rattle.clmodel.specs.Typing.Faults.{Spot, callee_faults, wanted, first_kind, call_kind, arguments_faults, inside_call, barrier_faults, call_faults, terms_faults}
-use Rattle.cltypes_scope.specs.declared.faults.Operand.{Operand}
+use Rattle.cltypes_scope.specs.declared.faults.TypedOperand.{TypedOperand}
 use Rattle.cltypes_scope.specs.declared.faults.Arguments.{Arguments}
 use Rattle.cltypes_scope.specs.Answers.{Checks}
 use Rattle.cltypes_scope.specs.Fenced.{AreAlike}
@@ -32,7 +32,7 @@ own_call c spot es a n m x given flags own k q s v u =
     ∙ sym (least_append (callee ++ arguments) fences)
     ∙ ap (λ z. least (call_faults c spot z a es)) q
 
-pub call_here : (c d : Context) (spot : Spot) (es : Terms) (a x n : ℕ) (m : Meaning) (given : Arguments) (flags own : Option TypeFault) (j : VariableType) (r : Result Operand TypeFault)
+pub call_here : (c d : Context) (spot : Spot) (es : Terms) (a x n : ℕ) (m : Meaning) (given : Arguments) (flags own : Option TypeFault) (j : VariableType) (r : Result TypedOperand TypeFault)
     → AreAlike d (inside_call m c) → Checks (Ok given) (first (terms_faults d es)) (arguments_of d m es) → m ≡ meaning c x → n ≡ count es
     → flags ≡ least (barrier_faults m es) → own ≡ lesser (lesser (least (callee_faults spot m a n)) given.fault) flags → j ≡ call_kind m given.first
     → Checks r own (operand j a)

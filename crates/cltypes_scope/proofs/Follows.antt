@@ -6,7 +6,7 @@ use Rattle.clmodel.specs.Tree.{Term}
 use Rattle.clmodel.specs.Typing.Context.{Context}
 use Rattle.clmodel.specs.Typing.Least.{Places, least, earlier, first, node}
 use Rattle.clmodel.specs.Typing.Faults.{term_faults}
-use Rattle.cltypes_scope.specs.declared.faults.Operand.{Operand}
+use Rattle.cltypes_scope.specs.declared.faults.TypedOperand.{TypedOperand}
 use Rattle.cltypes_scope.specs.Answers.{Checks}
 use Rattle.cltypes_scope.specs.Views.{operand_of}
 use Rattle.cltypes_scope.proofs.Least.{first_append, first_node}
@@ -32,30 +32,30 @@ neither_of ps qs h k = first_append ps qs ∙ ap (λ o. earlier o (first qs)) h 
 pub checks_same : {A : Type 0} (r : Result A TypeFault) (o p : Option TypeFault) (a b : A) → o ≡ p → a ≡ b → Checks r o a → Checks r p b
 checks_same r o p a b e h x = subst (λ v. Checks r v b) e (subst (λ v. Checks r o v) h x)
 
-abbrev pub operand : VariableType → ℕ → Operand
+abbrev pub operand : VariableType → ℕ → TypedOperand
 operand kind at = record { kind = kind; at = at }
 
 -- and with a fault and a type that are known
-pub checks_as : (r : Result Operand TypeFault) (o p : Option TypeFault) (j k : VariableType) (at : ℕ) → o ≡ p → j ≡ k → Checks r o (operand j at) → Checks r p (operand k at)
+pub checks_as : (r : Result TypedOperand TypeFault) (o p : Option TypeFault) (j k : VariableType) (at : ℕ) → o ≡ p → j ≡ k → Checks r o (operand j at) → Checks r p (operand k at)
 checks_as r o p j k at e h x = checks_same r o p (operand j at) (operand k at) e (ap (λ z. operand z at) h) x
 
 -- an expression that is another
-pub along : (c : Context) (d e : Term) (r : Result Operand TypeFault) → e ≡ d → Checks r (first (term_faults c d)) (operand_of c d) → Checks r (first (term_faults c e)) (operand_of c e)
+pub along : (c : Context) (d e : Term) (r : Result TypedOperand TypeFault) → e ≡ d → Checks r (first (term_faults c d)) (operand_of c d) → Checks r (first (term_faults c e)) (operand_of c e)
 along c d e r h x = subst (λ z. Checks r (first (term_faults c z)) (operand_of c z)) (sym h) x
 
 -- A node of parts that have no fault has its own, as what was found of its parts says.
 
-pub one_here : {A : Type 0} (ps : Places) (owns : A → List TypeFault) (outcome : A → Operand) (t j : A) (r : Result Operand TypeFault)
+pub one_here : {A : Type 0} (ps : Places) (owns : A → List TypeFault) (outcome : A → TypedOperand) (t j : A) (r : Result TypedOperand TypeFault)
     → Checks (Ok t) (first ps) j → Checks r (least (owns t)) (outcome t) → Checks r (first (node ps (owns j))) (outcome j)
 one_here ps owns outcome t j r n x =
     subst (λ o. Checks r o (outcome j)) (sym (own_fault ps (owns j) n.0)) (subst (λ z. Checks r (least (owns z)) (outcome z)) n.1 x)
 
-pub two_here : (ps qs : Places) (owns : Operand → Operand → List TypeFault) (outcome : Operand → Operand → Operand) (t j u k : Operand) (r : Result Operand TypeFault)
+pub two_here : (ps qs : Places) (owns : TypedOperand → TypedOperand → List TypeFault) (outcome : TypedOperand → TypedOperand → TypedOperand) (t j u k : TypedOperand) (r : Result TypedOperand TypeFault)
     → Checks (Ok t) (first ps) j → Checks (Ok u) (first qs) k → Checks r (least (owns t u)) (outcome t u) → Checks r (first (node (ps ++ qs) (owns j k))) (outcome j k)
 two_here ps qs owns outcome t j u k r n m x =
     one_here (ps ++ qs) (owns j) (outcome j) u k r (neither_of ps qs n.0 m.0, m.1) (subst (λ z. Checks r (least (owns z u)) (outcome z u)) n.1 x)
 
-pub three_here : (ps qs rs : Places) (owns : Operand → Operand → Operand → List TypeFault) (outcome : Operand → Operand → Operand → Operand) (t j u k v l : Operand) (r : Result Operand TypeFault)
+pub three_here : (ps qs rs : Places) (owns : TypedOperand → TypedOperand → TypedOperand → List TypeFault) (outcome : TypedOperand → TypedOperand → TypedOperand → TypedOperand) (t j u k v l : TypedOperand) (r : Result TypedOperand TypeFault)
     → Checks (Ok t) (first ps) j → Checks (Ok u) (first qs) k → Checks (Ok v) (first rs) l → Checks r (least (owns t u v)) (outcome t u v)
     → Checks r (first (node (ps ++ qs ++ rs) (owns j k l))) (outcome j k l)
 three_here ps qs rs owns outcome t j u k v l r n m p x =
@@ -67,7 +67,7 @@ pub own_of_one : {A : Type 0} (ps : Places) (owns : A → List TypeFault) (t j :
     → Checks (Ok t) (first ps) j → o ≡ least (owns t) → o ≡ first (node ps (owns j))
 own_of_one ps owns t j o n h = h ∙ ap (λ z. least (owns z)) n.1 ∙ sym (own_fault ps (owns j) n.0)
 
-pub own_of_two : (ps qs : Places) (owns : Operand → Operand → List TypeFault) (t j u k : Operand) (o : Option TypeFault)
+pub own_of_two : (ps qs : Places) (owns : TypedOperand → TypedOperand → List TypeFault) (t j u k : TypedOperand) (o : Option TypeFault)
     → Checks (Ok t) (first ps) j → Checks (Ok u) (first qs) k → o ≡ least (owns t u) → o ≡ first (node (ps ++ qs) (owns j k))
 own_of_two ps qs owns t j u k o n m h =
     h ∙ ap (λ z. least (owns z u)) n.1 ∙ ap (λ z. least (owns j z)) m.1 ∙ sym (own_fault (ps ++ qs) (owns j k) (neither_of ps qs n.0 m.0))

@@ -8,7 +8,7 @@ use Rattle.cltypes_scope.specs.declared.faults.Want.{Want}
 use Rattle.cltypes_scope.specs.declared.faults.Want.TheVariants.{Integer, OfTypeBefore, AtomicPointer, ForParameter}
 use Rattle.cltypes_scope.specs.declared.faults.Spot.{Spot}
 use Rattle.cltypes_scope.specs.declared.faults.Spot.TheVariants.{WholeStatement, RightSide, Inside}
-use Rattle.cltypes_scope.specs.declared.faults.Operand.{Operand}
+use Rattle.cltypes_scope.specs.declared.faults.TypedOperand.{TypedOperand}
 use Rattle.cltypes_scope.specs.declared.faults.Arguments.{Arguments}
 
 abbrev pub want_of : Want → rule.Want
@@ -23,7 +23,7 @@ spot_of RightSide = rule.RightSide
 spot_of Inside = rule.Inside
 
 -- an expression's type and its first byte
-abbrev pub operand_of : Context → Term → Operand
+abbrev pub operand_of : Context → Term → TypedOperand
 operand_of c e = record { kind = kind_of c e; at = start e }
 
 -- the least fault that arguments have as those of what is called, and the type of the first one

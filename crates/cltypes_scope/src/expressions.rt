@@ -12,7 +12,7 @@ ghost use Rattle.cltypes_scope.specs.Answers.{Checks};
 ghost use Rattle.cltypes_scope.specs.Views.{spot_of, operand_of, arguments_of};
 
 use crate::faults::{
-    Arguments, Operand, Spot, argument_fault, call_fault, choice_fault, element_address_fault,
+    Arguments, Spot, TypedOperand, argument_fault, call_fault, choice_fault, element_address_fault,
     element_fault, integer_fault, lesser, name_fault, operand_fault, pointer_fault, wanted,
 };
 use crate::flags::flags_fault;
@@ -26,18 +26,22 @@ use clmodel::type_fault::TypeFault;
 use clnum::{IntType, UnaryOperator};
 
 /// What has a type and begins at `at`, where it has no fault.
-pub fn checked(fault: Option<TypeFault>, kind: VariableType, at: u32) -> Result<Operand, TypeFault>
+pub fn checked(
+    fault: Option<TypeFault>,
+    kind: VariableType,
+    at: u32,
+) -> Result<TypedOperand, TypeFault>
     ensures { Checks result fault (record { kind = kind; at = at }) }
 {
     match fault {
         Some(fault) => Err(fault),
-        None => Ok(Operand { kind, at }),
+        None => Ok(TypedOperand { kind, at }),
     }
 }
 
 /// An expression's type and where it begins, or its first fault, where these names are known.
 #[cycle(expressions)]
-pub(crate) fn check_in(names: Names<'_>, expression: &Expression) -> Result<Operand, TypeFault>
+pub(crate) fn check_in(names: Names<'_>, expression: &Expression) -> Result<TypedOperand, TypeFault>
     ensures { Checks result (first (term_faults (names_of names.entry) (term expression.now))) (operand_of (names_of names.entry) (term expression.now)) }
 {
     match expression {
@@ -91,7 +95,7 @@ fn check_element(
     at: u32,
     name: u32,
     index: &Expression,
-) -> Result<Operand, TypeFault>
+) -> Result<TypedOperand, TypeFault>
     ensures { let e = Element at name (term index.now) in Checks result (first (term_faults (names_of names.entry) e)) (operand_of (names_of names.entry) e) }
 {
     let index = check_in(names, index)?;
@@ -107,7 +111,7 @@ fn check_address(
     name_at: u32,
     name: u32,
     index: &Expression,
-) -> Result<Operand, TypeFault>
+) -> Result<TypedOperand, TypeFault>
     ensures { let e = ElementAddress at name_at name (term index.now) in Checks result (first (term_faults (names_of names.entry) e)) (operand_of (names_of names.entry) e) }
 {
     let index = check_in(names, index)?;
@@ -121,7 +125,11 @@ fn check_address(
 
 /// What a pointer points to.
 #[cycle(expressions)]
-fn check_dereference(names: Names<'_>, at: u32, pointer: &Expression) -> Result<Operand, TypeFault>
+fn check_dereference(
+    names: Names<'_>,
+    at: u32,
+    pointer: &Expression,
+) -> Result<TypedOperand, TypeFault>
     ensures { let e = Dereference at (term pointer.now) in Checks result (first (term_faults (names_of names.entry) e)) (operand_of (names_of names.entry) e) }
 {
     let pointer = check_in(names, pointer)?;
@@ -136,7 +144,7 @@ pub(crate) fn check_call_in(
     at: u32,
     name: u32,
     arguments: &[Expression],
-) -> Result<Operand, TypeFault>
+) -> Result<TypedOperand, TypeFault>
     ensures { let c = names_of names.entry in
         let m = meaning c name in
         let es = terms arguments.now in
@@ -168,7 +176,7 @@ fn check_unary(
     at: u32,
     operator: UnaryOperator,
     operand: &Expression,
-) -> Result<Operand, TypeFault>
+) -> Result<TypedOperand, TypeFault>
     ensures { let e = Unary at operator (term operand.now) in Checks result (first (term_faults (names_of names.entry) e)) (operand_of (names_of names.entry) e) }
 {
     let operand = check_in(names, operand)?;
@@ -186,7 +194,7 @@ fn check_cast(
     at: u32,
     target: IntType,
     operand: &Expression,
-) -> Result<Operand, TypeFault>
+) -> Result<TypedOperand, TypeFault>
     ensures { let e = Cast at target (term operand.now) in Checks result (first (term_faults (names_of names.entry) e)) (operand_of (names_of names.entry) e) }
 {
     let operand = check_in(names, operand)?;
@@ -201,7 +209,7 @@ fn check_binary(
     operator: InfixOperator,
     left: &Expression,
     right: &Expression,
-) -> Result<Operand, TypeFault>
+) -> Result<TypedOperand, TypeFault>
     ensures { let e = Binary at operator (term left.now) (term right.now) in Checks result (first (term_faults (names_of names.entry) e)) (operand_of (names_of names.entry) e) }
 {
     let left = check_in(names, left)?;
@@ -221,7 +229,7 @@ fn check_choice(
     condition: &Expression,
     chosen: &Expression,
     otherwise: &Expression,
-) -> Result<Operand, TypeFault>
+) -> Result<TypedOperand, TypeFault>
     ensures { let e = Choice at (term condition.now) (term chosen.now) (term otherwise.now) in
         Checks result (first (term_faults (names_of names.entry) e)) (operand_of (names_of names.entry) e) }
 {

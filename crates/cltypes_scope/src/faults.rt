@@ -42,7 +42,7 @@ pub enum Spot {
 
 /// A part of an expression or a statement that has no fault: its type, and where it begins.
 #[derive(Clone, Copy)]
-pub struct Operand {
+pub struct TypedOperand {
     pub kind: VariableType,
     pub at: u32,
 }
@@ -79,7 +79,7 @@ pub fn lesser(fault: Option<TypeFault>, other: Option<TypeFault>) -> Option<Type
 }
 
 /// Where an integer is wanted.
-pub fn integer_fault(operand: Operand) -> Option<TypeFault>
+pub fn integer_fault(operand: TypedOperand) -> Option<TypeFault>
     ensures { result ≡ least (integer_faults operand.kind operand.at) }
 {
     match operand.kind {
@@ -89,7 +89,7 @@ pub fn integer_fault(operand: Operand) -> Option<TypeFault>
 }
 
 /// Where a pointer is wanted.
-pub fn pointer_fault(operand: Operand) -> Option<TypeFault>
+pub fn pointer_fault(operand: TypedOperand) -> Option<TypeFault>
     ensures { result ≡ least (pointer_faults operand.kind operand.at) }
 {
     match operand.kind {
@@ -115,7 +115,7 @@ fn pointer_passing_fault(to: PointerType, given: PointerType, at: u32) -> Option
 }
 
 /// A value given to what has this type.
-pub fn passing_fault(to: VariableType, value: Operand) -> Option<TypeFault>
+pub fn passing_fault(to: VariableType, value: TypedOperand) -> Option<TypeFault>
     ensures { result ≡ least (passing_faults to value.kind value.at) }
 {
     match (to, value.kind) {
@@ -172,7 +172,7 @@ pub(crate) fn element_address_fault(
     meaning: Meaning<'_>,
     at: u32,
     name_at: u32,
-    index: Operand,
+    index: TypedOperand,
 ) -> Option<TypeFault>
     ensures { result ≡ least (address_faults (meaning_of meaning.entry) at name_at ++ integer_faults index.kind index.at) }
 {
@@ -181,7 +181,7 @@ pub(crate) fn element_address_fault(
 
 /// An element: the name in front, and the index.
 #[tactic(auto, using(crate::proofs::Least::least_append))]
-pub(crate) fn element_fault(meaning: Meaning<'_>, at: u32, index: Operand) -> Option<TypeFault>
+pub(crate) fn element_fault(meaning: Meaning<'_>, at: u32, index: TypedOperand) -> Option<TypeFault>
     ensures { result ≡ least (front_faults (meaning_of meaning.entry) at ++ integer_faults index.kind index.at) }
 {
     lesser(front_fault(meaning, at), integer_fault(index))
@@ -220,8 +220,8 @@ fn is_sum(operator: InfixOperator) -> bool
 /// The two operands of an operator.
 pub(crate) fn operand_fault(
     operator: InfixOperator,
-    left: Operand,
-    right: Operand,
+    left: TypedOperand,
+    right: TypedOperand,
 ) -> Option<TypeFault>
     ensures { result ≡ least (operand_faults operator left.kind right.kind left.at right.at) }
 {
@@ -239,9 +239,9 @@ pub(crate) fn operand_fault(
 /// The three parts of `condition ? chosen : otherwise`.
 #[tactic(auto, using(crate::proofs::Least::least_append))]
 pub(crate) fn choice_fault(
-    condition: Operand,
-    chosen: Operand,
-    otherwise: Operand,
+    condition: TypedOperand,
+    chosen: TypedOperand,
+    otherwise: TypedOperand,
 ) -> Option<TypeFault>
     ensures { result
         ≡ least
@@ -403,7 +403,7 @@ fn atomic_wanted(function: AtomicFunction, index: usize) -> Option<Want>
 
 /// An integer of the type of the one before it.
 #[tactic(auto, using(clnum::proofs::Sameness::same_type))]
-fn same_fault(before: VariableType, argument: Operand) -> Option<TypeFault>
+fn same_fault(before: VariableType, argument: TypedOperand) -> Option<TypeFault>
     ensures { result ≡ least (same_faults before argument.kind argument.at) }
 {
     match (before, argument.kind) {
@@ -417,7 +417,7 @@ fn same_fault(before: VariableType, argument: Operand) -> Option<TypeFault>
 }
 
 /// A pointer for an atomic function: to int or uint, not constant, and not to constant memory.
-fn atomic_fault(argument: Operand) -> Option<TypeFault>
+fn atomic_fault(argument: TypedOperand) -> Option<TypeFault>
     ensures { result ≡ least (atomic_faults argument.kind argument.at) }
 {
     let at = argument.at;
@@ -441,7 +441,7 @@ fn atomic_fault(argument: Operand) -> Option<TypeFault>
 pub(crate) fn argument_fault(
     want: Option<Want>,
     before: VariableType,
-    argument: Operand,
+    argument: TypedOperand,
 ) -> Option<TypeFault>
     ensures { result ≡ least (argument_faults (option_map want_of want) before argument.kind argument.at) }
 {

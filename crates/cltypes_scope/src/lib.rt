@@ -14,7 +14,7 @@ mod values;
 pub use context::Context;
 pub use expressions::checked;
 pub use faults::{
-    Operand, Spot, front_fault, integer_fault, lesser, moves, name_fault, passing_fault,
+    Spot, TypedOperand, front_fault, integer_fault, lesser, moves, name_fault, passing_fault,
     pointer_fault,
 };
 pub use meaning::{Meaning, Signature};

@@ -13,7 +13,7 @@ ghost use Rattle.cltypes_scope.specs.Views.{spot_of, operand_of};
 
 use crate::context::Context;
 use crate::expressions::{check_call_in, check_in};
-use crate::faults::{Operand, Spot};
+use crate::faults::{Spot, TypedOperand};
 use crate::meaning::Meaning;
 use crate::names::Names;
 use clmodel::tree::Expression;
@@ -30,7 +30,10 @@ fn names(context: &Context) -> Names<'_>
 }
 
 /// An expression's type and where it begins, or its first fault.
-pub fn check_expression(context: &Context, expression: &Expression) -> Result<Operand, TypeFault>
+pub fn check_expression(
+    context: &Context,
+    expression: &Expression,
+) -> Result<TypedOperand, TypeFault>
     ensures { Checks result (first (term_faults context.now (term expression.now))) (operand_of context.now (term expression.now)) }
 {
     check_in(names(context), expression)
@@ -43,7 +46,7 @@ pub fn check_call(
     at: u32,
     name: u32,
     arguments: &[Expression],
-) -> Result<Operand, TypeFault>
+) -> Result<TypedOperand, TypeFault>
     ensures { let c = context.now in
         let m = meaning c name in
         let es = terms arguments.now in
@@ -57,7 +60,7 @@ pub fn check_call(
 
 /// The type of what is assigned, or initialises a variable, and where it begins; or its first fault. A function of the text can be
 /// called there.
-pub fn check_value(context: &Context, value: &Expression) -> Result<Operand, TypeFault>
+pub fn check_value(context: &Context, value: &Expression) -> Result<TypedOperand, TypeFault>
     ensures { Checks result (first (value_faults context.now (term value.now))) (operand_of context.now (term value.now)) }
 {
     match value {

@@ -8,12 +8,12 @@ use Rattle.device.proofs.Programs.{set_kernel}
 use Rattle.clmodel.specs.Tree.{Program}
 use Rattle.clmodel.specs.declared.setup.Argument.{Argument}
 use Rattle.clmodel.specs.declared.tree.Parameter.{Parameter}
-use Rattle.device_store.specs.Kernels.{KernelState, parameters_of, suits, with_argument}
+use Rattle.host_commands.specs.Kernels.{KernelState, parameters_of, suits, with_argument}
 use Rattle.spaces_base.specs.Tables.{Table, is, find}
-use Rattle.device_store.specs.declared.command.Command.TheVariants as command
-use Rattle.device_store.specs.declared.command.Refusal.{Refusal}
-use Rattle.device_store.specs.declared.command.Refusal.TheVariants.{NoSuchName, BadArgument}
-use Rattle.device_store.specs.declared.command.Reply.TheVariants as reply
+use Rattle.host_commands.specs.declared.command.Command.TheVariants as command
+use Rattle.host_commands.specs.declared.command.Refusal.{Refusal}
+use Rattle.host_commands.specs.declared.command.Refusal.TheVariants.{NoSuchName, BadArgument}
+use Rattle.host_commands.specs.declared.command.Reply.TheVariants as reply
 use Rattle.device.specs.Machine.{Machine, Answers, Does, first, has_kernel, kernel_of, program_of, fits, is_there}
 
 -- none of three refusals

@@ -9,12 +9,12 @@ use Rattle.clmodel.specs.Setup.{Setup}
 use Rattle.clmodel.specs.declared.fault.Fault.{Fault}
 use Rattle.clmodel.specs.declared.outcome.Outcome.{Outcome}
 use Rattle.clmodel.specs.declared.outcome.Outcome.TheVariants.{Clean, Faulted}
-use Rattle.clmodel.specs.declared.schedule.Run.{Run}
+use Rattle.clmodel.specs.declared.schedule.EventRun.{EventRun}
 use Rattle.clmodel.specs.declared.setup.Range.{Range}
 use Rattle.spaces_base.specs.Tables.{with_values}
-use Rattle.device_store.specs.declared.command.Command.TheVariants as command
-use Rattle.device_store.specs.declared.command.Refusal.{Refusal}
-use Rattle.device_store.specs.declared.command.Reply.TheVariants as reply
+use Rattle.host_commands.specs.declared.command.Command.TheVariants as command
+use Rattle.host_commands.specs.declared.command.Refusal.{Refusal}
+use Rattle.host_commands.specs.declared.command.Reply.TheVariants as reply
 use Rattle.device.specs.Machine.{Machine, Answers, Launches, first, row, kernel_of, setup_of, bytes_of}
 use Rattle.device.specs.Prepared.{Came, Comes}
 use Rattle.device.specs.declared.prepared.Launched.{Launched}
@@ -38,7 +38,7 @@ clean_answers old new kernel range launched contents determined complete comes i
     (contents.items, claims, gives ∙ ap (λ (names : List (List ℕ)). record old { buffers = with_values old.buffers names contents.items }) came.names)
 
 -- a launch that came to a fault
-pub fault_answers : (old new : Machine) (kernel : List ℕ) (range : Range) (launched : Launched) (fault : Fault) (schedule : List Run)
+pub fault_answers : (old new : Machine) (kernel : List ℕ) (range : Range) (launched : Launched) (fault : Fault) (schedule : List EventRun)
     → ReportIsShown → Comes old kernel range launched → launched.outcome ≡ Faulted fault schedule → new ≡ old
     → Answers old (command.Launch kernel range) (reply.Fault fault schedule) new
 fault_answers old new kernel range launched fault schedule shown comes is same =

@@ -6,7 +6,7 @@ use Rattle.std.specs.Map.{lookup, set_value, values_of}
 use Rattle.clmodel.specs.Tree.{program}
 use Rattle.cltypes.specs.declared.checked.Checked.{Checked}
 use Rattle.spaces_base.specs.Tables.{is, find}
-use Rattle.device_store.specs.Kernels.{KernelState}
+use Rattle.host_commands.specs.Kernels.{KernelState}
 use Rattle.device.specs.declared.compiled.CompiledKernel.{CompiledKernel}
 
 -- what is found among values that are seen otherwise is what is found, seen so

@@ -7,12 +7,12 @@ use Rattle.std.specs.Map.{remove_entry, values_of}
 use Rattle.std.specs.Option.{MatchOption, option_map}
 use Rattle.clmodel.specs.Tree.{Program, program}
 use Rattle.cltypes.specs.declared.checked.Checked.{Checked}
-use Rattle.device_store.specs.Kernels.{KernelState}
+use Rattle.host_commands.specs.Kernels.{KernelState}
 use Rattle.device.specs.declared.compiled.CompiledKernel.{CompiledKernel}
-use Rattle.device_store.specs.declared.command.Command.TheVariants as command
-use Rattle.device_store.specs.declared.command.Refusal.{Refusal}
-use Rattle.device_store.specs.declared.command.Refusal.TheVariants.{NoSuchName, InUse}
-use Rattle.device_store.specs.declared.command.Reply.TheVariants as reply
+use Rattle.host_commands.specs.declared.command.Command.TheVariants as command
+use Rattle.host_commands.specs.declared.command.Refusal.{Refusal}
+use Rattle.host_commands.specs.declared.command.Refusal.TheVariants.{NoSuchName, InUse}
+use Rattle.host_commands.specs.declared.command.Reply.TheVariants as reply
 use Rattle.spaces_base.specs.Tables.{Table, is, find}
 use Rattle.device.specs.Kept.{IsCompiled, AllCompiled}
 use Rattle.device.specs.Machine.{Machine, Answers, Does, first, is_used, has_kernels, is_in_use}

@@ -8,7 +8,7 @@ use Rattle.clmodel.specs.Tree.{Program, program}
 use Rattle.clmodel.specs.declared.action.Answer.{Answer}
 use Rattle.clmodel.specs.declared.setup.Argument.{Argument}
 use Rattle.cltypes.specs.declared.checked.Checked.{Checked}
-use Rattle.device_store.specs.Kernels.{with_argument}
+use Rattle.host_commands.specs.Kernels.{with_argument}
 use Rattle.spaces_base.specs.Tables.{Table, find}
 use Rattle.regcode.specs.Listing.{Listing}
 use Rattle.regcode.specs.Machine.{acts}

@@ -15,18 +15,18 @@ use Rattle.clmodel.specs.declared.setup.Argument.{Argument}
 use Rattle.clmodel.specs.declared.setup.Argument.TheVariants as argument
 use Rattle.clmodel.specs.declared.setup.Range.{Range}
 use Rattle.spaces_base.specs.Buffers.{bytes_in, with_bytes, repeated}
-use Rattle.device_store.specs.Builds.{Builds}
-use Rattle.device_store.specs.Fills.{is_bad_fill}
-use Rattle.device_store.specs.Kernels.{KernelState, names_buffer, parameters_of, with_argument, new_kernel, no_kernel, suits}
-use Rattle.device_store.specs.Ranges.{is_bad_dimension, is_bad_group, is_too_many}
+use Rattle.host_commands.specs.Builds.{Builds}
+use Rattle.host_commands.specs.Fills.{is_bad_fill}
+use Rattle.host_commands.specs.Kernels.{KernelState, names_buffer, parameters_of, with_argument, new_kernel, no_kernel, suits}
+use Rattle.host_commands.specs.Ranges.{is_bad_dimension, is_bad_group, is_too_many}
 use Rattle.spaces_base.specs.Tables.{Table, is, find, with_values}
-use Rattle.device_store.specs.declared.command.BuildFault.{BuildFault}
-use Rattle.device_store.specs.declared.command.Command.{Command}
-use Rattle.device_store.specs.declared.command.Command.TheVariants as command
-use Rattle.device_store.specs.declared.command.Refusal.{Refusal}
-use Rattle.device_store.specs.declared.command.Refusal.TheVariants.{NameInUse, NoSuchName, BadSize, OutOfRange, TooManyBuffers, BadDimension, BadGroupSize, TooManyItems, Overlap, BuildFailed, NoSuchKernel, BadArgument, ArgumentsMissing, LocalTooLarge, InUse, OutOfMemory}
-use Rattle.device_store.specs.declared.command.Reply.{Reply}
-use Rattle.device_store.specs.declared.command.Reply.TheVariants as reply
+use Rattle.host_commands.specs.declared.command.BuildFault.{BuildFault}
+use Rattle.host_commands.specs.declared.command.Command.{Command}
+use Rattle.host_commands.specs.declared.command.Command.TheVariants as command
+use Rattle.host_commands.specs.declared.command.Refusal.{Refusal}
+use Rattle.host_commands.specs.declared.command.Refusal.TheVariants.{NameInUse, NoSuchName, BadSize, OutOfRange, TooManyBuffers, BadDimension, BadGroupSize, TooManyItems, Overlap, BuildFailed, NoSuchKernel, BadArgument, ArgumentsMissing, LocalTooLarge, InUse, OutOfMemory}
+use Rattle.host_commands.specs.declared.command.Reply.{Reply}
+use Rattle.host_commands.specs.declared.command.Reply.TheVariants as reply
 use Rattle.device.specs.declared.Device.{Device}
 
 -- what is known between two commands: the ticks that an item of a launch may make, and the buffers with their bytes, the programs

@@ -3,7 +3,7 @@
 
 ghost use Rattle.std.specs.Prelude.{◌≡◌, ◌≤◌, ℕ, List, IfOk, IfErr, None, Some};
 ghost use Rattle.clmodel.specs.declared.setup.Range.{Range as RangeOf};
-ghost use Rattle.device_store.specs.Ranges.{IsLaunchable};
+ghost use Rattle.host_commands.specs.Ranges.{IsLaunchable};
 
 use crate::Device;
 use crate::prepared::{Launched, Prepared};
@@ -12,8 +12,8 @@ use clmodel::outcome::Outcome;
 use clmodel::run_laws::report_is_shown;
 use clmodel::setup::Range;
 use clmodel::text::Name;
-use device_store::command::{Command, Refusal, Reply};
-use device_store::ranges::{is_bad_dimension, is_bad_group, is_too_many};
+use host_commands::command::{Command, Refusal, Reply};
+use host_commands::ranges::{is_bad_dimension, is_bad_group, is_too_many};
 use item_step::{Launch, is_local_too_large};
 use snapshot_merge::run_launch;
 use std::marker::Sync;

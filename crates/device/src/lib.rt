@@ -16,10 +16,10 @@ use crate::compiled::{CompiledKernel, code_of, has_program, holds_buffer, set_ar
 use clmodel::setup::Argument;
 use clmodel::text::{Bytes, Name};
 use cltypes::Checked;
-use device_store::build::build;
-pub use device_store::command::{BuildFault, Command, Refusal, Reply};
-use device_store::fills::is_bad_fill;
-use device_store::kernel::{Kernel, parameters_of, suits};
+use host_commands::build::build;
+pub use host_commands::command::{BuildFault, Command, Refusal, Reply};
+use host_commands::fills::is_bad_fill;
+use host_commands::kernel::{Kernel, parameters_of, suits};
 pub use item_step::Launch;
 pub use spaces_base::Buffers;
 use spaces_base::Table;

@@ -4,15 +4,15 @@
 ghost use Rattle.std.specs.Prelude.{◌≡◌, ◌≤◌, IfOk};
 ghost use Rattle.item_step.specs.Setups.{plain};
 ghost use Rattle.clmodel.specs.Tree.{program};
-ghost use Rattle.device_store.specs.Ranges.{IsLaunchable};
+ghost use Rattle.host_commands.specs.Ranges.{IsLaunchable};
 ghost use Rattle.device.specs.Kept.{ActsAs};
 
 use clmodel::outcome::Outcome;
 use clmodel::setup::Range;
 use clmodel::text::Name;
 use cltypes::Checked;
-use device_store::kernel::Kernel;
-use device_store::ranges::group_items;
+use host_commands::kernel::Kernel;
+use host_commands::ranges::group_items;
 use item_step::{Launch, Setup};
 use regcode::Code;
 use std::alloc::{AllocError, Global};

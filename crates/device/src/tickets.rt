@@ -3,8 +3,8 @@
 
 ghost use Rattle.std.specs.Prelude.{◌≡◌, ◌+◌, ◌<◌, ◌≤◌, ◌++◌, [], ◌∷◌, List, length, vec_len, IfOk, IfErr, IfSome, IfNone};
 ghost use Rattle.std.specs.Box.{box_value};
-ghost use Rattle.device_store.specs.declared.command.Command.{Command as CommandOf};
-ghost use Rattle.device_store.specs.declared.command.Reply.{Reply as ReplyOf};
+ghost use Rattle.host_commands.specs.declared.command.Command.{Command as CommandOf};
+ghost use Rattle.host_commands.specs.declared.command.Reply.{Reply as ReplyOf};
 ghost use Rattle.host_queue.specs.declared.view.Request.TheVariants.{Asked, Answered as AnsweredBy};
 ghost use Rattle.host_queue.specs.declared.view.Entry.{Entry};
 ghost use Rattle.host_queue.specs.Clients.{IsOnly, Serves};

@@ -5,10 +5,10 @@ use Rattle.clmodel.specs.declared.action.Answer.{Answer}
 use Rattle.item_step.specs.Launches.{setup_of}
 use Rattle.item_step.specs.declared.launch.Launch.{Launch}
 use Rattle.item_step.specs.Running.{Running, action_of}
-use Rattle.regcode.specs.Machine.{Given, acts, acts_from, at_start}
+use Rattle.regcode.specs.Machine.{ItemContext, acts, acts_from, at_start}
 use Rattle.regcode.specs.declared.tables.Register.{Register}
 
-abbrev given_with : Launch → ℕ → List (List ℕ) → List Register → Given
+abbrev given_with : Launch → ℕ → List (List ℕ) → List Register → ItemContext
 given_with launch number buffers registers =
     record { here = here_of (setup_of launch) number; buffers = buffers; arguments = launch.setup.arguments.now; registers = registers }
 

@@ -4,7 +4,7 @@
 ghost use Rattle.std.specs.Prelude.{◌≡◌, ◌<◌, ◌∷◌, [], List, IsTrue, slice_get, take};
 ghost use Rattle.clnum.specs.Integer.{Integer};
 ghost use Rattle.clmodel.specs.Next as next;
-ghost use Rattle.clmodel.specs.Next.{Run};
+ghost use Rattle.clmodel.specs.Next.{Continuation};
 ghost use Rattle.clmodel.specs.declared.action.Answer.{Answer};
 ghost use Rattle.clmodel.specs.declared.operand.Pointer.{Pointer};
 ghost use Rattle.regcode.specs.Machine.{State, act, read};
@@ -28,7 +28,7 @@ use regcode::{FetchOperands, Instruction};
 impl<'a> Machine<'a> {
     /// An operand that is a pointer.
     fn pointer(&self, register: u32) -> Result<Pointer, Termination>
-        ensures { (after : Pointer → Run) → Leads result (read self.now.given self.now.state register (λ v. next.pointing v after)) after }
+        ensures { (after : Pointer → Continuation) → Leads result (read self.now.given self.now.state register (λ v. next.pointing v after)) after }
     {
         let value = self.operand(register)?;
         pointing(value)
@@ -36,7 +36,7 @@ impl<'a> Machine<'a> {
 
     /// Operands that are a pointer and a number.
     fn pointer_and_number(&self, pointer: u32, value: u32) -> Result<(Pointer, Value), Termination>
-        ensures { (after : Pointer → Integer → Run) → Leads result (read self.now.given self.now.state pointer (λ v. read self.now.given self.now.state value (λ w. next.pointing v (λ q. next.number w (λ n. after q n))))) (λ pair. after pair.0 pair.1) }
+        ensures { (after : Pointer → Integer → Continuation) → Leads result (read self.now.given self.now.state pointer (λ v. read self.now.given self.now.state value (λ w. next.pointing v (λ q. next.number w (λ n. after q n))))) (λ pair. after pair.0 pair.1) }
     {
         let pointer = self.operand(pointer)?;
         let value = self.operand(value)?;
@@ -52,7 +52,7 @@ impl<'a> Machine<'a> {
         first: u32,
         second: u32,
     ) -> Result<(Pointer, Value, Value), Termination>
-        ensures { (after : Pointer → Integer → Integer → Run) → Leads result (read self.now.given self.now.state pointer (λ v. read self.now.given self.now.state first (λ w. read self.now.given self.now.state second (λ x. next.pointing v (λ q. next.number w (λ m. next.number x (λ n. after q m n))))))) (λ three. after three.0 three.1 three.2) }
+        ensures { (after : Pointer → Integer → Integer → Continuation) → Leads result (read self.now.given self.now.state pointer (λ v. read self.now.given self.now.state first (λ w. read self.now.given self.now.state second (λ x. next.pointing v (λ q. next.number w (λ m. next.number x (λ n. after q m n))))))) (λ three. after three.0 three.1 three.2) }
     {
         let pointer = self.operand(pointer)?;
         let first = self.operand(first)?;
@@ -65,7 +65,7 @@ impl<'a> Machine<'a> {
 
     /// What a load asks.
     fn load(&self, to: u32, pointer: u32) -> Result<Wanted, Termination>
-        ensures { (on after : State → Run) → Leads result (act self.now.given (Some (instruction.Load to pointer)) on after self.now.state) (asks (instruction.Load to pointer) self.now.state after) }
+        ensures { (on after : State → Continuation) → Leads result (act self.now.given (Some (instruction.Load to pointer)) on after self.now.state) (asks (instruction.Load to pointer) self.now.state after) }
     {
         let pointer = self.pointer(pointer)?;
         Ok(Wanted::Access {
@@ -76,7 +76,7 @@ impl<'a> Machine<'a> {
 
     /// What a store asks.
     fn store(&self, pointer: u32, value: u32) -> Result<Wanted, Termination>
-        ensures { (on after : State → Run) → Leads result (act self.now.given (Some (instruction.Store pointer value)) on after self.now.state) (asks (instruction.Store pointer value) self.now.state after) }
+        ensures { (on after : State → Continuation) → Leads result (act self.now.given (Some (instruction.Store pointer value)) on after self.now.state) (asks (instruction.Store pointer value) self.now.state after) }
     {
         let pair = self.pointer_and_number(pointer, value)?;
         Ok(Wanted::Access {
@@ -87,7 +87,7 @@ impl<'a> Machine<'a> {
 
     /// What an atomic update by 1 asks.
     fn update_by_one(&self, function: AtomicFunction, pointer: u32) -> Result<Wanted, Termination>
-        ensures { (on after : State → Run) → Leads result (act self.now.given (Some (instruction.Update function pointer None)) on after self.now.state) (asks (instruction.Update function pointer None) self.now.state after) }
+        ensures { (on after : State → Continuation) → Leads result (act self.now.given (Some (instruction.Update function pointer None)) on after self.now.state) (asks (instruction.Update function pointer None) self.now.state after) }
     {
         let pointer = self.pointer(pointer)?;
         let one = Value::wrapped(pointer.element, 1);
@@ -104,7 +104,7 @@ impl<'a> Machine<'a> {
         pointer: u32,
         value: u32,
     ) -> Result<Wanted, Termination>
-        ensures { (on after : State → Run) → Leads result (act self.now.given (Some (instruction.Update function pointer (Some value))) on after self.now.state) (asks (instruction.Update function pointer (Some value)) self.now.state after) }
+        ensures { (on after : State → Continuation) → Leads result (act self.now.given (Some (instruction.Update function pointer (Some value))) on after self.now.state) (asks (instruction.Update function pointer (Some value)) self.now.state after) }
     {
         let pair = self.pointer_and_number(pointer, value)?;
         let amount = convert(pair.1, pair.0.element);
@@ -121,7 +121,7 @@ impl<'a> Machine<'a> {
         function: AtomicFunction,
         pointer: u32,
     ) -> Result<Wanted, Termination>
-        ensures { (on after : State → Run) → Leads result (act self.now.given (Some (instruction.Fetch to function pointer operands.Alone)) on after self.now.state) (asks (instruction.Fetch to function pointer operands.Alone) self.now.state after) }
+        ensures { (on after : State → Continuation) → Leads result (act self.now.given (Some (instruction.Fetch to function pointer operands.Alone)) on after self.now.state) (asks (instruction.Fetch to function pointer operands.Alone) self.now.state after) }
     {
         let pointer = self.pointer(pointer)?;
         let none = Value::wrapped(pointer.element, 0);
@@ -140,7 +140,7 @@ impl<'a> Machine<'a> {
         pointer: u32,
         value: u32,
     ) -> Result<Wanted, Termination>
-        ensures { (on after : State → Run) → Leads result (act self.now.given (Some (instruction.Fetch to function pointer (operands.Number value))) on after self.now.state) (asks (instruction.Fetch to function pointer (operands.Number value)) self.now.state after) }
+        ensures { (on after : State → Continuation) → Leads result (act self.now.given (Some (instruction.Fetch to function pointer (operands.Number value))) on after self.now.state) (asks (instruction.Fetch to function pointer (operands.Number value)) self.now.state after) }
     {
         let pair = self.pointer_and_number(pointer, value)?;
         let none = Value::wrapped(pair.0.element, 0);
@@ -160,7 +160,7 @@ impl<'a> Machine<'a> {
         expected: u32,
         value: u32,
     ) -> Result<Wanted, Termination>
-        ensures { (on after : State → Run) → Leads result (act self.now.given (Some (instruction.Fetch to function pointer (operands.Pair expected value))) on after self.now.state) (asks (instruction.Fetch to function pointer (operands.Pair expected value)) self.now.state after) }
+        ensures { (on after : State → Continuation) → Leads result (act self.now.given (Some (instruction.Fetch to function pointer (operands.Pair expected value))) on after self.now.state) (asks (instruction.Fetch to function pointer (operands.Pair expected value)) self.now.state after) }
     {
         let three = self.pointer_and_numbers(pointer, expected, value)?;
         let element = three.0.element;
@@ -175,7 +175,7 @@ impl<'a> Machine<'a> {
     /// What an instruction asks; an instruction that asks nothing has ended.
     pub(crate) fn wanted(&self, instruction: &Instruction) -> Result<Wanted, Termination>
         requires { IsTrue (is_asking instruction.now) }
-        ensures { (on after : State → Run) → Leads result (act self.now.given (Some instruction.now) on after self.now.state) (asks instruction.now self.now.state after) }
+        ensures { (on after : State → Continuation) → Leads result (act self.now.given (Some instruction.now) on after self.now.state) (asks instruction.now self.now.state after) }
     {
         match instruction {
             Instruction::Load { to, pointer } => self.load(*to, *pointer),

@@ -16,8 +16,8 @@ use crate::local_objects::{LocalObjects, local_objects};
 use crate::setup::Setup;
 use clmodel::setup::{Argument, Range};
 use clmodel::text::Name;
-use item_value::context::{Context, group_counts};
-use item_value::surroundings::Surroundings;
+use item_value::item_context::ItemContext;
+use item_value::position::{ItemPosition, group_counts};
 use regcode::Code;
 use std::alloc::{AllocError, Global};
 
@@ -142,19 +142,19 @@ impl<'a> Launch<'a> {
     pub fn start(&self, alloc: Global, item: u32) -> Result<Item<'_>, AllocError>
         ensures { IfOk result (λ started. (answers : List Answer) → action_of started answers ≡ next (setup_of self.now) item answers) }
     {
-        let context = Context {
+        let position = ItemPosition {
             alloc,
             item,
             range: self.setup.range,
             group_counts: self.group_counts.as_slice(),
             group_size: self.group_size,
         };
-        let surroundings = Surroundings {
-            context,
+        let context = ItemContext {
+            position,
             buffers: self.buffers.as_slice(),
             arguments: self.setup.arguments,
             registers: self.code.tables().registers.as_slice(),
         };
-        Item::start(self.code, surroundings, self.setup.budget)
+        Item::start(self.code, context, self.setup.budget)
     }
 }

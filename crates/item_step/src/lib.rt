@@ -14,7 +14,7 @@ mod setup;
 mod stepping;
 
 pub use item::Item;
-pub use item_value::surroundings::Surroundings;
+pub use item_value::item_context::ItemContext;
 pub use launch::Launch;
 pub use local_objects::is_local_too_large;
 pub use setup::Setup;

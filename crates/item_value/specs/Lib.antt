@@ -1,6 +1,6 @@
 pub mod Arrays
-pub mod Context
+pub mod Position
 pub mod Leading
-pub mod Givens
+pub mod ItemContext
 pub mod Giving
 pub mod Reading

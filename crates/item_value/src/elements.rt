@@ -5,7 +5,7 @@ ghost use Rattle.std.specs.Prelude.{◌≡◌, ◌<◌, ℕ, [], Option, List, l
 ghost use Rattle.clnum.specs.Integer.{Integer, bits_of};
 ghost use Rattle.clnum.specs.declared.int_type.IntType as int_type;
 ghost use Rattle.clmodel.specs.Next as next;
-ghost use Rattle.clmodel.specs.Next.{Run};
+ghost use Rattle.clmodel.specs.Next.{Continuation};
 ghost use Rattle.clmodel.specs.declared.operand.Operand.{Operand};
 ghost use Rattle.regcode.specs.Machine.{entry_at};
 ghost use Rattle.item_value.specs.Arrays.{all_present};
@@ -46,7 +46,7 @@ pub(crate) fn element(
     index: i64,
     kind: IntType,
 ) -> Result<Operand, Termination>
-    ensures { (after : Operand → Run) → Leads result (next.element_value name index kind (next.element_at elements.now index) after) after }
+    ensures { (after : Operand → Continuation) → Leads result (next.element_value name index kind (next.element_at elements.now index) after) after }
 {
     match at_index(elements, index) {
         Some(Some(bits)) => Ok(Operand::Integral(Value::from_bits(kind, bits))),
@@ -63,7 +63,7 @@ pub(crate) fn element(
 
 /// The place of the element at an index of the array of a name, where a number is put.
 pub fn place(elements: &[Option<u64>], name: u32, index: i64) -> Result<usize, Termination>
-    ensures put { (kind : int_type.IntType) (v : Integer) (after : List (Option ℕ) → Run) → Leads result (next.element_set name index kind elements.now v after) (λ place. after (slice_set elements.now place (Some (bits_of kind v.number)))) }
+    ensures put { (kind : int_type.IntType) (v : Integer) (after : List (Option ℕ) → Continuation) → Leads result (next.element_set name index kind elements.now v after) (λ place. after (slice_set elements.now place (Some (bits_of kind v.number)))) }
     ensures within { IfOk result (λ place. place < length elements.now) }
 {
     let fault = Termination::Fail(Cause::PrivateBounds {

@@ -2,20 +2,20 @@
 #![tactic(auto)]
 
 ghost use Rattle.std.specs.Prelude.{◌≡◌, ℕ, List, IsTrue};
-ghost use Rattle.clmodel.specs.Next.{Run};
+ghost use Rattle.clmodel.specs.Next.{Continuation};
 ghost use Rattle.regcode.specs.Machine.{State, act, with_put};
 ghost use Rattle.item_value.specs.Arrays.{registers_with};
-ghost use Rattle.item_value.specs.Givens.{given};
+ghost use Rattle.item_value.specs.ItemContext.{given};
 ghost use Rattle.item_value.specs.Leading.{Leads};
 ghost use Rattle.item_value.specs.Giving.{gives, target};
 
 use crate::elements::elements_of;
+use crate::item_context::ItemContext;
 use crate::operators::work_dim;
 use crate::parameters::parameter;
 use crate::pointers::local_pointer;
 use crate::private_array::PrivateArray;
 use crate::registers::RegisterFile;
-use crate::surroundings::Surroundings;
 use crate::termination::Termination;
 use crate::values::{
     apply_binary, apply_unary, assign, call_builtin, call_builtin_of_two, cast, load_private,
@@ -26,27 +26,29 @@ use regcode::Instruction;
 
 /// The value that an instruction with a target gives it without an answer.
 pub fn value_of(
-    surroundings: &Surroundings<'_>,
+    context: &ItemContext<'_>,
     values: &[Option<Operand>],
     arrays: &[PrivateArray],
     instruction: &Instruction,
 ) -> Result<Option<Operand>, Termination>
     requires { IsTrue (gives instruction.now) }
-    ensures { (place : ℕ) (counters : List ℕ) (on after : State → Run) →
+    ensures { (place : ℕ) (counters : List ℕ) (on after : State → Continuation) →
         let state : State = record { place = place; registers = registers_with values.now arrays.now; counters = counters } in
-        Leads result (act (given surroundings.now) (Some instruction.now) on after state) (λ v. on (with_put state (target instruction.now) v)) }
+        Leads result (act (given context.now) (Some instruction.now) on after state) (λ v. on (with_put state (target instruction.now) v)) }
 {
     let registers = RegisterFile {
-        table: surroundings.registers,
+        table: context.registers,
         values,
     };
     match instruction {
         Instruction::Constant { value, .. } => Ok(Some(Operand::Integral(*value))),
         Instruction::Unset { .. } => Ok(None),
         Instruction::Move { from, name, .. } => variable(registers, *from, *name),
-        Instruction::Hold { from, kind, .. } => assign(registers, *from, *kind),
+        Instruction::AssignConversion { from, kind, .. } => assign(registers, *from, *kind),
         Instruction::Convert { from, kind, .. } => cast(registers, *from, *kind),
-        Instruction::Common { from, other, .. } => to_common_type(registers, *from, *other),
+        Instruction::UsualConversion { from, other, .. } => to_common_type(
+            registers, *from, *other,
+        ),
         Instruction::Unary {
             operator,
             operand,
@@ -67,14 +69,14 @@ pub fn value_of(
             None => call_builtin(registers, *function, *first),
             Some(second) => call_builtin_of_two(registers, *function, *first, *second),
         },
-        Instruction::Dimensions { .. } => Ok(Some(work_dim(&surroundings.context))),
+        Instruction::Dimensions { .. } => Ok(Some(work_dim(&context.position))),
         Instruction::Query {
             function,
             dimension,
             ..
-        } => query_work_item(registers, &surroundings.context, *function, *dimension),
+        } => query_work_item(registers, &context.position, *function, *dimension),
         Instruction::Argument { number, kind, .. } => {
-            Ok(parameter(surroundings.buffers, surroundings.arguments, *number, *kind))
+            Ok(parameter(context.buffers, context.arguments, *number, *kind))
         }
         Instruction::Local {
             number,
@@ -94,7 +96,7 @@ pub fn value_of(
             *element,
             *name,
         ),
-        Instruction::Point { from, .. } => pointer_operand(registers, *from),
+        Instruction::MovePointer { from, .. } => pointer_operand(registers, *from),
         Instruction::Offset { pointer, index, .. } => { move_pointer(registers, *pointer, *index) }
         _ => Err(Termination::Finish),
     }

@@ -6,15 +6,15 @@ ghost use Rattle.std.specs.Ordering.{int_eq};
 ghost use Rattle.clnum.specs.Operations as operations;
 ghost use Rattle.clnum.specs.declared.int_type.IntType.TheVariants as int_type;
 ghost use Rattle.clmodel.specs.Next as next;
-ghost use Rattle.clmodel.specs.Next.{Run};
+ghost use Rattle.clmodel.specs.Next.{Continuation};
 ghost use Rattle.clmodel.specs.Setup.{work_item_value};
 ghost use Rattle.clmodel.specs.declared.operand.Operand.{Operand};
 ghost use Rattle.clmodel.specs.declared.operand.Operand.TheVariants as operand;
 ghost use Rattle.clmodel.specs.declared.tree.VariableType.TheVariants as variable_type;
 ghost use Rattle.item_value.specs.Leading.{Leads};
 
-use crate::context::Context;
 use crate::pointers::{moved, moved_back, number};
+use crate::position::ItemPosition;
 use crate::termination::Termination;
 use clmodel::action::Cause;
 use clmodel::operand::Operand;
@@ -23,7 +23,7 @@ use clnum::{ArithFault, BinaryOperator, Builtin, IntType, Value, binary, builtin
 
 /// What an operator on integers gave.
 fn arithmetic(outcome: Result<Value, ArithFault>) -> Result<Operand, Termination>
-    ensures { (after : Operand → Run) → Leads result (next.arithmetic outcome after) after }
+    ensures { (after : Operand → Continuation) → Leads result (next.arithmetic outcome after) after }
 {
     match outcome {
         Ok(value) => Ok(Operand::Integral(value)),
@@ -34,7 +34,7 @@ fn arithmetic(outcome: Result<Value, ArithFault>) -> Result<Operand, Termination
 
 /// A pointer moved on, as a value.
 fn advanced(pointer: Operand, by: Operand) -> Result<Operand, Termination>
-    ensures { (after : Operand → Run) → Leads result (next.moved pointer by (λ q. after (operand.Pointed q))) after }
+    ensures { (after : Operand → Continuation) → Leads result (next.moved pointer by (λ q. after (operand.Pointed q))) after }
 {
     let pointer = moved(pointer, by)?;
     Ok(Operand::Pointed(pointer))
@@ -42,7 +42,7 @@ fn advanced(pointer: Operand, by: Operand) -> Result<Operand, Termination>
 
 /// A pointer moved back, as a value.
 fn withdrawn(pointer: Operand, by: Operand) -> Result<Operand, Termination>
-    ensures { (after : Operand → Run) → Leads result (next.moved_back pointer by (λ q. after (operand.Pointed q))) after }
+    ensures { (after : Operand → Continuation) → Leads result (next.moved_back pointer by (λ q. after (operand.Pointed q))) after }
 {
     let pointer = moved_back(pointer, by)?;
     Ok(Operand::Pointed(pointer))
@@ -54,7 +54,7 @@ pub(crate) fn combined(
     first: Operand,
     second: Operand,
 ) -> Result<Operand, Termination>
-    ensures { (after : Operand → Run) → Leads result (next.combined operator first second after) after }
+    ensures { (after : Operand → Continuation) → Leads result (next.combined operator first second after) after }
 {
     match first {
         Operand::Integral(v) => match second {
@@ -81,7 +81,7 @@ fn is_set(value: Value) -> bool
 
 /// Whether a value is a number other than zero.
 pub fn test(value: Operand) -> Result<bool, Termination>
-    ensures { (after : Bool → Run) → Leads result (next.test value after) after }
+    ensures { (after : Bool → Continuation) → Leads result (next.test value after) after }
 {
     match value {
         Operand::Integral(value) => Ok(is_set(value)),
@@ -91,7 +91,7 @@ pub fn test(value: Operand) -> Result<bool, Termination>
 
 /// A number in the common type of its own and another type (C99 6.3.1.8).
 pub(crate) fn chosen_value(value: Operand, other: IntType) -> Result<Operand, Termination>
-    ensures { (after : Operand → Run) → Leads result (next.chosen_value value (variable_type.Integer other) after) after }
+    ensures { (after : Operand → Continuation) → Leads result (next.chosen_value value (variable_type.Integer other) after) after }
 {
     let value = number(value)?;
     let kind = value.kind().common(other);
@@ -100,7 +100,7 @@ pub(crate) fn chosen_value(value: Operand, other: IntType) -> Result<Operand, Te
 
 /// The value of a function of integers.
 fn given_value(value: Option<Value>) -> Result<Operand, Termination>
-    ensures { (after : Operand → Run) → Leads result (next.given_value value after) after }
+    ensures { (after : Operand → Continuation) → Leads result (next.given_value value after) after }
 {
     match value {
         Some(value) => Ok(Operand::Integral(value)),
@@ -110,7 +110,7 @@ fn given_value(value: Option<Value>) -> Result<Operand, Termination>
 
 /// A function of one integer.
 pub(crate) fn of_one(function: Builtin, a: Operand) -> Result<Operand, Termination>
-    ensures { (after : Operand → Run) → Leads result (next.integer_call function (a ∷ []) after) after }
+    ensures { (after : Operand → Continuation) → Leads result (next.integer_call function (a ∷ []) after) after }
 {
     let a = number(a)?;
     given_value(builtin(function, &[a]))
@@ -118,7 +118,7 @@ pub(crate) fn of_one(function: Builtin, a: Operand) -> Result<Operand, Terminati
 
 /// A function of two integers.
 pub(crate) fn of_two(function: Builtin, a: Operand, b: Operand) -> Result<Operand, Termination>
-    ensures { (after : Operand → Run) → Leads result (next.integer_call function (a ∷ b ∷ []) after) after }
+    ensures { (after : Operand → Continuation) → Leads result (next.integer_call function (a ∷ b ∷ []) after) after }
 {
     let a = number(a)?;
     let b = number(b)?;
@@ -136,16 +136,20 @@ fn dimension(value: Operand) -> usize
 }
 
 /// What a work-item function gives.
-pub(crate) fn work_item(context: &Context<'_>, function: WorkItemFunction, d: Operand) -> Operand
-    ensures { result ≡ operand.Integral (operations.wrapped int_type.Ulong (pos (work_item_value context.now.range.now context.now.item function (next.dimension d)))) }
+pub(crate) fn work_item(
+    position: &ItemPosition<'_>,
+    function: WorkItemFunction,
+    d: Operand,
+) -> Operand
+    ensures { result ≡ operand.Integral (operations.wrapped int_type.Ulong (pos (work_item_value position.now.range.now position.now.item function (next.dimension d)))) }
 {
-    Operand::Integral(context.work_item_value(function, dimension(d)))
+    Operand::Integral(position.work_item_value(function, dimension(d)))
 }
 
 /// The number of dimensions.
-pub(crate) fn work_dim(context: &Context<'_>) -> Operand
-    ensures { result ≡ operand.Integral (operations.wrapped int_type.Uint (pos (length context.now.range.now.global))) }
+pub(crate) fn work_dim(position: &ItemPosition<'_>) -> Operand
+    ensures { result ≡ operand.Integral (operations.wrapped int_type.Uint (pos (length position.now.range.now.global))) }
 {
-    let count = context.range.global.as_slice().len() as u64;
+    let count = position.range.global.as_slice().len() as u64;
     Operand::Integral(Value::from_bits(IntType::Uint, count))
 }

@@ -5,7 +5,7 @@ ghost use Rattle.std.specs.Prelude.{◌≡◌, ◌+ℤ◌, ◌-ℤ◌, pos};
 ghost use Rattle.clnum.specs.Integer.{Integer, wrap};
 ghost use Rattle.clnum.specs.declared.int_type.IntType.TheVariants as int_type;
 ghost use Rattle.clmodel.specs.Next as next;
-ghost use Rattle.clmodel.specs.Next.{Run};
+ghost use Rattle.clmodel.specs.Next.{Continuation};
 ghost use Rattle.clmodel.specs.declared.access.Object.TheVariants as object;
 ghost use Rattle.clmodel.specs.declared.operand.Pointer.{Pointer};
 ghost use Rattle.item_value.specs.Leading.{Leads};
@@ -47,7 +47,7 @@ fn backward(pointer: Pointer, by: Value) -> Pointer
 
 /// A pointer moved on by a number of elements.
 pub(crate) fn moved(pointer: Operand, index: Operand) -> Result<Pointer, Termination>
-    ensures { (after : Pointer → Run) → Leads result (next.moved pointer index after) after }
+    ensures { (after : Pointer → Continuation) → Leads result (next.moved pointer index after) after }
 {
     match pointer {
         Operand::Pointed(pointer) => match index {
@@ -60,7 +60,7 @@ pub(crate) fn moved(pointer: Operand, index: Operand) -> Result<Pointer, Termina
 
 /// A pointer moved back by a number of elements.
 pub(crate) fn moved_back(pointer: Operand, index: Operand) -> Result<Pointer, Termination>
-    ensures { (after : Pointer → Run) → Leads result (next.moved_back pointer index after) after }
+    ensures { (after : Pointer → Continuation) → Leads result (next.moved_back pointer index after) after }
 {
     match pointer {
         Operand::Pointed(pointer) => match index {
@@ -91,7 +91,7 @@ pub(crate) fn local_pointer(number: u32, element: IntType) -> Pointer
 
 /// A value that is a number.
 pub fn number(value: Operand) -> Result<Value, Termination>
-    ensures { (after : Integer → Run) → Leads result (next.number value after) after }
+    ensures { (after : Integer → Continuation) → Leads result (next.number value after) after }
 {
     match value {
         Operand::Integral(number) => Ok(number),
@@ -101,7 +101,7 @@ pub fn number(value: Operand) -> Result<Value, Termination>
 
 /// A value that is a pointer.
 pub fn pointing(value: Operand) -> Result<Pointer, Termination>
-    ensures { (after : Pointer → Run) → Leads result (next.pointing value after) after }
+    ensures { (after : Pointer → Continuation) → Leads result (next.pointing value after) after }
 {
     match value {
         Operand::Pointed(pointer) => Ok(pointer),

@@ -4,9 +4,9 @@
 ghost use Rattle.std.specs.Prelude.{◌≡◌, Option, [], ◌∷◌};
 ghost use Rattle.clnum.specs.Integer.{converted};
 ghost use Rattle.clnum.specs.Operations.{unary_value};
-ghost use Rattle.item_value.specs.Context.{here};
+ghost use Rattle.item_value.specs.Position.{here};
 ghost use Rattle.clmodel.specs.Next as next;
-ghost use Rattle.clmodel.specs.Next.{Run};
+ghost use Rattle.clmodel.specs.Next.{Continuation};
 ghost use Rattle.clmodel.specs.declared.operand.Operand.{Operand};
 ghost use Rattle.clmodel.specs.declared.operand.Operand.TheVariants as operand;
 ghost use Rattle.clmodel.specs.declared.setup.BuiltIn.TheVariants as built_in;
@@ -15,10 +15,10 @@ ghost use Rattle.regcode.specs.Machine.{entry_at};
 ghost use Rattle.item_value.specs.Leading.{Leads};
 ghost use Rattle.item_value.specs.Reading.{reads};
 
-use crate::context::Context;
 use crate::elements::element;
 use crate::operators::{chosen_value, combined, of_one, of_two, work_item};
 use crate::pointers::{index_of, moved, number, pointing};
+use crate::position::ItemPosition;
 use crate::registers::{RegisterFile, operand, register};
 use crate::termination::Termination;
 use clmodel::action::Cause;
@@ -33,7 +33,7 @@ pub(crate) fn variable(
     from: u32,
     name: u32,
 ) -> Result<Option<Operand>, Termination>
-    ensures { (after : Option Operand → Run) → Leads result (next.known name (entry_at None registers.entry.values.now from) (λ v. after (Some v))) after }
+    ensures { (after : Option Operand → Continuation) → Leads result (next.known name (entry_at None registers.entry.values.now from) (λ v. after (Some v))) after }
 {
     match register(registers.values, from) {
         Some(value) => Ok(Some(value)),
@@ -60,7 +60,7 @@ pub(crate) fn assign(
     from: u32,
     kind: VariableType,
 ) -> Result<Option<Operand>, Termination>
-    ensures { (after : Option Operand → Run) → Leads result (reads registers.entry from (λ v. after (Some (next.held kind v)))) after }
+    ensures { (after : Option Operand → Continuation) → Leads result (reads registers.entry from (λ v. after (Some (next.held kind v)))) after }
 {
     let value = operand(registers, from)?;
     Ok(Some(assigned(kind, value)))
@@ -72,7 +72,7 @@ pub(crate) fn cast(
     from: u32,
     kind: IntType,
 ) -> Result<Option<Operand>, Termination>
-    ensures { (after : Option Operand → Run) → Leads result (reads registers.entry from (λ v. next.number v (λ n. after (Some (operand.Integral (converted n kind)))))) after }
+    ensures { (after : Option Operand → Continuation) → Leads result (reads registers.entry from (λ v. next.number v (λ n. after (Some (operand.Integral (converted n kind)))))) after }
 {
     let value = operand(registers, from)?;
     let number = number(value)?;
@@ -85,7 +85,7 @@ pub(crate) fn to_common_type(
     from: u32,
     other: IntType,
 ) -> Result<Option<Operand>, Termination>
-    ensures { (after : Option Operand → Run) → Leads result (reads registers.entry from (λ v. next.chosen_value v (variable_type.Integer other) (λ w. after (Some w)))) after }
+    ensures { (after : Option Operand → Continuation) → Leads result (reads registers.entry from (λ v. next.chosen_value v (variable_type.Integer other) (λ w. after (Some w)))) after }
 {
     let value = operand(registers, from)?;
     let value = chosen_value(value, other)?;
@@ -98,7 +98,7 @@ pub(crate) fn apply_unary(
     from: u32,
     operator: UnaryOperator,
 ) -> Result<Option<Operand>, Termination>
-    ensures { (after : Option Operand → Run) → Leads result (reads registers.entry from (λ v. next.number v (λ n. after (Some (operand.Integral (unary_value operator n)))))) after }
+    ensures { (after : Option Operand → Continuation) → Leads result (reads registers.entry from (λ v. next.number v (λ n. after (Some (operand.Integral (unary_value operator n)))))) after }
 {
     let value = operand(registers, from)?;
     let number = number(value)?;
@@ -112,7 +112,7 @@ pub(crate) fn apply_binary(
     left: u32,
     right: u32,
 ) -> Result<Option<Operand>, Termination>
-    ensures { (after : Option Operand → Run) → Leads result (reads registers.entry left (λ v. reads registers.entry right (λ w. next.combined operator v w (λ x. after (Some x))))) after }
+    ensures { (after : Option Operand → Continuation) → Leads result (reads registers.entry left (λ v. reads registers.entry right (λ w. next.combined operator v w (λ x. after (Some x))))) after }
 {
     let left = operand(registers, left)?;
     let right = operand(registers, right)?;
@@ -126,7 +126,7 @@ pub(crate) fn call_builtin(
     function: Builtin,
     first: u32,
 ) -> Result<Option<Operand>, Termination>
-    ensures { (after : Option Operand → Run) → Leads result (reads registers.entry first (λ v. next.integer_call function (v ∷ []) (λ x. after (Some x)))) after }
+    ensures { (after : Option Operand → Continuation) → Leads result (reads registers.entry first (λ v. next.integer_call function (v ∷ []) (λ x. after (Some x)))) after }
 {
     let first = operand(registers, first)?;
     let value = of_one(function, first)?;
@@ -140,7 +140,7 @@ pub(crate) fn call_builtin_of_two(
     first: u32,
     second: u32,
 ) -> Result<Option<Operand>, Termination>
-    ensures { (after : Option Operand → Run) → Leads result (reads registers.entry first (λ v. reads registers.entry second (λ w. next.integer_call function (v ∷ w ∷ []) (λ x. after (Some x))))) after }
+    ensures { (after : Option Operand → Continuation) → Leads result (reads registers.entry first (λ v. reads registers.entry second (λ w. next.integer_call function (v ∷ w ∷ []) (λ x. after (Some x))))) after }
 {
     let first = operand(registers, first)?;
     let second = operand(registers, second)?;
@@ -151,14 +151,14 @@ pub(crate) fn call_builtin_of_two(
 /// What a work-item function gives in a dimension.
 pub(crate) fn query_work_item(
     registers: RegisterFile<'_>,
-    context: &Context<'_>,
+    position: &ItemPosition<'_>,
     function: WorkItemFunction,
     dimension: u32,
 ) -> Result<Option<Operand>, Termination>
-    ensures { (after : Option Operand → Run) → Leads result (reads registers.entry dimension (λ d. next.call (here context.now) (Some (built_in.WorkItem function)) (d ∷ []) (λ x. after (Some x)))) after }
+    ensures { (after : Option Operand → Continuation) → Leads result (reads registers.entry dimension (λ d. next.call (here position.now) (Some (built_in.WorkItem function)) (d ∷ []) (λ x. after (Some x)))) after }
 {
     let dimension = operand(registers, dimension)?;
-    Ok(Some(work_item(context, function, dimension)))
+    Ok(Some(work_item(position, function, dimension)))
 }
 
 /// An operand that is a pointer.
@@ -166,7 +166,7 @@ pub(crate) fn pointer_operand(
     registers: RegisterFile<'_>,
     from: u32,
 ) -> Result<Option<Operand>, Termination>
-    ensures { (after : Option Operand → Run) → Leads result (reads registers.entry from (λ v. next.pointing v (λ p. after (Some (operand.Pointed p))))) after }
+    ensures { (after : Option Operand → Continuation) → Leads result (reads registers.entry from (λ v. next.pointing v (λ p. after (Some (operand.Pointed p))))) after }
 {
     let value = operand(registers, from)?;
     let pointer = pointing(value)?;
@@ -179,7 +179,7 @@ pub(crate) fn move_pointer(
     pointer: u32,
     index: u32,
 ) -> Result<Option<Operand>, Termination>
-    ensures { (after : Option Operand → Run) → Leads result (reads registers.entry pointer (λ p. reads registers.entry index (λ i. next.moved p i (λ q. after (Some (operand.Pointed q)))))) after }
+    ensures { (after : Option Operand → Continuation) → Leads result (reads registers.entry pointer (λ p. reads registers.entry index (λ i. next.moved p i (λ q. after (Some (operand.Pointed q)))))) after }
 {
     let pointer = operand(registers, pointer)?;
     let index = operand(registers, index)?;
@@ -195,7 +195,7 @@ pub(crate) fn load_private(
     kind: IntType,
     name: u32,
 ) -> Result<Option<Operand>, Termination>
-    ensures { (after : Option Operand → Run) → Leads result (reads registers.entry index (λ i. next.read_element name kind elements.now i (λ v. after (Some v)))) after }
+    ensures { (after : Option Operand → Continuation) → Leads result (reads registers.entry index (λ i. next.read_element name kind elements.now i (λ v. after (Some v)))) after }
 {
     let index = operand(registers, index)?;
     let index = number(index)?;

@@ -3,14 +3,14 @@ use Rattle.std.proofs.Common.{◌≡◌, ℕ, suc, ◌+◌, ◌<◌, ◌≤◌, 
 use Rattle.std.proofs.Math.Seq.{get_or-append_seam}
 use Rattle.std.proofs.lemmas.Option.{slice_get-get_or, none-some}
 use Rattle.clnum.specs.declared.int_type.IntType.{IntType}
-use Rattle.clmodel.specs.Next.{Run, finish, Variables, Helpers, held, content, bound, returned_by, as_body, at_the_end, sites_in, exec_all, helper}
+use Rattle.clmodel.specs.Next.{Continuation, finish, Variables, Helpers, held, content, bound, returned_by, as_body, at_the_end, sites_in, exec_all, helper}
 use Rattle.clmodel.specs.Next as next
 use Rattle.clmodel.specs.Tree.{Func, Funcs, NoFunc, ThenFunc}
 use Rattle.clmodel.specs.declared.operand.Operand.{Operand}
 use Rattle.clmodel.specs.declared.setup.Argument.{Argument}
 use Rattle.clmodel.specs.declared.tree.Parameter.{Parameter}
 use Rattle.clmodel.specs.declared.tree.VariableType.{VariableType}
-use Rattle.regcode.specs.Machine.{State, Given, Registers, put, with_put, argument_at}
+use Rattle.regcode.specs.Machine.{State, ItemContext, Registers, put, with_put, argument_at}
 use Rattle.regcode.specs.declared.instruction.Instruction.{Instruction}
 use Rattle.regcode.specs.declared.instruction.Instruction.TheVariants as instruction
 use Rattle.regcode.proofs.Agreement.{Agree, ends, unset_runs, hold_runs, argument_runs}
@@ -47,9 +47,9 @@ declared_at scope level name kind registers vs content e same =
     subst (λ l. Sees (with_variable scope name kind) (put registers (register_at l kind) content) (next.variable name kind content ∷ vs)) (sym e)
     (declared_seen scope name kind registers vs content same)
 
-module _ (given : Given) (code : List Instruction) (limit : ℕ) where
+module _ (given : ItemContext) (code : List Instruction) (limit : ℕ) where
   -- parameters are given the arguments of a call
-  pass_runs : (ps : List Parameter) (numbers : List ℕ) (values : List Operand) (base level : ℕ) (variables vs : Variables) (s : State) (ts : List ℕ) (at : ℕ) (now : State) (run : Run)
+  pass_runs : (ps : List Parameter) (numbers : List ℕ) (values : List Operand) (base level : ℕ) (variables vs : Variables) (s : State) (ts : List ℕ) (at : ℕ) (now : State) (run : Continuation)
       → level ≡ base + length variables → Stands base s ts at now → Sees (record { base = base; variables = variables }) now.registers vs → Hold now.registers numbers values → Placed level numbers → HasAt code at (pass_code ps numbers level)
       → ((last : State) → Stands base s ts (at + length (pass_code ps numbers level)) last → Sees (record { base = base; variables = parameter_variables ps variables }) last.registers (next.passed ps values vs) → Agree given code limit last run)
       → Agree given code limit now run
@@ -71,7 +71,7 @@ module _ (given : Given) (code : List Instruction) (limit : ℕ) where
       (λ final at_end sees. go final (stands_to base s ts _ final _ (omega arith) at_end) sees))
 
   -- parameters are given the arguments of the launch
-  arguments_run : (ps : List Parameter) (arguments : List (Option Argument)) (level : ℕ) (variables vs : Variables) (s : State) (at : ℕ) (now : State) (run : Run)
+  arguments_run : (ps : List Parameter) (arguments : List (Option Argument)) (level : ℕ) (variables vs : Variables) (s : State) (at : ℕ) (now : State) (run : Continuation)
       → level ≡ length variables → ((i : ℕ) → argument_at given.arguments (level + i) ≡ argument_at arguments i) → Stands 0 s [] at now → Sees (record { base = 0; variables = variables }) now.registers vs → HasAt code at (arguments_code ps level)
       → ((last : State) → Stands 0 s [] (at + length (arguments_code ps level)) last → Sees (record { base = 0; variables = parameter_variables ps variables }) last.registers (bound given.buffers level ps arguments vs) → Agree given code limit last run)
       → Agree given code limit now run
@@ -100,12 +100,12 @@ module _ (given : Given) (code : List Instruction) (limit : ℕ) where
       (λ final at_end sees. go final (stands_to 0 s [] _ final _ (omega arith) at_end) sees))
 
 -- a function that gives a value and returns none ends the item
-lost_by : (result : Option IntType) (after : Option Operand → Run) (kind : IntType) → result ≡ Some kind → returned_by result after None ≡ finish
+lost_by : (result : Option IntType) (after : Option Operand → Continuation) (kind : IntType) → result ≡ Some kind → returned_by result after None ≡ finish
 lost_by None after kind e = absurd (none-some kind e)
 lost_by (Some other) after kind e = refl
 
 -- what follows a call goes on with what was returned
-return_runs : (given : Given) (code : List Instruction) (bound level : ℕ) (now : State) (result : Option IntType) (after : Option Operand → Run) (v : Option Operand)
+return_runs : (given : ItemContext) (code : List Instruction) (bound level : ℕ) (now : State) (result : Option IntType) (after : Option Operand → Continuation) (v : Option Operand)
     → Returned result level now.registers (returned_as result v) → ((w : Option Operand) → Returned result level now.registers w → Agree given code bound now (after w))
     → Agree given code bound now (returned_by result after v)
 return_runs given code bound level now None after v is go = go None refl
@@ -113,8 +113,8 @@ return_runs given code bound level now (Some kind) after None is go = absurd (no
 return_runs given code bound level now (Some kind) after (Some v) is go = go _ is
 
 -- a function's body, whose ends all lead to the end of its code
-module _ (given : Given) (code : List Instruction) (most : ℕ) (calls : Calls) (results : ℕ → Option IntType) (helpers : Helpers) (run_calls : CallsRun given code most calls results helpers) (inside : ℕ → ℕ) where
-  pub body_runs : (f : Func) (limit : ℕ) → limit ≤ most → (level : ℕ) (s : State) (ts : List ℕ) (site at : ℕ) (now : State) (vs : Variables) (returned : Option Operand → Run)
+module _ (given : ItemContext) (code : List Instruction) (most : ℕ) (calls : Calls) (results : ℕ → Option IntType) (helpers : Helpers) (run_calls : CallsRun given code most calls results helpers) (inside : ℕ → ℕ) where
+  pub body_runs : (f : Func) (limit : ℕ) → limit ≤ most → (level : ℕ) (s : State) (ts : List ℕ) (site at : ℕ) (now : State) (vs : Variables) (returned : Option Operand → Continuation)
       → Stands level s ts at now → Sees (record { base = level; variables = parameter_variables f.parameters [] }) now.registers vs → HasAt code at (body_code calls results inside f level (length ts) site)
       → ((kind : IntType) → f.result ≡ Some kind → returned None ≡ finish)
       → ((last : State) (v : Option Operand) → Stands level s ts (at + length (body_code calls results inside f level (length ts) site)) last → Returned f.result level last.registers (returned_as f.result v) → Agree given code limit last (returned v))
@@ -141,8 +141,8 @@ module _ (given : Given) (code : List Instruction) (most : ℕ) (calls : Calls) 
       })
 
 -- a call of the latest function: its body stands in the place of the call
-module _ (given : Given) (code : List Instruction) (most : ℕ) (earlier : Funcs) (f : Func) (run_calls : CallsRun given code most (call_code earlier) (result_in earlier) (helper most given.here earlier)) where
-  latest_runs : (limit : ℕ) → limit ≤ most → (numbers : List ℕ) (values : List Operand) (level site : ℕ) (ts : List ℕ) (now : State) (after : Option Operand → Run)
+module _ (given : ItemContext) (code : List Instruction) (most : ℕ) (earlier : Funcs) (f : Func) (run_calls : CallsRun given code most (call_code earlier) (result_in earlier) (helper most given.here earlier)) where
+  latest_runs : (limit : ℕ) → limit ≤ most → (numbers : List ℕ) (values : List Operand) (level site : ℕ) (ts : List ℕ) (now : State) (after : Option Operand → Continuation)
       → take (length ts) now.counters ≡ ts
       → HasAt code now.place (pass_code f.parameters numbers level ++ body_code (call_code earlier) (result_in earlier) (sites_in earlier) f level (length ts) site)
       → Hold now.registers numbers values → Placed level numbers
@@ -161,12 +161,12 @@ module _ (given : Given) (code : List Instruction) (most : ℕ) (earlier : Funcs
       (λ last v at_end is. return_runs given code limit level last f.result after v is (λ w is. go last w (stands_to level now ts _ last _ to_end at_end) is)))
 
 -- the calls of all functions
-pub calls_run : (given : Given) (code : List Instruction) (most : ℕ) (fs : Funcs) → CallsRun given code most (call_code fs) (result_in fs) (helper most given.here fs)
+pub calls_run : (given : ItemContext) (code : List Instruction) (most : ℕ) (fs : Funcs) → CallsRun given code most (call_code fs) (result_in fs) (helper most given.here fs)
 calls_run given code most NoFunc = record { runs = λ limit below name numbers values level site ts now after turns has held placed go. ends given code limit now has.0 }
 calls_run given code most (ThenFunc earlier f) = record { runs = λ limit below name numbers values level site ts now after turns. either given code most earlier f (calls_run given code most earlier) limit below name numbers values level site ts now after turns (name == f.name) }
   where
-    either : (given : Given) (code : List Instruction) (most : ℕ) (earlier : Funcs) (f : Func) (run_calls : CallsRun given code most (call_code earlier) (result_in earlier) (helper most given.here earlier))
-        (limit : ℕ) → limit ≤ most → (name : ℕ) (numbers : List ℕ) (values : List Operand) (level site : ℕ) (ts : List ℕ) (now : State) (after : Option Operand → Run)
+    either : (given : ItemContext) (code : List Instruction) (most : ℕ) (earlier : Funcs) (f : Func) (run_calls : CallsRun given code most (call_code earlier) (result_in earlier) (helper most given.here earlier))
+        (limit : ℕ) → limit ≤ most → (name : ℕ) (numbers : List ℕ) (values : List Operand) (level site : ℕ) (ts : List ℕ) (now : State) (after : Option Operand → Continuation)
         → take (length ts) now.counters ≡ ts → (b : Bool)
         → HasAt code now.place (elim b [ true ↦ pass_code f.parameters numbers level ++ body_code (call_code earlier) (result_in earlier) (sites_in earlier) f level (length ts) site | false ↦ call_code earlier name numbers level (length ts) site ])
         → Hold now.registers numbers values → Placed level numbers
@@ -191,7 +191,7 @@ has_all (i ∷ is) pre =
     (here, subst (λ m. HasAt (pre ++ i ∷ is) m is) n rest')
 
 -- a kernel, from the start
-pub kernel_runs : (given : Given) (most : ℕ) (earlier : Funcs) (f : Func) (limit : ℕ) (start : State) → limit ≤ most → start.place ≡ 0
+pub kernel_runs : (given : ItemContext) (most : ℕ) (earlier : Funcs) (f : Func) (limit : ℕ) (start : State) → limit ≤ most → start.place ≡ 0
     → Agree given (kernel_code earlier f) limit start
     (exec_all most given.here (helper most given.here earlier) (sites_in earlier) f.body 0 [] at_the_end (bound given.buffers 0 f.parameters given.arguments []))
 kernel_runs given most earlier f limit start below zero_is =

@@ -3,7 +3,7 @@ use Rattle.std.proofs.Common.{ℕ, ◌+◌, ◌≤◌, Bool, true, false, if◌t
 use Rattle.std.proofs.lemmas.List.{length-append}
 use Rattle.clmodel.specs.BuiltIns.{built_in}
 use Rattle.clmodel.specs.Next.{is_private_array}
-use Rattle.clmodel.specs.Tree.{Term, Number, Variable, Element, ElementAddress, Dereference, Call, Unary, Cast, Binary, Choice, Terms, NoTerm, ThenTerm, Place, Whole, Part, Behind}
+use Rattle.clmodel.specs.Tree.{Term, Number, Variable, Element, ElementAddress, Dereference, Call, Unary, Cast, Binary, Choice, Terms, NoTerm, ThenTerm, Target, TargetVariable, TargetElement, TargetDereference}
 use Rattle.clmodel.specs.declared.setup.BuiltIn.{BuiltIn}
 use Rattle.clmodel.specs.declared.setup.BuiltIn.TheVariants as built_in_function
 use Rattle.clmodel.specs.declared.tree.InfixOperator.{InfixOperator}
@@ -11,7 +11,7 @@ use Rattle.clmodel.specs.declared.tree.InfixOperator.TheVariants.{Arithmetic, Lo
 use Rattle.regcode.specs.declared.instruction.Instruction.{Instruction}
 use Rattle.regcode.specs.declared.instruction.Instruction.TheVariants as instruction
 use Rattle.lower_expr.specs.Scope.{Scope, register_at, register_of}
-use Rattle.lower_expr.specs.Expressions.{kind_of, kind_named, register_for, registers_for, expr_code, terms_code, place_code, variable_code, element_code, infix_code, truth_code, branch_code, choice_code, call_code, count}
+use Rattle.lower_expr.specs.Expressions.{kind_of, kind_named, register_for, registers_for, expr_code, terms_code, target_code, variable_code, element_code, infix_code, truth_code, branch_code, choice_code, call_code, count}
 use Rattle.lower.specs.Accepted.{Stays, Flat}
 
 stays_longer : (i : Instruction) (n m : ℕ) → n ≤ m → Stays i n → Stays i m
@@ -114,10 +114,10 @@ mutual
   terms_flat scope level NoTerm = tt
   terms_flat scope level (ThenTerm es e) = flat_both (terms_code scope level es) (expr_code scope (level + count es) e) (terms_flat scope level es) (expression_flat scope (level + count es) e)
 
-pub place_flat : (scope : Scope) (level : ℕ) (place : Place) → Flat (place_code scope level place)
-place_flat scope level (Whole at name) = tt
-place_flat scope level (Part at name index) =
+pub target_flat : (scope : Scope) (level : ℕ) (place : Target) → Flat (target_code scope level place)
+target_flat scope level (TargetVariable at name) = tt
+target_flat scope level (TargetElement at name index) =
     either_flat (is_private_array scope.variables name) _ _ (expression_flat scope level index)
     (element_flat (register_at level (kind_named scope name)) (register_of scope name) name (expr_code scope (level + 1) index) (register_for scope (level + 1) index) (expression_flat scope (level + 1) index))
-place_flat scope level (Behind at pointer) =
-    flat_both (expr_code scope level pointer) (instruction.Point (register_for scope level pointer) (register_for scope level pointer) ∷ []) (expression_flat scope level pointer) (tt, tt)
+target_flat scope level (TargetDereference at pointer) =
+    flat_both (expr_code scope level pointer) (instruction.MovePointer (register_for scope level pointer) (register_for scope level pointer) ∷ []) (expression_flat scope level pointer) (tt, tt)

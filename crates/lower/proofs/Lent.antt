@@ -8,7 +8,7 @@ use Rattle.lower_code.specs.Code.{condition_code, while_code}
 use Rattle.lower_code.specs.Growth.{GrowsBefore, KeepsOuter}
 use Rattle.lower_code.specs.Trees.{all_of}
 use Rattle.lower_code.specs.Variables.{scope_after, scope_after_part, scope_after_all}
-use Rattle.lower_code.specs.declared.holes.Setting.{Setting}
+use Rattle.lower_code.specs.declared.holes.StatementContext.{StatementContext}
 use Rattle.lower_code.specs.declared.positions.Position.{Position}
 use Rattle.lower_code.proofs.Growth.{before, after_statements}
 use Rattle.lower_code.proofs.Trees.{row_more}
@@ -32,7 +32,7 @@ left_statement start old left ss i x h is e leave =
     after_statements start left left (all_of (take place ss)) inner refl
 
 -- a `for` without its first part has been put before the code
-pub after_turns : (s : Setting) (scope : Scope) (test : MaybeTerm) (third : MaybeStmt) (body : Stmt) (p : Position) (old one new : List Instruction)
+pub after_turns : (s : StatementContext) (scope : Scope) (test : MaybeTerm) (third : MaybeStmt) (body : Stmt) (p : Position) (old one new : List Instruction)
     → one ≡ while_code p.depth (round_code s scope third body p (length (condition_code scope test))) (condition_code scope test) ++ old
     → GrowsBefore one new → GrowsBefore old new
 after_turns s scope test third body p old one new e h =

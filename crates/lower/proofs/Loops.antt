@@ -1,8 +1,8 @@
 -- Loops: turn after turn, while ticks are left.
 use Rattle.std.proofs.Common.{◌≡◌, ℕ, zero, suc, ◌+◌, ◌-◌, ◌≤◌, Bool, true, false, Some, List, [], ◌∷◌, ◌++◌, length, take, slice_get, slice_index, refl, sym, ap, ap₂, ◌∙◌, arith, length-append}
-use Rattle.clmodel.specs.Next.{Run, tick, Variables, turns, condition, test}
-use Rattle.clmodel.specs.Tree.{MaybeTerm, Always, While_}
-use Rattle.regcode.specs.Machine.{State, Given, with_turns, passed, onward}
+use Rattle.clmodel.specs.Next.{Continuation, tick, Variables, turns, condition, test}
+use Rattle.clmodel.specs.Tree.{MaybeTerm, WithoutTerm, WithTerm}
+use Rattle.regcode.specs.Machine.{State, ItemContext, with_turns, passed, onward}
 use Rattle.regcode.specs.declared.instruction.Instruction.{Instruction}
 use Rattle.regcode.specs.declared.instruction.Instruction.TheVariants as instruction
 use Rattle.regcode.proofs.Agreement.{Agree, with_fewer, enter_runs, jump_runs, turn_runs, back_runs, branch_runs}
@@ -32,18 +32,18 @@ entered_stands level s ts place now h =
     record { at = ap (λ n. n + 1) h.at; kept = h.kept; turns = ap (λ l. take (length (ts ++ 0 ∷ [])) (l ++ 0 ∷ [])) h.turns ∙ all_turns (ts ++ 0 ∷ []) }
 
 -- no tick is left
-none_left : (given : Given) (code : List Instruction) (s : State) (run : Run) → Agree given code 0 s run
+none_left : (given : ItemContext) (code : List Instruction) (s : State) (run : Continuation) → Agree given code 0 s run
 none_left given code s run = record { by = λ count ticks below enough. absurd (omega arith) }
 
 -- A loop with its first turn, its condition and the way back at these places.
-module _ (given : Given) (code : List Instruction) (bound : ℕ) (scope : Scope) (s : State) (ts : List ℕ) (turn condition back by : ℕ)
-    (holds : Variables → (Bool → Run) → Run) (body : ℕ → Variables → (Variables → Run) → Run) (after : Variables → Run)
+module _ (given : ItemContext) (code : List Instruction) (bound : ℕ) (scope : Scope) (s : State) (ts : List ℕ) (turn condition back by : ℕ)
+    (holds : Variables → (Bool → Continuation) → Continuation) (body : ℕ → Variables → (Variables → Continuation) → Continuation) (after : Variables → Continuation)
     (turn_there : slice_get code turn ≡ Some (instruction.Turn (length ts))) (back_there : slice_get code back ≡ Some (instruction.Back by)) (goes_back : turn + by ≡ back)
-    (condition_runs : (fewer count : ℕ) (now : State) (vs : Variables) (run : Bool → Run) → Stands scope.base s (ts ++ count ∷ []) condition now → Sees scope now.registers vs
+    (condition_runs : (fewer count : ℕ) (now : State) (vs : Variables) (run : Bool → Continuation) → Stands scope.base s (ts ++ count ∷ []) condition now → Sees scope now.registers vs
     → ((last : State) → Stands scope.base s (ts ++ count ∷ []) back last → Sees scope last.registers vs → Agree given code fewer last (run true))
     → ((last : State) → Stands scope.base s (ts ++ count ∷ []) (back + 1) last → Sees scope last.registers vs → Agree given code fewer last (run false))
     → Agree given code fewer now (holds vs run))
-    (body_runs : (fewer : ℕ) → fewer ≤ bound → (count : ℕ) (now : State) (vs : Variables) (again : Variables → Run) → Stands scope.base s (ts ++ count ∷ []) (turn + 1) now → Sees scope now.registers vs
+    (body_runs : (fewer : ℕ) → fewer ≤ bound → (count : ℕ) (now : State) (vs : Variables) (again : Variables → Continuation) → Stands scope.base s (ts ++ count ∷ []) (turn + 1) now → Sees scope now.registers vs
     → ((last : State) (vs : Variables) → Stands scope.base s (ts ++ count ∷ []) condition last → Sees scope last.registers vs → Agree given code fewer last (again vs))
     → Agree given code fewer now (body count vs again))
     (after_runs : (now : State) (vs : Variables) → Stands scope.base s ts (back + 1) now → Sees scope now.registers vs → Agree given code bound now (after vs)) where
@@ -76,14 +76,14 @@ module _ (given : Given) (code : List Instruction) (bound : ℕ) (scope : Scope)
       (turns_run most fewer (omega (arith, enough)) (omega (arith, below)) 1))
 
 -- a condition
-pub holds_runs : (given : Given) (code : List Instruction) (scope : Scope) (t : MaybeTerm) (s : State) (place back : ℕ) → HasAt code place (condition_code scope t) → place + length (condition_code scope t) ≡ back
-    → (ts : List ℕ) (bound : ℕ) (now : State) (vs : Variables) (run : Bool → Run) → Stands scope.base s ts place now → Sees scope now.registers vs
+pub holds_runs : (given : ItemContext) (code : List Instruction) (scope : Scope) (t : MaybeTerm) (s : State) (place back : ℕ) → HasAt code place (condition_code scope t) → place + length (condition_code scope t) ≡ back
+    → (ts : List ℕ) (bound : ℕ) (now : State) (vs : Variables) (run : Bool → Continuation) → Stands scope.base s ts place now → Sees scope now.registers vs
     → ((last : State) → Stands scope.base s ts back last → Sees scope last.registers vs → Agree given code bound last (run true))
     → ((last : State) → Stands scope.base s ts (back + 1) last → Sees scope last.registers vs → Agree given code bound last (run false))
     → Agree given code bound now (condition given.here t vs run)
-holds_runs given code scope Always s place back has e ts bound now vs run stands same holding failing =
+holds_runs given code scope WithoutTerm s place back has e ts bound now vs run stands same holding failing =
     holding now (stands_to scope.base s ts place now back (omega (arith, e)) stands) same
-holds_runs given code scope (While_ term) s place back has e ts bound now vs run stands same holding failing =
+holds_runs given code scope (WithTerm term) s place back has e ts bound now vs run stands same holding failing =
     let level = free_level scope in
     let first = expr_code scope level term in
     let second : List Instruction = instruction.JumpIfZero (register_for scope level term) 1 ∷ [] in
@@ -99,11 +99,11 @@ holds_runs given code scope (While_ term) s place back has e ts bound now vs run
     (failing (onward last 1) (stands_to scope.base s ts _ (onward last 1) (back + 1) (let a = stands.at in omega (arith, a, e, lengths)) (onward_stands scope.base s ts (now.place + length first) last 1 reached)) sees))
 
 -- A loop whose condition is an expression, or left out.
-module _ (given : Given) (code : List Instruction) (bound most : ℕ) (below : bound ≤ most) (scope : Scope) (s : State) (ts : List ℕ) (at : ℕ) (inner : List Instruction) (t : MaybeTerm)
-    (body : ℕ → Variables → (Variables → Run) → Run) (after : Variables → Run) where
+module _ (given : ItemContext) (code : List Instruction) (bound most : ℕ) (below : bound ≤ most) (scope : Scope) (s : State) (ts : List ℕ) (at : ℕ) (inner : List Instruction) (t : MaybeTerm)
+    (body : ℕ → Variables → (Variables → Continuation) → Continuation) (after : Variables → Continuation) where
   -- it begins with its condition
   pub while_runs : HasAt code at (while_code (length ts) inner (condition_code scope t))
-      → ((fewer : ℕ) → fewer ≤ bound → (count : ℕ) (now : State) (vs : Variables) (again : Variables → Run) → Stands scope.base s (ts ++ count ∷ []) (at + 3) now → Sees scope now.registers vs
+      → ((fewer : ℕ) → fewer ≤ bound → (count : ℕ) (now : State) (vs : Variables) (again : Variables → Continuation) → Stands scope.base s (ts ++ count ∷ []) (at + 3) now → Sees scope now.registers vs
       → ((last : State) (vs : Variables) → Stands scope.base s (ts ++ count ∷ []) (at + 3 + length inner) last → Sees scope last.registers vs → Agree given code fewer last (again vs))
       → Agree given code fewer now (body count vs again))
       → ((now : State) (vs : Variables) → Stands scope.base s ts (at + length (while_code (length ts) inner (condition_code scope t))) now → Sees scope now.registers vs → Agree given code bound now (after vs))
@@ -132,7 +132,7 @@ module _ (given : Given) (code : List Instruction) (bound most : ℕ) (below : b
 
   -- it begins with its body
   pub do_runs : HasAt code at (do_code (length ts) inner (condition_code scope t))
-      → ((fewer : ℕ) → fewer ≤ bound → (count : ℕ) (now : State) (vs : Variables) (again : Variables → Run) → Stands scope.base s (ts ++ count ∷ []) (at + 2) now → Sees scope now.registers vs
+      → ((fewer : ℕ) → fewer ≤ bound → (count : ℕ) (now : State) (vs : Variables) (again : Variables → Continuation) → Stands scope.base s (ts ++ count ∷ []) (at + 2) now → Sees scope now.registers vs
       → ((last : State) (vs : Variables) → Stands scope.base s (ts ++ count ∷ []) (at + 2 + length inner) last → Sees scope last.registers vs → Agree given code fewer last (again vs))
       → Agree given code fewer now (body count vs again))
       → ((now : State) (vs : Variables) → Stands scope.base s ts (at + length (do_code (length ts) inner (condition_code scope t))) now → Sees scope now.registers vs → Agree given code bound now (after vs))

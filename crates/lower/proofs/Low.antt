@@ -5,8 +5,8 @@ use Rattle.clnum.specs.declared.operators.BinaryOperator.{BinaryOperator}
 use Rattle.clmodel.specs.BuiltIns.{built_in}
 use Rattle.clmodel.specs.Next.{Variables, is_private_array, is_update, infix_type}
 use Rattle.clmodel.specs.Tree as tree
-use Rattle.clmodel.specs.Tree.{Term, Terms, NoTerm, ThenTerm, Place, Whole, Part, Behind}
-use Rattle.clmodel.specs.Typing.Sizes.{Sizes, term_size, terms_size, place_size}
+use Rattle.clmodel.specs.Tree.{Term, Terms, NoTerm, ThenTerm, Target, TargetVariable, TargetElement, TargetDereference}
+use Rattle.clmodel.specs.Typing.Sizes.{Sizes, term_size, terms_size, target_size}
 use Rattle.clmodel.specs.declared.setup.AtomicFunction.{AtomicFunction}
 use Rattle.clmodel.specs.declared.setup.BuiltIn.{BuiltIn}
 use Rattle.clmodel.specs.declared.setup.BuiltIn.TheVariants as built_in_function
@@ -17,8 +17,8 @@ use Rattle.clmodel.specs.declared.tree.VariableType.TheVariants.{Integer}
 use Rattle.regcode.specs.declared.instruction.Instruction.{Instruction}
 use Rattle.lower_expr.proofs.Places.{kind_below}
 use Rattle.lower_expr.specs.Scope.{Scope, register_at, register_in, register_of, free_level}
-use Rattle.lower_expr.specs.Expressions.{count, kind_of, kind_named, type_of_elements, register_for, registers_for, expr_code, terms_code, place_code, place_register, variable_code, element_code, infix_code, call_code, update_code, call_only_code}
-use Rattle.lower_code.specs.Code.{place_type, hold_code, fetch_code, put_code, combine_code}
+use Rattle.lower_expr.specs.Expressions.{count, kind_of, kind_named, type_of_elements, register_for, registers_for, expr_code, terms_code, target_code, target_register, variable_code, element_code, infix_code, call_code, update_code, call_only_code}
+use Rattle.lower_code.specs.Code.{type_of_target, hold_code, fetch_code, put_code, combine_code}
 use Rattle.lower.specs.Tables.{registers_of, room, register_count}
 use Rattle.lower_expr.proofs.Short.{some_node}
 
@@ -120,10 +120,10 @@ hold_low : (n : ℕ) (to : Option ℕ) (from : ℕ) (kind : VariableType) → Lo
 hold_low n None from kind h k = ((k, (k, tt)), tt)
 hold_low n (Some to) from kind h k = ((h, (k, tt)), tt)
 
-pub some_place : (sizes : Sizes) (to : Place) → 1 ≤ (place_size sizes to).nodes
-some_place sizes (Whole at name) = omega arith
-some_place sizes (Part at name index) = omega arith
-some_place sizes (Behind at pointer) = omega arith
+pub some_place : (sizes : Sizes) (to : Target) → 1 ≤ (target_size sizes to).nodes
+some_place sizes (TargetVariable at name) = omega arith
+some_place sizes (TargetElement at name index) = omega arith
+some_place sizes (TargetDereference at pointer) = omega arith
 
 counted : (sizes : Sizes) (es : Terms) → count es ≤ (terms_size sizes es).nodes
 counted sizes NoTerm = omega arith
@@ -187,33 +187,33 @@ module _ (sizes : Sizes) (top : ℕ) (scope : Scope) (within : free_level scope 
         few_both (16 * top) (registers_for scope level es) _ (registers_low level es (omega (arith, h)))
         (at (level + count es) (kind_of scope e) (let c = counted sizes es in let x = some_node sizes e in omega (arith, h, c, x)), tt)
 
-  pub place_low : (level : ℕ) (to : Place) → level + (place_size sizes to).nodes ≤ top → Low (16 * top) (place_code scope level to)
-  place_low level (Whole a name) h = tt
-  place_low level (Part a name index) h =
+  pub target_low : (level : ℕ) (to : Target) → level + (target_size sizes to).nodes ≤ top → Low (16 * top) (target_code scope level to)
+  target_low level (TargetVariable a name) h = tt
+  target_low level (TargetElement a name index) h =
       let x = some_node sizes index in
       low_either (16 * top) (is_private_array scope.variables name) _ _ (expr_low level index (omega (arith, h)))
       (element_low (16 * top) _ _ name _ _ (at level _ (omega (arith, h))) (named name) (expr_low (level + 1) index (omega (arith, h))) (at (level + 1) _ (omega (arith, h, x))))
-  place_low level (Behind a pointer) h =
+  target_low level (TargetDereference a pointer) h =
       let r : level + 1 ≤ top = omega (arith, h) in
       low_both (16 * top) (expr_code scope level pointer) _ (expr_low level pointer (omega (arith, h))) ((at level (kind_of scope pointer) r, (at level (kind_of scope pointer) r, tt)), tt)
 
-  pub reached_low : (level : ℕ) (to : Place) → level + 1 ≤ top → place_register scope level to < 16 * top
-  reached_low level (Whole a name) h = omega (arith, h)
-  reached_low level (Part a name index) h = either_low (16 * top) (is_private_array scope.variables name) _ _ (at level (kind_of scope index) h) (at level (kind_named scope name) h)
-  reached_low level (Behind a pointer) h = at level (kind_of scope pointer) h
+  pub reached_low : (level : ℕ) (to : Target) → level + 1 ≤ top → target_register scope level to < 16 * top
+  reached_low level (TargetVariable a name) h = omega (arith, h)
+  reached_low level (TargetElement a name index) h = either_low (16 * top) (is_private_array scope.variables name) _ _ (at level (kind_of scope index) h) (at level (kind_named scope name) h)
+  reached_low level (TargetDereference a pointer) h = at level (kind_of scope pointer) h
 
-  pub fetch_low : (place : Place) (reached to : ℕ) → reached < 16 * top → to < 16 * top → Low (16 * top) (fetch_code scope place reached to)
-  fetch_low (Whole a name) reached to h k = variable_low (16 * top) to _ name k (named name)
-  fetch_low (Part a name index) reached to h k = low_either (16 * top) (is_private_array scope.variables name) _ _ ((k, (h, tt)), tt) ((k, (h, tt)), tt)
-  fetch_low (Behind a pointer) reached to h k = ((k, (h, tt)), tt)
+  pub fetch_low : (place : Target) (reached to : ℕ) → reached < 16 * top → to < 16 * top → Low (16 * top) (fetch_code scope place reached to)
+  fetch_low (TargetVariable a name) reached to h k = variable_low (16 * top) to _ name k (named name)
+  fetch_low (TargetElement a name index) reached to h k = low_either (16 * top) (is_private_array scope.variables name) _ _ ((k, (h, tt)), tt) ((k, (h, tt)), tt)
+  fetch_low (TargetDereference a pointer) reached to h k = ((k, (h, tt)), tt)
 
-  pub put_low : (place : Place) (reached from : ℕ) → reached < 16 * top → from < 16 * top → Low (16 * top) (put_code scope place reached from)
-  put_low (Whole a name) reached from h k = hold_low (16 * top) _ from _ (named name) k
-  put_low (Part a name index) reached from h k = low_either (16 * top) (is_private_array scope.variables name) _ _ ((h, (k, tt)), tt) ((h, (k, tt)), tt)
-  put_low (Behind a pointer) reached from h k = ((h, (k, tt)), tt)
+  pub put_low : (place : Target) (reached from : ℕ) → reached < 16 * top → from < 16 * top → Low (16 * top) (put_code scope place reached from)
+  put_low (TargetVariable a name) reached from h k = hold_low (16 * top) _ from _ (named name) k
+  put_low (TargetElement a name index) reached from h k = low_either (16 * top) (is_private_array scope.variables name) _ _ ((h, (k, tt)), tt) ((h, (k, tt)), tt)
+  put_low (TargetDereference a pointer) reached from h k = ((h, (k, tt)), tt)
 
-  pub combine_low : (place : Place) (level : ℕ) (operator : BinaryOperator) (kind : VariableType) (old right : ℕ) → level + 2 ≤ top → old < 16 * top → right < 16 * top
+  pub combine_low : (place : Target) (level : ℕ) (operator : BinaryOperator) (kind : VariableType) (old right : ℕ) → level + 2 ≤ top → old < 16 * top → right < 16 * top
       → Low (16 * top) (combine_code scope place level operator kind old right)
   combine_low place level operator kind old right h o r =
-      let t = at (level + 1) (infix_type (Arithmetic operator) (place_type scope place) kind) (omega (arith, h)) in
+      let t = at (level + 1) (infix_type (Arithmetic operator) (type_of_target scope place) kind) (omega (arith, h)) in
       ((t, (o, (r, tt))), put_low place _ _ (reached_low level place (omega (arith, h))) t)

@@ -8,21 +8,21 @@ use Rattle.clmodel.specs.Barrier.{is_barrier, fences}
 use Rattle.clmodel.specs.BuiltIns.{built_in}
 use Rattle.clmodel.specs.Next.{Variables, argument_type, call_type, helper_or, helper_call, step_operator, sites, part_sites}
 use Rattle.clmodel.specs.Tree as tree
-use Rattle.clmodel.specs.Tree.{Term, Terms, Place, MaybeTerm, Always, While_, Stmt, Stmts, NoStmt, ThenStmt, MaybeStmt, Without, With, array_length}
+use Rattle.clmodel.specs.Tree.{Term, Terms, Target, MaybeTerm, WithoutTerm, WithTerm, Stmt, Stmts, NoStmt, ThenStmt, MaybeStmt, Without, With, array_length}
 use Rattle.clmodel.specs.Typing.Context.{Context, Signature, signature_of, bind, enter, turning, for_context, after_all}
 use Rattle.clmodel.specs.Typing.Rules as rule
 use Rattle.clmodel.specs.Typing.Rules.{CallsHelper, Gives, IsTyped, IsTypedPart, AreTyped}
-use Rattle.clmodel.specs.Typing.Sizes.{Sizes, size_in, term_size, terms_size, place_size, condition_size, size, part_size, row_size}
+use Rattle.clmodel.specs.Typing.Sizes.{Sizes, size_in, term_size, terms_size, target_size, condition_size, size, part_size, row_size}
 use Rattle.clmodel.specs.declared.action.Fences.{Fences}
 use Rattle.clmodel.specs.declared.declaration.Declaration.TheVariants.{Single}
 use Rattle.clmodel.specs.declared.setup.BuiltIn.{BuiltIn}
 use Rattle.clmodel.specs.declared.tree.VariableType.{VariableType}
 use Rattle.clmodel.specs.declared.tree.VariableType.TheVariants.{Integer}
 use Rattle.lower_expr.specs.Scope.{Scope, free_level, register_at}
-use Rattle.lower_expr.specs.Expressions.{kind_of, register_for, registers_for, expr_code, terms_code, place_code, place_register}
-use Rattle.lower_code.specs.Code.{Exits, past, body_exits, Calls, with_variable, local_pointer, scope_after_part, scope_after_all, array_code, needed_code, no_value_code, value_code, wait_code, condition_code, place_type, fetch_code, right_code, right_type, call_only_statement, step_code, stmt_code, part_code, stmts_code}
+use Rattle.lower_expr.specs.Expressions.{kind_of, register_for, registers_for, expr_code, terms_code, target_code, target_register}
+use Rattle.lower_code.specs.Code.{Exits, past, body_exits, Calls, with_variable, local_pointer, scope_after_part, scope_after_all, array_code, needed_code, no_value_code, value_code, wait_code, condition_code, type_of_target, fetch_code, right_code, right_type, call_only_statement, step_code, stmt_code, part_code, stmts_code}
 use Rattle.lower_code.specs.Variables.{variables_after, variables_after_part, variables_after_all}
-use Rattle.lower.proofs.Low.{Few, Low, at_low, low_both, call_only_low, some_place, expr_low, terms_low, registers_low, place_low, reached_low, fetch_low, put_low, combine_low}
+use Rattle.lower.proofs.Low.{Few, Low, at_low, low_both, call_only_low, some_place, expr_low, terms_low, registers_low, target_low, reached_low, fetch_low, put_low, combine_low}
 use Rattle.lower.proofs.Scoped.{callable_is, after_part_before, after_all_before}
 use Rattle.lower_expr.proofs.Short.{some_node, few_terms}
 use Rattle.lower.proofs.Suited.{built_in_is, barrier_is}
@@ -93,8 +93,8 @@ module _ (sizes : Sizes) (top : ℕ) (calls : Calls) (results : ℕ → Option I
   known_as c d e known x s is = known x s (subst (λ b. signature_of b x ≡ Some s) e is)
 
   condition_low : (scope : Scope) (test : MaybeTerm) → free_level scope + (condition_size sizes test).nodes + 1 ≤ top → Low (16 * top) (condition_code scope test)
-  condition_low scope Always h = tt
-  condition_low scope (While_ e) h =
+  condition_low scope WithoutTerm h = tt
+  condition_low scope (WithTerm e) h =
       let level = free_level scope in
       low_both (16 * top) (expr_code scope level e) _ (expr_low sizes top scope (omega (arith, h)) level e (omega (arith, h))) ((at_low top level (kind_of scope e) (omega (arith, h)), tt), tt)
 
@@ -123,16 +123,16 @@ module _ (sizes : Sizes) (top : ℕ) (calls : Calls) (results : ℕ → Option I
       low_both (16 * top) (terms_code scope level es) _ (terms_low sizes top scope (omega (arith, h)) level es (omega (arith, h)))
       (call_only_low (16 * top) (Some f) _ _ (at_low top level (Integer (call_type (Some f) (argument_type scope.variables es))) (omega (arith, h))) (registers_low sizes top scope (omega (arith, h)) level es (omega (arith, h))))
 
-  step_low : (scope : Scope) (place : Place) (operator : BinaryOperator) → free_level scope + (place_size sizes place).nodes + 2 ≤ top
+  step_low : (scope : Scope) (place : Target) (operator : BinaryOperator) → free_level scope + (target_size sizes place).nodes + 2 ≤ top
       → Low (16 * top) (step_code calls results inside result scope (free_level scope) place operator)
   step_low scope place operator h =
       let level = free_level scope in
       let x = some_place sizes place in
       let within : free_level scope ≤ top = omega (arith, h) in
-      let old = at_low top (level + 1) (place_type scope place) (omega (arith, h)) in
+      let old = at_low top (level + 1) (type_of_target scope place) (omega (arith, h)) in
       let one = at_low top (level + 2) (Integer Int) (omega (arith, h, x)) in
-      low_both (16 * top) (place_code scope level place) _ (place_low sizes top scope within level place (omega (arith, h)))
-      (low_both (16 * top) (fetch_code scope place (place_register scope level place) (register_at (level + 1) (place_type scope place))) _
+      low_both (16 * top) (target_code scope level place) _ (target_low sizes top scope within level place (omega (arith, h)))
+      (low_both (16 * top) (fetch_code scope place (target_register scope level place) (register_at (level + 1) (type_of_target scope place))) _
       (fetch_low sizes top scope within place _ _ (reached_low sizes top scope within level place (omega (arith, h))) old)
       ((one, tt), combine_low sizes top scope within place level operator (Integer Int) _ _ (omega (arith, h)) old one))
 
@@ -157,7 +157,7 @@ module _ (sizes : Sizes) (top : ℕ) (calls : Calls) (results : ℕ → Option I
     stmt_low _ _ (rule.assign {c = c} {p = p} {e = e} {k = k} {j = j} place gives passes) scope known depth site exits h =
         let level = free_level scope in
         let within : free_level scope ≤ top = omega (arith, h) in
-        low_both (16 * top) (place_code scope level p) _ (place_low sizes top scope within level p (omega (arith, h)))
+        low_both (16 * top) (target_code scope level p) _ (target_low sizes top scope within level p (omega (arith, h)))
         (low_both (16 * top) (right_code calls results inside result scope (level + 1) (helper_call e) e depth site) _
         (right_low c known scope within e j gives (level + 1) depth site (omega (arith, h)))
         (put_low sizes top scope within p _ _ (reached_low sizes top scope within level p (omega (arith, h))) (at_low top (level + 1) (right_type calls results inside result scope (helper_call e) e) (omega (arith, h)))))
@@ -165,9 +165,9 @@ module _ (sizes : Sizes) (top : ℕ) (calls : Calls) (results : ℕ → Option I
         let level = free_level scope in
         let n = some_node sizes e in
         let within : free_level scope ≤ top = omega (arith, h) in
-        let old = at_low top (level + 1) (place_type scope p) (omega (arith, h)) in
-        low_both (16 * top) (place_code scope level p) _ (place_low sizes top scope within level p (omega (arith, h)))
-        (low_both (16 * top) (fetch_code scope p (place_register scope level p) (register_at (level + 1) (place_type scope p))) _
+        let old = at_low top (level + 1) (type_of_target scope p) (omega (arith, h)) in
+        low_both (16 * top) (target_code scope level p) _ (target_low sizes top scope within level p (omega (arith, h)))
+        (low_both (16 * top) (fetch_code scope p (target_register scope level p) (register_at (level + 1) (type_of_target scope p))) _
         (fetch_low sizes top scope within p _ _ (reached_low sizes top scope within level p (omega (arith, h))) old)
         (low_both (16 * top) (right_code calls results inside result scope (level + 2) (helper_call e) e depth site) _
         (right_low c known scope within e j gives (level + 2) depth site (omega (arith, h)))
@@ -202,7 +202,7 @@ module _ (sizes : Sizes) (top : ℕ) (calls : Calls) (results : ℕ → Option I
               (tt, stmt_low (enter c) r otherwise scope known depth (site + sites inside s) exits (omega (arith, h))),
         )
     stmt_low _ _ (rule.while {c = c} {e = e} {s = s} test body) scope known depth site exits h =
-        let condition = condition_code scope (While_ e) in
+        let condition = condition_code scope (WithTerm e) in
         let turn = stmt_code calls results inside result scope s (depth + 1) site (body_exits (length condition + 1) exits) in (
           tt,
           (
@@ -210,18 +210,18 @@ module _ (sizes : Sizes) (top : ℕ) (calls : Calls) (results : ℕ → Option I
             (
               tt,
               low_both (16 * top) turn _ (stmt_low (turning c) s body scope known (depth + 1) site (body_exits (length condition + 1) exits) (omega (arith, h)))
-                  (low_both (16 * top) condition _ (condition_low scope (While_ e) (omega (arith, h))) (tt, tt)),
+                  (low_both (16 * top) condition _ (condition_low scope (WithTerm e) (omega (arith, h))) (tt, tt)),
             ),
           ),
         )
     stmt_low _ _ (rule.do_while {c = c} {e = e} {s = s} body test) scope known depth site exits h =
-        let condition = condition_code scope (While_ e) in
+        let condition = condition_code scope (WithTerm e) in
         let turn = stmt_code calls results inside result scope s (depth + 1) site (body_exits (length condition + 1) exits) in (
           tt,
           (
             tt,
             low_both (16 * top) turn _ (stmt_low (turning c) s body scope known (depth + 1) site (body_exits (length condition + 1) exits) (omega (arith, h)))
-                (low_both (16 * top) condition _ (condition_low scope (While_ e) (omega (arith, h))) (tt, tt)),
+                (low_both (16 * top) condition _ (condition_low scope (WithTerm e) (omega (arith, h))) (tt, tt)),
           ),
         )
     stmt_low _ _ (rule.for {c = c} {first = first} {third = third} {e = e} {s = s} begun test after body) scope known depth site exits h =

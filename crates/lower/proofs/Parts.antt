@@ -3,10 +3,10 @@ use Rattle.std.proofs.Common.{◌≡◌, ℕ, zero, suc, ℤ, pos, negsuc, ◌+�
 use Rattle.clnum.specs.Integer.{bits_of}
 use Rattle.clnum.specs.Integer as numbers
 use Rattle.clnum.specs.declared.int_type.IntType.{IntType}
-use Rattle.clmodel.specs.Next.{Run, finish, fail, ask, Variables, base_type, has_elements, is_private_array, with_elements, index_of, element_set, write_element, store_element, Helpers, assign, declared_type, held, known, look, load, store, combined, reach, fetch, infix_type, HelperCall, value_of, assigned, atomic_call, is_update, call, call_only, wait}
+use Rattle.clmodel.specs.Next.{Continuation, finish, fail, ask, Variables, base_type, has_elements, is_private_array, with_elements, index_of, element_set, write_element, store_element, Helpers, assign, declared_type, held, known, look, load, store, combined, reach, fetch, infix_type, HelperCall, value_of, assigned, atomic_call, is_update, call, call_only, wait}
 use Rattle.clmodel.specs.Next.Expressions.{Destination, Through}
 use Rattle.clmodel.specs.Next as next
-use Rattle.clmodel.specs.Tree.{Variable, Terms, NoTerm, ThenTerm, Place, Whole, Part, Behind}
+use Rattle.clmodel.specs.Tree.{Variable, Terms, NoTerm, ThenTerm, Target, TargetVariable, TargetElement, TargetDereference}
 use Rattle.clmodel.specs.declared.action.Action.TheVariants as action
 use Rattle.clmodel.specs.declared.action.Cause.TheVariants as cause
 use Rattle.clmodel.specs.declared.action.Fences.{Fences}
@@ -18,17 +18,17 @@ use Rattle.clmodel.specs.declared.setup.BuiltIn.{BuiltIn}
 use Rattle.clmodel.specs.declared.setup.BuiltIn.TheVariants as built_in_function
 use Rattle.clmodel.specs.declared.tree.VariableType.{VariableType}
 use Rattle.clmodel.specs.declared.tree.VariableType.TheVariants.{Integer}
-use Rattle.regcode.specs.Machine.{State, Given, reg, array_of, with_put, with_array, passed}
+use Rattle.regcode.specs.Machine.{State, ItemContext, reg, array_of, with_put, with_array, passed}
 use Rattle.regcode.specs.declared.instruction.Instruction.{Instruction}
 use Rattle.regcode.specs.declared.instruction.Instruction.TheVariants as instruction
 use Rattle.regcode.proofs.Agreement.{Alike, number_alike, Agree, steps, ends, hold_runs, load_runs, store_runs, update_runs, update_by_one_runs, barrier_runs}
 use Rattle.regcode.proofs.Registers.{reg_put, reg_kept}
 use Rattle.lower_expr.specs.Scope.{Scope, register_at, register_of, level_of, Sees, free_level}
-use Rattle.lower_expr.specs.Expressions.{kind_named, type_of_elements, private_load, private_store, count, place_code, place_register, register_for, registers_for, call_code, update_code, call_only_code}
-use Rattle.lower_expr.specs.Agreement.{HasAt, Reached, Hold, HoldsPart, HoldsPlace}
+use Rattle.lower_expr.specs.Expressions.{kind_named, type_of_elements, private_load, private_store, count, target_code, target_register, register_for, registers_for, call_code, update_code, call_only_code}
+use Rattle.lower_expr.specs.Agreement.{HasAt, Reached, Hold, HoldsPart, HoldsTarget}
 use Rattle.lower_expr.proofs.Places.{has_moved, reached_put, array_seen, elements_seen, type_seen}
-use Rattle.lower_code.specs.Code.{hold_code, place_type, fetch_code, put_code, wait_code}
-use Rattle.lower_expr.proofs.Expressions.{expr_runs, place_runs, private_load_run, call_runs}
+use Rattle.lower_code.specs.Code.{hold_code, type_of_target, fetch_code, put_code, wait_code}
+use Rattle.lower_expr.proofs.Expressions.{expr_runs, target_runs, private_load_run, call_runs}
 use Rattle.lower.proofs.Scopes.{Same, same_self, same_then, put_same, sees_same, slot_between, assigned_sees, unassigned_sees, level_from, stored_sees}
 use Rattle.lower.proofs.Stands.{Stands, put_stands, array_stands, passed_stands, stands_to, here_at}
 
@@ -77,7 +77,7 @@ set_some [] i n = refl
 set_some (element ∷ elements) zero n = refl
 set_some (element ∷ elements) (suc i) n = refl
 
-set_kept : (ticks : ℕ) (name : ℕ) (i : ℤ) (kind : IntType) (elements : List (Option ℕ)) (v : numbers.Integer) (f g : List (Option ℕ) → Run) → has_elements elements ≡ true
+set_kept : (ticks : ℕ) (name : ℕ) (i : ℤ) (kind : IntType) (elements : List (Option ℕ)) (v : numbers.Integer) (f g : List (Option ℕ) → Continuation) → has_elements elements ≡ true
     → ((new : List (Option ℕ)) → has_elements new ≡ true → Alike ticks (f new) (g new)) → Alike ticks (element_set name i kind elements v f) (element_set name i kind elements v g)
 set_kept ticks name (pos i) kind elements v f g some h = inside (nat_lt i (length elements))
   where
@@ -89,14 +89,14 @@ set_kept ticks name (pos i) kind elements v f g some h = inside (nat_lt i (lengt
     inside false = λ answers. refl
 set_kept ticks name (negsuc i) kind elements v f g some h = λ answers. refl
 
-write_kept : (ticks : ℕ) (name : ℕ) (kind : IntType) (elements : List (Option ℕ)) (i v : Operand) (f g : List (Option ℕ) → Run) → has_elements elements ≡ true
+write_kept : (ticks : ℕ) (name : ℕ) (kind : IntType) (elements : List (Option ℕ)) (i v : Operand) (f g : List (Option ℕ) → Continuation) → has_elements elements ≡ true
     → ((new : List (Option ℕ)) → has_elements new ≡ true → Alike ticks (f new) (g new)) → Alike ticks (write_element name kind elements i v f) (write_element name kind elements i v g)
 write_kept ticks name kind elements i v f g some h =
     number_alike ticks i _ _ (λ n. number_alike ticks v _ _ (λ m. set_kept ticks name (index_of n) kind elements m f g some h))
 
-module _ (given : Given) (code : List Instruction) (bound : ℕ) where
+module _ (given : ItemContext) (code : List Instruction) (bound : ℕ) where
   -- a store in a private array that has elements, which it has afterwards
-  kept_store_runs : (s : State) (run : List (Option ℕ) → Run) (array index value : ℕ) (element : IntType) (name : ℕ) (i v : Operand)
+  kept_store_runs : (s : State) (run : List (Option ℕ) → Continuation) (array index value : ℕ) (element : IntType) (name : ℕ) (i v : Operand)
       → slice_get code s.place ≡ Some (instruction.PrivateStore array index value element name) → reg s.registers index ≡ Some i → reg s.registers value ≡ Some v
       → has_elements (array_of s.registers array) ≡ true
       → ((elements : List (Option ℕ)) → has_elements elements ≡ true → Agree given code bound (with_array s array elements) (run elements))
@@ -106,7 +106,7 @@ module _ (given : Given) (code : List Instruction) (bound : ℕ) where
       (write_kept ticks name element (array_of s.registers array) i v _ run some (λ elements full. next.on_like _ (run elements) (omega arith) (agree elements full))))
 
   -- a variable is given a value
-  pub name_runs : (scope : Scope) (s : State) (ts : List ℕ) (place : ℕ) (now : State) (vs : Variables) (name level : ℕ) (from : VariableType) (v : Operand) (run : Variables → Run) → free_level scope ≤ level
+  pub name_runs : (scope : Scope) (s : State) (ts : List ℕ) (place : ℕ) (now : State) (vs : Variables) (name level : ℕ) (from : VariableType) (v : Operand) (run : Variables → Continuation) → free_level scope ≤ level
       → Stands scope.base s ts place now → Sees scope now.registers vs → HasAt code place (hold_code (register_of scope name) (register_at level from) (kind_named scope name))
       → reg now.registers (register_at level from) ≡ Some v
       → ((last : State) (after : Variables) → Stands scope.base s ts (place + length (hold_code (register_of scope name) (register_at level from) (kind_named scope name))) last → Sees scope last.registers after → Agree given code bound last (run after))
@@ -141,14 +141,14 @@ module _ (given : Given) (code : List Instruction) (bound : ℕ) where
           (assigned_sees scope now.registers vs name r v e same))
 
   -- the target is reached
-  pub reach_runs : (scope : Scope) (level : ℕ) (place : Place) (s : State) (vs : Variables) (after : Destination → Run) → free_level scope ≤ level → Sees scope s.registers vs
-      → HasAt code s.place (place_code scope level place)
-      → ((now : State) (to : Destination) → Reached level s (s.place + length (place_code scope level place)) now → HoldsPlace scope now.registers (place_register scope level place) place to → Agree given code bound now (after to))
+  pub reach_runs : (scope : Scope) (level : ℕ) (place : Target) (s : State) (vs : Variables) (after : Destination → Continuation) → free_level scope ≤ level → Sees scope s.registers vs
+      → HasAt code s.place (target_code scope level place)
+      → ((now : State) (to : Destination) → Reached level s (s.place + length (target_code scope level place)) now → HoldsTarget scope now.registers (target_register scope level place) place to → Agree given code bound now (after to))
       → Agree given code bound s (reach given.here place vs after)
-  reach_runs scope level place s vs after free same has go = place_runs given code bound scope level place s vs after free same has (λ to now r held. go now to r held)
+  reach_runs scope level place s vs after free same has go = target_runs given code bound scope level place s vs after free same has (λ to now r held. go now to r held)
 
   -- a load through a pointer at hand
-  behind_fetched : (level : ℕ) (kind : VariableType) (pointer : ℕ) (q : Pointer) (to : Destination) (s : State) (vs : Variables) (after : Operand → Run)
+  behind_fetched : (level : ℕ) (kind : VariableType) (pointer : ℕ) (q : Pointer) (to : Destination) (s : State) (vs : Variables) (after : Operand → Continuation)
       → to ≡ Through q → reg s.registers pointer ≡ Some (Pointed q) → slice_get code s.place ≡ Some (instruction.Load (register_at level kind) pointer)
       → ((now : State) (v : Operand) → Reached level s (s.place + 1) now → reg now.registers (register_at level kind) ≡ Some v → Agree given code bound now (after v))
       → Agree given code bound s (fetch to vs after)
@@ -158,14 +158,14 @@ module _ (given : Given) (code : List Instruction) (bound : ℕ) where
       (λ x. go (with_put s (register_at level kind) (Some x)) x (reached_put level kind s (Some x) (s.place + 1) refl) (reg_put s.registers (register_at level kind) (Some x))))
 
   -- the old value is fetched
-  pub fetch_runs : (scope : Scope) (level : ℕ) (place : Place) (pointer : ℕ) (to : Destination) (s : State) (vs : Variables) (after : Operand → Run) → free_level scope ≤ level → Sees scope s.registers vs
-      → HoldsPlace scope s.registers pointer place to → HasAt code s.place (fetch_code scope place pointer (register_at level (place_type scope place)))
-      → ((now : State) (v : Operand) → Reached level s (s.place + length (fetch_code scope place pointer (register_at level (place_type scope place)))) now → reg now.registers (register_at level (place_type scope place)) ≡ Some v → Agree given code bound now (after v))
+  pub fetch_runs : (scope : Scope) (level : ℕ) (place : Target) (pointer : ℕ) (to : Destination) (s : State) (vs : Variables) (after : Operand → Continuation) → free_level scope ≤ level → Sees scope s.registers vs
+      → HoldsTarget scope s.registers pointer place to → HasAt code s.place (fetch_code scope place pointer (register_at level (type_of_target scope place)))
+      → ((now : State) (v : Operand) → Reached level s (s.place + length (fetch_code scope place pointer (register_at level (type_of_target scope place)))) now → reg now.registers (register_at level (type_of_target scope place)) ≡ Some v → Agree given code bound now (after v))
       → Agree given code bound s (fetch to vs after)
-  fetch_runs scope level (Whole at name) pointer to s vs after free same is has go =
+  fetch_runs scope level (TargetVariable at name) pointer to s vs after free same is has go =
       subst (λ to. Agree given code bound s (fetch to vs after)) (sym is)
       (expr_runs given code bound scope level (Variable at name) s vs after free same has (λ v now r h. go now v r h))
-  fetch_runs scope level (Part at name index) pointer to s vs after free same h has go = part (is_private_array scope.variables name) refl h has go
+  fetch_runs scope level (TargetElement at name index) pointer to s vs after free same h has go = part (is_private_array scope.variables name) refl h has go
     where
       kind : VariableType
       kind = Integer (type_of_elements scope name)
@@ -182,11 +182,11 @@ module _ (given : Given) (code : List Instruction) (bound : ℕ) where
           (private_load_run given code bound scope name target pointer s vs h.0 after is same has.0 h.2
           (λ x. go (with_put s target (Some x)) x (reached_put level kind s (Some x) (s.place + 1) refl) (reg_put s.registers target (Some x))))
       part false is h has go = behind_fetched level kind pointer h.0 to s vs after h.1 h.2 has.0 go
-  fetch_runs scope level (Behind at term) pointer to s vs after free same h has go =
-      behind_fetched level (place_type scope (Behind at term)) pointer h.0 to s vs after h.1 h.2 has.0 go
+  fetch_runs scope level (TargetDereference at term) pointer to s vs after free same h has go =
+      behind_fetched level (type_of_target scope (TargetDereference at term)) pointer h.0 to s vs after h.1 h.2 has.0 go
 
   -- a store through a pointer at hand
-  behind_put : (level : ℕ) (s : State) (ts : List ℕ) (place : ℕ) (now : State) (pointer from : ℕ) (q : Pointer) (to : Destination) (v : Operand) (vs : Variables) (run : Variables → Run)
+  behind_put : (level : ℕ) (s : State) (ts : List ℕ) (place : ℕ) (now : State) (pointer from : ℕ) (q : Pointer) (to : Destination) (v : Operand) (vs : Variables) (run : Variables → Continuation)
       → Stands level s ts place now → to ≡ Through q → reg now.registers pointer ≡ Some (Pointed q) → reg now.registers from ≡ Some v
       → slice_get code place ≡ Some (instruction.Store pointer from)
       → (Stands level s ts (place + 1) (passed now) → Agree given code bound (passed now) (run vs))
@@ -197,7 +197,7 @@ module _ (given : Given) (code : List Instruction) (bound : ℕ) where
       (go (passed_stands level s ts place now stands)))
 
   -- an element of a private array is set at an index at hand
-  element_put : (scope : Scope) (s : State) (ts : List ℕ) (place : ℕ) (now : State) (name index from : ℕ) (i v : Operand) (vs : Variables) (run : Variables → Run)
+  element_put : (scope : Scope) (s : State) (ts : List ℕ) (place : ℕ) (now : State) (name index from : ℕ) (i v : Operand) (vs : Variables) (run : Variables → Continuation)
       → Stands scope.base s ts place now → Sees scope now.registers vs → is_private_array scope.variables name ≡ true → reg now.registers index ≡ Some i → reg now.registers from ≡ Some v
       → slice_get code place ≡ Some (private_store scope name index from)
       → ((last : State) (after : Variables) → Stands scope.base s ts (place + 1) last → Sees scope last.registers after → Agree given code bound last (run after))
@@ -207,7 +207,7 @@ module _ (given : Given) (code : List Instruction) (bound : ℕ) where
       let old = array_of now.registers level in
       let old_is = elements_seen scope now.registers name vs is same in
       let some : has_elements old ≡ true = ap has_elements old_is ∙ sym (array_seen scope now.registers name vs same) ∙ is in
-      let follow : List (Option ℕ) → Run = λ elements. run (with_elements vs name elements) in
+      let follow : List (Option ℕ) → Continuation = λ elements. run (with_elements vs name elements) in
       subst (λ xs. Agree given code bound now (write_element name (base_type (declared_type vs name)) xs i v follow)) old_is
       (subst (λ k. Agree given code bound now (write_element name k old i v follow)) (ap base_type (type_seen scope now.registers vs (Variable 0 name) same))
       (kept_store_runs now follow level index from (type_of_elements scope name) name i v (here_at code place _ scope.base s ts now stands here) held value some
@@ -217,14 +217,14 @@ module _ (given : Given) (code : List Instruction) (bound : ℕ) where
       (stored_sees scope now.registers vs name elements is full same))))
 
   -- a value is put there
-  pub put_runs : (scope : Scope) (place : Place) (s : State) (ts : List ℕ) (at : ℕ) (now : State) (vs : Variables) (pointer level : ℕ) (from : VariableType) (to : Destination) (v : Operand) (run : Variables → Run) → free_level scope ≤ level
-      → Stands scope.base s ts at now → Sees scope now.registers vs → HoldsPlace scope now.registers pointer place to → reg now.registers (register_at level from) ≡ Some v
+  pub put_runs : (scope : Scope) (place : Target) (s : State) (ts : List ℕ) (at : ℕ) (now : State) (vs : Variables) (pointer level : ℕ) (from : VariableType) (to : Destination) (v : Operand) (run : Variables → Continuation) → free_level scope ≤ level
+      → Stands scope.base s ts at now → Sees scope now.registers vs → HoldsTarget scope now.registers pointer place to → reg now.registers (register_at level from) ≡ Some v
       → HasAt code at (put_code scope place pointer (register_at level from))
       → ((last : State) (after : Variables) → Stands scope.base s ts (at + length (put_code scope place pointer (register_at level from))) last → Sees scope last.registers after → Agree given code bound last (run after))
       → Agree given code bound now (next.put to v vs run)
-  put_runs scope (Whole at' name) s ts at now vs pointer level from to v run free stands same is value has go =
+  put_runs scope (TargetVariable at' name) s ts at now vs pointer level from to v run free stands same is value has go =
       subst (λ to. Agree given code bound now (next.put to v vs run)) (sym is) (name_runs scope s ts at now vs name level from v run free stands same has value go)
-  put_runs scope (Part at' name index) s ts at now vs pointer level from to v run free stands same h value has go = part (is_private_array scope.variables name) refl h has go
+  put_runs scope (TargetElement at' name index) s ts at now vs pointer level from to v run free stands same h value has go = part (is_private_array scope.variables name) refl h has go
     where
       source : ℕ
       source = register_at level from
@@ -237,11 +237,11 @@ module _ (given : Given) (code : List Instruction) (bound : ℕ) where
           subst (λ to. Agree given code bound now (next.put to v vs run)) (sym h.1)
           (element_put scope s ts at now name pointer source h.0 v vs run stands same is h.2 value has.0 go)
       part false is h has go = behind_put scope.base s ts at now pointer source h.0 to v vs run stands h.1 h.2 value has.0 (λ last. go (passed now) vs last same)
-  put_runs scope (Behind at' term) s ts at now vs pointer level from to v run free stands same h value has go =
+  put_runs scope (TargetDereference at' term) s ts at now vs pointer level from to v run free stands same h value has go =
       behind_put scope.base s ts at now pointer (register_at level from) h.0 to v vs run stands h.1 h.2 value has.0 (λ last. go (passed now) vs last same)
 
   -- a barrier
-  pub wait_runs : (named : Option Fences) (level : ℕ) (s : State) (ts : List ℕ) (place : ℕ) (now : State) (site : ℕ) (run : Run)
+  pub wait_runs : (named : Option Fences) (level : ℕ) (s : State) (ts : List ℕ) (place : ℕ) (now : State) (site : ℕ) (run : Continuation)
       → Stands level s ts place now → HasAt code place (wait_code named site (length ts))
       → ((last : State) → Stands level s ts (place + length (wait_code named site (length ts))) last → last.registers ≡ now.registers → Agree given code bound last run)
       → Agree given code bound now (wait named site ts run)
@@ -252,7 +252,7 @@ module _ (given : Given) (code : List Instruction) (bound : ℕ) where
       (go (passed now) (passed_stands level s ts place now stands) refl))
 
   -- a built-in function whose value is dropped
-  value_only : (function : Option BuiltIn) (level higher : ℕ) (kind : VariableType) (numbers : List ℕ) (values : List Operand) (s : State) (ts : List ℕ) (place : ℕ) (now : State) (run : Run) → level ≤ higher
+  value_only : (function : Option BuiltIn) (level higher : ℕ) (kind : VariableType) (numbers : List ℕ) (values : List Operand) (s : State) (ts : List ℕ) (place : ℕ) (now : State) (run : Continuation) → level ≤ higher
       → Stands level s ts place now → Hold now.registers numbers values → HasAt code place (call_code function (register_at higher kind) numbers)
       → ((last : State) → Stands level s ts (place + length (call_code function (register_at higher kind) numbers)) last → Same higher now.registers last.registers → Agree given code bound last run)
       → Agree given code bound now (call given.here function values (λ _. run))
@@ -264,7 +264,7 @@ module _ (given : Given) (code : List Instruction) (bound : ℕ) where
       (put_same higher kind higher now.registers (Some v) (omega arith)))
 
   -- an atomic update
-  update_only : (function : AtomicFunction) (level higher : ℕ) (numbers : List ℕ) (values : List Operand) (s : State) (ts : List ℕ) (place : ℕ) (now : State) (run : Run)
+  update_only : (function : AtomicFunction) (level higher : ℕ) (numbers : List ℕ) (values : List Operand) (s : State) (ts : List ℕ) (place : ℕ) (now : State) (run : Continuation)
       → Stands level s ts place now → Hold now.registers numbers values → HasAt code place (update_code function numbers)
       → ((last : State) → Stands level s ts (place + length (update_code function numbers)) last → Same higher now.registers last.registers → Agree given code bound last run)
       → Agree given code bound now (atomic_call function values run)
@@ -284,7 +284,7 @@ module _ (given : Given) (code : List Instruction) (bound : ℕ) where
   update_only function level higher (i ∷ j ∷ k ∷ numbers) (v ∷ w ∷ x ∷ values) s ts place now run stands held has go = ends given code bound now (here_at code place _ level s ts now stands has.0)
 
   -- an atomic function is an update or gives its value
-  atomic_only : (b : Bool) (function : AtomicFunction) (level higher : ℕ) (kind : VariableType) (numbers : List ℕ) (values : List Operand) (s : State) (ts : List ℕ) (place : ℕ) (now : State) (run : Run) → level ≤ higher
+  atomic_only : (b : Bool) (function : AtomicFunction) (level higher : ℕ) (kind : VariableType) (numbers : List ℕ) (values : List Operand) (s : State) (ts : List ℕ) (place : ℕ) (now : State) (run : Continuation) → level ≤ higher
       → Stands level s ts place now → Hold now.registers numbers values
       → HasAt code place (if b then update_code function numbers else call_code (Some (built_in_function.Atomic function)) (register_at higher kind) numbers)
       → ((last : State) → Stands level s ts (place + length (if b then update_code function numbers else call_code (Some (built_in_function.Atomic function)) (register_at higher kind) numbers)) last → Same higher now.registers last.registers → Agree given code bound last run)
@@ -295,7 +295,7 @@ module _ (given : Given) (code : List Instruction) (bound : ℕ) where
       value_only (Some (built_in_function.Atomic function)) level higher kind numbers values s ts place now run less stands held has go
 
   -- a built-in function that is a whole statement
-  pub only_runs : (function : BuiltIn) (level higher : ℕ) (kind : VariableType) (numbers : List ℕ) (values : List Operand) (s : State) (ts : List ℕ) (place : ℕ) (now : State) (run : Run) → level ≤ higher
+  pub only_runs : (function : BuiltIn) (level higher : ℕ) (kind : VariableType) (numbers : List ℕ) (values : List Operand) (s : State) (ts : List ℕ) (place : ℕ) (now : State) (run : Continuation) → level ≤ higher
       → Stands level s ts place now → Hold now.registers numbers values → HasAt code place (call_only_code (Some function) (register_at higher kind) numbers)
       → ((last : State) → Stands level s ts (place + length (call_only_code (Some function) (register_at higher kind) numbers)) last → Same higher now.registers last.registers → Agree given code bound last run)
       → Agree given code bound now (call_only given.here (Some function) values run)

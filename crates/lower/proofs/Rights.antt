@@ -4,67 +4,67 @@ use Rattle.clnum.specs.declared.int_type.IntType.{IntType}
 use Rattle.clnum.specs.declared.int_type.IntType.TheVariants.{Int}
 use Rattle.clnum.specs.declared.operators.BinaryOperator.{BinaryOperator}
 use Rattle.clmodel.specs.Barrier.{fences}
-use Rattle.clmodel.specs.Next.{Run, finish, Variables, Destination, is_private_array, Helpers, combined, reach, fetch, one, infix_type, argument_type, call_type, HelperCall, value_of, assigned, call_only, call_statement}
+use Rattle.clmodel.specs.Next.{Continuation, finish, Variables, Destination, is_private_array, Helpers, combined, reach, fetch, one, infix_type, argument_type, call_type, HelperCall, value_of, assigned, call_only, call_statement}
 use Rattle.clmodel.specs.Next as next
-use Rattle.clmodel.specs.Tree.{Term, Terms, Place, Whole, Part, Behind}
+use Rattle.clmodel.specs.Tree.{Term, Terms, Target, TargetVariable, TargetElement, TargetDereference}
 use Rattle.clmodel.specs.declared.operand.Operand.{Operand}
 use Rattle.clmodel.specs.declared.setup.BuiltIn.{BuiltIn}
 use Rattle.clmodel.specs.declared.tree.InfixOperator.TheVariants.{Arithmetic}
 use Rattle.clmodel.specs.declared.tree.VariableType.{VariableType}
 use Rattle.clmodel.specs.declared.tree.VariableType.TheVariants.{Integer}
-use Rattle.regcode.specs.Machine.{State, Given, Registers, reg, with_put}
+use Rattle.regcode.specs.Machine.{State, ItemContext, Registers, reg, with_put}
 use Rattle.regcode.specs.declared.instruction.Instruction.{Instruction}
 use Rattle.regcode.specs.declared.instruction.Instruction.TheVariants as instruction
 use Rattle.regcode.proofs.Agreement.{Agree, ends, constant_runs, binary_runs}
 use Rattle.regcode.proofs.Registers.{reg_put}
 use Rattle.lower_expr.specs.Scope.{Scope, register_at, Sees, free_level}
-use Rattle.lower_expr.specs.Expressions.{kind_named, kind_of, terms_code, place_code, place_register, register_for, registers_for, call_only_code}
-use Rattle.lower_expr.specs.Agreement.{HasAt, Hold, HoldsPart, HoldsPlace}
+use Rattle.lower_expr.specs.Expressions.{kind_named, kind_of, terms_code, target_code, target_register, register_for, registers_for, call_only_code}
+use Rattle.lower_expr.specs.Agreement.{HasAt, Hold, HoldsPart, HoldsTarget}
 use Rattle.lower_expr.proofs.Places.{has_left, has_right, has_moved, register_below, seen_kept}
 use Rattle.lower_expr.proofs.Expressions.{expr_runs, terms_run}
-use Rattle.lower_code.specs.Code.{Calls, result_type, needed_code, place_type, fetch_code, put_code, combine_code, right_code, right_type, assign_code, compound_code, step_code, call_only_statement}
+use Rattle.lower_code.specs.Code.{Calls, result_type, needed_code, type_of_target, fetch_code, put_code, combine_code, right_code, right_type, assign_code, compound_code, step_code, call_only_statement}
 use Rattle.lower.proofs.Scopes.{Same, reached_same, put_same, sees_same}
 use Rattle.lower.proofs.Stands.{Stands, Returned, stands_then, reached_stands, put_stands, stands_to, stands_here, here_at, seen_stands}
 use Rattle.lower.proofs.Parts.{Placed, arguments_placed, reach_runs, fetch_runs, put_runs, wait_runs, only_runs}
 
 -- what the code of calls owes: it acts as the helpers do, and leaves their values
-pub record CallsRun (given : Given) (code : List Instruction) (most : ℕ) (calls : Calls) (results : ℕ → Option IntType) (helpers : Helpers) : Type 0 where
-  pub runs : (bound : ℕ) → bound ≤ most → (name : ℕ) (numbers : List ℕ) (values : List Operand) (level site : ℕ) (ts : List ℕ) (now : State) (after : Option Operand → Run)
+pub record CallsRun (given : ItemContext) (code : List Instruction) (most : ℕ) (calls : Calls) (results : ℕ → Option IntType) (helpers : Helpers) : Type 0 where
+  pub runs : (bound : ℕ) → bound ≤ most → (name : ℕ) (numbers : List ℕ) (values : List Operand) (level site : ℕ) (ts : List ℕ) (now : State) (after : Option Operand → Continuation)
       → take (length ts) now.counters ≡ ts → HasAt code now.place (calls name numbers level (length ts) site) → Hold now.registers numbers values → Placed level numbers
       → ((last : State) (v : Option Operand) → Stands level now ts (now.place + length (calls name numbers level (length ts) site)) last → Returned (results name) level last.registers v → Agree given code bound last (after v))
       → Agree given code bound now (helpers name values site ts after)
 
 -- what a destination goes by is still there where lower registers are kept
-held_kept : (scope : Scope) (registers now : Registers) (register : ℕ) (place : Place) (to : Destination) → reg now register ≡ reg registers register
-    → HoldsPlace scope registers register place to → HoldsPlace scope now register place to
-held_kept scope registers now register (Whole at name) to e h = h
-held_kept scope registers now register (Part at name index) to e h = part (is_private_array scope.variables name) h
+held_kept : (scope : Scope) (registers now : Registers) (register : ℕ) (place : Target) (to : Destination) → reg now register ≡ reg registers register
+    → HoldsTarget scope registers register place to → HoldsTarget scope now register place to
+held_kept scope registers now register (TargetVariable at name) to e h = h
+held_kept scope registers now register (TargetElement at name index) to e h = part (is_private_array scope.variables name) h
   where
     part : (b : Bool) → HoldsPart b registers register name to → HoldsPart b now register name to
     part true h = (h.0, h.1, e ∙ h.2)
     part false h = (h.0, h.1, e ∙ h.2)
-held_kept scope registers now register (Behind at term) to e h = (h.0, h.1, e ∙ h.2)
+held_kept scope registers now register (TargetDereference at term) to e h = (h.0, h.1, e ∙ h.2)
 
 -- where that is
 either_below : (b : Bool) (m n k : ℕ) → m < k → n < k → (if b then m else n) < k
 either_below true m n k h g = h
 either_below false m n k h g = g
 
-place_below : (scope : Scope) (level higher : ℕ) (place : Place) → level < higher → place_register scope level place < 16 * higher
-place_below scope level higher (Whole at name) less = omega (arith, less)
-place_below scope level higher (Part at name index) less =
+target_below : (scope : Scope) (level higher : ℕ) (place : Target) → level < higher → target_register scope level place < 16 * higher
+target_below scope level higher (TargetVariable at name) less = omega (arith, less)
+target_below scope level higher (TargetElement at name index) less =
     either_below (is_private_array scope.variables name) (register_for scope level index) (register_at level (kind_named scope name)) (16 * higher)
     (register_below level (kind_of scope index) higher less) (register_below level (kind_named scope name) higher less)
-place_below scope level higher (Behind at term) less = register_below level (kind_of scope term) higher less
+target_below scope level higher (TargetDereference at term) less = register_below level (kind_of scope term) higher less
 
-pub pointer_kept : (scope : Scope) (level higher : ℕ) (place : Place) (to : Destination) (registers now : Registers) → level < higher → Same higher registers now
-    → HoldsPlace scope registers (place_register scope level place) place to → HoldsPlace scope now (place_register scope level place) place to
+pub pointer_kept : (scope : Scope) (level higher : ℕ) (place : Target) (to : Destination) (registers now : Registers) → level < higher → Same higher registers now
+    → HoldsTarget scope registers (target_register scope level place) place to → HoldsTarget scope now (target_register scope level place) place to
 pointer_kept scope level higher place to registers now less same h =
-    held_kept scope registers now (place_register scope level place) place to (same.registers _ (place_below scope level higher place less)) h
+    held_kept scope registers now (target_register scope level place) place to (same.registers _ (target_below scope level higher place less)) h
 
-module _ (given : Given) (code : List Instruction) (most : ℕ) (calls : Calls) (results : ℕ → Option IntType) (helpers : Helpers) (run_calls : CallsRun given code most calls results helpers) (inside : ℕ → ℕ) (result : Option IntType) (bound : ℕ) (below : bound ≤ most) where
+module _ (given : ItemContext) (code : List Instruction) (most : ℕ) (calls : Calls) (results : ℕ → Option IntType) (helpers : Helpers) (run_calls : CallsRun given code most calls results helpers) (inside : ℕ → ℕ) (result : Option IntType) (bound : ℕ) (below : bound ≤ most) where
   -- a call whose value is needed
-  needed_runs : (o : Option IntType) (level : ℕ) (s : State) (ts : List ℕ) (place : ℕ) (now : State) (v : Option Operand) (after : Operand → Run)
+  needed_runs : (o : Option IntType) (level : ℕ) (s : State) (ts : List ℕ) (place : ℕ) (now : State) (v : Option Operand) (after : Operand → Continuation)
       → Stands level s ts place now → Returned o level now.registers v → HasAt code place (needed_code o)
       → ((last : State) (w : Operand) → Stands level s ts (place + length (needed_code o)) last → reg last.registers (register_at level (result_type o)) ≡ Some w → Agree given code bound last (after w))
       → Agree given code bound now (value_of v after)
@@ -74,7 +74,7 @@ module _ (given : Given) (code : List Instruction) (most : ℕ) (calls : Calls) 
       subst (λ v. Agree given code bound now (value_of v after)) (sym returned.1) (go now returned.0 (stands_to level s ts place now (place + 0) (omega arith) stands) returned.2)
 
   -- the right side
-  pub right_runs : (scope : Scope) (level : ℕ) (c : Option HelperCall) (value : Term) (site : ℕ) (ts : List ℕ) (now : State) (vs : Variables) (after : Operand → Run) → free_level scope ≤ level
+  pub right_runs : (scope : Scope) (level : ℕ) (c : Option HelperCall) (value : Term) (site : ℕ) (ts : List ℕ) (now : State) (vs : Variables) (after : Operand → Continuation) → free_level scope ≤ level
       → Sees scope now.registers vs → take (length ts) now.counters ≡ ts → HasAt code now.place (right_code calls results inside result scope level c value (length ts) site)
       → ((last : State) (v : Operand) → Stands level now ts (now.place + length (right_code calls results inside result scope level c value (length ts) site)) last
       → reg last.registers (register_at level (right_type calls results inside result scope c value)) ≡ Some v → Agree given code bound last (after v))
@@ -101,21 +101,21 @@ module _ (given : Given) (code : List Instruction) (most : ℕ) (calls : Calls) 
       go final w (stands_to level now ts _ final _ (let a = r.at in omega (arith, a, lengths, lengths')) final_stands) is)))
 
   -- the operator of a compound assignment
-  pub combine_runs : (scope : Scope) (place : Place) (operator : BinaryOperator) (kind : VariableType) (s : State) (ts : List ℕ) (at : ℕ) (now : State) (vs : Variables) (to : Destination) (old v : Operand) (run : Variables → Run)
-      → Stands scope.base s ts at now → Sees scope now.registers vs → HoldsPlace scope now.registers (place_register scope (free_level scope) place) place to
-      → reg now.registers (register_at (free_level scope + 1) (place_type scope place)) ≡ Some old → reg now.registers (register_at (free_level scope + 2) kind) ≡ Some v
-      → HasAt code at (combine_code scope place (free_level scope) operator kind (register_at (free_level scope + 1) (place_type scope place)) (register_at (free_level scope + 2) kind))
-      → ((last : State) (after : Variables) → Stands scope.base s ts (at + length (combine_code scope place (free_level scope) operator kind (register_at (free_level scope + 1) (place_type scope place)) (register_at (free_level scope + 2) kind))) last → Sees scope last.registers after → Agree given code bound last (run after))
+  pub combine_runs : (scope : Scope) (place : Target) (operator : BinaryOperator) (kind : VariableType) (s : State) (ts : List ℕ) (at : ℕ) (now : State) (vs : Variables) (to : Destination) (old v : Operand) (run : Variables → Continuation)
+      → Stands scope.base s ts at now → Sees scope now.registers vs → HoldsTarget scope now.registers (target_register scope (free_level scope) place) place to
+      → reg now.registers (register_at (free_level scope + 1) (type_of_target scope place)) ≡ Some old → reg now.registers (register_at (free_level scope + 2) kind) ≡ Some v
+      → HasAt code at (combine_code scope place (free_level scope) operator kind (register_at (free_level scope + 1) (type_of_target scope place)) (register_at (free_level scope + 2) kind))
+      → ((last : State) (after : Variables) → Stands scope.base s ts (at + length (combine_code scope place (free_level scope) operator kind (register_at (free_level scope + 1) (type_of_target scope place)) (register_at (free_level scope + 2) kind))) last → Sees scope last.registers after → Agree given code bound last (run after))
       → Agree given code bound now (combined operator old v (λ new. next.put to new vs run))
   combine_runs scope place operator kind s ts at now vs to old v run stands same held is value has go =
       let level = free_level scope in
-      let type = infix_type (Arithmetic operator) (place_type scope place) kind in
+      let type = infix_type (Arithmetic operator) (type_of_target scope place) kind in
       let target = register_at (level + 1) type in
-      binary_runs given code bound now (λ new. next.put to new vs run) target operator (register_at (level + 1) (place_type scope place)) (register_at (level + 2) kind) old v (here_at code at _ scope.base s ts now stands has.0) is value
+      binary_runs given code bound now (λ new. next.put to new vs run) target operator (register_at (level + 1) (type_of_target scope place)) (register_at (level + 2) kind) old v (here_at code at _ scope.base s ts now stands has.0) is value
       (λ new.
       let last = with_put now target (Some new) in
       let kept = put_same (level + 1) type (level + 1) now.registers (Some new) (omega arith) in
-      put_runs given code bound scope place s ts (at + 1) last vs (place_register scope level place) (level + 1) type to new run (omega arith)
+      put_runs given code bound scope place s ts (at + 1) last vs (target_register scope level place) (level + 1) type to new run (omega arith)
       (put_stands scope.base (level + 1) type s ts at now (Some new) (omega arith) stands)
       (sees_same scope now.registers last.registers vs (put_same (level + 1) type level now.registers (Some new) (omega arith)) same)
       (pointer_kept scope level (level + 1) place to now.registers last.registers (omega arith) kept held)
@@ -123,16 +123,16 @@ module _ (given : Given) (code : List Instruction) (most : ℕ) (calls : Calls) 
       (λ final after at_end sees. go final after (stands_to scope.base s ts _ final _ (omega arith) at_end) sees))
 
   -- an assignment
-  pub assign_runs : (scope : Scope) (place : Place) (c : Option HelperCall) (value : Term) (site : ℕ) (ts : List ℕ) (s : State) (at : ℕ) (now : State) (vs : Variables) (run : Variables → Run)
+  pub assign_runs : (scope : Scope) (place : Target) (c : Option HelperCall) (value : Term) (site : ℕ) (ts : List ℕ) (s : State) (at : ℕ) (now : State) (vs : Variables) (run : Variables → Continuation)
       → Stands scope.base s ts at now → Sees scope now.registers vs → HasAt code at (assign_code calls results inside result scope (free_level scope) place c value (length ts) site)
       → ((last : State) (after : Variables) → Stands scope.base s ts (at + length (assign_code calls results inside result scope (free_level scope) place c value (length ts) site)) last → Sees scope last.registers after → Agree given code bound last (run after))
       → Agree given code bound now (reach given.here place vs (λ to. assigned most given.here helpers inside c value site ts vs (λ v. next.put to v vs run)))
   assign_runs scope place c value site ts s at now vs run stands same has go =
       let level = free_level scope in
-      let first = place_code scope level place in
+      let first = target_code scope level place in
       let second = right_code calls results inside result scope (level + 1) c value (length ts) site in
       let kind = right_type calls results inside result scope c value in
-      let third = put_code scope place (place_register scope level place) (register_at (level + 1) kind) in
+      let third = put_code scope place (target_register scope level place) (register_at (level + 1) kind) in
       let lengths = length-append first (second ++ third) in
       let lengths' = length-append second third in
       let here = has_moved code (first ++ (second ++ third)) at now.place (sym stands.at) has in
@@ -143,7 +143,7 @@ module _ (given : Given) (code : List Instruction) (most : ℕ) (calls : Calls) 
       let sees = seen_kept scope level now (now.place + length first) middle vs (omega arith) r same in
       right_runs scope (level + 1) c value site ts middle vs (λ v. next.put to v vs run) (omega arith) sees reached.turns (has_left code second third middle.place rest)
       (λ last v arrived is.
-      put_runs given code bound scope place s ts (middle.place + length second) last vs (place_register scope level place) (level + 1) kind to v run (omega arith)
+      put_runs given code bound scope place s ts (middle.place + length second) last vs (target_register scope level place) (level + 1) kind to v run (omega arith)
       (stands_then scope.base (level + 1) s ts (now.place + length first) middle (middle.place + length second) last (omega arith) reached arrived)
       (seen_stands scope (level + 1) middle ts (middle.place + length second) last vs (omega arith) arrived sees)
       (pointer_kept scope level (level + 1) place to middle.registers last.registers (omega arith) arrived.kept held)
@@ -152,15 +152,15 @@ module _ (given : Given) (code : List Instruction) (most : ℕ) (calls : Calls) 
       go final after (stands_to scope.base s ts _ final _ (let a = r.at in let b = stands.at in omega (arith, a, b, lengths, lengths')) at_end) final_sees)))
 
   -- a compound assignment
-  pub compound_runs : (scope : Scope) (place : Place) (operator : BinaryOperator) (c : Option HelperCall) (value : Term) (site : ℕ) (ts : List ℕ) (s : State) (at : ℕ) (now : State) (vs : Variables) (run : Variables → Run)
+  pub compound_runs : (scope : Scope) (place : Target) (operator : BinaryOperator) (c : Option HelperCall) (value : Term) (site : ℕ) (ts : List ℕ) (s : State) (at : ℕ) (now : State) (vs : Variables) (run : Variables → Continuation)
       → Stands scope.base s ts at now → Sees scope now.registers vs → HasAt code at (compound_code calls results inside result scope (free_level scope) place operator c value (length ts) site)
       → ((last : State) (after : Variables) → Stands scope.base s ts (at + length (compound_code calls results inside result scope (free_level scope) place operator c value (length ts) site)) last → Sees scope last.registers after → Agree given code bound last (run after))
       → Agree given code bound now (reach given.here place vs (λ to. fetch to vs (λ old. assigned most given.here helpers inside c value site ts vs (λ v. combined operator old v (λ new. next.put to new vs run)))))
   compound_runs scope place operator c value site ts s at now vs run stands same has go =
       let level = free_level scope in
-      let pointer = place_register scope level place in
-      let target = register_at (level + 1) (place_type scope place) in
-      let first = place_code scope level place in
+      let pointer = target_register scope level place in
+      let target = register_at (level + 1) (type_of_target scope place) in
+      let first = target_code scope level place in
       let second = fetch_code scope place pointer target in
       let third = right_code calls results inside result scope (level + 2) c value (length ts) site in
       let kind = right_type calls results inside result scope c value in
@@ -186,21 +186,21 @@ module _ (given : Given) (code : List Instruction) (most : ℕ) (calls : Calls) 
       (seen_stands scope (level + 2) later ts (later.place + length third) last vs (omega arith) arrived sees')
       (pointer_kept scope level (level + 2) place to later.registers last.registers (omega arith) arrived.kept
       (pointer_kept scope level (level + 1) place to middle.registers later.registers (omega arith) (reached_same (level + 1) middle (middle.place + length second) later q) held))
-      (arrived.kept.registers target (register_below (level + 1) (place_type scope place) (level + 2) (omega arith)) ∙ old_is)
+      (arrived.kept.registers target (register_below (level + 1) (type_of_target scope place) (level + 2) (omega arith)) ∙ old_is)
       is (has_right code third fourth later.place (later.place + length third) refl rest')
       (λ final after at_end final_sees.
       go final after (stands_to scope.base s ts _ final _ (let a = r.at in let b = stands.at in let d = q.at in omega (arith, a, b, d, lengths, lengths', lengths'')) at_end) final_sees))))
 
   -- `++` and `--`
-  pub step_runs : (scope : Scope) (place : Place) (operator : BinaryOperator) (ts : List ℕ) (s : State) (at : ℕ) (now : State) (vs : Variables) (run : Variables → Run)
+  pub step_runs : (scope : Scope) (place : Target) (operator : BinaryOperator) (ts : List ℕ) (s : State) (at : ℕ) (now : State) (vs : Variables) (run : Variables → Continuation)
       → Stands scope.base s ts at now → Sees scope now.registers vs → HasAt code at (step_code calls results inside result scope (free_level scope) place operator)
       → ((last : State) (after : Variables) → Stands scope.base s ts (at + length (step_code calls results inside result scope (free_level scope) place operator)) last → Sees scope last.registers after → Agree given code bound last (run after))
       → Agree given code bound now (reach given.here place vs (λ to. fetch to vs (λ old. combined operator old one (λ new. next.put to new vs run))))
   step_runs scope place operator ts s at now vs run stands same has go =
       let level = free_level scope in
-      let pointer = place_register scope level place in
-      let target = register_at (level + 1) (place_type scope place) in
-      let first = place_code scope level place in
+      let pointer = target_register scope level place in
+      let target = register_at (level + 1) (type_of_target scope place) in
+      let first = target_code scope level place in
       let second = fetch_code scope place pointer target in
       let number = register_at (level + 2) (Integer Int) in
       let fourth = combine_code scope place level operator (Integer Int) target number in
@@ -226,13 +226,13 @@ module _ (given : Given) (code : List Instruction) (most : ℕ) (calls : Calls) 
       (sees_same scope later.registers last.registers vs (put_same (level + 2) (Integer Int) level later.registers (Some one) (omega arith)) sees')
       (pointer_kept scope level (level + 2) place to later.registers last.registers (omega arith) kept
       (pointer_kept scope level (level + 1) place to middle.registers later.registers (omega arith) (reached_same (level + 1) middle (middle.place + length second) later q) held))
-      (kept.registers target (register_below (level + 1) (place_type scope place) (level + 2) (omega arith)) ∙ old_is)
+      (kept.registers target (register_below (level + 1) (type_of_target scope place) (level + 2) (omega arith)) ∙ old_is)
       (reg_put later.registers number (Some one)) (has_moved code fourth (later.place + 1) (middle.place + length second + 1) (ap (λ n. n + 1) q.at) rest'.1)
       (λ final after at_end final_sees.
       go final after (stands_to scope.base s ts _ final _ (let a = r.at in let b = stands.at in let d = q.at in omega (arith, a, b, d, lengths, lengths')) at_end) final_sees))))
 
   -- a call that is a whole statement
-  pub only_call_runs : (scope : Scope) (is_barrier : Bool) (function : Option BuiltIn) (name : ℕ) (arguments : Terms) (site : ℕ) (ts : List ℕ) (s : State) (at : ℕ) (now : State) (vs : Variables) (run : Run)
+  pub only_call_runs : (scope : Scope) (is_barrier : Bool) (function : Option BuiltIn) (name : ℕ) (arguments : Terms) (site : ℕ) (ts : List ℕ) (s : State) (at : ℕ) (now : State) (vs : Variables) (run : Continuation)
       → Stands scope.base s ts at now → Sees scope now.registers vs → HasAt code at (call_only_statement calls results inside result scope is_barrier function name arguments (length ts) site)
       → ((last : State) → Stands scope.base s ts (at + length (call_only_statement calls results inside result scope is_barrier function name arguments (length ts) site)) last → Sees scope last.registers vs → Agree given code bound last run)
       → Agree given code bound now (call_statement most given.here helpers inside is_barrier function name arguments site ts vs run)

@@ -14,18 +14,18 @@ use Rattle.lower_expr.specs.Scope.{Scope}
 use Rattle.lower_code.specs.Code.{Exits, past, body_exits, stmt_code, stmts_code, part_code, call_code, result_in, condition_code, while_code, no_value_code, parameter_variables, scope_after_part}
 use Rattle.lower_code.specs.Emission.{functions_of, inside, body_of, exits_of, statement_code, maybe_code}
 use Rattle.lower_code.specs.Trees.{all_of, part_of}
-use Rattle.lower_code.specs.declared.holes.Setting.{Setting}
+use Rattle.lower_code.specs.declared.holes.StatementContext.{StatementContext}
 use Rattle.lower_code.specs.declared.positions.Exits as declared
 use Rattle.lower_code.specs.declared.positions.Position.{Position}
 use Rattle.lower_code.proofs.Rows.{longer}
 use Rattle.lower.specs.Statements.{once_code, round_code}
 
-abbrev code_in : Setting → Scope → Stmt → ℕ → ℕ → Exits → List Instruction
+abbrev code_in : StatementContext → Scope → Stmt → ℕ → ℕ → Exits → List Instruction
 code_in s scope statement depth site exits =
     stmt_code (call_code (functions_of s.helpers.functions.now)) (result_in (functions_of s.helpers.functions.now)) (inside s.helpers.functions.now) s.result scope statement depth site exits
 
 -- a body that is put before the rest of a turn
-pub once_placed : (s : Setting) (scope : Scope) (p : Position) (body : Stmt) (depth : ℕ) (exits : declared.Exits) (old new : List Instruction) (added : ℕ)
+pub once_placed : (s : StatementContext) (scope : Scope) (p : Position) (body : Stmt) (depth : ℕ) (exits : declared.Exits) (old new : List Instruction) (added : ℕ)
     → depth ≡ p.depth + 1 → added ≡ length old - 0 + 1 → exits_of exits ≡ body_exits added (exits_of p.exits)
     → new ≡ statement_code s scope body (record { depth = depth; site = p.site; exits = exits }) ++ old
     → new ≡ once_code s scope body p (length old) ++ old
@@ -34,7 +34,7 @@ once_placed s scope p body depth exits old new added depth_is added_is exits_is 
     new_is ∙ ap₂ (λ d e. code_in s scope body d p.site e ++ old) depth_is (exits_is ∙ ap (λ n. body_exits n (exits_of p.exits)) added_at)
 
 -- a third part, and the body before it
-pub stepped_placed : (s : Setting) (scope middle : Scope) (p : Position) (third body : Stmt) (depth site : ℕ) (exits : declared.Exits) (old one two : List Instruction) (added : ℕ)
+pub stepped_placed : (s : StatementContext) (scope middle : Scope) (p : Position) (third body : Stmt) (depth site : ℕ) (exits : declared.Exits) (old one two : List Instruction) (added : ℕ)
     → depth ≡ p.depth + 1 → site ≡ p.site + sites (inside s.helpers.functions.now) third
     → added ≡ length old - 0 + 1 → exits_of exits ≡ body_exits added (exits_of p.exits)
     → one ≡ statement_code s scope third (record { depth = depth; site = p.site; exits = exits }) ++ old
@@ -55,7 +55,7 @@ stepped_placed s scope middle p third body depth site exits old one two added de
     two_at ∙ ap (λ xs. turn ++ xs) one_at ∙ sym (append_assoc turn last old)
 
 -- a body without a third part
-pub lone_round : (s : Setting) (scope : Scope) (p : Position) (body : Stmt) (n : ℕ) → once_code s scope body p n ≡ round_code s scope Without body p n
+pub lone_round : (s : StatementContext) (scope : Scope) (p : Position) (body : Stmt) (n : ℕ) → once_code s scope body p n ≡ round_code s scope Without body p n
 lone_round s scope p body n =
     let none : p.site ≡ p.site + 0 = omega arith in
     let same : n + 1 ≡ 0 + n + 1 = omega arith in
@@ -63,7 +63,7 @@ lone_round s scope p body n =
     ∙ sym (append-nil (code_in s scope body (p.depth + 1) (p.site + 0) (body_exits (0 + n + 1) (exits_of p.exits))))
 
 -- a loop, and its first part before it
-pub for_placed : (s : Setting) (scope inner later : Scope) (p : Position) (first : MaybeStmt) (test : MaybeTerm) (third : MaybeStmt) (body : Stmt) (behind : ℕ) (exits : declared.Exits)
+pub for_placed : (s : StatementContext) (scope inner later : Scope) (p : Position) (first : MaybeStmt) (test : MaybeTerm) (third : MaybeStmt) (body : Stmt) (behind : ℕ) (exits : declared.Exits)
     (old one two : List Instruction) (added : ℕ)
     → inner ≡ scope_after_part scope first → later ≡ scope
     → p.site + part_sites (inside s.helpers.functions.now) first ≡ behind

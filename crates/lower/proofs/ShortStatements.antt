@@ -6,11 +6,11 @@ use Rattle.clmodel.specs.Barrier.{is_barrier, fences}
 use Rattle.clmodel.specs.BuiltIns.{built_in}
 use Rattle.clmodel.specs.Next.{helper_or, helper_call, step_operator}
 use Rattle.clmodel.specs.Tree as tree
-use Rattle.clmodel.specs.Tree.{Term, Terms, Place, MaybeTerm, Always, While_, Stmt, Stmts, MaybeStmt, array_length}
+use Rattle.clmodel.specs.Tree.{Term, Terms, Target, MaybeTerm, WithoutTerm, WithTerm, Stmt, Stmts, MaybeStmt, array_length}
 use Rattle.clmodel.specs.Typing.Context.{Context, Signature, signature_of, bind, enter, turning, for_context, after_all}
 use Rattle.clmodel.specs.Typing.Rules as rule
 use Rattle.clmodel.specs.Typing.Rules.{CallsHelper, Gives, IsTyped, IsTypedPart, AreTyped}
-use Rattle.clmodel.specs.Typing.Sizes.{Sizes, size_in, term_size, terms_size, place_size, condition_size, size, part_size, row_size}
+use Rattle.clmodel.specs.Typing.Sizes.{Sizes, size_in, term_size, terms_size, target_size, condition_size, size, part_size, row_size}
 use Rattle.clmodel.specs.declared.action.Fences.{Fences}
 use Rattle.clmodel.specs.declared.declaration.Declaration.TheVariants.{Single}
 use Rattle.clmodel.specs.declared.setup.BuiltIn.{BuiltIn}
@@ -19,7 +19,7 @@ use Rattle.lower_expr.specs.Scope.{Scope, free_level}
 use Rattle.lower_expr.specs.Expressions.{registers_for}
 use Rattle.lower_code.specs.Code.{Exits, Calls, with_variable, scope_after_part, scope_after_all, array_code, needed_code, no_value_code, value_code, wait_code, condition_code, right_code, step_code, call_only_statement, stmt_code, part_code, stmts_code}
 use Rattle.lower.proofs.Scoped.{callable_is, after_part_before, after_all_before}
-use Rattle.lower_expr.proofs.Short.{Short, none, single, more, both, within, expr_short, terms_short, place_short, call_only_short, few_terms, fetch_short, put_short, combine_short}
+use Rattle.lower_expr.proofs.Short.{Short, none, single, more, both, within, expr_short, terms_short, target_short, call_only_short, few_terms, fetch_short, put_short, combine_short}
 use Rattle.lower.proofs.Suited.{built_in_is, barrier_is}
 use Rattle.lower.proofs.TypedRights.{no_helper}
 
@@ -50,13 +50,13 @@ array_short true t count number level = within single (omega arith)
 array_short false t count number level = more single
 
 condition_short : (sizes : Sizes) (scope : Scope) (test : MaybeTerm) → Short (6 * (condition_size sizes test).nodes + 1) (condition_code scope test)
-condition_short sizes scope Always = within none (omega arith)
-condition_short sizes scope (While_ e) = both (expr_short sizes scope (free_level scope) e) single
+condition_short sizes scope WithoutTerm = within none (omega arith)
+condition_short sizes scope (WithTerm e) = both (expr_short sizes scope (free_level scope) e) single
 
-step_short : (sizes : Sizes) (scope : Scope) (calls : Calls) (results : ℕ → Option IntType) (inside : ℕ → ℕ) (result : Option IntType) (level : ℕ) (place : Place) (operator : BinaryOperator)
-    → Short (6 * (place_size sizes place).nodes + 5) (step_code calls results inside result scope level place operator)
+step_short : (sizes : Sizes) (scope : Scope) (calls : Calls) (results : ℕ → Option IntType) (inside : ℕ → ℕ) (result : Option IntType) (level : ℕ) (place : Target) (operator : BinaryOperator)
+    → Short (6 * (target_size sizes place).nodes + 5) (step_code calls results inside result scope level place operator)
 step_short sizes scope calls results inside result level place operator =
-    both (place_short sizes scope level place) (both (fetch_short scope place _ _) (more (combine_short scope place level operator _ _ _)))
+    both (target_short sizes scope level place) (both (fetch_short scope place _ _) (more (combine_short scope place level operator _ _ _)))
 
 module _ (sizes : Sizes) (calls : Calls) (results : ℕ → Option IntType) (inside : ℕ → ℕ) (result : Option IntType) where
   -- the helpers of a context are known
@@ -105,9 +105,9 @@ module _ (sizes : Sizes) (calls : Calls) (results : ℕ → Option IntType) (ins
         array_fits true = omega arith
         array_fits false = omega arith
     stmt_short _ _ (rule.assign {c = c} {p = p} {e = e} {k = k} {j = j} place gives passes) scope known depth site exits =
-        within (both (place_short sizes scope (free_level scope) p) (both (right_short c known scope e j gives (free_level scope + 1) depth site) (put_short scope p _ _))) (omega arith)
+        within (both (target_short sizes scope (free_level scope) p) (both (right_short c known scope e j gives (free_level scope + 1) depth site) (put_short scope p _ _))) (omega arith)
     stmt_short _ _ (rule.assign_by {c = c} {p = p} {op = op} {e = e} {k = k} {j = j} {r = r} place gives operates passes) scope known depth site exits =
-        within (both (place_short sizes scope (free_level scope) p) (both (fetch_short scope p _ _) (both (right_short c known scope e j gives (free_level scope + 2) depth site) (combine_short scope p _ op _ _ _)))) (omega arith)
+        within (both (target_short sizes scope (free_level scope) p) (both (fetch_short scope p _ _) (both (right_short c known scope e j gives (free_level scope + 2) depth site) (combine_short scope p _ op _ _ _)))) (omega arith)
     stmt_short _ _ (rule.step {c = c} {p = p} {is_increment = is_increment} {k = k} place) scope known depth site exits =
         within (step_short sizes scope calls results inside result (free_level scope) p (step_operator is_increment)) (omega arith)
     stmt_short _ _ (rule.call_only {c = c} {a = a} {x = x} {f = f} {es = es} {ks = ks} {r = r} is arguments by) scope known depth site exits =
@@ -127,9 +127,9 @@ module _ (sizes : Sizes) (calls : Calls) (results : ℕ → Option IntType) (ins
     stmt_short _ _ (rule.if_else {c = c} {e = e} {s = s} {r = r} {t = t} test chosen otherwise) scope known depth site exits =
         within (both (expr_short sizes scope (free_level scope) e) (more (both (stmt_short (enter c) s chosen scope known depth site _) (more (stmt_short (enter c) r otherwise scope known depth _ exits))))) (omega arith)
     stmt_short _ _ (rule.while {c = c} {e = e} {s = s} test body) scope known depth site exits =
-        within (more (more (more (both (stmt_short (turning c) s body scope known (depth + 1) site _) (both (condition_short sizes scope (While_ e)) single))))) (omega arith)
+        within (more (more (more (both (stmt_short (turning c) s body scope known (depth + 1) site _) (both (condition_short sizes scope (WithTerm e)) single))))) (omega arith)
     stmt_short _ _ (rule.do_while {c = c} {e = e} {s = s} body test) scope known depth site exits =
-        within (more (more (both (stmt_short (turning c) s body scope known (depth + 1) site _) (both (condition_short sizes scope (While_ e)) single)))) (omega arith)
+        within (more (more (both (stmt_short (turning c) s body scope known (depth + 1) site _) (both (condition_short sizes scope (WithTerm e)) single)))) (omega arith)
     stmt_short _ _ (rule.for {c = c} {first = first} {third = third} {e = e} {s = s} begun test after body) scope known depth site exits =
         let around = for_context c first in
         let inner = scope_after_part scope first in

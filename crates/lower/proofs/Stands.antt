@@ -1,11 +1,11 @@
 -- Where a run of code stands, and what follows a statement there.
 use Rattle.std.proofs.Common.{◌≡◌, ℕ, ◌+◌, ◌≤◌, Option, None, Some, List, [], ◌∷◌, ◌++◌, length, take, slice_get, slice_index, refl, ap, ◌∙◌, arith}
 use Rattle.clnum.specs.declared.int_type.IntType.{IntType}
-use Rattle.clmodel.specs.Next.{Run, finish, Variables, Follows, leave, held}
+use Rattle.clmodel.specs.Next.{Continuation, finish, Variables, Follows, leave, held}
 use Rattle.clmodel.specs.declared.operand.Operand.{Operand}
 use Rattle.clmodel.specs.declared.tree.VariableType.{VariableType}
 use Rattle.clmodel.specs.declared.tree.VariableType.TheVariants.{Integer}
-use Rattle.regcode.specs.Machine.{State, Given, Registers, reg, with_put, with_array, passed, onward}
+use Rattle.regcode.specs.Machine.{State, ItemContext, Registers, reg, with_put, with_array, passed, onward}
 use Rattle.regcode.specs.declared.instruction.Instruction.{Instruction}
 use Rattle.regcode.proofs.Agreement.{Agree, with_fewer}
 use Rattle.lower_expr.specs.Scope.{Scope, register_at, Sees, free_level}
@@ -45,7 +45,7 @@ Returned None level registers v = v ≡ None
 Returned (Some kind) level registers v = (w : Operand) × (v ≡ Some w) × (reg registers (register_at level (Integer kind)) ≡ Some w)
 
 -- at each of its ends the code agrees with what follows there
-pub record Ends (given : Given) (code : List Instruction) (bound : ℕ) (result : Option IntType) (s : State) (scope : Scope) (after : Variables) (ts : List ℕ) (places : Places) (k : Follows) : Type 0 where
+pub record Ends (given : ItemContext) (code : List Instruction) (bound : ℕ) (result : Option IntType) (s : State) (scope : Scope) (after : Variables) (ts : List ℕ) (places : Places) (k : Follows) : Type 0 where
   pub next : (now : State) (vs : Variables) → Stands scope.base s ts places.next now → Sees (record scope { variables = after }) now.registers vs → Agree given code bound now (k.next vs)
   pub broken : (now : State) (vs : Variables) → Stands scope.base s ts places.broken now → Sees scope now.registers (leave (length scope.variables) vs) → Agree given code bound now (k.broken vs)
   pub continued : (now : State) (vs : Variables) → Stands scope.base s ts places.continued now → Sees scope now.registers (leave (length scope.variables) vs) → Agree given code bound now (k.continued vs)
@@ -123,7 +123,7 @@ seen_stands scope level s ts place now vs free h e =
     sees_kept scope s.registers now.registers vs (λ i below. h.kept.registers i (omega (arith, free, below))) (λ a below. h.kept.arrays a (omega (arith, free, below))) e
 
 -- fewer ticks are left
-pub ends_fewer : (given : Given) (code : List Instruction) (bound fewer : ℕ) (result : Option IntType) (s : State) (scope : Scope) (after : Variables) (ts : List ℕ) (places : Places) (k : Follows)
+pub ends_fewer : (given : ItemContext) (code : List Instruction) (bound fewer : ℕ) (result : Option IntType) (s : State) (scope : Scope) (after : Variables) (ts : List ℕ) (places : Places) (k : Follows)
     → fewer ≤ bound → Ends given code bound result s scope after ts places k → Ends given code fewer result s scope after ts places k
 ends_fewer given code bound fewer result s scope after ts places k less h =
     record {
@@ -135,7 +135,7 @@ ends_fewer given code bound fewer result s scope after ts places k less h =
     }
 
 -- in an inner scope
-pub ends_within : (given : Given) (code : List Instruction) (bound : ℕ) (result : Option IntType) (s : State) (scope : Scope) (inner after : Variables) (ts : List ℕ) (places : Places) (k : Follows)
+pub ends_within : (given : ItemContext) (code : List Instruction) (bound : ℕ) (result : Option IntType) (s : State) (scope : Scope) (inner after : Variables) (ts : List ℕ) (places : Places) (k : Follows)
     → Within scope.variables inner → Ends given code bound result s scope after ts places k → Ends given code bound result s (record scope { variables = inner }) after ts places k
 ends_within given code bound result s scope inner after ts places k w h =
     record {
@@ -147,7 +147,7 @@ ends_within given code bound result s scope inner after ts places k w h =
     }
 
 -- from an end to the next
-pub ends_before : (given : Given) (code : List Instruction) (bound : ℕ) (result : Option IntType) (s : State) (scope : Scope) (after middle : Variables) (ts : List ℕ) (places : Places) (place : ℕ) (k : Follows) (next : Variables → Run)
+pub ends_before : (given : ItemContext) (code : List Instruction) (bound : ℕ) (result : Option IntType) (s : State) (scope : Scope) (after middle : Variables) (ts : List ℕ) (places : Places) (place : ℕ) (k : Follows) (next : Variables → Continuation)
     → Ends given code bound result s scope after ts places k
     → ((now : State) (vs : Variables) → Stands scope.base s ts place now → Sees (record scope { variables = middle }) now.registers vs → Agree given code bound now (next vs))
     → Ends given code bound result s scope middle ts (record places { next = place }) (record k { next = next })

@@ -3,15 +3,15 @@ use Rattle.std.proofs.Common.{◌≡◌, ℕ, zero, suc, ◌+◌, ◌≤◌, ◌
 use Rattle.clnum.specs.declared.int_type.IntType.{IntType}
 use Rattle.clmodel.specs.Barrier.{is_barrier}
 use Rattle.clmodel.specs.BuiltIns.{built_in}
-use Rattle.clmodel.specs.Next.{Run, finish, Variables, Helpers, Follows, leave, leaving, in_loop, assign, held, helper_call, private_array, has_elements, step_operator, sites, part_sites, all_sites, exec, exec_part, exec_all}
+use Rattle.clmodel.specs.Next.{Continuation, finish, Variables, Helpers, Follows, leave, leaving, in_loop, assign, held, helper_call, private_array, has_elements, step_operator, sites, part_sites, all_sites, exec, exec_part, exec_all}
 use Rattle.clmodel.specs.Next as bindings
-use Rattle.clmodel.specs.Tree.{array_length, Stmt, Empty, Block, Declare, DeclareAs, DeclareArray, Assign, Step, CallOnly, If, IfElse, While, DoWhile, For, Break, Continue, Return, ReturnValue, Stmts, NoStmt, ThenStmt, MaybeStmt, Without, With, While_}
+use Rattle.clmodel.specs.Tree.{array_length, Stmt, Empty, Block, Declare, DeclareAs, DeclareArray, Assign, Step, CallOnly, If, IfElse, While, DoWhile, For, Break, Continue, Return, ReturnValue, Stmts, NoStmt, ThenStmt, MaybeStmt, Without, With, WithTerm}
 use Rattle.clmodel.specs.declared.access.Object.TheVariants as object
 use Rattle.clmodel.specs.declared.operand.Operand.{Operand}
 use Rattle.clmodel.specs.declared.operand.Operand.TheVariants.{Pointed}
 use Rattle.clmodel.specs.declared.tree.VariableType.{VariableType}
 use Rattle.clmodel.specs.declared.tree.VariableType.TheVariants.{Integer}
-use Rattle.regcode.specs.Machine.{State, Given, Registers, reg, put, array_of, put_array, with_put, with_array, passed, onward}
+use Rattle.regcode.specs.Machine.{State, ItemContext, Registers, reg, put, array_of, put_array, with_put, with_array, passed, onward}
 use Rattle.regcode.specs.declared.instruction.Instruction.{Instruction}
 use Rattle.regcode.specs.declared.instruction.Instruction.TheVariants as instruction
 use Rattle.regcode.proofs.Agreement.{ends, Agree, with_fewer, unset_runs, local_runs, unset_array_runs, hold_runs, jump_runs, branch_runs}
@@ -90,7 +90,7 @@ array_declared scope name element n registers vs e =
     }
 
 -- at the end of a block its variables are left
-ends_leaving : (given : Given) (code : List Instruction) (bound : ℕ) (result : Option IntType) (s : State) (scope : Scope) (inner : Variables) (ts : List ℕ) (places : Places) (k : Follows) (count : ℕ)
+ends_leaving : (given : ItemContext) (code : List Instruction) (bound : ℕ) (result : Option IntType) (s : State) (scope : Scope) (inner : Variables) (ts : List ℕ) (places : Places) (k : Follows) (count : ℕ)
     → Within scope.variables inner → count ≡ length scope.variables → Ends given code bound result s scope scope.variables ts places k
     → Ends given code bound result s scope inner ts places (record k { next = leaving count k.next })
 ends_leaving given code bound result s scope inner ts places k count w e h =
@@ -103,7 +103,7 @@ ends_leaving given code bound result s scope inner ts places k count w e h =
     }
 
 -- a function returns without a value: one that gives a value ends the item
-pub no_value_runs : (given : Given) (code : List Instruction) (bound : ℕ) (result : Option IntType) (s : State) (level : ℕ) (ts : List ℕ) (place : ℕ) (now : State) (run : Run)
+pub no_value_runs : (given : ItemContext) (code : List Instruction) (bound : ℕ) (result : Option IntType) (s : State) (level : ℕ) (ts : List ℕ) (place : ℕ) (now : State) (run : Continuation)
     → Stands level s ts place now → HasAt code place (no_value_code result level) → ((kind : IntType) → result ≡ Some kind → run ≡ finish)
     → ((last : State) → Stands level s ts (place + length (no_value_code result level)) last → Returned result level last.registers (returned_as result None) → Agree given code bound last run)
     → Agree given code bound now run
@@ -112,7 +112,7 @@ no_value_runs given code bound (Some kind) s level ts place now run stands has l
     subst (Agree given code bound now) (sym (lost kind refl)) (ends given code bound now (here_at code place _ level s ts now stands has.0))
 
 -- or with one
-value_runs : (given : Given) (code : List Instruction) (bound : ℕ) (result : Option IntType) (s : State) (level : ℕ) (ts : List ℕ) (place from : ℕ) (v : Operand) (now : State) (run : Run)
+value_runs : (given : ItemContext) (code : List Instruction) (bound : ℕ) (result : Option IntType) (s : State) (level : ℕ) (ts : List ℕ) (place from : ℕ) (v : Operand) (now : State) (run : Continuation)
     → Stands level s ts place now → reg now.registers from ≡ Some v → HasAt code place (value_code result level from)
     → ((last : State) → Stands level s ts (place + length (value_code result level from)) last → Returned result level last.registers (returned_as result (Some v)) → Agree given code bound last run)
     → Agree given code bound now run
@@ -123,8 +123,8 @@ value_runs given code bound (Some kind) s level ts place from v now run stands i
     (go (with_put now r (Some (held (Integer kind) v))) (put_stands level level (Integer kind) s ts place now (Some (held (Integer kind) v)) (omega arith) stands) (held (Integer kind) v, refl, reg_put now.registers r (Some (held (Integer kind) v))))
 
 -- a variable's first value
-first_value_runs : (given : Given) (code : List Instruction) (bound : ℕ) (scope : Scope) (name : ℕ) (kind : VariableType) (from : ℕ) (s : State) (ts : List ℕ) (place : ℕ) (now : State) (vs : Variables) (v : Operand) (run : Variables → Run)
-    → Stands scope.base s ts place now → Sees scope now.registers vs → reg now.registers from ≡ Some v → slice_get code place ≡ Some (instruction.Hold (register_at (free_level scope) kind) from kind)
+first_value_runs : (given : ItemContext) (code : List Instruction) (bound : ℕ) (scope : Scope) (name : ℕ) (kind : VariableType) (from : ℕ) (s : State) (ts : List ℕ) (place : ℕ) (now : State) (vs : Variables) (v : Operand) (run : Variables → Continuation)
+    → Stands scope.base s ts place now → Sees scope now.registers vs → reg now.registers from ≡ Some v → slice_get code place ≡ Some (instruction.AssignConversion (register_at (free_level scope) kind) from kind)
     → ((last : State) (after : Variables) → Stands scope.base s ts (place + 1) last → Sees (record scope { variables = variable name kind ∷ scope.variables }) last.registers after → Agree given code bound last (run after))
     → Agree given code bound now (run (assign (bindings.variable name kind None ∷ vs) name v))
 first_value_runs given code bound scope name kind from s ts place now vs v run stands same is here go =
@@ -135,7 +135,7 @@ first_value_runs given code bound scope name kind from s ts place now vs v run s
     (subst (λ l. Sees (with_variable scope name kind) (put now.registers r (Some (held kind v))) l) (sym (assign_innermost name kind None v vs)) (declared_seen scope name kind now.registers vs (Some (held kind v)) same)))
 
 -- The ends of a part of a loop: broken, it goes on behind the loop; else with what comes next in the loop.
-loop_ends : (given : Given) (code : List Instruction) (bound fewer : ℕ) (result : Option IntType) (s : State) (scope : Scope) (inner after : Variables) (ts : List ℕ) (count : ℕ) (places : Places) (k : Follows) (place : ℕ) (again : Variables → Run) (n m : ℕ)
+loop_ends : (given : ItemContext) (code : List Instruction) (bound fewer : ℕ) (result : Option IntType) (s : State) (scope : Scope) (inner after : Variables) (ts : List ℕ) (count : ℕ) (places : Places) (k : Follows) (place : ℕ) (again : Variables → Continuation) (n m : ℕ)
     → fewer ≤ bound → Within scope.variables inner → Within inner after → n ≡ length scope.variables → m ≡ length inner
     → Ends given code bound result s scope scope.variables ts places k
     → ((last : State) (vs : Variables) → Stands scope.base s (ts ++ count ∷ []) place last → Sees (record scope { variables = inner }) last.registers vs → Agree given code fewer last (again vs))
@@ -155,7 +155,7 @@ loop_ends given code bound fewer result s scope inner after ts count places k pl
 deeper : (ts : List ℕ) (count : ℕ) → length ts + 1 ≡ length (ts ++ count ∷ [])
 deeper ts count = let e = length-append ts (count ∷ []) in omega arith
 
-module _ (given : Given) (code : List Instruction) (most : ℕ) (calls : Calls) (results : ℕ → Option IntType) (helpers : Helpers) (run_calls : CallsRun given code most calls results helpers) (inside : ℕ → ℕ) (result : Option IntType) where
+module _ (given : ItemContext) (code : List Instruction) (most : ℕ) (calls : Calls) (results : ℕ → Option IntType) (helpers : Helpers) (run_calls : CallsRun given code most calls results helpers) (inside : ℕ → ℕ) (result : Option IntType) where
   -- what is asked of a list of instructions, by the code of statements at a depth
   abbrev StandsAt : ℕ → List Instruction → ℕ → Type 0
   StandsAt at instructions end = HasAt code at instructions × (at + length instructions ≡ end)
@@ -185,7 +185,7 @@ module _ (given : Given) (code : List Instruction) (most : ℕ) (calls : Calls) 
         let unset : Variables = bindings.variable name kind None ∷ vs in
         let first = right_code calls results inside result inner (level + 1) c value (length ts) site in
         let from = register_at (level + 1) (right_type calls results inside result inner c value) in
-        let last : List Instruction = instruction.Hold r from kind ∷ [] in
+        let last : List Instruction = instruction.AssignConversion r from kind ∷ [] in
         let lengths = length-append first last in
         let next = with_put now r None in
         let stands' = put_stands scope.base level kind s ts at now None (omega arith) stands in
@@ -289,14 +289,14 @@ module _ (given : Given) (code : List Instruction) (most : ℕ) (calls : Calls) 
         (other.1, (let x = r.at in let y = stands.at in omega (arith, x, y, end, lengths, lengths'))) leads
         (h' (variables_after scope.variables otherwise) ts places k (length vs) (within_after scope.variables otherwise) (count_seen scope now.registers vs same) h)))
     stmt_runs (While at' test' body) bound below scope s ts site exits places k at now vs stands same (has, end) leads h =
-        let c = condition_code scope (While_ test') in
+        let c = condition_code scope (WithTerm test') in
         let exits' = body_exits (length c + 1) exits in
         let inner = stmt_code calls results inside result scope body (length ts + 1) site exits' in
         let lengths = length-append inner (c ++ instruction.Back (length inner + length c + 1) ∷ []) in
         let lengths' = length-append c (instruction.Back (length inner + length c + 1) ∷ []) in
-        let turn : ℕ → Variables → (Variables → Run) → Run =
+        let turn : ℕ → Variables → (Variables → Continuation) → Continuation =
         λ count now again. exec most given.here helpers inside body site (ts ++ count ∷ []) (in_loop k (leaving (length vs) again) (leaving (length vs) k.next)) now in
-        while_runs given code bound most below scope s ts at inner (While_ test') turn k.next has
+        while_runs given code bound most below scope s ts at inner (WithTerm test') turn k.next has
         (λ fewer less count now' vs' again in_turn sees agree.
         let there : StandsAt (at + 3) inner (at + 3 + length inner) = (has_left code inner (c ++ instruction.Back (length inner + length c + 1) ∷ []) (at + 3) (has_moved code _ (at + 1 + 1 + 1) (at + 3) (omega arith) has.1.1.1), refl) in
         let there' = subst (λ d. StandsAt (at + 3) (stmt_code calls results inside result scope body d site exits') (at + 3 + length inner)) (deeper ts count) there in
@@ -308,14 +308,14 @@ module _ (given : Given) (code : List Instruction) (most : ℕ) (calls : Calls) 
         (λ last vs' at_end sees. h.next last vs' (stands_to scope.base s ts _ last places.next end at_end) sees)
         now vs stands same
     stmt_runs (DoWhile at' body test') bound below scope s ts site exits places k at now vs stands same (has, end) leads h =
-        let c = condition_code scope (While_ test') in
+        let c = condition_code scope (WithTerm test') in
         let exits' = body_exits (length c + 1) exits in
         let inner = stmt_code calls results inside result scope body (length ts + 1) site exits' in
         let lengths = length-append inner (c ++ instruction.Back (length inner + length c + 1) ∷ []) in
         let lengths' = length-append c (instruction.Back (length inner + length c + 1) ∷ []) in
-        let turn : ℕ → Variables → (Variables → Run) → Run =
+        let turn : ℕ → Variables → (Variables → Continuation) → Continuation =
         λ count now again. exec most given.here helpers inside body site (ts ++ count ∷ []) (in_loop k (leaving (length vs) again) (leaving (length vs) k.next)) now in
-        do_runs given code bound most below scope s ts at inner (While_ test') turn k.next has
+        do_runs given code bound most below scope s ts at inner (WithTerm test') turn k.next has
         (λ fewer less count now' vs' again in_turn sees agree.
         let there : StandsAt (at + 2) inner (at + 2 + length inner) = (has_left code inner (c ++ instruction.Back (length inner + length c + 1) ∷ []) (at + 2) (has_moved code _ (at + 1 + 1) (at + 2) (omega arith) has.1.1), refl) in
         let there' = subst (λ d. StandsAt (at + 2) (stmt_code calls results inside result scope body d site exits') (at + 2 + length inner)) (deeper ts count) there in
@@ -358,8 +358,8 @@ module _ (given : Given) (code : List Instruction) (most : ℕ) (calls : Calls) 
         (ends_before given code bound result s scope scope.variables inner ts places p k _ h
         (λ middle start at_loop sees.
         let count_inner = count_seen scope' middle.registers start sees in
-        let third_ends : (again : Variables → Run) → Follows = λ again. in_loop k (leaving (length start) again) (leaving (length vs) k.next) in
-        let third_run : ℕ → (Variables → Run) → Variables → Run = λ count again. exec_part most given.here helpers inside third site3 (ts ++ count ∷ []) (third_ends again) in
+        let third_ends : (again : Variables → Continuation) → Follows = λ again. in_loop k (leaving (length start) again) (leaving (length vs) k.next) in
+        let third_run : ℕ → (Variables → Continuation) → Variables → Continuation = λ count again. exec_part most given.here helpers inside third site3 (ts ++ count ∷ []) (third_ends again) in
         while_runs given code bound most below scope' s ts p (turn ++ last) test' _ (leaving (length vs) k.next) there
         (λ fewer less count now' vs' again in_turn sees' agree.
         let turn_there : StandsAt (p + 3) turn p3 = (has_left code turn last (p + 3) parts, refl) in

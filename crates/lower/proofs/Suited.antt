@@ -11,11 +11,11 @@ use Rattle.clmodel.specs.Barrier.{is_barrier}
 use Rattle.clmodel.specs.BuiltIns.{built_in}
 use Rattle.clmodel.specs.Next.{base_type, infix_type, call_type, argument_type}
 use Rattle.clmodel.specs.Tree as tree
-use Rattle.clmodel.specs.Tree.{Term, Terms, NoTerm, ThenTerm, Place}
+use Rattle.clmodel.specs.Tree.{Term, Terms, NoTerm, ThenTerm, Target}
 use Rattle.clmodel.specs.Typing.Context.{Context, Signature, value_type, element_type, Meaning, meaning, Bound, Callable, Current, BuiltInFunction, Barrier, Unknown, found, called, signature_of, function_meaning}
 use Rattle.clmodel.specs.Typing.Context as context
 use Rattle.clmodel.specs.Typing.Rules as rule
-use Rattle.clmodel.specs.Typing.Rules.{Types, TypesAll, TypesPlace, Operates, Calls}
+use Rattle.clmodel.specs.Typing.Rules.{Types, TypesAll, TypesTarget, Operates, Calls}
 use Rattle.clmodel.specs.declared.declaration.Declaration.{Declaration}
 use Rattle.clmodel.specs.declared.declaration.Declaration.TheVariants.{Single, LocalArray, PrivateArray}
 use Rattle.clmodel.specs.declared.setup.BuiltIn.{BuiltIn}
@@ -30,8 +30,8 @@ use Rattle.regcode.specs.declared.instruction.Instruction.{Instruction}
 use Rattle.regcode.specs.declared.instruction.Instruction.TheVariants as instruction
 use Rattle.regcode.specs.declared.tables.RegisterKind.TheVariants as register_kinds
 use Rattle.lower_expr.specs.Scope.{Scope, register_at, register_of, level_of}
-use Rattle.lower_expr.specs.Expressions.{kind_of, kind_named, register_for, registers_for, expr_code, terms_code, place_code, variable_code, type_of_elements, private_load, element_code, address_code, infix_code, truth_code, branch_code, call_code, count}
-use Rattle.lower.specs.Accepted.{declared_kind, is_private, Is, Matches, Suits, Suit, ExpressionsSuit, PlacesSuit}
+use Rattle.lower_expr.specs.Expressions.{kind_of, kind_named, register_for, registers_for, expr_code, terms_code, target_code, variable_code, type_of_elements, private_load, element_code, address_code, infix_code, truth_code, branch_code, call_code, count}
+use Rattle.lower.specs.Accepted.{declared_kind, is_private, Is, Matches, Suits, Suit, ExpressionsSuit, TargetsSuit}
 use Rattle.lower.proofs.Suiting.{same_integer, is_at, is_as, suit_both, constant_suits, move_suits, convert_suits, common_suits, unary_suits, binary_suits, one_suits, two_suit, dimensions_suit, query_suits, point_suits, offset_suits, load_suits, fetch_alone_suits, fetch_number_suits, fetch_pair_suits, private_load_suits, branch_suits}
 
 common_either : (a b : IntType) → common a b ≡ common b a
@@ -290,8 +290,8 @@ module _ (c : Context) (scope : Scope) (m : Matches c scope) where
         → Suit parameters branch → Suit parameters (branch_code (register_at level kind) branch from other)
     branch_suit level kind branch from t u other e o of fits =
         let to = register_at level kind in
-        suit_both parameters branch (instruction.Common to from (base_type other) ∷ []) fits
-        (subst (λ v. Suits parameters (instruction.Common to from (base_type v))) (sym o) (common_suits parameters to from t u (is_as level kind (Integer (common t u)) e) of), tt)
+        suit_both parameters branch (instruction.UsualConversion to from (base_type other) ∷ []) fits
+        (subst (λ v. Suits parameters (instruction.UsualConversion to from (base_type v))) (sym o) (common_suits parameters to from t u (is_as level kind (Integer (common t u)) e) of), tt)
 
     pub call_suits : (f : BuiltIn) (ks : List VariableType) (k : VariableType) → Calls f ks k → (level to : ℕ) → Is to k → Suit parameters (call_code (Some f) to (numbered level ks))
     call_suits _ _ _ rule.work_dim level to is = (dimensions_suit parameters to is, tt)
@@ -382,18 +382,18 @@ module _ (c : Context) (scope : Scope) (m : Matches c scope) where
       terms_suit level _ _ (rule.argument {es = es} {e = e} {ks = ks} {k = k} arguments last) =
           suit_both parameters (terms_code scope level es) (expr_code scope (level + count es) e) (terms_suit level es ks arguments) (expression_suits (level + count es) e k last)
 
-    pub place_suits : (level : ℕ) (place : Place) (k : VariableType) → TypesPlace c place k → Suit parameters (place_code scope level place)
-    place_suits level _ _ (rule.whole is) = tt
-    place_suits level _ _ (rule.part {x = x} {d = d} {t = t} {u = u} {e = e} is of stored index) =
+    pub target_suits : (level : ℕ) (place : Target) (k : VariableType) → TypesTarget c place k → Suit parameters (target_code scope level place)
+    target_suits level _ _ (rule.whole is) = tt
+    target_suits level _ _ (rule.part {x = x} {d = d} {t = t} {u = u} {e = e} is of stored index) =
         subst (λ b. Suit parameters (if b then expr_code scope level e else address_code scope level x e)) (sym (m x d is).array)
         (reached_suits level x d e t u is of index (expression_suits level e (Integer u) index) (expression_suits (level + 1) e (Integer u) index))
-    place_suits level _ _ (rule.behind {p = p} {e = e} writable pointer) =
+    target_suits level _ _ (rule.behind {p = p} {e = e} writable pointer) =
         let is = is_as level (kind_of scope e) (Pointer p) (type_is e (Pointer p) pointer) in
-        suit_both parameters (expr_code scope level e) (instruction.Point (register_for scope level e) (register_for scope level e) ∷ []) (expression_suits level e (Pointer p) pointer)
+        suit_both parameters (expr_code scope level e) (instruction.MovePointer (register_for scope level e) (register_for scope level e) ∷ []) (expression_suits level e (Pointer p) pointer)
         (point_suits parameters (register_for scope level e) (register_for scope level e) (Pointer p) is is refl, tt)
 
 pub expressions_suit : ExpressionsSuit
 expressions_suit parameters c scope level e kind m types = expression_suits c scope m parameters level e kind types
 
-pub places_suit : PlacesSuit
-places_suit parameters c scope level place kind m types = place_suits c scope m parameters level place kind types
+pub targets_suit : TargetsSuit
+targets_suit parameters c scope level place kind m types = target_suits c scope m parameters level place kind types

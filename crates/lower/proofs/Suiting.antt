@@ -116,7 +116,7 @@ module _ (parameters : List VariableType) where
   move_suits to from name kind is of code same wide =
       (takes (kind_at code to) (kind_at code from) (kind_of kind) (wide.registers.0 ∙ ap Some is) (wide.registers.1.0 ∙ ap Some of), let n = wide.names in omega (arith, n))
 
-  pub hold_suits : (to from : ℕ) (kind other : VariableType) → Is to kind → Is from other → Passes kind other → Suits parameters (instruction.Hold to from kind)
+  pub hold_suits : (to from : ℕ) (kind other : VariableType) → Is to kind → Is from other → Passes kind other → Suits parameters (instruction.AssignConversion to from kind)
   hold_suits to from kind other is of passes code same wide =
       takes (kind_at code to) (held_kind kind (kind_at code from)) (kind_of kind) (wide.registers.0 ∙ ap Some is)
       (ap (held_kind kind) (wide.registers.1.0 ∙ ap Some of) ∙ held_is kind other passes)
@@ -125,7 +125,7 @@ module _ (parameters : List VariableType) where
   convert_suits to from kind other is of code same wide =
       takes (kind_at code to) (number_kind kind (kind_at code from)) (Integer kind) (wide.registers.0 ∙ ap Some is) (ap (number_kind kind) (wide.registers.1.0 ∙ ap Some of))
 
-  pub common_suits : (to from : ℕ) (kind other : IntType) → Is to (variable_type.Integer (common kind other)) → Is from (variable_type.Integer kind) → Suits parameters (instruction.Common to from other)
+  pub common_suits : (to from : ℕ) (kind other : IntType) → Is to (variable_type.Integer (common kind other)) → Is from (variable_type.Integer kind) → Suits parameters (instruction.UsualConversion to from other)
   common_suits to from kind other is of code same wide =
       takes (kind_at code to) (common_kind other (kind_at code from)) (Integer (common kind other)) (wide.registers.0 ∙ ap Some is)
       (ap (common_kind other) (wide.registers.1.0 ∙ ap Some of))
@@ -192,7 +192,7 @@ module _ (parameters : List VariableType) where
     (let n = wide.names in omega (arith, n)),
   )
 
-  pub point_suits : (to from : ℕ) (kind : VariableType) → Is to kind → Is from kind → IsTrue (is_pointer (Some (kind_of kind))) → Suits parameters (instruction.Point to from)
+  pub point_suits : (to from : ℕ) (kind : VariableType) → Is to kind → Is from kind → IsTrue (is_pointer (Some (kind_of kind))) → Suits parameters (instruction.MovePointer to from)
   point_suits to from kind is of points code same wide = (
     takes (kind_at code to) (kind_at code from) (kind_of kind) (wide.registers.0 ∙ ap Some is) (wide.registers.1.0 ∙ ap Some of),
     subst (λ o. IsTrue (is_pointer o)) (sym (wide.registers.1.0 ∙ ap Some of)) points,

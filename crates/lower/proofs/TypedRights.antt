@@ -8,10 +8,10 @@ use Rattle.clmodel.specs.Barrier.{is_barrier, fences}
 use Rattle.clmodel.specs.BuiltIns.{built_in}
 use Rattle.clmodel.specs.Next.{base_type, infix_type, argument_type, call_type, is_update, step_operator, helper_or, helper_call}
 use Rattle.clmodel.specs.Tree as tree
-use Rattle.clmodel.specs.Tree.{Term, Terms, Place, MaybeTerm}
+use Rattle.clmodel.specs.Tree.{Term, Terms, Target, MaybeTerm}
 use Rattle.clmodel.specs.Typing.Context.{Context, Signature, element_type, Bound, signature_of, meaning, BuiltInFunction, Barrier}
 use Rattle.clmodel.specs.Typing.Rules as rule
-use Rattle.clmodel.specs.Typing.Rules.{Types, TypesAll, TypesPlace, Passes, Operates, AreGiven, CallsHelper, Gives, IsCondition}
+use Rattle.clmodel.specs.Typing.Rules.{Types, TypesAll, TypesTarget, Passes, Operates, AreGiven, CallsHelper, Gives, IsCondition}
 use Rattle.clmodel.specs.declared.action.Fences.{Fences}
 use Rattle.clmodel.specs.declared.declaration.Declaration.{Declaration}
 use Rattle.clmodel.specs.declared.declaration.Declaration.TheVariants.{Single, LocalArray, PrivateArray}
@@ -28,11 +28,11 @@ use Rattle.regcode.specs.declared.instruction.Instruction.{Instruction}
 use Rattle.regcode.specs.declared.instruction.Instruction.TheVariants as instruction
 use Rattle.regcode.specs.declared.tables.RegisterKind.TheVariants as register_kinds
 use Rattle.lower_expr.specs.Scope.{Scope, register_at, level_of, free_level}
-use Rattle.lower_expr.specs.Expressions.{kind_of, kind_named, type_of_elements, private_load, private_store, register_for, registers_for, expr_code, terms_code, place_code, place_register, update_code, call_only_code, count}
-use Rattle.lower_code.specs.Code.{Calls, result_type, needed_code, no_value_code, value_code, hold_code, place_type, fetch_code, put_code, combine_code, wait_code, condition_code, turn_code, right_code, right_type, assign_code, compound_code, step_code, call_only_statement}
+use Rattle.lower_expr.specs.Expressions.{kind_of, kind_named, type_of_elements, private_load, private_store, register_for, registers_for, expr_code, terms_code, target_code, target_register, update_code, call_only_code, count}
+use Rattle.lower_code.specs.Code.{Calls, result_type, needed_code, no_value_code, value_code, hold_code, type_of_target, fetch_code, put_code, combine_code, wait_code, condition_code, turn_code, right_code, right_type, assign_code, compound_code, step_code, call_only_statement}
 use Rattle.lower.specs.Accepted.{declared_kind, is_private, Is, Matches, Suit}
 use Rattle.lower.proofs.Suiting.{is_at, is_as, suit_both, suit_either, constant_suits, hold_suits, binary_suits, store_suits, load_suits, private_load_suits, private_store_suits, update_suits, update_by_one_suits, branch_suits}
-use Rattle.lower.proofs.Suited.{element_is, built_in_is, barrier_is, infix_is, call_is, argument_is, first_of, types_are, type_is, numbered, registers_are, variable_suits, call_suits, expression_suits, terms_suit, place_suits}
+use Rattle.lower.proofs.Suited.{element_is, built_in_is, barrier_is, infix_is, call_is, argument_is, first_of, types_are, type_is, numbered, registers_are, variable_suits, call_suits, expression_suits, terms_suit, target_suits}
 use Rattle.lower.proofs.Scoped.{callable_is}
 
 -- the registers of arguments can be given to parameters of these types, as far as there are both
@@ -120,10 +120,10 @@ module _ (parameters : List VariableType) where
       ((λ code same wide. tt), suit_both parameters body (condition ++ back) b (suit_both parameters condition back c ((λ code same wide. tt), tt)))
 
 module _ (c : Context) (scope : Scope) (m : Matches c scope) where
-  place_is : (place : Place) (k : VariableType) → TypesPlace c place k → place_type scope place ≡ k
-  place_is _ _ (rule.whole {x = x} {k = k} is) = (m x (Single k) is).declared
-  place_is _ _ (rule.part {x = x} {d = d} {t = t} is of stored index) = ap (λ k. Integer (base_type k)) (m x d is).declared ∙ ap Integer (element_is d t of)
-  place_is _ _ (rule.behind {p = p} {e = e} writable pointer) = ap (λ k. Integer (base_type k)) (type_is c scope m e (Pointer p) pointer)
+  target_type_is : (place : Target) (k : VariableType) → TypesTarget c place k → type_of_target scope place ≡ k
+  target_type_is _ _ (rule.whole {x = x} {k = k} is) = (m x (Single k) is).declared
+  target_type_is _ _ (rule.part {x = x} {d = d} {t = t} is of stored index) = ap (λ k. Integer (base_type k)) (m x d is).declared ∙ ap Integer (element_is d t of)
+  target_type_is _ _ (rule.behind {p = p} {e = e} writable pointer) = ap (λ k. Integer (base_type k)) (type_is c scope m e (Pointer p) pointer)
 
   filled : (level : ℕ) (ps : List VariableType) (es : Terms) → AreGiven c ps es → Filled ps (registers_for scope level es)
   filled level ps _ rule.no_argument = filled_none ps
@@ -176,8 +176,8 @@ module _ (c : Context) (scope : Scope) (m : Matches c scope) where
     part_stored level from x (PrivateArray j) e t u v is of index by =
         (private_store_suits parameters (level_of scope x) (register_for scope level e) from x (type_of_elements scope x) u v (is_as level (kind_of scope e) (Integer u) (type_is c scope m e (Integer u) index)) by, tt)
 
-    fetch_suits : (level : ℕ) (place : Place) (k : VariableType) → TypesPlace c place k
-        → Suit parameters (fetch_code scope place (place_register scope level place) (register_at (level + 1) (place_type scope place)))
+    fetch_suits : (level : ℕ) (place : Target) (k : VariableType) → TypesTarget c place k
+        → Suit parameters (fetch_code scope place (target_register scope level place) (register_at (level + 1) (type_of_target scope place)))
     fetch_suits level _ _ (rule.whole {x = x} {k = k} is) = variable_suits c scope m parameters (level + 1) (kind_named scope x) x (Single k) k is refl (m x (Single k) is).declared
     fetch_suits level _ _ (rule.part {x = x} {d = d} {t = t} {u = u} {e = e} is of stored index) =
         let target = register_at (level + 1) (Integer (type_of_elements scope x)) in
@@ -193,8 +193,8 @@ module _ (c : Context) (scope : Scope) (m : Matches c scope) where
           tt,
         )
 
-    put_suits : (level from : ℕ) (place : Place) (k r : VariableType) → TypesPlace c place k → Passes k r → Is from r
-        → Suit parameters (put_code scope place (place_register scope level place) from)
+    put_suits : (level from : ℕ) (place : Target) (k r : VariableType) → TypesTarget c place k → Passes k r → Is from r
+        → Suit parameters (put_code scope place (target_register scope level place) from)
     put_suits level from _ _ r (rule.whole {x = x} {k = k} is) passes of =
         let there = m x (Single k) is in
         subst (λ o. Suit parameters (hold_code o from (kind_named scope x))) (sym there.register) (
@@ -210,26 +210,26 @@ module _ (c : Context) (scope : Scope) (m : Matches c scope) where
     put_suits level from _ _ _ (rule.behind {p = p} {e = e} writable pointer) (rule.integers {u = u}) of =
         (store_suits parameters (register_for scope level e) from p.element u (is_as level (kind_of scope e) (Pointer p) (type_is c scope m e (Pointer p) pointer)) of, tt)
 
-    combine_suits : (level : ℕ) (place : Place) (operator : BinaryOperator) (kind : VariableType) (old right : ℕ) (k j r : VariableType) → TypesPlace c place k → kind ≡ j
+    combine_suits : (level : ℕ) (place : Target) (operator : BinaryOperator) (kind : VariableType) (old right : ℕ) (k j r : VariableType) → TypesTarget c place k → kind ≡ j
         → Operates (Arithmetic operator) k j r → Passes k r → Is old k → Is right j → Suit parameters (combine_code scope place level operator kind old right)
     combine_suits level place operator kind old right k j r types e operates passes of by =
-        let result = infix_type (Arithmetic operator) (place_type scope place) kind in
-        let is = is_as (level + 1) result r (ap₂ (infix_type (Arithmetic operator)) (place_is place k types) e ∙ infix_is k j r operates) in (
+        let result = infix_type (Arithmetic operator) (type_of_target scope place) kind in
+        let is = is_as (level + 1) result r (ap₂ (infix_type (Arithmetic operator)) (target_type_is place k types) e ∙ infix_is k j r operates) in (
           binary_suits parameters (register_at (level + 1) result) old right operator k j r is of by operates,
           put_suits level (register_at (level + 1) result) place k r types passes is,
         )
 
-    pub step_suits : (level : ℕ) (place : Place) (is_increment : Bool) (k : VariableType) (calls : Calls) (results : ℕ → Option IntType) (inside : ℕ → ℕ) (result : Option IntType)
-        → TypesPlace c place k → Suit parameters (step_code calls results inside result scope level place (step_operator is_increment))
+    pub step_suits : (level : ℕ) (place : Target) (is_increment : Bool) (k : VariableType) (calls : Calls) (results : ℕ → Option IntType) (inside : ℕ → ℕ) (result : Option IntType)
+        → TypesTarget c place k → Suit parameters (step_code calls results inside result scope level place (step_operator is_increment))
     step_suits level place is_increment k calls results inside result types =
         let operator = step_operator is_increment in
-        let old = register_at (level + 1) (place_type scope place) in
+        let old = register_at (level + 1) (type_of_target scope place) in
         let one = register_at (level + 2) (Integer Int) in
         let by = step_operates is_increment k in
-        suit_both parameters (place_code scope level place) _ (place_suits c scope m parameters level place k types)
-        (suit_both parameters (fetch_code scope place (place_register scope level place) old) _ (fetch_suits level place k types) (
+        suit_both parameters (target_code scope level place) _ (target_suits c scope m parameters level place k types)
+        (suit_both parameters (fetch_code scope place (target_register scope level place) old) _ (fetch_suits level place k types) (
           constant_suits parameters one _ (is_at (level + 2) (Integer Int)),
-          combine_suits level place operator (Integer Int) old one k (Integer Int) by.0 types refl by.1.0 by.1.1 (is_as (level + 1) (place_type scope place) k (place_is place k types)) (is_at (level + 2) (Integer Int)),
+          combine_suits level place operator (Integer Int) old one k (Integer Int) by.0 types refl by.1.0 by.1.1 (is_as (level + 1) (type_of_target scope place) k (target_type_is place k types)) (is_at (level + 2) (Integer Int)),
         ))
 
     pub condition_suits : (test : MaybeTerm) → IsCondition c test → Suit parameters (condition_code scope test)
@@ -320,21 +320,21 @@ module _ (c : Context) (scope : Scope) (m : Matches c scope) where
             (suit_both parameters (calls x numbers level depth site) (needed_code (results x))
             ((known x s (callable_is c x s call.meaning)).suits numbers level depth site (filled level s.parameters es call.arguments)) (needed_suits parameters (results x))))
 
-        pub assign_suits : (level : ℕ) (place : Place) (e : Term) (k j : VariableType) → TypesPlace c place k → Gives c e j → Passes k j → (depth site : ℕ)
+        pub assign_suits : (level : ℕ) (place : Target) (e : Term) (k j : VariableType) → TypesTarget c place k → Gives c e j → Passes k j → (depth site : ℕ)
             → Suit parameters (assign_code calls results inside result scope level place (helper_call e) e depth site)
         assign_suits level place e k j types gives passes depth site =
             let kind = right_type calls results inside result scope (helper_call e) e in
-            suit_both parameters (place_code scope level place) _ (place_suits c scope m parameters level place k types)
+            suit_both parameters (target_code scope level place) _ (target_suits c scope m parameters level place k types)
             (suit_both parameters (right_code calls results inside result scope (level + 1) (helper_call e) e depth site) _ (right_suits (level + 1) e j gives depth site)
             (put_suits level (register_at (level + 1) kind) place k j types passes (is_as (level + 1) kind j (right_is e j gives))))
 
-        pub compound_suits : (level : ℕ) (place : Place) (operator : BinaryOperator) (e : Term) (k j r : VariableType) → TypesPlace c place k → Gives c e j → Operates (Arithmetic operator) k j r → Passes k r
+        pub compound_suits : (level : ℕ) (place : Target) (operator : BinaryOperator) (e : Term) (k j r : VariableType) → TypesTarget c place k → Gives c e j → Operates (Arithmetic operator) k j r → Passes k r
             → (depth site : ℕ) → Suit parameters (compound_code calls results inside result scope level place operator (helper_call e) e depth site)
         compound_suits level place operator e k j r types gives operates passes depth site =
             let kind = right_type calls results inside result scope (helper_call e) e in
-            let old = register_at (level + 1) (place_type scope place) in
-            suit_both parameters (place_code scope level place) _ (place_suits c scope m parameters level place k types)
-            (suit_both parameters (fetch_code scope place (place_register scope level place) old) _ (fetch_suits level place k types)
+            let old = register_at (level + 1) (type_of_target scope place) in
+            suit_both parameters (target_code scope level place) _ (target_suits c scope m parameters level place k types)
+            (suit_both parameters (fetch_code scope place (target_register scope level place) old) _ (fetch_suits level place k types)
             (suit_both parameters (right_code calls results inside result scope (level + 2) (helper_call e) e depth site) _ (right_suits (level + 2) e j gives depth site)
             (combine_suits level place operator kind old (register_at (level + 2) kind) k j r types (right_is e j gives) operates passes
-            (is_as (level + 1) (place_type scope place) k (place_is place k types)) (is_as (level + 2) kind j (right_is e j gives)))))
+            (is_as (level + 1) (type_of_target scope place) k (target_type_is place k types)) (is_as (level + 2) kind j (right_is e j gives)))))

@@ -2,7 +2,7 @@
 use Rattle.std.proofs.Common.{◌≡◌, ℕ, ◌+◌, ◌++◌, Bool, true, false, Option, Some, List, [], ◌∷◌, length, subst}
 use Rattle.clnum.specs.declared.int_type.IntType.{IntType}
 use Rattle.clmodel.specs.Next.{helper_call, sites, part_sites, all_sites}
-use Rattle.clmodel.specs.Tree.{array_length, Stmt, Stmts, MaybeStmt, While_}
+use Rattle.clmodel.specs.Tree.{array_length, Stmt, Stmts, MaybeStmt, WithTerm}
 use Rattle.clmodel.specs.Typing.Context.{Context, Signature, signature_of, bind, enter, turning, for_context, after_all}
 use Rattle.clmodel.specs.Typing.Rules as rule
 use Rattle.clmodel.specs.Typing.Rules.{IsTyped, IsTypedPart, AreTyped}
@@ -83,21 +83,21 @@ module _ (parameters : List VariableType) (calls : Calls) (results : ℕ → Opt
               ((λ code same wide. tt), stmt_suits (enter c) r otherwise scope m known depth (site + sites inside s) exits),
         )
     stmt_suits _ _ (rule.while {c = c} {e = e} {s = s} test body) scope m known depth site exits =
-        let condition = condition_code scope (While_ e) in
+        let condition = condition_code scope (WithTerm e) in
         let inner = body_exits (length condition + 1) exits in (
           (λ code same wide. tt),
           (
             (λ code same wide. tt),
             turn_suits parameters depth (stmt_code calls results inside result scope s (depth + 1) site inner) condition (stmt_suits (turning c) s body scope m known (depth + 1) site inner)
-                (condition_suits c scope m parameters (While_ e) (rule.condition test)),
+                (condition_suits c scope m parameters (WithTerm e) (rule.condition test)),
           ),
         )
     stmt_suits _ _ (rule.do_while {c = c} {e = e} {s = s} body test) scope m known depth site exits =
-        let condition = condition_code scope (While_ e) in
+        let condition = condition_code scope (WithTerm e) in
         let inner = body_exits (length condition + 1) exits in (
           (λ code same wide. tt),
           turn_suits parameters depth (stmt_code calls results inside result scope s (depth + 1) site inner) condition (stmt_suits (turning c) s body scope m known (depth + 1) site inner)
-              (condition_suits c scope m parameters (While_ e) (rule.condition test)),
+              (condition_suits c scope m parameters (WithTerm e) (rule.condition test)),
         )
     stmt_suits _ _ (rule.for {c = c} {first = first} {third = third} {e = e} {s = s} begun test after body) scope m known depth site exits =
         let around = for_context c first in

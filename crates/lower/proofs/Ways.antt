@@ -8,8 +8,8 @@ use Rattle.clmodel.specs.Barrier.{is_barrier, fences}
 use Rattle.clmodel.specs.BuiltIns.{built_in}
 use Rattle.clmodel.specs.Next.{is_private_array, helper_call, helper_or, is_update, step_operator, sites, part_sites, all_sites}
 use Rattle.clmodel.specs.Tree as tree
-use Rattle.clmodel.specs.Tree.{array_length, Term, Terms, Place, Whole, Part, Behind, Stmt, Empty, Block, Declare, DeclareAs, DeclareArray, Assign, Step, CallOnly, If, IfElse, While, DoWhile, For, Break, Continue, Return, ReturnValue, Stmts, NoStmt, ThenStmt, MaybeStmt, Without, With, MaybeTerm, Always, While_}
-use Rattle.clmodel.specs.Typing.Sizes.{Sizes, size_in, term_size, terms_size, place_size, condition_size, size, part_size, row_size}
+use Rattle.clmodel.specs.Tree.{array_length, Term, Terms, Target, TargetVariable, TargetElement, TargetDereference, Stmt, Empty, Block, Declare, DeclareAs, DeclareArray, Assign, Step, CallOnly, If, IfElse, While, DoWhile, For, Break, Continue, Return, ReturnValue, Stmts, NoStmt, ThenStmt, MaybeStmt, Without, With, MaybeTerm, WithoutTerm, WithTerm}
+use Rattle.clmodel.specs.Typing.Sizes.{Sizes, size_in, term_size, terms_size, target_size, condition_size, size, part_size, row_size}
 use Rattle.clmodel.specs.declared.action.Fences.{Fences}
 use Rattle.clmodel.specs.declared.setup.AtomicFunction.{AtomicFunction}
 use Rattle.clmodel.specs.declared.setup.BuiltIn.{BuiltIn}
@@ -19,10 +19,10 @@ use Rattle.clmodel.specs.declared.tree.VariableType.TheVariants as variable_type
 use Rattle.regcode.specs.declared.instruction.Instruction.{Instruction}
 use Rattle.regcode.specs.declared.instruction.Instruction.TheVariants as instruction
 use Rattle.lower_expr.specs.Scope.{Scope, free_level, register_at, register_of}
-use Rattle.lower_expr.specs.Expressions.{kind_named, register_for, registers_for, expr_code, terms_code, place_code, place_register, update_code, call_only_code}
-use Rattle.lower_code.specs.Code.{Exits, past, body_exits, Calls, with_variable, scope_after_part, scope_after_all, needed_code, no_value_code, value_code, hold_code, array_code, place_type, fetch_code, put_code, combine_code, wait_code, condition_code, while_code, right_code, right_type, call_only_statement, stmt_code, part_code, stmts_code}
+use Rattle.lower_expr.specs.Expressions.{kind_named, register_for, registers_for, expr_code, terms_code, target_code, target_register, update_code, call_only_code}
+use Rattle.lower_code.specs.Code.{Exits, past, body_exits, Calls, with_variable, scope_after_part, scope_after_all, needed_code, no_value_code, value_code, hold_code, array_code, type_of_target, fetch_code, put_code, combine_code, wait_code, condition_code, while_code, right_code, right_type, call_only_statement, stmt_code, part_code, stmts_code}
 use Rattle.lower.specs.Accepted.{Flat, Sound}
-use Rattle.lower.proofs.Flat.{flat_both, either_flat, variable_flat, call_flat, expression_flat, terms_flat, place_flat}
+use Rattle.lower.proofs.Flat.{flat_both, either_flat, variable_flat, call_flat, expression_flat, terms_flat, target_flat}
 use Rattle.lower.proofs.Sound.{leads_at, sound_flat, sound_more, sound_then, sound_both, sound_exit, sound_barrier, sound_test, sound_branch, sound_sides}
 use Rattle.lower.proofs.SoundLoops.{sound_do, sound_while}
 
@@ -30,18 +30,18 @@ hold_flat : (to : Option ℕ) (from : ℕ) (kind : VariableType) → Flat (hold_
 hold_flat None from kind = (tt, tt)
 hold_flat (Some to) from kind = (tt, tt)
 
-put_flat : (scope : Scope) (place : Place) (pointer from : ℕ) → Flat (put_code scope place pointer from)
-put_flat scope (Whole at name) pointer from = hold_flat (register_of scope name) from (kind_named scope name)
-put_flat scope (Part at name index) pointer from = either_flat (is_private_array scope.variables name) _ _ (tt, tt) (tt, tt)
-put_flat scope (Behind at term) pointer from = (tt, tt)
+put_flat : (scope : Scope) (place : Target) (pointer from : ℕ) → Flat (put_code scope place pointer from)
+put_flat scope (TargetVariable at name) pointer from = hold_flat (register_of scope name) from (kind_named scope name)
+put_flat scope (TargetElement at name index) pointer from = either_flat (is_private_array scope.variables name) _ _ (tt, tt) (tt, tt)
+put_flat scope (TargetDereference at term) pointer from = (tt, tt)
 
-fetch_flat : (scope : Scope) (place : Place) (pointer to : ℕ) → Flat (fetch_code scope place pointer to)
-fetch_flat scope (Whole at name) pointer to = variable_flat to (register_of scope name) name
-fetch_flat scope (Part at name index) pointer to = either_flat (is_private_array scope.variables name) _ _ (tt, tt) (tt, tt)
-fetch_flat scope (Behind at term) pointer to = (tt, tt)
+fetch_flat : (scope : Scope) (place : Target) (pointer to : ℕ) → Flat (fetch_code scope place pointer to)
+fetch_flat scope (TargetVariable at name) pointer to = variable_flat to (register_of scope name) name
+fetch_flat scope (TargetElement at name index) pointer to = either_flat (is_private_array scope.variables name) _ _ (tt, tt) (tt, tt)
+fetch_flat scope (TargetDereference at term) pointer to = (tt, tt)
 
-combine_flat : (scope : Scope) (place : Place) (level : ℕ) (operator : BinaryOperator) (kind : VariableType) (old right : ℕ) → Flat (combine_code scope place level operator kind old right)
-combine_flat scope place level operator kind old right = (tt, put_flat scope place (place_register scope level place) _)
+combine_flat : (scope : Scope) (place : Target) (level : ℕ) (operator : BinaryOperator) (kind : VariableType) (old right : ℕ) → Flat (combine_code scope place level operator kind old right)
+combine_flat scope place level operator kind old right = (tt, put_flat scope place (target_register scope level place) _)
 
 array_flat : (is_local : Bool) (element : IntType) (count number level : ℕ) → Flat (array_code is_local element count number level)
 array_flat true element count number level = (tt, tt)
@@ -103,8 +103,8 @@ module _ (sizes : Sizes) (calls : Calls) (results : ℕ → Option IntType) (ins
   right_sound scope level (tree.Choice a e d f) depth site exits = sound_flat _ depth exits _ (expression_flat scope level (tree.Choice a e d f))
 
   condition_sound : (n : ℕ) (scope : Scope) (test : MaybeTerm) (depth returned : ℕ) → Sound n depth (record { broken = 1; continued = 0; returned = returned }) (condition_code scope test)
-  condition_sound n scope Always depth returned = sound_flat n depth _ [] tt
-  condition_sound n scope (While_ test) depth returned =
+  condition_sound n scope WithoutTerm depth returned = sound_flat n depth _ [] tt
+  condition_sound n scope (WithTerm test) depth returned =
       sound_both n depth _ (expr_code scope (free_level scope) test) (instruction.JumpIfZero (register_for scope (free_level scope) test) 1 ∷ [])
       (sound_flat n depth _ (expr_code scope (free_level scope) test) (expression_flat scope (free_level scope) test))
       (sound_test n depth _ (register_for scope (free_level scope) test) refl)
@@ -132,36 +132,36 @@ module _ (sizes : Sizes) (calls : Calls) (results : ℕ → Option IntType) (ins
         let n = (term_size sizes value).loops in
         let inner = with_variable scope name kind in
         let first = right_code calls results inside result inner (free_level scope + 1) (helper_call value) value depth site in
-        let last : List Instruction = instruction.Hold (register_at (free_level scope) kind) (register_at (free_level scope + 1) (right_type calls results inside result inner (helper_call value) value)) kind ∷ [] in
+        let last : List Instruction = instruction.AssignConversion (register_at (free_level scope) kind) (register_at (free_level scope + 1) (right_type calls results inside result inner (helper_call value) value)) kind ∷ [] in
         sound_both n depth exits (instruction.Unset (register_at (free_level scope) kind) ∷ []) (first ++ last)
         (sound_flat n depth _ _ (tt, tt))
         (sound_both n depth exits first last (right_sound inner (free_level scope + 1) value depth site _) (sound_flat n depth exits last (tt, tt)))
     stmt_sound scope (DeclareArray at is_local element name_at name length_at count) depth site exits = sound_flat _ depth exits _ (array_flat is_local element (array_length count) (length scope.variables) (free_level scope))
     stmt_sound scope (Assign at place None value) depth site exits =
-        let n = max (place_size sizes place).loops (term_size sizes value).loops in
+        let n = max (target_size sizes place).loops (term_size sizes value).loops in
         let level = free_level scope in
-        sound_both n depth exits (place_code scope level place) _
-        (sound_flat n depth _ (place_code scope level place) (place_flat scope level place))
+        sound_both n depth exits (target_code scope level place) _
+        (sound_flat n depth _ (target_code scope level place) (target_flat scope level place))
         (sound_both n depth exits (right_code calls results inside result scope (level + 1) (helper_call value) value depth site) _
-        (sound_more (term_size sizes value).loops n depth _ _ (le-max_right (place_size sizes place).loops (term_size sizes value).loops) (right_sound scope (level + 1) value depth site _))
-        (sound_flat n depth exits _ (put_flat scope place (place_register scope level place) _)))
+        (sound_more (term_size sizes value).loops n depth _ _ (le-max_right (target_size sizes place).loops (term_size sizes value).loops) (right_sound scope (level + 1) value depth site _))
+        (sound_flat n depth exits _ (put_flat scope place (target_register scope level place) _)))
     stmt_sound scope (Assign at place (Some operator) value) depth site exits =
-        let n = max (place_size sizes place).loops (term_size sizes value).loops in
+        let n = max (target_size sizes place).loops (term_size sizes value).loops in
         let level = free_level scope in
-        sound_both n depth exits (place_code scope level place) _
-        (sound_flat n depth _ (place_code scope level place) (place_flat scope level place))
-        (sound_both n depth exits (fetch_code scope place (place_register scope level place) (register_at (level + 1) (place_type scope place))) _
-        (sound_flat n depth _ _ (fetch_flat scope place (place_register scope level place) (register_at (level + 1) (place_type scope place))))
+        sound_both n depth exits (target_code scope level place) _
+        (sound_flat n depth _ (target_code scope level place) (target_flat scope level place))
+        (sound_both n depth exits (fetch_code scope place (target_register scope level place) (register_at (level + 1) (type_of_target scope place))) _
+        (sound_flat n depth _ _ (fetch_flat scope place (target_register scope level place) (register_at (level + 1) (type_of_target scope place))))
         (sound_both n depth exits (right_code calls results inside result scope (level + 2) (helper_call value) value depth site) _
-        (sound_more (term_size sizes value).loops n depth _ _ (le-max_right (place_size sizes place).loops (term_size sizes value).loops) (right_sound scope (level + 2) value depth site _))
-        (sound_flat n depth exits _ (combine_flat scope place level operator (right_type calls results inside result scope (helper_call value) value) (register_at (level + 1) (place_type scope place)) (register_at (level + 2) (right_type calls results inside result scope (helper_call value) value))))))
+        (sound_more (term_size sizes value).loops n depth _ _ (le-max_right (target_size sizes place).loops (term_size sizes value).loops) (right_sound scope (level + 2) value depth site _))
+        (sound_flat n depth exits _ (combine_flat scope place level operator (right_type calls results inside result scope (helper_call value) value) (register_at (level + 1) (type_of_target scope place)) (register_at (level + 2) (right_type calls results inside result scope (helper_call value) value))))))
     stmt_sound scope (Step at place is_increment) depth site exits =
         let level = free_level scope in
         sound_flat _ depth exits _
-        (flat_both (place_code scope level place) _ (place_flat scope level place)
-        (flat_both (fetch_code scope place (place_register scope level place) (register_at (level + 1) (place_type scope place))) _
-        (fetch_flat scope place (place_register scope level place) (register_at (level + 1) (place_type scope place)))
-        (tt, combine_flat scope place level (step_operator is_increment) (variable_type.Integer Int) (register_at (level + 1) (place_type scope place)) (register_at (level + 2) (variable_type.Integer Int)))))
+        (flat_both (target_code scope level place) _ (target_flat scope level place)
+        (flat_both (fetch_code scope place (target_register scope level place) (register_at (level + 1) (type_of_target scope place))) _
+        (fetch_flat scope place (target_register scope level place) (register_at (level + 1) (type_of_target scope place)))
+        (tt, combine_flat scope place level (step_operator is_increment) (variable_type.Integer Int) (register_at (level + 1) (type_of_target scope place)) (register_at (level + 2) (variable_type.Integer Int)))))
     stmt_sound scope (CallOnly at name arguments) depth site exits =
         only_sound (max (terms_size sizes arguments).loops (size_in sizes name).loops) scope (is_barrier name) (built_in name) name arguments depth site exits
         (le-max_right (terms_size sizes arguments).loops (size_in sizes name).loops)
@@ -189,16 +189,16 @@ module _ (sizes : Sizes) (calls : Calls) (results : ℕ → Option IntType) (ins
         (sound_more z n depth exits b (le-max_right (max x y) z) (stmt_sound scope otherwise depth (site + sites inside chosen) exits)))
     stmt_sound scope (While at test body) depth site exits =
         let n = max (term_size sizes test).loops (size sizes body).loops in
-        let c = condition_code scope (While_ test) in
+        let c = condition_code scope (WithTerm test) in
         sound_while n depth exits (stmt_code calls results inside result scope body (depth + 1) site (body_exits (length c + 1) exits)) c
         (sound_more (size sizes body).loops n (depth + 1) _ _ (le-max_right (term_size sizes test).loops (size sizes body).loops) (stmt_sound scope body (depth + 1) site (body_exits (length c + 1) exits)))
-        (condition_sound n scope (While_ test) (depth + 1) (1 + exits.returned))
+        (condition_sound n scope (WithTerm test) (depth + 1) (1 + exits.returned))
     stmt_sound scope (DoWhile at body test) depth site exits =
         let n = max (size sizes body).loops (term_size sizes test).loops in
-        let c = condition_code scope (While_ test) in
+        let c = condition_code scope (WithTerm test) in
         sound_do n depth exits (stmt_code calls results inside result scope body (depth + 1) site (body_exits (length c + 1) exits)) c
         (sound_more (size sizes body).loops n (depth + 1) _ _ (le-max_left (size sizes body).loops (term_size sizes test).loops) (stmt_sound scope body (depth + 1) site (body_exits (length c + 1) exits)))
-        (condition_sound n scope (While_ test) (depth + 1) (1 + exits.returned))
+        (condition_sound n scope (WithTerm test) (depth + 1) (1 + exits.returned))
     stmt_sound scope (For at first test third body) depth site exits =
         let inner = scope_after_part scope first in
         let c = condition_code inner test in

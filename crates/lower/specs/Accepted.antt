@@ -11,13 +11,13 @@ use Rattle.regcode.specs.Rules.{kind_at, kind_of, HasRoom, Fits, loops_at, most_
 use Rattle.regcode.specs.declared.instruction.Instruction.{Instruction}
 use Rattle.clnum.specs.declared.int_type.IntType.{IntType}
 use Rattle.clmodel.specs.Setup.{kernel_in, functions_before}
-use Rattle.clmodel.specs.Tree.{Program, Term, Place, Stmts, Func, Funcs, NoFunc, ThenFunc}
+use Rattle.clmodel.specs.Tree.{Program, Term, Target, Stmts, Func, Funcs, NoFunc, ThenFunc}
 use Rattle.clmodel.specs.Typing.{IsTypedProgram}
 use Rattle.clmodel.specs.Typing.Sizes.{Sizes, size_in, row_size, sizes_of}
 use Rattle.clmodel.specs.Typing.Context.{Context, meaning, Bound}
-use Rattle.clmodel.specs.Typing.Rules.{Types, TypesPlace}
+use Rattle.clmodel.specs.Typing.Rules.{Types, TypesTarget}
 use Rattle.lower_expr.specs.Scope.{Scope, register_at, register_of}
-use Rattle.lower_expr.specs.Expressions.{kind_named, expr_code, place_code}
+use Rattle.lower_expr.specs.Expressions.{kind_named, expr_code, target_code}
 use Rattle.regcode.specs.declared.instruction.Instruction.TheVariants as instruction
 use Rattle.lower_code.specs.Code.{local_pointer, Exits, Calls, stmts_code, kernel_code}
 use Rattle.lower.specs.Tables.{register_kind, registers_of, names_of, objects_of, depth_after, tabled}
@@ -81,10 +81,10 @@ ExpressionsSuit =
     (parameters : List VariableType) (c : Context) (scope : Scope) (level : ℕ) (e : Term) (kind : VariableType) →
     Matches c scope → Types c e kind → Suit parameters (expr_code scope level e)
 
-abbrev pub PlacesSuit : Type 0
-PlacesSuit =
-    (parameters : List VariableType) (c : Context) (scope : Scope) (level : ℕ) (place : Place) (kind : VariableType) →
-    Matches c scope → TypesPlace c place kind → Suit parameters (place_code scope level place)
+abbrev pub TargetsSuit : Type 0
+TargetsSuit =
+    (parameters : List VariableType) (c : Context) (scope : Scope) (level : ℕ) (target : Target) (kind : VariableType) →
+    Matches c scope → TypesTarget c target kind → Suit parameters (target_code scope level target)
 
 -- an instruction with n behind it goes to one of them or past the last, and names no loop
 abbrev pub Stays : Instruction → ℕ → Type 0

@@ -8,7 +8,7 @@ use Rattle.regcode.specs.declared.instruction.Instruction.{Instruction}
 use Rattle.lower_expr.specs.Scope.{Scope}
 use Rattle.lower_code.specs.Code.{stmt_code, part_code, call_code, result_in, body_exits}
 use Rattle.lower_code.specs.Emission.{functions_of, inside, exits_of}
-use Rattle.lower_code.specs.declared.holes.Setting.{Setting}
+use Rattle.lower_code.specs.declared.holes.StatementContext.{StatementContext}
 use Rattle.lower_code.specs.declared.positions.Position.{Position}
 use Rattle.lower.specs.declared.sites.Callee.{Callee}
 use Rattle.lower.specs.declared.sites.Callee.TheVariants as callee
@@ -45,12 +45,12 @@ abbrev pub begun_at : Ending → ℕ → Position
 begun_at e site = record { depth = e.depth; site = site; exits = e.exits }
 
 -- the body of a loop, behind which n instructions of its turn stand
-abbrev pub once_code : Setting → Scope → Stmt → Position → ℕ → List Instruction
+abbrev pub once_code : StatementContext → Scope → Stmt → Position → ℕ → List Instruction
 once_code s scope body p n =
     stmt_code (call_code (functions_of s.helpers.functions.now)) (result_in (functions_of s.helpers.functions.now)) (inside s.helpers.functions.now) s.result scope body (p.depth + 1) p.site (body_exits (n + 1) (exits_of p.exits))
 
 -- the body and the third part of a `for`, behind which n instructions of its turn stand; the position is that behind the first part
-abbrev pub round_code : Setting → Scope → MaybeStmt → Stmt → Position → ℕ → List Instruction
+abbrev pub round_code : StatementContext → Scope → MaybeStmt → Stmt → Position → ℕ → List Instruction
 round_code s scope third body p n =
     let calls = call_code (functions_of s.helpers.functions.now) in
     let results = result_in (functions_of s.helpers.functions.now) in

@@ -24,7 +24,7 @@ ghost use Rattle.lower.specs.Statements.{is_loop, is_single, begun_at, once_code
 use crate::sites::{site_before, site_behind_all};
 use clmodel::tree::{Expression, Function, Statement};
 use lower_code::draft::Draft;
-use lower_code::holes::{Helpers, Setting};
+use lower_code::holes::{Helpers, StatementContext};
 use lower_code::loops::{end_do, end_while, put_condition, put_no_value, put_test};
 use lower_code::positions::{Exits, Position};
 use lower_code::simple::{emit_assignment, emit_declaration, put_jump};
@@ -63,7 +63,7 @@ fn statement_of(part: &Option<Box<Statement>>) -> Option<&Statement>
 
 /// Puts a statement in which no other stands before the code, and gives the number of its first barrier.
 fn emit_single<'a>(
-    setting: &Setting<'a>,
+    setting: &StatementContext<'a>,
     scope: &mut Scope,
     statement: &Statement,
     ending: Ending,
@@ -90,7 +90,7 @@ fn emit_single<'a>(
 
 /// Puts such a statement before the code at a position.
 fn put_single<'a>(
-    setting: &Setting<'a>,
+    setting: &StatementContext<'a>,
     scope: &mut Scope,
     statement: &Statement,
     position: Position,
@@ -121,7 +121,12 @@ fn put_single<'a>(
 
 /// The barriers of statements have numbers from 0 on where the first one behind them has its own, and the statements have no more nodes,
 /// with the loops round them, than a kernel may have; their levels have registers. This is the contract of a function that does nothing: what it asks is shown at its call.
-fn numbers_suffice(setting: &Setting<'_>, scope: &Scope, statements: &[Statement], ending: Ending)
+fn numbers_suffice(
+    setting: &StatementContext<'_>,
+    scope: &Scope,
+    statements: &[Statement],
+    ending: Ending,
+)
     requires few { all_sites (inside setting.now.helpers.functions.now) (all_of statements.now) ≤ ending.behind }
     requires small { ending.depth + (row_size (sizes_in setting.now.helpers.functions.now) (all_of statements.now)).nodes ≤ node_limit }
     requires low { free_level scope.now + levels (row_size (sizes_in setting.now.helpers.functions.now) (all_of statements.now)).nodes < 2 ^ 28 }
@@ -134,7 +139,7 @@ fn numbers_suffice(setting: &Setting<'_>, scope: &Scope, statements: &[Statement
 /// of memory, or if a register or a jump has no number of 32 bits.
 #[cycle(emission)]
 fn emit_statement<'a>(
-    setting: &Setting<'a>,
+    setting: &StatementContext<'a>,
     scope: &mut Scope,
     statement: &Statement,
     ending: Ending,
@@ -184,7 +189,7 @@ fn emit_statement<'a>(
 /// Puts a loop before the code.
 #[cycle(emission)]
 fn emit_loop<'a>(
-    setting: &Setting<'a>,
+    setting: &StatementContext<'a>,
     scope: &mut Scope,
     statement: &Statement,
     ending: Ending,
@@ -243,7 +248,7 @@ fn emit_loop<'a>(
 /// Puts the code of statements, in order, before the code.
 #[cycle(emission)]
 fn emit_all<'a>(
-    setting: &Setting<'a>,
+    setting: &StatementContext<'a>,
     scope: &mut Scope,
     statements: &[Statement],
     ending: Ending,
@@ -298,7 +303,7 @@ pub fn emit_body<'a>(
     };
     let mut scope = Scope::new(code.allocator(), level);
     declare_parameters(&mut scope, function.parameters.as_slice())?;
-    let setting = Setting {
+    let setting = StatementContext {
         helpers,
         result: function.result,
     };
@@ -316,7 +321,7 @@ pub fn emit_body<'a>(
 /// Puts a choice without a second side before the code.
 #[cycle(emission)]
 fn emit_if<'a>(
-    setting: &Setting<'a>,
+    setting: &StatementContext<'a>,
     scope: &mut Scope,
     condition: &Expression,
     chosen: &Statement,
@@ -341,7 +346,7 @@ fn emit_if<'a>(
 /// Puts a choice between two statements before the code.
 #[cycle(emission)]
 fn emit_choice<'a>(
-    setting: &Setting<'a>,
+    setting: &StatementContext<'a>,
     scope: &mut Scope,
     condition: &Expression,
     chosen: &Statement,
@@ -376,7 +381,7 @@ fn emit_choice<'a>(
 /// Puts the first part of a `for` before the code.
 #[cycle(emission)]
 fn emit_part<'a>(
-    setting: &Setting<'a>,
+    setting: &StatementContext<'a>,
     scope: &mut Scope,
     part: Option<&Statement>,
     ending: Ending,
@@ -400,7 +405,7 @@ fn emit_part<'a>(
 /// Puts a loop whose condition stands behind its body before the code.
 #[cycle(emission)]
 fn emit_do<'a>(
-    setting: &Setting<'a>,
+    setting: &StatementContext<'a>,
     scope: &mut Scope,
     body: &Statement,
     condition: &Expression,
@@ -426,7 +431,7 @@ fn emit_do<'a>(
 /// Puts the body of a loop before the rest of its turn. The ending is that of the loop.
 #[cycle(emission)]
 fn emit_once<'a>(
-    setting: &Setting<'a>,
+    setting: &StatementContext<'a>,
     scope: &mut Scope,
     body: &Statement,
     ending: Ending,
@@ -453,7 +458,7 @@ fn emit_once<'a>(
 /// Puts the third part of a `for` before the rest of its turn, and its body before that. The ending is that of the loop.
 #[cycle(emission)]
 fn emit_stepped<'a>(
-    setting: &Setting<'a>,
+    setting: &StatementContext<'a>,
     scope: &mut Scope,
     third: &Statement,
     body: &Statement,
@@ -484,7 +489,7 @@ fn emit_stepped<'a>(
 /// Puts the body and the third part of a `for`, if it has one, before the rest of its turn. The ending is that of the loop.
 #[cycle(emission)]
 fn emit_round<'a>(
-    setting: &Setting<'a>,
+    setting: &StatementContext<'a>,
     scope: &mut Scope,
     third: Option<&Statement>,
     body: &Statement,
@@ -510,7 +515,7 @@ fn emit_round<'a>(
 /// Puts a `for` before the code.
 #[cycle(emission)]
 fn emit_for<'a>(
-    setting: &Setting<'a>,
+    setting: &StatementContext<'a>,
     scope: &mut Scope,
     first: Option<&Statement>,
     condition: Option<&Expression>,
@@ -544,7 +549,7 @@ fn emit_for<'a>(
 /// Puts a `for` without its first part, whose variable is declared, before the code.
 #[cycle(emission)]
 fn emit_turns<'a>(
-    setting: &Setting<'a>,
+    setting: &StatementContext<'a>,
     scope: &mut Scope,
     condition: Option<&Expression>,
     third: Option<&Statement>,

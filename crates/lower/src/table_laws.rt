@@ -1,7 +1,7 @@
 //! Laws of the tables of code. Each is the contract of a function that does nothing.
 #![tactic(auto)]
 
-ghost use Rattle.lower.specs.Accepted.{ExpressionsSuit, PlacesSuit, ExpressionsFlat, ExpressionsSound, StatementsSound, KernelsGo, KernelsVerified, SuitFits, TypedKernelsVerified};
+ghost use Rattle.lower.specs.Accepted.{ExpressionsSuit, TargetsSuit, ExpressionsFlat, ExpressionsSound, StatementsSound, KernelsGo, KernelsVerified, SuitFits, TypedKernelsVerified};
 ghost use Rattle.lower.specs.Bounds.{TypedKernelsShort, TypedKernelsFewBarriers, TypedKernelsFewRegisters, TypedKernelsFit};
 
 /// A kernel's code is verified with the tables that are made from it, if its loops are nested no deeper than the limit, no two
@@ -9,7 +9,7 @@ ghost use Rattle.lower.specs.Bounds.{TypedKernelsShort, TypedKernelsFewBarriers,
 /// targets, do. The jumps and loops of expressions, statements and kernels are sound whether they are typed or not.
 pub fn code_is_verified()
     ensures expressions { ExpressionsSuit }
-    ensures places { PlacesSuit }
+    ensures places { TargetsSuit }
     ensures jumps { ExpressionsFlat }
     ensures ways { ExpressionsSound }
     ensures statements { StatementsSound }

@@ -47,10 +47,10 @@ fn registers_wanted(instruction: &Instruction) -> usize
         | Instruction::Local { to, .. }
         | Instruction::Argument { to, .. } => past(to),
         Instruction::Move { to, from, .. }
-        | Instruction::Hold { to, from, .. }
+        | Instruction::AssignConversion { to, from, .. }
         | Instruction::Convert { to, from, .. }
-        | Instruction::Common { to, from, .. }
-        | Instruction::Point { to, from } => past_both(to, from),
+        | Instruction::UsualConversion { to, from, .. }
+        | Instruction::MovePointer { to, from } => past_both(to, from),
         Instruction::Unary { to, operand, .. } => past_both(to, operand),
         Instruction::Binary {
             to,

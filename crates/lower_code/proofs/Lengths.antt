@@ -6,7 +6,7 @@ use Rattle.clnum.specs.declared.operators.BinaryOperator.{BinaryOperator}
 use Rattle.clmodel.specs.Barrier.{is_barrier, fences}
 use Rattle.clmodel.specs.BuiltIns.{built_in}
 use Rattle.clmodel.specs.Next.{Variables, is_private_array, HelperCall, helper_call, step_operator, sites_in}
-use Rattle.clmodel.specs.Tree.{Term, Terms, Place, Whole, Part, Behind, Stmt, Empty, Block, Declare, DeclareAs, DeclareArray, Assign, Step, CallOnly, If, IfElse, While, DoWhile, For, Break, Continue, Return, ReturnValue, Stmts, NoStmt, ThenStmt, MaybeStmt, Without, With, MaybeTerm, Always, While_, Func, Funcs, NoFunc, ThenFunc}
+use Rattle.clmodel.specs.Tree.{Term, Terms, Target, TargetVariable, TargetElement, TargetDereference, Stmt, Empty, Block, Declare, DeclareAs, DeclareArray, Assign, Step, CallOnly, If, IfElse, While, DoWhile, For, Break, Continue, Return, ReturnValue, Stmts, NoStmt, ThenStmt, MaybeStmt, Without, With, MaybeTerm, WithoutTerm, WithTerm, Func, Funcs, NoFunc, ThenFunc}
 use Rattle.clmodel.specs.declared.action.Fences.{Fences}
 use Rattle.clmodel.specs.declared.setup.BuiltIn.{BuiltIn}
 use Rattle.clmodel.specs.declared.tree.Parameter.{Parameter}
@@ -19,7 +19,7 @@ use Rattle.lower_code.specs.Emission.{functions_of, found_code}
 use Rattle.lower_code.specs.Emission as emission
 use Rattle.lower_code.proofs.Helpers.{code_hit}
 use Rattle.lower_code.specs.Code.{Calls, Exits, hold_code, fetch_code, put_code, combine_code, array_code, pass_code, arguments_code, variables_after_part, variables_after_all, parameter_variables, needed_code, no_value_code, value_code, wait_code, condition_code, if_code, if_else_code, turn_code, while_code, do_code, right_code, call_only_statement, stmt_code, part_code, stmts_code, body_code, call_code, result_in, variable}
-use Rattle.lower_expr.proofs.Lengths.{SameLength, single, longer, joined, chosen, registered, variable_same, call_only_same, from_level, expr_same, terms_same, place_same}
+use Rattle.lower_expr.proofs.Lengths.{SameLength, single, longer, joined, chosen, registered, variable_same, call_only_same, from_level, expr_same, terms_same, target_same}
 
 -- Two ways to emit calls, which give each helper code of one length, wherever it is called. How many arguments there are doesn't matter.
 abbrev pub AlikeCalls : Calls → Calls → Type 0
@@ -86,23 +86,23 @@ do_same depth depth2 h k = longer (turn_same depth depth2 h k)
 
 -- with the outermost variable at one level or another
 module _ (base other : ℕ) where
-  pub fetch_same : (vs : Variables) (to : Place) (reached reached2 at at2 : ℕ) → SameLength (fetch_code (from_level base vs) to reached at) (fetch_code (from_level other vs) to reached2 at2)
-  fetch_same vs (Whole at name) reached reached2 to to2 = variable_same to to2 _ _ name (registered base other vs name)
-  fetch_same vs (Part at name index) reached reached2 to to2 = chosen (is_private_array vs name) single single
-  fetch_same vs (Behind at pointer) reached reached2 to to2 = single
+  pub fetch_same : (vs : Variables) (to : Target) (reached reached2 at at2 : ℕ) → SameLength (fetch_code (from_level base vs) to reached at) (fetch_code (from_level other vs) to reached2 at2)
+  fetch_same vs (TargetVariable at name) reached reached2 to to2 = variable_same to to2 _ _ name (registered base other vs name)
+  fetch_same vs (TargetElement at name index) reached reached2 to to2 = chosen (is_private_array vs name) single single
+  fetch_same vs (TargetDereference at pointer) reached reached2 to to2 = single
 
-  pub put_same : (vs : Variables) (to : Place) (reached reached2 from from2 : ℕ) → SameLength (put_code (from_level base vs) to reached from) (put_code (from_level other vs) to reached2 from2)
-  put_same vs (Whole at name) reached reached2 from from2 = hold_same _ _ from from2 _
-  put_same vs (Part at name index) reached reached2 from from2 = chosen (is_private_array vs name) single single
-  put_same vs (Behind at pointer) reached reached2 from from2 = single
+  pub put_same : (vs : Variables) (to : Target) (reached reached2 from from2 : ℕ) → SameLength (put_code (from_level base vs) to reached from) (put_code (from_level other vs) to reached2 from2)
+  put_same vs (TargetVariable at name) reached reached2 from from2 = hold_same _ _ from from2 _
+  put_same vs (TargetElement at name index) reached reached2 from from2 = chosen (is_private_array vs name) single single
+  put_same vs (TargetDereference at pointer) reached reached2 from from2 = single
 
-  pub combine_same : (vs : Variables) (to : Place) (level level2 : ℕ) (operator : BinaryOperator) (kind : VariableType) (old old2 right right2 : ℕ)
+  pub combine_same : (vs : Variables) (to : Target) (level level2 : ℕ) (operator : BinaryOperator) (kind : VariableType) (old old2 right right2 : ℕ)
       → SameLength (combine_code (from_level base vs) to level operator kind old right) (combine_code (from_level other vs) to level2 operator kind old2 right2)
   combine_same vs to level level2 operator kind old old2 right right2 = longer (put_same vs to _ _ _ _)
 
   condition_same : (vs : Variables) (test : MaybeTerm) → SameLength (condition_code (from_level base vs) test) (condition_code (from_level other vs) test)
-  condition_same vs Always = record { same = refl }
-  condition_same vs (While_ test) = joined (expr_same base other vs _ _ test) single
+  condition_same vs WithoutTerm = record { same = refl }
+  condition_same vs (WithTerm test) = joined (expr_same base other vs _ _ test) single
 
   module _ (calls calls2 : Calls) (alike : AlikeCalls calls calls2) (results : ℕ → Option IntType) (inside inside2 : ℕ → ℕ) (result : Option IntType) where
     pub right_same : (vs : Variables) (level level2 : ℕ) (called : Option HelperCall) (value : Term) (depth depth2 site site2 : ℕ)
@@ -131,12 +131,12 @@ module _ (base other : ℕ) where
           longer (joined (right_same (variable name kind ∷ vs) _ _ (helper_call value) value depth depth2 site site2) single)
       stmt_same vs (DeclareArray at is_local element name_at name length_at count) depth depth2 site site2 exits exits2 = array_same is_local element _ _ _ _ _
       stmt_same vs (Assign at to None value) depth depth2 site site2 exits exits2 =
-          joined (place_same base other vs _ _ to) (joined (right_same vs _ _ (helper_call value) value depth depth2 site site2) (put_same vs to _ _ _ _))
+          joined (target_same base other vs _ _ to) (joined (right_same vs _ _ (helper_call value) value depth depth2 site site2) (put_same vs to _ _ _ _))
       stmt_same vs (Assign at to (Some operator) value) depth depth2 site site2 exits exits2 =
-          joined (place_same base other vs _ _ to)
+          joined (target_same base other vs _ _ to)
           (joined (fetch_same vs to _ _ _ _) (joined (right_same vs _ _ (helper_call value) value depth depth2 site site2) (combine_same vs to _ _ operator _ _ _ _ _)))
       stmt_same vs (Step at to is_increment) depth depth2 site site2 exits exits2 =
-          joined (place_same base other vs _ _ to) (joined (fetch_same vs to _ _ _ _) (longer (combine_same vs to _ _ (step_operator is_increment) _ _ _ _ _)))
+          joined (target_same base other vs _ _ to) (joined (fetch_same vs to _ _ _ _) (longer (combine_same vs to _ _ (step_operator is_increment) _ _ _ _ _)))
       stmt_same vs (CallOnly at name arguments) depth depth2 site site2 exits exits2 =
           call_only_statement_same vs (is_barrier name) (built_in name) name arguments depth depth2 site site2
       stmt_same vs (If at test one) depth depth2 site site2 exits exits2 =
@@ -144,9 +144,9 @@ module _ (base other : ℕ) where
       stmt_same vs (IfElse at test one two) depth depth2 site site2 exits exits2 =
           if_else_same _ _ (expr_same base other vs _ _ test) (stmt_same vs one depth depth2 site site2 _ _) (stmt_same vs two depth depth2 _ _ exits exits2)
       stmt_same vs (While at test body) depth depth2 site site2 exits exits2 =
-          while_same depth depth2 (stmt_same vs body (depth + 1) (depth2 + 1) site site2 _ _) (condition_same vs (While_ test))
+          while_same depth depth2 (stmt_same vs body (depth + 1) (depth2 + 1) site site2 _ _) (condition_same vs (WithTerm test))
       stmt_same vs (DoWhile at body test) depth depth2 site site2 exits exits2 =
-          do_same depth depth2 (stmt_same vs body (depth + 1) (depth2 + 1) site site2 _ _) (condition_same vs (While_ test))
+          do_same depth depth2 (stmt_same vs body (depth + 1) (depth2 + 1) site site2 _ _) (condition_same vs (WithTerm test))
       stmt_same vs (For at first test third body) depth depth2 site site2 exits exits2 =
           let inner = variables_after_part vs first in
           joined (part_same vs first depth depth2 site site2 _ _)

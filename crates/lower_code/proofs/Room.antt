@@ -2,8 +2,8 @@
 use Rattle.std.proofs.Common.{◌≡◌, ℕ, suc, ◌+◌, ◌<◌, ◌≤◌, ◌^◌, [], Option, None, Some, arith}
 use Rattle.clmodel.specs.BuiltIns.{built_in}
 use Rattle.clmodel.specs.Next.{HelperCall, helper_or, helper_call, call_sites}
-use Rattle.clmodel.specs.Tree.{Term, Number, Variable, Element, ElementAddress, Dereference, Call, Unary, Cast, Binary, Choice, Terms, NoTerm, ThenTerm, Place, Whole, Part, Behind, MaybeTerm, Always, While_}
-use Rattle.clmodel.specs.Typing.Sizes.{Sizes, size_in, term_size, terms_size, place_size, condition_size}
+use Rattle.clmodel.specs.Tree.{Term, Number, Variable, Element, ElementAddress, Dereference, Call, Unary, Cast, Binary, Choice, Terms, NoTerm, ThenTerm, Target, TargetVariable, TargetElement, TargetDereference, MaybeTerm, WithoutTerm, WithTerm}
+use Rattle.clmodel.specs.Typing.Sizes.{Sizes, size_in, term_size, terms_size, target_size, condition_size}
 use Rattle.clmodel.specs.declared.setup.BuiltIn.{BuiltIn}
 use Rattle.lower_code.specs.Room.{levels}
 
@@ -26,14 +26,14 @@ mutual
   fewer_all sizes NoTerm = omega arith
   fewer_all sizes (ThenTerm es e) = let h = fewer_all sizes es in let k = fewer sizes e in omega (arith, h, k)
 
-pub fewer_there : (sizes : Sizes) (to : Place) → (place_size [] to).nodes ≤ (place_size sizes to).nodes
-fewer_there sizes (Whole at name) = omega arith
-fewer_there sizes (Part at name index) = let h = fewer sizes index in omega (arith, h)
-fewer_there sizes (Behind at pointer) = let h = fewer sizes pointer in omega (arith, h)
+pub fewer_there : (sizes : Sizes) (to : Target) → (target_size [] to).nodes ≤ (target_size sizes to).nodes
+fewer_there sizes (TargetVariable at name) = omega arith
+fewer_there sizes (TargetElement at name index) = let h = fewer sizes index in omega (arith, h)
+fewer_there sizes (TargetDereference at pointer) = let h = fewer sizes pointer in omega (arith, h)
 
 pub fewer_asked : (sizes : Sizes) (test : MaybeTerm) → (condition_size [] test).nodes ≤ (condition_size sizes test).nodes
-fewer_asked sizes Always = omega arith
-fewer_asked sizes (While_ test) = fewer sizes test
+fewer_asked sizes WithoutTerm = omega arith
+fewer_asked sizes (WithTerm test) = fewer sizes test
 
 called : (sizes : Sizes) (f : Option BuiltIn) (c : HelperCall) → call_sites (λ x. (size_in sizes x).nodes) (helper_or f c) ≤ (size_in sizes c.name).nodes
 called sizes None c = omega arith

@@ -16,7 +16,7 @@ use Rattle.lower_code.specs.Code.{Calls, Exits, past, stmt_code, stmts_code, cal
 use Rattle.lower_code.specs.Emission.{functions_of, inside, exits_of, statement_code}
 use Rattle.lower_code.specs.declared.positions.Exits as declared
 use Rattle.lower_code.specs.declared.positions.Position.{Position}
-use Rattle.lower_code.specs.declared.holes.Setting.{Setting}
+use Rattle.lower_code.specs.declared.holes.StatementContext.{StatementContext}
 
 past_past : (a b : ℕ) (e : Exits) → past a (past b e) ≡ past (a + b) e
 past_past a b e =
@@ -63,7 +63,7 @@ choice_laid test first second old one two three four register by over one_is by_
 pub placed : (r : Result (Unit {0}) AllocError) (new old one two : List Instruction) → one ≡ two → OnOk r (new ≡ one ++ old) → OnOk r (new ≡ two ++ old)
 placed r new old one two e h = on_ok_weaker {P = new ≡ one ++ old} {Q = new ≡ two ++ old} r (λ k. k ∙ ap (λ xs. xs ++ old) e) h
 
-pub choice_placed : (s : Setting) (scope middle later : Scope) (p : Position) (test : Term) (chosen otherwise : Stmt) (site : ℕ) (exits : declared.Exits) (old one two three four : List Instruction) (by added over : ℕ)
+pub choice_placed : (s : StatementContext) (scope middle later : Scope) (p : Position) (test : Term) (chosen otherwise : Stmt) (site : ℕ) (exits : declared.Exits) (old one two three four : List Instruction) (by added over : ℕ)
     → site ≡ p.site + sites (inside s.helpers.functions.now) chosen
     → one ≡ statement_code s scope otherwise (record { depth = p.depth; site = site; exits = p.exits }) ++ old
     → middle ≡ scope → later ≡ middle

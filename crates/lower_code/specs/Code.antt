@@ -6,7 +6,7 @@ use Rattle.clnum.specs.declared.operators.BinaryOperator.{BinaryOperator}
 use Rattle.clmodel.specs.Barrier.{is_barrier, fences}
 use Rattle.clmodel.specs.BuiltIns.{built_in}
 use Rattle.clmodel.specs.Next.{argument_type, call_type, step_operator, HelperCall, helper_call, sites, part_sites, all_sites, sites_in}
-use Rattle.clmodel.specs.Tree.{Term, Terms, Place, Stmt, Empty, Block, Declare, DeclareAs, DeclareArray, Assign, Step, CallOnly, If, IfElse, While, DoWhile, For, Break, Continue, Return, ReturnValue, Stmts, NoStmt, ThenStmt, MaybeStmt, Without, With, MaybeTerm, Always, While_, array_length, Func, Funcs, NoFunc, ThenFunc}
+use Rattle.clmodel.specs.Tree.{Term, Terms, Target, Stmt, Empty, Block, Declare, DeclareAs, DeclareArray, Assign, Step, CallOnly, If, IfElse, While, DoWhile, For, Break, Continue, Return, ReturnValue, Stmts, NoStmt, ThenStmt, MaybeStmt, Without, With, MaybeTerm, WithoutTerm, WithTerm, array_length, Func, Funcs, NoFunc, ThenFunc}
 use Rattle.clmodel.specs.declared.tree.VariableType.{VariableType}
 use Rattle.clmodel.specs.declared.tree.VariableType.TheVariants.{Integer}
 use Rattle.clmodel.specs.declared.action.Fences.{Fences}
@@ -14,8 +14,8 @@ use Rattle.clmodel.specs.declared.setup.BuiltIn.{BuiltIn}
 use Rattle.regcode.specs.declared.instruction.Instruction.{Instruction}
 use Rattle.regcode.specs.declared.instruction.Instruction.TheVariants as instruction
 use Rattle.lower_expr.specs.Scope.{Scope, free_level, register_at}
-use Rattle.lower_expr.specs.Expressions.{kind_of, register_for, registers_for, expr_code, terms_code, call_only_code, place_code, place_register}
-pub use Rattle.lower_expr.specs.Places.{hold_code, place_type, fetch_code, put_code, combine_code}
+use Rattle.lower_expr.specs.Expressions.{kind_of, register_for, registers_for, expr_code, terms_code, call_only_code, target_code, target_register}
+pub use Rattle.lower_expr.specs.Targets.{hold_code, type_of_target, fetch_code, put_code, combine_code}
 pub use Rattle.lower_code.specs.Variables.{variable, local_pointer, array_variable, with_variable, variables_after, variables_after_part, variables_after_all, scope_after, scope_after_part, scope_after_all, array_code, parameter_variables, pass_code, arguments_code}
 
 -- How far behind the end of a statement's code its other ends are: what follows a loop that is broken, the condition or the third part of one that is
@@ -56,7 +56,7 @@ no_value_code (Some kind) level = instruction.End ∷ []
 -- a function returns a register's value, in its type
 abbrev pub value_code : Option IntType → ℕ → ℕ → List Instruction
 value_code None level from = []
-value_code (Some kind) level from = instruction.Hold (register_at level (Integer kind)) from (Integer kind) ∷ []
+value_code (Some kind) level from = instruction.AssignConversion (register_at level (Integer kind)) from (Integer kind) ∷ []
 
 -- a wait at a barrier
 abbrev pub wait_code : Option Fences → ℕ → ℕ → List Instruction
@@ -65,8 +65,8 @@ wait_code None site depth = instruction.End ∷ []
 
 -- a condition, and a jump past the next instruction where it doesn't hold
 abbrev pub condition_code : Scope → MaybeTerm → List Instruction
-condition_code scope Always = []
-condition_code scope (While_ test) =
+condition_code scope WithoutTerm = []
+condition_code scope (WithTerm test) =
     expr_code scope (free_level scope) test ++ instruction.JumpIfZero (register_for scope (free_level scope) test) 1 ∷ []
 
 -- a choice without a second side: the test, and a jump past the first side
@@ -104,27 +104,27 @@ module _ (calls : Calls) (results : ℕ → Option IntType) (inside : ℕ → �
   right_type scope None value = kind_of scope value
 
   -- an assignment: the target, the right side, and the value is put there
-  abbrev pub assign_code : Scope → ℕ → Place → Option HelperCall → Term → ℕ → ℕ → List Instruction
-  assign_code scope level place called value depth site =
-      place_code scope level place
+  abbrev pub assign_code : Scope → ℕ → Target → Option HelperCall → Term → ℕ → ℕ → List Instruction
+  assign_code scope level target called value depth site =
+      target_code scope level target
       ++ (right_code scope (level + 1) called value depth site
-      ++ put_code scope place (place_register scope level place) (register_at (level + 1) (right_type scope called value)))
+      ++ put_code scope target (target_register scope level target) (register_at (level + 1) (right_type scope called value)))
 
   -- a compound assignment: the old value is fetched before the right side
-  abbrev pub compound_code : Scope → ℕ → Place → BinaryOperator → Option HelperCall → Term → ℕ → ℕ → List Instruction
-  compound_code scope level place operator called value depth site =
-      place_code scope level place
-      ++ (fetch_code scope place (place_register scope level place) (register_at (level + 1) (place_type scope place))
+  abbrev pub compound_code : Scope → ℕ → Target → BinaryOperator → Option HelperCall → Term → ℕ → ℕ → List Instruction
+  compound_code scope level target operator called value depth site =
+      target_code scope level target
+      ++ (fetch_code scope target (target_register scope level target) (register_at (level + 1) (type_of_target scope target))
       ++ (right_code scope (level + 2) called value depth site
-      ++ combine_code scope place level operator (right_type scope called value) (register_at (level + 1) (place_type scope place)) (register_at (level + 2) (right_type scope called value))))
+      ++ combine_code scope target level operator (right_type scope called value) (register_at (level + 1) (type_of_target scope target)) (register_at (level + 2) (right_type scope called value))))
 
   -- `++` and `--`
-  abbrev pub step_code : Scope → ℕ → Place → BinaryOperator → List Instruction
-  step_code scope level place operator =
-      place_code scope level place
-      ++ (fetch_code scope place (place_register scope level place) (register_at (level + 1) (place_type scope place))
+  abbrev pub step_code : Scope → ℕ → Target → BinaryOperator → List Instruction
+  step_code scope level target operator =
+      target_code scope level target
+      ++ (fetch_code scope target (target_register scope level target) (register_at (level + 1) (type_of_target scope target))
       ++ instruction.Constant (register_at (level + 2) (Integer Int)) (record { kind = Int; number = pos 1 })
-      ∷ combine_code scope place level operator (Integer Int) (register_at (level + 1) (place_type scope place)) (register_at (level + 2) (Integer Int)))
+      ∷ combine_code scope target level operator (Integer Int) (register_at (level + 1) (type_of_target scope target)) (register_at (level + 2) (Integer Int)))
 
   -- a call that is a whole statement: of the barrier, of another built-in function, or of a helper
   abbrev pub call_only_statement : Scope → Bool → Option BuiltIn → ℕ → Terms → ℕ → ℕ → List Instruction
@@ -144,11 +144,11 @@ module _ (calls : Calls) (results : ℕ → Option IntType) (inside : ℕ → �
     stmt_code scope (DeclareAs at kind name_at name value) depth site exits =
         instruction.Unset (register_at (free_level scope) kind)
         ∷ (right_code (with_variable scope name kind) (free_level scope + 1) (helper_call value) value depth site
-        ++ instruction.Hold (register_at (free_level scope) kind) (register_at (free_level scope + 1) (right_type (with_variable scope name kind) (helper_call value) value)) kind ∷ [])
+        ++ instruction.AssignConversion (register_at (free_level scope) kind) (register_at (free_level scope + 1) (right_type (with_variable scope name kind) (helper_call value) value)) kind ∷ [])
     stmt_code scope (DeclareArray at is_local element name_at name length_at count) depth site exits = array_code is_local element (array_length count) (length scope.variables) (free_level scope)
-    stmt_code scope (Assign at place None value) depth site exits = assign_code scope (free_level scope) place (helper_call value) value depth site
-    stmt_code scope (Assign at place (Some operator) value) depth site exits = compound_code scope (free_level scope) place operator (helper_call value) value depth site
-    stmt_code scope (Step at place is_increment) depth site exits = step_code scope (free_level scope) place (step_operator is_increment)
+    stmt_code scope (Assign at target None value) depth site exits = assign_code scope (free_level scope) target (helper_call value) value depth site
+    stmt_code scope (Assign at target (Some operator) value) depth site exits = compound_code scope (free_level scope) target operator (helper_call value) value depth site
+    stmt_code scope (Step at target is_increment) depth site exits = step_code scope (free_level scope) target (step_operator is_increment)
     stmt_code scope (CallOnly at name arguments) depth site exits = call_only_statement scope (is_barrier name) (built_in name) name arguments depth site
     stmt_code scope (If at test chosen) depth site exits =
         if_code (expr_code scope (free_level scope) test) (register_for scope (free_level scope) test) (stmt_code scope chosen depth site exits)
@@ -157,10 +157,10 @@ module _ (calls : Calls) (results : ℕ → Option IntType) (inside : ℕ → �
         if_else_code (expr_code scope (free_level scope) test) (register_for scope (free_level scope) test)
         (stmt_code scope chosen depth site (past (length second + 1) exits)) second
     stmt_code scope (While at test body) depth site exits =
-        let condition = condition_code scope (While_ test) in
+        let condition = condition_code scope (WithTerm test) in
         while_code depth (stmt_code scope body (depth + 1) site (body_exits (length condition + 1) exits)) condition
     stmt_code scope (DoWhile at body test) depth site exits =
-        let condition = condition_code scope (While_ test) in
+        let condition = condition_code scope (WithTerm test) in
         do_code depth (stmt_code scope body (depth + 1) site (body_exits (length condition + 1) exits)) condition
     stmt_code scope (For at first test third body) depth site exits =
         let inner = scope_after_part scope first in

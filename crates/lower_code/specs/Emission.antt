@@ -3,7 +3,7 @@ use Rattle.std.specs.Prelude.{ℕ, ◌++◌, Bool, true, false, Option, None, So
 use Rattle.std.specs.Borrow.{Bor}
 use Rattle.clnum.specs.declared.int_type.IntType.{IntType}
 use Rattle.clmodel.specs.Next.{all_sites}
-use Rattle.clmodel.specs.Tree.{Stmt, Stmts, MaybeStmt, MaybeTerm, Always, While_, term}
+use Rattle.clmodel.specs.Tree.{Stmt, Stmts, MaybeStmt, MaybeTerm, WithoutTerm, WithTerm, term}
 use Rattle.clmodel.specs.declared.tree.Expression.{Expression}
 use Rattle.clmodel.specs.declared.tree.Function.{Function}
 use Rattle.clmodel.specs.declared.tree.Statement as statement
@@ -20,7 +20,7 @@ use Rattle.lower_code.specs.declared.assignments.Split.{Split}
 use Rattle.lower_code.specs.declared.functions.Found.{Found}
 use Rattle.lower_code.specs.declared.positions.Exits.{Exits}
 use Rattle.lower_code.specs.declared.positions.Position.{Position}
-use Rattle.lower_code.specs.declared.holes.Setting.{Setting}
+use Rattle.lower_code.specs.declared.holes.StatementContext.{StatementContext}
 
 -- the statements by what emits them: declarations, assignments and calls, and jumps
 abbrev pub is_declaration : Statement → Bool
@@ -41,8 +41,8 @@ is_jump (statement.Return at value) = true
 is_jump _ = false
 
 abbrev pub test_of : Option (Bor Expression) → MaybeTerm
-test_of None = Always
-test_of (Some e) = While_ (term e.now)
+test_of None = WithoutTerm
+test_of (Some e) = WithTerm (term e.now)
 
 -- the body of a helper with the functions before it, or the end of the item where there is none of a name
 abbrev pub found_code : List Function → Option Found → List ℕ → ℕ → ℕ → ℕ → List Instruction
@@ -79,14 +79,14 @@ abbrev pub exits_of : Exits → spec.Exits
 exits_of exits = record { broken = exits.broken; continued = exits.continued; returned = exits.returned }
 
 -- the code of a statement, of a part of a `for` and of statements in a setting at a position
-abbrev pub statement_code : Setting → Scope → Stmt → Position → List Instruction
+abbrev pub statement_code : StatementContext → Scope → Stmt → Position → List Instruction
 statement_code s scope statement p =
     stmt_code (call_code (functions_of s.helpers.functions.now)) (result_in (functions_of s.helpers.functions.now)) (inside s.helpers.functions.now) s.result scope statement p.depth p.site (exits_of p.exits)
 
-abbrev pub maybe_code : Setting → Scope → MaybeStmt → Position → List Instruction
+abbrev pub maybe_code : StatementContext → Scope → MaybeStmt → Position → List Instruction
 maybe_code s scope part p =
     part_code (call_code (functions_of s.helpers.functions.now)) (result_in (functions_of s.helpers.functions.now)) (inside s.helpers.functions.now) s.result scope part p.depth p.site (exits_of p.exits)
 
-abbrev pub row_code : Setting → Scope → Stmts → Position → List Instruction
+abbrev pub row_code : StatementContext → Scope → Stmts → Position → List Instruction
 row_code s scope statements p =
     stmts_code (call_code (functions_of s.helpers.functions.now)) (result_in (functions_of s.helpers.functions.now)) (inside s.helpers.functions.now) s.result scope statements p.depth p.site (exits_of p.exits)

@@ -67,7 +67,7 @@ parameter_variables (p ∷ ps) variables = parameter_variables ps (variable p.na
 abbrev pub pass_code : List Parameter → List ℕ → ℕ → List Instruction
 pass_code [] arguments level = []
 pass_code (p ∷ ps) [] level = instruction.Unset (register_at level p.kind) ∷ pass_code ps [] (level + 1)
-pass_code (p ∷ ps) (argument ∷ arguments) level = instruction.Hold (register_at level p.kind) argument p.kind ∷ pass_code ps arguments (level + 1)
+pass_code (p ∷ ps) (argument ∷ arguments) level = instruction.AssignConversion (register_at level p.kind) argument p.kind ∷ pass_code ps arguments (level + 1)
 
 -- the parameters from a level on are given the arguments of the launch
 abbrev pub arguments_code : List Parameter → ℕ → List Instruction

@@ -7,8 +7,8 @@ ghost use Rattle.clmodel.specs.Barrier as barrier;
 ghost use Rattle.clmodel.specs.BuiltIns.{built_in};
 ghost use Rattle.clmodel.specs.Next as next;
 ghost use Rattle.clmodel.specs.Tree as tree;
-ghost use Rattle.clmodel.specs.Tree.{place, term, terms};
-ghost use Rattle.clmodel.specs.Typing.Sizes.{place_size, term_size, terms_size};
+ghost use Rattle.clmodel.specs.Tree.{tree_target, term, terms};
+ghost use Rattle.clmodel.specs.Typing.Sizes.{target_size, term_size, terms_size};
 ghost use Rattle.lower_expr.specs.Scope.{free_level};
 ghost use Rattle.lower_expr.specs.Growth.{IsLonger};
 ghost use Rattle.lower_code.specs.Code as spec;
@@ -173,10 +173,10 @@ pub fn assign(
     target: &Target,
     value: &Expression,
 ) -> Result<Split, AllocError>
-    requires { free_level scope.now + (place_size [] (place target.now)).nodes + (term_size [] (term value.now)).nodes + 1 < 2 ^ 28 }
+    requires { free_level scope.now + (target_size [] (tree_target target.now)).nodes + (term_size [] (term value.now)).nodes + 1 < 2 ^ 28 }
     ensures code { IfOk result (λ split. (calls : Calls) (inside : ℕ → ℕ) (kind : Option IntType) (depth site : ℕ)
         → split_code calls split depth site
-        ≡ spec.assign_code calls (result_in (functions_of helpers.entry.functions.now)) inside kind scope.now (free_level scope.now) (place target.now) (next.helper_call (term value.now)) (term value.now) depth site) }
+        ≡ spec.assign_code calls (result_in (functions_of helpers.entry.functions.now)) inside kind scope.now (free_level scope.now) (tree_target target.now) (next.helper_call (term value.now)) (term value.now) depth site) }
     ensures sites { IfOk result (λ split. (inside : ℕ → ℕ) → called_sites inside split.call ≡ next.call_sites inside (next.helper_call (term value.now))) }
     ensures level { IfOk result (λ split. called_level split.call ≤ free_level scope.now + 2) }
 {
@@ -198,10 +198,10 @@ pub fn compound(
     operator: BinaryOperator,
     value: &Expression,
 ) -> Result<Split, AllocError>
-    requires { free_level scope.now + (place_size [] (place target.now)).nodes + (term_size [] (term value.now)).nodes + 2 < 2 ^ 28 }
+    requires { free_level scope.now + (target_size [] (tree_target target.now)).nodes + (term_size [] (term value.now)).nodes + 2 < 2 ^ 28 }
     ensures code { IfOk result (λ split. (calls : Calls) (inside : ℕ → ℕ) (kind : Option IntType) (depth site : ℕ)
         → split_code calls split depth site
-        ≡ spec.compound_code calls (result_in (functions_of helpers.entry.functions.now)) inside kind scope.now (free_level scope.now) (place target.now) operator (next.helper_call (term value.now)) (term value.now) depth site) }
+        ≡ spec.compound_code calls (result_in (functions_of helpers.entry.functions.now)) inside kind scope.now (free_level scope.now) (tree_target target.now) operator (next.helper_call (term value.now)) (term value.now) depth site) }
     ensures sites { IfOk result (λ split. (inside : ℕ → ℕ) → called_sites inside split.call ≡ next.call_sites inside (next.helper_call (term value.now))) }
     ensures level { IfOk result (λ split. called_level split.call ≤ free_level scope.now + 2) }
 {
@@ -247,9 +247,9 @@ pub fn put_step(
     is_increment: bool,
     code: &mut Draft<'_>,
 ) -> Result<(), AllocError>
-    requires { free_level scope.now + (place_size [] (place target.now)).nodes + 2 < 2 ^ 28 }
+    requires { free_level scope.now + (target_size [] (tree_target target.now)).nodes + 2 < 2 ^ 28 }
     ensures code { OnOk result ((calls : Calls) (results : ℕ → Option IntType) (inside : ℕ → ℕ) (kind : Option IntType)
-        → code.new ≡ spec.step_code calls results inside kind scope.now (free_level scope.now) (place target.now) (next.step_operator is_increment) ++ code.old) }
+        → code.new ≡ spec.step_code calls results inside kind scope.now (free_level scope.now) (tree_target target.now) (next.step_operator is_increment) ++ code.old) }
     ensures longer { OnErr result (GrowsBefore code.old code.new) }
 {
     let level = scope.free_level();
@@ -308,7 +308,10 @@ pub fn declare_as(
     scope.leave(count);
     let mut right = right?;
     let from = register_at(above, right.kind);
-    add(&mut right.split.back, Instruction::Hold { to, from, kind })?;
+    add(
+        &mut right.split.back,
+        Instruction::AssignConversion { to, from, kind },
+    )?;
     Ok(right.split)
 }
 

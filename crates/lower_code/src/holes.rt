@@ -43,7 +43,7 @@ impl<'a> Helpers<'a> {
 
 /// What stands round all statements of a function: the functions before it, and the type of its value.
 #[derive(Clone, Copy)]
-pub struct Setting<'a> {
+pub struct StatementContext<'a> {
     pub helpers: Helpers<'a>,
     pub result: Option<IntType>,
 }

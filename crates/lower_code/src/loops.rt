@@ -141,7 +141,7 @@ fn add_value(
         Some(kind) => {
             let kind = VariableType::Integer(kind);
             let to = register_at(level, kind);
-            add(code, Instruction::Hold { to, from, kind })
+            add(code, Instruction::AssignConversion { to, from, kind })
         }
     }
 }

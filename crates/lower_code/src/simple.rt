@@ -15,7 +15,7 @@ ghost use Rattle.lower_expr.specs.Scope.{free_level};
 use crate::assignments::{assign, call_statement, compound, declare_as, put_step};
 use crate::calls::emit_split;
 use crate::draft::Draft;
-use crate::holes::Setting;
+use crate::holes::StatementContext;
 use crate::loops::{put_return, put_return_value};
 use crate::positions::Position;
 use crate::variables::{put_array, put_unset};
@@ -26,7 +26,7 @@ use std::alloc::AllocError;
 
 /// Puts a declaration before the code.
 pub fn emit_declaration<'a>(
-    setting: &Setting<'a>,
+    setting: &StatementContext<'a>,
     scope: &mut Scope,
     statement: &Statement,
     position: Position,
@@ -65,7 +65,7 @@ pub fn emit_declaration<'a>(
 
 /// Puts an assignment, or a call that is a whole statement, before the code.
 pub fn emit_assignment<'a>(
-    setting: &Setting<'a>,
+    setting: &StatementContext<'a>,
     scope: &Scope,
     statement: &Statement,
     position: Position,
@@ -113,7 +113,7 @@ pub fn emit_assignment<'a>(
 
 /// Puts a jump out of a loop or of the function before the code.
 pub fn put_jump<'a>(
-    setting: &Setting<'a>,
+    setting: &StatementContext<'a>,
     scope: &Scope,
     statement: &Statement,
     position: Position,

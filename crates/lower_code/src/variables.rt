@@ -140,7 +140,7 @@ fn pass_one(parameter: Parameter, arguments: &[u32], place: usize, level: u32) -
     if place < arguments.len() {
         let from = arguments[place];
         let kind = parameter.kind;
-        return Instruction::Hold { to, from, kind };
+        return Instruction::AssignConversion { to, from, kind };
     }
     Instruction::Unset { to }
 }

@@ -5,10 +5,10 @@ use Rattle.clnum.specs.Integer.{converted}
 use Rattle.clnum.specs.Operations.{truth, unary_value}
 use Rattle.clnum.specs.declared.int_type.IntType.TheVariants.{Int}
 use Rattle.clmodel.specs.BuiltIns.{built_in}
-use Rattle.clmodel.specs.Next.{Run, Variables, known, look, moved, load, pointing, number, test, settle, join, call, combined, chosen_value, base_type, infix_type, type_of, eval, eval_all, reach, declared_type, is_private_array, read_element, load_element}
+use Rattle.clmodel.specs.Next.{Continuation, Variables, known, look, moved, load, pointing, number, test, settle, join, call, combined, chosen_value, base_type, infix_type, type_of, eval, eval_all, reach, declared_type, is_private_array, read_element, load_element}
 use Rattle.clmodel.specs.Next.Expressions.{Destination, Named, ElementOf, Through}
 use Rattle.clmodel.specs.Tree as tree
-use Rattle.clmodel.specs.Tree.{Term, Terms, NoTerm, ThenTerm, Place}
+use Rattle.clmodel.specs.Tree.{Term, Terms, NoTerm, ThenTerm, Target}
 use Rattle.clmodel.specs.declared.operand.Operand.{Operand}
 use Rattle.clmodel.specs.declared.operand.Operand.TheVariants.{Integral, Pointed}
 use Rattle.clmodel.specs.declared.operand.Pointer.{Pointer}
@@ -20,25 +20,25 @@ use Rattle.clmodel.specs.declared.tree.VariableType.{VariableType}
 use Rattle.clmodel.specs.declared.tree.VariableType.TheVariants.{Integer}
 use Rattle.regcode.specs.declared.instruction.Instruction.{Instruction}
 use Rattle.regcode.specs.declared.instruction.Instruction.TheVariants as instruction
-use Rattle.regcode.specs.Machine.{State, Given, reg, array_of, with_put, passed, onward}
+use Rattle.regcode.specs.Machine.{State, ItemContext, reg, array_of, with_put, passed, onward}
 use Rattle.regcode.proofs.Registers.{reg_put}
 use Rattle.lower_expr.specs.Scope.{Scope, register_at, register_of, level_of, Sees, free_level}
-use Rattle.lower_expr.specs.Expressions.{expr_code, terms_code, place_code, place_register, register_for, registers_for, kind_of, kind_named, variable_code, type_of_elements, private_load, element_code, address_code, truth_code, infix_code, branch_code, choice_code, call_code, count}
-use Rattle.lower_expr.specs.Agreement.{HasAt, Reached, Hold, HoldsPart, Follows, FollowsAll, FollowsPlace}
+use Rattle.lower_expr.specs.Expressions.{expr_code, terms_code, target_code, target_register, register_for, registers_for, kind_of, kind_named, variable_code, type_of_elements, private_load, element_code, address_code, truth_code, infix_code, branch_code, choice_code, call_code, count}
+use Rattle.lower_expr.specs.Agreement.{HasAt, Reached, Hold, HoldsPart, Follows, FollowsAll, FollowsTarget}
 use Rattle.regcode.proofs.Agreement.{Agree, ends, constant_runs, unset_runs, move_runs, jump_runs, convert_runs, common_runs, unary_runs, binary_runs, one_integer_runs, two_integers_run, dimensions_run, query_runs, point_runs, offset_runs, load_runs, private_load_runs, fetch_alone_runs, fetch_number_runs, fetch_pair_runs, branch_runs}
 use Rattle.lower_expr.proofs.Lengths.{call_length}
 use Rattle.lower_expr.proofs.Places.{has_left, has_right, has_moved, reached_here, reached_put, reached_then, register_kept, seen_kept, reached_to, reached_passed, reached_onward, found, look_seen, type_seen, array_seen, elements_seen, hold_then, arguments_kept}
 
-module _ (given : Given) (code : List Instruction) (bound : ℕ) where
+module _ (given : ItemContext) (code : List Instruction) (bound : ℕ) where
   -- from states where the variables hold these values the code of an expression acts as its evaluation
   abbrev Runs : Scope → ℕ → Term → Variables → Type 0
   Runs scope level e vs =
-      (now : State) (next : Operand → Run) → Sees scope now.registers vs → HasAt code now.place (expr_code scope level e)
+      (now : State) (next : Operand → Continuation) → Sees scope now.registers vs → HasAt code now.place (expr_code scope level e)
       → Follows given code bound level now (now.place + length (expr_code scope level e)) (register_for scope level e) next
       → Agree given code bound now (eval given.here e vs next)
 
   -- the last instruction leaves the value in its register
-  last : (level : ℕ) (kind : VariableType) (s : State) (before : ℕ) (now : State) (place : ℕ) (after : Operand → Run) → Reached level s before now
+  last : (level : ℕ) (kind : VariableType) (s : State) (before : ℕ) (now : State) (place : ℕ) (after : Operand → Continuation) → Reached level s before now
       → before + 1 ≡ place → Follows given code bound level s place (register_at level kind) after
       → (v : Operand) → Agree given code bound (with_put now (register_at level kind) (Some v)) (after v)
   last level kind s before now place after r e go v =
@@ -46,7 +46,7 @@ module _ (given : Given) (code : List Instruction) (bound : ℕ) where
       (reg_put now.registers (register_at level kind) (Some v))
 
   -- a variable's value
-  variable_runs : (level : ℕ) (kind : VariableType) (from : Option ℕ) (name : ℕ) (s : State) (place : ℕ) (after : Operand → Run)
+  variable_runs : (level : ℕ) (kind : VariableType) (from : Option ℕ) (name : ℕ) (s : State) (place : ℕ) (after : Operand → Continuation)
       → HasAt code s.place (variable_code (register_at level kind) from name) → s.place + length (variable_code (register_at level kind) from name) ≡ place
       → Follows given code bound level s place (register_at level kind) after → Agree given code bound s (known name (found s.registers from) after)
   variable_runs level kind (Some from) name s place after has e go =
@@ -60,7 +60,7 @@ module _ (given : Given) (code : List Instruction) (bound : ℕ) where
       (move_runs given code bound now after to to name has.1.0 (λ v is. last level kind s (s.place + 1) now place after left (omega (arith, e)) go v)))
 
   -- a pointer variable's value, moved by an index, whose code acts as its evaluation
-  element_runs : (scope : Scope) (level name : ℕ) (index : Term) (s : State) (place : ℕ) (vs : Variables) (after : Pointer → Run)
+  element_runs : (scope : Scope) (level name : ℕ) (index : Term) (s : State) (place : ℕ) (vs : Variables) (after : Pointer → Continuation)
       → free_level scope ≤ level → Sees scope s.registers vs
       → Runs scope (level + 1) index vs
       → HasAt code s.place (element_code (register_at level (kind_named scope name)) (register_of scope name) name (expr_code scope (level + 1) index) (register_for scope (level + 1) index))
@@ -92,7 +92,7 @@ module _ (given : Given) (code : List Instruction) (bound : ℕ) where
       (reg_put later.registers to (Some (Pointed moved_to)))))))
 
   -- an element of a private array, by the index that a register holds
-  pub private_load_run : (scope : Scope) (name to index : ℕ) (now : State) (vs : Variables) (i : Operand) (after : Operand → Run)
+  pub private_load_run : (scope : Scope) (name to index : ℕ) (now : State) (vs : Variables) (i : Operand) (after : Operand → Continuation)
       → is_private_array scope.variables name ≡ true → Sees scope now.registers vs → slice_get code now.place ≡ Some (private_load scope to name index) → reg now.registers index ≡ Some i
       → ((x : Operand) → Agree given code bound (with_put now to (Some x)) (after x)) → Agree given code bound now (load_element vs name i after)
   private_load_run scope name to index now vs i after is same here held go =
@@ -101,7 +101,7 @@ module _ (given : Given) (code : List Instruction) (bound : ℕ) where
       (private_load_runs given code bound now after to (level_of scope name) index (type_of_elements scope name) name i here held go))
 
   -- an element of a private array, or what a pointer that is moved points to
-  array_runs : (scope : Scope) (level name : ℕ) (index : Term) (s : State) (vs : Variables) (after : Operand → Run)
+  array_runs : (scope : Scope) (level name : ℕ) (index : Term) (s : State) (vs : Variables) (after : Operand → Continuation)
       → free_level scope ≤ level → Sees scope s.registers vs → is_private_array scope.variables name ≡ true → Runs scope level index vs
       → HasAt code s.place (expr_code scope level index ++ private_load scope (register_at level (Integer (type_of_elements scope name))) name (register_for scope level index) ∷ [])
       → Follows given code bound level s (s.place + length (expr_code scope level index ++ private_load scope (register_at level (Integer (type_of_elements scope name))) name (register_for scope level index) ∷ []))
@@ -117,7 +117,7 @@ module _ (given : Given) (code : List Instruction) (bound : ℕ) where
       private_load_run scope name (register_at level kind) (register_for scope level index) now vs i after is (seen_kept scope level s (s.place + length inner) now vs free r same) here.0 held
       (last level kind s (s.place + length inner) now _ after r (omega (arith, length-append inner end)) go))
 
-  loaded_runs : (scope : Scope) (level name : ℕ) (index : Term) (s : State) (vs : Variables) (after : Operand → Run)
+  loaded_runs : (scope : Scope) (level name : ℕ) (index : Term) (s : State) (vs : Variables) (after : Operand → Continuation)
       → free_level scope ≤ level → Sees scope s.registers vs → Runs scope (level + 1) index vs
       → HasAt code s.place (address_code scope level name index ++ instruction.Load (register_at level (Integer (type_of_elements scope name))) (register_at level (kind_named scope name)) ∷ [])
       → Follows given code bound level s (s.place + length (address_code scope level name index ++ instruction.Load (register_at level (Integer (type_of_elements scope name))) (register_at level (kind_named scope name)) ∷ []))
@@ -135,7 +135,7 @@ module _ (given : Given) (code : List Instruction) (bound : ℕ) where
       load_runs given code bound bound now after (register_at level (Integer (type_of_elements scope name))) to (Pointed p) (omega arith) here.0 held
       (last level (Integer (type_of_elements scope name)) s middle now _ after r (omega (arith, length-append before end)) go))
 
-  either_runs : (scope : Scope) (level name : ℕ) (index : Term) (s : State) (vs : Variables) (after : Operand → Run)
+  either_runs : (scope : Scope) (level name : ℕ) (index : Term) (s : State) (vs : Variables) (after : Operand → Continuation)
       → free_level scope ≤ level → Sees scope s.registers vs → Runs scope level index vs → Runs scope (level + 1) index vs → (b : Bool) → is_private_array scope.variables name ≡ b
       → HasAt code s.place (if b then expr_code scope level index ++ private_load scope (register_at level (Integer (type_of_elements scope name))) name (register_for scope level index) ∷ []
       else address_code scope level name index ++ instruction.Load (register_at level (Integer (type_of_elements scope name))) (register_at level (kind_named scope name)) ∷ [])
@@ -148,7 +148,7 @@ module _ (given : Given) (code : List Instruction) (bound : ℕ) where
   either_runs scope level name index s vs after free same index_runs higher_runs false is has go = loaded_runs scope level name index s vs after free same higher_runs has go
 
   -- the index of an element of a private array, or a pointer that is moved
-  part_runs : (scope : Scope) (level name : ℕ) (index : Term) (s : State) (vs : Variables) (after : Destination → Run)
+  part_runs : (scope : Scope) (level name : ℕ) (index : Term) (s : State) (vs : Variables) (after : Destination → Continuation)
       → free_level scope ≤ level → Sees scope s.registers vs → Runs scope level index vs → Runs scope (level + 1) index vs → (b : Bool)
       → HasAt code s.place (if b then expr_code scope level index else address_code scope level name index)
       → ((to : Destination) (now : State) → Reached level s (s.place + length (if b then expr_code scope level index else address_code scope level name index)) now
@@ -162,7 +162,7 @@ module _ (given : Given) (code : List Instruction) (bound : ℕ) where
       element_runs scope level name index s _ vs (λ q. after (Through q)) free same higher_runs has refl (λ p now r held. go (Through p) now r (p, refl, held))
 
   -- the int 1, and past the other one; or the int 0
-  true_runs : (level : ℕ) (s : State) (before : ℕ) (now : State) (place : ℕ) (after : Operand → Run) → Reached level s before now
+  true_runs : (level : ℕ) (s : State) (before : ℕ) (now : State) (place : ℕ) (after : Operand → Continuation) → Reached level s before now
       → HasAt code before (truth_code (register_at level (Integer Int))) → before + 3 ≡ place
       → Follows given code bound level s place (register_at level (Integer Int)) after → Agree given code bound now (after (Integral (truth true)))
   true_runs level s before now place after r has e go =
@@ -176,7 +176,7 @@ module _ (given : Given) (code : List Instruction) (bound : ℕ) where
       (reached_onward level s (before + 1) next 1 (reached_then level level s before now (before + 1) next (omega arith) r (reached_put level (Integer Int) now _ (before + 1) (ap (λ n. n + 1) r.at)))))
       (reg_put now.registers to (Some (Integral (truth true))))))
 
-  false_runs : (level : ℕ) (s : State) (before : ℕ) (now : State) (place : ℕ) (after : Operand → Run) → Reached level s before now
+  false_runs : (level : ℕ) (s : State) (before : ℕ) (now : State) (place : ℕ) (after : Operand → Continuation) → Reached level s before now
       → HasAt code before (instruction.Constant (register_at level (Integer Int)) (truth false) ∷ []) → before + 1 ≡ place
       → Follows given code bound level s place (register_at level (Integer Int)) after → Agree given code bound now (after (Integral (truth false)))
   false_runs level s before now place after r has e go =
@@ -185,7 +185,7 @@ module _ (given : Given) (code : List Instruction) (bound : ℕ) where
       constant_runs given code bound now _ to (truth false) there.0 (last level (Integer Int) s before now place after r e go (Integral (truth false)))
 
   -- the int of a test, behind which its two values are joined
-  truth_runs : (level : ℕ) (s : State) (before : ℕ) (now : State) (place from : ℕ) (w : Operand) (after : Operand → Run) → Reached level s before now
+  truth_runs : (level : ℕ) (s : State) (before : ℕ) (now : State) (place from : ℕ) (w : Operand) (after : Operand → Continuation) → Reached level s before now
       → HasAt code before (instruction.JumpIfZero from 2 ∷ truth_code (register_at level (Integer Int))) → reg now.registers from ≡ Some w → before + 4 ≡ place
       → Follows given code bound level s place (register_at level (Integer Int)) after → Agree given code bound now (test w (λ holds. after (Integral (truth holds))))
   truth_runs level s before now place from w after r has held e go =
@@ -196,7 +196,7 @@ module _ (given : Given) (code : List Instruction) (bound : ℕ) where
       (has_moved code (instruction.Constant (register_at level (Integer Int)) (truth false) ∷ []) (before + 1 + 1 + 1) (before + 3) (omega arith) has.1.1.1) (omega (arith, e)) go)
 
   -- a built-in function on values that registers hold
-  pub call_runs : (function : Option BuiltIn) (to : ℕ) (numbers : List ℕ) (values : List Operand) (s : State) (after : Operand → Run)
+  pub call_runs : (function : Option BuiltIn) (to : ℕ) (numbers : List ℕ) (values : List Operand) (s : State) (after : Operand → Continuation)
       → HasAt code s.place (call_code function to numbers) → Hold s.registers numbers values → ((v : Operand) → Agree given code bound (with_put s to (Some v)) (after v))
       → Agree given code bound s (call given.here function values after)
   call_runs None to numbers values s after has held go = ends given code bound s has.0
@@ -239,7 +239,7 @@ module _ (given : Given) (code : List Instruction) (bound : ℕ) where
   call_runs (Some (built_in_function.Atomic function)) to (i ∷ j ∷ k ∷ l ∷ numbers) (v ∷ w ∷ x ∷ y ∷ values) s after has held go = ends given code bound s has.0
 
   -- an operator behind its left operand
-  infix_runs : (scope : Scope) (level : ℕ) (operator : InfixOperator) (left right : Term) (s : State) (middle : ℕ) (now : State) (place : ℕ) (vs : Variables) (v : Operand) (after : Operand → Run)
+  infix_runs : (scope : Scope) (level : ℕ) (operator : InfixOperator) (left right : Term) (s : State) (middle : ℕ) (now : State) (place : ℕ) (vs : Variables) (v : Operand) (after : Operand → Continuation)
       → free_level scope ≤ level → Sees scope s.registers vs → Runs scope (level + 1) right vs → Reached level s middle now → reg now.registers (register_for scope level left) ≡ Some v
       → HasAt code middle (infix_code operator (register_at level (infix_type operator (kind_of scope left) (kind_of scope right))) (register_for scope level left) (register_for scope (level + 1) right) (expr_code scope (level + 1) right))
       → middle + length (infix_code operator (register_at level (infix_type operator (kind_of scope left) (kind_of scope right))) (register_for scope level left) (register_for scope (level + 1) right) (expr_code scope (level + 1) right)) ≡ place
@@ -296,14 +296,14 @@ module _ (given : Given) (code : List Instruction) (bound : ℕ) where
       tests right_held whole go))
 
   -- a branch of a choice
-  chosen_runs : (scope : Scope) (level : ℕ) (e other : Term) (kind : VariableType) (s : State) (before : ℕ) (now : State) (vs : Variables) (after : Operand → Run)
+  chosen_runs : (scope : Scope) (level : ℕ) (e other : Term) (kind : VariableType) (s : State) (before : ℕ) (now : State) (vs : Variables) (after : Operand → Continuation)
       → free_level scope ≤ level → Sees scope s.registers vs → Runs scope level e vs → Reached level s before now
       → HasAt code before (branch_code (register_at level kind) (expr_code scope level e) (register_for scope level e) (kind_of scope other))
       → Follows given code bound level s (before + length (branch_code (register_at level kind) (expr_code scope level e) (register_for scope level e) (kind_of scope other))) (register_at level kind) after
       → Agree given code bound now (eval given.here e vs (λ w. chosen_value w (type_of vs other) after))
   chosen_runs scope level e other kind s before now vs after free same runs r has go =
       let inner = expr_code scope level e in
-      let end : List Instruction = instruction.Common (register_at level kind) (register_for scope level e) (base_type (kind_of scope other)) ∷ [] in
+      let end : List Instruction = instruction.UsualConversion (register_at level kind) (register_for scope level e) (base_type (kind_of scope other)) ∷ [] in
       let there = has_moved code (inner ++ end) before now.place (sym r.at) has in
       runs now (λ w. chosen_value w (type_of vs other) after) (seen_kept scope level s before now vs free r same) (has_left code inner end now.place there)
       (λ w later q held.
@@ -314,7 +314,7 @@ module _ (given : Given) (code : List Instruction) (bound : ℕ) where
       (let a = r.at in omega (arith, a, length-append inner end)) go)))
 
   -- a choice behind its condition
-  choice_runs : (scope : Scope) (level : ℕ) (condition chosen otherwise : Term) (kind : VariableType) (s : State) (middle : ℕ) (now : State) (place : ℕ) (vs : Variables) (v : Operand) (after : Operand → Run)
+  choice_runs : (scope : Scope) (level : ℕ) (condition chosen otherwise : Term) (kind : VariableType) (s : State) (middle : ℕ) (now : State) (place : ℕ) (vs : Variables) (v : Operand) (after : Operand → Continuation)
       → free_level scope ≤ level → Sees scope s.registers vs → Runs scope level chosen vs → Runs scope level otherwise vs
       → Reached level s middle now → reg now.registers (register_for scope level condition) ≡ Some v
       → HasAt code middle (choice_code (register_for scope level condition)
@@ -348,7 +348,7 @@ module _ (given : Given) (code : List Instruction) (bound : ℕ) where
 
   -- The code of an expression, of arguments, and of a place acts as their evaluation.
   mutual
-    pub expr_runs : (scope : Scope) (level : ℕ) (e : Term) (s : State) (vs : Variables) (after : Operand → Run) → free_level scope ≤ level → Sees scope s.registers vs
+    pub expr_runs : (scope : Scope) (level : ℕ) (e : Term) (s : State) (vs : Variables) (after : Operand → Continuation) → free_level scope ≤ level → Sees scope s.registers vs
         → HasAt code s.place (expr_code scope level e)
         → Follows given code bound level s (s.place + length (expr_code scope level e)) (register_for scope level e) after
         → Agree given code bound s (eval given.here e vs after)
@@ -428,7 +428,7 @@ module _ (given : Given) (code : List Instruction) (bound : ℕ) where
         (λ state next seen_now there follows. expr_runs scope level otherwise state vs next free seen_now there follows) r held
         (has_right code before end s.place (s.place + length before) refl has) (omega (arith, length-append before end)) go)
 
-    pub terms_run : (scope : Scope) (level : ℕ) (es : Terms) (s : State) (vs : Variables) (after : List Operand → Run) → free_level scope ≤ level → Sees scope s.registers vs
+    pub terms_run : (scope : Scope) (level : ℕ) (es : Terms) (s : State) (vs : Variables) (after : List Operand → Continuation) → free_level scope ≤ level → Sees scope s.registers vs
         → HasAt code s.place (terms_code scope level es)
         → FollowsAll given code bound level s (s.place + length (terms_code scope level es)) (registers_for scope level es) after
         → Agree given code bound s (eval_all given.here es vs after)
@@ -448,22 +448,22 @@ module _ (given : Given) (code : List Instruction) (bound : ℕ) where
         (hold_then later.registers (registers_for scope level es) values (register_for scope (level + count es) e) v
         (arguments_kept scope level es values now (now.place + length inner) later q held) value_held)))
 
-  pub place_runs : (scope : Scope) (level : ℕ) (to : Place) (s : State) (vs : Variables) (after : Destination → Run) → free_level scope ≤ level → Sees scope s.registers vs
-      → HasAt code s.place (place_code scope level to)
-      → FollowsPlace given code bound scope level s (s.place + length (place_code scope level to)) (place_register scope level to) to after
+  pub target_runs : (scope : Scope) (level : ℕ) (to : Target) (s : State) (vs : Variables) (after : Destination → Continuation) → free_level scope ≤ level → Sees scope s.registers vs
+      → HasAt code s.place (target_code scope level to)
+      → FollowsTarget given code bound scope level s (s.place + length (target_code scope level to)) (target_register scope level to) to after
       → Agree given code bound s (reach given.here to vs after)
-  place_runs scope level (tree.Whole at name) s vs after free same has go = go (Named name) s (reached_here level s (s.place + 0) (omega arith)) refl
-  place_runs scope level (tree.Part at name index) s vs after free same has go =
+  target_runs scope level (tree.TargetVariable at name) s vs after free same has go = go (Named name) s (reached_here level s (s.place + 0) (omega arith)) refl
+  target_runs scope level (tree.TargetElement at name index) s vs after free same has go =
       subst (λ b. Agree given code bound s (if b then eval given.here index vs (λ i. after (ElementOf name i))
       else known name (look vs name) (λ p. eval given.here index vs (λ i. moved p i (λ q. after (Through q)))))) (array_seen scope s.registers name vs same)
       (part_runs scope level name index s vs after free same
       (λ now next seen_now there follows. expr_runs scope level index now vs next free seen_now there follows)
       (λ now next seen_now there follows. expr_runs scope (level + 1) index now vs next (omega (arith, free)) seen_now there follows) (is_private_array scope.variables name) has go)
-  place_runs scope level (tree.Behind at pointer) s vs after free same has go =
+  target_runs scope level (tree.TargetDereference at pointer) s vs after free same has go =
       let kind = kind_of scope pointer in
       let inner = expr_code scope level pointer in
       let to = register_for scope level pointer in
-      let end : List Instruction = instruction.Point to to ∷ [] in
+      let end : List Instruction = instruction.MovePointer to to ∷ [] in
       expr_runs scope level pointer s vs (λ p. pointing p (λ q. after (Through q))) free same (has_left code inner end s.place has)
       (λ p now r held.
       let here = has_right code inner end s.place now.place (sym r.at) has in

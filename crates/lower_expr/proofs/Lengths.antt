@@ -3,7 +3,7 @@ use Rattle.std.proofs.Common.{◌≡◌, ℕ, suc, ◌+◌, ◌==◌, Bool, true
 use Rattle.std.proofs.lemmas.List.{length-append}
 use Rattle.clmodel.specs.BuiltIns.{built_in}
 use Rattle.clmodel.specs.Next.{Variables, is_private_array, is_update}
-use Rattle.clmodel.specs.Tree.{Term, Number, Variable, Element, ElementAddress, Dereference, Call, Unary, Cast, Binary, Choice, Terms, NoTerm, ThenTerm, Place, Whole, Part, Behind}
+use Rattle.clmodel.specs.Tree.{Term, Number, Variable, Element, ElementAddress, Dereference, Call, Unary, Cast, Binary, Choice, Terms, NoTerm, ThenTerm, Target, TargetVariable, TargetElement, TargetDereference}
 use Rattle.clmodel.specs.declared.setup.AtomicFunction.{AtomicFunction}
 use Rattle.clmodel.specs.declared.setup.BuiltIn.{BuiltIn}
 use Rattle.clmodel.specs.declared.setup.BuiltIn.TheVariants as built_in_function
@@ -11,7 +11,7 @@ use Rattle.clmodel.specs.declared.tree.InfixOperator.{InfixOperator}
 use Rattle.clmodel.specs.declared.tree.InfixOperator.TheVariants.{Arithmetic, LogicalAnd, LogicalOr}
 use Rattle.regcode.specs.declared.instruction.Instruction.{Instruction}
 use Rattle.lower_expr.specs.Scope.{Scope, register_in}
-use Rattle.lower_expr.specs.Expressions.{expr_code, terms_code, place_code, kind_of, registers_for, variable_code, element_code, truth_code, infix_code, choice_code, call_code, update_code, call_only_code}
+use Rattle.lower_expr.specs.Expressions.{expr_code, terms_code, target_code, kind_of, registers_for, variable_code, element_code, truth_code, infix_code, choice_code, call_code, update_code, call_only_code}
 
 -- lists of one length
 pub record SameLength {A : Type 0} (xs ys : List A) : Type 0 where
@@ -147,12 +147,12 @@ module _ (base other : ℕ) (vs : Variables) where
   pub terms_length : (level level2 : ℕ) (es : Terms) → length (terms_code (from_level base vs) level es) ≡ length (terms_code (from_level other vs) level2 es)
   terms_length level level2 es = (terms_same level level2 es).same
 
-  pub place_same : (level level2 : ℕ) (to : Place) → SameLength (place_code (from_level base vs) level to) (place_code (from_level other vs) level2 to)
-  place_same level level2 (Whole at name) = record { same = refl }
-  place_same level level2 (Part at name index) =
+  pub target_same : (level level2 : ℕ) (to : Target) → SameLength (target_code (from_level base vs) level to) (target_code (from_level other vs) level2 to)
+  target_same level level2 (TargetVariable at name) = record { same = refl }
+  target_same level level2 (TargetElement at name index) =
       chosen (is_private_array vs name) (expr_same level level2 index)
       (element_same _ _ _ _ name _ _ (registered base other vs name) (expr_same (level + 1) (level2 + 1) index))
-  place_same level level2 (Behind at pointer) = joined (expr_same level level2 pointer) single
+  target_same level level2 (TargetDereference at pointer) = joined (expr_same level level2 pointer) single
 
   -- the arguments of a call have as many registers
   pub registers_same : (level level2 : ℕ) (es : Terms) → SameLength (registers_for (from_level base vs) level es) (registers_for (from_level other vs) level2 es)

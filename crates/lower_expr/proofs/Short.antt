@@ -4,18 +4,18 @@ use Rattle.std.proofs.lemmas.List.{length-append}
 use Rattle.clnum.specs.declared.operators.BinaryOperator.{BinaryOperator}
 use Rattle.clmodel.specs.BuiltIns.{built_in}
 use Rattle.clmodel.specs.Next.{is_private_array}
-use Rattle.clmodel.specs.Tree.{Term, Number, Variable, Element, ElementAddress, Dereference, Call, Unary, Cast, Binary, Choice, Terms, NoTerm, ThenTerm, Place, Whole, Part, Behind}
+use Rattle.clmodel.specs.Tree.{Term, Number, Variable, Element, ElementAddress, Dereference, Call, Unary, Cast, Binary, Choice, Terms, NoTerm, ThenTerm, Target, TargetVariable, TargetElement, TargetDereference}
 use Rattle.clmodel.specs.Typing.Rules.{count}
-use Rattle.clmodel.specs.Typing.Sizes.{Sizes, term_size, terms_size, place_size}
+use Rattle.clmodel.specs.Typing.Sizes.{Sizes, term_size, terms_size, target_size}
 use Rattle.clmodel.specs.declared.setup.BuiltIn.{BuiltIn}
 use Rattle.clmodel.specs.declared.tree.InfixOperator.{InfixOperator}
 use Rattle.clmodel.specs.declared.tree.InfixOperator.TheVariants.{Arithmetic, LogicalAnd, LogicalOr}
 use Rattle.clmodel.specs.declared.tree.VariableType.{VariableType}
 use Rattle.regcode.specs.declared.instruction.Instruction.{Instruction}
 use Rattle.lower_expr.specs.Scope.{Scope}
-use Rattle.lower_expr.specs.Expressions.{expr_code, terms_code, place_code, variable_code, element_code, infix_code, choice_code, call_code, call_only_code}
+use Rattle.lower_expr.specs.Expressions.{expr_code, terms_code, target_code, variable_code, element_code, infix_code, choice_code, call_code, call_only_code}
 use Rattle.lower_expr.proofs.Lengths.{call_length, call_only_length}
-use Rattle.lower_expr.specs.Places.{hold_code, fetch_code, put_code, combine_code}
+use Rattle.lower_expr.specs.Targets.{hold_code, fetch_code, put_code, combine_code}
 
 -- there are at most n
 pub record Short (n : ℕ) (xs : List Instruction) : Type 0 where
@@ -95,11 +95,11 @@ module _ (sizes : Sizes) (scope : Scope) where
     terms_short level NoTerm = within none (omega arith)
     terms_short level (ThenTerm es e) = within (both (terms_short level es) (expr_short _ e)) (omega arith)
 
-  pub place_short : (level : ℕ) (to : Place) → Short (6 * (place_size sizes to).nodes) (place_code scope level to)
-  place_short level (Whole at name) = within none (omega arith)
-  place_short level (Part at name index) =
+  pub target_short : (level : ℕ) (to : Target) → Short (6 * (target_size sizes to).nodes) (target_code scope level to)
+  target_short level (TargetVariable at name) = within none (omega arith)
+  target_short level (TargetElement at name index) =
       either (is_private_array scope.variables name) (within (expr_short level index) (omega arith)) (within (element_short _ _ name _ (expr_short (level + 1) index)) (omega arith))
-  place_short level (Behind at pointer) = within (both (expr_short level pointer) single) (node_fits (term_size sizes pointer).nodes 1 (omega arith))
+  target_short level (TargetDereference at pointer) = within (both (expr_short level pointer) single) (node_fits (term_size sizes pointer).nodes 1 (omega arith))
 
 -- each expression has a node
 pub some_node : (sizes : Sizes) (e : Term) → 1 ≤ (term_size sizes e).nodes
@@ -120,15 +120,15 @@ few_terms sizes NoTerm = omega arith
 few_terms sizes (ThenTerm es e) = omega (arith, few_terms sizes es, some_node sizes e)
 
 module _ (scope : Scope) where
-  pub fetch_short : (to : Place) (reached at : ℕ) → Short 2 (fetch_code scope to reached at)
-  fetch_short (Whole at name) reached to = variable_short to _ name
-  fetch_short (Part at name index) reached to = either (is_private_array scope.variables name) (within single (omega arith)) (within single (omega arith))
-  fetch_short (Behind at pointer) reached to = within single (omega arith)
+  pub fetch_short : (to : Target) (reached at : ℕ) → Short 2 (fetch_code scope to reached at)
+  fetch_short (TargetVariable at name) reached to = variable_short to _ name
+  fetch_short (TargetElement at name index) reached to = either (is_private_array scope.variables name) (within single (omega arith)) (within single (omega arith))
+  fetch_short (TargetDereference at pointer) reached to = within single (omega arith)
 
-  pub put_short : (to : Place) (reached from : ℕ) → Short 1 (put_code scope to reached from)
-  put_short (Whole at name) reached from = hold_short _ from _
-  put_short (Part at name index) reached from = either (is_private_array scope.variables name) single single
-  put_short (Behind at pointer) reached from = single
+  pub put_short : (to : Target) (reached from : ℕ) → Short 1 (put_code scope to reached from)
+  put_short (TargetVariable at name) reached from = hold_short _ from _
+  put_short (TargetElement at name index) reached from = either (is_private_array scope.variables name) single single
+  put_short (TargetDereference at pointer) reached from = single
 
-  pub combine_short : (to : Place) (level : ℕ) (operator : BinaryOperator) (kind : VariableType) (old right : ℕ) → Short 2 (combine_code scope to level operator kind old right)
+  pub combine_short : (to : Target) (level : ℕ) (operator : BinaryOperator) (kind : VariableType) (old right : ℕ) → Short 2 (combine_code scope to level operator kind old right)
   combine_short to level operator kind old right = more (put_short to _ _)

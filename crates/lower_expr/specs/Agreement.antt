@@ -1,12 +1,12 @@
 -- That code acts as a run does (own).
 use Rattle.std.specs.Prelude.{◌≡◌, ℕ, ◌+◌, ◌*◌, ◌<◌, Bool, true, false, Some, List, [], ◌∷◌, slice_get}
-use Rattle.clmodel.specs.Next.{Run, is_private_array}
+use Rattle.clmodel.specs.Next.{Continuation, is_private_array}
 use Rattle.clmodel.specs.Next.Expressions.{Destination, Named, ElementOf, Through}
-use Rattle.clmodel.specs.Tree.{Place, Whole, Part, Behind}
+use Rattle.clmodel.specs.Tree.{Target, TargetVariable, TargetElement, TargetDereference}
 use Rattle.clmodel.specs.declared.operand.Operand.{Operand}
 use Rattle.clmodel.specs.declared.operand.Operand.TheVariants.{Pointed}
 use Rattle.clmodel.specs.declared.operand.Pointer.{Pointer}
-use Rattle.regcode.specs.Machine.{Registers, reg, State, Given}
+use Rattle.regcode.specs.Machine.{Registers, reg, State, ItemContext}
 use Rattle.regcode.specs.declared.instruction.Instruction.{Instruction}
 use Rattle.regcode.proofs.Agreement.{Agree}
 use Rattle.lower_expr.specs.Scope.{Scope}
@@ -41,21 +41,21 @@ abbrev pub HoldsPart : Bool → Registers → ℕ → ℕ → Destination → Ty
 HoldsPart true registers register name to = HoldsIndex registers register name to
 HoldsPart false registers register name to = HoldsPointer registers register to
 
-abbrev pub HoldsPlace : Scope → Registers → ℕ → Place → Destination → Type 0
-HoldsPlace scope registers register (Whole at name) to = to ≡ Named name
-HoldsPlace scope registers register (Part at name index) to = HoldsPart (is_private_array scope.variables name) registers register name to
-HoldsPlace scope registers register (Behind at pointer) to = HoldsPointer registers register to
+abbrev pub HoldsTarget : Scope → Registers → ℕ → Target → Destination → Type 0
+HoldsTarget scope registers register (TargetVariable at name) to = to ≡ Named name
+HoldsTarget scope registers register (TargetElement at name index) to = HoldsPart (is_private_array scope.variables name) registers register name to
+HoldsTarget scope registers register (TargetDereference at pointer) to = HoldsPointer registers register to
 
 -- The code agrees with what follows a value, where the value is in a register at a place; with what follows values; and with what follows a destination.
-abbrev pub Follows : Given → List Instruction → ℕ → ℕ → State → ℕ → ℕ → (Operand → Run) → Type 0
+abbrev pub Follows : ItemContext → List Instruction → ℕ → ℕ → State → ℕ → ℕ → (Operand → Continuation) → Type 0
 Follows given code bound level s place to after =
     (v : Operand) (now : State) → Reached level s place now → reg now.registers to ≡ Some v → Agree given code bound now (after v)
 
-abbrev pub FollowsAll : Given → List Instruction → ℕ → ℕ → State → ℕ → List ℕ → (List Operand → Run) → Type 0
+abbrev pub FollowsAll : ItemContext → List Instruction → ℕ → ℕ → State → ℕ → List ℕ → (List Operand → Continuation) → Type 0
 FollowsAll given code bound level s place numbers after =
     (values : List Operand) (now : State) → Reached level s place now → Hold now.registers numbers values → Agree given code bound now (after values)
 
-abbrev pub FollowsPlace : Given → List Instruction → ℕ → Scope → ℕ → State → ℕ → ℕ → Place → (Destination → Run) → Type 0
-FollowsPlace given code bound scope level s place register to after =
-    (destination : Destination) (now : State) → Reached level s place now → HoldsPlace scope now.registers register to destination
+abbrev pub FollowsTarget : ItemContext → List Instruction → ℕ → Scope → ℕ → State → ℕ → ℕ → Target → (Destination → Continuation) → Type 0
+FollowsTarget given code bound scope level s place register to after =
+    (destination : Destination) (now : State) → Reached level s place now → HoldsTarget scope now.registers register to destination
     → Agree given code bound now (after destination)

@@ -5,7 +5,7 @@ use Rattle.clnum.specs.Operations.{truth}
 use Rattle.clnum.specs.declared.int_type.IntType.{IntType}
 use Rattle.clmodel.specs.BuiltIns.{built_in}
 use Rattle.clmodel.specs.Next.{type_of, declared_type, base_type, is_private_array, is_update}
-use Rattle.clmodel.specs.Tree.{Term, Number, Variable, Element, ElementAddress, Dereference, Call, Unary, Cast, Binary, Choice, Terms, NoTerm, ThenTerm, Place, Whole, Part, Behind}
+use Rattle.clmodel.specs.Tree.{Term, Number, Variable, Element, ElementAddress, Dereference, Call, Unary, Cast, Binary, Choice, Terms, NoTerm, ThenTerm, Target, TargetVariable, TargetElement, TargetDereference}
 use Rattle.clmodel.specs.declared.setup.AtomicFunction.{AtomicFunction}
 use Rattle.clmodel.specs.declared.setup.BuiltIn.{BuiltIn}
 use Rattle.clmodel.specs.declared.setup.BuiltIn.TheVariants as built_in_function
@@ -64,7 +64,7 @@ infix_code LogicalOr to first second right =
 
 -- a branch of a choice, with its value in the common type of it and of the other branch
 abbrev pub branch_code : ℕ → List Instruction → ℕ → VariableType → List Instruction
-branch_code to branch from other = branch ++ instruction.Common to from (base_type other) ∷ []
+branch_code to branch from other = branch ++ instruction.UsualConversion to from (base_type other) ∷ []
 
 -- what follows the condition of a choice
 abbrev pub choice_code : ℕ → List Instruction → List Instruction → List Instruction
@@ -141,24 +141,24 @@ address_code scope level name index =
     element_code (register_at level (kind_named scope name)) (register_of scope name) name (expr_code scope (level + 1) index) (register_for scope (level + 1) index)
 
 -- The index of a target, or the pointer to it, where it is no variable as a whole.
-abbrev pub place_code : Scope → ℕ → Place → List Instruction
-place_code scope level (Whole at name) = []
-place_code scope level (Part at name index) =
+abbrev pub target_code : Scope → ℕ → Target → List Instruction
+target_code scope level (TargetVariable at name) = []
+target_code scope level (TargetElement at name index) =
     if is_private_array scope.variables name then expr_code scope level index else address_code scope level name index
-place_code scope level (Behind at pointer) = expr_code scope level pointer ++ instruction.Point (register_for scope level pointer) (register_for scope level pointer) ∷ []
+target_code scope level (TargetDereference at pointer) = expr_code scope level pointer ++ instruction.MovePointer (register_for scope level pointer) (register_for scope level pointer) ∷ []
 
 -- which of them it is, and its type
-abbrev pub place_kind : Scope → Place → TargetKind
-place_kind scope (Whole at name) = target.Variable
-place_kind scope (Part at name index) = if is_private_array scope.variables name then target.Index (kind_of scope index) else target.Pointer (kind_named scope name)
-place_kind scope (Behind at pointer) = target.Pointer (kind_of scope pointer)
+abbrev pub target_kind : Scope → Target → TargetKind
+target_kind scope (TargetVariable at name) = target.Variable
+target_kind scope (TargetElement at name index) = if is_private_array scope.variables name then target.Index (kind_of scope index) else target.Pointer (kind_named scope name)
+target_kind scope (TargetDereference at pointer) = target.Pointer (kind_of scope pointer)
 
 -- where it is left
-abbrev pub place_register : Scope → ℕ → Place → ℕ
-place_register scope level (Whole at name) = 0
-place_register scope level (Part at name index) =
+abbrev pub target_register : Scope → ℕ → Target → ℕ
+target_register scope level (TargetVariable at name) = 0
+target_register scope level (TargetElement at name index) =
     if is_private_array scope.variables name then register_for scope level index else register_at level (kind_named scope name)
-place_register scope level (Behind at pointer) = register_for scope level pointer
+target_register scope level (TargetDereference at pointer) = register_for scope level pointer
 
 -- what stands before the right operand, with its jump still to be set
 abbrev pub infix_begun : InfixOperator → ℕ → List Instruction

@@ -2,5 +2,5 @@ pub mod Scope
 pub mod Expressions
 pub mod Agreement
 pub mod Index
-pub mod Places
+pub mod Targets
 pub mod Growth

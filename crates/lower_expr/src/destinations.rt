@@ -2,13 +2,13 @@
 #![tactic(auto, using(crate::proofs::Growth::unchanged, crate::proofs::Growth::behind))]
 
 ghost use Rattle.std.specs.Prelude.{◌≡◌, ℕ, ◌+◌, ◌<◌, ◌≤◌, ◌^◌, [], ◌++◌, IfOk, OnOk, OnErr};
-ghost use Rattle.clmodel.specs.Tree.{Place, place};
-ghost use Rattle.clmodel.specs.Typing.Sizes.{place_size};
+ghost use Rattle.clmodel.specs.Tree.{Target, tree_target};
+ghost use Rattle.clmodel.specs.Typing.Sizes.{target_size};
 ghost use Rattle.lower_expr.specs.Scope.{free_level, register_of};
-ghost use Rattle.lower_expr.specs.Expressions.{kind_named, variable_code, place_code, place_register};
+ghost use Rattle.lower_expr.specs.Expressions.{kind_named, variable_code, target_code, target_register};
 ghost use Rattle.lower_expr.specs.Growth.{IsLonger};
-ghost use Rattle.lower_expr.specs.Places as spec;
-ghost use Rattle.lower_expr.specs.Places.{place_name, destination_of};
+ghost use Rattle.lower_expr.specs.Targets as spec;
+ghost use Rattle.lower_expr.specs.Targets.{target_name, destination_of};
 
 use crate::emission::{TargetKind, emit_target};
 use crate::instructions::{add, private_load, private_store};
@@ -28,7 +28,7 @@ pub struct Destination {
 
 /// The name of a target's variable; 0 where there is none.
 fn target_name(target: &Target) -> u32
-    ensures { result ≡ place_name (place target.now) }
+    ensures { result ≡ target_name (tree_target target.now) }
 {
     match target {
         Target::Variable { name, .. } => *name,
@@ -45,9 +45,9 @@ pub fn reach(
     code: &mut Vec<Instruction>,
 ) -> Result<Destination, AllocError>
     requires free { free_level scope.now ≤ level }
-    requires low { level + (place_size [] (place target.now)).nodes < 2 ^ 28 }
-    ensures code { IfOk result (λ _. code.new.items ≡ code.old.items ++ place_code scope.now level (place target.now)) }
-    ensures found { IfOk result (λ destination. destination ≡ destination_of scope.now (place target.now)) }
+    requires low { level + (target_size [] (tree_target target.now)).nodes < 2 ^ 28 }
+    ensures code { IfOk result (λ _. code.new.items ≡ code.old.items ++ target_code scope.now level (tree_target target.now)) }
+    ensures found { IfOk result (λ destination. destination ≡ destination_of scope.now (tree_target target.now)) }
     ensures longer { OnErr result (IsLonger code.old.items code.new.items) }
 {
     let kind = emit_target(scope, level, target, code)?;
@@ -59,7 +59,7 @@ pub fn reach(
 
 /// The type of the target.
 pub fn destination_type(scope: &Scope, destination: Destination) -> VariableType
-    ensures { (to : Place) → destination ≡ destination_of scope.now to → result ≡ spec.place_type scope.now to }
+    ensures { (to : Target) → destination ≡ destination_of scope.now to → result ≡ spec.type_of_target scope.now to }
 {
     match destination.kind {
         TargetKind::Variable => scope.kind(destination.name),
@@ -78,8 +78,8 @@ pub fn fetch(
 ) -> Result<(), AllocError>
     requires free { free_level scope.now ≤ level }
     requires low { level < 2 ^ 28 }
-    ensures code { OnOk result ((place : Place) → destination ≡ destination_of scope.now place
-        → code.new.items ≡ code.old.items ++ spec.fetch_code scope.now place (place_register scope.now level place) to) }
+    ensures code { OnOk result ((target : Target) → destination ≡ destination_of scope.now target
+        → code.new.items ≡ code.old.items ++ spec.fetch_code scope.now target (target_register scope.now level target) to) }
     ensures longer { OnErr result (IsLonger code.old.items code.new.items) }
 {
     match destination.kind {
@@ -125,8 +125,8 @@ pub fn put(
 ) -> Result<(), AllocError>
     requires free { free_level scope.now ≤ level }
     requires low { level < 2 ^ 28 }
-    ensures code { OnOk result ((place : Place) → destination ≡ destination_of scope.now place
-        → code.new.items ≡ code.old.items ++ spec.put_code scope.now place (place_register scope.now level place) from) }
+    ensures code { OnOk result ((target : Target) → destination ≡ destination_of scope.now target
+        → code.new.items ≡ code.old.items ++ spec.put_code scope.now target (target_register scope.now level target) from) }
     ensures longer { OnErr result (IsLonger code.old.items code.new.items) }
 {
     match destination.kind {
@@ -159,7 +159,7 @@ fn hold(scope: &Scope, name: u32, from: u32, code: &mut Vec<Instruction>) -> Res
         Some(to) => to,
         None => from,
     };
-    add(code, Instruction::Hold { to, from, kind })
+    add(code, Instruction::AssignConversion { to, from, kind })
 }
 
 /// Adds the code of an operator on the value that was there and on a right operand of a type, whose value is put there.
@@ -175,8 +175,8 @@ pub fn combine(
 ) -> Result<(), AllocError>
     requires free { free_level scope.now ≤ level }
     requires low { level + 1 < 2 ^ 28 }
-    ensures code { OnOk result ((place : Place) → destination ≡ destination_of scope.now place
-        → code.new.items ≡ code.old.items ++ spec.combine_code scope.now place level operator kind old right) }
+    ensures code { OnOk result ((target : Target) → destination ≡ destination_of scope.now target
+        → code.new.items ≡ code.old.items ++ spec.combine_code scope.now target level operator kind old right) }
     ensures longer { OnErr result (IsLonger code.old.items code.new.items) }
 {
     let first = destination_type(scope, destination);

@@ -3,10 +3,10 @@
 
 ghost use Rattle.std.specs.Prelude.{◌≡◌, ◌+◌, ◌<◌, ◌≤◌, ◌^◌, [], ◌++◌, IfOk, OnErr};
 ghost use Rattle.clmodel.specs.Next.{argument_type};
-ghost use Rattle.clmodel.specs.Tree.{term, terms, place};
-ghost use Rattle.clmodel.specs.Typing.Sizes.{term_size, terms_size, place_size};
+ghost use Rattle.clmodel.specs.Tree.{term, terms, tree_target};
+ghost use Rattle.clmodel.specs.Typing.Sizes.{term_size, terms_size, target_size};
 ghost use Rattle.lower_expr.specs.Scope.{free_level};
-ghost use Rattle.lower_expr.specs.Expressions.{kind_of, kind_named, expr_code, address_code, terms_code, registers_for, place_code, place_kind};
+ghost use Rattle.lower_expr.specs.Expressions.{kind_of, kind_named, expr_code, address_code, terms_code, registers_for, target_code, target_kind};
 ghost use Rattle.lower_expr.specs.Growth.{IsLonger};
 
 use crate::instructions::{
@@ -195,9 +195,9 @@ pub fn emit_target(
     code: &mut Vec<Instruction>,
 ) -> Result<TargetKind, AllocError>
     requires free { free_level scope.now ≤ level }
-    requires low { level + (place_size [] (place target.now)).nodes < 2 ^ 28 }
-    ensures code { IfOk result (λ found. code.new.items ≡ code.old.items ++ place_code scope.now level (place target.now)) }
-    ensures kind { IfOk result (λ found. found ≡ place_kind scope.now (place target.now)) }
+    requires low { level + (target_size [] (tree_target target.now)).nodes < 2 ^ 28 }
+    ensures code { IfOk result (λ found. code.new.items ≡ code.old.items ++ target_code scope.now level (tree_target target.now)) }
+    ensures kind { IfOk result (λ found. found ≡ target_kind scope.now (tree_target target.now)) }
     ensures longer { OnErr result (IsLonger code.old.items code.new.items) }
 {
     match target {

@@ -198,11 +198,11 @@ pub(crate) fn point(
     code: &mut Vec<Instruction>,
 ) -> Result<(), AllocError>
     requires { level < 2 ^ 28 }
-    ensures code { OnOk result (code.new.items ≡ code.old.items ++ instruction.Point (register_at level pointer) (register_at level pointer) ∷ []) }
+    ensures code { OnOk result (code.new.items ≡ code.old.items ++ instruction.MovePointer (register_at level pointer) (register_at level pointer) ∷ []) }
     ensures longer { OnErr result (IsLonger code.old.items code.new.items) }
 {
     let from = register_at(level, pointer);
-    add(code, Instruction::Point { to: from, from })
+    add(code, Instruction::MovePointer { to: from, from })
 }
 
 /// Adds an operator on an operand of this type, and gives its type.

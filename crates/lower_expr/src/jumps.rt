@@ -192,13 +192,13 @@ pub fn begin_choice(
 
 /// Makes room for what stands between the two branches of a choice, and gives the place where the other branch begins.
 pub fn between_branches(code: &mut Vec<Instruction>) -> Result<usize, AllocError>
-    ensures code { OnOk result (code.new.items ≡ code.old.items ++ instruction.Common 0 0 integer.Int ∷ instruction.Jump 0 ∷ []) }
+    ensures code { OnOk result (code.new.items ≡ code.old.items ++ instruction.UsualConversion 0 0 integer.Int ∷ instruction.Jump 0 ∷ []) }
     ensures place { IfOk result (λ place. place ≡ length code.new.items) }
     ensures longer { OnErr result (IsLonger code.old.items code.new.items) }
 {
     add(
         code,
-        Instruction::Common {
+        Instruction::UsualConversion {
             to: 0,
             from: 0,
             other: IntType::Int,
@@ -224,7 +224,7 @@ pub fn end_choice(
     requires inside { second ≤ length code.old.items }
     requires near { length code.old.items - first + 1 < 2 ^ 32 }
     ensures code { OnOk result ((before one other : List Instruction)
-        → code.old.items ≡ before ++ (instruction.JumpIfZero (register_at level condition) 0 ∷ (one ++ (instruction.Common 0 0 integer.Int ∷ instruction.Jump 0 ∷ other)))
+        → code.old.items ≡ before ++ (instruction.JumpIfZero (register_at level condition) 0 ∷ (one ++ (instruction.UsualConversion 0 0 integer.Int ∷ instruction.Jump 0 ∷ other)))
         → first ≡ length before + 1 → second ≡ first + length one + 2
         → code.new.items ≡ before ++ choice_code (register_at level condition)
         (branch_code (register_at level (kinds.Integer (common (base_type chosen) (base_type otherwise)))) one (register_at level chosen) otherwise)
@@ -239,7 +239,7 @@ pub fn end_choice(
     let from = register_at(level, otherwise);
     add(
         code,
-        Instruction::Common {
+        Instruction::UsualConversion {
             to,
             from,
             other: base_type(chosen),
@@ -247,7 +247,7 @@ pub fn end_choice(
     )?;
     let past = (code.len() - second) as u32;
     let by = (second - first) as u32;
-    code[second - 2] = Instruction::Common {
+    code[second - 2] = Instruction::UsualConversion {
         to,
         from: one,
         other: base_type(otherwise),

@@ -10,7 +10,7 @@ use Rattle.clnum.specs.Operations.{wrapped}
 use Rattle.clnum.specs.declared.int_type.IntType.{IntType}
 use Rattle.clnum.specs.declared.int_type.IntType.TheVariants.{Char, Uchar, Short, Ushort, Int, Uint, Long, Ulong}
 use Rattle.clnum.proofs.Residues.{residue-below}
-use Rattle.clmodel.specs.Next.{Run, fail, Binding, Variables, look, declared_type, elements_of, with_elements, base_type, fetch, put, element_at, element_value, element_set, read_element, write_element, index_of}
+use Rattle.clmodel.specs.Next.{Continuation, fail, Binding, Variables, look, declared_type, elements_of, with_elements, base_type, fetch, put, element_at, element_value, element_set, read_element, write_element, index_of}
 use Rattle.clmodel.specs.Next.Expressions.{ElementOf}
 use Rattle.clmodel.specs.declared.action.Cause.TheVariants as cause
 use Rattle.clmodel.specs.declared.operand.Operand.{Operand}
@@ -62,11 +62,11 @@ replicated (suc count) (suc i) x h = replicated count i x (omega arith)
 
 module _ (name : ℕ) (kind : IntType) (elements : List (Option ℕ)) where
   -- what goes on behind a number that is put at an index in range
-  set_at : (n : ℕ) (v : Integer) (after : List (Option ℕ) → Run) → n < length elements
+  set_at : (n : ℕ) (v : Integer) (after : List (Option ℕ) → Continuation) → n < length elements
       → element_set name (pos n) kind elements v after ≡ after (slice_set elements n (Some (bits_of kind v.number)))
   set_at n v after h = if_true (nat_lt n (length elements)) _ _ (lt-ltb n (length elements) h)
 
-  set_read : (z : ℤ) (v : Integer) (after : Operand → Run) → pos 0 ≤ℤ z → z <ℤ pos (length elements)
+  set_read : (z : ℤ) (v : Integer) (after : Operand → Continuation) → pos 0 ≤ℤ z → z <ℤ pos (length elements)
       → element_set name z kind elements v (λ new. element_value name z kind (element_at new z) after) ≡ after (Integral (converted v kind))
   set_read (pos n) v after from below =
       let h : n < length elements = omega (arith, ints) in
@@ -75,7 +75,7 @@ module _ (name : ℕ) (kind : IntType) (elements : List (Option ℕ)) where
       ∙ ap (λ w. after (Integral w)) (low_bits_read kind v)
   set_read (negsuc n) v after from below = absurd (omega (arith, ints))
 
-  set_kept : (z : ℤ) (v : Integer) (y : ℤ) (after : Operand → Run) → pos 0 ≤ℤ z → z <ℤ pos (length elements) → z ≢ y
+  set_kept : (z : ℤ) (v : Integer) (y : ℤ) (after : Operand → Continuation) → pos 0 ≤ℤ z → z <ℤ pos (length elements) → z ≢ y
       → element_set name z kind elements v (λ new. element_value name y kind (element_at new y) after) ≡ element_value name y kind (element_at elements y) after
   set_kept (pos n) v (pos m) after from below apart =
       set_at n v (λ new. element_value name (pos m) kind (element_at new (pos m)) after) (omega (arith, ints))
@@ -84,13 +84,13 @@ module _ (name : ℕ) (kind : IntType) (elements : List (Option ℕ)) where
       set_at n v (λ new. element_value name (negsuc m) kind (element_at new (negsuc m)) after) (omega (arith, ints))
   set_kept (negsuc n) v y after from below apart = absurd (omega (arith, ints))
 
-  set_count : (z : ℤ) (v : Integer) (after : ℕ → Run) → pos 0 ≤ℤ z → z <ℤ pos (length elements)
+  set_count : (z : ℤ) (v : Integer) (after : ℕ → Continuation) → pos 0 ≤ℤ z → z <ℤ pos (length elements)
       → element_set name z kind elements v (λ new. after (length new)) ≡ after (length elements)
   set_count (pos n) v after from below =
       set_at n v (λ new. after (length new)) (omega (arith, ints)) ∙ ap after (set_length elements n (Some (bits_of kind v.number)))
   set_count (negsuc n) v after from below = absurd (omega (arith, ints))
 
-  set_outside : (z : ℤ) (v : Integer) (after : List (Option ℕ) → Run) → (z <ℤ pos 0) ⊎ (pos (length elements) ≤ℤ z)
+  set_outside : (z : ℤ) (v : Integer) (after : List (Option ℕ) → Continuation) → (z <ℤ pos 0) ⊎ (pos (length elements) ≤ℤ z)
       → element_set name z kind elements v after ≡ fail (cause.PrivateBounds name z)
   set_outside (pos n) v after (inl below) = absurd (omega (arith, ints))
   set_outside (pos n) v after (inr past) = if_false (nat_lt n (length elements)) _ _ (not_below (omega (arith, ints)))
@@ -99,7 +99,7 @@ module _ (name : ℕ) (kind : IntType) (elements : List (Option ℕ)) where
       not_below h = grind (arith, nat_tests)
   set_outside (negsuc n) v after h = refl
 
-  value_outside : (z : ℤ) (after : Operand → Run) → (z <ℤ pos 0) ⊎ (pos (length elements) ≤ℤ z)
+  value_outside : (z : ℤ) (after : Operand → Continuation) → (z <ℤ pos 0) ⊎ (pos (length elements) ≤ℤ z)
       → element_value name z kind (element_at elements z) after ≡ fail (cause.PrivateBounds name z)
   value_outside (pos n) after (inl below) = absurd (omega (arith, ints))
   value_outside (pos n) after (inr past) = ap (λ o. element_value name (pos n) kind o after) (slice_get_past elements n (omega (arith, ints)))
@@ -108,36 +108,36 @@ module _ (name : ℕ) (kind : IntType) (elements : List (Option ℕ)) where
 -- ---- the laws
 
 pub put_is_read :
-    (name : ℕ) (kind : IntType) (elements : List (Option ℕ)) (i v : Integer) (after : Operand → Run) → pos 0 ≤ℤ index_of i → index_of i <ℤ pos (length elements)
+    (name : ℕ) (kind : IntType) (elements : List (Option ℕ)) (i v : Integer) (after : Operand → Continuation) → pos 0 ≤ℤ index_of i → index_of i <ℤ pos (length elements)
     → write_element name kind elements (Integral i) (Integral v) (λ new. read_element name kind new (Integral i) after) ≡ after (Integral (converted v kind))
 put_is_read name kind elements i v after from below = set_read name kind elements (index_of i) v after from below
 
 pub others_stay :
-    (name : ℕ) (kind : IntType) (elements : List (Option ℕ)) (i v j : Integer) (after : Operand → Run) → pos 0 ≤ℤ index_of i → index_of i <ℤ pos (length elements)
+    (name : ℕ) (kind : IntType) (elements : List (Option ℕ)) (i v j : Integer) (after : Operand → Continuation) → pos 0 ≤ℤ index_of i → index_of i <ℤ pos (length elements)
     → index_of i ≢ index_of j
     → write_element name kind elements (Integral i) (Integral v) (λ new. read_element name kind new (Integral j) after)
     ≡ read_element name kind elements (Integral j) after
 others_stay name kind elements i v j after from below apart = set_kept name kind elements (index_of i) v (index_of j) after from below apart
 
 pub length_stays :
-    (name : ℕ) (kind : IntType) (elements : List (Option ℕ)) (i v : Integer) (after : ℕ → Run) → pos 0 ≤ℤ index_of i → index_of i <ℤ pos (length elements)
+    (name : ℕ) (kind : IntType) (elements : List (Option ℕ)) (i v : Integer) (after : ℕ → Continuation) → pos 0 ≤ℤ index_of i → index_of i <ℤ pos (length elements)
     → write_element name kind elements (Integral i) (Integral v) (λ new. after (length new)) ≡ after (length elements)
 length_stays name kind elements i v after from below = set_count name kind elements (index_of i) v after from below
 
 pub put_outside :
-    (name : ℕ) (kind : IntType) (elements : List (Option ℕ)) (i v : Integer) (after : List (Option ℕ) → Run)
+    (name : ℕ) (kind : IntType) (elements : List (Option ℕ)) (i v : Integer) (after : List (Option ℕ) → Continuation)
     → (index_of i <ℤ pos 0) ⊎ (pos (length elements) ≤ℤ index_of i)
     → write_element name kind elements (Integral i) (Integral v) after ≡ fail (cause.PrivateBounds name (index_of i))
 put_outside name kind elements i v after outside = set_outside name kind elements (index_of i) v after outside
 
 pub read_outside :
-    (name : ℕ) (kind : IntType) (elements : List (Option ℕ)) (i : Integer) (after : Operand → Run)
+    (name : ℕ) (kind : IntType) (elements : List (Option ℕ)) (i : Integer) (after : Operand → Continuation)
     → (index_of i <ℤ pos 0) ⊎ (pos (length elements) ≤ℤ index_of i)
     → read_element name kind elements (Integral i) after ≡ fail (cause.PrivateBounds name (index_of i))
 read_outside name kind elements i after outside = value_outside name kind elements (index_of i) after outside
 
 pub read_unset :
-    (name : ℕ) (kind : IntType) (elements : List (Option ℕ)) (i : Integer) (after : Operand → Run) → element_at elements (index_of i) ≡ Some None
+    (name : ℕ) (kind : IntType) (elements : List (Option ℕ)) (i : Integer) (after : Operand → Continuation) → element_at elements (index_of i) ≡ Some None
     → read_element name kind elements (Integral i) after ≡ fail (cause.UnsetElement name (index_of i))
 read_unset name kind elements i after is_unset = ap (λ o. element_value name (index_of i) kind o after) is_unset
 
@@ -146,7 +146,7 @@ unset_at count (pos n) from below = replicated count n None (omega (arith, ints)
 unset_at count (negsuc n) from below = absurd (omega (arith, ints))
 
 pub unset_at_first :
-    (name : ℕ) (kind : IntType) (count : ℕ) (i : Integer) (after : Operand → Run) → pos 0 ≤ℤ index_of i → index_of i <ℤ pos count
+    (name : ℕ) (kind : IntType) (count : ℕ) (i : Integer) (after : Operand → Continuation) → pos 0 ≤ℤ index_of i → index_of i <ℤ pos count
     → read_element name kind (replicate count None) (Integral i) after ≡ fail (cause.UnsetElement name (index_of i))
 unset_at_first name kind count i after from below = read_unset name kind (replicate count None) i after (unset_at count (index_of i) from below)
 
@@ -203,8 +203,8 @@ some_element count (pos n) from below = omega (arith, ints)
 some_element count (negsuc n) from below = absurd (omega (arith, ints))
 
 -- how an element of the array is read once the array has other elements
-read_new : (name : ℕ) (variables : Variables) (j : Integer) (after : Operand → Run) → 0 < length (elements_of variables name)
-    → ◌≡◌ {A = List (Option ℕ) → Run} (λ new. fetch (ElementOf name (Integral j)) (with_elements variables name new) after)
+read_new : (name : ℕ) (variables : Variables) (j : Integer) (after : Operand → Continuation) → 0 < length (elements_of variables name)
+    → ◌≡◌ {A = List (Option ℕ) → Continuation} (λ new. fetch (ElementOf name (Integral j)) (with_elements variables name new) after)
     (λ new. read_element name (base_type (declared_type variables name)) new (Integral j) after)
 read_new name variables j after some =
     fun_ext (λ new.
@@ -218,14 +218,14 @@ module _ (name : ℕ) (variables : Variables) (i v : Integer) (from : pos 0 ≤�
   abbrev own : List (Option ℕ)
   own = elements_of variables name
 
-  pub put_is_fetched : (after : Operand → Run)
+  pub put_is_fetched : (after : Operand → Continuation)
       → put (ElementOf name (Integral i)) (Integral v) variables (λ now. fetch (ElementOf name (Integral i)) now after)
       ≡ after (Integral (converted v (base_type (declared_type variables name))))
   put_is_fetched after =
       ap (write_element name kind own (Integral i) (Integral v)) (read_new name variables i after (some_element (length own) (index_of i) from below))
       ∙ put_is_read name kind own i v after from below
 
-  pub others_are_fetched : (j : Integer) (after : Operand → Run) → index_of i ≢ index_of j
+  pub others_are_fetched : (j : Integer) (after : Operand → Continuation) → index_of i ≢ index_of j
       → put (ElementOf name (Integral i)) (Integral v) variables (λ now. fetch (ElementOf name (Integral j)) now after)
       ≡ fetch (ElementOf name (Integral j)) variables after
   others_are_fetched j after apart =
@@ -233,16 +233,16 @@ module _ (name : ℕ) (variables : Variables) (i v : Integer) (from : pos 0 ≤�
       ∙ others_stay name kind own i v j after from below apart
 
   -- what the new elements don't change goes on as it was
-  unchanged : {X : Type 0} (of : Variables → X) (after : X → Run) → ((new : List (Option ℕ)) → of (with_elements variables name new) ≡ of variables)
+  unchanged : {X : Type 0} (of : Variables → X) (after : X → Continuation) → ((new : List (Option ℕ)) → of (with_elements variables name new) ≡ of variables)
       → put (ElementOf name (Integral i)) (Integral v) variables (λ now. after (of now)) ≡ after (of variables)
   unchanged of after stays =
       ap (write_element name kind own (Integral i) (Integral v)) (fun_ext (λ new. ap after (stays new)))
       ∙ length_stays name kind own i v (λ _. after (of variables)) from below
 
-  pub arrays_stay : (x : ℕ) (after : List (Option ℕ) → Run) → x ≢ name
+  pub arrays_stay : (x : ℕ) (after : List (Option ℕ) → Continuation) → x ≢ name
       → put (ElementOf name (Integral i)) (Integral v) variables (λ now. after (elements_of now x)) ≡ after (elements_of variables x)
   arrays_stay x after apart = unchanged (λ now. elements_of now x) after (λ new. array_stays name new variables x apart)
 
-  pub variables_stay : (x : ℕ) (after : Option Operand → Run)
+  pub variables_stay : (x : ℕ) (after : Option Operand → Continuation)
       → put (ElementOf name (Integral i)) (Integral v) variables (λ now. after (look now x)) ≡ after (look variables x)
   variables_stay x after = unchanged (λ now. look now x) after (λ new. look_stays name new variables x)

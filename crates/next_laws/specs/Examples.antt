@@ -6,7 +6,7 @@ use Rattle.clnum.specs.declared.operators.BinaryOperator.TheVariants as operator
 use Rattle.clnum.specs.declared.operators.UnaryOperator.TheVariants.{Negate}
 use Rattle.clmodel.specs.BuiltIns.{local_fence}
 use Rattle.clmodel.specs.Setup.{Setup}
-use Rattle.clmodel.specs.Tree.{Term, Number, Variable, Element, ElementAddress, Call, Unary, Binary, NoTerm, then_all, Whole, Part, Stmt, Block, Declare, DeclareAs, DeclareArray, Assign, Step, CallOnly, If, While, DoWhile, For, Break, Continue, ReturnValue, NoStmt, then_stmts, With, Always, While_, Func, NoFunc, then_funcs}
+use Rattle.clmodel.specs.Tree.{Term, Number, Variable, Element, ElementAddress, Call, Unary, Binary, NoTerm, then_all, TargetVariable, TargetElement, Stmt, Block, Declare, DeclareAs, DeclareArray, Assign, Step, CallOnly, If, While, DoWhile, For, Break, Continue, ReturnValue, NoStmt, then_stmts, With, WithoutTerm, WithTerm, Func, NoFunc, then_funcs}
 use Rattle.clmodel.specs.declared.access.Object.TheVariants as object
 use Rattle.clmodel.specs.declared.access.Operation.TheVariants as operation
 use Rattle.clmodel.specs.declared.access.Width.TheVariants.{Four}
@@ -38,7 +38,7 @@ declare name e = DeclareAs 0 (Integer Int) 0 name e
 
 -- `a[0] = e;`
 abbrev pub store : Term → Stmt
-store e = Assign 0 (Part 0 101 (number 0)) None e
+store e = Assign 0 (TargetElement 0 101 (number 0)) None e
 
 -- `barrier(CLK_LOCAL_MEM_FENCE);`
 abbrev pub barrier : Stmt
@@ -46,14 +46,14 @@ barrier = CallOnly 0 14 (then_all NoTerm (variable local_fence ∷ []))
 
 -- `name++`
 abbrev pub increment : ℕ → Stmt
-increment name = Step 0 (Whole 0 name) true
+increment name = Step 0 (TargetVariable 0 name) true
 
 abbrev pub less : Term → Term → Term
 less = Binary 0 (Arithmetic operator.Less)
 
 -- `for (int j = first; condition; j++) body`
 abbrev pub for_j : ℕ → Term → Stmt → Stmt
-for_j first condition body = For 0 (With (declare 105 (number first))) (While_ condition) (With (increment 105)) body
+for_j first condition body = For 0 (With (declare 105 (number first))) (WithTerm condition) (With (increment 105)) body
 
 -- a helper: its type, its name, the names of its parameters, which are ints, and its body
 abbrev pub ints : List ℕ → List Parameter
@@ -108,7 +108,7 @@ sum_by_helper =
     launched
     (helper_g (
     declare 104 (number 0)
-    ∷ for_j 1 (Binary 0 (Arithmetic operator.LessOrEqual) (variable 105) (variable 103)) (Assign 0 (Whole 0 104) (Some operator.Add) (variable 105))
+    ∷ for_j 1 (Binary 0 (Arithmetic operator.LessOrEqual) (variable 105) (variable 103)) (Assign 0 (TargetVariable 0 104) (Some operator.Add) (variable 105))
     ∷ ReturnValue 0 (variable 104)
     ∷ []
     ) ∷ [])
@@ -124,7 +124,7 @@ continues = launched [] (for_j 0 (less (variable 105) (number 2)) (block (Contin
 
 -- `for (barrier(..); ; barrier(..)) barrier(..);`
 abbrev pub three_barriers : ℕ → Setup
-three_barriers = launched [] (For 0 (With barrier) Always (With barrier) barrier ∷ [])
+three_barriers = launched [] (For 0 (With barrier) WithoutTerm (With barrier) barrier ∷ [])
 
 -- `while (1) { do { barrier(..); break; } while (1); g(0); g(0); }`, where `g` meets a barrier in a loop
 abbrev pub nested : ℕ → Setup
@@ -145,7 +145,7 @@ through_local =
     (pointer Global 101 ∷ pointer Local 104 ∷ [])
     (Some (argument.Buffer (97 ∷ [])) ∷ Some (argument.Local 8) ∷ [])
     []
-    (Assign 0 (Part 0 104 (number 0)) None (number 1) ∷ barrier ∷ store (Element 0 104 (number 0)) ∷ [])
+    (Assign 0 (TargetElement 0 104 (number 0)) None (number 1) ∷ barrier ∷ store (Element 0 104 (number 0)) ∷ [])
 
 -- `int p[count];` and `__local int q[count];`
 abbrev pub private_ints : ℕ → Stmt
@@ -159,12 +159,12 @@ abbrev pub of_p : Term → Term
 of_p i = Element 0 106 i
 
 abbrev pub into_p : Term → Term → Stmt
-into_p i e = Assign 0 (Part 0 106 i) None e
+into_p i e = Assign 0 (TargetElement 0 106 i) None e
 
 -- `int p[2]; p[1] = 7; p[1]++; a[0] = p[1];`
 abbrev pub kept_in_private : ℕ → Setup
 kept_in_private =
-    launched [] (private_ints 2 ∷ into_p (number 1) (number 7) ∷ Step 0 (Part 0 106 (number 1)) true ∷ store (of_p (number 1)) ∷ [])
+    launched [] (private_ints 2 ∷ into_p (number 1) (number 7) ∷ Step 0 (TargetElement 0 106 (number 1)) true ∷ store (of_p (number 1)) ∷ [])
 
 -- `char p[1]; p[0] = 300; a[0] = p[0];`
 abbrev pub narrowed : ℕ → Setup
@@ -188,7 +188,7 @@ abbrev pub stored_before : ℕ → Setup
 stored_before = launched [] (private_ints 2 ∷ into_p (Unary 0 Negate (number 1)) by_zero ∷ [])
 
 abbrev pub loaded_behind : ℕ → Setup
-loaded_behind = launched [] (private_ints 2 ∷ Assign 0 (Part 0 106 (number 2)) (Some operator.Add) by_zero ∷ [])
+loaded_behind = launched [] (private_ints 2 ∷ Assign 0 (TargetElement 0 106 (number 2)) (Some operator.Add) by_zero ∷ [])
 
 -- `for (int j = 0; j < 2; j++) { int p[1]; if (j) a[0] = p[0]; p[0] = j; }`  A declaration leaves no element set.
 abbrev pub declared_again : ℕ → Setup
@@ -204,7 +204,7 @@ declared_again =
 
 -- `int n = 1; __local int q[2]; q[n] = 3;`
 abbrev pub in_local_array : ℕ → Setup
-in_local_array = launched [] (declare 103 (number 1) ∷ local_ints 2 ∷ Assign 0 (Part 0 107 (variable 103)) None (number 3) ∷ [])
+in_local_array = launched [] (declare 103 (number 1) ∷ local_ints 2 ∷ Assign 0 (TargetElement 0 107 (variable 103)) None (number 3) ∷ [])
 
 -- `char p[2]; p[0] = 127; p[0]++; a[0] = p[0];` and `int p[2]; p[1]++;`
 abbrev pub stepped : ℕ → Setup
@@ -213,23 +213,23 @@ stepped =
     []
     (DeclareArray 0 false Char 0 106 0 (record { kind = Int; number = pos 2 })
     ∷ into_p (number 0) (number 127)
-    ∷ Step 0 (Part 0 106 (number 0)) true
+    ∷ Step 0 (TargetElement 0 106 (number 0)) true
     ∷ store (of_p (number 0))
     ∷ [])
 
 abbrev pub stepped_unset : ℕ → Setup
-stepped_unset = launched [] (private_ints 2 ∷ Step 0 (Part 0 106 (number 1)) true ∷ [])
+stepped_unset = launched [] (private_ints 2 ∷ Step 0 (TargetElement 0 106 (number 1)) true ∷ [])
 
 -- `int p[2]; p[i] = 1;` and `int p[2]; p[i] += 1;`
 abbrev pub put_at : clnum.Integer → ℕ → Setup
 put_at i = launched [] (private_ints 2 ∷ into_p (Number 0 i) (number 1) ∷ [])
 
 abbrev pub added_at : clnum.Integer → ℕ → Setup
-added_at i = launched [] (private_ints 2 ∷ Assign 0 (Part 0 106 (Number 0 i)) (Some operator.Add) (number 1) ∷ [])
+added_at i = launched [] (private_ints 2 ∷ Assign 0 (TargetElement 0 106 (Number 0 i)) (Some operator.Add) (number 1) ∷ [])
 
 -- `int p[2]; p[1] += 1 / 0;`, `int p[2]; int j; p[j] = 1 / 0;` and `int p[2]; int j; p[9] = j;`
 abbrev pub added_to_unset : ℕ → Setup
-added_to_unset = launched [] (private_ints 2 ∷ Assign 0 (Part 0 106 (number 1)) (Some operator.Add) by_zero ∷ [])
+added_to_unset = launched [] (private_ints 2 ∷ Assign 0 (TargetElement 0 106 (number 1)) (Some operator.Add) by_zero ∷ [])
 
 abbrev pub unset_index : ℕ → Setup
 unset_index = launched [] (private_ints 2 ∷ Declare 0 (Integer Int) 0 105 ∷ into_p (variable 105) by_zero ∷ [])
@@ -244,7 +244,7 @@ without_ticks =
     []
     (private_ints 1
     ∷ into_p (number 0) (number 5)
-    ∷ Assign 0 (Part 0 106 (number 0)) (Some operator.Add) (of_p (number 0))
+    ∷ Assign 0 (TargetElement 0 106 (number 0)) (Some operator.Add) (of_p (number 0))
     ∷ store (of_p (number 0))
     ∷ into_p (number 1) (number 0)
     ∷ [])
@@ -274,7 +274,7 @@ added_by_helper =
     ) ∷ [])
     (private_ints 2
     ∷ into_p (number 1) (number 3)
-    ∷ Assign 0 (Part 0 106 (number 1)) (Some operator.Add) (call 102 (of_p (number 1) ∷ []))
+    ∷ Assign 0 (TargetElement 0 106 (number 1)) (Some operator.Add) (call 102 (of_p (number 1) ∷ []))
     ∷ store (of_p (number 1))
     ∷ [])
 
@@ -288,7 +288,7 @@ shorter_behind =
     launched
     []
     (block (private_ints 3 ∷ into_p (number 2) (number 7) ∷ store (of_p (number 2)) ∷ [])
-    ∷ block (other_ints false 2 ∷ Assign 0 (Part 0 108 (number 2)) None (number 1) ∷ [])
+    ∷ block (other_ints false 2 ∷ Assign 0 (TargetElement 0 108 (number 2)) None (number 1) ∷ [])
     ∷ [])
 
 -- `{ int p[2]; p[0] = 7; } { int r[2]; a[0] = r[0]; }`
@@ -302,7 +302,7 @@ unset_behind =
 
 -- `a[1] = e;`
 abbrev pub store_second : Term → Stmt
-store_second e = Assign 0 (Part 0 101 (number 1)) None e
+store_second e = Assign 0 (TargetElement 0 101 (number 1)) None e
 
 -- `int p[2]; p[0] = 1; { int p = 3; a[0] = p; } a[1] = p[0];`
 abbrev pub hidden : ℕ → Setup
@@ -317,7 +317,7 @@ hidden =
 
 -- `__local int q[2]; q[0] = 5; { int q[1]; q[0] = 6; a[0] = q[0]; } a[1] = q[0];`
 abbrev pub into_q : Term → Stmt
-into_q e = Assign 0 (Part 0 107 (number 0)) None e
+into_q e = Assign 0 (TargetElement 0 107 (number 0)) None e
 
 abbrev pub local_hidden : ℕ → Setup
 local_hidden =
@@ -359,8 +359,8 @@ numbered =
     ∷ DeclareArray 0 true Uchar 0 107 0 (record { kind = Int; number = pos 8 })
     ∷ block (Declare 0 (Integer Int) 0 105 ∷ [])
     ∷ other_ints true 2
-    ∷ Assign 0 (Part 0 108 (number 0)) None (variable 103)
-    ∷ Assign 0 (Part 0 107 (number 4)) None (number 9)
+    ∷ Assign 0 (TargetElement 0 108 (number 0)) None (variable 103)
+    ∷ Assign 0 (TargetElement 0 107 (number 4)) None (number 9)
     ∷ [])
 
 -- `void g(__local int *p) { p[3] = 1; }`, with `__local int r[2]; __local int q[4]; g(q + 1);`
@@ -389,7 +389,7 @@ address i = ElementAddress 0 0 101 (number i)
 abbrev pub sum_of_fetches : Setup
 sum_of_fetches =
     launched []
-    (Assign 0 (Part 0 101 (number 1)) None
+    (Assign 0 (TargetElement 0 101 (number 1)) None
     (Binary 0 (Arithmetic operator.Add) (call 15 (address 0 ∷ number 3 ∷ [])) (call 27 (address 0 ∷ number 3 ∷ number 9 ∷ []))) ∷ [])
     9
 

@@ -136,11 +136,11 @@ module _ (code : Listing) where
   in_tables (instruction.Unset to) h = record { reads = tt; writes = (h, tt); arrays = tt; objects = tt; names = tt; parameters = tt }
   in_tables (instruction.Move to from name) h =
       record { reads = (register from (given _ _ h.0), tt); writes = (target to _ h.0, tt); arrays = tt; objects = tt; names = (h.1, tt); parameters = tt }
-  in_tables (instruction.Hold to from kind) h =
+  in_tables (instruction.AssignConversion to from kind) h =
       record { reads = (register from (held_there kind _ _ h), tt); writes = (target to _ h, tt); arrays = tt; objects = tt; names = tt; parameters = tt }
   in_tables (instruction.Convert to from kind) h =
       record { reads = (register from (number_there kind _ _ h), tt); writes = (target to _ h, tt); arrays = tt; objects = tt; names = tt; parameters = tt }
-  in_tables (instruction.Common to from other) h =
+  in_tables (instruction.UsualConversion to from other) h =
       record { reads = (register from (common_there other _ _ h), tt); writes = (target to _ h, tt); arrays = tt; objects = tt; names = tt; parameters = tt }
   in_tables (instruction.Unary to operator operand) h =
       record { reads = (register operand (changed_there operator _ _ h), tt); writes = (target to _ h, tt); arrays = tt; objects = tt; names = tt; parameters = tt }
@@ -164,7 +164,7 @@ module _ (code : Listing) where
       record { reads = (register index (integer_there _ h.1), tt); writes = (target to _ h.0, tt); arrays = (h.2, tt); objects = tt; names = (h.3, tt); parameters = tt }
   in_tables (instruction.PrivateStore array index value element name) h =
       record { reads = (register index (integer_there _ h.0), (register value (integer_there _ h.1), tt)); writes = tt; arrays = (h.2, tt); objects = tt; names = (h.3, tt); parameters = tt }
-  in_tables (instruction.Point to from) h =
+  in_tables (instruction.MovePointer to from) h =
       record { reads = (register from (pointer_there _ h.1), tt); writes = (target to _ h.0, tt); arrays = tt; objects = tt; names = tt; parameters = tt }
   in_tables (instruction.Offset to pointer index) h =
       let both = offset_there _ _ _ h in

@@ -18,7 +18,7 @@ use Rattle.clnum.specs.declared.operators.UnaryOperator.{UnaryOperator}
 use Rattle.clnum.specs.declared.operators.UnaryOperator.TheVariants as unary_operator
 use Rattle.clnum.specs.declared.operators.Builtin.{Builtin}
 use Rattle.clnum.specs.declared.operators.Builtin.TheVariants as builtin
-use Rattle.clmodel.specs.Next.{Run, fail, number, pointing, moved, load, store, element_value, read_element, element_set, write_element, atomic_call, fetch_number, fetch_call, combined, arithmetic, test, integer_call, given_value, content, held, known}
+use Rattle.clmodel.specs.Next.{Continuation, fail, number, pointing, moved, load, store, element_value, read_element, element_set, write_element, atomic_call, fetch_number, fetch_call, combined, arithmetic, test, integer_call, given_value, content, held, known}
 use Rattle.clmodel.specs.declared.action.Cause.{Cause}
 use Rattle.clmodel.specs.declared.operand.Operand.{Operand}
 use Rattle.clmodel.specs.declared.operand.Operand.TheVariants.{Integral, Pointed}
@@ -29,7 +29,7 @@ use Rattle.clmodel.specs.declared.setup.AtomicFunction.{AtomicFunction}
 use Rattle.clmodel.specs.declared.tree.VariableType.{VariableType}
 use Rattle.clmodel.specs.declared.tree.VariableType.TheVariants as variable_type
 use Rattle.regcode.specs.Listing.{Listing}
-use Rattle.regcode.specs.Machine.{State, Given, Registers, reg, put, put_array, array_of, entry_at, act, name_of, with_put, with_array, with_turns, passed, onward, argument_at}
+use Rattle.regcode.specs.Machine.{State, ItemContext, Registers, reg, put, put_array, array_of, entry_at, act, name_of, with_put, with_array, with_turns, passed, onward, argument_at}
 use Rattle.regcode.specs.Rules.{IsVerified, Fits, Goes, Takes, HasRoom, Leads, kind_at, loops_at, kind_of, held_kind, number_kind, common_kind, changed_kind, combined_kind, of_one_kind, of_two_kind, offset_kind, loaded_kind, fetched_kind, is_integer, is_pointer, is_atomic, is_turn}
 use Rattle.regcode.specs.Safety.{Suits, operand_kind, InTables, GoesOn, ended, failed, on_at, after_at, asked, ticked, IsNext, NeverSticks}
 use Rattle.regcode.specs.declared.instruction.FetchOperands.TheVariants as operands
@@ -98,40 +98,40 @@ fetched_takes Int r h = takes_is r _ h
 fetched_takes Uint r h = takes_is r _ h
 fetched_takes _ r h = absurd (takes_nothing r h)
 
-module _ (Ends : Type 0) (Next : State → Type 0) (on after : State → Run) where
-  abbrev Safe : Run → Type 0
+module _ (Ends : Type 0) (Next : State → Type 0) (on after : State → Continuation) where
+  abbrev Safe : Continuation → Type 0
   Safe run = GoesOn Ends Next on after run
 
-  known_safe : (name : ℕ) (o : Option Operand) (f : Operand → Run) → ((v : Operand) → o ≡ Some v → Safe (f v)) → Safe (known name o f)
+  known_safe : (name : ℕ) (o : Option Operand) (f : Operand → Continuation) → ((v : Operand) → o ≡ Some v → Safe (f v)) → Safe (known name o f)
   known_safe name None f h = failed _
   known_safe name (Some v) f h = h v refl
 
-  number_safe : (v : Operand) (f : Integer → Run) → IsTrue (is_integer (Some (operand_kind v))) → ((n : Integer) → v ≡ Integral n → Safe (f n)) → Safe (number v f)
+  number_safe : (v : Operand) (f : Integer → Continuation) → IsTrue (is_integer (Some (operand_kind v))) → ((n : Integer) → v ≡ Integral n → Safe (f n)) → Safe (number v f)
   number_safe (Integral n) f i h = h n refl
   number_safe (Pointed p) f i h = absurd (false≢true i)
 
-  test_safe : (v : Operand) (f : Bool → Run) → IsTrue (is_integer (Some (operand_kind v))) → ((b : Bool) → Safe (f b)) → Safe (test v f)
+  test_safe : (v : Operand) (f : Bool → Continuation) → IsTrue (is_integer (Some (operand_kind v))) → ((b : Bool) → Safe (f b)) → Safe (test v f)
   test_safe (Integral n) f i h = h _
   test_safe (Pointed p) f i h = absurd (false≢true i)
 
-  pointing_safe : (v : Operand) (f : PointerValue → Run) → IsTrue (is_pointer (Some (operand_kind v))) → ((p : PointerValue) → v ≡ Pointed p → Safe (f p)) → Safe (pointing v f)
+  pointing_safe : (v : Operand) (f : PointerValue → Continuation) → IsTrue (is_pointer (Some (operand_kind v))) → ((p : PointerValue) → v ≡ Pointed p → Safe (f p)) → Safe (pointing v f)
   pointing_safe (Integral n) f i h = absurd (false≢true i)
   pointing_safe (Pointed p) f i h = h p refl
 
-  load_safe : (p : PointerValue) (f : Operand → Run) → ((x : Operand) → operand_kind x ≡ IntegerKind p.element → Safe (f x)) → Safe (load p f)
+  load_safe : (p : PointerValue) (f : Operand → Continuation) → ((x : Operand) → operand_kind x ≡ IntegerKind p.element → Safe (f x)) → Safe (load p f)
   load_safe p f h = asked _ _ (λ answer. h _ refl)
 
-  store_safe : (p : PointerValue) (v : Operand) (run : Run) → IsTrue (is_integer (Some (operand_kind v))) → Safe run → Safe (store p v run)
+  store_safe : (p : PointerValue) (v : Operand) (run : Continuation) → IsTrue (is_integer (Some (operand_kind v))) → Safe run → Safe (store p v run)
   store_safe p (Integral n) run i h = asked _ _ (λ answer. h)
   store_safe p (Pointed q) run i h = absurd (false≢true i)
 
-  arithmetic_safe : (r : Result Integer ArithFault) (kind : IntType) (f : Operand → Run) → IsOfType kind r → ((x : Operand) → operand_kind x ≡ IntegerKind kind → Safe (f x)) → Safe (arithmetic r f)
+  arithmetic_safe : (r : Result Integer ArithFault) (kind : IntType) (f : Operand → Continuation) → IsOfType kind r → ((x : Operand) → operand_kind x ≡ IntegerKind kind → Safe (f x)) → Safe (arithmetic r f)
   unfolding IsOfType
   arithmetic_safe (Ok v) kind f is h = h _ (ap IntegerKind is)
   arithmetic_safe (Err arith_fault.DivideByZero) kind f is h = failed _
   arithmetic_safe (Err arith_fault.DivideOverflow) kind f is h = failed _
 
-  combined_safe : (operator : BinaryOperator) (v w : Operand) (f : Operand → Run) (r : Option RegisterKind)
+  combined_safe : (operator : BinaryOperator) (v w : Operand) (f : Operand → Continuation) (r : Option RegisterKind)
       → Takes r (combined_kind operator (Some (operand_kind v)) (Some (operand_kind w))) → ((x : Operand) → r ≡ Some (operand_kind x) → Safe (f x)) → Safe (combined operator v w f)
   combined_safe operator (Integral v) (Integral w) f r takes h =
       arithmetic_safe (binary_value operator v w) _ f (binary_is operator v w) (λ x is. h x (takes_is r _ takes ∙ ap Some (sym is)))
@@ -140,13 +140,13 @@ module _ (Ends : Type 0) (Next : State → Type 0) (on after : State → Run) wh
   combined_safe binary_operator.Subtract (Pointed p) (Integral i) f r takes h = h _ (takes_is r _ takes)
   combined_safe _ _ _ f r takes h = absurd (takes_nothing r takes)
 
-  moved_safe : (v w : Operand) (f : PointerValue → Run) (r : Option RegisterKind)
+  moved_safe : (v w : Operand) (f : PointerValue → Continuation) (r : Option RegisterKind)
       → Takes r (offset_kind (Some (operand_kind v)) (Some (operand_kind w))) → ((q : PointerValue) → r ≡ Some (PointerKind q.element) → Safe (f q)) → Safe (moved v w f)
   moved_safe (Pointed p) (Integral i) f r takes h = h _ (takes_is r _ takes)
   moved_safe (Pointed p) (Pointed q) f r takes h = absurd (takes_nothing r takes)
   moved_safe (Integral v) w f r takes h = absurd (takes_nothing r takes)
 
-  of_one_safe : (function : Builtin) (v : Operand) (f : Operand → Run) (r : Option RegisterKind)
+  of_one_safe : (function : Builtin) (v : Operand) (f : Operand → Continuation) (r : Option RegisterKind)
       → Takes r (of_one_kind function (Some (operand_kind v))) → ((x : Operand) → r ≡ Some (operand_kind x) → Safe (f x)) → Safe (integer_call function (v ∷ []) f)
   unfolding builtin_value
   of_one_safe builtin.Abs (Integral v) f r takes h = h _ (takes_is r _ takes)
@@ -155,12 +155,12 @@ module _ (Ends : Type 0) (Next : State → Type 0) (on after : State → Run) wh
   of_one_safe _ _ f r takes h = absurd (takes_nothing r takes)
 
   -- two numbers of one type, or not
-  same_safe : (b : Bool) (kind : IntType) (v : Integer) (f : Operand → Run) (r : Option RegisterKind) → v.kind ≡ kind
+  same_safe : (b : Bool) (kind : IntType) (v : Integer) (f : Operand → Continuation) (r : Option RegisterKind) → v.kind ≡ kind
       → Takes r (if b then Some (IntegerKind kind) else None) → ((x : Operand) → r ≡ Some (operand_kind x) → Safe (f x)) → Safe (given_value (if b then Some v else None) f)
   same_safe true kind v f r is takes h = h _ (takes_is r _ takes ∙ ap (λ k. Some (IntegerKind k)) (sym is))
   same_safe false kind v f r is takes h = absurd (takes_nothing r takes)
 
-  of_two_safe : (function : Builtin) (v w : Operand) (f : Operand → Run) (r : Option RegisterKind)
+  of_two_safe : (function : Builtin) (v w : Operand) (f : Operand → Continuation) (r : Option RegisterKind)
       → Takes r (of_two_kind function (Some (operand_kind v)) (Some (operand_kind w))) → ((x : Operand) → r ≡ Some (operand_kind x) → Safe (f x)) → Safe (integer_call function (v ∷ w ∷ []) f)
   unfolding builtin_value
   of_two_safe builtin.Min (Integral v) (Integral w) f r takes h = same_safe (is_same v.kind w.kind) v.kind _ f r refl takes h
@@ -168,26 +168,26 @@ module _ (Ends : Type 0) (Next : State → Type 0) (on after : State → Run) wh
   of_two_safe builtin.Rotate (Integral v) (Integral w) f r takes h = same_safe (is_same v.kind w.kind) v.kind _ f r refl takes h
   of_two_safe _ _ _ f r takes h = absurd (takes_nothing r takes)
 
-  value_safe : (name : ℕ) (i : ℤ) (kind : IntType) (found : Option (Option ℕ)) (f : Operand → Run) → ((x : Operand) → operand_kind x ≡ IntegerKind kind → Safe (f x))
+  value_safe : (name : ℕ) (i : ℤ) (kind : IntType) (found : Option (Option ℕ)) (f : Operand → Continuation) → ((x : Operand) → operand_kind x ≡ IntegerKind kind → Safe (f x))
       → Safe (element_value name i kind found f)
   value_safe name i kind None f h = failed _
   value_safe name i kind (Some None) f h = failed _
   value_safe name i kind (Some (Some n)) f h = h _ refl
 
-  read_safe : (name : ℕ) (kind : IntType) (elements : List (Option ℕ)) (i : Operand) (f : Operand → Run) → IsTrue (is_integer (Some (operand_kind i)))
+  read_safe : (name : ℕ) (kind : IntType) (elements : List (Option ℕ)) (i : Operand) (f : Operand → Continuation) → IsTrue (is_integer (Some (operand_kind i)))
       → ((x : Operand) → operand_kind x ≡ IntegerKind kind → Safe (f x)) → Safe (read_element name kind elements i f)
   read_safe name kind elements i f integer h = number_safe i _ integer (λ n is. value_safe name _ kind _ f h)
 
-  if_safe : (b : Bool) (run : Run) (cause : Cause) → Safe run → Safe (if b then run else fail cause)
+  if_safe : (b : Bool) (run : Continuation) (cause : Cause) → Safe run → Safe (if b then run else fail cause)
   if_safe true run cause h = h
   if_safe false run cause h = failed _
 
-  set_safe : (name : ℕ) (i : ℤ) (kind : IntType) (elements : List (Option ℕ)) (v : Integer) (f : List (Option ℕ) → Run) → ((xs : List (Option ℕ)) → length xs ≡ length elements → Safe (f xs))
+  set_safe : (name : ℕ) (i : ℤ) (kind : IntType) (elements : List (Option ℕ)) (v : Integer) (f : List (Option ℕ) → Continuation) → ((xs : List (Option ℕ)) → length xs ≡ length elements → Safe (f xs))
       → Safe (element_set name i kind elements v f)
   set_safe name (pos i) kind elements v f h = if_safe _ _ _ (h _ (length-set elements i _))
   set_safe name (negsuc i) kind elements v f h = failed _
 
-  write_safe : (name : ℕ) (kind : IntType) (elements : List (Option ℕ)) (i v : Operand) (f : List (Option ℕ) → Run) → IsTrue (is_integer (Some (operand_kind i)))
+  write_safe : (name : ℕ) (kind : IntType) (elements : List (Option ℕ)) (i v : Operand) (f : List (Option ℕ) → Continuation) → IsTrue (is_integer (Some (operand_kind i)))
       → IsTrue (is_integer (Some (operand_kind v))) → ((xs : List (Option ℕ)) → length xs ≡ length elements → Safe (f xs)) → Safe (write_element name kind elements i v f)
   write_safe name kind elements i v f integer other h =
       number_safe i _ integer (λ n is. number_safe v _ other (λ m is'. set_safe name _ kind elements m f h))
@@ -196,28 +196,28 @@ module _ (Ends : Type 0) (Next : State → Type 0) (on after : State → Run) wh
   atomic_pointer (Integral v) h = absurd (false≢true h)
   atomic_pointer (Pointed p) h = refl
 
-  update_by_one_safe : (function : AtomicFunction) (p : Operand) (run : Run) → IsTrue (is_atomic (Some (operand_kind p))) → Safe run → Safe (atomic_call function (p ∷ []) run)
+  update_by_one_safe : (function : AtomicFunction) (p : Operand) (run : Continuation) → IsTrue (is_atomic (Some (operand_kind p))) → Safe run → Safe (atomic_call function (p ∷ []) run)
   update_by_one_safe function p run a h = pointing_safe p _ (atomic_pointer p a) (λ q is. asked _ _ (λ answer. h))
 
-  update_safe : (function : AtomicFunction) (p v : Operand) (run : Run) → IsTrue (is_atomic (Some (operand_kind p))) → IsTrue (is_integer (Some (operand_kind v))) → Safe run
+  update_safe : (function : AtomicFunction) (p v : Operand) (run : Continuation) → IsTrue (is_atomic (Some (operand_kind p))) → IsTrue (is_integer (Some (operand_kind v))) → Safe run
       → Safe (atomic_call function (p ∷ v ∷ []) run)
   update_safe function p v run a i h = pointing_safe p _ (atomic_pointer p a) (λ q is. number_safe v _ i (λ n is'. asked _ _ (λ answer. h)))
 
-  old_safe : (function : AtomicFunction) (p : PointerValue) (c n : Integer) (f : Operand → Run) (r : Option RegisterKind) → Takes r (fetched_kind (Some (PointerKind p.element)))
+  old_safe : (function : AtomicFunction) (p : PointerValue) (c n : Integer) (f : Operand → Continuation) (r : Option RegisterKind) → Takes r (fetched_kind (Some (PointerKind p.element)))
       → ((x : Operand) → r ≡ Some (operand_kind x) → Safe (f x)) → Safe (fetch_number function p c n f)
   old_safe function p c n f r takes h = asked _ _ (λ answer. h _ (fetched_takes p.element r takes))
 
-  fetch_alone_safe : (function : AtomicFunction) (p : Operand) (f : Operand → Run) (r : Option RegisterKind) → Takes r (fetched_kind (Some (operand_kind p)))
+  fetch_alone_safe : (function : AtomicFunction) (p : Operand) (f : Operand → Continuation) (r : Option RegisterKind) → Takes r (fetched_kind (Some (operand_kind p)))
       → ((x : Operand) → r ≡ Some (operand_kind x) → Safe (f x)) → Safe (fetch_call function (p ∷ []) f)
   fetch_alone_safe function (Pointed p) f r takes h = old_safe function p (wrapped p.element (pos 0)) (wrapped p.element (pos 1)) f r takes h
   fetch_alone_safe function (Integral n) f r takes h = absurd (takes_nothing r takes)
 
-  fetch_number_safe : (function : AtomicFunction) (p v : Operand) (f : Operand → Run) (r : Option RegisterKind) → Takes r (fetched_kind (Some (operand_kind p)))
+  fetch_number_safe : (function : AtomicFunction) (p v : Operand) (f : Operand → Continuation) (r : Option RegisterKind) → Takes r (fetched_kind (Some (operand_kind p)))
       → IsTrue (is_integer (Some (operand_kind v))) → ((x : Operand) → r ≡ Some (operand_kind x) → Safe (f x)) → Safe (fetch_call function (p ∷ v ∷ []) f)
   fetch_number_safe function (Pointed p) v f r takes i h = number_safe v _ i (λ n is. old_safe function p (wrapped p.element (pos 0)) (converted n p.element) f r takes h)
   fetch_number_safe function (Integral n) v f r takes i h = absurd (takes_nothing r takes)
 
-  fetch_pair_safe : (function : AtomicFunction) (p c v : Operand) (f : Operand → Run) (r : Option RegisterKind) → Takes r (fetched_kind (Some (operand_kind p)))
+  fetch_pair_safe : (function : AtomicFunction) (p c v : Operand) (f : Operand → Continuation) (r : Option RegisterKind) → Takes r (fetched_kind (Some (operand_kind p)))
       → IsTrue (is_integer (Some (operand_kind c))) → IsTrue (is_integer (Some (operand_kind v)))
       → ((x : Operand) → r ≡ Some (operand_kind x) → Safe (f x)) → Safe (fetch_call function (p ∷ c ∷ v ∷ []) f)
   fetch_pair_safe function (Pointed p) c v f r takes i j h = number_safe c _ i (λ m is. number_safe v _ j (λ n is'. old_safe function p (converted m p.element) (converted n p.element) f r takes h))
@@ -334,21 +334,21 @@ module _ (code : Listing) (s : State) (suits : Suits code s) where
       record { suits = record { inside = inside; registers = suits.registers; arrays = suits.arrays; typed = suits.typed; room = suits.room; counted = omega (arith, counted, few) }; forward = inr turn }
 
   -- what an instruction does, where its operands are as it wants them
-  module _ (given : Given) (on after : State → Run) where
+  module _ (given : ItemContext) (on after : State → Continuation) where
     does : (i : Instruction) → Fits code i → InTables code i → Goes code s.place i → GoesOn (i ≡ instruction.End) (IsNext code s) on after (act given (Some i) on after s)
     unfolding converted
     does (instruction.Constant to value) fits named goes = on_at _ (put_next to _ (takes_is _ _ fits) goes)
     does (instruction.Unset to) fits named goes = on_at _ (set_next to None fits (λ w e. absurd (none-some w e)) goes)
     does (instruction.Move to from name) fits named goes =
         known_safe _ _ on after name _ _ (λ v e. on_at _ (put_next to v (takes_is _ _ fits.0 ∙ suits.typed from v e) goes))
-    does (instruction.Hold to from kind) fits named goes =
+    does (instruction.AssignConversion to from kind) fits named goes =
         known_safe _ _ on after _ _ _ (λ v e.
         on_at _ (put_next to _ (held_takes kind v _ (subst (λ k. Takes (kind_at code to) (held_kind kind k)) (suits.typed from v e) fits)) goes))
     does (instruction.Convert to from kind) fits named goes =
         known_safe _ _ on after _ _ _ (λ v e.
         let takes = subst (λ k. Takes (kind_at code to) (number_kind kind k)) (suits.typed from v e) fits in
         number_safe _ _ on after v _ (number_integer kind v _ takes) (λ n is. on_at _ (put_next to _ (number_takes kind v _ takes) goes)))
-    does (instruction.Common to from other) fits named goes =
+    does (instruction.UsualConversion to from other) fits named goes =
         known_safe _ _ on after _ _ _ (λ v e.
         let takes = subst (λ k. Takes (kind_at code to) (common_kind other k)) (suits.typed from v e) fits in
         number_safe _ _ on after v _ (common_integer other v _ takes) (λ n is.
@@ -393,7 +393,7 @@ module _ (code : Listing) (s : State) (suits : Suits code s) where
         known_safe _ _ on after _ _ _ (λ v e'.
         write_safe _ _ on after name element _ i v _ (subst (λ k. IsTrue (is_integer k)) (suits.typed index i e) fits.0)
         (subst (λ k. IsTrue (is_integer k)) (suits.typed value v e') fits.1) (λ xs same. on_at _ (array_next array xs named.arrays.0 (let small = suits.room array in omega (arith, small, same)) goes))))
-    does (instruction.Point to from) fits named goes =
+    does (instruction.MovePointer to from) fits named goes =
         known_safe _ _ on after _ _ _ (λ v e.
         pointing_safe _ _ on after v _ (subst (λ k. IsTrue (is_pointer k)) (suits.typed from v e) fits.1) (λ q is.
         on_at _ (put_next to (Pointed q) (takes_is _ _ fits.0 ∙ suits.typed from v e ∙ ap (λ w. Some (operand_kind w)) is) goes)))
@@ -486,7 +486,7 @@ never_sticks code ok =
       next = λ given s suits on after. goes given s suits on after (slice_get code.instructions s.place) refl;
     }
   where
-    goes : (given : Given) (s : State) → Suits code s → (on after : State → Run) → (o : Option Instruction) → slice_get code.instructions s.place ≡ o
+    goes : (given : ItemContext) (s : State) → Suits code s → (on after : State → Continuation) → (o : Option Instruction) → slice_get code.instructions s.place ≡ o
         → (i : Instruction) × (o ≡ Some i) × InTables code i × GoesOn (i ≡ instruction.End) (IsNext code s) on after (act given o on after s)
     goes given s suits on after (Some i) here = let fine = ok.each s.place i here in let named = in_tables code i fine.fits in (i, refl, named, does code s suits given on after i fine.fits named fine.goes)
     goes given s suits on after None here = absurd (none-some _ (sym here ∙ slice_get-get_or code.instructions s.place instruction.End suits.inside))

@@ -3,7 +3,7 @@ use Rattle.std.specs.Prelude.{ℕ, Option, None, Some, List, [], ◌∷◌, ◌+
 use Rattle.regcode.specs.declared.dumping.Part.{Part}
 use Rattle.regcode.specs.declared.dumping.Part.TheVariants as part
 use Rattle.clnum.specs.Integer.{type_word}
-use Rattle.ends.specs.Pieces.{joined}
+use Rattle.counted_io.specs.Pieces.{joined}
 use Rattle.regcode.specs.Text.{fences_word, register, pointed, private, typed, variable_type}
 
 abbrev pub part_text : Part → List ℕ

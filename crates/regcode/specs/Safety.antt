@@ -1,6 +1,6 @@
 -- What verified code never meets.
 use Rattle.std.specs.Prelude.{◌≡◌, ℕ, ◌<◌, ◌≤◌, ◌⊎◌, IsTrue, None, Some, List, [], ◌∷◌, length, slice_get, slice_index}
-use Rattle.clmodel.specs.Next.{Run, finish, fail, ask, tick}
+use Rattle.clmodel.specs.Next.{Continuation, finish, fail, ask, tick}
 use Rattle.clmodel.specs.declared.action.Action.{Action}
 use Rattle.clmodel.specs.declared.action.Answer.{Answer}
 use Rattle.clmodel.specs.declared.action.Cause.{Cause}
@@ -8,7 +8,7 @@ use Rattle.clmodel.specs.declared.operand.Operand.{Operand}
 use Rattle.clmodel.specs.declared.operand.Operand.TheVariants.{Integral, Pointed}
 use Rattle.clmodel.specs.declared.tree.VariableType.{VariableType}
 use Rattle.regcode.specs.Listing.{Listing}
-use Rattle.regcode.specs.Machine.{State, Given, reg, array_of, name_of, act, at_start}
+use Rattle.regcode.specs.Machine.{State, ItemContext, reg, array_of, name_of, act, at_start}
 use Rattle.regcode.specs.Rules.{kind_at, loops_at, is_turn}
 use Rattle.regcode.specs.declared.instruction.FetchOperands.{FetchOperands}
 use Rattle.regcode.specs.declared.instruction.FetchOperands.TheVariants as operands
@@ -41,9 +41,9 @@ operand_sources (operands.Pair expected value) = expected ∷ value ∷ []
 -- the registers that an instruction reads
 abbrev pub sources : Instruction → List ℕ
 sources (instruction.Move to from name) = from ∷ []
-sources (instruction.Hold to from kind) = from ∷ []
+sources (instruction.AssignConversion to from kind) = from ∷ []
 sources (instruction.Convert to from kind) = from ∷ []
-sources (instruction.Common to from other) = from ∷ []
+sources (instruction.UsualConversion to from other) = from ∷ []
 sources (instruction.Unary to operator operand) = operand ∷ []
 sources (instruction.Binary to operator left right) = left ∷ right ∷ []
 sources (instruction.Builtin to function first None) = first ∷ []
@@ -51,7 +51,7 @@ sources (instruction.Builtin to function first (Some second)) = first ∷ second
 sources (instruction.Query to function dimension) = dimension ∷ []
 sources (instruction.PrivateLoad to array index element name) = index ∷ []
 sources (instruction.PrivateStore array index value element name) = index ∷ value ∷ []
-sources (instruction.Point to from) = from ∷ []
+sources (instruction.MovePointer to from) = from ∷ []
 sources (instruction.Offset to pointer index) = pointer ∷ index ∷ []
 sources (instruction.Load to pointer) = pointer ∷ []
 sources (instruction.Store pointer value) = pointer ∷ value ∷ []
@@ -66,9 +66,9 @@ abbrev pub targets : Instruction → List ℕ
 targets (instruction.Constant to value) = to ∷ []
 targets (instruction.Unset to) = to ∷ []
 targets (instruction.Move to from name) = to ∷ []
-targets (instruction.Hold to from kind) = to ∷ []
+targets (instruction.AssignConversion to from kind) = to ∷ []
 targets (instruction.Convert to from kind) = to ∷ []
-targets (instruction.Common to from other) = to ∷ []
+targets (instruction.UsualConversion to from other) = to ∷ []
 targets (instruction.Unary to operator operand) = to ∷ []
 targets (instruction.Binary to operator left right) = to ∷ []
 targets (instruction.Builtin to function first second) = to ∷ []
@@ -77,7 +77,7 @@ targets (instruction.Query to function dimension) = to ∷ []
 targets (instruction.Argument to index kind) = to ∷ []
 targets (instruction.Local to number element) = to ∷ []
 targets (instruction.PrivateLoad to array index element name) = to ∷ []
-targets (instruction.Point to from) = to ∷ []
+targets (instruction.MovePointer to from) = to ∷ []
 targets (instruction.Offset to pointer index) = to ∷ []
 targets (instruction.Load to pointer) = to ∷ []
 targets (instruction.Fetch to function pointer given) = to ∷ []
@@ -127,13 +127,13 @@ pub record InTables (code : Listing) (i : Instruction) : Type 0 where
   pub parameters : Declared code.parameters (parameters_named i)
 
 -- What an instruction does, where `on` and `after` are what follows: it fails, or asks or takes a tick and goes on, always in a state of which `Next` holds. It ends only where `Ends` holds.
-pub data GoesOn (Ends : Type 0) (Next : State → Type 0) (on after : State → Run) : Run → Type 0 where
+pub data GoesOn (Ends : Type 0) (Next : State → Type 0) (on after : State → Continuation) : Continuation → Type 0 where
   ended : Ends → GoesOn Ends Next on after finish
   failed : (cause : Cause) → GoesOn Ends Next on after (fail cause)
   on_at : (s : State) → Next s → GoesOn Ends Next on after (on s)
   after_at : (s : State) → Next s → GoesOn Ends Next on after (after s)
-  asked : (wanted : Action) (then : Answer → Run) → ((answer : Answer) → GoesOn Ends Next on after (then answer)) → GoesOn Ends Next on after (ask wanted then)
-  ticked : (then : Run) → GoesOn Ends Next on after then → GoesOn Ends Next on after (tick then)
+  asked : (wanted : Action) (then : Answer → Continuation) → ((answer : Answer) → GoesOn Ends Next on after (then answer)) → GoesOn Ends Next on after (ask wanted then)
+  ticked : (then : Continuation) → GoesOn Ends Next on after then → GoesOn Ends Next on after (tick then)
 
 -- The next state suits the code, and it stands further on, or at a turn of a loop.
 pub record IsNext (code : Listing) (s : State) (next : State) : Type 0 where
@@ -145,6 +145,6 @@ pub record IsNext (code : Listing) (s : State) (next : State) : Type 0 where
 pub record NeverSticks (code : Listing) : Type 0 where
   pub start : Suits code (at_start (length code.registers) (length code.arrays))
   pub named : (r : ℕ) → r < length code.registers → name_of (slice_get code.registers r) < code.names
-  pub next : (given : Given) (s : State) → Suits code s → (on after : State → Run)
+  pub next : (given : ItemContext) (s : State) → Suits code s → (on after : State → Continuation)
       → (i : Instruction) × (slice_get code.instructions s.place ≡ Some i) × InTables code i
       × GoesOn (i ≡ instruction.End) (IsNext code s) on after (act given (slice_get code.instructions s.place) on after s)

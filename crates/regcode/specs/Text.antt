@@ -2,7 +2,7 @@
 use Rattle.std.specs.Prelude.{ℕ, ◌+◌, ◌-◌, suc, if◌then◌else◌, Option, None, Some, List, [], ◌∷◌, ◌++◌, codes, decimal}
 use Rattle.std.specs.Fmt.{signed_decimal}
 use Rattle.std.specs.List.{flat_map}
-use Rattle.ends.specs.Pieces.{joined}
+use Rattle.counted_io.specs.Pieces.{joined}
 use Rattle.clnum.specs.declared.operators.BinaryOperator.{BinaryOperator}
 use Rattle.clnum.specs.declared.operators.BinaryOperator.TheVariants as binary
 use Rattle.clnum.specs.declared.operators.Builtin.{Builtin}
@@ -95,9 +95,9 @@ abbrev pub word_of : Instruction → List ℕ
 word_of (instruction.Constant to value) = codes "constant"
 word_of (instruction.Unset to) = codes "unset"
 word_of (instruction.Move to from name) = codes "move"
-word_of (instruction.Hold to from kind) = codes "hold"
+word_of (instruction.AssignConversion to from kind) = codes "assign"
 word_of (instruction.Convert to from kind) = codes "convert"
-word_of (instruction.Common to from other) = codes "common"
+word_of (instruction.UsualConversion to from other) = codes "usual"
 word_of (instruction.Unary to operator operand) = unary_word operator
 word_of (instruction.Binary to operator left right) = binary_word operator
 word_of (instruction.Builtin to function first second) = builtin_word function
@@ -108,7 +108,7 @@ word_of (instruction.Local to number element) = codes "local"
 word_of (instruction.UnsetArray array count) = codes "unset_array"
 word_of (instruction.PrivateLoad to array index element name) = codes "private_load"
 word_of (instruction.PrivateStore array index value element name) = codes "private_store"
-word_of (instruction.Point to from) = codes "point"
+word_of (instruction.MovePointer to from) = codes "move_pointer"
 word_of (instruction.Offset to pointer index) = codes "offset"
 word_of (instruction.Load to pointer) = codes "load"
 word_of (instruction.Store pointer value) = codes "store"
@@ -160,9 +160,9 @@ abbrev pub names_in : ℕ → Instruction → List (List ℕ)
 names_in place (instruction.Constant to value) = register to ∷ typed value ∷ []
 names_in place (instruction.Unset to) = register to ∷ []
 names_in place (instruction.Move to from name) = register to ∷ register from ∷ decimal name ∷ []
-names_in place (instruction.Hold to from kind) = register to ∷ register from ∷ variable_type kind ∷ []
+names_in place (instruction.AssignConversion to from kind) = register to ∷ register from ∷ variable_type kind ∷ []
 names_in place (instruction.Convert to from kind) = register to ∷ register from ∷ type_word kind ∷ []
-names_in place (instruction.Common to from other) = register to ∷ register from ∷ type_word other ∷ []
+names_in place (instruction.UsualConversion to from other) = register to ∷ register from ∷ type_word other ∷ []
 names_in place (instruction.Unary to operator operand) = register to ∷ register operand ∷ []
 names_in place (instruction.Binary to operator left right) = register to ∷ register left ∷ register right ∷ []
 names_in place (instruction.Builtin to function first second) = register to ∷ register first ∷ registers second
@@ -173,7 +173,7 @@ names_in place (instruction.Local to number element) = register to ∷ decimal n
 names_in place (instruction.UnsetArray array count) = decimal array ∷ decimal count ∷ []
 names_in place (instruction.PrivateLoad to array index element name) = register to ∷ private array index ∷ type_word element ∷ []
 names_in place (instruction.PrivateStore array index value element name) = private array index ∷ register value ∷ type_word element ∷ []
-names_in place (instruction.Point to from) = register to ∷ register from ∷ []
+names_in place (instruction.MovePointer to from) = register to ∷ register from ∷ []
 names_in place (instruction.Offset to pointer index) = register to ∷ register pointer ∷ register index ∷ []
 names_in place (instruction.Load to pointer) = register to ∷ pointed pointer ∷ []
 names_in place (instruction.Store pointer value) = pointed pointer ∷ register value ∷ []

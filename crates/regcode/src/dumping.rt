@@ -2,7 +2,7 @@
 #![tactic(auto)]
 
 ghost use Rattle.std.specs.Prelude.{◌≡◌, ◌+◌, ◌-◌, ◌<◌, ◌^◌, Some};
-ghost use Rattle.ends.specs.Sink.{Puts};
+ghost use Rattle.counted_io.specs.Sink.{Puts};
 ghost use Rattle.regcode.specs.declared.dumping.Part.TheVariants as part;
 ghost use Rattle.regcode.specs.Parts.{part_text, behind, parts_text};
 ghost use Rattle.regcode.specs.Text.{listed, names_in, line_of, text_of, variable_type};
@@ -13,8 +13,8 @@ use crate::words::{fences_word, instruction_word, space_word};
 use clmodel::action::Fences;
 use clmodel::tree::VariableType;
 use clnum::{IntType, Value};
-use ends::pieces::{Piece, write_number, write_pieces};
-use ends::{Write, WriteFailed};
+use counted_io::pieces::{Piece, write_number, write_pieces};
+use counted_io::{Write, WriteFailed};
 
 /// Why code was not dumped.
 #[derive(Clone, Copy, Debug, PartialEq, Eq)]
@@ -55,7 +55,7 @@ fn parts(place: usize, instruction: &Instruction) -> Parts
         ),
         Instruction::Constant { to, value } => (register(to), Some(Part::Value(value)), None, None),
         Instruction::Move { to, from, name } => (register(to), register(from), number(name), None),
-        Instruction::Hold { to, from, kind } => {
+        Instruction::AssignConversion { to, from, kind } => {
             (
                 register(to),
                 register(from),
@@ -64,7 +64,7 @@ fn parts(place: usize, instruction: &Instruction) -> Parts
             )
         }
         Instruction::Convert { to, from, kind }
-        | Instruction::Common {
+        | Instruction::UsualConversion {
             to,
             from,
             other: kind,
@@ -143,7 +143,7 @@ fn parts(place: usize, instruction: &Instruction) -> Parts
                 None,
             )
         }
-        Instruction::Point { to, from } => (register(to), register(from), None, None),
+        Instruction::MovePointer { to, from } => (register(to), register(from), None, None),
         Instruction::Offset { to, pointer, index } => {
             (register(to), register(pointer), register(index), None)
         }

@@ -37,7 +37,7 @@ pub enum Instruction {
         name: u32,
     },
     /// A value as a variable of a type holds it (C99 6.5.16.1)
-    Hold {
+    AssignConversion {
         to: u32,
         from: u32,
         kind: VariableType,
@@ -49,7 +49,7 @@ pub enum Instruction {
         kind: IntType,
     },
     /// A number in the common type of its own and another type (C99 6.3.1.8), as `?:` gives it
-    Common {
+    UsualConversion {
         to: u32,
         from: u32,
         other: IntType,
@@ -117,7 +117,7 @@ pub enum Instruction {
         name: u32,
     },
     /// A pointer as it is
-    Point {
+    MovePointer {
         to: u32,
         from: u32,
     },

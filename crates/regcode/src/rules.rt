@@ -91,7 +91,7 @@ impl Judged<'_> {
             Instruction::Unset { to } => (*to as usize) < self.tables.registers.len(),
             Instruction::Move { to, from, name } => self.takes(*to, self.kind(*from))
                 && (*name as usize) < self.tables.names,
-            Instruction::Hold { to, from, kind } => self.takes(
+            Instruction::AssignConversion { to, from, kind } => self.takes(
                 *to,
                 held_kind(*kind, self.kind(*from)),
             ),
@@ -99,7 +99,7 @@ impl Judged<'_> {
                 *to,
                 number_kind(*kind, self.kind(*from)),
             ),
-            Instruction::Common { to, from, other } => self.takes(
+            Instruction::UsualConversion { to, from, other } => self.takes(
                 *to,
                 common_kind(*other, self.kind(*from)),
             ),
@@ -173,7 +173,7 @@ impl Judged<'_> {
                     && (*array as usize) < self.tables.arrays.len()
                     && (*name as usize) < self.tables.names
             }
-            Instruction::Point { to, from } => self.takes(*to, self.kind(*from))
+            Instruction::MovePointer { to, from } => self.takes(*to, self.kind(*from))
                 && is_pointer(self.kind(*from)),
             Instruction::Offset { to, pointer, index } => self.takes(
                 *to,

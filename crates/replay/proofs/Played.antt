@@ -9,8 +9,8 @@ use Rattle.clmodel.specs.Outcome.{events_of}
 use Rattle.clmodel.specs.Run.{State, Events, after, step}
 use Rattle.clmodel.specs.declared.schedule.Event.{Event}
 use Rattle.clmodel.specs.declared.schedule.Event.TheVariants as event
-use Rattle.clmodel.specs.declared.schedule.Run.{Run}
-use Rattle.clmodel.specs.declared.schedule.Run.TheVariants as run
+use Rattle.clmodel.specs.declared.schedule.EventRun.{EventRun}
+use Rattle.clmodel.specs.declared.schedule.EventRun.TheVariants as run
 use Rattle.replay_play.specs.States.{IsPlayed}
 use Rattle.replay.specs.Played.{ArePlayed}
 
@@ -63,7 +63,7 @@ replicate_never l s t e i n below goes never =
 
 -- ---- runs
 
-events_append : (xs ys : List Run) → events_of (xs ++ ys) ≡ events_of xs ++ events_of ys
+events_append : (xs ys : List EventRun) → events_of (xs ++ ys) ≡ events_of xs ++ events_of ys
 events_append [] ys = refl
 events_append (run.Item item count ∷ xs) ys =
     ap (λ es. replicate count (event.Item item) ++ es) (events_append xs ys) ∙ sym (append_assoc (replicate count (event.Item item)) (events_of xs) (events_of ys))
@@ -72,14 +72,14 @@ events_append (run.Release group ∷ xs) ys = ap (λ es. event.Release group ∷
 pub item_events : (item count : ℕ) → replicate count (event.Item item) ≡ events_of (run.Item item count ∷ [])
 item_events item count = sym (append-nil (replicate count (event.Item item)))
 
-pub events_more : (xs : List Run) (i : ℕ) (d : Run) → i < length xs → events_of (take (i + 1) xs) ≡ events_of (take i xs) ++ events_of (get_or xs i d ∷ [])
+pub events_more : (xs : List EventRun) (i : ℕ) (d : EventRun) → i < length xs → events_of (take (i + 1) xs) ≡ events_of (take i xs) ++ events_of (get_or xs i d ∷ [])
 events_more xs i d below = ap events_of (split xs i d below) ∙ events_append (take i xs) (get_or xs i d ∷ [])
   where
-    split : (xs : List Run) (i : ℕ) (d : Run) → i < length xs → take (i + 1) xs ≡ take i xs ++ get_or xs i d ∷ []
+    split : (xs : List EventRun) (i : ℕ) (d : EventRun) → i < length xs → take (i + 1) xs ≡ take i xs ++ get_or xs i d ∷ []
     split xs i d h = grind (arith, common_steps)
 
 pub events_split :
-    (xs : List Run) (i : ℕ) (d : Run) → i < length xs → events_of xs ≡ (events_of (take i xs) ++ events_of (get_or xs i d ∷ [])) ++ events_of (drop (i + 1) xs)
+    (xs : List EventRun) (i : ℕ) (d : EventRun) → i < length xs → events_of xs ≡ (events_of (take i xs) ++ events_of (get_or xs i d ∷ [])) ++ events_of (drop (i + 1) xs)
 events_split xs i d below =
     ap events_of (sym (take-append-drop (i + 1) xs)) ∙ events_append (take (i + 1) xs) (drop (i + 1) xs) ∙ ap (λ es. es ++ events_of (drop (i + 1) xs)) (events_more xs i d below)
 
@@ -101,7 +101,7 @@ item_more l s t e i new true goes played all =
 -- ---- runs, as a program plays them
 
 pub run_never :
-    (l : Launch) (s t : State) (xs : List Run) (i : ℕ) (d : Run) (new : State → Type 0) (answer : Bool) → i < length xs → after l s (events_of (take i xs)) ≡ Some t
+    (l : Launch) (s t : State) (xs : List EventRun) (i : ℕ) (d : EventRun) (new : State → Type 0) (answer : Bool) → i < length xs → after l s (events_of (take i xs)) ≡ Some t
     → ArePlayed l t (events_of (get_or xs i d ∷ [])) new answer → answer ≡ false → after l s (events_of xs) ≡ None
 run_never l s t xs i d new true below goes played ended = absurd (false≢true (sym ended))
 run_never l s t xs i d new false below goes never ended =
@@ -110,7 +110,7 @@ run_never l s t xs i d new false below goes never ended =
     (after_then l s t (events_of (take i xs)) (events_of (get_or xs i d ∷ [])) goes ∙ never)
 
 pub run_more :
-    (l : Launch) (s t : State) (xs : List Run) (i : ℕ) (d : Run) (new : State → Type 0) (answer : Bool) → i < length xs → after l s (events_of (take i xs)) ≡ Some t
+    (l : Launch) (s t : State) (xs : List EventRun) (i : ℕ) (d : EventRun) (new : State → Type 0) (answer : Bool) → i < length xs → after l s (events_of (take i xs)) ≡ Some t
     → ArePlayed l t (events_of (get_or xs i d ∷ [])) new answer → answer ≡ true → (now : State) × (after l s (events_of (take (i + 1) xs)) ≡ Some now) × new now
 run_more l s t xs i d new false below goes played all = absurd (false≢true all)
 run_more l s t xs i d new true below goes played all =

@@ -8,7 +8,7 @@ ghost use Rattle.clmodel.specs.declared.schedule.Event.TheVariants as event;
 ghost use Rattle.replay_play.specs.States.{IsAt};
 ghost use Rattle.replay.specs.Played.{ArePlayed};
 
-use clmodel::schedule::{Event, Run, Schedule};
+use clmodel::schedule::{Event, EventRun, Schedule};
 use launches::Runnable;
 use replay_play::Player;
 use std::alloc::AllocError;
@@ -31,13 +31,13 @@ fn play_items<D: Runnable>(
 }
 
 /// Plays the events of a run up to the first that isn't possible, and tells whether all are. An error is out of memory.
-fn play_run<D: Runnable>(player: &mut Player<'_, D>, run: Run) -> Result<bool, AllocError>
+fn play_run<D: Runnable>(player: &mut Player<'_, D>, run: EventRun) -> Result<bool, AllocError>
     requires { (launch : Launch) × (state : State) × IsAt D.launch launch player.old state }
     ensures { IfOk result (λ yes. (launch : Launch) (state : State) → IsAt D.launch launch player.old state → ArePlayed launch state (events_of (run ∷ [])) (IsAt D.launch launch player.new) yes) }
 {
     match run {
-        Run::Item { item, count } => play_items(player, item, count),
-        Run::Release { group } => player.play(Event::Release(group)),
+        EventRun::Item { item, count } => play_items(player, item, count),
+        EventRun::Release { group } => player.play(Event::Release(group)),
     }
 }
 

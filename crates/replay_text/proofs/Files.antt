@@ -13,8 +13,8 @@ use Rattle.std.proofs.lemmas.List.Sums.{AllPass-from_list_all}
 use Rattle.std.proofs.Math.Seq.{take-append_seam, drop-append_seam}
 use lib.Pointwise.{bytes_decides}
 use Rattle.clmodel.specs.declared.fault.Fault.{Fault}
-use Rattle.clmodel.specs.declared.schedule.Run.{Run}
-use Rattle.clmodel.specs.declared.schedule.Run.TheVariants as run
+use Rattle.clmodel.specs.declared.schedule.EventRun.{EventRun}
+use Rattle.clmodel.specs.declared.schedule.EventRun.TheVariants as run
 use Rattle.replay_text.specs.Text.{run_text, schedule_text, fault_text, fault_line}
 use Rattle.replay_text.specs.ScheduleFile.{IsRun, AreRuns, ticket_line, IsScheduleFile}
 use Rattle.simfile_fields.specs.Fronts.{after, before, number_at, front_length, or_else}
@@ -25,42 +25,42 @@ use Rattle.replay_text.proofs.Grammar.{append_none, fault_takes}
 use Rattle.replay_text.proofs.Again.{fault_again}
 
 -- the text of a run without the space in front
-abbrev run_word : Run → List ℕ
+abbrev run_word : EventRun → List ℕ
 run_word (run.Item item count) = decimal item ++ 42 ∷ decimal count
 run_word (run.Release group) = 114 ∷ decimal group
 
-run_text_is : (r : Run) → run_text r ≡ 32 ∷ run_word r
+run_text_is : (r : EventRun) → run_text r ≡ 32 ∷ run_word r
 run_text_is (run.Item item count) = ap (λ l. 32 ∷ (decimal item ++ 42 ∷ l)) (append_none (decimal count))
 run_text_is (run.Release group) = ap (λ l. 32 ∷ 114 ∷ l) (append_none (decimal group))
 
-runs_join : (r : Run) (rs : List Run) → flat_map run_text (r ∷ rs) ≡ 32 ∷ join_with_byte 32 (map run_word (r ∷ rs))
+runs_join : (r : EventRun) (rs : List EventRun) → flat_map run_text (r ∷ rs) ≡ 32 ∷ join_with_byte 32 (map run_word (r ∷ rs))
 runs_join r [] = append_none (run_text r) ∙ run_text_is r
 runs_join r (s ∷ rs) = ap (λ l. l ++ flat_map run_text (s ∷ rs)) (run_text_is r) ∙ ap (λ l. 32 ∷ (run_word r ++ l)) (runs_join s rs)
 
-some_text : (r : Run) (rs : List Run) → schedule_text (r ∷ rs) ≡ 32 ∷ join_with_byte 32 (map run_word (r ∷ rs))
+some_text : (r : EventRun) (rs : List EventRun) → schedule_text (r ∷ rs) ≡ 32 ∷ join_with_byte 32 (map run_word (r ∷ rs))
 some_text r rs =
     let other : (length (r ∷ rs) == 0) ≡ false = ne_eqb (length (r ∷ rs)) 0 (λ e. absurd (omega (arith, e))) in
     rw other (runs_join r rs)
 
-runs_text : (runs : List Run) → 0 < length runs → schedule_text runs ≡ 32 ∷ join_with_byte 32 (map run_word runs)
+runs_text : (runs : List EventRun) → 0 < length runs → schedule_text runs ≡ 32 ∷ join_with_byte 32 (map run_word runs)
 runs_text [] h = absurd (omega (arith, h))
 runs_text (r ∷ rs) h = some_text r rs
 
 -- a run
 
-abbrev RunBehind : List ℕ → Run → List ℕ → Type 0
+abbrev RunBehind : List ℕ → EventRun → List ℕ → Type 0
 RunBehind bytes r rest = (bytes ≡ run_word r ++ rest) × IsRun r
 
-release_takes : (bytes onto : List ℕ) (x : Run × List ℕ) → bytes ≡ 114 ∷ onto → release_at onto ≡ Some x → RunBehind bytes x.0 x.1
+release_takes : (bytes onto : List ℕ) (x : EventRun × List ℕ) → bytes ≡ 114 ∷ onto → release_at onto ≡ Some x → RunBehind bytes x.0 x.1
 unfolding release_at
 release_takes bytes onto x is e =
     let s1 = bind_some (number32_at onto) _ x e in
     let t1 = number32_takes onto s1.0 s1.1 in
     let one : (run.Release s1.0.0, s1.0.1) ≡ x = let f = s1.2 in cc in
-    let P : Run × List ℕ → Type 0 = λ y. RunBehind bytes y.0 y.1 in
+    let P : EventRun × List ℕ → Type 0 = λ y. RunBehind bytes y.0 y.1 in
     subst P one (is ∙ ap (λ l. 114 ∷ l) t1.0, t1.1)
 
-item_run_takes : (bytes : List ℕ) (x : Run × List ℕ) → item_run_at bytes ≡ Some x → RunBehind bytes x.0 x.1
+item_run_takes : (bytes : List ℕ) (x : EventRun × List ℕ) → item_run_at bytes ≡ Some x → RunBehind bytes x.0 x.1
 unfolding item_run_at
 item_run_takes bytes x e =
     let s1 = bind_some (before 42 (number32_at bytes)) _ x e in
@@ -69,16 +69,16 @@ item_run_takes bytes x e =
     let t2 = number_takes s1.0.1 s2.0 s2.1 in
     let p = if_some (nat_lt 0 s2.0.0) (run.Item s1.0.0 s2.0.0, s2.0.1) x s2.2 in
     let some : 0 < s2.0.0 = above s2.0.0 p.0 in
-    let P : Run × List ℕ → Type 0 = λ y. RunBehind bytes y.0 y.1 in
+    let P : EventRun × List ℕ → Type 0 = λ y. RunBehind bytes y.0 y.1 in
     subst P p.1 (t1.0 ∙ (ap (λ l. decimal s1.0.0 ++ 42 ∷ l) t2.0 ∙ sym (append_assoc (decimal s1.0.0) (42 ∷ decimal s2.0.0) s2.0.1)), (t1.1, some, t2.1)) where
       above : (n : ℕ) → nat_lt 0 n ≡ true → 0 < n
       above n h = grind (arith, nat_tests)
 
-run_by : (bytes : List ℕ) (x : Run × List ℕ) (o : Option (List ℕ)) → after (codes "r") bytes ≡ o → or_else o release_at (item_run_at bytes) ≡ Some x → RunBehind bytes x.0 x.1
+run_by : (bytes : List ℕ) (x : EventRun × List ℕ) (o : Option (List ℕ)) → after (codes "r") bytes ≡ o → or_else o release_at (item_run_at bytes) ≡ Some x → RunBehind bytes x.0 x.1
 run_by bytes x None is e = item_run_takes bytes x e
 run_by bytes x (Some onto) is e = release_takes bytes onto x (after_takes (codes "r") bytes onto is) e
 
-run_at_takes : (bytes : List ℕ) (x : Run × List ℕ) → run_at bytes ≡ Some x → RunBehind bytes x.0 x.1
+run_at_takes : (bytes : List ℕ) (x : EventRun × List ℕ) → run_at bytes ≡ Some x → RunBehind bytes x.0 x.1
 unfolding run_at
 run_at_takes bytes x e = run_by bytes x (after (codes "r") bytes) refl e
 
@@ -86,17 +86,17 @@ empty_of : (xs : List ℕ) → (length xs == 0) ≡ true → xs ≡ []
 empty_of [] h = refl
 empty_of (x ∷ xs) h = absurd (omega (arith, eqb-true (length (x ∷ xs)) 0 h))
 
-run_takes : (word : List ℕ) (r : Run) → run_of word ≡ Some r → (word ≡ run_word r) × IsRun r
+run_takes : (word : List ℕ) (r : EventRun) → run_of word ≡ Some r → (word ≡ run_word r) × IsRun r
 unfolding run_of
 run_takes word r e =
     let s1 = bind_some (run_at word) _ r e in
     let t1 = run_at_takes word s1.0 s1.1 in
     let p = if_some (length s1.0.1 == 0) s1.0.0 r s1.2 in
     let nothing = empty_of s1.0.1 p.0 in
-    let P : Run → Type 0 = λ y. (word ≡ run_word y) × IsRun y in
+    let P : EventRun → Type 0 = λ y. (word ≡ run_word y) × IsRun y in
     subst P p.1 (t1.0 ∙ (ap (λ l. run_word s1.0.0 ++ l) nothing ∙ append_none (run_word s1.0.0)), t1.1)
 
-run_back : (r : Run) → IsRun r → run_of (run_word r) ≡ Some r
+run_back : (r : EventRun) → IsRun r → run_of (run_word r) ≡ Some r
 unfolding run_of run_at release_at item_run_at
 run_back (run.Release group) h = rw (after_again (codes "r") (decimal group), number32_last group h) refl
 run_back (run.Item item count) h =
@@ -113,7 +113,7 @@ run_back (run.Item item count) h =
 
 -- the words of a schedule
 
-word_by : (word : List ℕ) (o : Option Run) → run_of word ≡ o → is_some o ≡ true → (run_word (unwrap_or o (run.Release 0)) ≡ word) × IsRun (unwrap_or o (run.Release 0))
+word_by : (word : List ℕ) (o : Option EventRun) → run_of word ≡ o → is_some o ≡ true → (run_word (unwrap_or o (run.Release 0)) ≡ word) × IsRun (unwrap_or o (run.Release 0))
 word_by word None is h = absurd (cc)
 word_by word (Some r) is h = let t = run_takes word r is in (sym t.0, t.1)
 
@@ -180,7 +180,7 @@ digits_solid (d ∷ ds) h = let both = and_true (is_ascii_digit d) (list_all is_
 number_solid : (n : ℕ) → n < 2 ^ 64 → list_all is_solid (decimal n) ≡ true
 number_solid n h = digits_solid (decimal n) (decimal_digits n h)
 
-word_solid : (r : Run) → IsRun r → list_all is_solid (run_word r) ≡ true
+word_solid : (r : EventRun) → IsRun r → list_all is_solid (run_word r) ≡ true
 word_solid (run.Release group) h = number_solid group (omega (arith, h))
 word_solid (run.Item item count) h = list_all-append is_solid (decimal item) (42 ∷ decimal count) ∙ rw (number_solid item (omega (arith, h.0)), number_solid count h.2) refl
 
@@ -195,20 +195,20 @@ not_true : (v : Bool) → not v ≡ true → v ≡ false
 not_true true h = absurd (cc)
 not_true false h = refl
 
-no_spaces : (r : Run) → IsRun r → All (λ b. (b == 32) ≡ false) (run_word r)
+no_spaces : (r : EventRun) → IsRun r → All (λ b. (b == 32) ≡ false) (run_word r)
 no_spaces r h = let all = AllPass-from_list_all is_solid (run_word r) (word_solid r h) in λ k d in_it. not_true _ (and_true _ _ (all k d in_it)).0
 
-abbrev words_joined : List Run → List ℕ
+abbrev words_joined : List EventRun → List ℕ
 words_joined runs = join_with_byte 32 (map run_word runs)
 
 -- what the text of runs is made of
-record RunsText (runs : List Run) : Type 0 where
+record RunsText (runs : List EventRun) : Type 0 where
   inner : list_all is_inner (words_joined runs) ≡ true
   words : words_of (words_joined runs) ≡ map run_word runs
   are : list_all is_run (map run_word runs) ≡ true
   back : map run_named (map run_word runs) ≡ runs
 
-runs_made : (r : Run) (rs : List Run) → AreRuns (r ∷ rs) → RunsText (r ∷ rs)
+runs_made : (r : EventRun) (rs : List EventRun) → AreRuns (r ∷ rs) → RunsText (r ∷ rs)
 runs_made r [] h =
     let one = run_back r h.0 in
     record {
@@ -234,18 +234,18 @@ no_dash (d ∷ ds) rest some h =
     let other : nat_eq d 45 ≡ false = ne_eqb d 45 (λ e. let f : is_ascii_digit 45 ≡ true = ap is_ascii_digit (sym e) ∙ both.0 in absurd (cc)) in
     rw other refl
 
-word_no_dash : (r : Run) → IsRun r → (rest : List ℕ) → same (run_word r ++ rest) (codes "-") ≡ false
+word_no_dash : (r : EventRun) → IsRun r → (rest : List ℕ) → same (run_word r ++ rest) (codes "-") ≡ false
 word_no_dash (run.Release group) h rest = refl
 word_no_dash (run.Item item count) h rest =
     let wide : item < 2 ^ 64 = omega (arith, h.0) in
     rw (append_assoc (decimal item) (42 ∷ decimal count) rest) (no_dash (decimal item) (42 ∷ (decimal count ++ rest)) (decimal_nonempty item wide) (decimal_digits item wide))
 
-joined_no_dash : (r : Run) (rs : List Run) → AreRuns (r ∷ rs) → same (words_joined (r ∷ rs)) (codes "-") ≡ false
+joined_no_dash : (r : EventRun) (rs : List EventRun) → AreRuns (r ∷ rs) → same (words_joined (r ∷ rs)) (codes "-") ≡ false
 joined_no_dash r [] h = ap (λ l. same l (codes "-")) (sym (append_none (run_word r))) ∙ word_no_dash r h.0 []
 joined_no_dash r (s ∷ rs) h = word_no_dash r h.0 (32 ∷ words_joined (s ∷ rs))
 
 -- what is read of a schedule
-record ScheduleRead (runs : List Run) : Type 0 where
+record ScheduleRead (runs : List EventRun) : Type 0 where
   text : List ℕ
   read : schedule_at (codes "schedule" ++ (schedule_text runs ++ 10 ∷ [])) ≡ Some text
   back : schedule_of text ≡ runs
@@ -254,7 +254,7 @@ read_line : (text : List ℕ) → list_all is_inner text ≡ true → is_schedul
 unfolding schedule_at
 read_line text h is = rw (after_again (codes "schedule ") (text ++ 10 ∷ []), line_again text h, is) refl
 
-schedule_again : (runs : List Run) → AreRuns runs → ScheduleRead runs
+schedule_again : (runs : List EventRun) → AreRuns runs → ScheduleRead runs
 schedule_again [] h = record { text = codes "-"; read = read_line (codes "-") refl refl; back = refl }
 schedule_again (r ∷ rs) h =
     let t = runs_made r rs h in
@@ -270,7 +270,7 @@ schedule_again (r ∷ rs) h =
 -- the file
 
 -- its text, with the line of the fault taken apart
-file_text : (ticket : ℕ) (f : Fault) (runs : List Run) → ticket_line ticket ++ fault_line f runs ≡ codes "ticket " ++ (decimal ticket ++ 10 ∷ (fault_text f ++ 32 ∷ (codes "schedule" ++ (schedule_text runs ++ 10 ∷ []))))
+file_text : (ticket : ℕ) (f : Fault) (runs : List EventRun) → ticket_line ticket ++ fault_line f runs ≡ codes "ticket " ++ (decimal ticket ++ 10 ∷ (fault_text f ++ 32 ∷ (codes "schedule" ++ (schedule_text runs ++ 10 ∷ []))))
 file_text ticket f runs = ap (λ l. codes "ticket " ++ l) (append_assoc (decimal ticket) (10 ∷ []) (fault_line f runs))
 
 pub file_takes : (bytes : List ℕ) (ticket : ℕ) (f : Fault) (text : List ℕ) → file_of bytes ≡ Some (ticket, f, text) → IsScheduleFile bytes ticket f (schedule_of text)
@@ -290,13 +290,13 @@ file_takes bytes ticket f text e =
     subst P one (t2.1, t3.1, t4.1, split ∙ sym (file_text s2.0.0 s3.0.0 (schedule_of s4.0)))
 
 -- what is read of a file
-pub record FileRead (bytes : List ℕ) (ticket : ℕ) (f : Fault) (runs : List Run) : Type 0 where
+pub record FileRead (bytes : List ℕ) (ticket : ℕ) (f : Fault) (runs : List EventRun) : Type 0 where
   pub text : List ℕ
   pub read : file_of bytes ≡ Some (ticket, f, text)
   pub back : schedule_of text ≡ runs
 
 -- a schedule's text begins with a space
-spaced : (runs : List Run) → (more : List ℕ) × (schedule_text runs ++ 10 ∷ [] ≡ 32 ∷ more)
+spaced : (runs : List EventRun) → (more : List ℕ) × (schedule_text runs ++ 10 ∷ [] ≡ 32 ∷ more)
 spaced [] = (_, refl)
 spaced (r ∷ rs) = let text = some_text r rs in (words_joined (r ∷ rs) ++ 10 ∷ [], ap (λ l. l ++ 10 ∷ []) text)
 
@@ -307,7 +307,7 @@ file_by ticket f text more h e g =
     let tail = fault_text f ++ 32 ∷ (codes "schedule " ++ more) in
     rw (after_again (codes "ticket ") (decimal ticket ++ 10 ∷ tail), number_before_again 10 ticket h tail refl, e, g) refl
 
-pub file_again : (bytes : List ℕ) (ticket : ℕ) (f : Fault) (runs : List Run) → IsScheduleFile bytes ticket f runs → FileRead bytes ticket f runs
+pub file_again : (bytes : List ℕ) (ticket : ℕ) (f : Fault) (runs : List EventRun) → IsScheduleFile bytes ticket f runs → FileRead bytes ticket f runs
 file_again bytes ticket f runs h =
     let t = schedule_again runs h.2 in
     let b = spaced runs in
@@ -318,7 +318,7 @@ file_again bytes ticket f runs h =
     record { text = t.text; read = ap file_of is ∙ whole; back = t.back }
 
 -- what is read of a file is what the file tells
-pub file_is : (bytes : List ℕ) (ticket other : ℕ) (f g : Fault) (text : List ℕ) (runs : List Run) → file_of bytes ≡ Some (ticket, f, text) → IsScheduleFile bytes other g runs → (ticket ≡ other) × (f ≡ g) × (schedule_of text ≡ runs)
+pub file_is : (bytes : List ℕ) (ticket other : ℕ) (f g : Fault) (text : List ℕ) (runs : List EventRun) → file_of bytes ≡ Some (ticket, f, text) → IsScheduleFile bytes other g runs → (ticket ≡ other) × (f ≡ g) × (schedule_of text ≡ runs)
 file_is bytes ticket other f g text runs e h =
     let again = file_again bytes other g runs h in
     let two : Some (ticket, f, text) ≡ Some (other, g, again.text) = sym e ∙ again.read in

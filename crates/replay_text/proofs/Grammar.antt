@@ -14,7 +14,7 @@ use Rattle.clmodel.specs.declared.fault.Fault.{Fault}
 use Rattle.clmodel.specs.declared.fault.Fault.TheVariants as fault
 use Rattle.clmodel.specs.declared.fault.Location.{Location}
 use Rattle.clmodel.specs.declared.fault.Location.TheVariants as location
-use Rattle.ends.specs.Pieces.{joined}
+use Rattle.counted_io.specs.Pieces.{joined}
 use Rattle.replay_text.specs.Text.{kind_text, clash_text, location_text, later_turn_text, turns_text, stop_text, fault_text}
 use Rattle.simfile_fields.specs.Texts.{list_text}
 use Rattle.replay_text.specs.Fields.{is_name, turns_of, IsElement}

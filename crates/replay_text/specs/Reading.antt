@@ -15,8 +15,8 @@ use Rattle.clmodel.specs.declared.fault.Fault.{Fault}
 use Rattle.clmodel.specs.declared.fault.Fault.TheVariants as fault
 use Rattle.clmodel.specs.declared.fault.Location.{Location}
 use Rattle.clmodel.specs.declared.fault.Location.TheVariants as location
-use Rattle.clmodel.specs.declared.schedule.Run.{Run}
-use Rattle.clmodel.specs.declared.schedule.Run.TheVariants as run
+use Rattle.clmodel.specs.declared.schedule.EventRun.{EventRun}
+use Rattle.clmodel.specs.declared.schedule.EventRun.TheVariants as run
 use Rattle.simfile_fields.specs.Fronts.{◌>>=◌, or_else, after, front_length, before, name_to, number_at, value_at, list_below}
 use Rattle.replay_text.specs.Fields.{turns_of, is_element}
 
@@ -228,22 +228,22 @@ fault_at bytes = do
 -- the schedule
 
 -- a run of an item's events
-unfoldable pub item_run_at : List ℕ → Option (Run × List ℕ)
+unfoldable pub item_run_at : List ℕ → Option (EventRun × List ℕ)
 item_run_at bytes = do
   item ← before 42 (number32_at bytes)
   count ← number_at item.1
   if nat_lt 0 count.0 then Some (run.Item item.0 count.0, count.1) else None
 
-unfoldable pub release_at : List ℕ → Option (Run × List ℕ)
+unfoldable pub release_at : List ℕ → Option (EventRun × List ℕ)
 release_at bytes = do
   group ← number32_at bytes
   Some (run.Release group.0, group.1)
 
-unfoldable pub run_at : List ℕ → Option (Run × List ℕ)
+unfoldable pub run_at : List ℕ → Option (EventRun × List ℕ)
 run_at bytes = or_else (after (codes "r") bytes) release_at (item_run_at bytes)
 
 -- the run that a word is, if it is one
-unfoldable pub run_of : List ℕ → Option Run
+unfoldable pub run_of : List ℕ → Option EventRun
 run_of word = do
   read ← run_at word
   if length read.1 == 0 then Some read.0 else None
@@ -256,14 +256,14 @@ abbrev pub is_run : List ℕ → Bool
 is_run word = is_some (run_of word)
 
 -- the run that a word is, and a release where it is none
-abbrev pub run_named : List ℕ → Run
+abbrev pub run_named : List ℕ → EventRun
 run_named word = unwrap_or (run_of word) (run.Release 0)
 
 -- a schedule's text behind its word: a - where there are no runs
 abbrev pub is_schedule : List ℕ → Bool
 is_schedule text = same text (codes "-") || list_all is_run (words_of text)
 
-abbrev pub schedule_of : List ℕ → List Run
+abbrev pub schedule_of : List ℕ → List EventRun
 schedule_of text = if same text (codes "-") then [] else map run_named (words_of text)
 
 abbrev pub is_inner : ℕ → Bool

@@ -7,9 +7,9 @@ use Rattle.clmodel.specs.declared.fault.Fault.{Fault}
 use Rattle.clmodel.specs.declared.fault.Fault.TheVariants as fault
 use Rattle.clmodel.specs.declared.fault.Location.{Location}
 use Rattle.clmodel.specs.declared.fault.Location.TheVariants as location
-use Rattle.clmodel.specs.declared.schedule.Run.{Run}
-use Rattle.clmodel.specs.declared.schedule.Run.TheVariants as run
-use Rattle.ends.specs.Pieces.{joined}
+use Rattle.clmodel.specs.declared.schedule.EventRun.{EventRun}
+use Rattle.clmodel.specs.declared.schedule.EventRun.TheVariants as run
+use Rattle.counted_io.specs.Pieces.{joined}
 use Rattle.replay_text.specs.Text.{fault_line}
 use Rattle.replay_text.specs.Fields.{is_name, IsElement}
 
@@ -44,12 +44,12 @@ IsWritten (fault.DivideOverflow item) = IsNumber32 item
 IsWritten (fault.Budget item) = IsNumber32 item
 
 -- a run of at least one event
-abbrev pub IsRun : Run → Type 0
+abbrev pub IsRun : EventRun → Type 0
 IsRun (run.Item item count) = IsNumber32 item × (0 < count) × (count < 2 ^ 64)
 IsRun (run.Release group) = IsNumber32 group
 
 -- runs, of which neighbours may be of one item
-abbrev pub AreRuns : List Run → Type 0
+abbrev pub AreRuns : List EventRun → Type 0
 AreRuns [] = Unit {0}
 AreRuns (r ∷ rs) = IsRun r × AreRuns rs
 
@@ -57,9 +57,9 @@ abbrev pub ticket_line : ℕ → List ℕ
 ticket_line ticket = joined (codes "ticket " ∷ decimal ticket ∷ codes "\n" ∷ [])
 
 -- two lines: the number of the launch among the script's commands, and the fault with its schedule
-abbrev pub IsScheduleFile : List ℕ → ℕ → Fault → List Run → Type 0
+abbrev pub IsScheduleFile : List ℕ → ℕ → Fault → List EventRun → Type 0
 IsScheduleFile bytes ticket fault runs = (ticket < 2 ^ 64) × IsWritten fault × AreRuns runs × (bytes ≡ ticket_line ticket ++ fault_line fault runs)
 
 -- the bytes are no schedule file's
 abbrev pub NoScheduleFile : List ℕ → Type 0
-NoScheduleFile bytes = (ticket : ℕ) (fault : Fault) (runs : List Run) → IsScheduleFile bytes ticket fault runs → ⊥
+NoScheduleFile bytes = (ticket : ℕ) (fault : Fault) (runs : List EventRun) → IsScheduleFile bytes ticket fault runs → ⊥

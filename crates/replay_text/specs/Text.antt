@@ -14,9 +14,9 @@ use Rattle.clmodel.specs.declared.fault.Fault.{Fault}
 use Rattle.clmodel.specs.declared.fault.Fault.TheVariants as fault
 use Rattle.clmodel.specs.declared.fault.Location.{Location}
 use Rattle.clmodel.specs.declared.fault.Location.TheVariants as location
-use Rattle.clmodel.specs.declared.schedule.Run.{Run}
-use Rattle.clmodel.specs.declared.schedule.Run.TheVariants as run
-use Rattle.ends.specs.Pieces.{joined}
+use Rattle.clmodel.specs.declared.schedule.EventRun.{EventRun}
+use Rattle.clmodel.specs.declared.schedule.EventRun.TheVariants as run
+use Rattle.counted_io.specs.Pieces.{joined}
 
 abbrev pub class_text : Class → List ℕ
 class_text class.Add = codes "add"
@@ -55,12 +55,12 @@ stop_text (stop.At instance) = joined (codes "barrier " ∷ decimal instance.sit
 stop_text stop.Ended = codes "end"
 
 -- a run of a schedule, after a space
-abbrev pub run_text : Run → List ℕ
+abbrev pub run_text : EventRun → List ℕ
 run_text (run.Item item count) = joined (codes " " ∷ decimal item ∷ codes "*" ∷ decimal count ∷ [])
 run_text (run.Release group) = joined (codes " r" ∷ decimal group ∷ [])
 
 -- a schedule, after a space
-abbrev pub schedule_text : List Run → List ℕ
+abbrev pub schedule_text : List EventRun → List ℕ
 schedule_text runs = if length runs == 0 then codes " -" else flat_map run_text runs
 
 -- the words in front of a fault's item
@@ -131,5 +131,5 @@ abbrev pub fault_text : Fault → List ℕ
 fault_text fault = joined (fault_words fault ∷ decimal (fault_item fault) ∷ fault_details fault)
 
 -- a fault and its schedule, as a line with its line feed
-abbrev pub fault_line : Fault → List Run → List ℕ
+abbrev pub fault_line : Fault → List EventRun → List ℕ
 fault_line fault schedule = fault_text fault ++ joined (codes " schedule" ∷ schedule_text schedule ∷ codes "\n" ∷ [])

@@ -4,7 +4,7 @@
 ghost use Rattle.std.specs.Prelude.{◌≡◌, map, IfOk, IfErr, List, ℕ};
 ghost use Rattle.std.specs.Option.{option_map};
 ghost use Rattle.clmodel.specs.declared.fault.Fault.{Fault};
-ghost use Rattle.clmodel.specs.declared.schedule.Run.{Run};
+ghost use Rattle.clmodel.specs.declared.schedule.EventRun.{EventRun};
 ghost use Rattle.simfile_fields.specs.Texts.{between_commas};
 ghost use Rattle.replay_text.specs.Fields.{turn_of, turns_of};
 ghost use Rattle.replay_text.specs.Reading.{file_of, schedule_of};
@@ -193,7 +193,7 @@ fn parts_of(alloc: Global, file: File<'_>) -> Result<(Fault, Schedule), AllocErr
 /// `BadText`.
 pub fn read(alloc: Global, bytes: &[u8]) -> Result<(u64, Fault, Schedule), ReadFault>
     ensures found { IfOk result (λ file. IsScheduleFile bytes.now file.0 file.1 file.2) }
-    ensures only { (ticket : ℕ) (fault : Fault) (runs : List Run) → IsScheduleFile bytes.now ticket fault runs →
+    ensures only { (ticket : ℕ) (fault : Fault) (runs : List EventRun) → IsScheduleFile bytes.now ticket fault runs →
         IfOk result (λ file. (file.0 ≡ ticket) × (file.1 ≡ fault) × (file.2 ≡ runs)) }
     ensures bad { IfErr result (IsRefused bytes.now) }
 {

@@ -7,12 +7,12 @@ ghost use Rattle.std.specs.List.{list_all};
 ghost use Rattle.replay_text.specs.Reading.{item_run_at, release_at, run_at, run_of, run_named, is_run, words_of, is_schedule, schedule_of, schedule_at};
 
 use crate::fields::{line_of, number32_at, number32_before};
-use clmodel::schedule::{Run, Schedule};
+use clmodel::schedule::{EventRun, Schedule};
 use simfile_fields::{after, number_at};
 use std::alloc::{AllocError, Global};
 
 #[tactic(auto, unfolding(crate::specs::Reading::item_run_at))]
-fn item_run_at(bytes: &[u8]) -> Option<(Run, &[u8])>
+fn item_run_at(bytes: &[u8]) -> Option<(EventRun, &[u8])>
     ensures { option_map (λ read. (read.0, read.1.now)) result ≡ item_run_at bytes.now }
 {
     let (item, rest) = number32_before(b'*', bytes)?;
@@ -20,19 +20,19 @@ fn item_run_at(bytes: &[u8]) -> Option<(Run, &[u8])>
     if count == 0 {
         return None;
     }
-    Some((Run::Item { item, count }, rest))
+    Some((EventRun::Item { item, count }, rest))
 }
 
 #[tactic(auto, unfolding(crate::specs::Reading::release_at))]
-fn release_at(bytes: &[u8]) -> Option<(Run, &[u8])>
+fn release_at(bytes: &[u8]) -> Option<(EventRun, &[u8])>
     ensures { option_map (λ read. (read.0, read.1.now)) result ≡ release_at bytes.now }
 {
     let (group, rest) = number32_at(bytes)?;
-    Some((Run::Release { group }, rest))
+    Some((EventRun::Release { group }, rest))
 }
 
 #[tactic(auto, unfolding(crate::specs::Reading::run_at))]
-fn run_at(bytes: &[u8]) -> Option<(Run, &[u8])>
+fn run_at(bytes: &[u8]) -> Option<(EventRun, &[u8])>
     ensures { option_map (λ read. (read.0, read.1.now)) result ≡ run_at bytes.now }
 {
     if let Some(rest) = after(b"r", bytes) {
@@ -43,7 +43,7 @@ fn run_at(bytes: &[u8]) -> Option<(Run, &[u8])>
 
 /// The run that a word is, if it is one.
 #[tactic(auto, unfolding(crate::specs::Reading::run_of))]
-fn run_of(word: &[u8]) -> Option<Run>
+fn run_of(word: &[u8]) -> Option<EventRun>
     ensures { result ≡ run_of word.now }
 {
     let (run, rest) = run_at(word)?;
@@ -62,11 +62,11 @@ fn are_runs(text: &[u8]) -> bool
 }
 
 /// The runs that a text is.
-fn runs_of(alloc: Global, text: &[u8]) -> Result<Vec<Run>, AllocError>
+fn runs_of(alloc: Global, text: &[u8]) -> Result<Vec<EventRun>, AllocError>
     ensures { IfOk result (λ runs. runs.items ≡ map run_named (words_of text.now)) }
 {
     let words = text.split(|byte| *byte == b' ');
-    let runs = words.map(|word| run_of(word).unwrap_or(Run::Release { group: 0 }));
+    let runs = words.map(|word| run_of(word).unwrap_or(EventRun::Release { group: 0 }));
     runs.collect(alloc)
 }
 

@@ -3,18 +3,18 @@
 
 ghost use Rattle.std.specs.Prelude.{◌≡◌};
 ghost use Rattle.std.specs.List.{flat_map};
-ghost use Rattle.ends.specs.Pieces.{joined};
-ghost use Rattle.ends.specs.Sink.{Puts};
+ghost use Rattle.counted_io.specs.Pieces.{joined};
+ghost use Rattle.counted_io.specs.Sink.{Puts};
 ghost use Rattle.replay_text.specs.Text.{class_text, kind_text, clash_text, location_text, later_turn_text, turns_text, stop_text, run_text, schedule_text, fault_words, fault_item, byte_texts, element_texts, private_texts, variable_texts, conflict_texts, divergence_texts, fault_details, fault_text, fault_line};
 ghost use Rattle.replay_text.specs.Parts.{part_text};
 
 use clmodel::access::{AccessKind, Clash, Class};
 use clmodel::action::Stop;
 use clmodel::fault::{Fault, Location};
-use clmodel::schedule::{Run, Schedule};
+use clmodel::schedule::{EventRun, Schedule};
 use clmodel::text::Name;
-use ends::pieces::{Piece, write_number, write_pieces, write_signed};
-use ends::{Write, WriteFailed};
+use counted_io::pieces::{Piece, write_number, write_pieces, write_signed};
+use counted_io::{Write, WriteFailed};
 
 /// A part of a fault's line.
 #[derive(Clone, Copy)]
@@ -28,7 +28,7 @@ enum Part<'a> {
     Kind(AccessKind),
     Location(&'a Location),
     Stop(&'a Stop),
-    Schedule(&'a [Run]),
+    Schedule(&'a [EventRun]),
 }
 
 fn class_word(class: Class) -> &'static str
@@ -124,11 +124,11 @@ fn write_stop<W: Write>(stop: &Stop, writer: &mut W) -> Result<(), WriteFailed>
     write_turns(instance.turns.as_slice(), writer)
 }
 
-fn write_run<W: Write>(run: Run, writer: &mut W) -> Result<(), WriteFailed>
+fn write_run<W: Write>(run: EventRun, writer: &mut W) -> Result<(), WriteFailed>
     ensures { Puts (W.sink writer.old) result (W.sink writer.new) (run_text run) }
 {
     match run {
-        Run::Item { item, count } => write_pieces(
+        EventRun::Item { item, count } => write_pieces(
             &[
                 Piece::Text(" "),
                 Piece::Number32(item),
@@ -137,14 +137,14 @@ fn write_run<W: Write>(run: Run, writer: &mut W) -> Result<(), WriteFailed>
             ],
             writer,
         ),
-        Run::Release { group } => write_pieces(
+        EventRun::Release { group } => write_pieces(
             &[Piece::Text(" r"), Piece::Number32(group)],
             writer,
         ),
     }
 }
 
-fn write_runs<W: Write>(runs: &[Run], writer: &mut W) -> Result<(), WriteFailed>
+fn write_runs<W: Write>(runs: &[EventRun], writer: &mut W) -> Result<(), WriteFailed>
     ensures { Puts (W.sink writer.old) result (W.sink writer.new) (flat_map run_text runs.now) }
 {
     for run in runs {
@@ -153,7 +153,7 @@ fn write_runs<W: Write>(runs: &[Run], writer: &mut W) -> Result<(), WriteFailed>
     Ok(())
 }
 
-fn write_schedule<W: Write>(runs: &[Run], writer: &mut W) -> Result<(), WriteFailed>
+fn write_schedule<W: Write>(runs: &[EventRun], writer: &mut W) -> Result<(), WriteFailed>
     ensures { Puts (W.sink writer.old) result (W.sink writer.new) (schedule_text runs.now) }
 {
     if runs.is_empty() {

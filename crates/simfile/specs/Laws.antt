@@ -1,6 +1,6 @@
 -- What the grammar and the reader have to do with one another.
 use Rattle.std.specs.Prelude.{◌≡◌, ℕ, Some, List, ◌++◌, ◌⊎◌}
-use Rattle.device_store.specs.declared.command.Command.{Command}
+use Rattle.host_commands.specs.declared.command.Command.{Command}
 use Rattle.simfile.specs.declared.lines.Version.{Version}
 use Rattle.simfile.specs.declared.lines.Version.TheVariants as version
 use Rattle.simfile.specs.Script.{IsText, Begins, IsScript, IsBadLine}

@@ -6,13 +6,13 @@ use Rattle.clmodel.specs.declared.type_fault.TypeFault.{TypeFault}
 use Rattle.clmodel.specs.declared.type_fault.TypeFault.TheVariants as typing
 use Rattle.clsyntax_lex.specs.declared.token.SyntaxFault.{SyntaxFault}
 use Rattle.clsyntax_lex.specs.declared.token.SyntaxFault.TheVariants as syntax_fault
-use Rattle.device_store.specs.declared.command.BuildFault.{BuildFault}
-use Rattle.device_store.specs.declared.command.BuildFault.TheVariants as build
-use Rattle.device_store.specs.declared.command.Refusal.{Refusal}
-use Rattle.device_store.specs.declared.command.Refusal.TheVariants as refusal
-use Rattle.device_store.specs.declared.command.Reply.{Reply}
-use Rattle.device_store.specs.declared.command.Reply.TheVariants as reply
-use Rattle.ends.specs.Pieces.{joined}
+use Rattle.host_commands.specs.declared.command.BuildFault.{BuildFault}
+use Rattle.host_commands.specs.declared.command.BuildFault.TheVariants as build
+use Rattle.host_commands.specs.declared.command.Refusal.{Refusal}
+use Rattle.host_commands.specs.declared.command.Refusal.TheVariants as refusal
+use Rattle.host_commands.specs.declared.command.Reply.{Reply}
+use Rattle.host_commands.specs.declared.command.Reply.TheVariants as reply
+use Rattle.counted_io.specs.Pieces.{joined}
 use Rattle.replay_text.specs.Text.{fault_line}
 use Rattle.simfile.specs.Fields.{hex}
 

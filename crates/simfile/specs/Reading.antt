@@ -3,8 +3,8 @@ use Rattle.std.specs.Prelude.{ℕ, ◌+◌, ◌-◌, ◌%◌, ◌==◌, ℤ, pos
 use Rattle.clmodel.specs.declared.setup.Argument.{Argument}
 use Rattle.clmodel.specs.declared.setup.Argument.TheVariants as argument
 use Rattle.clmodel.specs.declared.setup.Range.{Range}
-use Rattle.device_store.specs.declared.command.Command.{Command}
-use Rattle.device_store.specs.declared.command.Command.TheVariants as command
+use Rattle.host_commands.specs.declared.command.Command.{Command}
+use Rattle.host_commands.specs.declared.command.Command.TheVariants as command
 use Rattle.simfile.specs.declared.lines.Version.{Version}
 use Rattle.simfile.specs.declared.lines.Version.TheVariants as version
 use Rattle.simfile.specs.Script.{head}

@@ -2,8 +2,8 @@
 use Rattle.std.specs.Option.{option_map}
 use Rattle.clmodel.specs.declared.setup.Argument.{Argument}
 use Rattle.clmodel.specs.declared.setup.Argument.TheVariants as argument
-use Rattle.device_store.specs.declared.command.Command.{Command}
-use Rattle.device_store.specs.declared.command.Command.TheVariants as command
+use Rattle.host_commands.specs.declared.command.Command.{Command}
+use Rattle.host_commands.specs.declared.command.Command.TheVariants as command
 use Rattle.simfile.specs.declared.lines.WriteLine.{WriteLine}
 use Rattle.simfile.specs.declared.lines.FillLine.{FillLine}
 use Rattle.simfile.specs.declared.lines.CopyLine.{CopyLine}

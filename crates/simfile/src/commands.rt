@@ -3,7 +3,7 @@
 
 ghost use Rattle.std.specs.Prelude.{◌≡◌, IfOk};
 ghost use Rattle.std.specs.Option.{option_map};
-ghost use Rattle.device_store.specs.declared.command.Command.TheVariants as command;
+ghost use Rattle.host_commands.specs.declared.command.Command.TheVariants as command;
 ghost use Rattle.simfile.specs.Fields.{bytes_of};
 ghost use Rattle.simfile.specs.Reading.{range_of};
 ghost use Rattle.simfile.specs.Views.{argument_of, write_of, fill_of, copy_of, read_of, kernel_of, arg_of, launch_of, command_of};
@@ -14,7 +14,7 @@ use crate::lines::{
 };
 use clmodel::setup::{Argument, Range};
 use clmodel::text::{Bytes, Name, Numbers};
-use device_store::command::Command;
+use host_commands::command::Command;
 use std::alloc::{AllocError, Global};
 
 /// The range that a launch's line tells: where no offsets are given, as many zeros as there are sizes.

@@ -3,10 +3,10 @@
 
 ghost use Rattle.std.specs.Prelude.{◌≡◌, ◌<◌};
 ghost use Rattle.std.specs.List.{flat_map};
-ghost use Rattle.ends.specs.Sink.{Puts};
+ghost use Rattle.counted_io.specs.Sink.{Puts};
 ghost use Rattle.simfile.specs.Fields.{byte_text, hex_digit};
 
-use ends::{Write, WriteFailed};
+use counted_io::{Write, WriteFailed};
 
 fn hex_digit(value: u8) -> u8
     requires { value < 16 }

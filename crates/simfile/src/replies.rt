@@ -2,17 +2,17 @@
 #![tactic(auto)]
 
 ghost use Rattle.std.specs.Prelude.{◌≡◌, [], ◌∷◌, codes};
-ghost use Rattle.ends.specs.Pieces.{joined};
-ghost use Rattle.ends.specs.Sink.{Puts};
+ghost use Rattle.counted_io.specs.Pieces.{joined};
+ghost use Rattle.counted_io.specs.Sink.{Puts};
 ghost use Rattle.simfile.specs.Fields.{hex};
 ghost use Rattle.simfile.specs.Lines.{syntax_words, syntax_place, type_words, build_words, build_place, refusal_word, fault_of, refused_line, line, check_line};
 
 use crate::hex::write_hex;
 use clmodel::type_fault::TypeFault;
 use clsyntax_lex::token::SyntaxFault;
-use device_store::command::{BuildFault, Refusal, Reply};
-use ends::pieces::{Piece, write_pieces};
-use ends::{Write, WriteFailed};
+use counted_io::pieces::{Piece, write_pieces};
+use counted_io::{Write, WriteFailed};
+use host_commands::command::{BuildFault, Refusal, Reply};
 
 fn syntax_words(fault: SyntaxFault) -> &'static str
     ensures { result.now ≡ syntax_words fault }

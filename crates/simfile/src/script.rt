@@ -5,12 +5,12 @@ ghost use Rattle.std.specs.Prelude.{◌≡◌, ◌+◌, ◌-◌, ◌<◌, ◌≤
 ghost use Rattle.simfile.specs.Views.{command_of};
 ghost use Rattle.simfile.specs.Script.{IsScript, line_feeds};
 ghost use Rattle.simfile.specs.Faults.{NoScript};
-ghost use Rattle.device_store.specs.declared.command.Command.{Command};
+ghost use Rattle.host_commands.specs.declared.command.Command.{Command};
 
 use crate::commands::command_of;
 use crate::forms::{line_at, version_at};
 use crate::lines::Line;
-use device_store::command::Command;
+use host_commands::command::Command;
 use std::alloc::{AllocError, Global};
 
 /// Why a text is no script, or was not read.

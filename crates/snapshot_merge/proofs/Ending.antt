@@ -9,7 +9,7 @@ use Rattle.clmodel.specs.Run.{contents}
 use Rattle.clmodel.specs.Setup.{Setup, group_items}
 use Rattle.clmodel.specs.declared.fault.Fault.{Fault}
 use Rattle.clmodel.specs.declared.outcome.Outcome.TheVariants.{Clean, Faulted}
-use Rattle.clmodel.specs.declared.schedule.Run.{Run}
+use Rattle.clmodel.specs.declared.schedule.EventRun.{EventRun}
 use Rattle.group_run.specs.Results.{IsResult}
 use Rattle.group_run.specs.declared.result.GroupResult.{GroupResult}
 use Rattle.group_run.specs.declared.result.GroupResult.TheVariants.{Done, Stopped}
@@ -56,7 +56,7 @@ pub next_held : {G L : Type 0} (l : Launch) (g : ℕ) (came : GroupResult G L) (
 next_held l g (Done number spaces log runs) so_far h = h
 next_held l g (Stopped number stop log runs) so_far h = absurd h
 
-pub concludes_fault : (l : Launch) (fault : Fault) (runs : List Run) → IsStopped l fault runs → Concludes l (Faulted fault runs)
+pub concludes_fault : (l : Launch) (fault : Fault) (runs : List EventRun) → IsStopped l fault runs → Concludes l (Faulted fault runs)
 concludes_fault l fault runs h = (events_of runs, h.0.0, h.0.1, refl, h.1)
 
 pub concludes_clean : (l : Launch) (g : ℕ) (so_far : JoinedGroups) → JoiningLaws → IsGrouped l → HoldsGroups l g so_far → l.items ≤ g * l.group_size → Concludes l (Clean so_far.contents)

@@ -14,7 +14,7 @@ use Rattle.clmodel.specs.declared.access.Access.{Access}
 use Rattle.clmodel.specs.declared.access.Region.{Region}
 use Rattle.clmodel.specs.declared.access.Region.TheVariants as region
 use Rattle.clmodel.specs.declared.fault.Fault.{Fault}
-use Rattle.clmodel.specs.declared.schedule.Run.{Run}
+use Rattle.clmodel.specs.declared.schedule.EventRun.{EventRun}
 use Rattle.joining.specs.Group.{plan_of, IsRun}
 use Rattle.joining.specs.Memory.{wrote}
 use Rattle.joining.specs.Crossings.{crossing}
@@ -56,7 +56,7 @@ abbrev pub stopped_part : (l : Launch) (g : ℕ) (fits : Events → State → Ty
 stopped_part l g fits events fault run = record { events = events; end = run.state; stopped = Some fault }
 
 -- what code holds of the groups so far and of one more, and of their events
-pub record IsRunning (l : Launch) (g : ℕ) (lower : Joined) (part : Part) (log : Log) (footprint : Footprint) (old more : List Run) : Type 0 where
+pub record IsRunning (l : Launch) (g : ℕ) (lower : Joined) (part : Part) (log : Log) (footprint : Footprint) (old more : List EventRun) : Type 0 where
   pub laws : JoiningLaws
   pub grouped : IsGrouped l
   pub joined : IsJoined l g lower
@@ -68,12 +68,12 @@ pub record IsRunning (l : Launch) (g : ℕ) (lower : Joined) (part : Part) (log 
   pub merged : IsMerged more
 
 -- the same, for the lemmas of crossings
-pub further : (l : Launch) (g : ℕ) (lower : Joined) (part : Part) (log : Log) (footprint : Footprint) (old more : List Run) (r : IsRunning l g lower part log footprint old more)
+pub further : (l : Launch) (g : ℕ) (lower : Joined) (part : Part) (log : Log) (footprint : Footprint) (old more : List EventRun) (r : IsRunning l g lower part log footprint old more)
     → IsFurther l g lower part log r.held.kept
 further l g lower part log footprint old more r =
     record { grouped = r.grouped; joined = r.joined; there = r.there; runs = r.runs; logged = r.logged; keeps = r.held.keeps }
 
-pub others : (l : Launch) (g : ℕ) (lower : Joined) (part : Part) (log : Log) (footprint : Footprint) (old more : List Run) (r : IsRunning l g lower part log footprint old more)
+pub others : (l : Launch) (g : ℕ) (lower : Joined) (part : Part) (log : Log) (footprint : Footprint) (old more : List EventRun) (r : IsRunning l g lower part log footprint old more)
     → AreOthers log.accesses r.held.kept
 others l g lower part log footprint old more r k e h = entries_of_others (crossing_laws r.laws) l g lower part log r.held.kept (further l g lower part log footprint old more r) k e h
 
@@ -82,7 +82,7 @@ none_kept : (l : Launch) (g : ℕ) (lower : Joined) (kept : List Access) → g �
 none_kept l g lower kept e j k =
     let first : lower ≡ nothing_yet l = subst (λ n. IsJoined l n lower) e j in subst (λ (z : Joined). Keeps z.log kept) first k
 
-pub first_none : (l : Launch) (g : ℕ) (lower : Joined) (part : Part) (log : Log) (footprint : Footprint) (old more : List Run) (r : IsRunning l g lower part log footprint old more)
+pub first_none : (l : Launch) (g : ℕ) (lower : Joined) (part : Part) (log : Log) (footprint : Footprint) (old more : List EventRun) (r : IsRunning l g lower part log footprint old more)
     → g ≡ 0 → r.held.kept ≡ []
 first_none l g lower part log footprint old more r e = none_kept l g lower r.held.kept e r.joined r.held.keeps
 
@@ -109,7 +109,7 @@ met_is u (region.Local owner i) x kept m h = absurd (none_some m h)
 
 -- an access of the group meets the lower groups'
 pub meets_stopped :
-    (l : Launch) (g : ℕ) (lower : Joined) (part : Part) (log : Log) (footprint : Footprint) (old more new : List Run) (r : IsRunning l g lower part log footprint old more)
+    (l : Launch) (g : ℕ) (lower : Joined) (part : Part) (log : Log) (footprint : Footprint) (old more new : List EventRun) (r : IsRunning l g lower part log footprint old more)
     (met : Met) (fault : Fault) → IsFirstMet l.uniform true log.accesses r.held.kept (Some met) → Adds old new more (take (met.entry.event + 1) (events_of more))
     → Some fault ≡ report_at l met part.stopped → IsStopped l fault new
 meets_stopped l g lower part log footprint old more new r met fault first adds told =
@@ -126,7 +126,7 @@ meets_stopped l g lower part log footprint old more new r met fault first adds t
     ((end.0, subst (λ z. RunsIntoFault l z end.0 fault) (sym events) end.1), adds.merged r.held.merged r.merged)
 
 -- nothing crosses where nothing is met
-pub none_crosses : (l : Launch) (g : ℕ) (lower : Joined) (part : Part) (log : Log) (footprint : Footprint) (old more : List Run) (r : IsRunning l g lower part log footprint old more)
+pub none_crosses : (l : Launch) (g : ℕ) (lower : Joined) (part : Part) (log : Log) (footprint : Footprint) (old more : List EventRun) (r : IsRunning l g lower part log footprint old more)
     → IsFirstMet l.uniform true log.accesses r.held.kept None → crossing l lower.log part.end.log ≡ None
 none_crosses l g lower part log footprint old more r first =
     let far = further l g lower part log footprint old more r in
@@ -137,7 +137,7 @@ joined_whole l lower part none = ap (join_at l lower part) none
 
 -- a group stops of itself
 pub own_stopped :
-    (l : Launch) (g : ℕ) (lower : Joined) (part : Part) (log : Log) (footprint : Footprint) (old more new : List Run) (r : IsRunning l g lower part log footprint old more) (fault : Fault)
+    (l : Launch) (g : ℕ) (lower : Joined) (part : Part) (log : Log) (footprint : Footprint) (old more new : List EventRun) (r : IsRunning l g lower part log footprint old more) (fault : Fault)
     → IsFirstMet l.uniform true log.accesses r.held.kept None → Adds old new more (events_of more) → part.stopped ≡ Some fault → IsStopped l fault new
 own_stopped l g lower part log footprint old more new r fault first adds told =
     let whole = joined_whole l lower part (none_crosses l g lower part log footprint old more r first) in
@@ -148,7 +148,7 @@ own_stopped l g lower part log footprint old more new r fault first adds told =
 
 -- a group that has ended is joined to the groups so far
 pub is_joined :
-    (l : Launch) (g : ℕ) (lower : Joined) (part : Part) (log : Log) (footprint : Footprint) (old more : List Run) (r : IsRunning l g lower part log footprint old more)
+    (l : Launch) (g : ℕ) (lower : Joined) (part : Part) (log : Log) (footprint : Footprint) (old more : List EventRun) (r : IsRunning l g lower part log footprint old more)
     → IsFirstMet l.uniform true log.accesses r.held.kept None → part.stopped ≡ None → IsJoined l (suc g) (join l lower part)
 is_joined l g lower part log footprint old more r first told =
     let whole = joined_whole l lower part (none_crosses l g lower part log footprint old more r first) in
@@ -156,8 +156,8 @@ is_joined l g lower part log footprint old more r first told =
 
 -- and its accesses and events
 pub log_joined :
-    (l : Launch) (g : ℕ) (lower : Joined) (part : Part) (log : Log) (footprint : Footprint) (old more : List Run) (r : IsRunning l g lower part log footprint old more)
-    (next : Footprint) (new : List Run) → IsFirstMet l.uniform true log.accesses r.held.kept None → IsFootprint next (accesses_of log.accesses ++ r.held.kept) → Adds old new more (events_of more)
+    (l : Launch) (g : ℕ) (lower : Joined) (part : Part) (log : Log) (footprint : Footprint) (old more : List EventRun) (r : IsRunning l g lower part log footprint old more)
+    (next : Footprint) (new : List EventRun) → IsFirstMet l.uniform true log.accesses r.held.kept None → IsFootprint next (accesses_of log.accesses ++ r.held.kept) → Adds old new more (events_of more)
     → HoldsLog (join l lower part) next new
 log_joined l g lower part log footprint old more r next new first remembers adds =
     let whole = joined_whole l lower part (none_crosses l g lower part log footprint old more r first) in
@@ -172,7 +172,7 @@ log_joined l g lower part log footprint old more r next new first remembers adds
 -- ---- from what a call is given
 
 -- what a call that joins one more group is given
-pub record IsGiven (l : Launch) (g : ℕ) (so_far : JoinedGroups) (more : List Run) : Type 0 where
+pub record IsGiven (l : Launch) (g : ℕ) (so_far : JoinedGroups) (more : List EventRun) : Type 0 where
   pub laws : JoiningLaws
   pub grouped : IsGrouped l
   pub there : HasGroup l g
@@ -192,7 +192,7 @@ finds_whole u g so_far last listed log found stand finds kept remembers none apa
     first_whole u last listed log.accesses kept found stand apart (finds kept remembers none (others_listed last listed log.accesses kept stand apart))
 
 stopped_running :
-    (l : Launch) (g : ℕ) (so_far : JoinedGroups) (log : Log) (more : List Run) (fault : Fault) (c : IsGiven l g so_far more) (run : IsRun (plan_of l g) (IsLogged (plan_of l g) log) (start l) (events_of more) (Some fault))
+    (l : Launch) (g : ℕ) (so_far : JoinedGroups) (log : Log) (more : List EventRun) (fault : Fault) (c : IsGiven l g so_far more) (run : IsRun (plan_of l g) (IsLogged (plan_of l g) log) (start l) (events_of more) (Some fault))
     → IsRunning l g c.holds.joined (stopped_part l g (IsLogged (plan_of l g) log) (events_of more) fault run) log so_far.footprint so_far.runs.items more
 stopped_running l g so_far log more fault c run =
     record {
@@ -212,7 +212,7 @@ abbrev pub Left : Launch → ℕ → List Overlaid → Log → Events → State 
 Left l g spaces log = Leaves (λ (space : Overlaid). space.bytes) (plan_of l g) spaces log
 
 done_running :
-    (l : Launch) (g : ℕ) (so_far : JoinedGroups) (log : Log) (more : List Run) (spaces : List Overlaid) (c : IsGiven l g so_far more) (run : IsRun (plan_of l g) (Left l g spaces log) (start l) (events_of more) None)
+    (l : Launch) (g : ℕ) (so_far : JoinedGroups) (log : Log) (more : List EventRun) (spaces : List Overlaid) (c : IsGiven l g so_far more) (run : IsRun (plan_of l g) (Left l g spaces log) (start l) (events_of more) None)
     → IsRunning l g c.holds.joined (done_part l g (Left l g spaces log) (events_of more) run) log so_far.footprint so_far.runs.items more
 done_running l g so_far log more spaces c run =
     record {
@@ -228,14 +228,14 @@ done_running l g so_far log more spaces c run =
     }
 
 found_first :
-    (l : Launch) (g : ℕ) (lower : Joined) (part : Part) (log : Log) (so_far : JoinedGroups) (more : List Run) (r : IsRunning l g lower part log so_far.footprint so_far.runs.items more) (found : Option Met)
+    (l : Launch) (g : ℕ) (lower : Joined) (part : Part) (log : Log) (so_far : JoinedGroups) (more : List EventRun) (r : IsRunning l g lower part log so_far.footprint so_far.runs.items more) (found : Option Met)
     → Finds l.uniform g so_far log found → IsFirstMet l.uniform true log.accesses r.held.kept found
 found_first l g lower part log so_far more r found finds =
     finds r.held.kept r.held.remembers (first_none l g lower part log so_far.footprint so_far.runs.items more r) (others l g lower part log so_far.footprint so_far.runs.items more r)
 
 -- a group that stopped meets the lower groups
 pub stop_meets :
-    (l : Launch) (g : ℕ) (so_far : JoinedGroups) (log : Log) (more new : List Run) (fault : Fault) (c : IsGiven l g so_far more)
+    (l : Launch) (g : ℕ) (so_far : JoinedGroups) (log : Log) (more new : List EventRun) (fault : Fault) (c : IsGiven l g so_far more)
     → IsRun (plan_of l g) (IsLogged (plan_of l g) log) (start l) (events_of more) (Some fault) → (met : Met) (report : Fault) → Finds l.uniform g so_far log (Some met)
     → Adds so_far.runs.items new more (take (met.entry.event + 1) (events_of more)) → Some report ≡ report_at l met (Some fault) → IsStopped l report new
 stop_meets l g so_far log more new fault c run met report finds adds told =
@@ -245,7 +245,7 @@ stop_meets l g so_far log more new fault c run met report finds adds told =
 
 -- a group that stopped meets none of them
 pub stop_alone :
-    (l : Launch) (g : ℕ) (so_far : JoinedGroups) (log : Log) (more new : List Run) (fault : Fault) (c : IsGiven l g so_far more)
+    (l : Launch) (g : ℕ) (so_far : JoinedGroups) (log : Log) (more new : List EventRun) (fault : Fault) (c : IsGiven l g so_far more)
     → IsRun (plan_of l g) (IsLogged (plan_of l g) log) (start l) (events_of more) (Some fault) → Finds l.uniform g so_far log None → Adds so_far.runs.items new more (events_of more) → IsStopped l fault new
 stop_alone l g so_far log more new fault c run finds adds =
     let part : Part = stopped_part l g (IsLogged (plan_of l g) log) (events_of more) fault run in
@@ -254,7 +254,7 @@ stop_alone l g so_far log more new fault c run finds adds =
 
 -- a group that has ended meets the lower groups
 pub done_meets :
-    (l : Launch) (g : ℕ) (so_far : JoinedGroups) (log : Log) (more new : List Run) (spaces : List Overlaid) (c : IsGiven l g so_far more)
+    (l : Launch) (g : ℕ) (so_far : JoinedGroups) (log : Log) (more new : List EventRun) (spaces : List Overlaid) (c : IsGiven l g so_far more)
     → IsRun (plan_of l g) (Left l g spaces log) (start l) (events_of more) None → (met : Met) (report : Fault) → Finds l.uniform g so_far log (Some met)
     → Adds so_far.runs.items new more (take (met.entry.event + 1) (events_of more)) → Some report ≡ report_at l met None → IsStopped l report new
 done_meets l g so_far log more new spaces c run met report finds adds told =
@@ -270,7 +270,7 @@ Changes so_far spaces listed new =
 
 -- a group that has ended is joined, where a further group may follow
 pub done_joined :
-    (l : Launch) (g : ℕ) (so_far : JoinedGroups) (log : Log) (more : List Run) (spaces : List Overlaid) (c : IsGiven l g so_far more)
+    (l : Launch) (g : ℕ) (so_far : JoinedGroups) (log : Log) (more : List EventRun) (spaces : List Overlaid) (c : IsGiven l g so_far more)
     → IsRun (plan_of l g) (Left l g spaces log) (start l) (events_of more) None → Finds l.uniform g so_far log None → (listed : List Entry) → StandsFor [] listed log.accesses → (new : JoinedGroups) → Changes so_far spaces listed new.contents.items → new.first ≡ so_far.first
     → (HasGroup l (suc g) → ((kept : List Access) → IsFootprint so_far.footprint kept → IsFootprint new.footprint (accesses_of log.accesses ++ kept)) × Adds so_far.runs.items new.runs.items more (events_of more))
     → HoldsGroups l (suc g) new
@@ -309,7 +309,7 @@ both_ok P Q R (Err e) p q f = tt
 
 -- a group that has ended is joined and its accesses and events added
 pub done_added :
-    (l : Launch) (g : ℕ) (so_far : JoinedGroups) (log : Log) (more : List Run) (spaces : List Overlaid) (c : IsGiven l g so_far more)
+    (l : Launch) (g : ℕ) (so_far : JoinedGroups) (log : Log) (more : List EventRun) (spaces : List Overlaid) (c : IsGiven l g so_far more)
     → IsRun (plan_of l g) (Left l g spaces log) (start l) (events_of more) None → Finds l.uniform g so_far log None → (last : Bool) (listed : List Entry) → StandsWith last listed log.accesses → (mid new : JoinedGroups) → Changes so_far spaces listed mid.contents.items
     → mid.first ≡ so_far.first → mid.footprint ≡ so_far.footprint → mid.runs ≡ so_far.runs → new.first ≡ mid.first → new.contents ≡ mid.contents
     → ((kept : List Access) → IsFootprint mid.footprint kept → IsFootprint new.footprint (accesses_of listed ++ kept)) → Adds mid.runs.items new.runs.items more (events_of more)
@@ -319,12 +319,12 @@ done_added l g so_far log more spaces c run finds last listed stand mid new chan
     (λ kept k. subst (λ (z : Vec (List ℕ) Global). AreChanged so_far.contents.items z.items (changes_of (value_of (map (λ row. row.now) so_far.first.items) so_far.contents.items (λ n b. wrote kept (region.Buffer n) b) (map (λ (space : Overlaid). space.bytes) spaces)) listed)) (sym contents2) (changes kept k))
     (first2 ∙ first) (λ h. (
       λ kept k. footprint_whole last listed log.accesses kept new.footprint stand (remembers kept (subst (λ f. IsFootprint f kept) (sym footprint) k)),
-      subst (λ (z : Vec Run Global). Adds z.items new.runs.items more (events_of more)) runs adds,
+      subst (λ (z : Vec EventRun Global). Adds z.items new.runs.items more (events_of more)) runs adds,
     ))
 
 -- the last group is joined
 pub done_last :
-    (l : Launch) (g : ℕ) (so_far : JoinedGroups) (log : Log) (more : List Run) (spaces : List Overlaid) (c : IsGiven l g so_far more)
+    (l : Launch) (g : ℕ) (so_far : JoinedGroups) (log : Log) (more : List EventRun) (spaces : List Overlaid) (c : IsGiven l g so_far more)
     → IsRun (plan_of l g) (Left l g spaces log) (start l) (events_of more) None → Finds l.uniform g so_far log None → (last : Bool) (listed : List Entry) → StandsWith last listed log.accesses → (mid : JoinedGroups) → Changes so_far spaces listed mid.contents.items → mid.first ≡ so_far.first
     → (HasGroup l (suc g) → ⊥) → HoldsGroups l (suc g) mid
 done_last l g so_far log more spaces c run finds last listed stand mid changes first none =

@@ -9,11 +9,11 @@ use Rattle.group_run.proofs.Merging.{events_of-append, merged_append, merged_gro
 use Rattle.snapshot_merge.specs.Runs.{Adds, IsFirstOf}
 use Rattle.clmodel.specs.declared.schedule.Event.{Event}
 use Rattle.clmodel.specs.declared.schedule.Event.TheVariants as event
-use Rattle.clmodel.specs.declared.schedule.Run.{Run}
-use Rattle.clmodel.specs.declared.schedule.Run.TheVariants as run
+use Rattle.clmodel.specs.declared.schedule.EventRun.{EventRun}
+use Rattle.clmodel.specs.declared.schedule.EventRun.TheVariants as run
 
 -- a run of its own
-pub adds_item : (runs : List Run) (item count : ℕ) → (EndsWith item runs → ⊥) → Adds runs (runs ++ run.Item item count ∷ []) (run.Item item count ∷ []) (events_of (run.Item item count ∷ []))
+pub adds_item : (runs : List EventRun) (item count : ℕ) → (EndsWith item runs → ⊥) → Adds runs (runs ++ run.Item item count ∷ []) (run.Item item count ∷ []) (events_of (run.Item item count ∷ []))
 adds_item runs item count h =
     record {
       events = events_of-append runs (run.Item item count ∷ []);
@@ -26,7 +26,7 @@ replicate_sum (suc a) b e = ap (λ n. replicate n e) (suc-add a b) ∙ ap (λ z.
 
 -- further events of the last run
 pub adds_more :
-    (runs : List Run) (item before count sum : ℕ) → sum ≡ before + count
+    (runs : List EventRun) (item before count sum : ℕ) → sum ≡ before + count
     → Adds (runs ++ run.Item item before ∷ []) (runs ++ run.Item item sum ∷ []) (run.Item item count ∷ []) (events_of (run.Item item count ∷ []))
 adds_more runs item before count sum s =
     record {
@@ -38,7 +38,7 @@ adds_more runs item before count sum s =
       merged = λ m n. merged_grow runs item before sum (omega (arith, s, n.0)) m;
     }
 
-pub adds_release : (runs : List Run) (r : Run) (group : ℕ) → r ≡ run.Release group → Adds runs (runs ++ r ∷ []) (r ∷ []) (events_of (r ∷ []))
+pub adds_release : (runs : List EventRun) (r : EventRun) (group : ℕ) → r ≡ run.Release group → Adds runs (runs ++ r ∷ []) (r ∷ []) (events_of (r ∷ []))
 adds_release runs r group e =
     subst (λ z. Adds runs (runs ++ z ∷ []) (z ∷ []) (events_of (z ∷ []))) (sym e)
     (record {
@@ -47,11 +47,11 @@ adds_release runs r group e =
     })
 
 -- runs that follow one another
-pub merged_tail : (r : Run) (more : List Run) → IsMerged (r ∷ more) → IsMerged (r ∷ []) × IsMerged more
+pub merged_tail : (r : EventRun) (more : List EventRun) → IsMerged (r ∷ more) → IsMerged (r ∷ []) × IsMerged more
 merged_tail (run.Item item count) more h = ((h.0, tt, tt), h.2)
 merged_tail (run.Release group) more h = (tt, h)
 
-pub adds_none : (runs more : List Run) → Adds runs runs more []
+pub adds_none : (runs more : List EventRun) → Adds runs runs more []
 adds_none runs more = record { events = sym (append-nil (events_of runs)); merged = λ m n. m }
 
 -- take of a repeated event
@@ -92,23 +92,23 @@ first_of_release group (suc most) b =
 
 -- ---- all of the runs, one after another
 
-merged_at : (more : List Run) (k : ℕ) (r : Run) → slice_get more k ≡ Some r → IsMerged more → IsMerged (r ∷ [])
+merged_at : (more : List EventRun) (k : ℕ) (r : EventRun) → slice_get more k ≡ Some r → IsMerged more → IsMerged (r ∷ [])
 merged_at [] k r h m = absurd (none_some r h)
 merged_at (x ∷ more) zero r h m = subst (λ z. IsMerged (z ∷ [])) (some_inj x r h) (merged_tail x more m).0
 merged_at (x ∷ more) (suc k) r h m = merged_at more k r h (merged_tail x more m).1
 
-take_next : (more : List Run) (k : ℕ) (r : Run) → slice_get more k ≡ Some r → take (suc k) more ≡ take k more ++ r ∷ []
+take_next : (more : List EventRun) (k : ℕ) (r : EventRun) → slice_get more k ≡ Some r → take (suc k) more ≡ take k more ++ r ∷ []
 take_next [] k r h = absurd (none_some r h)
 take_next (x ∷ more) zero r h = ap (λ z. z ∷ []) (some_inj x r h)
 take_next (x ∷ more) (suc k) r h = ap (λ z. x ∷ z) (take_next more k r h)
 
-drop_next : (more : List Run) (k : ℕ) (r : Run) → slice_get more k ≡ Some r → drop k more ≡ r ∷ drop (suc k) more
+drop_next : (more : List EventRun) (k : ℕ) (r : EventRun) → slice_get more k ≡ Some r → drop k more ≡ r ∷ drop (suc k) more
 drop_next [] k r h = absurd (none_some r h)
 drop_next (x ∷ more) zero r h = ap (λ z. z ∷ more) (some_inj x r h)
 drop_next (x ∷ more) (suc k) r h = drop_next more k r h
 
 pub adds_step :
-    (first mid last more : List Run) (k : ℕ) (r : Run) → slice_get more k ≡ Some r → Adds first mid more (events_of (take k more)) → Adds mid last (r ∷ []) (events_of (r ∷ []))
+    (first mid last more : List EventRun) (k : ℕ) (r : EventRun) → slice_get more k ≡ Some r → Adds first mid more (events_of (take k more)) → Adds mid last (r ∷ []) (events_of (r ∷ []))
     → Adds first last more (events_of (take (k + 1) more))
 adds_step first mid last more k r e h n =
     record {
@@ -121,12 +121,12 @@ adds_step first mid last more k r e h n =
     }
 
 -- the first runs were added, and of what is left n events are to be added
-pub record AddsPart (first new more : List Run) (k left count : ℕ) : Type 0 where
+pub record AddsPart (first new more : List EventRun) (k left count : ℕ) : Type 0 where
   pub events : events_of new ++ take left (events_of (drop k more)) ≡ events_of first ++ take count (events_of more)
   pub merged : IsMerged first → IsMerged more → IsMerged new
 
 pub part_step :
-    (first mid last more : List Run) (k left count : ℕ) (r f : Run) (taken : ℕ) → slice_get more k ≡ Some r → AddsPart first mid more k left count → IsFirstOf r left f taken
+    (first mid last more : List EventRun) (k left count : ℕ) (r f : EventRun) (taken : ℕ) → slice_get more k ≡ Some r → AddsPart first mid more k left count → IsFirstOf r left f taken
     → Adds mid last (f ∷ []) (events_of (f ∷ [])) → AddsPart first last more (k + 1) (left - taken) count
 part_step first mid last more k left count r f taken e h i n =
     record {
@@ -139,10 +139,10 @@ part_step first mid last more k left count r f taken e h i n =
       merged = λ m w. n.merged (h.merged m w) (i.merged (merged_at more k r e w));
     }
 
-pub part_none : (first more : List Run) (count : ℕ) → AddsPart first first more 0 count count
+pub part_none : (first more : List EventRun) (count : ℕ) → AddsPart first first more 0 count count
 part_none first more count = record { events = refl; merged = λ m w. m }
 
-drop_all : (more : List Run) (k : ℕ) → length more ≤ k → drop k more ≡ []
+drop_all : (more : List EventRun) (k : ℕ) → length more ≤ k → drop k more ≡ []
 drop_all [] zero h = refl
 drop_all [] (suc k) h = refl
 drop_all (x ∷ more) zero h = absurd (omega (arith, h))
@@ -153,7 +153,7 @@ take_nil zero = refl
 take_nil (suc n) = refl
 
 -- nothing is left to add, or no runs are left
-pub part_end : (first new more : List Run) (k left count : ℕ) → (left ≡ 0) ⊎ (length more ≤ k) → AddsPart first new more k left count → Adds first new more (take count (events_of more))
+pub part_end : (first new more : List EventRun) (k left count : ℕ) → (left ≡ 0) ⊎ (length more ≤ k) → AddsPart first new more k left count → Adds first new more (take count (events_of more))
 part_end first new more k left count s h =
     record { events = sym (append-nil (events_of new)) ∙ ap (λ z. events_of new ++ z) (sym (nothing s)) ∙ h.events; merged = h.merged }
   where

@@ -7,7 +7,7 @@ use Rattle.clmodel.specs.Run.{State}
 use Rattle.clmodel.specs.declared.access.Access.{Access}
 use Rattle.clmodel.specs.declared.fault.Fault.{Fault}
 use Rattle.clmodel.specs.declared.outcome.Outcome.TheVariants.{Clean}
-use Rattle.clmodel.specs.declared.schedule.Run.{Run}
+use Rattle.clmodel.specs.declared.schedule.EventRun.{EventRun}
 use Rattle.group_run.specs.declared.result.GroupResult.{GroupResult}
 use Rattle.group_run.specs.declared.result.GroupResult.TheVariants.{Done, Stopped}
 use Rattle.joining.specs.Join.{Joined}
@@ -21,7 +21,7 @@ use Rattle.snapshot_merge.specs.declared.joined_groups.JoinEnd.TheVariants.{Goes
 use Rattle.snapshot_merge.specs.declared.joined_groups.JoinedGroups.{JoinedGroups}
 
 -- a footprint and runs hold the accesses and the events of the groups so far (own)
-pub record HoldsLog (joined : Joined) (footprint : Footprint) (runs : List Run) : Type 0 where
+pub record HoldsLog (joined : Joined) (footprint : Footprint) (runs : List EventRun) : Type 0 where
   pub kept : List Access
   pub keeps : Keeps joined.log kept
   pub remembers : IsFootprint footprint kept
@@ -38,7 +38,7 @@ pub record HoldsGroups (launch : Launch) (group : ℕ) (so_far : JoinedGroups) :
   pub log : HasGroup launch group → HoldsLog joined so_far.footprint so_far.runs.items
 
 -- the canonical run of the launch makes the events of these runs and ends with this report (own)
-abbrev pub IsStopped : Launch → Fault → List Run → Type 0
+abbrev pub IsStopped : Launch → Fault → List EventRun → Type 0
 IsStopped launch fault runs = ((end : State) × RunsIntoFault launch (events_of runs) end fault) × IsMerged runs
 
 -- what comes of joining a group that has ended: a report, or what is held of all groups so far (own)

@@ -2,10 +2,10 @@
 
 ghost use Rattle.std.specs.Prelude.{◌≡◌, ◌∷◌, [], ◌<◌, OnOk, IfOk, ◌+◌, take};
 ghost use Rattle.clmodel.specs.Outcome.{events_of};
-ghost use Rattle.clmodel.specs.declared.schedule.Run.TheVariants as run;
+ghost use Rattle.clmodel.specs.declared.schedule.EventRun.TheVariants as run;
 ghost use Rattle.snapshot_merge.specs.Runs.{Adds, IsFirstOf};
 
-use clmodel::schedule::Run;
+use clmodel::schedule::EventRun;
 use group_run::last_count;
 use std::alloc::AllocError;
 
@@ -20,26 +20,26 @@ fn added(count: u64, more: u64) -> Result<u64, AllocError>
 }
 
 /// Adds `count` events of an item, to the last run where that is of the same item. An error is out of memory, or a run of 2^64 events.
-fn add_item(runs: &mut Vec<Run>, item: u32, count: u64) -> Result<(), AllocError>
+fn add_item(runs: &mut Vec<EventRun>, item: u32, count: u64) -> Result<(), AllocError>
     ensures { OnOk result (Adds runs.old.items runs.new.items (run.Item item count ∷ []) (events_of (run.Item item count ∷ []))) }
 {
     let Some(before) = last_count(runs.as_slice(), item) else {
-        runs.push(Run::Item { item, count })?;
+        runs.push(EventRun::Item { item, count })?;
         return Ok(());
     };
     let sum = added(before, count)?;
     let last = runs.len() - 1;
-    runs[last] = Run::Item { item, count: sum };
+    runs[last] = EventRun::Item { item, count: sum };
     Ok(())
 }
 
 /// Adds a run.
-fn add_run(runs: &mut Vec<Run>, run: Run) -> Result<(), AllocError>
+fn add_run(runs: &mut Vec<EventRun>, run: EventRun) -> Result<(), AllocError>
     ensures { OnOk result (Adds runs.old.items runs.new.items (run ∷ []) (events_of (run ∷ []))) }
 {
     match run {
-        Run::Item { item, count } => add_item(runs, item, count),
-        Run::Release { .. } => {
+        EventRun::Item { item, count } => add_item(runs, item, count),
+        EventRun::Release { .. } => {
             runs.push(run)?;
             Ok(())
         }
@@ -47,7 +47,7 @@ fn add_run(runs: &mut Vec<Run>, run: Run) -> Result<(), AllocError>
 }
 
 /// Adds the events of further runs. An error is out of memory, or a run of 2^64 events.
-pub(crate) fn add_all(runs: &mut Vec<Run>, more: &[Run]) -> Result<(), AllocError>
+pub(crate) fn add_all(runs: &mut Vec<EventRun>, more: &[EventRun]) -> Result<(), AllocError>
     ensures { OnOk result (Adds runs.old.items runs.new.items more.now (events_of more.now)) }
 {
     for run in more {
@@ -57,21 +57,25 @@ pub(crate) fn add_all(runs: &mut Vec<Run>, more: &[Run]) -> Result<(), AllocErro
 }
 
 /// The first events of a run, `most` of them or all where it has fewer, and how many they are.
-fn first_of(run: Run, most: u64) -> (Run, u64)
+fn first_of(run: EventRun, most: u64) -> (EventRun, u64)
     requires { 0 < most }
     ensures { IsFirstOf run most result.0 result.1 }
 {
     match run {
-        Run::Item { item, count } => {
+        EventRun::Item { item, count } => {
             let count = count.min(most);
-            (Run::Item { item, count }, count)
+            (EventRun::Item { item, count }, count)
         }
-        Run::Release { .. } => (run, 1),
+        EventRun::Release { .. } => (run, 1),
     }
 }
 
 /// Adds the first events of further runs, `count` of them or all where they have fewer. An error is out of memory, or a run of 2^64 events.
-pub(crate) fn add_first(runs: &mut Vec<Run>, more: &[Run], count: u64) -> Result<(), AllocError>
+pub(crate) fn add_first(
+    runs: &mut Vec<EventRun>,
+    more: &[EventRun],
+    count: u64,
+) -> Result<(), AllocError>
     ensures { OnOk result (Adds runs.old.items runs.new.items more.now (take count (events_of more.now))) }
 {
     let mut left = count;

@@ -28,7 +28,7 @@ use crate::cutting::{add_all, add_first};
 use crate::laws::laws;
 use crate::meetings::{Met, add_accesses, first_met, report_at};
 use clmodel::fault::Fault;
-use clmodel::schedule::{Run, Schedule};
+use clmodel::schedule::{EventRun, Schedule};
 use clmodel::text::{Bytes, Name};
 use group_run::GroupResult;
 use item_step::Launch;
@@ -45,7 +45,7 @@ pub struct JoinedGroups<'a> {
     pub(crate) first: Vec<&'a [u8]>,
     pub(crate) contents: Vec<Bytes>,
     pub(crate) footprint: Footprint,
-    pub(crate) runs: Vec<Run>,
+    pub(crate) runs: Vec<EventRun>,
 }
 
 /// What comes of joining the result of one more group.

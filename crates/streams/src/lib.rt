@@ -3,9 +3,9 @@
 
 ghost use Rattle.std.specs.Prelude.{◌≡◌};
 ghost use Rattle.std.specs.Io.Buffered.{writer_inner};
-ghost use Rattle.ends.specs.Sink.{Pushes};
+ghost use Rattle.counted_io.specs.Sink.{Pushes};
 
-use ends::{Read, ReadFault, Write, WriteFailed};
+use counted_io::{Read, ReadFault, Write, WriteFailed};
 use std::alloc::Global;
 use std::io;
 use std::io::{BufWriter, ErrorKind, Write as _};
@@ -58,7 +58,7 @@ fn push_all<W: io::Write>(inner: &mut W, bytes: &[u8]) -> Result<(), WriteFailed
 }
 
 impl<W: io::Write + Drop> Write for Output<W> {
-    ghost use Rattle.ends.specs.Sink.{Sink};
+    ghost use Rattle.counted_io.specs.Sink.{Sink};
     ghost use Rattle.std.specs.Io.Buffered.{writer_contents, writer_buffer};
 
     ghost sink = { λ w. record { written = writer_contents W.contents w.inner; held = writer_buffer w.inner; failed = w.failed } };

@@ -9,12 +9,12 @@ ghost use Rattle.tests.specs.Merges.{is_stopped};
 use clmodel::access::Clash;
 use clmodel::fault::Fault;
 use clmodel::outcome::Outcome;
-use clmodel::schedule::Run;
+use clmodel::schedule::EventRun;
 use clmodel::setup::{Argument, Range};
 use clmodel::text::{Bytes, Name, Numbers};
-use device_store::build::build;
-use device_store::ranges::{group_items, is_bad_dimension, is_bad_group, is_too_many};
 use group_run::GroupResult;
+use host_commands::build::build;
+use host_commands::ranges::{group_items, is_bad_dimension, is_bad_group, is_too_many};
 use item_step::{Launch, Setup};
 use lower::lower_kernel;
 use shadow_list::ListLog;
@@ -157,11 +157,11 @@ fn outcomes(
 }
 
 /// Whether a schedule has these runs of items, and no others.
-fn are_runs(schedule: &[Run], runs: &[(u32, u64)]) -> bool {
+fn are_runs(schedule: &[EventRun], runs: &[(u32, u64)]) -> bool {
     schedule.len() == runs.len()
         && schedule.iter().zip(runs).all(|(run, (of, times))| match run {
-            Run::Item { item, count } => item == of && count == times,
-            Run::Release { .. } => false,
+            EventRun::Item { item, count } => item == of && count == times,
+            EventRun::Release { .. } => false,
         })
 }
 

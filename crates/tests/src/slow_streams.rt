@@ -1,6 +1,6 @@
 //! The program's reader and writer over streams that are slow, that are interrupted, and that fail.
 
-use ends::{Read, ReadFault, Write, WriteFailed};
+use counted_io::{Read, ReadFault, Write, WriteFailed};
 use std::alloc::{AllocError, Global};
 use std::io;
 use std::io::{BufWriter, Error, ErrorKind};

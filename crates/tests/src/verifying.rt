@@ -5,9 +5,9 @@ use clmodel::setup::{AtomicFunction, WorkItemFunction};
 use clmodel::tree::{AddressSpace, PointerType, VariableType};
 use clnum::{BinaryOperator, Builtin, IntType, UnaryOperator, Value};
 use regcode::Instruction::{
-    Argument, Back, Barrier, Binary, Common, Constant, Dimensions, End, Enter, Hold, Jump,
-    JumpIfZero, Load, Local, Move, Offset, Point, PrivateLoad, PrivateStore, Query, Store, Turn,
-    Unary, Unset, UnsetArray, Update,
+    Argument, AssignConversion, Back, Barrier, Binary, Constant, Dimensions, End, Enter, Jump,
+    JumpIfZero, Load, Local, Move, MovePointer, Offset, PrivateLoad, PrivateStore, Query, Store,
+    Turn, Unary, Unset, UnsetArray, Update, UsualConversion,
 };
 use regcode::{Instruction, Register, RegisterKind, Tables, VerifyFault, verify};
 use std::alloc::{AllocError, Global};
@@ -155,12 +155,12 @@ const MISFITS: [Instruction; 27] = [
         from: 0,
         name: 6,
     },
-    Hold {
+    AssignConversion {
         to: 2,
         from: 4,
         kind: POINTER,
     },
-    Common {
+    UsualConversion {
         to: 0,
         from: 0,
         other: IntType::Uint,
@@ -231,7 +231,7 @@ const MISFITS: [Instruction; 27] = [
         element: IntType::Int,
         name: 5,
     },
-    Point { to: 0, from: 0 },
+    MovePointer { to: 0, from: 0 },
     Offset {
         to: 2,
         pointer: 2,

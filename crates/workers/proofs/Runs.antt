@@ -5,7 +5,7 @@ use Rattle.clmodel.specs.Launch.{Launch}
 use Rattle.clmodel.specs.Outcome.{events_of}
 use Rattle.clmodel.specs.Run.{start}
 use Rattle.clmodel.specs.declared.fault.Fault.{Fault}
-use Rattle.clmodel.specs.declared.schedule.Run.{Run}
+use Rattle.clmodel.specs.declared.schedule.EventRun.{EventRun}
 use Rattle.group_run.specs.Logs.{IsLogged}
 use Rattle.group_run.specs.Results.{IsResult, Leaves}
 use Rattle.group_run.specs.declared.result.GroupResult.{GroupResult}
@@ -53,11 +53,11 @@ stops_stopped launch group (Stopped number fault log runs) one is stops = refl
 abbrev bytes_of : Overlaid → List (Option ℕ)
 bytes_of overlay = overlay.bytes
 
-pub done_listed : (launch : Launch) (group number : ℕ) (spaces : Vec Overlaid Global) (log : GroupLog) (list : LastingList) (runs : List Run) → StandsWith list.has_last list.entries.items (group_log log).accesses
+pub done_listed : (launch : Launch) (group number : ℕ) (spaces : Vec Overlaid Global) (log : GroupLog) (list : LastingList) (runs : List EventRun) → StandsWith list.has_last list.entries.items (group_log log).accesses
     → IsResult bytes_of group_log launch group (Done number spaces log runs) → IsListed launch group (Done number spaces list runs)
 done_listed launch group number spaces log list runs stand is = (group_log log, stand, is)
 
-pub stopped_listed : (launch : Launch) (group number : ℕ) (fault : Fault) (log : GroupLog) (list : LastingList) (runs : List Run) → StandsWith list.has_last list.entries.items (group_log log).accesses
+pub stopped_listed : (launch : Launch) (group number : ℕ) (fault : Fault) (log : GroupLog) (list : LastingList) (runs : List EventRun) → StandsWith list.has_last list.entries.items (group_log log).accesses
     → IsResult bytes_of group_log launch group (Stopped number fault log runs) → IsListed launch group (Stopped number fault list runs)
 stopped_listed launch group number fault log list runs stand is = (group_log log, stand, is)
 

@@ -16,7 +16,7 @@ use Rattle.clnum.specs.declared.operators.Builtin.{Builtin}
 use Rattle.clnum.specs.declared.operators.Builtin.TheVariants as builtin
 use Rattle.clmodel.specs.BuiltIns.{built_in}
 use Rattle.clmodel.specs.Setup.{work_item_value}
-use Rattle.clmodel.specs.Tree.{Term, Number, Variable, Element, ElementAddress, Dereference, Call, Unary, Cast, Binary, Choice, Terms, NoTerm, ThenTerm, Place, Whole, Part, Behind}
+use Rattle.clmodel.specs.Tree.{Term, Number, Variable, Element, ElementAddress, Dereference, Call, Unary, Cast, Binary, Choice, Terms, NoTerm, ThenTerm, Target, TargetVariable, TargetElement, TargetDereference}
 use Rattle.clmodel.specs.declared.tree.InfixOperator.{InfixOperator}
 use Rattle.clmodel.specs.declared.tree.InfixOperator.TheVariants.{Arithmetic, LogicalAnd, LogicalOr}
 use Rattle.clmodel.specs.declared.tree.VariableType.{VariableType}
@@ -44,14 +44,14 @@ use Rattle.clmodel.specs.declared.operand.Operand.TheVariants.{Integral, Pointed
 use Rattle.clmodel.specs.declared.operand.Pointer.{Pointer}
 
 -- What is still to be done: actions that come one after the answer of another, and loop turns between them.
-pub data Run : Type 0 where
-  finish : Run
-  fail : (cause : Cause) → Run
-  ask : (wanted : Action) → (after : Answer → Run) → Run
-  tick : (after : Run) → Run
+pub data Continuation : Type 0 where
+  finish : Continuation
+  fail : (cause : Cause) → Continuation
+  ask : (wanted : Action) → (after : Answer → Continuation) → Continuation
+  tick : (after : Continuation) → Continuation
 
 -- The action when these answers are used up, given the ticks that are left: each action and each loop turn is one.
-abbrev pub walk : Run → ℕ → List Answer → Action
+abbrev pub walk : Continuation → ℕ → List Answer → Action
 walk finish ticks answers = action.End
 walk (fail cause) ticks answers = action.Fault cause
 walk (ask wanted after) zero answers = action.Fault cause.Budget
@@ -130,7 +130,7 @@ with_elements (variable ∷ variables) name elements =
 abbrev pub leave : ℕ → Variables → Variables
 leave count variables = drop (length variables - count) variables
 
-abbrev pub known : ℕ → Option Operand → (Operand → Run) → Run
+abbrev pub known : ℕ → Option Operand → (Operand → Continuation) → Continuation
 known name None after = fail (cause.UnsetVariable name)
 known name (Some value) after = after value
 
@@ -155,35 +155,35 @@ abbrev pub at_offset : Pointer → ℤ → Pointer
 at_offset p offset = record p { offset = wrap Long offset }
 
 -- a pointer moved by a whole number of elements
-abbrev pub moved : Operand → Operand → (Pointer → Run) → Run
+abbrev pub moved : Operand → Operand → (Pointer → Continuation) → Continuation
 moved (Pointed p) (Integral i) after = after (at_offset p (p.offset +ℤ i.number))
 moved (Pointed p) (Pointed q) after = finish
 moved (Integral v) i after = finish
 
 -- a pointer moved back
-abbrev pub moved_back : Operand → Operand → (Pointer → Run) → Run
+abbrev pub moved_back : Operand → Operand → (Pointer → Continuation) → Continuation
 moved_back (Pointed p) (Integral i) after = after (at_offset p (p.offset -ℤ i.number))
 moved_back (Pointed p) (Pointed q) after = finish
 moved_back (Integral v) i after = finish
 
 -- a value that is a number
-abbrev pub number : Operand → (Integer → Run) → Run
+abbrev pub number : Operand → (Integer → Continuation) → Continuation
 number (Integral v) after = after v
 number (Pointed p) after = finish
 
 -- a value that is a pointer
-abbrev pub pointing : Operand → (Pointer → Run) → Run
+abbrev pub pointing : Operand → (Pointer → Continuation) → Continuation
 pointing (Pointed p) after = after p
 pointing (Integral v) after = finish
 
 -- a load through a pointer
-abbrev pub load : Pointer → (Operand → Run) → Run
+abbrev pub load : Pointer → (Operand → Continuation) → Continuation
 load p after =
     ask (action.Access p.object p.offset (operation.Load (element_width p.element)))
     (λ answer. after (Integral (wrapped p.element (pos (answered answer)))))
 
 -- a store through a pointer, of the low bits of a number
-abbrev pub store : Pointer → Operand → Run → Run
+abbrev pub store : Pointer → Operand → Continuation → Continuation
 store p (Integral v) after =
     ask (action.Access p.object p.offset (operation.Store (element_width p.element) (bits_of p.element v.number))) (λ _. after)
 store p (Pointed q) after = finish
@@ -199,24 +199,24 @@ element_at elements (negsuc i) = None
 
 -- The value of what is at an index of the private array of a name (C99 6.5.2.1): its bits read as a number of the elements' type (6.2.3), as by a load.
 -- An index out of range and an element that isn't set are faults, the range first (own).
-abbrev pub element_value : (name : ℕ) → (index : ℤ) → IntType → Option (Option ℕ) → (Operand → Run) → Run
+abbrev pub element_value : (name : ℕ) → (index : ℤ) → IntType → Option (Option ℕ) → (Operand → Continuation) → Continuation
 element_value name i kind None after = fail (cause.PrivateBounds name i)
 element_value name i kind (Some None) after = fail (cause.UnsetElement name i)
 element_value name i kind (Some (Some n)) after = after (Integral (wrapped kind (pos n)))
 
 -- an element of the private array of a name is read (C99 6.5.2.1), which is no action (own)
-abbrev pub read_element : (name : ℕ) → IntType → List (Option ℕ) → (index : Operand) → (Operand → Run) → Run
+abbrev pub read_element : (name : ℕ) → IntType → List (Option ℕ) → (index : Operand) → (Operand → Continuation) → Continuation
 read_element name kind elements i after = number i (λ n. element_value name (index_of n) kind (element_at elements (index_of n)) after)
 
 -- The elements of the private array of a name with the low bits of a number at an index (C99 6.5.2.1 and 6.5.16.1), as by a store. An index out of range
 -- is a fault (own).
-abbrev pub element_set : (name : ℕ) → (index : ℤ) → IntType → List (Option ℕ) → Integer → (List (Option ℕ) → Run) → Run
+abbrev pub element_set : (name : ℕ) → (index : ℤ) → IntType → List (Option ℕ) → Integer → (List (Option ℕ) → Continuation) → Continuation
 element_set name (pos i) kind elements v after =
     if nat_lt i (length elements) then after (slice_set elements i (Some (bits_of kind v.number))) else fail (cause.PrivateBounds name (pos i))
 element_set name (negsuc i) kind elements v after = fail (cause.PrivateBounds name (negsuc i))
 
 -- a number is put into an element of the private array of a name (C99 6.5.2.1), which is no action (own)
-abbrev pub write_element : (name : ℕ) → IntType → List (Option ℕ) → (index value : Operand) → (List (Option ℕ) → Run) → Run
+abbrev pub write_element : (name : ℕ) → IntType → List (Option ℕ) → (index value : Operand) → (List (Option ℕ) → Continuation) → Continuation
 write_element name kind elements i v after = number i (λ n. number v (λ m. element_set name (index_of n) kind elements m after))
 
 -- The class of an atomic function at an element type: the least and the greatest go by its sign. (An exchange and a compare-exchange have
@@ -241,12 +241,12 @@ amount atomic.Dec v = unary_value unary_operator.Negate v
 amount _ v = v
 
 -- an atomic update of 32 bits through a pointer
-abbrev pub update : AtomicFunction → Pointer → Integer → Run → Run
+abbrev pub update : AtomicFunction → Pointer → Integer → Continuation → Continuation
 update function p v after =
     ask (action.Access p.object p.offset (operation.Update (class_of function p.element) (bits_of Uint (amount function v).number))) (λ _. after)
 
 -- A call of an atomic function that is an update. Its number is converted to the element's type; `inc` and `dec` are given none, and it is 1.
-abbrev pub atomic_call : AtomicFunction → List Operand → Run → Run
+abbrev pub atomic_call : AtomicFunction → List Operand → Continuation → Continuation
 atomic_call function (p ∷ []) after = pointing p (λ q. update function q (wrapped q.element (pos 1)) after)
 atomic_call function (p ∷ v ∷ []) after = pointing p (λ q. number v (λ n. update function q (converted n q.element) after))
 atomic_call function _ after = finish
@@ -258,7 +258,7 @@ fetch_op_of atomic.CompareExchange kind expected = fetch_op.CompareExchange expe
 fetch_op_of function kind expected = fetch_op.Class (class_of function kind)
 
 -- an atomic operation on 32 bits through a pointer, with numbers of the element's type; its value is the old number (6.12.11)
-abbrev pub fetch_number : AtomicFunction → Pointer → (expected value : Integer) → (Operand → Run) → Run
+abbrev pub fetch_number : AtomicFunction → Pointer → (expected value : Integer) → (Operand → Continuation) → Continuation
 fetch_number function p expected v after =
     ask (action.Access p.object p.offset
     (operation.Fetch (fetch_op_of function p.element (bits_of Uint expected.number)) (bits_of Uint (amount function v).number)))
@@ -266,7 +266,7 @@ fetch_number function p expected v after =
 
 -- A call of an atomic function whose old number is used. Its numbers are converted to the element's type (6.12.11); one that isn't given
 -- is 1, and the number to compare with, which only a compare-exchange has, 0.
-abbrev pub fetch_call : AtomicFunction → List Operand → (Operand → Run) → Run
+abbrev pub fetch_call : AtomicFunction → List Operand → (Operand → Continuation) → Continuation
 fetch_call function (p ∷ []) after = pointing p (λ q. fetch_number function q (wrapped q.element (pos 0)) (wrapped q.element (pos 1)) after)
 fetch_call function (p ∷ v ∷ []) after =
     pointing p (λ q. number v (λ n. fetch_number function q (wrapped q.element (pos 0)) (converted n q.element) after))
@@ -280,13 +280,13 @@ is_update atomic.Exchange = false
 is_update atomic.CompareExchange = false
 is_update _ = true
 
-abbrev pub arithmetic : Result Integer ArithFault → (Operand → Run) → Run
+abbrev pub arithmetic : Result Integer ArithFault → (Operand → Continuation) → Continuation
 arithmetic (Ok value) after = after (Integral value)
 arithmetic (Err arith_fault.DivideByZero) after = fail cause.DivideByZero
 arithmetic (Err arith_fault.DivideOverflow) after = fail cause.DivideOverflow
 
 -- an operator on two values: integers, or a pointer and an integer that is added to it or taken from it
-abbrev pub combined : BinaryOperator → Operand → Operand → (Operand → Run) → Run
+abbrev pub combined : BinaryOperator → Operand → Operand → (Operand → Continuation) → Continuation
 combined operator (Integral v) (Integral w) after = arithmetic (binary_value operator v w) after
 combined binary_operator.Add (Pointed p) w after = moved (Pointed p) w (λ q. after (Pointed q))
 combined binary_operator.Add (Integral v) (Pointed p) after = moved (Pointed p) (Integral v) (λ q. after (Pointed q))
@@ -294,12 +294,12 @@ combined binary_operator.Subtract (Pointed p) w after = moved_back (Pointed p) w
 combined _ _ _ after = finish
 
 -- whether a number isn't zero
-abbrev pub test : Operand → (Bool → Run) → Run
+abbrev pub test : Operand → (Bool → Continuation) → Continuation
 test (Integral v) after = after (not (int_eq v.number (pos 0)))
 test (Pointed p) after = finish
 
 -- the item that runs: the range, and its number
-pub record Here : Type 0 where
+pub record ItemPosition : Type 0 where
   pub range : Range
   pub item : ℕ
 
@@ -308,18 +308,18 @@ abbrev pub dimension : Operand → ℕ
 dimension (Integral v) = bits_of Uint v.number
 dimension (Pointed _) = 0
 
-abbrev pub given_value : Option Integer → (Operand → Run) → Run
+abbrev pub given_value : Option Integer → (Operand → Continuation) → Continuation
 given_value (Some v) after = after (Integral v)
 given_value None after = finish
 
 -- a function of one integer or of two
-abbrev pub integer_call : Builtin → List Operand → (Operand → Run) → Run
+abbrev pub integer_call : Builtin → List Operand → (Operand → Continuation) → Continuation
 integer_call function (a ∷ []) after = number a (λ m. given_value (builtin_value function (m ∷ [])) after)
 integer_call function (a ∷ b ∷ []) after = number a (λ m. number b (λ n. given_value (builtin_value function (m ∷ n ∷ [])) after))
 integer_call function _ after = finish
 
 -- a built-in function that gives a value
-abbrev pub call : Here → Option BuiltIn → List Operand → (Operand → Run) → Run
+abbrev pub call : ItemPosition → Option BuiltIn → List Operand → (Operand → Continuation) → Continuation
 call here (Some built_in_function.WorkDim) [] after = after (Integral (wrapped Uint (pos (length here.range.global))))
 call here (Some (built_in_function.WorkItem function)) (d ∷ []) after =
     after (Integral (wrapped Ulong (pos (work_item_value here.range here.item function (dimension d)))))
@@ -328,7 +328,7 @@ call here (Some (built_in_function.Atomic function)) values after = fetch_call f
 call here _ _ after = finish
 
 -- a call that is a whole statement: an atomic update, or a function whose value is dropped
-abbrev pub call_only : Here → Option BuiltIn → List Operand → Run → Run
+abbrev pub call_only : ItemPosition → Option BuiltIn → List Operand → Continuation → Continuation
 call_only here (Some (built_in_function.Atomic function)) values after =
     if is_update function then atomic_call function values after else fetch_call function values (λ _. after)
 call_only here function values after = call here function values (λ _. after)
@@ -339,11 +339,11 @@ base_type (variable_type.Integer kind) = kind
 base_type (variable_type.Pointer pointer) = pointer.element
 
 -- an element of the private array of a name among these variables is read (C99 6.5.2.1; own in its faults)
-abbrev pub load_element : Variables → (name : ℕ) → (index : Operand) → (Operand → Run) → Run
+abbrev pub load_element : Variables → (name : ℕ) → (index : Operand) → (Operand → Continuation) → Continuation
 load_element variables name i after = read_element name (base_type (declared_type variables name)) (elements_of variables name) i after
 
 -- the variables with a number in an element of the private array of a name (C99 6.5.2.1 and 6.5.16; own in its faults)
-abbrev pub store_element : Variables → (name : ℕ) → (index value : Operand) → (Variables → Run) → Run
+abbrev pub store_element : Variables → (name : ℕ) → (index value : Operand) → (Variables → Continuation) → Continuation
 store_element variables name i v after =
     write_element name (base_type (declared_type variables name)) (elements_of variables name) i v (λ elements. after (with_elements variables name elements))
 
@@ -385,24 +385,24 @@ abbrev mutual
   argument_type variables (ThenTerm (ThenTerm terms first) term) = argument_type variables (ThenTerm terms first)
 
 -- What follows the left operand: that of `&&` or `||` may settle the value, and else more follows (6.3.g).
-abbrev pub settle : InfixOperator → Operand → (Operand → Run) → Run → Run
+abbrev pub settle : InfixOperator → Operand → (Operand → Continuation) → Continuation → Continuation
 settle (Arithmetic operator) v after more = more
 settle LogicalAnd v after more = test v (λ holds. if holds then more else after (Integral (truth false)))
 settle LogicalOr v after more = test v (λ holds. if holds then after (Integral (truth true)) else more)
 
 -- an operator's value on both operands
-abbrev pub join : InfixOperator → Operand → Operand → (Operand → Run) → Run
+abbrev pub join : InfixOperator → Operand → Operand → (Operand → Continuation) → Continuation
 join (Arithmetic operator) v w after = combined operator v w after
 join LogicalAnd v w after = test w (λ holds. after (Integral (truth holds)))
 join LogicalOr v w after = test w (λ holds. after (Integral (truth holds)))
 
 -- the value of a chosen branch in the common type of it and of the other branch (6.3.i)
-abbrev pub chosen_value : Operand → VariableType → (Operand → Run) → Run
+abbrev pub chosen_value : Operand → VariableType → (Operand → Continuation) → Continuation
 chosen_value v other after = number v (λ n. after (Integral (converted n (common n.kind (base_type other)))))
 
 -- An expression, and what follows its value. (An expression of a wrong type ends the item: no typed program has one.)
 abbrev mutual
-  pub eval : Here → Term → Variables → (Operand → Run) → Run
+  pub eval : ItemPosition → Term → Variables → (Operand → Continuation) → Continuation
   eval here (Number at value) variables after = after (Integral value)
   eval here (Variable at name) variables after = known name (look variables name) after
   eval here (Element at name index) variables after =
@@ -423,28 +423,28 @@ abbrev mutual
       else eval here otherwise variables (λ w. chosen_value w (type_of variables chosen) after)))
 
   -- arguments, from left to right
-  pub eval_all : Here → Terms → Variables → (List Operand → Run) → Run
+  pub eval_all : ItemPosition → Terms → Variables → (List Operand → Continuation) → Continuation
   eval_all here NoTerm variables after = after []
   eval_all here (ThenTerm terms term) variables after =
       eval_all here terms variables (λ values. eval here term variables (λ v. after (values ++ v ∷ [])))
 
 -- the target: its pointer is read, if it has one, and then its index evaluated
-abbrev pub reach : Here → Place → Variables → (Destination → Run) → Run
-reach here (Whole at name) variables after = after (Named name)
-reach here (Part at name index) variables after =
+abbrev pub reach : ItemPosition → Target → Variables → (Destination → Continuation) → Continuation
+reach here (TargetVariable at name) variables after = after (Named name)
+reach here (TargetElement at name index) variables after =
     if is_private_array variables name
     then eval here index variables (λ i. after (ElementOf name i))
     else known name (look variables name) (λ p. eval here index variables (λ i. moved p i (λ q. after (Through q))))
-reach here (Behind at pointer) variables after = eval here pointer variables (λ p. pointing p (λ q. after (Through q)))
+reach here (TargetDereference at pointer) variables after = eval here pointer variables (λ p. pointing p (λ q. after (Through q)))
 
 -- the value that is there
-abbrev pub fetch : Destination → Variables → (Operand → Run) → Run
+abbrev pub fetch : Destination → Variables → (Operand → Continuation) → Continuation
 fetch (Named name) variables after = known name (look variables name) after
 fetch (ElementOf name i) variables after = load_element variables name i after
 fetch (Through p) variables after = load p after
 
 -- a value is put there
-abbrev pub put : Destination → Operand → Variables → (Variables → Run) → Run
+abbrev pub put : Destination → Operand → Variables → (Variables → Continuation) → Continuation
 put (Named name) v variables after = after (assign variables name v)
 put (ElementOf name i) v variables after = store_element variables name i v after
 put (Through p) v variables after = store p v (after variables)

@@ -4,8 +4,8 @@ use Rattle.clnum.specs.Integer.{Integer}
 use Rattle.clnum.specs.declared.int_type.IntType.{IntType}
 use Rattle.clmodel.specs.BuiltIns.{built_in}
 use Rattle.clmodel.specs.Barrier.{is_barrier, fences}
-use Rattle.clmodel.specs.Next.Expressions.{Run, finish, fail, ask, tick, Variables, Binding, variable, held, assign, leave, combined, test, Here, call_only, eval, eval_all, reach, fetch, put, step_operator, one}
-use Rattle.clmodel.specs.Tree.{Term, Number, Variable, Element, ElementAddress, Dereference, Call, Unary, Cast, Binary, Choice, Terms, array_length, Stmt, Empty, Block, Declare, DeclareAs, DeclareArray, Assign, Step, CallOnly, If, IfElse, While, DoWhile, For, Break, Continue, Return, ReturnValue, Stmts, NoStmt, ThenStmt, MaybeStmt, Without, With, MaybeTerm, Always, While_, Funcs, NoFunc, ThenFunc}
+use Rattle.clmodel.specs.Next.Expressions.{Continuation, finish, fail, ask, tick, Variables, Binding, variable, held, assign, leave, combined, test, ItemPosition, call_only, eval, eval_all, reach, fetch, put, step_operator, one}
+use Rattle.clmodel.specs.Tree.{Term, Number, Variable, Element, ElementAddress, Dereference, Call, Unary, Cast, Binary, Choice, Terms, array_length, Stmt, Empty, Block, Declare, DeclareAs, DeclareArray, Assign, Step, CallOnly, If, IfElse, While, DoWhile, For, Break, Continue, Return, ReturnValue, Stmts, NoStmt, ThenStmt, MaybeStmt, Without, With, MaybeTerm, WithoutTerm, WithTerm, Funcs, NoFunc, ThenFunc}
 use Rattle.clmodel.specs.declared.tree.VariableType.TheVariants as variable_type
 use Rattle.clmodel.specs.declared.tree.Parameter.{Parameter}
 use Rattle.clmodel.specs.declared.action.Action.TheVariants as action
@@ -19,33 +19,33 @@ use Rattle.clmodel.specs.declared.tree.AddressSpace.TheVariants.{Local}
 
 -- What follows a statement, by the way that it ends: it is done, or it breaks a loop, continues one, or returns, with a value if it has one.
 pub record Follows : Type 0 where
-  pub next : Variables → Run
-  pub broken : Variables → Run
-  pub continued : Variables → Run
-  pub returned : Option Operand → Run
+  pub next : Variables → Continuation
+  pub broken : Variables → Continuation
+  pub continued : Variables → Continuation
+  pub returned : Option Operand → Continuation
 
 -- What a call of a helper does: its name, its arguments, the number of its first barrier, the turns of the loops round it, and what follows.
 abbrev pub Helpers : Type 0
-Helpers = ℕ → List Operand → ℕ → List ℕ → (Option Operand → Run) → Run
+Helpers = ℕ → List Operand → ℕ → List ℕ → (Option Operand → Continuation) → Continuation
 
 -- variables of a block are left before what follows
-abbrev pub leaving : ℕ → (Variables → Run) → Variables → Run
+abbrev pub leaving : ℕ → (Variables → Continuation) → Variables → Continuation
 leaving count after variables = after (leave count variables)
 
 -- In a loop's body, done and continued go on with the loop, and broken goes on behind it.
-abbrev pub in_loop : Follows → (again after : Variables → Run) → Follows
+abbrev pub in_loop : Follows → (again after : Variables → Continuation) → Follows
 in_loop k again after = record { next = again; broken = after; continued = again; returned = k.returned }
 
 -- A loop that has made n turns. It makes fewer than `most` more, since each is a tick.
-abbrev pub turns : (most : ℕ) → (holds : Variables → (Bool → Run) → Run) → (body : ℕ → Variables → (Variables → Run) → Run) → (after : Variables → Run) → ℕ → Variables → Run
+abbrev pub turns : (most : ℕ) → (holds : Variables → (Bool → Continuation) → Continuation) → (body : ℕ → Variables → (Variables → Continuation) → Continuation) → (after : Variables → Continuation) → ℕ → Variables → Continuation
 turns zero holds body after count variables = fail cause.Budget
 turns (suc most) holds body after count variables =
     holds variables (λ go_on. if go_on then tick (body (suc count) variables (turns most holds body after (suc count))) else after variables)
 
 -- a condition; one that is left out holds
-abbrev pub condition : Here → MaybeTerm → Variables → (Bool → Run) → Run
-condition here Always variables after = after true
-condition here (While_ term) variables after = eval here term variables (λ v. test v after)
+abbrev pub condition : ItemPosition → MaybeTerm → Variables → (Bool → Continuation) → Continuation
+condition here WithoutTerm variables after = after true
+condition here (WithTerm term) variables after = eval here term variables (λ v. test v after)
 
 -- a call of a helper: its name and its arguments
 pub record HelperCall : Type 0 where
@@ -70,7 +70,7 @@ helper_call (Binary at operator left right) = None
 helper_call (Choice at condition chosen otherwise) = None
 
 -- the value that a call returned
-abbrev pub value_of : Option Operand → (Operand → Run) → Run
+abbrev pub value_of : Option Operand → (Operand → Continuation) → Continuation
 value_of (Some v) after = after v
 value_of None after = finish
 
@@ -115,7 +115,7 @@ abbrev mutual
   all_sites inside (ThenStmt statements statement) = all_sites inside statements + sites inside statement
 
 -- a wait at a barrier, whose argument names the fences
-abbrev pub wait : Option Fences → ℕ → List ℕ → Run → Run
+abbrev pub wait : Option Fences → ℕ → List ℕ → Continuation → Continuation
 wait (Some named) site ts after = ask (action.Barrier (record { site = site; turns = ts }) named) (λ _. after)
 wait None site ts after = finish
 
@@ -135,14 +135,14 @@ declared_array true element name count variables = local_array element (length v
 declared_array false element name count variables = private_array element (array_length count) name
 
 -- Execution with a bound on the turns of a loop, for an item, with the helpers that can be called and the barriers in each.
-module _ (most : ℕ) (here : Here) (helpers : Helpers) (inside : ℕ → ℕ) where
+module _ (most : ℕ) (here : ItemPosition) (helpers : Helpers) (inside : ℕ → ℕ) where
   -- the right side of an assignment: the call of a helper, or another expression
-  abbrev pub assigned : Option HelperCall → Term → ℕ → List ℕ → Variables → (Operand → Run) → Run
+  abbrev pub assigned : Option HelperCall → Term → ℕ → List ℕ → Variables → (Operand → Continuation) → Continuation
   assigned (Some c) value site ts variables after =
       eval_all here c.arguments variables (λ values. helpers c.name values site ts (λ result. value_of result after))
   assigned None value site ts variables after = eval here value variables after
 
-  abbrev pub call_statement : (is_barrier : Bool) → Option BuiltIn → ℕ → Terms → ℕ → List ℕ → Variables → Run → Run
+  abbrev pub call_statement : (is_barrier : Bool) → Option BuiltIn → ℕ → Terms → ℕ → List ℕ → Variables → Continuation → Continuation
   call_statement true function name arguments site ts variables after = wait (fences arguments) site ts after
   call_statement false (Some function) name arguments site ts variables after =
       eval_all here arguments variables (λ values. call_only here (Some function) values after)
@@ -151,7 +151,7 @@ module _ (most : ℕ) (here : Here) (helpers : Helpers) (inside : ℕ → ℕ) w
 
   -- A statement whose first barrier has this number, inside loops that have made these turns.
   abbrev mutual
-    pub exec : Stmt → (site : ℕ) → (ts : List ℕ) → Follows → Variables → Run
+    pub exec : Stmt → (site : ℕ) → (ts : List ℕ) → Follows → Variables → Continuation
     exec (Empty at) site ts k variables = k.next variables
     exec (Block at body) site ts k variables = exec_all body site ts (record k { next = leaving (length variables) k.next }) variables
     exec (Declare at kind name_at name) site ts k variables = k.next (variable name kind None ∷ variables)
@@ -176,20 +176,20 @@ module _ (most : ℕ) (here : Here) (helpers : Helpers) (inside : ℕ → ℕ) w
         eval here controlling variables (λ v. test v (λ holds.
         if holds then exec chosen site ts k' variables else exec otherwise (site + sites inside chosen) ts k' variables))
     exec (While at controlling body) site ts k variables =
-        turns most (condition here (While_ controlling))
+        turns most (condition here (WithTerm controlling))
         (λ count now again. exec body site (ts ++ count ∷ []) (in_loop k (leaving (length variables) again) (leaving (length variables) k.next)) now)
         k.next 0 variables
     exec (DoWhile at body controlling) site ts k variables =
-        let turn : ℕ → Variables → (Variables → Run) → Run =
+        let turn : ℕ → Variables → (Variables → Continuation) → Continuation =
         λ count now again. exec body site (ts ++ count ∷ []) (in_loop k (leaving (length variables) again) (leaving (length variables) k.next)) now in
-        tick (turn 1 variables (turns most (condition here (While_ controlling)) turn k.next 1))
+        tick (turn 1 variables (turns most (condition here (WithTerm controlling)) turn k.next 1))
     exec (For at first controlling third body) site ts k variables =
         exec_part first site ts (record k {
           next = λ start.
               turns most (condition here controlling)
               (λ count now again.
               let k' : Follows = in_loop k (leaving (length start) again) (leaving (length variables) k.next) in
-              let third_part : Variables → Run = leaving (length start) (exec_part third (site + part_sites inside first) (ts ++ count ∷ []) k') in
+              let third_part : Variables → Continuation = leaving (length start) (exec_part third (site + part_sites inside first) (ts ++ count ∷ []) k') in
               exec body (site + part_sites inside first + part_sites inside third) (ts ++ count ∷ []) (record k' { next = third_part; continued = third_part }) now)
               (leaving (length variables) k.next) 0 start;
         }) variables
@@ -199,11 +199,11 @@ module _ (most : ℕ) (here : Here) (helpers : Helpers) (inside : ℕ → ℕ) w
     exec (ReturnValue at value) site ts k variables = eval here value variables (λ v. k.returned (Some v))
 
     -- the first or the third part of a `for`
-    pub exec_part : MaybeStmt → (site : ℕ) → (ts : List ℕ) → Follows → Variables → Run
+    pub exec_part : MaybeStmt → (site : ℕ) → (ts : List ℕ) → Follows → Variables → Continuation
     exec_part Without site ts k variables = k.next variables
     exec_part (With statement) site ts k variables = exec statement site ts k variables
 
-    pub exec_all : Stmts → (site : ℕ) → (ts : List ℕ) → Follows → Variables → Run
+    pub exec_all : Stmts → (site : ℕ) → (ts : List ℕ) → Follows → Variables → Continuation
     exec_all NoStmt site ts k variables = k.next variables
     exec_all (ThenStmt statements statement) site ts k variables =
         exec_all statements site ts (record k { next = exec statement (site + all_sites inside statements) ts k }) variables
@@ -216,13 +216,13 @@ passed (p ∷ ps) (v ∷ values) variables = passed ps values (variable p.name p
 
 -- What follows a call of a function of a type that returns a value or none. The value is converted to the type. A function of a type that returns none ends
 -- the item (own; C99 6.9.1, paragraph 12): no function of a typed program does.
-abbrev pub returned_by : Option IntType → (Option Operand → Run) → Option Operand → Run
+abbrev pub returned_by : Option IntType → (Option Operand → Continuation) → Option Operand → Continuation
 returned_by (Some kind) after (Some v) = after (Some (held (variable_type.Integer kind) v))
 returned_by (Some kind) after None = finish
 returned_by None after v = after None
 
 -- What follows a function's body, which returns none where it ends.
-abbrev pub as_body : (Option Operand → Run) → Follows
+abbrev pub as_body : (Option Operand → Continuation) → Follows
 as_body returned = record { next = λ _. returned None; broken = λ _. returned None; continued = λ _. returned None; returned = returned }
 
 -- the barriers in a helper; one calls only functions before it
@@ -231,7 +231,7 @@ sites_in NoFunc name = 0
 sites_in (ThenFunc earlier f) name = if name == f.name then all_sites (sites_in earlier) f.body else sites_in earlier name
 
 -- A helper's body, in place of its call.
-abbrev pub helper : ℕ → Here → Funcs → Helpers
+abbrev pub helper : ℕ → ItemPosition → Funcs → Helpers
 helper most here NoFunc name values site ts after = finish
 helper most here (ThenFunc earlier f) name values site ts after =
     elim (name == f.name) [

@@ -24,7 +24,7 @@ use Rattle.clmodel.specs.declared.tree.VariableType.TheVariants.{Integer as Numb
 use Rattle.clmodel.specs.declared.type_fault.TypeFault.{TypeFault}
 use Rattle.clmodel.specs.declared.type_fault.TypeFault.TheVariants as fault
 use Rattle.clmodel.specs.Tree as tree
-use Rattle.clmodel.specs.Tree.{Term, Terms, NoTerm, ThenTerm, array_length, Place, Stmt, Stmts, NoStmt, ThenStmt, MaybeStmt, Without, With, MaybeTerm, Always, While_}
+use Rattle.clmodel.specs.Tree.{Term, Terms, NoTerm, ThenTerm, array_length, Target, Stmt, Stmts, NoStmt, ThenStmt, MaybeStmt, Without, With, MaybeTerm, WithoutTerm, WithTerm}
 use Rattle.clmodel.specs.Typing.Context.{Context, Signature, Single, LocalArray, PrivateArray, value_type, element_type, is_outermost, Meaning, meaning, Bound, Callable, Current, BuiltInFunction, Barrier, Unknown, is_free, bind, enter, fenced, turning, for_context, after_all}
 use Rattle.clmodel.specs.Typing.Least.{Places, node}
 use Rattle.clmodel.specs.Typing.Rules.{is_constant, is_writable, is_stored, length_limit, is_atomic, operands, count}
@@ -47,10 +47,10 @@ start (tree.Binary a op d e) = a
 start (tree.Choice a e d f) = a
 
 -- where the target begins
-abbrev pub place_start : Place → ℕ
-place_start (tree.Whole a x) = a
-place_start (tree.Part a x e) = a
-place_start (tree.Behind a e) = a
+abbrev pub target_start : Target → ℕ
+target_start (tree.TargetVariable a x) = a
+target_start (tree.TargetElement a x e) = a
+target_start (tree.TargetDereference a e) = a
 
 -- where an integer is wanted
 abbrev pub integer_faults : VariableType → ℕ → List TypeFault
@@ -349,20 +349,20 @@ abbrev pub stored_faults : Meaning → ℕ → List TypeFault
 stored_faults (Bound d) a = unless (is_stored d) (fault.NotAssignable a)
 stored_faults _ a = []
 
-abbrev pub target_faults : Meaning → ℕ → List TypeFault
-target_faults m a = front_faults m a ++ stored_faults m a
+abbrev pub element_target_faults : Meaning → ℕ → List TypeFault
+element_target_faults m a = front_faults m a ++ stored_faults m a
 
 -- The target: its parts, then itself.
-abbrev pub place_faults : Context → Place → Places
-place_faults c (tree.Whole a x) = whole_faults (meaning c x) a ∷ []
-place_faults c (tree.Part a x e) = node (term_faults c e) (target_faults (meaning c x) a ++ integer_faults (kind_of c e) (start e))
-place_faults c (tree.Behind a e) = node (term_faults c e) (pointer_faults (kind_of c e) (start e) ++ store_faults (kind_of c e) a)
+abbrev pub target_faults : Context → Target → Places
+target_faults c (tree.TargetVariable a x) = whole_faults (meaning c x) a ∷ []
+target_faults c (tree.TargetElement a x e) = node (term_faults c e) (element_target_faults (meaning c x) a ++ integer_faults (kind_of c e) (start e))
+target_faults c (tree.TargetDereference a e) = node (term_faults c e) (pointer_faults (kind_of c e) (start e) ++ store_faults (kind_of c e) a)
 
 -- its type, if it has no faults
-abbrev pub place_kind : Context → Place → VariableType
-place_kind c (tree.Whole a x) = name_kind (meaning c x)
-place_kind c (tree.Part a x e) = front_kind (meaning c x)
-place_kind c (tree.Behind a e) = element_kind (kind_of c e)
+abbrev pub target_kind : Context → Target → VariableType
+target_kind c (tree.TargetVariable a x) = name_kind (meaning c x)
+target_kind c (tree.TargetElement a x e) = front_kind (meaning c x)
+target_kind c (tree.TargetDereference a e) = element_kind (kind_of c e)
 
 -- What is assigned, or initialises a variable. A helper may be called here.
 abbrev pub value_faults : Context → Term → Places
@@ -393,19 +393,19 @@ abbrev pub initial_faults : Context → VariableType → Term → Places
 initial_faults c k e = node (value_faults c e) (void_faults c e ++ passing_faults k (kind_of c e) (start e))
 
 -- the own faults of an assignment
-abbrev pub assignment_faults : Context → Place → Option BinaryOperator → Term → List TypeFault
-assignment_faults c p None e = void_faults c e ++ passing_faults (place_kind c p) (kind_of c e) (start e)
-assignment_faults c p (Some op) e = void_faults c e ++ assigning_faults op (place_kind c p) (kind_of c e) (place_start p) (start e)
+abbrev pub assignment_faults : Context → Target → Option BinaryOperator → Term → List TypeFault
+assignment_faults c p None e = void_faults c e ++ passing_faults (target_kind c p) (kind_of c e) (start e)
+assignment_faults c p (Some op) e = void_faults c e ++ assigning_faults op (target_kind c p) (kind_of c e) (target_start p) (start e)
 
 -- a condition that may be left out, as a part
 abbrev pub condition_parts : Context → MaybeTerm → Places
-condition_parts c Always = []
-condition_parts c (While_ e) = term_faults c e
+condition_parts c WithoutTerm = []
+condition_parts c (WithTerm e) = term_faults c e
 
 -- and what its statement wants of it
 abbrev pub condition_faults : Context → MaybeTerm → List TypeFault
-condition_faults c Always = []
-condition_faults c (While_ e) = integer_faults (kind_of c e) (start e)
+condition_faults c WithoutTerm = []
+condition_faults c (WithTerm e) = integer_faults (kind_of c e) (start e)
 
 -- `return` with a value: in a function that gives one, and an integer
 abbrev pub return_faults : Context → ℕ → Term → List TypeFault
@@ -420,13 +420,13 @@ abbrev mutual
   faults c (tree.Declare a k b x) = declared_faults c b x ∷ []
   faults c (tree.DeclareAs a k b x e) = declared_faults c b x ∷ initial_faults (bind c x (Single k)) k e
   faults c (tree.DeclareArray a is_local t b x d n) = array_faults c is_local b x d n ∷ []
-  faults c (tree.Assign a p op e) = node (place_faults c p ++ value_faults c e) (assignment_faults c p op e)
-  faults c (tree.Step a p is_increment) = place_faults c p
+  faults c (tree.Assign a p op e) = node (target_faults c p ++ value_faults c e) (assignment_faults c p op e)
+  faults c (tree.Step a p is_increment) = target_faults c p
   faults c (tree.CallOnly a x es) = node (terms_faults (inside_call (meaning c x) c) es) (call_faults c WholeStatement (meaning c x) a es)
-  faults c (tree.If a e s) = node (term_faults c e ++ faults (enter c) s) (condition_faults c (While_ e))
-  faults c (tree.IfElse a e s r) = node (term_faults c e ++ faults (enter c) s ++ faults (enter c) r) (condition_faults c (While_ e))
-  faults c (tree.While a e s) = node (term_faults c e ++ faults (turning c) s) (condition_faults c (While_ e))
-  faults c (tree.DoWhile a s e) = node (faults (turning c) s ++ term_faults c e) (condition_faults c (While_ e))
+  faults c (tree.If a e s) = node (term_faults c e ++ faults (enter c) s) (condition_faults c (WithTerm e))
+  faults c (tree.IfElse a e s r) = node (term_faults c e ++ faults (enter c) s ++ faults (enter c) r) (condition_faults c (WithTerm e))
+  faults c (tree.While a e s) = node (term_faults c e ++ faults (turning c) s) (condition_faults c (WithTerm e))
+  faults c (tree.DoWhile a s e) = node (faults (turning c) s ++ term_faults c e) (condition_faults c (WithTerm e))
   faults c (tree.For a first e third s) = let d = for_context c first in
       node (part_faults (enter c) first ++ condition_parts d e ++ part_faults (enter d) third ++ faults (turning d) s) (condition_faults d e)
   faults c (tree.Break a) = unless c.in_loop (fault.TypeMismatch a) ∷ []

@@ -26,7 +26,7 @@ use Rattle.clmodel.specs.declared.tree.PointerType.{PointerType}
 use Rattle.clmodel.specs.declared.tree.VariableType.{VariableType}
 use Rattle.clmodel.specs.declared.tree.VariableType.TheVariants.{Integer as Number, Pointer}
 use Rattle.clmodel.specs.Tree as tree
-use Rattle.clmodel.specs.Tree.{Term, Terms, NoTerm, ThenTerm, array_length, Place, Stmt, Stmts, NoStmt, ThenStmt, MaybeStmt, Without, With, MaybeTerm, Always, While_}
+use Rattle.clmodel.specs.Tree.{Term, Terms, NoTerm, ThenTerm, array_length, Target, Stmt, Stmts, NoStmt, ThenStmt, MaybeStmt, Without, With, MaybeTerm, WithoutTerm, WithTerm}
 use Rattle.clmodel.specs.Typing.Context.{Context, Signature, Single, LocalArray, PrivateArray, value_type, element_type, is_outermost, meaning, Bound, Callable, BuiltInFunction, Barrier, is_free, bind, enter, turning, for_context, after_all}
 
 abbrev pub is_constant : AddressSpace → Bool
@@ -120,11 +120,11 @@ mutual
         → TypesAll c es ks → Types c e k → TypesAll c (ThenTerm es e) (ks ++ k ∷ [])
 
 -- What can be a target, and its type.
-pub data TypesPlace (c : Context) : Place → VariableType → Type 0 where
-  whole : {a x : ℕ} {k : VariableType} → meaning c x ≡ Bound (Single k) → TypesPlace c (tree.Whole a x) k
+pub data TypesTarget (c : Context) : Target → VariableType → Type 0 where
+  whole : {a x : ℕ} {k : VariableType} → meaning c x ≡ Bound (Single k) → TypesTarget c (tree.TargetVariable a x) k
   part : {a x : ℕ} {d : Declaration} {t u : IntType} {e : Term}
-      → meaning c x ≡ Bound d → element_type d ≡ Some t → is_stored d ≡ true → Types c e (Number u) → TypesPlace c (tree.Part a x e) (Number t)
-  behind : {a : ℕ} {p : PointerType} {e : Term} → is_writable p ≡ true → Types c e (Pointer p) → TypesPlace c (tree.Behind a e) (Number p.element)
+      → meaning c x ≡ Bound d → element_type d ≡ Some t → is_stored d ≡ true → Types c e (Number u) → TypesTarget c (tree.TargetElement a x e) (Number t)
+  behind : {a : ℕ} {p : PointerType} {e : Term} → is_writable p ≡ true → Types c e (Pointer p) → TypesTarget c (tree.TargetDereference a e) (Number p.element)
 
 abbrev pub count : Terms → ℕ
 count NoTerm = 0
@@ -150,8 +150,8 @@ pub data Gives (c : Context) : Term → VariableType → Type 0 where
 
 -- a condition, or none
 pub data IsCondition (c : Context) : MaybeTerm → Type 0 where
-  always : IsCondition c Always
-  condition : {e : Term} {t : IntType} → Types c e (Number t) → IsCondition c (While_ e)
+  always : IsCondition c WithoutTerm
+  condition : {e : Term} {t : IntType} → Types c e (Number t) → IsCondition c (WithTerm e)
 
 mutual
   -- A statement or a declaration. What is declared is in scope in its own initialiser (C99 6.2.1, paragraph 7).
@@ -165,12 +165,12 @@ mutual
     declare_array : {c : Context} {a b x d : ℕ} {is_local : Bool} {t : IntType} {n : Integer}
         → is_free c x ≡ true → (is_local ≡ true → is_outermost c ≡ true) → 1 ≤ array_length n → array_length n ≤ length_limit
         → IsTyped c (tree.DeclareArray a is_local t b x d n)
-    assign : {c : Context} {a : ℕ} {p : Place} {e : Term} {k j : VariableType}
-        → TypesPlace c p k → Gives c e j → Passes k j → IsTyped c (tree.Assign a p None e)
+    assign : {c : Context} {a : ℕ} {p : Target} {e : Term} {k j : VariableType}
+        → TypesTarget c p k → Gives c e j → Passes k j → IsTyped c (tree.Assign a p None e)
     -- as the operator's value assigned (C99 6.5.16.2)
-    assign_by : {c : Context} {a : ℕ} {p : Place} {op : BinaryOperator} {e : Term} {k j r : VariableType}
-        → TypesPlace c p k → Gives c e j → Operates (Arithmetic op) k j r → Passes k r → IsTyped c (tree.Assign a p (Some op) e)
-    step : {c : Context} {a : ℕ} {p : Place} {is_increment : Bool} {k : VariableType} → TypesPlace c p k → IsTyped c (tree.Step a p is_increment)
+    assign_by : {c : Context} {a : ℕ} {p : Target} {op : BinaryOperator} {e : Term} {k j r : VariableType}
+        → TypesTarget c p k → Gives c e j → Operates (Arithmetic op) k j r → Passes k r → IsTyped c (tree.Assign a p (Some op) e)
+    step : {c : Context} {a : ℕ} {p : Target} {is_increment : Bool} {k : VariableType} → TypesTarget c p k → IsTyped c (tree.Step a p is_increment)
     call_only : {c : Context} {a x : ℕ} {f : BuiltIn} {es : Terms} {ks : List VariableType} {r : VariableType}
         → meaning c x ≡ BuiltInFunction f → TypesAll c es ks → Calls f ks r → IsTyped c (tree.CallOnly a x es)
     -- with the name of a fence, or both names (6.12.8)

@@ -12,7 +12,7 @@ use Rattle.clmodel.specs.declared.tree.VariableType.{VariableType}
 use Rattle.clmodel.specs.declared.tree.VariableType.TheVariants as kind
 use Rattle.clmodel.specs.declared.type_fault.TypeFault.{TypeFault}
 use Rattle.clmodel.specs.declared.type_fault.TypeFault.TheVariants.{UnknownName, Redeclared, TypeMismatch, NotAssignable, WrongArgumentCount, WrongSpace, BadBarrierFlags, TooLarge}
-use Rattle.clmodel.specs.Tree.{Term, Number, Variable, Element, ElementAddress, Dereference, Call, Binary, NoTerm, then_all, Whole, Part, Behind, Stmt, Block, DeclareArray, Assign, Step, CallOnly, NoStmt, then_stmts}
+use Rattle.clmodel.specs.Tree.{Term, Number, Variable, Element, ElementAddress, Dereference, Call, Binary, NoTerm, then_all, TargetVariable, TargetElement, TargetDereference, Stmt, Block, DeclareArray, Assign, Step, CallOnly, NoStmt, then_stmts}
 use Rattle.clmodel.specs.BuiltIns.{local_fence, global_fence}
 use Rattle.clmodel.specs.Typing.Context.{Context, Single, LocalArray, PrivateArray}
 use Rattle.clmodel.specs.Typing.Least.{first}
@@ -66,7 +66,7 @@ array is_local b x d n = DeclareArray 0 is_local Int b x d (record { kind = Int;
 
 -- `n = e;` and `s = e;`
 abbrev set : ℕ → Term → Stmt
-set name e = Assign 0 (Whole 0 name) None e
+set name e = Assign 0 (TargetVariable 0 name) None e
 
 abbrev pub samples : List (Stmt × Option TypeFault)
 samples =
@@ -101,9 +101,9 @@ samples =
     -- CLK_LOCAL_MEM_FENCE();
     ∷ (CallOnly 0 24 NoTerm, Some (UnknownName 0))
     -- s[1] = 1;
-    ∷ (Assign 0 (Part 0 102 (one 2)) None (one 7), None)
+    ∷ (Assign 0 (TargetElement 0 102 (one 2)) None (one 7), None)
     -- t[1] = 1;
-    ∷ (Assign 0 (Part 0 103 (one 2)) None (one 7), Some (NotAssignable 0))
+    ∷ (Assign 0 (TargetElement 0 103 (one 2)) None (one 7), Some (NotAssignable 0))
     -- s = a;
     ∷ (set 102 (Variable 4 101), Some (WrongSpace 4))
     -- s = u;  A `const` that is dropped comes before the address space.
@@ -117,7 +117,7 @@ samples =
     -- n = p[1];
     ∷ (set 105 (Element 4 106 (one 6)), None)
     -- p[1] = 1;
-    ∷ (Assign 0 (Part 0 106 (one 2)) None (one 7), None)
+    ∷ (Assign 0 (TargetElement 0 106 (one 2)) None (one 7), None)
     -- n = p;
     ∷ (set 105 (Variable 4 106), Some (WrongSpace 4))
     -- n = *p;
@@ -129,27 +129,27 @@ samples =
     -- p = y;  The target comes before the value.
     ∷ (set 106 (Variable 4 114), Some (NotAssignable 0))
     -- p++;
-    ∷ (Step 0 (Whole 0 106) true, Some (NotAssignable 0))
+    ∷ (Step 0 (TargetVariable 0 106) true, Some (NotAssignable 0))
     -- p();
     ∷ (CallOnly 0 106 NoTerm, Some (TypeMismatch 0))
     -- p[p] = 1;
-    ∷ (Assign 0 (Part 0 106 (Variable 2 106)) None (one 7), Some (WrongSpace 2))
+    ∷ (Assign 0 (TargetElement 0 106 (Variable 2 106)) None (one 7), Some (WrongSpace 2))
     -- y[p] = 1;  The index comes before the name in front of it.
-    ∷ (Assign 0 (Part 0 114 (Variable 2 106)) None (one 7), Some (WrongSpace 2))
+    ∷ (Assign 0 (TargetElement 0 114 (Variable 2 106)) None (one 7), Some (WrongSpace 2))
     -- s = &p[a];  Of one node the lowest number.
     ∷ (set 102 (ElementAddress 4 5 106 (Variable 7 101)), Some (TypeMismatch 7))
     -- atomic_inc(&p[1]);
     ∷ (increment (ElementAddress 11 12 106 (one 14)), Some (WrongSpace 11))
     -- q[1] = 1;
-    ∷ (Assign 0 (Part 0 107 (one 2)) None (one 7), None)
+    ∷ (Assign 0 (TargetElement 0 107 (one 2)) None (one 7), None)
     -- *q = 1;
-    ∷ (Assign 0 (Behind 0 (Variable 1 107)) None (one 5), None)
+    ∷ (Assign 0 (TargetDereference 0 (Variable 1 107)) None (one 5), None)
     -- n = q[1];
     ∷ (set 105 (Element 4 107 (one 6)), None)
     -- n = q;
     ∷ (set 105 (Variable 4 107), Some (TypeMismatch 4))
     -- q++;
-    ∷ (Step 0 (Whole 0 107) true, Some (NotAssignable 0))
+    ∷ (Step 0 (TargetVariable 0 107) true, Some (NotAssignable 0))
     -- q();
     ∷ (CallOnly 0 107 NoTerm, Some (TypeMismatch 0))
     -- atomic_inc(q);

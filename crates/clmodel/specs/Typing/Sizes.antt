@@ -3,7 +3,7 @@
 use Rattle.std.specs.Prelude.{ℕ, suc, ◌+◌, max, Bool, true, false, ◌||◌, ◌&&◌, nat_eq, List, [], ◌∷◌, ◌++◌, Option, None, Some}
 use Rattle.std.specs.Map.{lookup}
 use Rattle.clmodel.specs.Tree as tree
-use Rattle.clmodel.specs.Tree.{Term, Terms, NoTerm, ThenTerm, array_bytes, Place, Stmt, Stmts, NoStmt, ThenStmt, MaybeStmt, Without, With, MaybeTerm, Always, While_, Func, Funcs, NoFunc, ThenFunc}
+use Rattle.clmodel.specs.Tree.{Term, Terms, NoTerm, ThenTerm, array_bytes, Target, Stmt, Stmts, NoStmt, ThenStmt, MaybeStmt, Without, With, MaybeTerm, WithoutTerm, WithTerm, Func, Funcs, NoFunc, ThenFunc}
 
 pub record Size : Type 0 where
   pub loops : ℕ
@@ -65,14 +65,14 @@ module _ (sizes : Sizes) where
     terms_size NoTerm = nothing
     terms_size (ThenTerm es e) = beside (terms_size es) (term_size e)
 
-  abbrev pub place_size : Place → Size
-  place_size (tree.Whole a x) = leaf
-  place_size (tree.Part a x e) = one_node (term_size e)
-  place_size (tree.Behind a e) = one_node (term_size e)
+  abbrev pub target_size : Target → Size
+  target_size (tree.TargetVariable a x) = leaf
+  target_size (tree.TargetElement a x e) = one_node (term_size e)
+  target_size (tree.TargetDereference a e) = one_node (term_size e)
 
   abbrev pub condition_size : MaybeTerm → Size
-  condition_size Always = nothing
-  condition_size (While_ e) = term_size e
+  condition_size WithoutTerm = nothing
+  condition_size (WithTerm e) = term_size e
 
   abbrev mutual
     pub size : Stmt → Size
@@ -81,8 +81,8 @@ module _ (sizes : Sizes) where
     size (tree.Declare a k b x) = leaf
     size (tree.DeclareAs a k b x e) = one_node (term_size e)
     size (tree.DeclareArray a is_local t b x d n) = array_size is_local (array_bytes t n)
-    size (tree.Assign a p op e) = one_node (beside (place_size p) (term_size e))
-    size (tree.Step a p is_increment) = one_node (place_size p)
+    size (tree.Assign a p op e) = one_node (beside (target_size p) (term_size e))
+    size (tree.Step a p is_increment) = one_node (target_size p)
     size (tree.CallOnly a x es) = one_node (beside (terms_size es) (size_in sizes x))
     size (tree.If a e s) = one_node (beside (term_size e) (size s))
     size (tree.IfElse a e s r) = one_node (beside (beside (term_size e) (size s)) (size r))

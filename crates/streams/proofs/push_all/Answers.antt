@@ -1,4 +1,4 @@
-use Rattle.ends.proofs.Puts.{pushed_slice, pushed_kept}
+use Rattle.counted_io.proofs.Puts.{pushed_slice, pushed_kept}
 use Rattle.streams.proofs.push_all.Goals as goal
 use Rattle.streams.proofs.push_all.Goals.{in-Ok, in-Err+else-ne}
 

@@ -1,4 +1,4 @@
-use Rattle.ends.proofs.Puts.{HasPushed}
+use Rattle.counted_io.proofs.Puts.{HasPushed}
 use Rattle.streams.proofs.push_all.Given as goal
 
 abbrev pub invariant-loop : goal.invariant-loop

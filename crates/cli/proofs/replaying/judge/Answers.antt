@@ -1,9 +1,9 @@
 use Rattle.std.proofs.Common.{◌≡◌, refl, inl, inr, List, Some, subst, rules}
 use Rattle.device.specs.Machine.{Machine, IsRefusal, first, row, machine_of, opening}
-use Rattle.device_store.specs.declared.command.Command.{Command}
-use Rattle.device_store.specs.declared.command.Command.TheVariants as command
-use Rattle.device_store.specs.declared.command.Refusal.{Refusal}
-use Rattle.device_store.specs.declared.command.Refusal.TheVariants as refusal
+use Rattle.host_commands.specs.declared.command.Command.{Command}
+use Rattle.host_commands.specs.declared.command.Command.TheVariants as command
+use Rattle.host_commands.specs.declared.command.Refusal.{Refusal}
+use Rattle.host_commands.specs.declared.command.Refusal.TheVariants as refusal
 use Rattle.cli.specs.Replaying.{Leads}
 use Rattle.cli.proofs.replaying.judge.Goals as goal
 

@@ -2,7 +2,7 @@ use Rattle.std.proofs.Common.{◌≡◌, [], ◌∷◌, ◌++◌, refl, ap, sym,
 use Rattle.std.specs.Vec.Iter.{into_iter_items}
 use Rattle.std.proofs.lemmas.List.{append-nil}
 use Rattle.device.specs.Machine.{machine_of}
-use Rattle.device_store.specs.declared.command.Command.{Command}
+use Rattle.host_commands.specs.declared.command.Command.{Command}
 use Rattle.cli.specs.Replaying.{Leads}
 use Rattle.cli.proofs.Replays.{leads_none, leads_more}
 use Rattle.cli.proofs.replaying.lead.Goals as goal

@@ -1,7 +1,7 @@
 use Rattle.std.proofs.Common.{◌≡◌, ◌<◌, ◌∙◌, ℕ, ◌+◌, suc, length, Option, None, Some, List, [], ◌∷◌, ◌++◌, take, sym, ap, arith, add-one}
 use Rattle.std.specs.Prelude.{IfNone, slice_get}
 use Rattle.std.proofs.lemmas.Option.{IfSome_then, same_Some}
-use Rattle.device_store.specs.declared.command.Command.{Command}
+use Rattle.host_commands.specs.declared.command.Command.{Command}
 use Rattle.cli.proofs.Replays.{last_taken}
 use Rattle.cli.proofs.replaying.take_launch.Goals as goal
 

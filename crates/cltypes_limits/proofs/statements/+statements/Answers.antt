@@ -1,7 +1,7 @@
 use Rattle.std.proofs.Common.{take, sym, ap, ◌∙◌}
 use Rattle.clmodel.specs.Tree as tree
-use Rattle.clmodel.specs.Tree.{term, terms, place, stmt, maybe_term, maybe_stmt}
-use Rattle.clmodel.specs.Typing.Sizes.{term_size, terms_size, place_size, condition_size, size, row_size, size_in, beside, one_loop}
+use Rattle.clmodel.specs.Tree.{term, terms, tree_target, stmt, maybe_term, maybe_stmt}
+use Rattle.clmodel.specs.Typing.Sizes.{term_size, terms_size, target_size, condition_size, size, row_size, size_in, beside, one_loop}
 use Rattle.cltypes_limits.specs.Limits.{capped, held_size, statements}
 use Rattle.clmodel.proofs.Trees.{next_statement, block_view}
 use Rattle.cltypes_limits.proofs.Sums.{of_term, of_statement, for_view}
@@ -28,10 +28,10 @@ pub statement_size-returns-in-Assign : goal.statement_size-returns-in-Assign
 statement_size-returns-in-Assign t c =
     let s = c.in-Assign in
     let table = c.args.table.now in
-    let to = place_size table (place s.target.value) in
+    let to = target_size table (tree_target s.target.value) in
     let value = term_size table (term s.value.value) in
     c.in_node-in-Assign.ensures (beside to value)
-    (c.beside.ensures to value (c.target_size.ensures ∙ ap (λ z. capped (place_size table (place z))) c.deref-in-Assign.ensures)
+    (c.beside.ensures to value (c.target_size.ensures ∙ ap (λ z. capped (target_size table (tree_target z))) c.deref-in-Assign.ensures)
     (of_term table c.expression_size-in-Assign.ensures c.deref-in-Assign-2.ensures))
     ∙ ap (λ z. capped (size table (stmt z))) (sym s.is)
 

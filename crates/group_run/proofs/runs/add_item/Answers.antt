@@ -2,8 +2,8 @@ use Rattle.std.proofs.Common.{◌≡◌, ◌+◌, ◌-◌, [], ◌∷◌, ◌++�
 use Rattle.clmodel.specs.Outcome.{events_of}
 use Rattle.group_run.specs.Runs.{EndsWith, AddsEvent}
 use Rattle.clmodel.specs.declared.schedule.Event.TheVariants as event
-use Rattle.clmodel.specs.declared.schedule.Run.{Run}
-use Rattle.clmodel.specs.declared.schedule.Run.TheVariants as run
+use Rattle.clmodel.specs.declared.schedule.EventRun.{EventRun}
+use Rattle.clmodel.specs.declared.schedule.EventRun.TheVariants as run
 use Rattle.group_run.proofs.Merging.{adds_item, adds_more, count_fits, set_last}
 use Rattle.group_run.proofs.runs.add_item.Goals as goal
 
@@ -21,8 +21,8 @@ overflow_add-count c =
 pub returns-clause-added : goal.returns-clause-added
 returns-clause-added c =
     let rest = c.in-Some.ensures.some in
-    let last : Run = run.Item c.args.item c.in-Some.count in
-    let more : Run = run.Item c.args.item (c.in-Some.count + 1) in
+    let last : EventRun = run.Item c.args.item c.in-Some.count in
+    let more : EventRun = run.Item c.args.item (c.in-Some.count + 1) in
     let split : c.args.runs.now.items ≡ rest.0 ++ last ∷ [] = sym c.as_slice.ensures.value ∙ rest.1 in
     let n = c.len-last.result - 1 in
     let new : set c.args.runs.now.items n more ≡ rest.0 ++ more ∷ []

@@ -7,7 +7,7 @@ use denote.Param.Weighed.{most, at_most}
 use Rattle.std.specs.Option.{option_map}
 use Rattle.clmodel.specs.Next.{sites, part_sites, all_sites}
 use Rattle.clmodel.specs.Typing.Sizes.{node_limit}
-use Rattle.clmodel.specs.Tree.{Stmt, ThenStmt, Without, While_, stmt, term}
+use Rattle.clmodel.specs.Tree.{Stmt, ThenStmt, Without, WithTerm, stmt, term}
 use Rattle.clmodel.specs.declared.tree.Statement.{Statement, size-Statement}
 use Rattle.regcode.specs.declared.instruction.Instruction.{Instruction}
 use Rattle.lower_expr.specs.Scope.{Scope, free_level}
@@ -102,7 +102,7 @@ emit_do-returns-clause-code t c =
     let p = begun_at c.args.ending c.in_ok-site.site in
     let scope = c.args.scope.now in
     let body = stmt c.args.body.now in
-    let condition = condition_code scope (While_ (term c.args.condition.now)) in
+    let condition = condition_code scope (WithTerm (term c.args.condition.now)) in
     let one = begun condition c.new-turn.result c.put_condition.new.code c.new-turn.ensures c.in_ok-put_condition.ensures.code in
     c.in_ok-end_do.ensures.code (once_code s scope body p (length condition)) condition
     (c.in_ok-site.ensures.code ∙ ap (λ xs. once_code s scope body p (length xs) ++ xs) one)

@@ -5,14 +5,14 @@ use Rattle.lower_expr.specs.Expressions.{expr_code}
 use Rattle.lower.proofs.Sound.{sound_flat}
 use Rattle.lower.proofs.Flat.{expression_flat}
 use Rattle.lower.proofs.Tabled.{suit_fits}
-use Rattle.lower.proofs.Suited.{expressions_suit, places_suit}
+use Rattle.lower.proofs.Suited.{expressions_suit, targets_suit}
 use Rattle.lower.proofs.table_laws.code_is_verified.Goals as goal
 
 pub returns-clause-expressions : goal.returns-clause-expressions
 returns-clause-expressions c = expressions_suit
 
 pub returns-clause-places : goal.returns-clause-places
-returns-clause-places c = places_suit
+returns-clause-places c = targets_suit
 
 pub returns-clause-jumps : goal.returns-clause-jumps
 returns-clause-jumps c = expression_flat

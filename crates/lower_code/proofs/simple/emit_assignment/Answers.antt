@@ -1,7 +1,7 @@
 use Rattle.std.proofs.Common.{◌≡◌, ◌++◌, List, None, Some, ap, sym, ◌∙◌, arith}
 use Rattle.std.proofs.lemmas.Result.{on_ok_weaker}
 use Rattle.clmodel.specs.Next.{step_operator}
-use Rattle.clmodel.specs.Tree.{stmt, place, term, terms}
+use Rattle.clmodel.specs.Tree.{stmt, tree_target, term, terms}
 use Rattle.clmodel.specs.Typing.Sizes.{size}
 use Rattle.regcode.specs.declared.instruction.Instruction.{Instruction}
 use Rattle.lower_expr.specs.Scope.{free_level}
@@ -50,7 +50,7 @@ returns-in-Step-clause-code c =
     let s = c.args.setting.now in
     let p = c.args.position in
     let fs = functions_of s.helpers.functions.now in
-    let to = place c.deref-in-Step.result.now in
+    let to = tree_target c.deref-in-Step.result.now in
     let stepped : List Instruction = step_code (call_code fs) (result_in fs) (inside s.helpers.functions.now) s.result c.args.scope.now (free_level c.args.scope.now) to (step_operator c.in-Step.is_increment) in
     let same : stepped ≡ statement_code s c.args.scope.now (stmt c.args.statement.now) p =
     ap (λ x. statement_code s c.args.scope.now x p) (step_is c.args.statement.now c.in-Step.at c.in-Step.target c.in-Step.is_increment c.deref-in-Step.result.now c.in-Step.is c.deref-in-Step.ensures) in
@@ -61,7 +61,7 @@ pub assign-requires : goal.assign-requires
 assign-requires c =
     let sizes = sizes_in c.args.setting.now.helpers.functions.now in
     let whole = ap (λ s. (size sizes s).nodes) (assign_is c.args.statement.now c.in-Assign.at c.in-Assign.target c.in-Assign.operator c.in-Assign.value None c.deref.result.now c.deref-in-None.result.now c.in-Assign.is c.in-None.is c.deref.ensures c.deref-in-None.ensures) in
-    let to = fewer_there sizes (place c.deref.result.now) in
+    let to = fewer_there sizes (tree_target c.deref.result.now) in
     let value = fewer sizes (term c.deref-in-None.result.now) in
     let low = c.requires.low in
     omega (arith, whole, to, value, low)
@@ -70,7 +70,7 @@ pub compound-requires : goal.compound-requires
 compound-requires c =
     let sizes = sizes_in c.args.setting.now.helpers.functions.now in
     let whole = ap (λ s. (size sizes s).nodes) (assign_is c.args.statement.now c.in-Assign.at c.in-Assign.target c.in-Assign.operator c.in-Assign.value (Some c.in-Some.operator) c.deref-in-Some.result.now c.deref-in-Some-2.result.now c.in-Assign.is c.in-Some.is c.deref-in-Some.ensures c.deref-in-Some-2.ensures) in
-    let to = fewer_there sizes (place c.deref-in-Some.result.now) in
+    let to = fewer_there sizes (tree_target c.deref-in-Some.result.now) in
     let value = fewer sizes (term c.deref-in-Some-2.result.now) in
     let low = c.requires.low in
     omega (arith, whole, to, value, low)
@@ -79,7 +79,7 @@ pub put_step-requires : goal.put_step-requires
 put_step-requires c =
     let sizes = sizes_in c.args.setting.now.helpers.functions.now in
     let whole = ap (λ s. (size sizes s).nodes) (step_is c.args.statement.now c.in-Step.at c.in-Step.target c.in-Step.is_increment c.deref-in-Step.result.now c.in-Step.is c.deref-in-Step.ensures) in
-    let to = fewer_there sizes (place c.deref-in-Step.result.now) in
+    let to = fewer_there sizes (tree_target c.deref-in-Step.result.now) in
     let low = c.requires.low in
     omega (arith, whole, to, low)
 

@@ -1,10 +1,10 @@
 use Rattle.std.proofs.Common.{◌≡◌, ◌++◌, [], ◌∷◌, ap, ◌∙◌}
 use Rattle.std.proofs.lemmas.Result.{on_ok_weaker}
-use Rattle.clmodel.specs.Tree.{Place}
-use Rattle.lower_expr.specs.Expressions.{private_load, place_register}
+use Rattle.clmodel.specs.Tree.{Target}
+use Rattle.lower_expr.specs.Expressions.{private_load, target_register}
 use Rattle.lower_expr.specs.declared.emission.TargetKind.TheVariants as target
-use Rattle.lower_expr.specs.Places.{fetch_code}
-use Rattle.lower_expr.specs.Places.{destination_of}
+use Rattle.lower_expr.specs.Targets.{fetch_code}
+use Rattle.lower_expr.specs.Targets.{destination_of}
 use Rattle.lower_expr.proofs.Targets.{fetch_at}
 use Rattle.lower_expr.proofs.destinations.fetch.Goals as goal
 
@@ -15,7 +15,7 @@ returns-in-Index-clause-code c =
     let d = c.args.destination in
     let to = c.args.to in
     let level = c.args.level in
-    on_ok_weaker {Q = (place : Place) → d ≡ destination_of scope place → c.private_load.new.code.items ≡ old ++ fetch_code scope place (place_register scope level place) to} c.private_load.result
+    on_ok_weaker {Q = (place : Target) → d ≡ destination_of scope place → c.private_load.new.code.items ≡ old ++ fetch_code scope place (target_register scope level place) to} c.private_load.result
     (λ h place e.
     h ∙ ap (λ n. old ++ private_load scope to d.name n ∷ []) c.register_at-index.ensures
     ∙ ap (λ xs. old ++ xs) (fetch_at scope place d (target.Index c.in-Index.index) level to e c.in-Index.is))

@@ -1,10 +1,10 @@
 use Rattle.std.proofs.Common.{◌≡◌, ◌++◌, [], ◌∷◌, ap, ◌∙◌}
 use Rattle.std.proofs.lemmas.Result.{on_ok_weaker}
-use Rattle.clmodel.specs.Tree.{Place}
-use Rattle.lower_expr.specs.Expressions.{private_store, place_register}
+use Rattle.clmodel.specs.Tree.{Target}
+use Rattle.lower_expr.specs.Expressions.{private_store, target_register}
 use Rattle.lower_expr.specs.declared.emission.TargetKind.TheVariants as target
-use Rattle.lower_expr.specs.Places.{put_code}
-use Rattle.lower_expr.specs.Places.{destination_of}
+use Rattle.lower_expr.specs.Targets.{put_code}
+use Rattle.lower_expr.specs.Targets.{destination_of}
 use Rattle.lower_expr.proofs.Targets.{put_at}
 use Rattle.lower_expr.proofs.destinations.put.Goals as goal
 
@@ -15,7 +15,7 @@ returns-in-Index-clause-code c =
     let d = c.args.destination in
     let from = c.args.from in
     let level = c.args.level in
-    on_ok_weaker {Q = (place : Place) → d ≡ destination_of scope place → c.private_store.new.code.items ≡ old ++ put_code scope place (place_register scope level place) from} c.private_store.result
+    on_ok_weaker {Q = (place : Target) → d ≡ destination_of scope place → c.private_store.new.code.items ≡ old ++ put_code scope place (target_register scope level place) from} c.private_store.result
     (λ h place e.
     h ∙ ap (λ n. old ++ private_store scope d.name n from ∷ []) c.register_at-index.ensures
     ∙ ap (λ xs. old ++ xs) (put_at scope place d (target.Index c.in-Index.index) level from e c.in-Index.is))

@@ -1,5 +1,5 @@
 use Rattle.std.proofs.lemmas.Result.{err_from_is_err_and}
-use Rattle.ends.proofs.Puts.{stopped_more, puts_then}
+use Rattle.counted_io.proofs.Puts.{stopped_more, puts_then}
 use Rattle.regcode.specs.Parts.{part_text}
 use Rattle.regcode.proofs.dumping.write_behind.Goals as goal
 

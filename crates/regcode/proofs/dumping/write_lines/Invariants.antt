@@ -1,5 +1,5 @@
 use Rattle.std.proofs.Common.{take}
-use Rattle.ends.specs.Sink.{Wrote}
+use Rattle.counted_io.specs.Sink.{Wrote}
 use Rattle.regcode.specs.Text.{text_of}
 use Rattle.regcode.proofs.dumping.write_lines.Given as goal
 

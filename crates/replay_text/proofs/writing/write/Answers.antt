@@ -1,5 +1,5 @@
 use Rattle.std.proofs.lemmas.Result.{err_from_is_err_and}
-use Rattle.ends.proofs.Puts.{stopped_more, puts_then}
+use Rattle.counted_io.proofs.Puts.{stopped_more, puts_then}
 use Rattle.replay_text.proofs.writing.write.Goals as goal
 
 pub returns-in_err-write_fault : goal.returns-in_err-write_fault

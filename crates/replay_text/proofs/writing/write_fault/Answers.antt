@@ -1,8 +1,8 @@
 use Rattle.std.proofs.Common.{ℕ, List, [], ◌∷◌, ◌++◌, decimal}
 use Rattle.std.proofs.lemmas.Result.{err_from_is_err_and}
-use Rattle.ends.specs.Sink.{Wrote, Stopped, Puts}
-use Rattle.ends.proofs.Puts.{stopped_more, puts_then}
-use Rattle.ends.specs.Pieces.{joined}
+use Rattle.counted_io.specs.Sink.{Wrote, Stopped, Puts}
+use Rattle.counted_io.proofs.Puts.{stopped_more, puts_then}
+use Rattle.counted_io.specs.Pieces.{joined}
 use Rattle.replay_text.specs.Text.{fault_words, fault_item, fault_details}
 use Rattle.replay_text.proofs.Grammar.{joined-append}
 use Rattle.replay_text.proofs.writing.write_fault.Goals as goal

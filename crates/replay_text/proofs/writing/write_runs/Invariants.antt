@@ -1,6 +1,6 @@
 use Rattle.std.proofs.Common.{take}
 use Rattle.std.specs.List.{flat_map}
-use Rattle.ends.specs.Sink.{Wrote}
+use Rattle.counted_io.specs.Sink.{Wrote}
 use Rattle.replay_text.specs.Text.{run_text}
 use Rattle.replay_text.proofs.writing.write_runs.Given as goal
 

@@ -1,7 +1,7 @@
 use Rattle.std.proofs.Common.{rules}
 use Rattle.std.proofs.lemmas.Result.{err_from_is_err_and}
 use Rattle.simfile.specs.Fields.{byte_text}
-use Rattle.ends.proofs.Puts.{stopped_at, wrote_more}
+use Rattle.counted_io.proofs.Puts.{stopped_at, wrote_more}
 use Rattle.simfile.proofs.hex.write_hex.Goals as goal
 
 pub returns-in_err-write_byte : goal.returns-in_err-write_byte

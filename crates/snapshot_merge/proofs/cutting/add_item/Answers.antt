@@ -2,24 +2,24 @@ use Rattle.std.proofs.Common.{◌≡◌, ◌-◌, [], ◌∷◌, ◌++◌, lengt
 use Rattle.clmodel.specs.Outcome.{events_of}
 use Rattle.group_run.specs.Runs.{EndsWith}
 use Rattle.snapshot_merge.specs.Runs.{Adds}
-use Rattle.clmodel.specs.declared.schedule.Run.{Run}
-use Rattle.clmodel.specs.declared.schedule.Run.TheVariants as run
+use Rattle.clmodel.specs.declared.schedule.EventRun.{EventRun}
+use Rattle.clmodel.specs.declared.schedule.EventRun.TheVariants as run
 use Rattle.group_run.proofs.Merging.{set_last}
 use Rattle.snapshot_merge.proofs.Merged.{adds_item, adds_more}
 use Rattle.snapshot_merge.proofs.cutting.add_item.Goals as goal
 
 pub returns-in_default : goal.returns-in_default
 returns-in_default c =
-    let r : Run = run.Item c.args.item c.args.count in
+    let r : EventRun = run.Item c.args.item c.args.count in
     subst (λ z. Adds c.args.runs.now.items z (r ∷ []) (events_of (r ∷ []))) (sym c.in_ok-push.ensures.items)
     (adds_item c.args.runs.now.items c.args.item c.args.count (λ ends. c.in_default.ensures.none (subst (EndsWith c.args.item) (sym c.as_slice.ensures.value) ends)))
 
 pub returns : goal.returns
 returns c =
     let rest = c.in-Some.ensures.some in
-    let added : Run = run.Item c.args.item c.args.count in
-    let last : Run = run.Item c.args.item c.in-Some.before in
-    let more : Run = run.Item c.args.item c.in_ok-sum.sum in
+    let added : EventRun = run.Item c.args.item c.args.count in
+    let last : EventRun = run.Item c.args.item c.in-Some.before in
+    let more : EventRun = run.Item c.args.item c.in_ok-sum.sum in
     let split : c.args.runs.now.items ≡ rest.0 ++ last ∷ [] = sym c.as_slice.ensures.value ∙ rest.1 in
     let n = c.len-last.result - 1 in
     let new : set c.args.runs.now.items n more ≡ rest.0 ++ more ∷ []

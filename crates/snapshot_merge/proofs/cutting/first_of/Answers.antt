@@ -1,5 +1,5 @@
 use Rattle.std.proofs.Common.{sym, subst}
-use Rattle.clmodel.specs.declared.schedule.Run.TheVariants as run
+use Rattle.clmodel.specs.declared.schedule.EventRun.TheVariants as run
 use Rattle.snapshot_merge.specs.Runs.{IsFirstOf}
 use Rattle.snapshot_merge.proofs.Merged.{first_of_item}
 use Rattle.snapshot_merge.proofs.cutting.first_of.Goals as goal
