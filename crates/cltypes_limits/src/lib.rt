@@ -9,6 +9,6 @@ mod size;
 mod statements;
 mod summaries;
 
-pub use counted_io::end_fault;
+pub use ends::end_fault;
 pub use size::{Size, array_length};
 pub use summaries::Summaries;
