@@ -55,7 +55,7 @@ pub(crate) fn load_variable(
 fn assigned(kind: VariableType, value: Operand) -> Operand
     ensures { result ≡ next.held kind value }
 {
-    // One match in another, as `held` has its cases.
+    // One match in another: so each arm is one case of the definition.
     match kind {
         VariableType::Integer(kind) => match value {
             Operand::Integral(number) => Operand::Integral(convert(number, kind)),
