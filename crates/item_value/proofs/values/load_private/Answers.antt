@@ -17,6 +17,6 @@ returns-in_err-value c after =
     let there = to_z-of_z w64 c.index_of.result (record { sfits = c.index_of.type_inv }) ∙ c.index_of.ensures in
     rw (leads_ok _ _ _ _ c.in_ok-index.was (c.operand.ensures (λ i. number i read)) ∙ leads_ok _ _ _ _ c.in_ok-index-2.was (c.number.ensures read))
     (leads_passed _ _ _ _ _ _ c.in_err-value.was c.from_residual-in_err-value.ensures.1
-    (subst (λ es. Leads c.element_value.result (element_value from.name (index_of c.in_ok-index-2.index) from.kind (element_at es (index_of c.in_ok-index-2.index)) (λ v. after (Some v))) (λ v. after (Some v))) c.elements_of.ensures
-    (subst (λ i. Leads c.element_value.result (element_value from.name i from.kind (element_at c.elements_of.result.now i) (λ v. after (Some v))) (λ v. after (Some v))) there
+    (subst (λ es. Leads c.element_value.result (element_value from.name (index_of c.in_ok-index-2.index) from.kind (element_at es (index_of c.in_ok-index-2.index)) (λ v. after (Some v))) (λ v. after (Some v))) c.elements_of-elements.ensures
+    (subst (λ i. Leads c.element_value.result (element_value from.name i from.kind (element_at c.elements_of-elements.result.now i) (λ v. after (Some v))) (λ v. after (Some v))) there
     (c.element_value.ensures (λ v. after (Some v))))))
