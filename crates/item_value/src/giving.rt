@@ -1,7 +1,7 @@
 //! What instructions give to registers.
 #![tactic(auto)]
 
-ghost use Rattle.std.specs.Prelude.{◌≡◌, ℕ, List, IsTrue};
+ghost use Rattle.std.specs.Prelude.{ℕ, List, IsTrue};
 ghost use Rattle.clmodel.specs.Next.{Continuation};
 ghost use Rattle.regcode.specs.Machine.{State, act, with_put};
 ghost use Rattle.item_value.specs.Arrays.{registers_with};
