@@ -3,6 +3,7 @@
 
 ghost use Rattle.std.specs.Prelude.{◌≡◌, slice_get};
 ghost use Rattle.clmodel.specs.BuiltIns.{built_in, meanings, meaning_of_place};
+ghost use Rattle.clmodel.specs.Next.{is_update};
 ghost use Rattle.clmodel.specs.Typing.Context.{is_reserved};
 
 use crate::action::Fences;
@@ -81,6 +82,18 @@ pub enum AtomicFunction {
     Exchange,
     /// `atomic_cmpxchg(p, c, v)`
     CompareExchange,
+}
+
+impl AtomicFunction {
+    /// Whether it is an update where its call is a whole statement: each but exchange and compare-exchange.
+    pub fn is_update(self) -> bool
+        ensures { result ≡ is_update self }
+    {
+        match self {
+            AtomicFunction::Exchange | AtomicFunction::CompareExchange => false,
+            _ => true,
+        }
+    }
 }
 
 /// A built-in function (OpenCL 1.2, sections 6.12.1, 6.12.3 and 6.12.11).

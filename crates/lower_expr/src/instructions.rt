@@ -301,7 +301,7 @@ pub fn call_only(
     ensures longer { OnErr result (IsLonger code.old.items code.new.items) }
 {
     let instruction = match function {
-        BuiltIn::Atomic(function) if is_update(function) => update(function, arguments),
+        BuiltIn::Atomic(function) if function.is_update() => update(function, arguments),
         BuiltIn::Atomic(function) => fetch(to, function, arguments),
         BuiltIn::WorkDim => dimensions(to, arguments),
         BuiltIn::WorkItem(function) => query(to, function, arguments),
@@ -320,16 +320,6 @@ fn value_call(function: Option<BuiltIn>, to: u32, arguments: &[u32]) -> Instruct
         Some(BuiltIn::Integer(function)) => builtin(to, function, arguments),
         Some(BuiltIn::Atomic(function)) => fetch(to, function, arguments),
         None => Instruction::End,
-    }
-}
-
-/// Whether a call of an atomic function that is a whole statement is an update.
-fn is_update(function: AtomicFunction) -> bool
-    ensures { result ≡ next.is_update function }
-{
-    match function {
-        AtomicFunction::Exchange | AtomicFunction::CompareExchange => false,
-        _ => true,
     }
 }
 

@@ -8,8 +8,7 @@ ghost use Rattle.regcode.specs.Rules as spec;
 use crate::instruction::{FetchOperands, Instruction};
 use crate::kinds::{
     changed_kind, combined_kind, common_kind, fetched_kind, held_kind, is_atomic, is_integer,
-    is_pointer, is_update, kind_of, loaded_kind, number_kind, of_one_kind, of_two_kind,
-    offset_kind, takes,
+    is_pointer, kind_of, loaded_kind, number_kind, of_one_kind, of_two_kind, offset_kind, takes,
 };
 use crate::tables::{RegisterKind, Tables};
 use clmodel::tree::VariableType;
@@ -186,13 +185,13 @@ impl Judged<'_> {
                 function,
                 pointer,
                 value: None,
-            } => is_update(*function) && is_atomic(self.kind(*pointer)),
+            } => function.is_update() && is_atomic(self.kind(*pointer)),
             Instruction::Update {
                 function,
                 pointer,
                 value: Some(value),
             } => {
-                is_update(*function)
+                function.is_update()
                     && is_atomic(self.kind(*pointer))
                     && is_integer(self.kind(*value))
             }
