@@ -1,6 +1,6 @@
 //! What is kept of the accesses of work-groups.
 
-ghost use Rattle.std.specs.Prelude.{◌≡◌, ◌+◌, ◌<◌, ◌≤◌, ◌∷◌, ◌^◌, [], ℕ, List, length, false, IfOk, OnOk, OnErr};
+ghost use Rattle.std.specs.Prelude.{◌≡◌, ◌+◌, ◌<◌, ◌≤◌, ◌∷◌, ◌^◌, [], ℕ, List, length, false, true, IfOk, OnOk, OnErr};
 ghost use Rattle.clmodel.specs.Cells.{byte_count};
 ghost use Rattle.clmodel.specs.declared.access.Access.{Access as TheAccess};
 ghost use Rattle.clmodel.specs.declared.access.Region.TheVariants as region;
