@@ -12,7 +12,8 @@ use clnum::Value;
 use clsyntax_lex::token::{Token, TokenKind};
 use clsyntax_terms::closing::add_declaration;
 use clsyntax_terms::state::{
-    Array, ArrayMode, Declared, Frame, Frames, Mode, Moved, Purpose, Stack, Step, deeper,
+    Array, ArrayMode, Declared, Frame, Frames, Identifier, Mode, Moved, Purpose, Stack, Step,
+    deeper,
 };
 
 /// Whether the items of a block are in front.
@@ -23,35 +24,33 @@ fn in_block(frames: &Frames) -> bool
 }
 
 /// The square bracket behind a declared name.
-pub(crate) fn on_array(name: Declared, stack: Stack) -> Moved
-    ensures { Steps result (machine.on_array name.nesting name.at name.kind name.name_at name.name (opened stack)) }
+pub(crate) fn on_array(declared: Declared, stack: Stack) -> Moved
+    ensures { Steps result (machine.on_array declared.nesting declared.at declared.kind declared.identifier.at declared.identifier.name (opened stack)) }
 {
-    let VariableType::Integer(element) = name.kind else {
+    let VariableType::Integer(element) = declared.kind else {
         return Ok(Step::Refused);
     };
     if !in_block(&stack.frames) {
         return Ok(Step::Refused);
     }
     let array = Array {
-        nesting: name.nesting,
-        at: name.at,
+        nesting: declared.nesting,
+        at: declared.at,
         is_local: false,
         element,
-        name_at: name.name_at,
-        name: name.name,
+        identifier: declared.identifier,
     };
-    stack.go(name.nesting, Mode::Array(ArrayMode::Opened(array)))
+    stack.go(declared.nesting, Mode::Array(ArrayMode::Opened(array)))
 }
 
 /// A name in place of a pointer's star: a local array's.
 pub(crate) fn on_local_name(
     wanted: Purpose,
     pointer: PointerType,
-    name_at: u32,
-    name: u32,
+    identifier: Identifier,
     stack: Stack,
 ) -> Moved
-    ensures { Steps result (machine.on_local_name (purpose wanted) pointer.space pointer.is_const pointer.element name_at name (opened stack)) }
+    ensures { Steps result (machine.on_local_name (purpose wanted) pointer.space pointer.is_const pointer.element identifier.at identifier.name (opened stack)) }
 {
     match (wanted, pointer.space, pointer.is_const) {
         (Purpose::Declaration { at, nesting }, AddressSpace::Local, false) => {
@@ -60,8 +59,7 @@ pub(crate) fn on_local_name(
                 at,
                 is_local: true,
                 element: pointer.element,
-                name_at,
-                name,
+                identifier,
             };
             stack.go(nesting, Mode::Array(ArrayMode::Named(array)))
         }
@@ -71,7 +69,7 @@ pub(crate) fn on_local_name(
 
 /// The length of an array.
 fn on_length(array: Array, length_at: u32, length: Value, stack: Stack) -> Moved
-    ensures { Steps result (machine.go (suc array.nesting) (machine.ArraySized array.nesting (tree.DeclareArray array.at array.is_local array.element array.name_at array.name length_at length)) (opened stack)) }
+    ensures { Steps result (machine.go (suc array.nesting) (machine.ArraySized array.nesting (tree.DeclareArray array.at array.is_local array.element array.identifier.at array.identifier.name length_at length)) (opened stack)) }
 {
     let Some(inner) = deeper(array.nesting) else {
         return Ok(Step::Deep);
@@ -80,8 +78,8 @@ fn on_length(array: Array, length_at: u32, length: Value, stack: Stack) -> Moved
         at: array.at,
         is_local: array.is_local,
         element: array.element,
-        name_at: array.name_at,
-        name: array.name,
+        name_at: array.identifier.at,
+        name: array.identifier.name,
         length_at,
         length,
     };

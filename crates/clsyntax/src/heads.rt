@@ -11,7 +11,7 @@ use clmodel::tree::{Parameter, PointerType, VariableType};
 use clnum::IntType;
 use clsyntax_lex::token::{Token, TokenKind};
 use clsyntax_terms::state::{
-    Declared, Frame, Head, HeadMode, Mode, Moved, Purpose, Stack, Step, TypeMode,
+    Declared, Frame, Head, HeadMode, Identifier, Mode, Moved, Purpose, Stack, Step, TypeMode,
 };
 
 /// The nesting of a type's tokens.
@@ -70,21 +70,15 @@ fn on_parameter_name(takes_size: bool, parameter: Parameter, stack: Stack) -> Mo
 }
 
 /// The name of what a type was read for.
-fn on_typed_name(
-    wanted: Purpose,
-    kind: VariableType,
-    name_at: u32,
-    name: u32,
-    stack: Stack,
-) -> Moved
-    ensures { Steps result (machine.on_typed_name (purpose wanted) kind name_at name (opened stack)) }
+fn on_typed_name(wanted: Purpose, kind: VariableType, identifier: Identifier, stack: Stack) -> Moved
+    ensures { Steps result (machine.on_typed_name (purpose wanted) kind identifier.at identifier.name (opened stack)) }
 {
     match wanted {
         Purpose::Parameter { takes_size } => on_parameter_name(
             takes_size,
             Parameter {
-                name_at,
-                name,
+                name_at: identifier.at,
+                name: identifier.name,
                 kind,
             },
             stack,
@@ -94,8 +88,7 @@ fn on_typed_name(
                 nesting,
                 at,
                 kind,
-                name_at,
-                name,
+                identifier,
             };
             stack.go(nesting, Mode::Declared(declared))
         }
@@ -106,6 +99,7 @@ fn on_typed_name(
 pub(crate) fn on_type(wanted: Purpose, mode: TypeMode, stack: Stack, token: Token) -> Moved
     ensures { Steps result (machine.step_in (type_mode_of wanted mode) (opened stack) token) }
 {
+    let at = token.at;
     let next = match (mode, token.kind) {
         (TypeMode::AfterSpace(space), TokenKind::Const) => TypeMode::AfterConst(space),
         (TypeMode::AfterSpace(space) | TypeMode::AfterConst(space), kind) => {
@@ -122,10 +116,13 @@ pub(crate) fn on_type(wanted: Purpose, mode: TypeMode, stack: Stack, token: Toke
             TypeMode::Whole(VariableType::Pointer(pointer))
         }
         (TypeMode::AfterElement(pointer), TokenKind::Name(name)) => {
-            return on_local_name(wanted, pointer, token.at, name, stack);
+            return on_local_name(wanted, pointer, Identifier { at, name }, stack);
         }
         (TypeMode::Whole(kind), TokenKind::Name(name)) => return on_typed_name(
-            wanted, kind, token.at, name, stack,
+            wanted,
+            kind,
+            Identifier { at, name },
+            stack,
         ),
         _ => return Ok(Step::Refused),
     };
@@ -176,18 +173,16 @@ fn on_top(stack: Stack, token: Token) -> Moved
 fn open_head(
     is_kernel: bool,
     returned: Option<IntType>,
-    name_at: u32,
-    name: u32,
+    identifier: Identifier,
     stack: Stack,
 ) -> Moved
-    ensures { Steps result (machine.go 0 (machine.HeadOpen (not is_kernel)) (machine.InHead (grammar.head is_kernel returned name_at name []) ∷ opened stack)) }
+    ensures { Steps result (machine.go 0 (machine.HeadOpen (not is_kernel)) (machine.InHead (grammar.head is_kernel returned identifier.at identifier.name []) ∷ opened stack)) }
 {
     let parameters = Vec::new(stack.alloc);
     let head = Frame::InHead(Head {
         is_kernel,
         result: returned,
-        name_at,
-        name,
+        identifier,
         parameters,
     });
     let takes_size = !is_kernel;
@@ -211,8 +206,7 @@ fn on_after_returning(
     let named = HeadMode::AfterName {
         is_kernel,
         result: returned,
-        at: token.at,
-        name,
+        identifier: Identifier { at: token.at, name },
     };
     stack.go(0, Mode::Head(named))
 }
@@ -245,11 +239,10 @@ pub(crate) fn on_head(mode: HeadMode, stack: Stack, token: Token) -> Moved
             HeadMode::AfterName {
                 is_kernel,
                 result,
-                at,
-                name,
+                identifier,
             },
             TokenKind::OpenRound,
-        ) => { open_head(is_kernel, result, at, name, stack) }
+        ) => { open_head(is_kernel, result, identifier, stack) }
         (HeadMode::HeadOpen { .. } | HeadMode::AfterParameter { .. }, TokenKind::CloseRound) => {
             stack.go(1, Mode::Head(HeadMode::HeadDone))
         }

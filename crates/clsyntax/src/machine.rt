@@ -19,18 +19,25 @@ use clsyntax_lex::token::{Token, TokenKind};
 use clsyntax_terms::closing::on_ended;
 use clsyntax_terms::expressions::{on_have, on_operand};
 use clsyntax_terms::state::{
-    Address, Cast, Frame, Have, Mode, Moved, Prefix, Stack, State, Step, deeper,
+    Address, Cast, Frame, Have, Identifier, Mode, Moved, Prefix, Stack, State, Step, deeper,
 };
 use std::alloc::Global;
 
 /// After a name in an expression.
-fn on_named(nesting: u32, at: u32, name: u32, stack: Stack, token: Token) -> Moved
-    ensures { Steps result (machine.on_named nesting at name (opened stack) token) }
+fn on_named(nesting: u32, identifier: Identifier, stack: Stack, token: Token) -> Moved
+    ensures { Steps result (machine.on_named nesting identifier.at identifier.name (opened stack) token) }
 {
     match token.kind {
-        TokenKind::OpenSquare => stack.open(nesting, Frame::InElement { at, name, nesting }),
-        TokenKind::OpenRound => open_call(false, at, name, nesting, stack),
+        TokenKind::OpenSquare => stack.open(
+            nesting,
+            Frame::InElement {
+                identifier,
+                nesting,
+            },
+        ),
+        TokenKind::OpenRound => open_call(false, nesting, identifier, stack),
         _ => {
+            let Identifier { at, name } = identifier;
             let value = Box::new(stack.alloc, Expression::Variable { at, name })?;
             let have = Have {
                 nesting,
@@ -72,15 +79,14 @@ fn on_after_and(nesting: u32, at: u32, stack: Stack, token: Token) -> Moved
     let address = Address {
         nesting,
         at,
-        name_at: token.at,
-        name,
+        identifier: Identifier { at: token.at, name },
     };
     stack.go(nesting, Mode::AndName(address))
 }
 
 /// After `&` and a name.
 fn on_and_name(address: Address, stack: Stack, token: Token) -> Moved
-    ensures { Steps result (machine.on_and_name address.nesting address.at address.name_at address.name (opened stack) token) }
+    ensures { Steps result (machine.on_and_name address.nesting address.at address.identifier.at address.identifier.name (opened stack) token) }
 {
     match token.kind {
         TokenKind::OpenSquare => stack.open(address.nesting, Frame::InAddress(address)),
@@ -107,7 +113,10 @@ pub(crate) fn step(alloc: Global, state: Box<State>, token: Token) -> Moved
     match mode {
         Mode::Operand { nesting } => on_operand(nesting, stack, token),
         Mode::Have(have) => on_have(have, stack, token),
-        Mode::Named { nesting, at, name } => on_named(nesting, at, name, stack, token),
+        Mode::Named {
+            nesting,
+            identifier,
+        } => on_named(nesting, identifier, stack, token),
         Mode::Opened { nesting, at } => on_opened(nesting, at, stack, token),
         Mode::CastType(cast) => on_cast_type(cast, stack, token),
         Mode::AfterAnd { nesting, at } => on_after_and(nesting, at, stack, token),

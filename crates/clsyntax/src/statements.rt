@@ -15,21 +15,21 @@ use clsyntax_lex::token::{Token, TokenKind};
 use clsyntax_terms::closing::{add_declaration, declaration, end_step};
 use clsyntax_terms::operators::assign_of;
 use clsyntax_terms::state::{
-    Aimed, Assign, Call, Declared, FirstName, Frame, HeadMode, Mode, Moved, Purpose, Stack, Step,
-    deeper,
+    Aimed, Assign, Call, Declared, FirstName, Frame, HeadMode, Identifier, Mode, Moved, Purpose,
+    Stack, Step, deeper,
 };
 
 /// After a declared name.
-pub(crate) fn on_declared(name: Declared, stack: Stack, token: Token) -> Moved
-    ensures { Steps result (machine.on_declared name.nesting name.at name.kind name.name_at name.name (opened stack) token) }
+pub(crate) fn on_declared(declared: Declared, stack: Stack, token: Token) -> Moved
+    ensures { Steps result (machine.on_declared declared.nesting declared.at declared.kind declared.identifier.at declared.identifier.name (opened stack) token) }
 {
     match token.kind {
-        TokenKind::Assign => stack.want(name.nesting, Frame::InDeclare(name)),
+        TokenKind::Assign => stack.want(declared.nesting, Frame::InDeclare(declared)),
         TokenKind::Semicolon => {
-            let statement = declaration(stack.alloc, name, None)?;
-            add_declaration(name.nesting, statement, stack)
+            let statement = declaration(stack.alloc, declared, None)?;
+            add_declaration(declared.nesting, statement, stack)
         }
-        TokenKind::OpenSquare => on_array(name, stack),
+        TokenKind::OpenSquare => on_array(declared, stack),
         _ => Ok(Step::Refused),
     }
 }
@@ -74,8 +74,8 @@ fn end_items(nesting: u32, body: Vec<Statement>, stack: Stack) -> Moved
             let function = Function {
                 is_kernel: head.is_kernel,
                 result: head.result,
-                name_at: head.name_at,
-                name: head.name,
+                name_at: head.identifier.at,
+                name: head.identifier.name,
                 parameters: head.parameters,
                 body_at: at,
                 body,
@@ -151,8 +151,7 @@ pub(crate) fn on_simple(nesting: u32, stack: Stack, token: Token) -> Moved
             let name = FirstName {
                 is_step: false,
                 nesting,
-                at,
-                name,
+                identifier: Identifier { at, name },
             };
             stack.go(nesting, Mode::BeginName(name))
         }
@@ -238,8 +237,7 @@ pub(crate) fn on_aim(nesting: u32, stack: Stack, token: Token) -> Moved
             let name = FirstName {
                 is_step: true,
                 nesting,
-                at,
-                name,
+                identifier: Identifier { at, name },
             };
             stack.go(nesting, Mode::BeginName(name))
         }
@@ -314,8 +312,13 @@ pub(crate) fn on_aimed(aimed: Aimed, stack: Stack, token: Token) -> Moved
 }
 
 /// The step of a call's bracket.
-pub(crate) fn open_call(is_statement: bool, at: u32, name: u32, nesting: u32, stack: Stack) -> Moved
-    ensures { Steps result (machine.go nesting (machine.CallOpen (suc nesting)) (machine.InCall is_statement at name nesting NoTerm ∷ opened stack)) }
+pub(crate) fn open_call(
+    is_statement: bool,
+    nesting: u32,
+    identifier: Identifier,
+    stack: Stack,
+) -> Moved
+    ensures { Steps result (machine.go nesting (machine.CallOpen (suc nesting)) (machine.InCall is_statement identifier.at identifier.name nesting NoTerm ∷ opened stack)) }
 {
     let Some(inner) = deeper(nesting) else {
         return Ok(Step::Deep);
@@ -323,8 +326,7 @@ pub(crate) fn open_call(is_statement: bool, at: u32, name: u32, nesting: u32, st
     let arguments = Vec::new(stack.alloc);
     let stack = stack.push(Frame::InCall(Call {
         is_statement,
-        at,
-        name,
+        identifier,
         nesting,
         arguments,
     }))?;
@@ -333,19 +335,19 @@ pub(crate) fn open_call(is_statement: bool, at: u32, name: u32, nesting: u32, st
 
 /// After the name with which a statement, or a target behind `++` or `--`, begins.
 pub(crate) fn on_begin_name(first: FirstName, stack: Stack, token: Token) -> Moved
-    ensures { Steps result (machine.on_begin_name first.is_step first.nesting first.at first.name (opened stack) token) }
+    ensures { Steps result (machine.on_begin_name first.is_step first.nesting first.identifier.at first.identifier.name (opened stack) token) }
 {
     let FirstName {
         is_step,
         nesting,
-        at,
-        name,
+        identifier,
     } = first;
     match token.kind {
         TokenKind::OpenSquare => stack.open(nesting, Frame::InPart(first)),
         TokenKind::OpenRound if is_step => Ok(Step::Refused),
-        TokenKind::OpenRound => open_call(true, at, name, nesting, stack),
+        TokenKind::OpenRound => open_call(true, nesting, identifier, stack),
         _ => {
+            let Identifier { at, name } = identifier;
             let target = Box::new(stack.alloc, Target::Variable { at, name })?;
             let aimed = Aimed {
                 is_step,

@@ -44,7 +44,7 @@ abbrev pub funcs_of : List rust_function.Function → Funcs
 funcs_of fs = then_funcs NoFunc (map func fs)
 
 abbrev pub head_of : Head → grammar.Head
-head_of h = grammar.head h.is_kernel h.result h.name_at h.name h.parameters.items
+head_of h = grammar.head h.is_kernel h.result h.identifier.at h.identifier.name h.parameters.items
 
 abbrev pub prefix : Prefix → grammar.Prefix
 prefix (prefixes.Operator operator) = grammar.Operator operator
@@ -64,7 +64,7 @@ purpose (purposes.Parameter takes_size) = machine.ForParameter takes_size
 purpose (purposes.Declaration at nesting) = machine.ForDeclaration at nesting
 
 abbrev pub in_call : Call → machine.Frame
-in_call c = machine.InCall c.is_statement c.at c.name c.nesting (terms c.arguments.items)
+in_call c = machine.InCall c.is_statement c.identifier.at c.identifier.name c.nesting (terms c.arguments.items)
 
 abbrev pub frame_of : Frame → machine.Frame
 frame_of (frames.After from operator left) = machine.After from operator (term left.value)
@@ -72,14 +72,14 @@ frame_of (frames.Before at p) = machine.Before at (prefix p)
 frame_of (frames.Asked from condition) = machine.Asked from (term condition.value)
 frame_of (frames.Chosen from condition chosen) = machine.Chosen from (term condition.value) (term chosen.value)
 frame_of (frames.InRound at nesting) = machine.InRound at nesting
-frame_of (frames.InElement at name nesting) = machine.InElement at name nesting
-frame_of (frames.InAddress a) = machine.InAddress a.at a.name_at a.name a.nesting
+frame_of (frames.InElement i nesting) = machine.InElement i.at i.name nesting
+frame_of (frames.InAddress a) = machine.InAddress a.at a.identifier.at a.identifier.name a.nesting
 frame_of (frames.InCall call) = in_call call
-frame_of (frames.InPart n) = machine.InPart n.is_step n.at n.name n.nesting
+frame_of (frames.InPart n) = machine.InPart n.is_step n.identifier.at n.identifier.name n.nesting
 frame_of (frames.InBehind is_step at nesting) = machine.InBehind is_step at nesting
 frame_of (frames.InStep at nesting is_increment) = machine.InStep at nesting is_increment
 frame_of (frames.InAssign a) = machine.InAssign a.at a.nesting (tree_target a.target.value) a.operator
-frame_of (frames.InDeclare d) = machine.InDeclare d.at d.nesting d.kind d.name_at d.name
+frame_of (frames.InDeclare d) = machine.InDeclare d.at d.nesting d.kind d.identifier.at d.identifier.name
 frame_of (frames.InReturn at nesting) = machine.InReturn at nesting
 frame_of (frames.InIf at nesting) = machine.InIf at nesting
 frame_of (frames.InWhile at nesting) = machine.InWhile at nesting
@@ -106,7 +106,7 @@ abbrev pub head_mode_of : HeadMode → machine.Mode
 head_mode_of heads.Top = machine.Top
 head_mode_of heads.AfterKernel = machine.AfterKernel
 head_mode_of (heads.AfterReturning is_kernel result) = machine.AfterReturning is_kernel result
-head_mode_of (heads.AfterName is_kernel result at name) = machine.AfterName is_kernel result at name
+head_mode_of (heads.AfterName is_kernel result i) = machine.AfterName is_kernel result i.at i.name
 head_mode_of (heads.HeadOpen takes_size) = machine.HeadOpen takes_size
 head_mode_of (heads.WantParameter takes_size) = machine.WantParameter takes_size
 head_mode_of (heads.AfterParameter takes_size) = machine.AfterParameter takes_size
@@ -119,19 +119,19 @@ type_mode_of p (types.AfterElement t) = machine.AfterElement (purpose p) t.space
 type_mode_of p (types.Whole kind) = machine.AfterTyping (purpose p) kind
 
 abbrev pub array_mode_of : ArrayMode → machine.Mode
-array_mode_of (arrays.Named a) = machine.ArrayNamed a.nesting a.at a.is_local a.element a.name_at a.name
-array_mode_of (arrays.Opened a) = machine.ArrayOpened a.nesting a.at a.is_local a.element a.name_at a.name
+array_mode_of (arrays.Named a) = machine.ArrayNamed a.nesting a.at a.is_local a.element a.identifier.at a.identifier.name
+array_mode_of (arrays.Opened a) = machine.ArrayOpened a.nesting a.at a.is_local a.element a.identifier.at a.identifier.name
 array_mode_of (arrays.Sized nesting statement) = machine.ArraySized nesting (stmt statement.value)
 array_mode_of (arrays.Closed nesting statement) = machine.ArrayClosed nesting (stmt statement.value)
 
 abbrev pub mode_of : Mode → machine.Mode
 mode_of (modes.Operand nesting) = machine.Operand nesting
 mode_of (modes.Have h) = machine.Have h.nesting h.from (term h.value.value)
-mode_of (modes.Named nesting at name) = machine.Named nesting at name
+mode_of (modes.Named nesting i) = machine.Named nesting i.at i.name
 mode_of (modes.Opened nesting at) = machine.Opened nesting at
 mode_of (modes.CastType c) = machine.CastType c.nesting c.at c.target
 mode_of (modes.AfterAnd nesting at) = machine.AfterAnd nesting at
-mode_of (modes.AndName a) = machine.AndName a.nesting a.at a.name_at a.name
+mode_of (modes.AndName a) = machine.AndName a.nesting a.at a.identifier.at a.identifier.name
 mode_of (modes.CallOpen nesting) = machine.CallOpen nesting
 mode_of (modes.Optional nesting) = machine.Optional nesting
 mode_of (modes.Item nesting) = machine.Item nesting
@@ -139,7 +139,7 @@ mode_of (modes.Begin nesting) = machine.Begin nesting
 mode_of (modes.Initial nesting) = machine.Initial nesting
 mode_of (modes.Final nesting) = machine.Final nesting
 mode_of (modes.Aim nesting) = machine.Aim nesting
-mode_of (modes.BeginName n) = machine.BeginName n.is_step n.nesting n.at n.name
+mode_of (modes.BeginName n) = machine.BeginName n.is_step n.nesting n.identifier.at n.identifier.name
 mode_of (modes.Aimed a) = machine.Aimed a.is_step a.nesting a.at (tree_target a.target.value)
 mode_of (modes.Ended nesting statement) = machine.Ended nesting (stmt statement.value)
 mode_of (modes.Closing nesting statement) = machine.Closing nesting (stmt statement.value)
@@ -149,7 +149,7 @@ mode_of (modes.AfterWhile nesting at) = machine.AfterWhile nesting at
 mode_of (modes.AfterFor nesting at) = machine.AfterFor nesting at
 mode_of (modes.AfterDo nesting at body) = machine.AfterDo nesting at (stmt body.value)
 mode_of (modes.Typing p t) = type_mode_of p t
-mode_of (modes.Declared d) = machine.Declared d.nesting d.at d.kind d.name_at d.name
+mode_of (modes.Declared d) = machine.Declared d.nesting d.at d.kind d.identifier.at d.identifier.name
 mode_of (modes.Array a) = array_mode_of a
 mode_of (modes.Head h) = head_mode_of h
 

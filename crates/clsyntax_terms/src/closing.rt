@@ -203,13 +203,13 @@ pub fn declaration(
     declared: Declared,
     value: Option<Box<Expression>>,
 ) -> Result<Box<Statement>, AllocError>
-    ensures { IfOk result (λ made. stmt made.value ≡ tree.declared declared.at declared.kind declared.name_at declared.name value) }
+    ensures { IfOk result (λ made. stmt made.value ≡ tree.declared declared.at declared.kind declared.identifier.at declared.identifier.name value) }
 {
     let statement = Statement::Declare {
         at: declared.at,
         kind: declared.kind,
-        name_at: declared.name_at,
-        name: declared.name,
+        name_at: declared.identifier.at,
+        name: declared.identifier.name,
         value,
     };
     Ok(Box::new(alloc, statement)?)
@@ -274,7 +274,7 @@ fn end_declaration(nesting: u32, statement: Box<Statement>, stack: Stack) -> Mov
 }
 
 /// Where a value is given back, if there is one.
-fn end_return(at: u32, nesting: u32, value: Option<Box<Expression>>, stack: Stack) -> Moved
+fn end_return(nesting: u32, at: u32, value: Option<Box<Expression>>, stack: Stack) -> Moved
     ensures { Steps result (machine.go nesting (machine.Did (tree.returned at value)) (opened stack)) }
 {
     let statement = Box::new(stack.alloc, Statement::Return { at, value })?;
@@ -302,7 +302,7 @@ pub(crate) fn on_semicolon(value: Box<Expression>, stack: Stack) -> Moved
             let statement = declaration(stack.alloc, declared, Some(value))?;
             end_declaration(declared.nesting, statement, stack)
         }
-        Frame::InReturn { at, nesting } => end_return(at, nesting, Some(value), stack),
+        Frame::InReturn { at, nesting } => end_return(nesting, at, Some(value), stack),
         Frame::InCondition(turns) => begin_final(turns, Some(value), stack),
         _ => {
             drop(frame);
@@ -319,7 +319,7 @@ pub fn on_nothing(stack: Stack) -> Moved
         return Ok(Step::Refused);
     };
     match frame {
-        Frame::InReturn { at, nesting } => end_return(at, nesting, None, stack),
+        Frame::InReturn { at, nesting } => end_return(nesting, at, None, stack),
         Frame::InCondition(turns) => begin_final(turns, None, stack),
         _ => {
             drop(frame);
@@ -343,8 +343,8 @@ fn begin_body(nesting: u32, frame: Frame, stack: Stack) -> Moved
 
 /// The bracket behind the condition of a `do`.
 fn end_do(
-    at: u32,
     nesting: u32,
+    at: u32,
     body: Box<Statement>,
     condition: Box<Expression>,
     stack: Stack,
@@ -383,7 +383,7 @@ pub(crate) fn end_bracket(frame: Frame, value: Box<Expression>, stack: Stack) ->
             };
             begin_body(nesting, turns, stack)
         }
-        Frame::InDo { at, nesting, body } => end_do(at, nesting, body, value, stack),
+        Frame::InDo { at, nesting, body } => end_do(nesting, at, body, value, stack),
         Frame::InAssign(assign) => end_assign(true, assign, value, stack),
         Frame::InBehind {
             is_step: true,

@@ -10,7 +10,9 @@ ghost use Rattle.clsyntax_terms.specs.Views.{opened, folded_of, Steps};
 
 use crate::closing::{end_bracket, on_semicolon};
 use crate::operators::{Folded, assign_of, close, infix_of, is_star, prefix_of};
-use crate::state::{Aimed, Assign, Call, FirstName, Frame, Have, Mode, Moved, Stack, Step, deeper};
+use crate::state::{
+    Aimed, Assign, Call, FirstName, Frame, Have, Identifier, Mode, Moved, Stack, Step, deeper,
+};
 use clmodel::tree::{Expression, InfixOperator, Statement, Target};
 use clsyntax_lex::token::{Token, TokenKind};
 
@@ -29,7 +31,16 @@ pub fn on_operand(nesting: u32, stack: Stack, token: Token) -> Moved
             };
             stack.go(nesting, Mode::Have(have))
         }
-        TokenKind::Name(name) => stack.go(nesting, Mode::Named { nesting, at, name }),
+        TokenKind::Name(name) => {
+            let identifier = Identifier { at, name };
+            stack.go(
+                nesting,
+                Mode::Named {
+                    nesting,
+                    identifier,
+                },
+            )
+        }
         TokenKind::And => match deeper(nesting) {
             Some(inner) => stack.go(nesting, Mode::AfterAnd { nesting: inner, at }),
             None => Ok(Step::Deep),
@@ -42,24 +53,23 @@ pub fn on_operand(nesting: u32, stack: Stack, token: Token) -> Moved
     }
 }
 
-fn call_of(at: u32, name: u32, arguments: Vec<Expression>) -> Expression
-    ensures { term result ≡ tree.Call at name (terms arguments.items) }
+fn call_of(called: Identifier, arguments: Vec<Expression>) -> Expression
+    ensures { term result ≡ tree.Call called.at called.name (terms arguments.items) }
 {
     Expression::Call {
-        at,
-        name,
+        at: called.at,
+        name: called.name,
         arguments,
     }
 }
 
 /// Where a call's bracket closes.
 pub fn end_call(call: Call, stack: Stack) -> Moved
-    ensures { Steps result (machine.end_call call.is_statement call.at call.name call.nesting (terms call.arguments.items) (opened stack)) }
+    ensures { Steps result (machine.end_call call.is_statement call.identifier.at call.identifier.name call.nesting (terms call.arguments.items) (opened stack)) }
 {
     let Call {
         is_statement,
-        at,
-        name,
+        identifier,
         nesting,
         arguments,
     } = call;
@@ -67,20 +77,18 @@ pub fn end_call(call: Call, stack: Stack) -> Moved
         return Ok(Step::Deep);
     };
     if is_statement {
-        let statement = Box::new(
-            stack.alloc,
-            Statement::Call {
-                at,
-                name,
-                arguments,
-            },
-        )?;
+        let call = Statement::Call {
+            at: identifier.at,
+            name: identifier.name,
+            arguments,
+        };
+        let statement = Box::new(stack.alloc, call)?;
         stack.go(inner, Mode::Ended { nesting, statement })
     } else {
-        let value = Box::new(stack.alloc, call_of(at, name, arguments))?;
+        let value = Box::new(stack.alloc, call_of(identifier, arguments))?;
         let have = Have {
             nesting,
-            from: at,
+            from: identifier.at,
             value,
         };
         stack.go(inner, Mode::Have(have))
@@ -130,27 +138,25 @@ fn on_comma(value: Box<Expression>, stack: Stack) -> Moved
 
 /// Where the index of a target ends.
 fn end_part(array: FirstName, index: Box<Expression>, stack: Stack) -> Moved
-    ensures { Steps result (machine.go (suc array.nesting) (machine.Aimed array.is_step array.nesting array.at (tree.TargetElement array.at array.name (term index.value))) (opened stack)) }
+    ensures { Steps result (machine.go (suc array.nesting) (machine.Aimed array.is_step array.nesting array.identifier.at (tree.TargetElement array.identifier.at array.identifier.name (term index.value))) (opened stack)) }
 {
     let FirstName {
         is_step,
         nesting,
-        at,
-        name,
+        identifier,
     } = array;
+    let Identifier { at, name } = identifier;
     let target = Box::new(stack.alloc, Target::Element { at, name, index })?;
     let Some(inner) = deeper(nesting) else {
         return Ok(Step::Deep);
     };
-    stack.go(
-        inner,
-        Mode::Aimed(Aimed {
-            is_step,
-            nesting,
-            at,
-            target,
-        }),
-    )
+    let aimed = Aimed {
+        is_step,
+        nesting,
+        at,
+        target,
+    };
+    stack.go(inner, Mode::Aimed(aimed))
 }
 
 /// Where an index ends.
@@ -161,15 +167,19 @@ fn on_close_square(index: Box<Expression>, stack: Stack) -> Moved
         return Ok(Step::Refused);
     };
     match frame {
-        Frame::InElement { at, name, nesting } => {
+        Frame::InElement {
+            identifier,
+            nesting,
+        } => {
+            let Identifier { at, name } = identifier;
             let element = Box::new(stack.alloc, Expression::Element { at, name, index })?;
             stack.close(nesting, at, element)
         }
         Frame::InAddress(of) => {
             let address = Expression::ElementAddress {
                 at: of.at,
-                name_at: of.name_at,
-                name: of.name,
+                name_at: of.identifier.at,
+                name: of.identifier.name,
                 index,
             };
             let address = Box::new(stack.alloc, address)?;

@@ -16,6 +16,13 @@ use std::alloc::{AllocError, Global};
 /// How deep tokens may be nested.
 pub const LIMIT: u32 = 64;
 
+/// An identifier in a source: where it begins, and its name, by its place in the table of names.
+#[derive(Clone, Copy)]
+pub struct Identifier {
+    pub at: u32,
+    pub name: u32,
+}
+
 /// What stands before an operand (C99 6.5.3.2, 6.5.3.3 and 6.5.4).
 #[derive(Clone, Copy)]
 pub enum Prefix {
@@ -40,8 +47,7 @@ pub struct Declared {
     pub nesting: u32,
     pub at: u32,
     pub kind: VariableType,
-    pub name_at: u32,
-    pub name: u32,
+    pub identifier: Identifier,
 }
 
 /// An array's type and name; `at` is where its declaration begins.
@@ -51,8 +57,7 @@ pub struct Array {
     pub at: u32,
     pub is_local: bool,
     pub element: IntType,
-    pub name_at: u32,
-    pub name: u32,
+    pub identifier: Identifier,
 }
 
 /// What stands before a function's body.
@@ -60,8 +65,7 @@ pub struct Array {
 pub struct Head {
     pub is_kernel: bool,
     pub result: Option<IntType>,
-    pub name_at: u32,
-    pub name: u32,
+    pub identifier: Identifier,
     pub parameters: Vec<Parameter>,
 }
 
@@ -69,8 +73,7 @@ pub struct Head {
 #[derive(Drop)]
 pub struct Call {
     pub is_statement: bool,
-    pub at: u32,
-    pub name: u32,
+    pub identifier: Identifier,
     pub nesting: u32,
     pub arguments: Vec<Expression>,
 }
@@ -94,13 +97,12 @@ pub struct Assign {
     pub operator: Option<BinaryOperator>,
 }
 
-/// `&name`, and where the name begins.
+/// `&name`; `at` is where it begins.
 #[derive(Clone, Copy)]
 pub struct Address {
     pub nesting: u32,
     pub at: u32,
-    pub name_at: u32,
-    pub name: u32,
+    pub identifier: Identifier,
 }
 
 /// A target's or a call's first name, and whether `++` or `--` stands before it.
@@ -108,8 +110,7 @@ pub struct Address {
 pub struct FirstName {
     pub is_step: bool,
     pub nesting: u32,
-    pub at: u32,
-    pub name: u32,
+    pub identifier: Identifier,
 }
 
 /// A target, and whether `++` or `--` stands before it.
@@ -169,8 +170,7 @@ pub enum Frame {
     },
     /// `name[` in an expression
     InElement {
-        at: u32,
-        name: u32,
+        identifier: Identifier,
         nesting: u32,
     },
     /// `&name[`
@@ -286,8 +286,7 @@ pub enum Mode {
     /// In an expression a name was read
     Named {
         nesting: u32,
-        at: u32,
-        name: u32,
+        identifier: Identifier,
     },
     /// Where an operand was wanted, `(` was read
     Opened {
@@ -422,8 +421,7 @@ pub enum HeadMode {
     AfterName {
         is_kernel: bool,
         result: Option<IntType>,
-        at: u32,
-        name: u32,
+        identifier: Identifier,
     },
     /// The bracket; parameters may be of type size_t or not
     HeadOpen {
