@@ -15,7 +15,6 @@ pub mod SoundLoops
 pub mod Ways
 pub mod KernelWays
 pub mod Verified
-pub mod Looking
 pub mod Scoped
 pub mod TypedRights
 pub mod TypedStatements
@@ -34,3 +33,4 @@ pub mod ShortStatements
 pub mod ShortKernels
 pub mod Named
 pub mod FitKernels
+pub mod Reach

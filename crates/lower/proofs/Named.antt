@@ -13,7 +13,7 @@ use Rattle.lower_code.specs.Helpers.{functions_of, sizes_in, nodes_in, NodesCoun
 use Rattle.lower_code.specs.Room.{FewParameters}
 use Rattle.lower_code.proofs.Lists.{functions_more}
 use Rattle.lower.specs.Accepted.{Distinct}
-use Rattle.lower.proofs.Looking.{look_last}
+use Rattle.lower_code.proofs.Looking.{look_last}
 use Rattle.lower.proofs.TypedKernels.{distinct}
 
 step_stays : {V : Type 0} (v w : V) (b : Bool) (r other : Option V) → (r ≡ Some w → other ≡ Some w) → cond b (Some v) r ≡ Some w → cond b (Some v) other ≡ Some w
