@@ -2,7 +2,7 @@
 #![tactic(auto, using(crate::proofs::Growth::unchanged, crate::proofs::Growth::behind))]
 
 ghost use Rattle.std.specs.Prelude.{◌≡◌, ℕ, ◌+◌, ◌<◌, ◌≤◌, ◌^◌, [], ◌++◌, IfOk, OnOk, OnErr};
-ghost use Rattle.clmodel.specs.Tree.{Target, tree_target};
+ghost use Rattle.clmodel.specs.Tree.{Target as TreeTarget, tree_target};
 ghost use Rattle.clmodel.specs.Typing.Sizes.{target_size};
 ghost use Rattle.lower_expr.specs.Scope.{free_level, register_of};
 ghost use Rattle.lower_expr.specs.Expressions.{kind_named, variable_code, target_code, target_register};
@@ -59,7 +59,7 @@ pub fn reach(
 
 /// The type of the target.
 pub fn destination_type(scope: &Scope, destination: Destination) -> VariableType
-    ensures { (to : Target) → destination ≡ destination_of scope.now to → result ≡ spec.type_of_target scope.now to }
+    ensures { (to : TreeTarget) → destination ≡ destination_of scope.now to → result ≡ spec.type_of_target scope.now to }
 {
     match destination.kind {
         TargetKind::Variable => scope.kind(destination.name),
@@ -78,7 +78,7 @@ pub fn fetch(
 ) -> Result<(), AllocError>
     requires free { free_level scope.now ≤ level }
     requires low { level < 2 ^ 28 }
-    ensures code { OnOk result ((target : Target) → destination ≡ destination_of scope.now target
+    ensures code { OnOk result ((target : TreeTarget) → destination ≡ destination_of scope.now target
         → code.new.items ≡ code.old.items ++ spec.fetch_code scope.now target (target_register scope.now level target) to) }
     ensures longer { OnErr result (IsLonger code.old.items code.new.items) }
 {
@@ -125,7 +125,7 @@ pub fn put(
 ) -> Result<(), AllocError>
     requires free { free_level scope.now ≤ level }
     requires low { level < 2 ^ 28 }
-    ensures code { OnOk result ((target : Target) → destination ≡ destination_of scope.now target
+    ensures code { OnOk result ((target : TreeTarget) → destination ≡ destination_of scope.now target
         → code.new.items ≡ code.old.items ++ spec.put_code scope.now target (target_register scope.now level target) from) }
     ensures longer { OnErr result (IsLonger code.old.items code.new.items) }
 {
@@ -175,7 +175,7 @@ pub fn combine(
 ) -> Result<(), AllocError>
     requires free { free_level scope.now ≤ level }
     requires low { level + 1 < 2 ^ 28 }
-    ensures code { OnOk result ((target : Target) → destination ≡ destination_of scope.now target
+    ensures code { OnOk result ((target : TreeTarget) → destination ≡ destination_of scope.now target
         → code.new.items ≡ code.old.items ++ spec.combine_code scope.now target level operator kind old right) }
     ensures longer { OnErr result (IsLonger code.old.items code.new.items) }
 {
