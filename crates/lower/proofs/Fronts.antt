@@ -13,6 +13,7 @@ use Rattle.regcode.specs.declared.instruction.Instruction.{Instruction}
 use Rattle.lower_code.specs.Room.{levels, reach}
 use Rattle.lower_code.specs.declared.positions.Exits.{Exits}
 use Rattle.lower_code.specs.Trees.{all_of}
+use Rattle.lower_code.specs.Variables.{elements, row_elements}
 
 module _ (f : ℕ → ℕ) where
   more_sites : (ss : Stmts) (ts : List Statement) → all_sites f ss ≤ all_sites f (then_stmts ss (map stmt ts))
@@ -81,3 +82,7 @@ pub block_short : (sizes : Sizes) (s : Statement) (at : ℕ) (ss : Vec Statement
 block_short sizes s at ss ts exits code n s_is ts_is short =
     let inner : reach exits code (suc (row_size sizes (all_of ts)).nodes) < n = subst (λ (x : Stmt). reach exits code (size sizes x).nodes < n) (sym (block_is s at ss ts s_is ts_is)) short in
     omega (arith, inner)
+
+-- and have no larger arrays
+pub block_arrays : (s : Statement) (at : ℕ) (ss : Vec Statement Global) (ts : List Statement) (n : ℕ) → s ≡ rust_statement.Block at ss → ts ≡ ss.items → elements (stmt s) ≤ n → row_elements (all_of ts) ≤ n
+block_arrays s at ss ts n s_is ts_is few = subst (λ (x : Stmt). elements x ≤ n) (sym (block_is s at ss ts s_is ts_is)) few

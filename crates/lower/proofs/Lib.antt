@@ -22,7 +22,6 @@ pub mod TypedKernels
 pub mod Counted
 pub mod Lowered
 pub mod Rounds
-pub mod Places
 pub mod Lent
 pub mod FewSites
 pub mod Fronts
@@ -34,3 +33,4 @@ pub mod ShortKernels
 pub mod Named
 pub mod FitKernels
 pub mod Reach
+pub mod SmallArrays

@@ -7,11 +7,12 @@
 //! put together before the loop is; a statement inside n such loops is so gone through n times more (8 at most in a checked kernel).
 #![tactic(auto, using(lower_code::proofs::Growth::unchanged, lower_code::proofs::Growth::before, lower_code::proofs::Growth::one_before, lower_code::proofs::Growth::same_scope, lower_code::proofs::Growth::inner_scope))]
 
-ghost use Rattle.std.specs.Prelude.{◌≡◌, ◌+◌, ◌<◌, ◌≤◌, ◌^◌, ◌++◌, true, length, IfOk, OnOk, OnErr};
+ghost use Rattle.std.specs.Prelude.{◌≡◌, ◌+◌, ◌<◌, ◌≤◌, ◌^◌, ◌++◌, max, true, length, IfOk, OnOk, OnErr};
 ghost use Rattle.std.specs.Option.{option_map};
 ghost use Rattle.clmodel.specs.Next.{sites, part_sites, all_sites};
 ghost use Rattle.clmodel.specs.Tree as tree;
 ghost use Rattle.clmodel.specs.Tree.{stmt, term};
+ghost use Rattle.clmodel.specs.Typing.Rules.{length_limit};
 ghost use Rattle.clmodel.specs.Typing.Sizes.{size, condition_size, part_size, row_size, node_limit};
 ghost use Rattle.lower_expr.specs.Scope.{free_level};
 ghost use Rattle.lower_code.specs.Trees.{all_of, part_of};
@@ -19,6 +20,7 @@ ghost use Rattle.lower_code.specs.Code.{condition_code, while_code};
 ghost use Rattle.lower_code.specs.Emission.{inside, sizes_in, body_of, statement_code, row_code, maybe_code, test_of};
 ghost use Rattle.lower_code.specs.Growth.{GrowsBefore, KeepsOuter};
 ghost use Rattle.lower_code.specs.Room.{levels, reach, turn_reach};
+ghost use Rattle.lower_code.specs.Variables.{elements, part_elements, row_elements};
 ghost use Rattle.lower.specs.Statements.{is_loop, is_single, begun_at, once_code, round_code};
 
 use crate::sites::{site_before, site_behind_all};
@@ -73,6 +75,7 @@ fn emit_single<'a>(
     requires few { sites (inside setting.now.helpers.functions.now) (stmt statement.now) ≤ ending.behind }
     requires small { ending.depth + (size (sizes_in setting.now.helpers.functions.now) (stmt statement.now)).nodes ≤ node_limit }
     requires low { free_level scope.old + levels (size (sizes_in setting.now.helpers.functions.now) (stmt statement.now)).nodes < 2 ^ 28 }
+    requires arrays { elements (stmt statement.now) ≤ length_limit }
     ensures code { IfOk result (λ site. code.new ≡ statement_code setting.now scope.old (stmt statement.now) (begun_at ending site) ++ code.old) }
     ensures site { IfOk result (λ site. site + sites (inside setting.now.helpers.functions.now) (stmt statement.now) ≡ ending.behind) }
     ensures scope { scope.new ≡ scope.old }
@@ -100,6 +103,7 @@ fn put_single<'a>(
     requires few { position.site + sites (inside setting.now.helpers.functions.now) (stmt statement.now) < 2 ^ 32 }
     requires small { position.depth + (size (sizes_in setting.now.helpers.functions.now) (stmt statement.now)).nodes ≤ node_limit }
     requires low { free_level scope.old + levels (size (sizes_in setting.now.helpers.functions.now) (stmt statement.now)).nodes < 2 ^ 28 }
+    requires arrays { elements (stmt statement.now) ≤ length_limit }
     ensures code { OnOk result (code.new ≡ statement_code setting.now scope.old (stmt statement.now) position ++ code.old) }
     ensures scope { scope.new ≡ scope.old }
     ensures longer { OnErr result (GrowsBefore code.old code.new) }
@@ -120,8 +124,8 @@ fn put_single<'a>(
 }
 
 /// The barriers of statements have numbers from 0 on where the first one behind them has its own, and the statements have no more nodes,
-/// with the loops round them, than a kernel may have; their levels have registers, and their jumps lengths of 32 bits. This is the contract of a
-/// function that does nothing: what it asks is shown at its call.
+/// with the loops round them, than a kernel may have; their levels have registers, their jumps lengths of 32 bits, and their arrays no more elements
+/// than one may have. This is the contract of a function that does nothing: what it asks is shown at its call.
 fn numbers_suffice(
     setting: &StatementContext<'_>,
     scope: &Scope,
@@ -133,10 +137,12 @@ fn numbers_suffice(
     requires small { ending.depth + (row_size (sizes_in setting.now.helpers.functions.now) (all_of statements.now)).nodes ≤ node_limit }
     requires low { free_level scope.now + levels (row_size (sizes_in setting.now.helpers.functions.now) (all_of statements.now)).nodes < 2 ^ 28 }
     requires short { reach ending.exits code.now (row_size (sizes_in setting.now.helpers.functions.now) (all_of statements.now)).nodes < 2 ^ 32 }
+    requires arrays { row_elements (all_of statements.now) ≤ length_limit }
     ensures few { all_sites (inside setting.now.helpers.functions.now) (all_of statements.now) ≤ ending.behind }
     ensures small { ending.depth + (row_size (sizes_in setting.now.helpers.functions.now) (all_of statements.now)).nodes ≤ node_limit }
     ensures low { free_level scope.now + levels (row_size (sizes_in setting.now.helpers.functions.now) (all_of statements.now)).nodes < 2 ^ 28 }
     ensures short { reach ending.exits code.now (row_size (sizes_in setting.now.helpers.functions.now) (all_of statements.now)).nodes < 2 ^ 32 }
+    ensures arrays { row_elements (all_of statements.now) ≤ length_limit }
 {}
 
 /// Puts a statement before the code, and gives the number of its first barrier, or of the first behind it if it has none. Err if out
@@ -153,6 +159,7 @@ fn emit_statement<'a>(
     requires small { ending.depth + (size (sizes_in setting.now.helpers.functions.now) (stmt statement.now)).nodes ≤ node_limit }
     requires low { free_level scope.old + levels (size (sizes_in setting.now.helpers.functions.now) (stmt statement.now)).nodes < 2 ^ 28 }
     requires short { reach ending.exits code.old (size (sizes_in setting.now.helpers.functions.now) (stmt statement.now)).nodes < 2 ^ 32 }
+    requires arrays { elements (stmt statement.now) ≤ length_limit }
     ensures code { IfOk result (λ site. code.new ≡ statement_code setting.now scope.old (stmt statement.now) (begun_at ending site) ++ code.old) }
     ensures site { IfOk result (λ site. site + sites (inside setting.now.helpers.functions.now) (stmt statement.now) ≡ ending.behind) }
     ensures scope { OnOk result (scope.new ≡ scope.old) }
@@ -205,6 +212,7 @@ fn emit_loop<'a>(
     requires small { ending.depth + (size (sizes_in setting.now.helpers.functions.now) (stmt statement.now)).nodes ≤ node_limit }
     requires low { free_level scope.old + levels (size (sizes_in setting.now.helpers.functions.now) (stmt statement.now)).nodes < 2 ^ 28 }
     requires short { reach ending.exits code.old (size (sizes_in setting.now.helpers.functions.now) (stmt statement.now)).nodes < 2 ^ 32 }
+    requires arrays { elements (stmt statement.now) ≤ length_limit }
     ensures code { IfOk result (λ site. code.new ≡ statement_code setting.now scope.old (stmt statement.now) (begun_at ending site) ++ code.old) }
     ensures site { IfOk result (λ site. site + sites (inside setting.now.helpers.functions.now) (stmt statement.now) ≡ ending.behind) }
     ensures scope { OnOk result (scope.new ≡ scope.old) }
@@ -264,6 +272,7 @@ fn emit_all<'a>(
     requires small { ending.depth + (row_size (sizes_in setting.now.helpers.functions.now) (all_of statements.now)).nodes ≤ node_limit }
     requires low { free_level scope.old + levels (row_size (sizes_in setting.now.helpers.functions.now) (all_of statements.now)).nodes < 2 ^ 28 }
     requires short { reach ending.exits code.old (row_size (sizes_in setting.now.helpers.functions.now) (all_of statements.now)).nodes < 2 ^ 32 }
+    requires arrays { row_elements (all_of statements.now) ≤ length_limit }
     ensures code { IfOk result (λ site. code.new ≡ row_code setting.now scope.old (all_of statements.now) (begun_at ending site) ++ code.old) }
     ensures site { IfOk result (λ site. site + all_sites (inside setting.now.helpers.functions.now) (all_of statements.now) ≡ ending.behind) }
     ensures scope { OnOk result (scope.new ≡ scope.old) }
@@ -299,6 +308,7 @@ pub fn emit_body<'a>(
     requires small { depth + (row_size (sizes_in helpers.functions.now) (all_of function.now.body.items)).nodes ≤ node_limit }
     requires low { level + length function.now.parameters.items + levels (row_size (sizes_in helpers.functions.now) (all_of function.now.body.items)).nodes < 2 ^ 28 }
     requires short { length code.old < 2 ^ 31 }
+    requires arrays { row_elements (all_of function.now.body.items) ≤ length_limit }
     ensures code { OnOk result (code.new ≡ body_of helpers.entry.functions.now function.now level depth site ++ code.old) }
     ensures longer { OnErr result (GrowsBefore code.old code.new) }
 {
@@ -340,6 +350,7 @@ fn emit_if<'a>(
     requires small { ending.depth + (size (sizes_in setting.now.helpers.functions.now) (tree.If 0 (term condition.now) (stmt chosen.now))).nodes ≤ node_limit }
     requires low { free_level scope.old + levels (size (sizes_in setting.now.helpers.functions.now) (tree.If 0 (term condition.now) (stmt chosen.now))).nodes < 2 ^ 28 }
     requires short { reach ending.exits code.old (size (sizes_in setting.now.helpers.functions.now) (tree.If 0 (term condition.now) (stmt chosen.now))).nodes < 2 ^ 32 }
+    requires arrays { elements (stmt chosen.now) ≤ length_limit }
     ensures code { IfOk result (λ site. code.new ≡ statement_code setting.now scope.old (tree.If 0 (term condition.now) (stmt chosen.now)) (begun_at ending site) ++ code.old) }
     ensures site { IfOk result (λ site. site + sites (inside setting.now.helpers.functions.now) (stmt chosen.now) ≡ ending.behind) }
     ensures scope { OnOk result (scope.new ≡ scope.old) }
@@ -367,6 +378,7 @@ fn emit_choice<'a>(
     requires small { ending.depth + (size (sizes_in setting.now.helpers.functions.now) (tree.IfElse 0 (term condition.now) (stmt chosen.now) (stmt otherwise.now))).nodes ≤ node_limit }
     requires low { free_level scope.old + levels (size (sizes_in setting.now.helpers.functions.now) (tree.IfElse 0 (term condition.now) (stmt chosen.now) (stmt otherwise.now))).nodes < 2 ^ 28 }
     requires short { reach ending.exits code.old (size (sizes_in setting.now.helpers.functions.now) (tree.IfElse 0 (term condition.now) (stmt chosen.now) (stmt otherwise.now))).nodes < 2 ^ 32 }
+    requires arrays { elements (tree.IfElse 0 (term condition.now) (stmt chosen.now) (stmt otherwise.now)) ≤ length_limit }
     ensures code { IfOk result (λ site. code.new ≡ statement_code setting.now scope.old (tree.IfElse 0 (term condition.now) (stmt chosen.now) (stmt otherwise.now)) (begun_at ending site) ++ code.old) }
     ensures site { IfOk result (λ site. site + (sites (inside setting.now.helpers.functions.now) (stmt chosen.now) + sites (inside setting.now.helpers.functions.now) (stmt otherwise.now)) ≡ ending.behind) }
     ensures scope { OnOk result (scope.new ≡ scope.old) }
@@ -401,6 +413,7 @@ fn emit_part<'a>(
     requires small { ending.depth + (part_size (sizes_in setting.now.helpers.functions.now) (part_of part)).nodes ≤ node_limit }
     requires low { free_level scope.old + levels (part_size (sizes_in setting.now.helpers.functions.now) (part_of part)).nodes < 2 ^ 28 }
     requires short { reach ending.exits code.old (part_size (sizes_in setting.now.helpers.functions.now) (part_of part)).nodes < 2 ^ 32 }
+    requires arrays { part_elements (part_of part) ≤ length_limit }
     ensures code { IfOk result (λ site. code.new ≡ maybe_code setting.now scope.old (part_of part.entry) (begun_at ending site) ++ code.old) }
     ensures site { IfOk result (λ site. site + part_sites (inside setting.now.helpers.functions.now) (part_of part.entry) ≡ ending.behind) }
     ensures scope { OnOk result (scope.new ≡ scope.old) }
@@ -427,6 +440,7 @@ fn emit_do<'a>(
     requires small { ending.depth + (size (sizes_in setting.now.helpers.functions.now) (stmt body.now)).nodes < node_limit }
     requires low { free_level scope.old + levels (size (sizes_in setting.now.helpers.functions.now) (tree.DoWhile 0 (stmt body.now) (term condition.now))).nodes < 2 ^ 28 }
     requires short { reach ending.exits code.old (size (sizes_in setting.now.helpers.functions.now) (tree.DoWhile 0 (stmt body.now) (term condition.now))).nodes < 2 ^ 32 }
+    requires arrays { elements (stmt body.now) ≤ length_limit }
     ensures code { IfOk result (λ site. code.new ≡ statement_code setting.now scope.old (tree.DoWhile 0 (stmt body.now) (term condition.now)) (begun_at ending site) ++ code.old) }
     ensures site { IfOk result (λ site. site + sites (inside setting.now.helpers.functions.now) (stmt body.now) ≡ ending.behind) }
     ensures scope { OnOk result (scope.new ≡ scope.old) }
@@ -453,6 +467,7 @@ fn emit_once<'a>(
     requires small { ending.depth + (size (sizes_in setting.now.helpers.functions.now) (stmt body.now)).nodes < node_limit }
     requires low { free_level scope.old + levels (size (sizes_in setting.now.helpers.functions.now) (stmt body.now)).nodes < 2 ^ 28 }
     requires short { turn_reach ending.exits turn.old (size (sizes_in setting.now.helpers.functions.now) (stmt body.now)).nodes < 2 ^ 32 }
+    requires arrays { elements (stmt body.now) ≤ length_limit }
     ensures code { IfOk result (λ site. turn.new ≡ once_code setting.now scope.old (stmt body.now) (begun_at ending site) (length turn.old) ++ turn.old) }
     ensures site { IfOk result (λ site. site + sites (inside setting.now.helpers.functions.now) (stmt body.now) ≡ ending.behind) }
     ensures scope { OnOk result (scope.new ≡ scope.old) }
@@ -483,6 +498,7 @@ fn emit_stepped<'a>(
     requires small { ending.depth + (size (sizes_in setting.now.helpers.functions.now) (stmt body.now)).nodes < node_limit }
     requires low { free_level scope.old + levels ((size (sizes_in setting.now.helpers.functions.now) (stmt third.now)).nodes + (size (sizes_in setting.now.helpers.functions.now) (stmt body.now)).nodes) < 2 ^ 28 }
     requires short { turn_reach ending.exits turn.old ((size (sizes_in setting.now.helpers.functions.now) (stmt third.now)).nodes + (size (sizes_in setting.now.helpers.functions.now) (stmt body.now)).nodes) < 2 ^ 32 }
+    requires arrays { max (elements (stmt third.now)) (elements (stmt body.now)) ≤ length_limit }
     ensures code { IfOk result (λ site. turn.new ≡ round_code setting.now scope.old (tree.With (stmt third.now)) (stmt body.now) (begun_at ending site) (length turn.old) ++ turn.old) }
     ensures site { IfOk result (λ site. site + (sites (inside setting.now.helpers.functions.now) (stmt third.now) + sites (inside setting.now.helpers.functions.now) (stmt body.now)) ≡ ending.behind) }
     ensures scope { OnOk result (scope.new ≡ scope.old) }
@@ -515,6 +531,7 @@ fn emit_round<'a>(
     requires small { ending.depth + (size (sizes_in setting.now.helpers.functions.now) (stmt body.now)).nodes < node_limit }
     requires low { free_level scope.old + levels ((part_size (sizes_in setting.now.helpers.functions.now) (part_of third)).nodes + (size (sizes_in setting.now.helpers.functions.now) (stmt body.now)).nodes) < 2 ^ 28 }
     requires short { turn_reach ending.exits turn.old ((part_size (sizes_in setting.now.helpers.functions.now) (part_of third)).nodes + (size (sizes_in setting.now.helpers.functions.now) (stmt body.now)).nodes) < 2 ^ 32 }
+    requires arrays { max (part_elements (part_of third)) (elements (stmt body.now)) ≤ length_limit }
     ensures code { IfOk result (λ site. turn.new ≡ round_code setting.now scope.old (part_of third.entry) (stmt body.now) (begun_at ending site) (length turn.old) ++ turn.old) }
     ensures site { IfOk result (λ site. site + (part_sites (inside setting.now.helpers.functions.now) (part_of third.entry) + sites (inside setting.now.helpers.functions.now) (stmt body.now)) ≡ ending.behind) }
     ensures scope { OnOk result (scope.new ≡ scope.old) }
@@ -543,6 +560,7 @@ fn emit_for<'a>(
     requires small { ending.depth + (size (sizes_in setting.now.helpers.functions.now) (tree.For 0 (part_of first) (test_of condition) (part_of third) (stmt body.now))).nodes ≤ node_limit }
     requires low { free_level scope.old + levels (size (sizes_in setting.now.helpers.functions.now) (tree.For 0 (part_of first) (test_of condition) (part_of third) (stmt body.now))).nodes < 2 ^ 28 }
     requires short { reach ending.exits code.old (size (sizes_in setting.now.helpers.functions.now) (tree.For 0 (part_of first) (test_of condition) (part_of third) (stmt body.now))).nodes < 2 ^ 32 }
+    requires arrays { elements (tree.For 0 (part_of first) (test_of condition) (part_of third) (stmt body.now)) ≤ length_limit }
     ensures code { IfOk result (λ site. code.new ≡ statement_code setting.now scope.old (tree.For 0 (part_of first.entry) (test_of condition.entry) (part_of third.entry) (stmt body.now)) (begun_at ending site) ++ code.old) }
     ensures site { IfOk result (λ site. site + sites (inside setting.now.helpers.functions.now) (tree.For 0 (part_of first.entry) (test_of condition.entry) (part_of third.entry) (stmt body.now)) ≡ ending.behind) }
     ensures scope { OnOk result (scope.new ≡ scope.old) }
@@ -578,6 +596,7 @@ fn emit_turns<'a>(
     requires small { ending.depth + (size (sizes_in setting.now.helpers.functions.now) (stmt body.now)).nodes < node_limit }
     requires low { free_level scope.old + levels ((condition_size (sizes_in setting.now.helpers.functions.now) (test_of condition)).nodes + (part_size (sizes_in setting.now.helpers.functions.now) (part_of third)).nodes + (size (sizes_in setting.now.helpers.functions.now) (stmt body.now)).nodes) < 2 ^ 28 }
     requires short { reach ending.exits code.old ((condition_size (sizes_in setting.now.helpers.functions.now) (test_of condition)).nodes + (part_size (sizes_in setting.now.helpers.functions.now) (part_of third)).nodes + (size (sizes_in setting.now.helpers.functions.now) (stmt body.now)).nodes + 1) < 2 ^ 32 }
+    requires arrays { max (part_elements (part_of third)) (elements (stmt body.now)) ≤ length_limit }
     ensures code { IfOk result (λ site. code.new
         ≡ while_code ending.depth (round_code setting.now scope.old (part_of third.entry) (stmt body.now) (begun_at ending site) (length (condition_code scope.old (test_of condition.entry)))) (condition_code scope.old (test_of condition.entry)) ++ code.old) }
     ensures site { IfOk result (λ site. site + (part_sites (inside setting.now.helpers.functions.now) (part_of third.entry) + sites (inside setting.now.helpers.functions.now) (stmt body.now)) ≡ ending.behind) }

@@ -1,8 +1,11 @@
 -- The levels of registers that statements need, and how far their code reaches (own).
 use Rattle.std.specs.Prelude.{◌≡◌, ℕ, ◌+◌, ◌*◌, ◌<◌, ◌≤◌, Option, None, Some, List, length, get_or}
+use Rattle.clmodel.specs.Typing.Rules.{length_limit}
 use Rattle.clmodel.specs.Typing.Sizes.{parameter_limit}
 use Rattle.clmodel.specs.declared.tree.Function.{Function}
 use Rattle.regcode.specs.declared.instruction.Instruction.{Instruction}
+use Rattle.lower_code.specs.Trees.{all_of}
+use Rattle.lower_code.specs.Variables.{row_elements}
 use Rattle.lower_code.specs.declared.assignments.Call.{Call}
 use Rattle.lower_code.specs.declared.positions.Exits.{Exits}
 
@@ -13,6 +16,10 @@ levels nodes = 13001 * nodes
 -- each of these functions has no more parameters
 abbrev pub FewParameters : List Function → Type 0
 FewParameters functions = (i : ℕ) (f : Function) → i < length functions → f ≡ get_or functions i f → length f.parameters.items ≤ parameter_limit
+
+-- and no array of more elements than one may have
+abbrev pub FewElements : List Function → Type 0
+FewElements functions = (i : ℕ) (f : Function) → i < length functions → f ≡ get_or functions i f → row_elements (all_of f.body.items) ≤ length_limit
 
 -- the level of the first argument of a helper that is called
 abbrev pub called_level : Option Call → ℕ

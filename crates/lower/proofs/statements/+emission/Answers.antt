@@ -1,6 +1,6 @@
 use Rattle.std.proofs.Common.{◌≡◌, ℕ, ◌+◌, ◌-◌, ◌<◌, ◌≤◌, ◌^◌, ◌++◌, refl, Option, Bor, List, length, take, ap, ap₂, sym, subst, ◌∙◌, arith, rules, IfOk}
 use Rattle.std.proofs.lemmas.Result.{IfOk-weaker}
-use Rattle.lower.proofs.Fronts.{block_few, block_small, block_low, block_short, nodes_there}
+use Rattle.lower.proofs.Fronts.{block_few, block_small, block_low, block_short, block_arrays, nodes_there}
 use Rattle.lower.proofs.Reach.{put_length, past_exits, loop_exits, once_short, round_short, turns_short}
 use Rattle.lower_code.proofs.Short.{statement_short, condition_short}
 use Rattle.lower.proofs.LowStatements.{after_part as part_levels, after_row}
@@ -8,6 +8,7 @@ use Rattle.lower_code.proofs.Room.{fewer, fewer_asked}
 use denote.Param.Weighed.{most, at_most}
 use Rattle.std.specs.Option.{option_map}
 use Rattle.clmodel.specs.Next.{sites, part_sites, all_sites}
+use Rattle.clmodel.specs.Typing.Rules.{length_limit}
 use Rattle.clmodel.specs.Typing.Sizes.{node_limit, size, row_size}
 use Rattle.clmodel.specs.Tree.{Stmt, ThenStmt, Without, WithTerm, stmt, term}
 use Rattle.clmodel.specs.declared.tree.Statement.{Statement, size-Statement}
@@ -18,7 +19,7 @@ use Rattle.lower_code.specs.Trees.{all_of, part_of}
 use Rattle.lower_code.specs.Code.{Exits, past, stmt_code, stmts_code, condition_code, call_code, result_in}
 use Rattle.lower_code.specs.Emission.{functions_of, inside, sizes_in, statement_code, row_code, test_of, exits_of}
 use Rattle.lower_code.proofs.Growth.{unchanged, before, one_before, both, inner_scope}
-use Rattle.lower_code.proofs.Trees.{row_more}
+use Rattle.lower_code.proofs.Trees.{row_more, elements_there}
 use Rattle.lower_code.proofs.Rows.{row_laid, longer, choice_placed, begun}
 use Rattle.lower_code.proofs.Lists.{block_is}
 use Rattle.lower_expr.proofs.Growth.{on_err}
@@ -258,9 +259,10 @@ emit_all-emit_statement-requires t c =
     let exits = past_exits c.added.result c.args.ending.exits c.past.result c.past.ensures in
     let far = c.requires.short in
     let behind = c.loop-i.invariant.short in
+    let arrays = elements_there ss place x below c.index-statements-statements.is in
     let longer_code = c.loop-i.invariant.longer in (
       omega (arith, smaller),
-      (omega (arith, c.loop-i.invariant.site, count, few), (omega (arith, nodes, all), (omega (arith, level, after, nodes, low), omega (arith, parts, added, exits, far, behind, longer_code)))),
+      (omega (arith, c.loop-i.invariant.site, count, few), (omega (arith, nodes, all), (omega (arith, level, after, nodes, low), (omega (arith, parts, added, exits, far, behind, longer_code), omega (arith, arrays, c.requires.arrays))))),
     )
 
 pub emit_choice-emit_statement-requires-2 : goal.emit_choice-emit_statement-requires-2
@@ -277,7 +279,8 @@ emit_choice-emit_statement-requires-2 t c =
     let added : c.added.result ≡ length c.put.new.self - length c.args.code.now = c.added.ensures ∙ ap (λ m. length c.put.new.self - m) c.len-end.ensures in
     let exits = past_exits c.added.result c.args.ending.exits c.past.result c.past.ensures in
     let far = c.requires.short in
-    (search rules, (omega (arith, between, few), (omega (arith, small), (omega (arith, level, low), omega (arith, second, jump, added, exits, far)))))
+    let arrays = c.requires.arrays in
+    (search rules, (omega (arith, between, few), (omega (arith, small), (omega (arith, level, low), (omega (arith, second, jump, added, exits, far), omega (arith, arrays))))))
 
 pub emit_if-put_test-requires : goal.emit_if-put_test-requires
 emit_if-put_test-requires t c =
@@ -314,7 +317,8 @@ emit_for-emit_turns-requires t c =
     let small = c.requires.small in
     let low = c.requires.low in
     let far = c.requires.short in
-    (search rules, (omega (arith, few), (omega (arith, small), (omega (arith, small), (omega (arith, level, after, low), omega (arith, far))))))
+    let arrays = c.requires.arrays in
+    (search rules, (omega (arith, few), (omega (arith, small), (omega (arith, small), (omega (arith, level, after, low), (omega (arith, far), omega (arith, arrays)))))))
 
 pub emit_for-emit_part-requires : goal.emit_for-emit_part-requires
 emit_for-emit_part-requires t c =
@@ -328,7 +332,8 @@ emit_for-emit_part-requires t c =
     let added : c.added.result ≡ length c.emit_turns.new.code - length c.args.code.now = c.added.ensures ∙ ap (λ m. length c.emit_turns.new.code - m) c.len-end.ensures in
     let exits = past_exits c.added.result c.args.ending.exits c.past.result c.past.ensures in
     let far = c.requires.short in
-    (search rules, (omega (arith, few, behind), (omega (arith, small), (omega (arith, level, low), omega (arith, loop, added, exits, far)))))
+    let arrays = c.requires.arrays in
+    (search rules, (omega (arith, few, behind), (omega (arith, small), (omega (arith, level, low), (omega (arith, loop, added, exits, far), omega (arith, arrays))))))
 
 pub emit_statement-numbers_suffice-requires : goal.emit_statement-numbers_suffice-requires
 emit_statement-numbers_suffice-requires t c = record {
@@ -340,6 +345,7 @@ emit_statement-numbers_suffice-requires t c = record {
       c.in-Block.is c.as_slice-body.ensures.value c.requires.low;
   short = block_short (sizes_in c.args.setting.now.helpers.functions.now) c.args.statement.now c.in-Block.at c.in-Block.body c.as_slice-body.result.now c.args.ending.exits c.args.code.now (2 ^ 32)
       c.in-Block.is c.as_slice-body.ensures.value c.requires.short;
+  arrays = block_arrays c.args.statement.now c.in-Block.at c.in-Block.body c.as_slice-body.result.now length_limit c.in-Block.is c.as_slice-body.ensures.value c.requires.arrays;
 }
 
 -- lengths of 32 bits
@@ -433,7 +439,8 @@ emit_do-emit_once-requires t c =
     let small = c.requires.small in
     let low = c.requires.low in
     let far = c.requires.short in
-    (search rules, (omega (arith, few), (omega (arith, small), (omega (arith, low), omega (arith, turn, most, far)))))
+    let arrays = c.requires.arrays in
+    (search rules, (omega (arith, few), (omega (arith, small), (omega (arith, low), (omega (arith, turn, most, far), omega (arith, arrays))))))
 
 pub emit_do-end_do-requires : goal.emit_do-end_do-requires
 emit_do-end_do-requires t c =
@@ -454,7 +461,8 @@ emit_once-emit_statement-requires t c =
     let rest = c.past.ensures in
     let exits = loop_exits c.past.result c.args.ending.exits c.in_loop.result c.in_loop.ensures in
     let far = c.requires.short in
-    (search rules, (omega (arith, few), (omega (arith, small), (omega (arith, low), omega (arith, rest, exits, far)))))
+    let arrays = c.requires.arrays in
+    (search rules, (omega (arith, few), (omega (arith, small), (omega (arith, low), (omega (arith, rest, exits, far), omega (arith, arrays))))))
 
 pub emit_stepped-emit_statement-requires : goal.emit_stepped-emit_statement-requires
 emit_stepped-emit_statement-requires t c =
@@ -465,7 +473,8 @@ emit_stepped-emit_statement-requires t c =
     let rest = c.past.ensures in
     let exits = loop_exits c.past.result c.args.ending.exits c.in_loop.result c.in_loop.ensures in
     let far = c.requires.short in
-    (search rules, (omega (arith, few, between), (omega (arith, small), (omega (arith, low), omega (arith, rest, exits, far)))))
+    let arrays = c.requires.arrays in
+    (search rules, (omega (arith, few, between), (omega (arith, small), (omega (arith, low), (omega (arith, rest, exits, far), omega (arith, arrays))))))
 
 pub emit_stepped-emit_once-requires : goal.emit_stepped-emit_once-requires
 emit_stepped-emit_once-requires t c =
@@ -475,7 +484,8 @@ emit_stepped-emit_once-requires t c =
     let level : free_level c.emit_statement.new.scope ≡ free_level c.args.scope.now = ap (λ (z : Scope). free_level z) c.in_ok-site.ensures.scope in
     let third = put_length c.args.turn.now c.emit_statement.new.code (statement_short c.args.setting.now c.args.scope.now (stmt c.args.third.now) (c.args.ending.depth + 1) c.in_ok-site.site (exits_of c.in_loop.result)) c.in_ok-site.ensures.code in
     let far = c.requires.short in
-    (search rules, (omega (arith, few), (omega (arith, small), (omega (arith, low, level), omega (arith, third, far)))))
+    let arrays = c.requires.arrays in
+    (search rules, (omega (arith, few), (omega (arith, small), (omega (arith, low, level), (omega (arith, third, far), omega (arith, arrays))))))
 
 pub emit_turns-emit_round-requires : goal.emit_turns-emit_round-requires
 emit_turns-emit_round-requires t c =
@@ -488,7 +498,8 @@ emit_turns-emit_round-requires t c =
     let small = c.requires.small in
     let low = c.requires.low in
     let far = c.requires.short in
-    (search rules, (omega (arith, few), (omega (arith, small_third), (omega (arith, small), (omega (arith, low), omega (arith, turn, most, far))))))
+    let arrays = c.requires.arrays in
+    (search rules, (omega (arith, few), (omega (arith, small_third), (omega (arith, small), (omega (arith, low), (omega (arith, turn, most, far), omega (arith, arrays)))))))
 
 pub emit_turns-len-start-requires : goal.emit_turns-len-start-requires
 emit_turns-len-start-requires t c =
