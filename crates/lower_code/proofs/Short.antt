@@ -59,9 +59,9 @@ step_short sizes scope calls results inside result level place operator =
 pub while_short : {m n : ℕ} {body condition : List Instruction} (depth : ℕ) → Short m body → Short n condition → Short (m + n + 4) (while_code depth body condition)
 while_short depth h k = within (more (more (more (both h (both k single))))) (omega arith)
 
--- with the instructions of six a node
-wider : (n : ℕ) → 6 * n ≤ instructions n
-wider n = omega arith
+-- six a node are no more
+wider : (n : ℕ) {xs : List Instruction} → Short (6 * n) xs → Short (instructions n) xs
+wider n h = within h (omega arith)
 
 -- each helper's code in place of its call: that of its nodes, one instruction for each parameter, and one at its end
 abbrev pub AreShort : Sizes → Calls → Type 0
@@ -73,19 +73,19 @@ module _ (sizes : Sizes) (calls : Calls) (known : AreShort sizes calls) (results
       → Short (instructions (term_size sizes (Call at x es)).nodes) (right_code calls results inside result scope level (helper_or f (record { name = x; arguments = es })) (Call at x es) depth site)
   called_short None scope at x es level depth site =
       within (both (terms_short sizes scope level es) (both (known x (registers_for scope level es) level depth site) (needed_short (results x)))) (omega arith)
-  called_short (Some f) scope at x es level depth site = within (expr_short sizes scope level (Call at x es)) (wider _)
+  called_short (Some f) scope at x es level depth site = wider (term_size sizes (Call at x es)).nodes (expr_short sizes scope level (Call at x es))
 
   right_short : (scope : Scope) (e : Term) (level depth site : ℕ) → Short (instructions (term_size sizes e).nodes) (right_code calls results inside result scope level (helper_call e) e depth site)
-  right_short scope (Number at value) level depth site = within (expr_short sizes scope level (Number at value)) (wider _)
-  right_short scope (Variable at name) level depth site = within (expr_short sizes scope level (Variable at name)) (wider _)
-  right_short scope (Element at name index) level depth site = within (expr_short sizes scope level (Element at name index)) (wider _)
-  right_short scope (ElementAddress at name_at name index) level depth site = within (expr_short sizes scope level (ElementAddress at name_at name index)) (wider _)
-  right_short scope (Dereference at pointer) level depth site = within (expr_short sizes scope level (Dereference at pointer)) (wider _)
+  right_short scope (Number at value) level depth site = wider (term_size sizes (Number at value)).nodes (expr_short sizes scope level (Number at value))
+  right_short scope (Variable at name) level depth site = wider (term_size sizes (Variable at name)).nodes (expr_short sizes scope level (Variable at name))
+  right_short scope (Element at name index) level depth site = wider (term_size sizes (Element at name index)).nodes (expr_short sizes scope level (Element at name index))
+  right_short scope (ElementAddress at name_at name index) level depth site = wider (term_size sizes (ElementAddress at name_at name index)).nodes (expr_short sizes scope level (ElementAddress at name_at name index))
+  right_short scope (Dereference at pointer) level depth site = wider (term_size sizes (Dereference at pointer)).nodes (expr_short sizes scope level (Dereference at pointer))
   right_short scope (Call at name arguments) level depth site = called_short (built_in name) scope at name arguments level depth site
-  right_short scope (Unary at operator operand) level depth site = within (expr_short sizes scope level (Unary at operator operand)) (wider _)
-  right_short scope (Cast at target operand) level depth site = within (expr_short sizes scope level (Cast at target operand)) (wider _)
-  right_short scope (Binary at operator left right) level depth site = within (expr_short sizes scope level (Binary at operator left right)) (wider _)
-  right_short scope (Choice at condition chosen otherwise) level depth site = within (expr_short sizes scope level (Choice at condition chosen otherwise)) (wider _)
+  right_short scope (Unary at operator operand) level depth site = wider (term_size sizes (Unary at operator operand)).nodes (expr_short sizes scope level (Unary at operator operand))
+  right_short scope (Cast at target operand) level depth site = wider (term_size sizes (Cast at target operand)).nodes (expr_short sizes scope level (Cast at target operand))
+  right_short scope (Binary at operator left right) level depth site = wider (term_size sizes (Binary at operator left right)).nodes (expr_short sizes scope level (Binary at operator left right))
+  right_short scope (Choice at condition chosen otherwise) level depth site = wider (term_size sizes (Choice at condition chosen otherwise)).nodes (expr_short sizes scope level (Choice at condition chosen otherwise))
 
   -- a call that is a whole statement
   only_short : (waits : Bool) (f : Option BuiltIn) (scope : Scope) (at x : ℕ) (es : Terms) (depth site : ℕ)
@@ -163,13 +163,14 @@ case_short earlier f before counted few x false e numbers level depth site =
 
 -- the first functions
 first_short : (gs : List Function) → NodesCounted gs → FewParameters gs → (n : ℕ) → n ≤ length gs → AreShort (sizes_in (take n gs)) (call_code (functions_of (take n gs)))
-first_short gs counted few zero small x numbers level depth site = within single (omega arith)
+first_short gs counted few zero small = λ x numbers level depth site. within single (omega arith)
 first_short gs counted few (suc n) small =
     let below : n < length gs = omega (arith, small) in
     let g = function_there gs n below in
     let f = func g.0 in
     let earlier = functions_of (take n gs) in
-    let all : functions_of (take (suc n) gs) ≡ ThenFunc earlier f = ap (λ m. functions_of (take m gs)) (omega arith) ∙ functions_more gs n g.0 below g.1 in
+    let next : suc n ≡ n + 1 = omega arith in
+    let all : functions_of (take (suc n) gs) ≡ ThenFunc earlier f = ap (λ m. functions_of (take m gs)) next ∙ functions_more gs n g.0 below g.1 in
     let nodes : (size_of earlier f).nodes ≤ (size_in (sizes_of (ThenFunc earlier f)) f.name).nodes =
     subst (λ fs. (size_of earlier f).nodes ≤ (size_in (sizes_of fs) f.name).nodes) all (counted (suc n) n g.0 (omega arith) small g.1) in
     subst (λ fs. AreShort (sizes_of fs) (call_code fs)) (sym all)

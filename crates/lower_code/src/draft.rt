@@ -1,7 +1,7 @@
 //! Code that is written from its end, with the bodies of helpers left out: so a jump is written when the length of what it passes is known.
 #![tactic(auto, using(crate::proofs::Drafts::draft_whole, crate::proofs::Drafts::part_whole, crate::proofs::Drafts::part_length, crate::proofs::Drafts::draft_length, crate::proofs::Growth::unchanged, crate::proofs::Growth::before, crate::proofs::Growth::one_before))]
 
-ghost use Rattle.std.specs.Prelude.{◌≡◌, ◌-◌, ◌+◌, ◌<◌, ◌^◌, [], ◌∷◌, ◌++◌, length, reverse, OnOk, OnErr};
+ghost use Rattle.std.specs.Prelude.{◌≡◌, ◌-◌, ◌+◌, ◌<◌, ◌^◌, [], ◌∷◌, ◌++◌, length, min, reverse, OnOk, OnErr};
 ghost use Rattle.lower_code.specs.Growth.{GrowsBefore};
 ghost use Rattle.lower_code.specs.Parts.{hole_code, whole, HoleKnown, AllKnown};
 
@@ -72,9 +72,9 @@ impl<'a> Draft<'a> {
         self.added(before) + 1
     }
 
-    /// Puts parts before the code, the last first, which have `count` instructions.
+    /// Puts parts before the code, the last first, which have `count` instructions, or more if that is 2^64 - 1.
     fn put_parts(&mut self, parts: &[Part<'a>], count: usize) -> Result<(), AllocError>
-        requires count { count ≡ length (whole (reverse parts.now)) }
+        requires count { count ≡ min (length (whole (reverse parts.now))) (2 ^ 64 - 1) }
         requires known { AllKnown parts.now }
         ensures code { OnOk result (self.new ≡ whole (reverse parts.now) ++ self.old) }
         ensures longer { OnErr result (GrowsBefore self.old self.new) }
