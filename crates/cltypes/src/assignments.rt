@@ -119,7 +119,7 @@ pub(crate) fn assignment_fault(
     value: &Expression,
 ) -> Option<TypeFault>
     ensures { let c = context.now in
-        let p = place target.now in
+        let p = tree_target target.now in
         let e = term value.now in
         result ≡ first (node (target_faults c p ++ value_faults c e) (assignment_faults c p operator e)) }
 {

@@ -6,4 +6,4 @@ pub mod Sound
 pub mod Asking
 pub mod Waiting
 pub use Rattle.item_value.specs.Arrays
-pub use Rattle.item_value.specs.Givens
+pub use Rattle.item_value.specs.ItemContext

@@ -1,19 +1,17 @@
 //! What an item asks, and how it goes on with the answer.
 #![tactic(auto)]
 
-ghost use Rattle.std.specs.Prelude.{◌≡◌, ◌<◌, ◌∷◌, [], List, IsTrue, slice_get, take};
+ghost use Rattle.std.specs.Prelude.{ℕ, IsTrue};
 ghost use Rattle.clnum.specs.Integer.{Integer};
 ghost use Rattle.clmodel.specs.Next as next;
 ghost use Rattle.clmodel.specs.Next.{Continuation};
-ghost use Rattle.clmodel.specs.declared.action.Answer.{Answer};
 ghost use Rattle.clmodel.specs.declared.operand.Pointer.{Pointer};
 ghost use Rattle.regcode.specs.Machine.{State, act, read};
-ghost use Rattle.regcode.specs.Rules.{IsVerified};
 ghost use Rattle.regcode.specs.declared.instruction.FetchOperands.TheVariants as operands;
 ghost use Rattle.regcode.specs.declared.instruction.Instruction.TheVariants as instruction;
 ghost use Rattle.item_step.specs.Asking.{asks};
 ghost use Rattle.item_value.specs.Leading.{Leads};
-ghost use Rattle.item_step.specs.Running.{action_of, is_asking};
+ghost use Rattle.item_step.specs.Running.{is_asking};
 
 use crate::accesses::{fetch_of, load_of, store_of, update_of};
 use crate::machine::Machine;
@@ -24,6 +22,14 @@ use clnum::{Value, convert};
 use item_value::pointers::{number, pointing};
 use item_value::termination::Termination;
 use regcode::{FetchOperands, Instruction};
+
+/// The registers of a compare-exchange: of a pointer, of the number to compare with, and of the one to put.
+#[derive(Clone, Copy)]
+struct ComparedRegisters {
+    pointer: u32,
+    expected: u32,
+    value: u32,
+}
 
 impl<'a> Machine<'a> {
     /// An operand that is a pointer.
@@ -45,33 +51,26 @@ impl<'a> Machine<'a> {
         Ok((pointer, value))
     }
 
-    /// Operands that are a pointer and two numbers.
-    fn pointer_and_numbers(
-        &self,
-        pointer: u32,
-        first: u32,
-        second: u32,
-    ) -> Result<(Pointer, Value, Value), Termination>
-        ensures { (after : Pointer → Integer → Integer → Continuation) → Leads result (read self.now.given self.now.state pointer (λ v. read self.now.given self.now.state first (λ w. read self.now.given self.now.state second (λ x. next.pointing v (λ q. next.number w (λ m. next.number x (λ n. after q m n))))))) (λ three. after three.0 three.1 three.2) }
+    /// Operands that are a pointer, the number to compare with, and the one to put.
+    fn compared(&self, registers: ComparedRegisters) -> Result<(Pointer, Value, Value), Termination>
+        ensures { (after : Pointer → Integer → Integer → Continuation) → Leads result (read self.now.given self.now.state registers.pointer (λ v. read self.now.given self.now.state registers.expected (λ w. read self.now.given self.now.state registers.value (λ x. next.pointing v (λ q. next.number w (λ m. next.number x (λ n. after q m n))))))) (λ three. after three.0 three.1 three.2) }
     {
-        let pointer = self.operand(pointer)?;
-        let first = self.operand(first)?;
-        let second = self.operand(second)?;
+        let pointer = self.operand(registers.pointer)?;
+        let expected = self.operand(registers.expected)?;
+        let value = self.operand(registers.value)?;
         let pointer = pointing(pointer)?;
-        let first = number(first)?;
-        let second = number(second)?;
-        Ok((pointer, first, second))
+        let expected = number(expected)?;
+        let value = number(value)?;
+        Ok((pointer, expected, value))
     }
 
     /// What a load asks.
-    fn load(&self, to: u32, pointer: u32) -> Result<Wanted, Termination>
-        ensures { (on after : State → Continuation) → Leads result (act self.now.given (Some (instruction.Load to pointer)) on after self.now.state) (asks (instruction.Load to pointer) self.now.state after) }
+    fn load(&self, pointer: u32) -> Result<Wanted, Termination>
+        ensures { (to : ℕ) (on after : State → Continuation) → Leads result (act self.now.given (Some (instruction.Load to pointer)) on after self.now.state) (asks (instruction.Load to pointer) self.now.state after) }
     {
         let pointer = self.pointer(pointer)?;
-        Ok(Wanted::Access {
-            pointer,
-            operation: load_of(pointer.element),
-        })
+        let operation = load_of(pointer.element);
+        Ok(Wanted::Access { pointer, operation })
     }
 
     /// What a store asks.
@@ -91,10 +90,8 @@ impl<'a> Machine<'a> {
     {
         let pointer = self.pointer(pointer)?;
         let one = Value::wrapped(pointer.element, 1);
-        Ok(Wanted::Access {
-            pointer,
-            operation: update_of(function, pointer.element, one),
-        })
+        let operation = update_of(function, pointer.element, one);
+        Ok(Wanted::Access { pointer, operation })
     }
 
     /// What an atomic update asks.
@@ -115,32 +112,24 @@ impl<'a> Machine<'a> {
     }
 
     /// What an atomic operation by 1 asks whose old number is used.
-    fn fetch_by_one(
-        &self,
-        to: u32,
-        function: AtomicFunction,
-        pointer: u32,
-    ) -> Result<Wanted, Termination>
-        ensures { (on after : State → Continuation) → Leads result (act self.now.given (Some (instruction.Fetch to function pointer operands.Alone)) on after self.now.state) (asks (instruction.Fetch to function pointer operands.Alone) self.now.state after) }
+    fn fetch_by_one(&self, function: AtomicFunction, pointer: u32) -> Result<Wanted, Termination>
+        ensures { (to : ℕ) (on after : State → Continuation) → Leads result (act self.now.given (Some (instruction.Fetch to function pointer operands.Alone)) on after self.now.state) (asks (instruction.Fetch to function pointer operands.Alone) self.now.state after) }
     {
         let pointer = self.pointer(pointer)?;
         let none = Value::wrapped(pointer.element, 0);
         let one = Value::wrapped(pointer.element, 1);
-        Ok(Wanted::Access {
-            pointer,
-            operation: fetch_of(function, pointer.element, none, one),
-        })
+        let operation = fetch_of(function, pointer.element, none, one);
+        Ok(Wanted::Access { pointer, operation })
     }
 
     /// What an atomic operation asks whose old number is used.
     fn fetch(
         &self,
-        to: u32,
         function: AtomicFunction,
         pointer: u32,
         value: u32,
     ) -> Result<Wanted, Termination>
-        ensures { (on after : State → Continuation) → Leads result (act self.now.given (Some (instruction.Fetch to function pointer (operands.Number value))) on after self.now.state) (asks (instruction.Fetch to function pointer (operands.Number value)) self.now.state after) }
+        ensures { (to : ℕ) (on after : State → Continuation) → Leads result (act self.now.given (Some (instruction.Fetch to function pointer (operands.Number value))) on after self.now.state) (asks (instruction.Fetch to function pointer (operands.Number value)) self.now.state after) }
     {
         let pair = self.pointer_and_number(pointer, value)?;
         let none = Value::wrapped(pair.0.element, 0);
@@ -154,15 +143,12 @@ impl<'a> Machine<'a> {
     /// What an atomic operation asks that compares.
     fn fetch_if_equal(
         &self,
-        to: u32,
         function: AtomicFunction,
-        pointer: u32,
-        expected: u32,
-        value: u32,
+        registers: ComparedRegisters,
     ) -> Result<Wanted, Termination>
-        ensures { (on after : State → Continuation) → Leads result (act self.now.given (Some (instruction.Fetch to function pointer (operands.Pair expected value))) on after self.now.state) (asks (instruction.Fetch to function pointer (operands.Pair expected value)) self.now.state after) }
+        ensures { (to : ℕ) (on after : State → Continuation) → Leads result (act self.now.given (Some (instruction.Fetch to function registers.pointer (operands.Pair registers.expected registers.value))) on after self.now.state) (asks (instruction.Fetch to function registers.pointer (operands.Pair registers.expected registers.value)) self.now.state after) }
     {
-        let three = self.pointer_and_numbers(pointer, expected, value)?;
+        let three = self.compared(registers)?;
         let element = three.0.element;
         let wanted = convert(three.1, element);
         let amount = convert(three.2, element);
@@ -178,7 +164,7 @@ impl<'a> Machine<'a> {
         ensures { (on after : State → Continuation) → Leads result (act self.now.given (Some instruction.now) on after self.now.state) (asks instruction.now self.now.state after) }
     {
         match instruction {
-            Instruction::Load { to, pointer } => self.load(*to, *pointer),
+            Instruction::Load { pointer, .. } => self.load(*pointer),
             Instruction::Store { pointer, value } => self.store(*pointer, *value),
             Instruction::Update {
                 function,
@@ -189,15 +175,20 @@ impl<'a> Machine<'a> {
                 Some(value) => self.update(*function, *pointer, *value),
             },
             Instruction::Fetch {
-                to,
                 function,
                 pointer,
                 operands,
+                ..
             } => match operands {
-                FetchOperands::Alone => self.fetch_by_one(*to, *function, *pointer),
-                FetchOperands::Number(value) => self.fetch(*to, *function, *pointer, *value),
+                FetchOperands::Alone => self.fetch_by_one(*function, *pointer),
+                FetchOperands::Number(value) => self.fetch(*function, *pointer, *value),
                 FetchOperands::Pair { expected, value } => {
-                    self.fetch_if_equal(*to, *function, *pointer, *expected, *value)
+                    let registers = ComparedRegisters {
+                        pointer: *pointer,
+                        expected: *expected,
+                        value: *value,
+                    };
+                    self.fetch_if_equal(*function, registers)
                 }
             },
             Instruction::Barrier {

@@ -82,8 +82,7 @@ impl<'a> Launch<'a> {
         if buffers.len() > u32::MAX as usize {
             return Err(AllocError);
         }
-        let range = setup.range;
-        let group_counts = group_counts(alloc, range.global.as_slice(), range.local.as_slice())?;
+        let group_counts = group_counts(alloc, setup.range)?;
         let local_objects = local_objects(alloc, setup.tree, setup.kernel, setup.arguments)?;
         Ok(Launch {
             setup,

@@ -2,5 +2,5 @@
 use Rattle.clmodel.specs.Next.{ItemPosition}
 use Rattle.item_value.specs.declared.position.ItemPosition as rust_position
 
-abbrev pub here : rust_position.ItemPosition → ItemPosition
-here position = record { range = position.range.now; item = position.item }
+abbrev pub item_position : rust_position.ItemPosition → ItemPosition
+item_position position = record { range = position.range.now; item = position.item }

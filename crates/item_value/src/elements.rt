@@ -1,4 +1,4 @@
-//! The elements of private arrays: how they are read, and where they are put.
+//! The elements of private arrays: how instructions name them, how they are read, and where they are put.
 #![tactic(auto)]
 
 ghost use Rattle.std.specs.Prelude.{◌≡◌, ◌<◌, ℕ, [], Option, List, length, slice_set, IfOk};
@@ -16,6 +16,19 @@ use crate::termination::Termination;
 use clmodel::action::Cause;
 use clmodel::operand::Operand;
 use clnum::{IntType, Value};
+
+/// An element of a private array as an instruction names it.
+#[derive(Clone, Copy)]
+pub struct PrivateElement {
+    /// The array's number
+    pub array: u32,
+    /// The number of the register that has the element's index
+    pub index: u32,
+    /// The type of the array's elements
+    pub kind: IntType,
+    /// The place of the array's name in the table of names
+    pub name: u32,
+}
 
 /// The elements of the private array of a number.
 pub fn elements_of(arrays: &[PrivateArray], array: u32) -> &[Option<u64>]
@@ -40,7 +53,7 @@ fn at_index(elements: &[Option<u64>], index: i64) -> Option<Option<u64>>
 }
 
 /// The value of the element at an index of the array of a name.
-pub(crate) fn element(
+pub(crate) fn element_value(
     elements: &[Option<u64>],
     name: u32,
     index: i64,

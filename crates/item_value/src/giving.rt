@@ -1,15 +1,15 @@
 //! What instructions give to registers.
 #![tactic(auto)]
 
-ghost use Rattle.std.specs.Prelude.{◌≡◌, ℕ, List, IsTrue};
+ghost use Rattle.std.specs.Prelude.{ℕ, List, IsTrue};
 ghost use Rattle.clmodel.specs.Next.{Continuation};
 ghost use Rattle.regcode.specs.Machine.{State, act, with_put};
 ghost use Rattle.item_value.specs.Arrays.{registers_with};
-ghost use Rattle.item_value.specs.ItemContext.{given};
+ghost use Rattle.item_value.specs.ItemContext.{item_context};
 ghost use Rattle.item_value.specs.Leading.{Leads};
 ghost use Rattle.item_value.specs.Giving.{gives, target};
 
-use crate::elements::elements_of;
+use crate::elements::PrivateElement;
 use crate::item_context::ItemContext;
 use crate::operators::work_dim;
 use crate::parameters::parameter;
@@ -18,8 +18,8 @@ use crate::private_array::PrivateArray;
 use crate::registers::RegisterFile;
 use crate::termination::Termination;
 use crate::values::{
-    apply_binary, apply_unary, assign, call_builtin, call_builtin_of_two, cast, load_private,
-    move_pointer, pointer_operand, query_work_item, to_common_type, variable,
+    Variable, apply_binary, apply_unary, assign, call_builtin, call_builtin_of_two, cast,
+    load_private, load_variable, move_pointer, pointer_operand, query_work_item, to_common_type,
 };
 use clmodel::operand::Operand;
 use regcode::Instruction;
@@ -34,7 +34,7 @@ pub fn value_of(
     requires { IsTrue (gives instruction.now) }
     ensures { (place : ℕ) (counters : List ℕ) (on after : State → Continuation) →
         let state : State = record { place = place; registers = registers_with values.now arrays.now; counters = counters } in
-        Leads result (act (given context.now) (Some instruction.now) on after state) (λ v. on (with_put state (target instruction.now) v)) }
+        Leads result (act (item_context context.now) (Some instruction.now) on after state) (λ v. on (with_put state (target instruction.now) v)) }
 {
     let registers = RegisterFile {
         table: context.registers,
@@ -43,7 +43,13 @@ pub fn value_of(
     match instruction {
         Instruction::Constant { value, .. } => Ok(Some(Operand::Integral(*value))),
         Instruction::Unset { .. } => Ok(None),
-        Instruction::Move { from, name, .. } => variable(registers, *from, *name),
+        Instruction::Move { from, name, .. } => load_variable(
+            registers,
+            Variable {
+                register: *from,
+                name: *name,
+            },
+        ),
         Instruction::AssignConversion { from, kind, .. } => assign(registers, *from, *kind),
         Instruction::Convert { from, kind, .. } => cast(registers, *from, *kind),
         Instruction::UsualConversion { from, other, .. } => to_common_type(
@@ -91,13 +97,17 @@ pub fn value_of(
             ..
         } => load_private(
             registers,
-            elements_of(arrays, *array),
-            *index,
-            *element,
-            *name,
+            arrays,
+            PrivateElement {
+                array: *array,
+                index: *index,
+                kind: *element,
+                name: *name,
+            },
         ),
         Instruction::MovePointer { from, .. } => pointer_operand(registers, *from),
         Instruction::Offset { pointer, index, .. } => { move_pointer(registers, *pointer, *index) }
+        // No other instruction comes here, as `requires` says.
         _ => Err(Termination::Finish),
     }
 }

@@ -56,6 +56,7 @@ pub(crate) fn combined(
 ) -> Result<Operand, Termination>
     ensures { (after : Operand → Continuation) → Leads result (next.combined operator first second after) after }
 {
+    // One match in another, and values made whole again: so each arm is the definition at values that are known.
     match first {
         Operand::Integral(v) => match second {
             Operand::Integral(w) => arithmetic(binary(operator, v, w)),

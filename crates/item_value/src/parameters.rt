@@ -36,6 +36,7 @@ fn content(
     requires { length buffers.now < 2 ^ 32 }
     ensures { result ≡ next.content buffers.now number kind argument.now }
 {
+    // One match in another: so each arm is one case of the definition.
     match kind {
         VariableType::Pointer(pointer) => match argument {
             Some(Argument::Buffer(name)) => Some(Operand::Pointed(Pointer {

@@ -43,11 +43,10 @@ impl PrivateArray {
     }
 
     /// It is declared: it has n elements, and none is set (OpenCL 1.2, section 6.5.4; C99 6.2.4).
-    pub fn unset(&mut self, count: u32)
+    pub fn unset(&mut self, count: usize)
         requires { count ≤ self.old.most }
         ensures { self.new ≡ keeping (replicate count None) self.old.most }
     {
-        let count = count as usize;
         clear(&mut self.elements, count);
         self.count = count;
     }

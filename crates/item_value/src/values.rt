@@ -4,7 +4,7 @@
 ghost use Rattle.std.specs.Prelude.{◌≡◌, Option, [], ◌∷◌};
 ghost use Rattle.clnum.specs.Integer.{converted};
 ghost use Rattle.clnum.specs.Operations.{unary_value};
-ghost use Rattle.item_value.specs.Position.{here};
+ghost use Rattle.item_value.specs.Position.{item_position};
 ghost use Rattle.clmodel.specs.Next as next;
 ghost use Rattle.clmodel.specs.Next.{Continuation};
 ghost use Rattle.clmodel.specs.declared.operand.Operand.{Operand};
@@ -12,13 +12,15 @@ ghost use Rattle.clmodel.specs.declared.operand.Operand.TheVariants as operand;
 ghost use Rattle.clmodel.specs.declared.setup.BuiltIn.TheVariants as built_in;
 ghost use Rattle.clmodel.specs.declared.tree.VariableType.TheVariants as variable_type;
 ghost use Rattle.regcode.specs.Machine.{entry_at};
+ghost use Rattle.item_value.specs.Arrays.{all_present};
 ghost use Rattle.item_value.specs.Leading.{Leads};
 ghost use Rattle.item_value.specs.Reading.{reads};
 
-use crate::elements::element;
+use crate::elements::{PrivateElement, element_value, elements_of};
 use crate::operators::{chosen_value, combined, of_one, of_two, work_item};
 use crate::pointers::{index_of, moved, number, pointing};
 use crate::position::ItemPosition;
+use crate::private_array::PrivateArray;
 use crate::registers::{RegisterFile, operand, register};
 use crate::termination::Termination;
 use clmodel::action::Cause;
@@ -27,17 +29,25 @@ use clmodel::setup::WorkItemFunction;
 use clmodel::tree::VariableType;
 use clnum::{BinaryOperator, Builtin, IntType, UnaryOperator, convert, unary};
 
-/// The value of a variable of a name, which must be set.
-pub(crate) fn variable(
+/// A variable: the number of its register, and the place of its name in the table of names.
+#[derive(Clone, Copy)]
+pub(crate) struct Variable {
+    pub(crate) register: u32,
+    pub(crate) name: u32,
+}
+
+/// The value of a variable, which must be set.
+pub(crate) fn load_variable(
     registers: RegisterFile<'_>,
-    from: u32,
-    name: u32,
+    variable: Variable,
 ) -> Result<Option<Operand>, Termination>
-    ensures { (after : Option Operand → Continuation) → Leads result (next.known name (entry_at None registers.entry.values.now from) (λ v. after (Some v))) after }
+    ensures { (after : Option Operand → Continuation) → Leads result (next.known variable.name (entry_at None registers.entry.values.now variable.register) (λ v. after (Some v))) after }
 {
-    match register(registers.values, from) {
+    match register(registers.values, variable.register) {
         Some(value) => Ok(Some(value)),
-        None => Err(Termination::Fail(Cause::UnsetVariable { variable: name })),
+        None => Err(Termination::Fail(Cause::UnsetVariable {
+            variable: variable.name,
+        })),
     }
 }
 
@@ -45,6 +55,7 @@ pub(crate) fn variable(
 fn assigned(kind: VariableType, value: Operand) -> Operand
     ensures { result ≡ next.held kind value }
 {
+    // One match in another: so each arm is one case of the definition.
     match kind {
         VariableType::Integer(kind) => match value {
             Operand::Integral(number) => Operand::Integral(convert(number, kind)),
@@ -155,7 +166,7 @@ pub(crate) fn query_work_item(
     function: WorkItemFunction,
     dimension: u32,
 ) -> Result<Option<Operand>, Termination>
-    ensures { (after : Option Operand → Continuation) → Leads result (reads registers.entry dimension (λ d. next.call (here position.now) (Some (built_in.WorkItem function)) (d ∷ []) (λ x. after (Some x)))) after }
+    ensures { (after : Option Operand → Continuation) → Leads result (reads registers.entry dimension (λ d. next.call (item_position position.now) (Some (built_in.WorkItem function)) (d ∷ []) (λ x. after (Some x)))) after }
 {
     let dimension = operand(registers, dimension)?;
     Ok(Some(work_item(position, function, dimension)))
@@ -190,15 +201,14 @@ pub(crate) fn move_pointer(
 /// An element of a private array; a fault with its name where there is none, or none that is set.
 pub(crate) fn load_private(
     registers: RegisterFile<'_>,
-    elements: &[Option<u64>],
-    index: u32,
-    kind: IntType,
-    name: u32,
+    arrays: &[PrivateArray],
+    element: PrivateElement,
 ) -> Result<Option<Operand>, Termination>
-    ensures { (after : Option Operand → Continuation) → Leads result (reads registers.entry index (λ i. next.read_element name kind elements.now i (λ v. after (Some v)))) after }
+    ensures { (after : Option Operand → Continuation) → Leads result (reads registers.entry element.index (λ i. next.read_element element.name element.kind (entry_at [] (all_present arrays.now) element.array) i (λ v. after (Some v)))) after }
 {
-    let index = operand(registers, index)?;
+    let index = operand(registers, element.index)?;
     let index = number(index)?;
-    let value = element(elements, name, index_of(index), kind)?;
+    let elements = elements_of(arrays, element.array);
+    let value = element_value(elements, element.name, index_of(index), element.kind)?;
     Ok(Some(value))
 }

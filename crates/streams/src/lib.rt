@@ -1,7 +1,7 @@
 //! Readers and writers of the standard library, with their failed calls counted.
 #![tactic(auto)]
 
-ghost use Rattle.std.specs.Prelude.{◌≡◌};
+ghost use Rattle.std.specs.Prelude.{◌≡◌, []};
 ghost use Rattle.std.specs.Io.Buffered.{writer_inner};
 ghost use Rattle.counted_io.specs.Sink.{Pushes};
 
@@ -80,6 +80,21 @@ impl<W: io::Write + Drop> Write for Output<W> {
     }
 }
 
+/// The room that a text begins with. The C library hands memory back to the system as soon as 128 KiB lie free at the end of the heap, and takes it
+/// again page by page; once a block as large as this one has been given back, it keeps twice as much. So what one group of a launch frees serves the
+/// next. The room behind the text is never touched, and takes no memory; 32 MiB is the largest block that counts.
+const TEXT_ROOM: usize = 31 * 1_048_576;
+
+/// An empty text, with that room if it can be had.
+fn empty_text(alloc: Global) -> Vec<u8>
+    ensures { result.items ≡ [] }
+{
+    match Vec::with_capacity(alloc, TEXT_ROOM) {
+        Ok(text) => text,
+        Err(_) => Vec::new(alloc),
+    }
+}
+
 /// A reader of the standard library.
 #[derive(Drop)]
 pub struct Input<R: io::Read> {
@@ -102,7 +117,7 @@ impl<R: io::Read> Read for Input<R> {
     ghost failures = { λ r. r.failures };
 
     fn read_all(&mut self, alloc: Global) -> Result<Vec<u8>, ReadFault> {
-        let mut bytes = Vec::new(alloc);
+        let mut bytes = empty_text(alloc);
         match self.inner.read_to_end(&mut bytes) {
             Ok(_) => Ok(bytes),
             Err(error) => {

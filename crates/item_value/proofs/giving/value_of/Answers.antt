@@ -1,15 +1,10 @@
-use Rattle.std.proofs.Common.{ℕ, Option, Some, List, subst}
-use Rattle.clmodel.specs.Next.{Continuation, read_element}
-use Rattle.clmodel.specs.declared.operand.Operand.{Operand}
-use Rattle.regcode.specs.Machine.{read, with_put}
-use Rattle.item_value.specs.ItemContext.{given}
+use Rattle.regcode.specs.Machine.{with_put}
 use Rattle.item_value.specs.Arrays.{registers_with}
-use Rattle.item_value.specs.Leading.{Leads}
 use Rattle.item_value.proofs.giving.value_of.Goals as goal
 
 pub returns-in-Move : goal.returns-in-Move
 returns-in-Move c place counters on after =
-    rw c.in-Move.is (c.variable.ensures (λ v. on (with_put (record { place = place; registers = registers_with c.args.values.now c.args.arrays.now; counters = counters }) c.in-Move.to v)))
+    rw c.in-Move.is (c.load_variable.ensures (λ v. on (with_put (record { place = place; registers = registers_with c.args.values.now c.args.arrays.now; counters = counters }) c.in-Move.to v)))
 
 pub returns-in-AssignConversion : goal.returns-in-AssignConversion
 returns-in-AssignConversion c place counters on after =
@@ -53,10 +48,4 @@ returns-in-Offset c place counters on after =
 
 pub returns-in-PrivateLoad : goal.returns-in-PrivateLoad
 returns-in-PrivateLoad c place counters on after =
-    let registers = registers_with c.args.values.now c.args.arrays.now in
-    let next : Option Operand → Continuation = λ v. on (with_put (record { place = place; registers = registers; counters = counters }) c.in-PrivateLoad.to v) in
-    rw c.in-PrivateLoad.is
-    (subst
-    (λ (elements : List (Option ℕ)). Leads c.load_private.result
-    (read (given c.args.context.now) (record { place = place; registers = registers; counters = counters }) c.in-PrivateLoad.index (λ i. read_element c.in-PrivateLoad.name c.in-PrivateLoad.element elements i (λ v. next (Some v)))) next)
-    c.elements_of.ensures (c.load_private.ensures next))
+    rw c.in-PrivateLoad.is (c.load_private.ensures (λ v. on (with_put (record { place = place; registers = registers_with c.args.values.now c.args.arrays.now; counters = counters }) c.in-PrivateLoad.to v)))

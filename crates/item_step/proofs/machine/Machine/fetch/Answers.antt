@@ -10,12 +10,12 @@ use Rattle.item_step.proofs.AskingLaws.{fetch_asks}
 use Rattle.item_step.proofs.machine.Machine.fetch.Goals as goal
 
 pub returns : goal.returns
-returns c on after =
+returns c to on after =
     let s = c.args.self.now.state in
-    leads_ok _ _ _ _ c.in_ok-pair.was (c.pointer_and_number.ensures (λ q n. next.fetch_number c.args.function q (wrapped q.element (pos 0)) (converted n q.element) (λ (v : Operand). after (with_put s c.args.to (Some v)))))
-    ∙ fetch_asks s c.args.to c.args.function c.args.pointer (operands.Number c.args.value) c.in_ok-pair.pair.0 _ _ _ _ _ after c.fetch_of.ensures c.wrapped-none.ensures c.convert-amount.ensures
+    leads_ok _ _ _ _ c.in_ok-pair.was (c.pointer_and_number.ensures (λ q n. next.fetch_number c.args.function q (wrapped q.element (pos 0)) (converted n q.element) (λ (v : Operand). after (with_put s to (Some v)))))
+    ∙ fetch_asks s to c.args.function c.args.pointer (operands.Number c.args.value) c.in_ok-pair.pair.0 _ _ _ _ _ after c.fetch_of.ensures c.wrapped-none.ensures c.convert-amount.ensures
 
 pub returns-in_err-pair : goal.returns-in_err-pair
-returns-in_err-pair c on after =
+returns-in_err-pair c to on after =
     let s = c.args.self.now.state in
-    leads_passed _ _ _ _ _ _ c.in_err-pair.was c.from_residual.ensures.1 (c.pointer_and_number.ensures (λ q n. next.fetch_number c.args.function q (wrapped q.element (pos 0)) (converted n q.element) (λ (v : Operand). after (with_put s c.args.to (Some v)))))
+    leads_passed _ _ _ _ _ _ c.in_err-pair.was c.from_residual.ensures.1 (c.pointer_and_number.ensures (λ q n. next.fetch_number c.args.function q (wrapped q.element (pos 0)) (converted n q.element) (λ (v : Operand). after (with_put s to (Some v)))))

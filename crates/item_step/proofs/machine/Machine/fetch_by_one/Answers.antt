@@ -9,12 +9,12 @@ use Rattle.item_step.proofs.AskingLaws.{fetch_asks}
 use Rattle.item_step.proofs.machine.Machine.fetch_by_one.Goals as goal
 
 pub returns : goal.returns
-returns c on after =
+returns c to on after =
     let s = c.args.self.now.state in
-    leads_ok _ _ _ _ c.in_ok-pointer.was (c.pointer.ensures (λ q. next.fetch_number c.args.function q (wrapped q.element (pos 0)) (wrapped q.element (pos 1)) (λ (v : Operand). after (with_put s c.args.to (Some v)))))
-    ∙ fetch_asks s c.args.to c.args.function c.args.pointer operands.Alone c.in_ok-pointer.pointer _ _ _ _ _ after c.fetch_of.ensures c.wrapped-none.ensures c.wrapped-one.ensures
+    leads_ok _ _ _ _ c.in_ok-pointer.was (c.pointer.ensures (λ q. next.fetch_number c.args.function q (wrapped q.element (pos 0)) (wrapped q.element (pos 1)) (λ (v : Operand). after (with_put s to (Some v)))))
+    ∙ fetch_asks s to c.args.function c.args.pointer operands.Alone c.in_ok-pointer.pointer _ _ _ _ _ after c.fetch_of-operation.ensures c.wrapped-none.ensures c.wrapped-one.ensures
 
 pub returns-in_err-pointer : goal.returns-in_err-pointer
-returns-in_err-pointer c on after =
+returns-in_err-pointer c to on after =
     let s = c.args.self.now.state in
-    leads_passed _ _ _ _ _ _ c.in_err-pointer.was c.from_residual.ensures.1 (c.pointer.ensures (λ q. next.fetch_number c.args.function q (wrapped q.element (pos 0)) (wrapped q.element (pos 1)) (λ (v : Operand). after (with_put s c.args.to (Some v)))))
+    leads_passed _ _ _ _ _ _ c.in_err-pointer.was c.from_residual.ensures.1 (c.pointer.ensures (λ q. next.fetch_number c.args.function q (wrapped q.element (pos 0)) (wrapped q.element (pos 1)) (λ (v : Operand). after (with_put s to (Some v)))))

@@ -9,12 +9,12 @@ use Rattle.item_step.proofs.AskingLaws.{fetch_asks}
 use Rattle.item_step.proofs.machine.Machine.fetch_if_equal.Goals as goal
 
 pub returns : goal.returns
-returns c on after =
+returns c to on after =
     let s = c.args.self.now.state in
-    leads_ok _ _ _ _ c.in_ok-three.was (c.pointer_and_numbers.ensures (λ q m n. next.fetch_number c.args.function q (converted m q.element) (converted n q.element) (λ (v : Operand). after (with_put s c.args.to (Some v)))))
-    ∙ fetch_asks s c.args.to c.args.function c.args.pointer (operands.Pair c.args.expected c.args.value) c.in_ok-three.three.0 _ _ _ _ _ after c.fetch_of.ensures c.convert-wanted.ensures c.convert-amount.ensures
+    leads_ok _ _ _ _ c.in_ok-three.was (c.compared.ensures (λ q m n. next.fetch_number c.args.function q (converted m q.element) (converted n q.element) (λ (v : Operand). after (with_put s to (Some v)))))
+    ∙ fetch_asks s to c.args.function c.args.registers.pointer (operands.Pair c.args.registers.expected c.args.registers.value) c.in_ok-three.three.0 _ _ _ _ _ after c.fetch_of.ensures c.convert-wanted.ensures c.convert-amount.ensures
 
 pub returns-in_err-three : goal.returns-in_err-three
-returns-in_err-three c on after =
+returns-in_err-three c to on after =
     let s = c.args.self.now.state in
-    leads_passed _ _ _ _ _ _ c.in_err-three.was c.from_residual.ensures.1 (c.pointer_and_numbers.ensures (λ q m n. next.fetch_number c.args.function q (converted m q.element) (converted n q.element) (λ (v : Operand). after (with_put s c.args.to (Some v)))))
+    leads_passed _ _ _ _ _ _ c.in_err-three.was c.from_residual.ensures.1 (c.compared.ensures (λ q m n. next.fetch_number c.args.function q (converted m q.element) (converted n q.element) (λ (v : Operand). after (with_put s to (Some v)))))

@@ -10,7 +10,7 @@ pub returns : goal.returns
 returns c on after =
     let s = c.args.self.now.state in
     leads_ok _ _ _ _ c.in_ok-pointer.was (c.pointer.ensures (λ q. next.update c.args.function q (wrapped q.element (pos 1)) (after (passed s))))
-    ∙ update_asks s c.args.function c.args.pointer None c.in_ok-pointer.pointer _ _ _ after c.update_of.ensures c.wrapped-one.ensures
+    ∙ update_asks s c.args.function c.args.pointer None c.in_ok-pointer.pointer _ _ _ after c.update_of-operation.ensures c.wrapped-one.ensures
 
 pub returns-in_err-pointer : goal.returns-in_err-pointer
 returns-in_err-pointer c on after =
