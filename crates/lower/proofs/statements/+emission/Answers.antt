@@ -10,11 +10,11 @@ use Rattle.std.specs.Option.{option_map}
 use Rattle.clmodel.specs.Next.{sites, part_sites, all_sites}
 use Rattle.clmodel.specs.Typing.Rules.{length_limit}
 use Rattle.clmodel.specs.Typing.Sizes.{node_limit, size, row_size}
-use Rattle.clmodel.specs.Tree.{Stmt, ThenStmt, Without, WithTerm, stmt, term}
+use Rattle.clmodel.specs.Tree.{Stmt, For, ThenStmt, Without, WithTerm, stmt, term}
 use Rattle.clmodel.specs.declared.tree.Statement.{Statement, size-Statement}
 use Rattle.regcode.specs.declared.instruction.Instruction.{Instruction}
 use Rattle.lower_expr.specs.Scope.{Scope, free_level}
-use Rattle.lower_code.specs.Variables.{scope_after_all, scope_after_part}
+use Rattle.lower_code.specs.Variables.{elements, scope_after_all, scope_after_part}
 use Rattle.lower_code.specs.Trees.{all_of, part_of}
 use Rattle.lower_code.specs.Code.{Exits, past, stmt_code, stmts_code, condition_code, call_code, result_in}
 use Rattle.lower_code.specs.Emission.{functions_of, inside, sizes_in, statement_code, row_code, test_of, exits_of}
@@ -25,7 +25,7 @@ use Rattle.lower_code.proofs.Lists.{block_is}
 use Rattle.lower_expr.proofs.Growth.{on_err}
 use Rattle.lower.specs.Statements.{begun_at, once_code, round_code}
 use Rattle.lower.proofs.Lent.{after_part, after_turns, left_statement}
-use Rattle.lower.proofs.Rounds.{once_placed, stepped_placed, lone_round, for_placed, part_named, part_is, for_sites}
+use Rattle.lower.proofs.Rounds.{once_placed, stepped_placed, lone_round, for_placed, part_named, part_is, for_sites, if_placed, while_laid, while_is, do_is, if_else_is, for_is, part_depth_is, for_depth}
 use Rattle.lower.proofs.statements.+emission.Goals as goal
 
 pub emit_statement-returns-in-Block-clause-code : goal.emit_statement-returns-in-Block-clause-code
@@ -520,3 +520,86 @@ emit_turns-end_while-requires t c =
     let round = put_length c.put_condition.new.code c.emit_round.new.turn (round_short s c.args.scope.now (part_of c.args.third) (stmt c.args.body.now) (begun_at c.args.ending c.in_ok-site.site) (length c.put_condition.new.code)) c.in_ok-site.ensures.code in
     let far = c.requires.short in
     omega (arith, turn, most, round, far)
+
+pub emit_choice-returns-clause-site : goal.emit_choice-returns-clause-site
+emit_choice-returns-clause-site t c =
+    let f = inside c.args.setting.now.helpers.functions.now in
+    let one : c.in_ok-site.site + sites f (stmt c.args.chosen.now) ≡ c.in_ok-between.between = c.in_ok-site.ensures.site in
+    let two : c.in_ok-between.between + sites f (stmt c.args.otherwise.now) ≡ c.args.ending.behind = c.in_ok-between.ensures.site in
+    omega (arith, one, two)
+
+pub emit_if-returns-clause-code : goal.emit_if-returns-clause-code
+emit_if-returns-clause-code t c =
+    let one = c.emit_statement.new.code in
+    if_placed c.args.setting.now c.args.scope.now c.emit_statement.new.scope (begun_at c.args.ending c.in_ok-site.site) (term c.args.condition.now) (stmt c.args.chosen.now) c.args.code.now one c.put_test.new.code c.added.result
+    c.in_ok-site.ensures.code c.in_ok-site.ensures.scope (c.added.ensures ∙ ap (λ n. length one - n) c.len-end.ensures) c.in_ok-put_test.ensures.code
+
+pub emit_loop-emit_for-requires-in-For : goal.emit_loop-emit_for-requires-in-For
+emit_loop-emit_for-requires-in-For t c =
+    let sizes = sizes_in c.args.setting.now.helpers.functions.now in
+    let f = inside c.args.setting.now.helpers.functions.now in
+    let whole = for_is c.args.statement.now c.in-For.at c.in-For.first c.in-For.condition c.in-For.third c.in-For.body c.statement_of.result c.statement_of-in-For.result (test_of c.condition_of.result) c.deref-in-For.result.now
+    c.in-For.is c.statement_of.ensures c.condition_of.ensures c.statement_of-in-For.ensures c.deref-in-For.ensures in
+    let barriers = ap (λ x. sites f x) whole in
+    let nodes = ap (λ x. (size sizes x).nodes) whole in
+    let arrays = ap (λ x. elements x) whole in
+    let few = c.requires.few in
+    let small = c.requires.small in
+    let low = c.requires.low in
+    let far = c.requires.short in
+    let most = c.requires.arrays in
+    let first = part_depth_is c.statement_of.result c.in-For.first c.statement_of.ensures in
+    let third = part_depth_is c.statement_of-in-For.result c.in-For.third c.statement_of-in-For.ensures in
+    let body = ap (λ (x : Statement). size-Statement x) c.deref-in-For.ensures in
+    let all = ap (λ (x : Statement). size-Statement x) c.in-For.is in
+    let deeper = for_depth c.in-For.at c.in-For.first c.in-For.condition c.in-For.third c.in-For.body in
+    (omega (arith, first, third, body, all, deeper), (omega (arith, barriers, few), (omega (arith, nodes, small), (omega (arith, nodes, low), (omega (arith, nodes, far), omega (arith, arrays, most))))))
+
+pub emit_loop-returns-in-While-clause-code : goal.emit_loop-returns-in-While-clause-code
+emit_loop-returns-in-While-clause-code t c =
+    let s = c.args.setting.now in
+    let scope = c.args.scope.now in
+    let old = c.args.code.now in
+    let test = term c.deref.result.now in
+    let body = stmt c.deref-in-While.result.now in
+    let whole = while_is c.args.statement.now c.in-While.at c.in-While.condition c.in-While.body c.deref.result.now c.deref-in-While.result.now c.in-While.is c.deref.ensures c.deref-in-While.ensures in
+    IfOk-weaker c.emit_for.result (λ site. c.emit_for.new.code ≡ statement_code s scope (For 0 Without (WithTerm test) Without body) (begun_at c.args.ending site) ++ old)
+    (λ site. c.emit_for.new.code ≡ statement_code s scope (stmt c.args.statement.now) (begun_at c.args.ending site) ++ old)
+    (λ site h. h ∙ ap (λ xs. xs ++ old) (while_laid s scope c.in-While.at test body (begun_at c.args.ending site) ∙ ap (λ x. statement_code s scope x (begun_at c.args.ending site)) whole)) c.emit_for.ensures.code
+
+pub emit_loop-returns-in-While-clause-site : goal.emit_loop-returns-in-While-clause-site
+emit_loop-returns-in-While-clause-site t c =
+    let f = inside c.args.setting.now.helpers.functions.now in
+    let body = stmt c.deref-in-While.result.now in
+    let whole = ap (λ x. sites f x) (while_is c.args.statement.now c.in-While.at c.in-While.condition c.in-While.body c.deref.result.now c.deref-in-While.result.now c.in-While.is c.deref.ensures c.deref-in-While.ensures) in
+    IfOk-weaker c.emit_for.result (λ site. site + (0 + 0 + sites f body) ≡ c.args.ending.behind) (λ site. site + sites f (stmt c.args.statement.now) ≡ c.args.ending.behind)
+    (λ site h. omega (arith, h, whole)) c.emit_for.ensures.site
+
+pub emit_loop-returns-in-DoWhile-clause-site : goal.emit_loop-returns-in-DoWhile-clause-site
+emit_loop-returns-in-DoWhile-clause-site t c =
+    let f = inside c.args.setting.now.helpers.functions.now in
+    let body = c.deref-in-DoWhile.result.now in
+    let whole = ap (λ x. sites f x) (do_is c.args.statement.now c.in-DoWhile.at c.in-DoWhile.body c.in-DoWhile.condition body c.in-DoWhile.is c.deref-in-DoWhile.ensures) in
+    IfOk-weaker c.emit_do.result (λ site. site + sites f (stmt body) ≡ c.args.ending.behind) (λ site. site + sites f (stmt c.args.statement.now) ≡ c.args.ending.behind)
+    (λ site h. omega (arith, h, whole)) c.emit_do.ensures.site
+
+pub emit_loop-returns-in-For-clause-code : goal.emit_loop-returns-in-For-clause-code
+emit_loop-returns-in-For-clause-code t c =
+    let s = c.args.setting.now in
+    let scope = c.args.scope.now in
+    let old = c.args.code.now in
+    let whole = for_is c.args.statement.now c.in-For.at c.in-For.first c.in-For.condition c.in-For.third c.in-For.body c.statement_of.result c.statement_of-in-For.result (test_of c.condition_of.result) c.deref-in-For.result.now
+    c.in-For.is c.statement_of.ensures c.condition_of.ensures c.statement_of-in-For.ensures c.deref-in-For.ensures in
+    IfOk-weaker c.emit_for-in-For.result
+    (λ site. c.emit_for-in-For.new.code ≡ statement_code s scope (For 0 (part_of c.statement_of.result) (test_of c.condition_of.result) (part_of c.statement_of-in-For.result) (stmt c.deref-in-For.result.now)) (begun_at c.args.ending site) ++ old)
+    (λ site. c.emit_for-in-For.new.code ≡ statement_code s scope (stmt c.args.statement.now) (begun_at c.args.ending site) ++ old)
+    (λ site h. h ∙ ap (λ x. statement_code s scope x (begun_at c.args.ending site) ++ old) whole) c.emit_for-in-For.ensures.code
+
+pub emit_statement-returns-in-IfElse-clause-site : goal.emit_statement-returns-in-IfElse-clause-site
+emit_statement-returns-in-IfElse-clause-site t c =
+    let f = inside c.args.setting.now.helpers.functions.now in
+    let one = c.deref-in-IfElse-2.result.now in
+    let two = c.deref-in-IfElse-3.result.now in
+    let whole = ap (λ x. sites f x) (if_else_is c.args.statement.now c.in-IfElse.at c.in-IfElse.condition c.in-IfElse.chosen c.in-IfElse.otherwise one two c.in-IfElse.is c.deref-in-IfElse-2.ensures c.deref-in-IfElse-3.ensures) in
+    IfOk-weaker c.emit_choice.result (λ site. site + (sites f (stmt one) + sites f (stmt two)) ≡ c.args.ending.behind) (λ site. site + sites f (stmt c.args.statement.now) ≡ c.args.ending.behind)
+    (λ site h. omega (arith, h, whole)) c.emit_choice.ensures.site
