@@ -185,7 +185,7 @@ for_is s at first condition third body p q o b s_is p_is o_is q_is b_is =
     ∙ for_stmt at first condition third body ∙ ap stmt (sym s_is)
 
 -- how deep the parts of a `for` are
-depth_named : Option Statement → ℕ
+abbrev depth_named : Option Statement → ℕ
 depth_named None = 0
 depth_named (Some s) = size-Statement s
 
