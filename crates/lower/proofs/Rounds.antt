@@ -199,14 +199,3 @@ boxed_named_depth (Some s) = refl
 
 pub part_depth_is : (o : Option (Bor Statement)) (p : Option (Box Statement Global)) → option_map (λ s. s.now) o ≡ option_map (λ s. s.value) p → part_depth o ≡ boxed_depth p
 part_depth_is o p e = part_named_depth o ∙ ap depth_named e ∙ sym (boxed_named_depth p)
-
-pub for_depth : (at : ℕ) (first : Option (Box Statement Global)) (condition : Option (Box Expression Global)) (third : Option (Box Statement Global)) (body : Box Statement Global)
-    → max (boxed_depth first) (max (boxed_depth third) (size-Statement body.value)) < size-Statement (rust_statement.For at first condition third body)
-for_depth at None None None body = omega arith
-for_depth at None None (Some third) body = omega arith
-for_depth at (Some first) None None body = omega arith
-for_depth at (Some first) None (Some third) body = omega arith
-for_depth at None (Some e) None body = omega arith
-for_depth at None (Some e) (Some third) body = omega arith
-for_depth at (Some first) (Some e) None body = omega arith
-for_depth at (Some first) (Some e) (Some third) body = omega arith

@@ -1,4 +1,5 @@
 use Rattle.std.proofs.Common.{◌≡◌, ℕ, ◌+◌, ◌-◌, ◌<◌, ◌≤◌, ◌^◌, ◌++◌, refl, Option, Bor, List, length, take, ap, ap₂, sym, subst, ◌∙◌, arith, rules, IfOk}
+use Rattle.std.proofs.lemmas.Grind.{common_steps}
 use Rattle.std.proofs.lemmas.Result.{IfOk-weaker}
 use Rattle.lower.proofs.Fronts.{block_few, block_small, block_low, block_short, block_arrays, nodes_there}
 use Rattle.lower.proofs.Reach.{put_length, past_exits, loop_exits, once_short, round_short, turns_short}
@@ -25,7 +26,7 @@ use Rattle.lower_code.proofs.Lists.{block_is}
 use Rattle.lower_expr.proofs.Growth.{on_err}
 use Rattle.lower.specs.Statements.{begun_at, once_code, round_code}
 use Rattle.lower.proofs.Lent.{after_part, after_turns, left_statement}
-use Rattle.lower.proofs.Rounds.{once_placed, stepped_placed, lone_round, for_placed, part_named, part_is, for_sites, if_placed, while_laid, while_is, do_is, if_else_is, for_is, part_depth_is, for_depth}
+use Rattle.lower.proofs.Rounds.{once_placed, stepped_placed, lone_round, for_placed, part_named, part_is, for_sites, if_placed, while_laid, while_is, do_is, if_else_is, for_is, part_depth_is}
 use Rattle.lower.proofs.statements.+emission.Goals as goal
 
 pub emit_statement-returns-in-Block-clause-code : goal.emit_statement-returns-in-Block-clause-code
@@ -552,8 +553,7 @@ emit_loop-emit_for-requires-in-For t c =
     let third = part_depth_is c.statement_of-in-For.result c.in-For.third c.statement_of-in-For.ensures in
     let body = ap (λ (x : Statement). size-Statement x) c.deref-in-For.ensures in
     let all = ap (λ (x : Statement). size-Statement x) c.in-For.is in
-    let deeper = for_depth c.in-For.at c.in-For.first c.in-For.condition c.in-For.third c.in-For.body in
-    (omega (arith, first, third, body, all, deeper), (omega (arith, barriers, few), (omega (arith, nodes, small), (omega (arith, nodes, low), (omega (arith, nodes, far), omega (arith, arrays, most))))))
+    (grind (arith, common_steps), (omega (arith, barriers, few), (omega (arith, nodes, small), (omega (arith, nodes, low), (omega (arith, nodes, far), omega (arith, arrays, most))))))
 
 pub emit_loop-returns-in-While-clause-code : goal.emit_loop-returns-in-While-clause-code
 emit_loop-returns-in-While-clause-code t c =
