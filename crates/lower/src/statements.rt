@@ -123,9 +123,8 @@ fn put_single<'a>(
     }
 }
 
-/// The barriers of statements have numbers from 0 on where the first one behind them has its own, and the statements have no more nodes,
-/// with the loops round them, than a kernel may have; their levels have registers, their jumps lengths of 32 bits, and their arrays no more elements
-/// than one may have. This is the contract of a function that does nothing: what it asks is shown at its call.
+/// Statements of a kernel within the limits have numbers for their barriers, registers for their levels, and jumps and arrays of 32 bits. This is the
+/// contract of a function that does nothing: what it asks is shown at its call.
 fn numbers_suffice(
     setting: &StatementContext<'_>,
     scope: &Scope,
@@ -145,8 +144,7 @@ fn numbers_suffice(
     ensures arrays { row_elements (all_of statements.now) ≤ length_limit }
 {}
 
-/// Puts a statement before the code, and gives the number of its first barrier, or of the first behind it if it has none. Err if out
-/// of memory.
+/// Puts a statement before the code, and gives the number of its first barrier, or of the first behind it if it has none.
 #[cycle(emission)]
 fn emit_statement<'a>(
     setting: &StatementContext<'a>,

@@ -1,5 +1,4 @@
 use Rattle.std.proofs.Common.{◌≡◌, ℕ, ◌+◌, ◌-◌, ◌<◌, ◌≤◌, ◌^◌, ◌++◌, refl, Option, Bor, List, length, take, ap, ap₂, sym, subst, ◌∙◌, arith, rules, IfOk}
-use Rattle.std.proofs.lemmas.Grind.{common_steps}
 use Rattle.std.proofs.lemmas.Result.{IfOk-weaker}
 use Rattle.lower.proofs.Fronts.{block_few, block_small, block_low, block_short, block_arrays, nodes_there}
 use Rattle.lower.proofs.Reach.{put_length, past_exits, loop_exits, once_short, round_short, turns_short}
@@ -12,7 +11,7 @@ use Rattle.clmodel.specs.Next.{sites, part_sites, all_sites}
 use Rattle.clmodel.specs.Typing.Rules.{length_limit}
 use Rattle.clmodel.specs.Typing.Sizes.{node_limit, size, row_size}
 use Rattle.clmodel.specs.Tree.{Stmt, For, ThenStmt, Without, WithTerm, stmt, term}
-use Rattle.clmodel.specs.declared.tree.Statement.{Statement, size-Statement}
+use Rattle.clmodel.specs.declared.tree.Statement.{Statement, size-Statement, the_lemmas}
 use Rattle.regcode.specs.declared.instruction.Instruction.{Instruction}
 use Rattle.lower_expr.specs.Scope.{Scope, free_level}
 use Rattle.lower_code.specs.Variables.{elements, scope_after_all, scope_after_part}
@@ -553,7 +552,7 @@ emit_loop-emit_for-requires-in-For t c =
     let third = part_depth_is c.statement_of-in-For.result c.in-For.third c.statement_of-in-For.ensures in
     let body = ap (λ (x : Statement). size-Statement x) c.deref-in-For.ensures in
     let all = ap (λ (x : Statement). size-Statement x) c.in-For.is in
-    (grind (arith, common_steps), (omega (arith, barriers, few), (omega (arith, nodes, small), (omega (arith, nodes, low), (omega (arith, nodes, far), omega (arith, arrays, most))))))
+    (search (rules, the_lemmas), (omega (arith, barriers, few), (omega (arith, nodes, small), (omega (arith, nodes, low), (omega (arith, nodes, far), omega (arith, arrays, most))))))
 
 pub emit_loop-returns-in-While-clause-code : goal.emit_loop-returns-in-While-clause-code
 emit_loop-returns-in-While-clause-code t c =
