@@ -7,7 +7,7 @@ use Rattle.clmodel.specs.Next.{launch_of}
 use Rattle.clmodel.specs.Outcome.{events_of}
 use Rattle.clmodel.specs.Setup.{Setup}
 use Rattle.clmodel.specs.declared.fault.Fault.{Fault}
-use Rattle.clmodel.specs.declared.schedule.Run.{Run}
+use Rattle.clmodel.specs.declared.schedule.EventRun.{EventRun}
 use Rattle.clmodel.specs.declared.setup.Range.{Range}
 use Rattle.device.specs.Machine.{Machine, kernel_of, setup_of}
 use Rattle.device.specs.Prepared.{IsPrepared}
@@ -46,7 +46,7 @@ last_taken (y ∷ xs) (z ∷ rest) (suc n) x h e =
     last_taken xs rest n x (omega arith) tail
 
 -- a prepared launch that was replayed
-pub replays : {m : Machine} {kernel : List ℕ} {range : Range} (launch : Launch) (buffers : Table (List ℕ)) (f : Fault) (runs : List Run) (yes : Bool)
+pub replays : {m : Machine} {kernel : List ℕ} {range : Range} (launch : Launch) (buffers : Table (List ℕ)) (f : Fault) (runs : List EventRun) (yes : Bool)
     → IsPrepared m kernel range launch → buffers ≡ m.buffers
     → Decides yes (Reaches (launch_of (launches.setup_of launch) (bytes_in buffers)) (events_of runs) f)
     → Replays m kernel range f runs yes
@@ -55,7 +55,7 @@ replays {m} {kernel} {range} launch buffers f runs answer p e d =
     record { admitted = p.admitted; decides = subst (λ (b : Table (List ℕ)). D (setup_of m (kernel_of m kernel) range) b) e (subst (λ (s : Setup). D s buffers) p.setup d) }
 
 -- a replay that came to no answer behind its two texts
-pub unreplayed : {rest rest' : Option (List ℕ)} {commands : List Command} {ticket : ℕ} {f : Fault} {runs : List Run} (a a' b b' : ℕ) (s : Sink) (why : RunFault)
+pub unreplayed : {rest rest' : Option (List ℕ)} {commands : List Command} {ticket : ℕ} {f : Fault} {runs : List EventRun} (a a' b b' : ℕ) (s : Sink) (why : RunFault)
     → ReadsScript rest commands → ReadsFile rest' ticket f runs → Unjudged commands ticket why → Unreplayed rest rest' a a' b b' s s why
 unreplayed a a' b b' s (fault.Read by) script file h = absurd h
 unreplayed a a' b b' s fault.Write script file h = absurd h

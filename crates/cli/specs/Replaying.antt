@@ -5,7 +5,7 @@ use Rattle.clmodel.specs.Law.{Reaches}
 use Rattle.clmodel.specs.Next.{launch_of}
 use Rattle.clmodel.specs.Outcome.{events_of}
 use Rattle.clmodel.specs.declared.fault.Fault.{Fault}
-use Rattle.clmodel.specs.declared.schedule.Run.{Run}
+use Rattle.clmodel.specs.declared.schedule.EventRun.{EventRun}
 use Rattle.clmodel.specs.declared.setup.Range.{Range}
 use Rattle.device.specs.Machine.{Machine, Step, opening, first, row, kernel_of, setup_of, bytes_of}
 use Rattle.host_commands.specs.declared.command.Command.{Command}
@@ -39,18 +39,18 @@ pub record ComesTo (commands : List Command) (ticket : ℕ) (kernel : List ℕ) 
   pub leads : Leads (opening 100000) (take ticket commands) m
 
 -- a launch that its row doesn't refuse: yes exactly where the schedule leads it to a state that shows the fault
-pub record Replays (m : Machine) (kernel : List ℕ) (range : Range) (fault : Fault) (runs : List Run) (yes : Bool) : Type 0 where
+pub record Replays (m : Machine) (kernel : List ℕ) (range : Range) (fault : Fault) (runs : List EventRun) (yes : Bool) : Type 0 where
   pub admitted : first (row m (command.Launch kernel range)) ≡ None
   pub decides : Decides yes (Reaches (launch_of (setup_of m (kernel_of m kernel) range) (bytes_of m)) (events_of runs) fault)
 
 -- the bytes that are read are a schedule file
-pub record ReadsFile (rest : Option (List ℕ)) (ticket : ℕ) (fault : Fault) (runs : List Run) : Type 0 where
+pub record ReadsFile (rest : Option (List ℕ)) (ticket : ℕ) (fault : Fault) (runs : List EventRun) : Type 0 where
   pub bytes : List ℕ
   pub read : Are rest bytes
   pub file : IsScheduleFile bytes ticket fault runs
 
 -- what the command of the ticket comes to: yes or no
-pub record Judges (commands : List Command) (ticket : ℕ) (fault : Fault) (runs : List Run) (yes : Bool) : Type 0 where
+pub record Judges (commands : List Command) (ticket : ℕ) (fault : Fault) (runs : List EventRun) (yes : Bool) : Type 0 where
   pub kernel : List ℕ
   pub range : Range
   pub machine : Machine
@@ -62,7 +62,7 @@ pub record Judged (rest rest' : Option (List ℕ)) (yes : Bool) : Type 0 where
   pub commands : List Command
   pub ticket : ℕ
   pub fault : Fault
-  pub runs : List Run
+  pub runs : List EventRun
   pub script : ReadsScript rest commands
   pub file : ReadsFile rest' ticket fault runs
   pub judges : Judges commands ticket fault runs yes
@@ -109,7 +109,7 @@ NoLaunch commands ticket = (kernel : List ℕ) (range : Range) → slice_get com
 pub record Missed (rest rest' : Option (List ℕ)) (ticket : ℕ) : Type 0 where
   pub commands : List Command
   pub fault : Fault
-  pub runs : List Run
+  pub runs : List EventRun
   pub script : ReadsScript rest commands
   pub file : ReadsFile rest' ticket fault runs
   pub missed : NoLaunch commands ticket
@@ -127,7 +127,7 @@ pub record Refuses (commands : List Command) (ticket : ℕ) : Type 0 where
 pub record Refused (rest rest' : Option (List ℕ)) (ticket : ℕ) : Type 0 where
   pub commands : List Command
   pub fault : Fault
-  pub runs : List Run
+  pub runs : List EventRun
   pub script : ReadsScript rest commands
   pub file : ReadsFile rest' ticket fault runs
   pub refuses : Refuses commands ticket

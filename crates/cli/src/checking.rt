@@ -9,7 +9,7 @@ ghost use Rattle.cli.specs.Checking.{Checked, Unchecked, source_status_of};
 use crate::reading::bytes_of;
 use crate::session::{Reader, RunFault};
 use counted_io::{Read, Write, WriteFailed};
-use host_commands::build::build;
+use host_commands::build::{NotBuilt, build};
 use host_commands::command::BuildFault;
 use simfile::replies::write_check;
 use std::alloc::Global;
@@ -37,7 +37,11 @@ pub fn check_file<R: Read, W: Write>(
         (Unchecked (R.rest reader.old) (R.failures reader.old) (R.failures reader.new) (W.sink writer.old) (W.sink writer.new)) }
 {
     let source = bytes_of(alloc, reader, Reader::First)?;
-    let fault = build(alloc, source.as_slice())?.err();
+    let fault = match build(alloc, source.as_slice()) {
+        Ok(_) => None,
+        Err(NotBuilt::Fault(fault)) => Some(fault),
+        Err(NotBuilt::OutOfMemory) => return Err(RunFault::OutOfMemory),
+    };
     tell(fault, writer)?;
     Ok(fault.is_none())
 }

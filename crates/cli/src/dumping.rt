@@ -10,7 +10,7 @@ use crate::reading::bytes_of;
 use crate::session::{Reader, RunFault};
 use cltypes::Checked;
 use counted_io::{Read, Write};
-use host_commands::build::build;
+use host_commands::build::{NotBuilt, build};
 use lower::lower;
 use regcode::dump;
 use std::alloc::Global;
@@ -45,14 +45,15 @@ pub fn dump_file<R: Read, W: Write>(
         (Undumped (R.rest reader.old) kernel.now (R.failures reader.old) (R.failures reader.new) (W.sink writer.old) (W.sink writer.new)) }
 {
     let source = bytes_of(alloc, reader, Reader::First)?;
-    match build(alloc, source.as_slice())? {
+    match build(alloc, source.as_slice()) {
         Ok(checked) => {
             tell_kernel(alloc, &checked, kernel, writer)?;
             Ok(true)
         }
-        Err(fault) => {
+        Err(NotBuilt::Fault(fault)) => {
             tell(Some(fault), writer)?;
             Ok(false)
         }
+        Err(NotBuilt::OutOfMemory) => Err(RunFault::OutOfMemory),
     }
 }

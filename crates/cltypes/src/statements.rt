@@ -18,7 +18,9 @@ use clmodel::tree::{Expression, Statement, VariableType};
 use clmodel::type_fault::TypeFault;
 use clnum::{IntType, Value};
 use cltypes_limits::array_length;
-use cltypes_scope::{Context, Spot, check_call, check_expression, integer_fault, lesser};
+use cltypes_scope::{
+    Context, Identifier, Spot, check_call, check_expression, integer_fault, lesser,
+};
 
 /// How many elements an array may have.
 const LENGTH_LIMIT: u64 = 32_768;
@@ -96,17 +98,16 @@ pub(crate) fn ended(fault: Option<TypeFault>) -> Result<(), TypeFault>
 fn check_declaration(
     context: &mut Context,
     kind: VariableType,
-    name_at: u32,
-    name: u32,
+    variable: Identifier,
     value: &Option<Box<Expression>>,
 ) -> Result<(), TypeFault>
-    ensures first { (at : ℕ) → Ends result (first (faults context.old (declared at kind name_at name value.now))) }
-    ensures bound { IfOk result (λ _. context.new ≡ bind context.old name (Single kind)) }
+    ensures first { (at : ℕ) → Ends result (first (faults context.old (declared at kind variable.at variable.name value.now))) }
+    ensures bound { IfOk result (λ _. context.new ≡ bind context.old variable.name (Single kind)) }
 {
-    if !context.is_free(name) {
-        return Err(TypeFault::Redeclared { at: name_at });
+    if !context.is_free(variable.name) {
+        return Err(TypeFault::Redeclared { at: variable.at });
     }
-    context.bind(name, Declaration::Single(kind))?;
+    context.bind(variable.name, Declaration::Single(kind))?;
     match value {
         None => Ok(()),
         Some(value) => ended(initial_fault(context, kind, value)),
@@ -128,18 +129,17 @@ fn array(is_local: bool, element: IntType) -> Declaration
 fn array_fault(
     context: &Context,
     is_local: bool,
-    name_at: u32,
-    name: u32,
+    array: Identifier,
     length_at: u32,
     length: Value,
 ) -> Option<TypeFault>
-    ensures { result ≡ least (array_faults context.now is_local name_at name length_at length) }
+    ensures { result ≡ least (array_faults context.now is_local array.at array.name length_at length) }
 {
     let count = array_length(length);
-    if !context.is_free(name) {
-        Some(TypeFault::Redeclared { at: name_at })
+    if !context.is_free(array.name) {
+        Some(TypeFault::Redeclared { at: array.at })
     } else if is_local && !context.is_outermost() {
-        Some(TypeFault::WrongSpace { at: name_at })
+        Some(TypeFault::WrongSpace { at: array.at })
     } else if count < 1 || count > LENGTH_LIMIT {
         Some(TypeFault::TooLarge { at: length_at })
     } else {
@@ -180,7 +180,13 @@ fn check_statement(context: &mut Context, statement: &Statement) -> Result<(), T
             name,
             value,
             ..
-        } => check_declaration(context, *kind, *name_at, *name, value),
+        } => {
+            let variable = Identifier {
+                at: *name_at,
+                name: *name,
+            };
+            check_declaration(context, *kind, variable, value)
+        }
         Statement::DeclareArray {
             is_local,
             element,
@@ -190,8 +196,12 @@ fn check_statement(context: &mut Context, statement: &Statement) -> Result<(), T
             length,
             ..
         } => {
+            let identifier = Identifier {
+                at: *name_at,
+                name: *name,
+            };
+            let fault = array_fault(context, *is_local, identifier, *length_at, *length);
             let declared = array(*is_local, *element);
-            let fault = array_fault(context, *is_local, *name_at, *name, *length_at, *length);
             declare(context, *name, declared, fault)
         }
         Statement::Assign {
@@ -209,7 +219,11 @@ fn check_statement(context: &mut Context, statement: &Statement) -> Result<(), T
             name,
             arguments,
         } => {
-            check_call(context, Spot::WholeStatement, *at, *name, arguments)?;
+            let called = Identifier {
+                at: *at,
+                name: *name,
+            };
+            check_call(context, Spot::WholeStatement, called, arguments)?;
             Ok(())
         }
         Statement::If {

@@ -20,7 +20,7 @@ use crate::kinds::{
     binary_type, call_kind, choice_type, element_kind, front_kind, name_kind, unary_type,
 };
 use crate::meaning::Meaning;
-use crate::names::{Names, meaning_among, names_inside};
+use crate::names::{Identifier, Names, meaning_among, names_inside};
 use clmodel::tree::{Expression, InfixOperator, VariableType};
 use clmodel::type_fault::TypeFault;
 use clnum::{IntType, UnaryOperator};
@@ -50,19 +50,37 @@ pub(crate) fn check_in(names: Names<'_>, expression: &Expression) -> Result<Type
             let meaning = meaning_among(names, *name);
             checked(name_fault(meaning, *at), name_kind(meaning), *at)
         }
-        Expression::Element { at, name, index } => check_element(names, *at, *name, index),
+        Expression::Element { at, name, index } => {
+            let array = Identifier {
+                at: *at,
+                name: *name,
+            };
+            check_element(names, array, index)
+        }
         Expression::ElementAddress {
             at,
             name_at,
             name,
             index,
-        } => check_address(names, *at, *name_at, *name, index),
+        } => {
+            let array = Identifier {
+                at: *name_at,
+                name: *name,
+            };
+            check_address(names, *at, array, index)
+        }
         Expression::Dereference { at, pointer } => check_dereference(names, *at, pointer),
         Expression::Call {
             at,
             name,
             arguments,
-        } => check_call_in(names, Spot::Inside, *at, *name, arguments),
+        } => {
+            let called = Identifier {
+                at: *at,
+                name: *name,
+            };
+            check_call_in(names, Spot::Inside, called, arguments)
+        }
         Expression::Unary {
             at,
             operator,
@@ -92,15 +110,18 @@ pub(crate) fn check_in(names: Names<'_>, expression: &Expression) -> Result<Type
 #[cycle(expressions)]
 fn check_element(
     names: Names<'_>,
-    at: u32,
-    name: u32,
+    array: Identifier,
     index: &Expression,
 ) -> Result<TypedOperand, TypeFault>
-    ensures { let e = Element at name (term index.now) in Checks result (first (term_faults (names_of names.entry) e)) (operand_of (names_of names.entry) e) }
+    ensures { let e = Element array.at array.name (term index.now) in Checks result (first (term_faults (names_of names.entry) e)) (operand_of (names_of names.entry) e) }
 {
     let index = check_in(names, index)?;
-    let meaning = meaning_among(names, name);
-    checked(element_fault(meaning, at, index), front_kind(meaning), at)
+    let meaning = meaning_among(names, array.name);
+    checked(
+        element_fault(meaning, array.at, index),
+        front_kind(meaning),
+        array.at,
+    )
 }
 
 /// An element's address, `&name[index]`.
@@ -108,16 +129,15 @@ fn check_element(
 fn check_address(
     names: Names<'_>,
     at: u32,
-    name_at: u32,
-    name: u32,
+    array: Identifier,
     index: &Expression,
 ) -> Result<TypedOperand, TypeFault>
-    ensures { let e = ElementAddress at name_at name (term index.now) in Checks result (first (term_faults (names_of names.entry) e)) (operand_of (names_of names.entry) e) }
+    ensures { let e = ElementAddress at array.at array.name (term index.now) in Checks result (first (term_faults (names_of names.entry) e)) (operand_of (names_of names.entry) e) }
 {
     let index = check_in(names, index)?;
-    let meaning = meaning_among(names, name);
+    let meaning = meaning_among(names, array.name);
     checked(
-        element_address_fault(meaning, at, name_at, index),
+        element_address_fault(meaning, at, array, index),
         name_kind(meaning),
         at,
     )
@@ -141,31 +161,30 @@ fn check_dereference(
 pub(crate) fn check_call_in(
     names: Names<'_>,
     spot: Spot,
-    at: u32,
-    name: u32,
+    called: Identifier,
     arguments: &[Expression],
 ) -> Result<TypedOperand, TypeFault>
     ensures { let c = names_of names.entry in
-        let m = meaning c name in
+        let m = meaning c called.name in
         let es = terms arguments.now in
         Checks
         result
-        (first (node (terms_faults (inside_call m c) es) (call_faults c (spot_of spot) m at es)))
-        (record { kind = call_kind m (first_kind c es); at = at }) }
+        (first (node (terms_faults (inside_call m c) es) (call_faults c (spot_of spot) m called.at es)))
+        (record { kind = call_kind m (first_kind c es); at = called.at }) }
 {
-    let meaning = meaning_among(names, name);
+    let meaning = meaning_among(names, called.name);
     let given = check_arguments(names_inside(names, meaning), meaning, arguments)?;
     checked(
         call_fault(
             spot,
             meaning,
-            at,
+            called.at,
             arguments.len(),
             given,
             flags_fault(meaning, arguments),
         ),
         call_kind(meaning, given.first),
-        at,
+        called.at,
     )
 }
 

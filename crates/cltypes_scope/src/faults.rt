@@ -13,6 +13,7 @@ ghost use Rattle.cltypes_scope.specs.Views.{want_of, spot_of};
 
 use crate::kinds::element_type;
 use crate::meaning::{Meaning, Signature};
+use crate::names::Identifier;
 use clmodel::declaration::Declaration;
 use clmodel::setup::{AtomicFunction, BuiltIn};
 use clmodel::tree::{AddressSpace, InfixOperator, PointerType, VariableType};
@@ -156,27 +157,27 @@ pub fn front_fault(meaning: Meaning<'_>, at: u32) -> Option<TypeFault>
     }
 }
 
-/// A name in front of an index, of whose element the address is taken: the address begins at `at`, and the name at `name_at`.
-fn address_fault(meaning: Meaning<'_>, at: u32, name_at: u32) -> Option<TypeFault>
-    ensures { result ≡ least (address_faults (meaning_of meaning.entry) at name_at) }
+/// A name of this meaning in front of an index, of whose element the address is taken, which begins at `at`.
+fn address_fault(meaning: Meaning<'_>, at: u32, array: Identifier) -> Option<TypeFault>
+    ensures { result ≡ least (address_faults (meaning_of meaning.entry) at array.at) }
 {
     match meaning {
         Meaning::Bound(Declaration::PrivateArray(_)) => Some(TypeFault::WrongSpace { at }),
-        _ => front_fault(meaning, name_at),
+        _ => front_fault(meaning, array.at),
     }
 }
 
-/// The address of an element, which begins at `at`: the name in front, and the index.
+/// The address of an element, which begins at `at`: the name in front, of this meaning, and the index.
 #[tactic(auto, using(crate::proofs::Least::least_append))]
 pub(crate) fn element_address_fault(
     meaning: Meaning<'_>,
     at: u32,
-    name_at: u32,
+    array: Identifier,
     index: TypedOperand,
 ) -> Option<TypeFault>
-    ensures { result ≡ least (address_faults (meaning_of meaning.entry) at name_at ++ integer_faults index.kind index.at) }
+    ensures { result ≡ least (address_faults (meaning_of meaning.entry) at array.at ++ integer_faults index.kind index.at) }
 {
-    lesser(address_fault(meaning, at, name_at), integer_fault(index))
+    lesser(address_fault(meaning, at, array), integer_fault(index))
 }
 
 /// An element: the name in front, and the index.

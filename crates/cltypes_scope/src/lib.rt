@@ -18,4 +18,5 @@ pub use faults::{
     pointer_fault,
 };
 pub use meaning::{Meaning, Signature};
+pub use names::Identifier;
 pub use values::{check_call, check_expression, check_value, void_fault};

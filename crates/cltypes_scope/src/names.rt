@@ -14,6 +14,13 @@ use clmodel::declaration::Declaration;
 use clmodel::tree::VariableType;
 use clnum::IntType;
 
+/// An identifier in a source: where it begins, and its name, by its place in the table of names.
+#[derive(Clone, Copy)]
+pub struct Identifier {
+    pub at: u32,
+    pub name: u32,
+}
+
 /// What is known at a place of a program, and whether the place is in the arguments of a barrier, where the names of fences stand for
 /// numbers (OpenCL 1.2, section 6.12.8).
 #[derive(Clone, Copy)]

@@ -15,7 +15,7 @@ use crate::context::Context;
 use crate::expressions::{check_call_in, check_in};
 use crate::faults::{Spot, TypedOperand};
 use crate::meaning::Meaning;
-use crate::names::Names;
+use crate::names::{Identifier, Names};
 use clmodel::tree::Expression;
 use clmodel::type_fault::TypeFault;
 
@@ -43,19 +43,18 @@ pub fn check_expression(
 pub fn check_call(
     context: &Context,
     spot: Spot,
-    at: u32,
-    name: u32,
+    called: Identifier,
     arguments: &[Expression],
 ) -> Result<TypedOperand, TypeFault>
     ensures { let c = context.now in
-        let m = meaning c name in
+        let m = meaning c called.name in
         let es = terms arguments.now in
         Checks
         result
-        (first (node (terms_faults (inside_call m c) es) (call_faults c (spot_of spot) m at es)))
-        (record { kind = call_kind m (first_kind c es); at = at }) }
+        (first (node (terms_faults (inside_call m c) es) (call_faults c (spot_of spot) m called.at es)))
+        (record { kind = call_kind m (first_kind c es); at = called.at }) }
 {
-    check_call_in(names(context), spot, at, name, arguments)
+    check_call_in(names(context), spot, called, arguments)
 }
 
 /// The type of what is assigned, or initialises a variable, and where it begins; or its first fault. A function of the text can be
@@ -68,7 +67,13 @@ pub fn check_value(context: &Context, value: &Expression) -> Result<TypedOperand
             at,
             name,
             arguments,
-        } => check_call(context, Spot::RightSide, *at, *name, arguments),
+        } => {
+            let called = Identifier {
+                at: *at,
+                name: *name,
+            };
+            check_call(context, Spot::RightSide, called, arguments)
+        }
         _ => check_expression(context, value),
     }
 }

@@ -282,13 +282,9 @@ impl Device {
         if self.is_used(&name) {
             return Err(Refusal::NameInUse);
         }
-        match build(self.alloc, source.as_slice())? {
-            Ok(checked) => {
-                self.programs.insert(name, checked)?;
-                Ok(Reply::Done)
-            }
-            Err(fault) => Err(Refusal::BuildFailed(fault)),
-        }
+        let checked = build(self.alloc, source.as_slice())?;
+        self.programs.insert(name, checked)?;
+        Ok(Reply::Done)
     }
 
     #[tactic(auto, using(crate::proofs::Programs::free_kernel))]

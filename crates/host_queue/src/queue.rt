@@ -307,6 +307,7 @@ impl<D: Machine<C, R>, C: Drop, R: Drop> Driver<D, C, R> {
         ensures ok { IfOk result (λ b. (c : C) × (r : R) × (box_value request ≡ Asked c) × (box_value b ≡ AnsweredBy r) × D.step self.old.machine c r self.new.machine × (self.new.seat.me.0.known ≡ self.old.seat.me.0.known ++ entry c r ∷ [])) }
         ensures room { IfOk result (λ b. length self.old.seat.me.0.known < 4096) }
         ensures err { IfErr result (λ f. (f.request ≡ request) × (length self.old.seat.me.0.known ≡ 4096) × (self.new ≡ self.old) × (client.new ≡ client.old)) }
+        ensures others { StaysOpen client.old.seat.me.0 client.new.seat.me.0 }
         ensures start { (self.new.seat.me.0.start ≡ self.old.seat.me.0.start) × (client.new.seat.me.0.start ≡ client.old.seat.me.0.start) × (client.new.seat.me.0.name ≡ client.old.seat.me.0.name) }
     {
         if self.count >= TICKETS as u64 {
@@ -339,6 +340,7 @@ impl<D: Machine<C, R>, C: Drop, R: Drop> Driver<D, C, R> {
         ensures ok { IfOk result (λ b. (c : C) × (r : R) × (box_value request ≡ Asked c) × (box_value b ≡ AnsweredBy r) × D.step self.old.machine c r self.new.machine × (self.new.seat.me.0.known ≡ self.old.seat.me.0.known ++ entry c r ∷ [])) }
         ensures room { IfOk result (λ b. length self.old.seat.me.0.known < 4096) }
         ensures err { IfErr result (λ f. (f.request ≡ request) × (length self.old.seat.me.0.known ≡ 4096) × (self.new ≡ self.old) × (client.new ≡ client.old)) }
+        ensures others { StaysOpen client.old.seat.me.0 client.new.seat.me.0 }
         ensures start { (self.new.seat.me.0.start ≡ self.old.seat.me.0.start) × (client.new.seat.me.0.start ≡ client.old.seat.me.0.start) × (client.new.seat.me.0.name ≡ client.old.seat.me.0.name) }
     {
         self.answer_by(

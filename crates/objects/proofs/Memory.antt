@@ -106,6 +106,13 @@ same_local m g n c = if_true ((g == g) && (n == n)) c (m (region.Local g n)) (ap
 other_local : (m : Memory) (g n : ℕ) (c : Cells) (j : ℕ) → (j ≡ n → ⊥) → with_cells m (region.Local g n) c (region.Local g j) ≡ m (region.Local g j)
 other_local m g n c j ne = if_false ((g == g) && (j == n)) c (m (region.Local g j)) (ap (λ b. b && (j == n)) (eq-eqb g g refl) ∙ ne_eqb j n ne)
 
+-- where no memory is left nothing is changed
+unwanted : (may_want : Bool) (old : List (Option ℕ)) (first : ℕ) (operation : Operation) (new : List (Option ℕ)) → IsPerformed may_want old first operation new (Err space_fault.OutOfMemory) → new ≡ old
+unwanted may_want old first (Load w) new h = absurd h
+unwanted may_want old first (Store w v) new h = h.1
+unwanted may_want old first (Update c v) new h = h.1
+unwanted may_want old first (Fetch o v) new h = h.1
+
 in_buffer :
     {G : Type 0} (bytes : G → List (Option ℕ)) (l : Launch) (group : ℕ) (buffers : List G) (locals : List (List (Option ℕ))) (n : ℕ) (x y : G) (may_want : Bool)
     (first : ℕ) (operation : Operation) (result : Result Answer SpaceFault) → slice_get buffers n ≡ Some x → first + size_of operation ≤ length (bytes x)
@@ -136,7 +143,9 @@ in_buffer bytes l group buffers locals n x y may_want first operation (Err (spac
       (holds_set bytes l (length l.buffers) region.Buffer buffers n x y m m e (ap length h.2) (ap cells_of h.2 ∙ c) (λ j ne. refl) held.0, held.1),
     )
 in_buffer bytes l group buffers locals n x y may_want first operation (Err space_fault.ReadOnly) e b h = h
-in_buffer bytes l group buffers locals n x y may_want first operation (Err space_fault.OutOfMemory) e b h = tt
+in_buffer bytes l group buffers locals n x y may_want first operation (Err space_fault.OutOfMemory) e b h = λ m held.
+    let same = unwanted may_want (bytes x) first operation (bytes y) h in
+    (holds_set bytes l (length l.buffers) region.Buffer buffers n x y m m e (ap length same) (ap cells_of same ∙ held.0.cells n x e) (λ j ne. refl) held.0, held.1)
 
 in_local :
     {G : Type 0} (bytes : G → List (Option ℕ)) (l : Launch) (group : ℕ) (buffers : List G) (locals : List (List (Option ℕ))) (n : ℕ) (x y : List (Option ℕ)) (may_want : Bool)
@@ -168,7 +177,9 @@ in_local bytes l group buffers locals n x y may_want first operation (Err (space
       (held.0, holds_set (λ cells. cells) l (length l.local_sizes) (region.Local group) locals n x y m m e (ap length h.2) (ap cells_of h.2 ∙ c) (λ j ne. refl) held.1),
     )
 in_local bytes l group buffers locals n x y may_want first operation (Err space_fault.ReadOnly) e b h = h
-in_local bytes l group buffers locals n x y may_want first operation (Err space_fault.OutOfMemory) e b h = tt
+in_local bytes l group buffers locals n x y may_want first operation (Err space_fault.OutOfMemory) e b h = λ m held.
+    let same = unwanted may_want x first operation y h in
+    (held.0, holds_set (λ cells. cells) l (length l.local_sizes) (region.Local group) locals n x y m m e (ap length same) (ap cells_of same ∙ held.1.cells n x e) (λ j ne. refl) held.1)
 
 pub on_buffer :
     {G : Type 0} (bytes : G → List (Option ℕ)) (l : Launch) (group : ℕ) (buffers : List G) (locals : List (List (Option ℕ))) (n : ℕ) (x y : G) (may_want : Bool)

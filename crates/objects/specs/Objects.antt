@@ -44,4 +44,4 @@ IsMoved old new at first operation (Err space_fault.Bounds) = ⊥
 IsMoved old new at first operation (Err (space_fault.Unset byte)) =
     (memory : Memory) → old memory → (reads operation ≡ true) × (lowest_unset (memory at) first (size_of operation) ≡ Some byte) × new memory
 IsMoved old new at first operation (Err space_fault.ReadOnly) = ⊥
-IsMoved old new at first operation (Err space_fault.OutOfMemory) = Unit {0}
+IsMoved old new at first operation (Err space_fault.OutOfMemory) = (memory : Memory) → old memory → new memory

@@ -38,7 +38,8 @@ pub fn size_of<G: Space>(buffers: &[G], locals: &[LocalMem], object: Object) -> 
     }
 }
 
-/// Does an operation on an object at the bytes from `first` on.
+/// Does an operation on an object at the bytes from `first` on. An error leaves the objects: a byte that is read is unset, or no memory is left
+/// to keep what is stored.
 pub fn perform_on<G: Space>(
     buffers: &mut Vec<G>,
     locals: &mut Vec<LocalMem>,

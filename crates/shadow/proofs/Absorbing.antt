@@ -57,6 +57,12 @@ sort_taken a m h = go (one_sort a m) h
     go true e = refl
     go false e = absurd (cc)
 
+-- what is new to a byte changes what is kept of it
+pub new_changes : (s : Seen) (m : Mark) → is_new s m ≡ true → Takes s m → ⊥
+new_changes Untouched m h t = cc
+new_changes (Touched a) m h t = false≢true (sym (ap not (sort_taken a m t)) ∙ h)
+new_changes (Mixed a b) m h t = false≢true h
+
 -- what a byte takes it takes with one mark more
 takes_more : (s : Seen) (e m : Mark) → Takes s m → Takes (seen_with s e) m
 takes_more Untouched e m h = absurd (cc)

@@ -173,6 +173,15 @@ none_new test old mid put first count byte here rest marked c = go (cases_eq byt
         let same : mid byte ≡ old byte = marked byte ∙ ap (λ (z : Bool). if z then put byte else old byte) (ne_eqb first byte (λ k. ne (sym k))) in
         ap (test byte) (sym same) ∙ rest byte (covers_from (first + 1) (count - 1) byte (omega (arith, r.0, ne)) (omega (arith, r.1, ne, r.0)))
 
+-- a byte behind the first at which a mark is new
+pub some_new :
+    (test : ℕ → Seen → Bool) (old mid put : ℕ → Seen) (first count : ℕ) → 0 < count → ((b : ℕ) → mid b ≡ (if first == b then put b else old b))
+    → (b : ℕ) × (covers (first + 1) (count - 1) b ≡ true) × (test b (mid b) ≡ true) → (b : ℕ) × (covers first count b ≡ true) × (test b (old b) ≡ true)
+some_new test old mid put first count some marked (b, c, t) =
+    let r : (first + 1 ≤ b) × (b < first + 1 + (count - 1)) = covers_parts (first + 1) (count - 1) b c in
+    let same : mid b ≡ old b = marked b ∙ ap (λ (z : Bool). if z then put b else old b) (ne_eqb first b (λ k. omega (arith, r.0, k))) in
+    (b, covers_from first count b (omega (arith, r.0)) (omega (arith, r.1, some)), ap (test b) (sym same) ∙ t)
+
 -- so few bytes are on two pages
 pub either_page : (P : ℕ → Type 0) (first count byte : ℕ) → count ≤ 8 → first ≤ byte → byte < first + count → P (first / 256) → P ((first + count - 1) / 256) → P (byte / 256)
 either_page P first count byte few low high p q = go (cases_eq (byte / 256) (first / 256))

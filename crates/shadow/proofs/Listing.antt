@@ -6,7 +6,7 @@ use Rattle.std.proofs.lemmas.Option.{slice_get-get_or}
 use Rattle.clmodel.proofs.Steps.{none_some, some_inj}
 use Rattle.clmodel.specs.declared.access.Access.{Access}
 use Rattle.shadow_list.specs.declared.log.Entry.{Entry}
-use Rattle.shadow.specs.Lasting.{Absorbed, StandsFor, EndsWith, StandsWith}
+use Rattle.shadow.specs.Lasting.{Absorbed, StandsFor, EndsWith, StandsWith, TellsNews}
 use Rattle.shadow.proofs.Absorbing.{onto}
 
 abbrev accesses : List Entry → List Access
@@ -63,6 +63,30 @@ pub stands_more :
     → after ≡ (if new then short ++ x ∷ [] else short) → whole ≡ front ++ x ∷ [] → StandsWith new after whole
 stands_more true last after short front whole x h a e f = inr (front, x, f, (short, e, stands last short front h))
 stands_more false last after short front whole x h a e f = inr (front, x, f, (subst (λ z. StandsFor [] z front) (sym e) (stands last short front h), a refl))
+
+-- the same for those that tell something new
+news_kept :
+    (earlier : List Access) (short whole : List Entry) (x : Entry) → TellsNews earlier short whole → (Absorbed (onto whole earlier) x.access → ⊥)
+    → TellsNews earlier (short ++ x ∷ []) (whole ++ x ∷ [])
+news_kept earlier short [] x h n = inr (n, [], ap (λ z. z ++ x ∷ []) h, refl)
+news_kept earlier short (y ∷ whole) x (inl h) n = inl (h.0, news_kept (y.access ∷ earlier) short whole x h.1 n)
+news_kept earlier short (y ∷ whole) x (inr (new, rest, e, h)) n = inr (new, rest ++ x ∷ [], ap (λ z. z ++ x ∷ []) e, news_kept (y.access ∷ earlier) rest whole x h n)
+
+news_left : (earlier : List Access) (short whole : List Entry) (x : Entry) → TellsNews earlier short whole → Absorbed (onto whole earlier) x.access → TellsNews earlier short (whole ++ x ∷ [])
+news_left earlier short [] x h a = inl (a, h)
+news_left earlier short (y ∷ whole) x (inl h) a = inl (h.0, news_left (y.access ∷ earlier) short whole x h.1 a)
+news_left earlier short (y ∷ whole) x (inr (new, rest, e, h)) a = inr (new, rest, e, news_left (y.access ∷ earlier) rest whole x h a)
+
+-- one entry more, which is kept where it tells something new
+pub news_more :
+    (new : Bool) (after short front whole : List Entry) (x : Entry) → TellsNews [] short front → (new ≡ false → Absorbed (accesses front) x.access)
+    → (new ≡ true → Absorbed (accesses front) x.access → ⊥) → after ≡ (if new then short ++ x ∷ [] else short) → whole ≡ front ++ x ∷ [] → TellsNews [] after whole
+news_more true after short front whole x h a n e f =
+    subst (λ z. TellsNews [] z whole) (sym e)
+    (subst (TellsNews [] (short ++ x ∷ [])) (sym f) (news_kept [] short front x h (subst (λ z. Absorbed z x.access → ⊥) (onto_none front) (n refl))))
+news_more false after short front whole x h a n e f =
+    subst (λ z. TellsNews [] z whole) (sym e)
+    (subst (TellsNews [] short) (sym f) (news_left [] short front x h (subst (λ z. Absorbed z x.access) (onto_none front) (a refl))))
 
 whole_for : (earlier : List Access) (whole : List Entry) → StandsFor earlier whole whole
 whole_for earlier [] = refl

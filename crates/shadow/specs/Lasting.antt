@@ -34,3 +34,11 @@ EndsWith false short front x = StandsFor [] short front × Absorbed (map (λ e. 
 -- a short list stands for the whole one, and `last` says whether it has the last entry of it
 abbrev pub StandsWith : Bool → List Entry → List Entry → Type 0
 StandsWith last short whole = ((short ≡ []) × (whole ≡ [])) ⊎ ((front : List Entry) × (x : Entry) × (whole ≡ front ++ x ∷ []) × EndsWith last short front x)
+
+-- a short list has, of a whole one behind these earlier accesses, those that tell other groups something new, and no other: both have the
+-- oldest first
+abbrev pub TellsNews : List Access → List Entry → List Entry → Type 0
+TellsNews earlier short [] = short ≡ []
+TellsNews earlier short (x ∷ whole) =
+    (Absorbed earlier x.access × TellsNews (x.access ∷ earlier) short whole)
+    ⊎ ((Absorbed earlier x.access → ⊥) × (rest : List Entry) × (short ≡ x ∷ rest) × TellsNews (x.access ∷ earlier) rest whole)

@@ -1,6 +1,6 @@
 //! What is kept of the accesses of work-groups.
 
-ghost use Rattle.std.specs.Prelude.{◌≡◌, ◌+◌, ◌<◌, ◌≤◌, ◌∷◌, ◌^◌, [], ℕ, List, length, false, IfOk, OnOk, OnErr};
+ghost use Rattle.std.specs.Prelude.{◌≡◌, ◌+◌, ◌<◌, ◌≤◌, ◌∷◌, ◌^◌, [], ℕ, List, length, false, true, IfOk, OnOk, OnErr};
 ghost use Rattle.clmodel.specs.Cells.{byte_count};
 ghost use Rattle.clmodel.specs.declared.access.Access.{Access as TheAccess};
 ghost use Rattle.clmodel.specs.declared.access.Region.TheVariants as region;
@@ -78,6 +78,7 @@ impl Footprint {
         requires { x.now.first + byte_count x.now.width < 2 ^ 64 }
         ensures added { OnOk result ((log : List TheAccess) → IsFootprint self.old log → IsFootprint self.new (x.now ∷ log)) }
         ensures news { IfOk result (λ news. news ≡ false → (log : List TheAccess) → IsFootprint self.old log → Absorbed log x.now) }
+        ensures told { IfOk result (λ news. news ≡ true → (log : List TheAccess) → IsFootprint self.old log → Absorbed log x.now → ⊥) }
         ensures same { OnErr result ((log : List TheAccess) → IsFootprint self.old log → IsFootprint self.new log) }
     {
         let Region::Buffer(number) = x.region else {

@@ -1,7 +1,7 @@
 //! The accesses of a work-group that tell other groups something new.
 
 ghost use Rattle.std.specs.Prelude.{◌≡◌, ◌<◌, ◌++◌, ◌∷◌, [], All, Bool, List, IfOk, OnOk, true, if◌then◌else◌, length, slice_index_or};
-ghost use Rattle.shadow.specs.Lasting.{StandsWith};
+ghost use Rattle.shadow.specs.Lasting.{StandsWith, TellsNews};
 ghost use Rattle.shadow_list.specs.Log.{IsPlaced};
 ghost use Rattle.shadow_list.specs.declared.log.Entry.{Entry as TheEntry};
 
@@ -89,7 +89,8 @@ impl LastingList {
 
     /// The accesses of a log that tell other groups something new. An error is out of memory.
     pub fn of<L: Accesses>(alloc: Global, log: &L) -> Result<Self, AllocError>
-        ensures { IfOk result (λ list. StandsWith list.has_last list.entries.items (L.log log.now).accesses) }
+        ensures stands { IfOk result (λ list. StandsWith list.has_last list.entries.items (L.log log.now).accesses) }
+        ensures news { IfOk result (λ list. TellsNews [] list.entries.items (L.log log.now).accesses) }
     {
         let mut footprint = Footprint::new(alloc);
         let mut entries = Vec::new(alloc);

@@ -58,6 +58,7 @@ pub(crate) fn mark_all(pages: &mut Vec<Vec<Seen>>, x: &Access, first: usize, cou
     requires there { (byte : ℕ) → first ≤ byte → byte < first + count → IsPage pages.old.items (byte / 256) }
     ensures marked { (byte : ℕ) → cell_in pages.new.items byte ≡ (if covers first count byte then seen_with (cell_in pages.old.items byte) (mark_of x.now byte) else cell_in pages.old.items byte) }
     ensures news { result ≡ false → (byte : ℕ) → covers first count byte ≡ true → is_new (cell_in pages.old.items byte) (mark_of x.now byte) ≡ false }
+    ensures told { result ≡ true → (byte : ℕ) × (covers first count byte ≡ true) × (is_new (cell_in pages.old.items byte) (mark_of x.now byte) ≡ true) }
 {
     if count == 0 {
         return false;

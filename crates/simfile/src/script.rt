@@ -21,6 +21,17 @@ pub enum ScriptFault {
     OutOfMemory,
 }
 
+impl From<AllocError> for ScriptFault {
+    ghost use Rattle.std.specs.Prelude.{◌≡◌};
+    ghost use Rattle.simfile.specs.declared.script.ScriptFault.TheVariants as script_fault;
+
+    ghost from_gives = { λ _ made. made ≡ script_fault.OutOfMemory };
+
+    fn from(_: AllocError) -> Self {
+        ScriptFault::OutOfMemory
+    }
+}
+
 /// The most commands of a script.
 const MAX_COMMANDS: u32 = 4096;
 
@@ -69,10 +80,8 @@ pub fn read_script(alloc: Global, bytes: &[u8]) -> Result<Vec<Command>, ScriptFa
         let Some((line, others)) = line_at(version, rest) else {
             return Err(ScriptFault::BadLine(line_number(bytes, rest)));
         };
-        match add(alloc, line, &mut commands) {
-            Ok(()) => rest = others,
-            Err(AllocError) => return Err(ScriptFault::OutOfMemory),
-        }
+        add(alloc, line, &mut commands)?;
+        rest = others;
     }
     if rest.is_empty() {
         return Ok(commands);

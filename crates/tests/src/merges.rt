@@ -13,7 +13,7 @@ use clmodel::schedule::EventRun;
 use clmodel::setup::{Argument, Range};
 use clmodel::text::{Bytes, Name, Numbers};
 use group_run::GroupResult;
-use host_commands::build::build;
+use host_commands::build::{NotBuilt, build};
 use host_commands::ranges::{group_items, is_bad_dimension, is_bad_group, is_too_many};
 use item_step::{Launch, Setup};
 use lower::lower_kernel;
@@ -121,8 +121,10 @@ fn outcomes(
     bytes: &[u8],
     groups: u32,
 ) -> Result<Option<(Outcome, Outcome)>, AllocError> {
-    let Ok(checked) = build(alloc, source.as_bytes())? else {
-        return Ok(None);
+    let checked = match build(alloc, source.as_bytes()) {
+        Ok(checked) => checked,
+        Err(NotBuilt::Fault(_)) => return Ok(None),
+        Err(NotBuilt::OutOfMemory) => return Err(AllocError),
     };
     let Some(number) = checked.tree.kernel_number(b"k") else {
         return Ok(None);

@@ -37,10 +37,10 @@ check_element-returns-in_err-index t c =
 pub check_element-returns : goal.check_element-returns
 check_element-returns t c =
     let x = names_of c.args.names in
-    let a = c.args.at in
+    let a = c.args.array.at in
     let i = term c.args.index.now in
     let j = c.in_ok-index.index in
-    let m = meaning x c.args.name in
+    let m = meaning x c.args.array.name in
     let r = c.checked.result in
     let n = c.meaning_among-meaning.ensures in
     one_here (term_faults x i) (λ z. front_faults m a ++ integer_faults z.kind z.at) (λ z. operand (front_kind m) a) j (operand_of x i) r c.in_ok-index.ensures
@@ -60,10 +60,10 @@ pub check_address-returns : goal.check_address-returns
 check_address-returns t c =
     let x = names_of c.args.names in
     let a = c.args.at in
-    let b = c.args.name_at in
+    let b = c.args.array.at in
     let i = term c.args.index.now in
     let j = c.in_ok-index.index in
-    let m = meaning x c.args.name in
+    let m = meaning x c.args.array.name in
     let r = c.checked.result in
     let n = c.meaning_among-meaning.ensures in
     one_here (term_faults x i) (λ z. address_faults m a b ++ integer_faults z.kind z.at) (λ z. operand (name_kind m) c.args.at) j (operand_of x i) r c.in_ok-index.ensures
@@ -94,12 +94,12 @@ check_dereference-returns t c =
 pub check_call_in-returns-in_err-given : goal.check_call_in-returns-in_err-given
 check_call_in-returns-in_err-given t c =
     fault_handed_on c.from_residual.result c.in_err-given.field-0.0 _ _ (err_from_is_err_and c.from_residual.result c.from_residual.ensures.1)
-    (inside_arguments (names_of c.args.names) (names_of c.names_inside.result) (spot_of c.args.spot) (terms c.args.arguments.now) c.args.at c.args.name (meaning_of c.meaning_among-meaning.result)
+    (inside_arguments (names_of c.args.names) (names_of c.names_inside.result) (spot_of c.args.spot) (terms c.args.arguments.now) c.args.called.at c.args.called.name (meaning_of c.meaning_among-meaning.result)
     c.in_err-given.field-0.0 c.names_inside.ensures c.meaning_among-meaning.ensures c.in_err-given.ensures)
 
 pub check_call_in-returns : goal.check_call_in-returns
 check_call_in-returns t c =
-    call_here (names_of c.args.names) (names_of c.names_inside.result) (spot_of c.args.spot) (terms c.args.arguments.now) c.args.at c.args.name _ (meaning_of c.meaning_among-meaning.result) c.in_ok-given.given
+    call_here (names_of c.args.names) (names_of c.names_inside.result) (spot_of c.args.spot) (terms c.args.arguments.now) c.args.called.at c.args.called.name _ (meaning_of c.meaning_among-meaning.result) c.in_ok-given.given
     c.flags_fault.result c.call_fault.result c.call_kind.result c.checked.result c.names_inside.ensures
     c.in_ok-given.ensures c.meaning_among-meaning.ensures (sym (count_terms c.args.arguments.now)) c.flags_fault.ensures c.call_fault.ensures c.call_kind.ensures c.checked.ensures
 

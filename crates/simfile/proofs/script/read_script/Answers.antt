@@ -9,8 +9,8 @@ loop-init c = let none : c.new-commands.result.items ≡ [] = search rules in re
 
 pub loop-preserved : goal.loop-preserved
 loop-preserved c = record {
-  at = rw c.in-Ok.ensures (one_more _ _ c.loop.commands.items c.loop.rest.now (command_of c.in-Some.line) c.in-Some.others.now c.loop.invariant.at (sym c.in-Some.ensures));
-  count = omega (arith, ap length c.in-Ok.ensures, length-append c.loop.commands.items (command_of c.in-Some.line ∷ []), c.loop.invariant.count);
+  at = rw c.in_ok-add.ensures (one_more _ _ c.loop.commands.items c.loop.rest.now (command_of c.in-Some.line) c.in-Some.others.now c.loop.invariant.at (sym c.in-Some.ensures));
+  count = omega (arith, ap length c.in_ok-add.ensures, length-append c.loop.commands.items (command_of c.in-Some.line ∷ []), c.loop.invariant.count);
 }
 
 pub returns-then-is_empty : goal.returns-then-is_empty

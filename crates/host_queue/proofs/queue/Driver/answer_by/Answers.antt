@@ -51,3 +51,8 @@ returns-clause-ok g c = let sent = c.in-Ok.ensures in let n : ℕ = c.in-Ok.tick
       subst (λ z. g.D.Machine.step c.args.self.now.machine z x.reply c.drive_by.new.self.machine) asked (subst (λ m. g.D.Machine.step m x.command x.reply c.drive_by.new.self.machine) c.hear.ensures.same.0 told.3.2),
       told.3.1 ∙ (ap (λ l. l ++ x ∷ []) c.hear.ensures.same.1 ∙ ap (λ z. c.args.self.now.seat.me.0.known ++ entry z x.reply ∷ []) asked),
     )
+
+pub returns-clause-others : goal.returns-clause-others
+returns-clause-others g c = let sent = c.in-Ok.ensures in let n : ℕ = c.in-Ok.ticket.number in let e = c.hear.ensures.client in
+    λ m o. c.poll_known.ensures.others m (λ same. let low = sent.rises o.0 o.1 o.2 in let is = o.3 in let it : m ≡ n = same in omega arith)
+    (stay_open c.submit-submitted.new.self.seat.me.0 c.hear.new.client.seat.me.0 e.0 e.1 m (c.submit-submitted.ensures.others m o))

@@ -1,4 +1,4 @@
-use Rattle.std.proofs.Common.{◌≡◌, ℕ, ◌/◌, Bool, false, ◌&&◌, ◌==◌, if◌then◌else◌, sym, ap, ap₂, ◌∙◌, subst}
+use Rattle.std.proofs.Common.{◌≡◌, ℕ, ◌/◌, Bool, true, false, ◌&&◌, ◌==◌, if◌then◌else◌, sym, ap, ap₂, ◌∙◌, subst, eq-eqb, refl}
 use Rattle.std.proofs.lemmas.Bool.{and_parts}
 use Rattle.clmodel.specs.Cells.{byte_count, covers}
 use Rattle.clmodel.specs.Launch.{same_region}
@@ -8,7 +8,7 @@ use Rattle.shadow.specs.Lasting.{AbsorbedAt}
 use Rattle.shadow.specs.Seen.{seen_with, is_new, seen, mark_of, cell_in, IsPage}
 use Rattle.shadow.specs.declared.seen.Seen.{Seen}
 use Rattle.shadow.proofs.Cells.{same_cells, marked_cells, either_page, on_err}
-use Rattle.shadow.proofs.Absorbing.{not_new}
+use Rattle.shadow.proofs.Absorbing.{not_new, new_changes}
 use Rattle.shadow.proofs.Meetings.{cells_there}
 use Rattle.shadow.proofs.footprint.Footprint.add.Goals as goal
 
@@ -58,3 +58,20 @@ returns-clause-news c none log keeps =
     ∙ sym (ap (λ (f : ℕ → Seen). f byte) (cells_there old n c.index_mut-touched.result.now c.in_ok-make_room.ensures.long c.index_mut-touched.ensures.value))
     ∙ c.make_room.ensures.same n byte ∙ keeps n byte in
     not_new (seen (region.Buffer n) byte log) (mark_of x byte) (sym (ap (λ z. is_new z (mark_of x byte)) same) ∙ told))
+
+pub returns-clause-told : goal.returns-clause-told
+returns-clause-told c told log keeps absorbed =
+    let x = c.args.x.now in
+    let old = c.make_room.new.buffers.items in
+    let n = c.in-Buffer.number in
+    let there = c.mark_all.ensures.told told in
+    let byte : ℕ = there.0 in
+    let at : at_byte (region.Buffer n) byte x ≡ true
+    = ap₂ (λ a k. same_region (region.Buffer n) a && covers x.first k byte) c.in-Buffer.is (sym c.bytes-count.ensures.value)
+    ∙ ap₂ (λ a b. a && b) (eq-eqb n n refl) there.1 in
+    let same : cell_in c.make-2.new.self.pages.items byte ≡ seen (region.Buffer n) byte log
+    = c.make-2.ensures.same byte ∙ c.make.ensures.same byte
+    ∙ sym (ap (λ (f : ℕ → Seen). f byte) (cells_there old n c.index_mut-touched.result.now c.in_ok-make_room.ensures.long c.index_mut-touched.ensures.value))
+    ∙ c.make_room.ensures.same n byte ∙ keeps n byte in
+    let takes = subst (λ r. AbsorbedAt r log x) c.in-Buffer.is absorbed byte at in
+    new_changes (seen (region.Buffer n) byte log) (mark_of x byte) (sym (ap (λ z. is_new z (mark_of x byte)) same) ∙ there.2) takes

@@ -1,6 +1,6 @@
-use Rattle.std.proofs.Common.{All, take, map}
+use Rattle.std.proofs.Common.{All, [], take, map}
 use Rattle.std.specs.Prelude.{reverse}
-use Rattle.shadow.specs.Lasting.{StandsWith}
+use Rattle.shadow.specs.Lasting.{StandsWith, TellsNews}
 use Rattle.shadow.specs.Seen.{IsFootprint}
 use Rattle.shadow_list.specs.Log.{IsPlaced}
 use Rattle.shadow_list.specs.declared.log.Entry.{Entry}
@@ -12,4 +12,5 @@ invariant-loop-i g l =
       footprint : IsFootprint l.footprint (map (λ (e : Entry). e.access) (reverse (take l.i (g.L.Logged.log l.log).accesses)));
       placed : All IsPlaced l.entries.items;
       stands : StandsWith l.has_last l.entries.items (take l.i (g.L.Logged.log l.log).accesses);
+      news : TellsNews [] l.entries.items (take l.i (g.L.Logged.log l.log).accesses);
     }
