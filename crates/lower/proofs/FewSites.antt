@@ -8,7 +8,7 @@ use Rattle.clmodel.specs.Tree.{Term, Number, Variable, Element, ElementAddress, 
 use Rattle.clmodel.specs.Typing.Sizes.{Sizes, size_in, or_nothing, term_size, size, part_size, row_size, sizes_of}
 use Rattle.clmodel.specs.declared.setup.BuiltIn.{BuiltIn}
 use Rattle.lower.specs.Accepted.{Distinct}
-use Rattle.lower.proofs.Looking.{look_left, look_last}
+use Rattle.lower_code.proofs.Looking.{look_left, look_last}
 
 module _ (sizes : Sizes) (inside : ℕ → ℕ) (few : (name : ℕ) → inside name ≤ (size_in sizes name).nodes) where
   called_few : (f : Option BuiltIn) (c : HelperCall) → call_sites inside (helper_or f c) ≤ (size_in sizes c.name).nodes

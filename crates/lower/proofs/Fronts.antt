@@ -9,8 +9,11 @@ use Rattle.clmodel.specs.declared.tree.Statement.{Statement}
 use Rattle.clmodel.specs.Tree.{Stmt, Stmts, NoStmt, ThenStmt, stmt, then_stmts}
 use Rattle.lower_code.proofs.Lists.{block_is}
 use Rattle.lower_code.proofs.Trees.{row_more}
-use Rattle.lower_code.specs.Room.{levels}
+use Rattle.regcode.specs.declared.instruction.Instruction.{Instruction}
+use Rattle.lower_code.specs.Room.{levels, reach}
+use Rattle.lower_code.specs.declared.positions.Exits.{Exits}
 use Rattle.lower_code.specs.Trees.{all_of}
+use Rattle.lower_code.specs.Variables.{elements, row_elements}
 
 module _ (f : ℕ → ℕ) where
   more_sites : (ss : Stmts) (ts : List Statement) → all_sites f ss ≤ all_sites f (then_stmts ss (map stmt ts))
@@ -72,3 +75,14 @@ pub block_low : (sizes : Sizes) (s : Statement) (at : ℕ) (ss : Vec Statement G
 block_low sizes s at ss ts level n s_is ts_is low =
     let inner : level + levels (suc (row_size sizes (all_of ts)).nodes) < n = subst (λ (x : Stmt). level + levels (size sizes x).nodes < n) (sym (block_is s at ss ts s_is ts_is)) low in
     omega (arith, inner)
+
+-- and reach no further
+pub block_short : (sizes : Sizes) (s : Statement) (at : ℕ) (ss : Vec Statement Global) (ts : List Statement) (exits : Exits) (code : List Instruction) (n : ℕ) → s ≡ rust_statement.Block at ss → ts ≡ ss.items
+    → reach exits code (size sizes (stmt s)).nodes < n → reach exits code (row_size sizes (all_of ts)).nodes < n
+block_short sizes s at ss ts exits code n s_is ts_is short =
+    let inner : reach exits code (suc (row_size sizes (all_of ts)).nodes) < n = subst (λ (x : Stmt). reach exits code (size sizes x).nodes < n) (sym (block_is s at ss ts s_is ts_is)) short in
+    omega (arith, inner)
+
+-- and have no larger arrays
+pub block_arrays : (s : Statement) (at : ℕ) (ss : Vec Statement Global) (ts : List Statement) (n : ℕ) → s ≡ rust_statement.Block at ss → ts ≡ ss.items → elements (stmt s) ≤ n → row_elements (all_of ts) ≤ n
+block_arrays s at ss ts n s_is ts_is few = subst (λ (x : Stmt). elements x ≤ n) (sym (block_is s at ss ts s_is ts_is)) few

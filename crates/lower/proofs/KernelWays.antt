@@ -15,7 +15,7 @@ use Rattle.lower_code.specs.Code.{Exits, parameter_variables, pass_code, result_
 use Rattle.lower.specs.Tables.{depth_after, loops_from, tabled}
 use Rattle.lower.specs.Accepted.{Flat, Standing, Going, Sound, Distinct, KernelsGo}
 use Rattle.lower.proofs.Sound.{leads_at, there, first_leads, standing_left, standing_right, going_both, sound_flat, sound_then, sound_both}
-use Rattle.lower.proofs.Looking.{look_left, look_last}
+use Rattle.lower_code.proofs.Looking.{look_left, look_last}
 use Rattle.lower.proofs.Ways.{stmts_sound, no_value_flat}
 
 pass_flat : (ps : List Parameter) (numbers : List ℕ) (level : ℕ) → Flat (pass_code ps numbers level)

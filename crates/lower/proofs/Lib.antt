@@ -15,7 +15,6 @@ pub mod SoundLoops
 pub mod Ways
 pub mod KernelWays
 pub mod Verified
-pub mod Looking
 pub mod Scoped
 pub mod TypedRights
 pub mod TypedStatements
@@ -23,7 +22,6 @@ pub mod TypedKernels
 pub mod Counted
 pub mod Lowered
 pub mod Rounds
-pub mod Places
 pub mod Lent
 pub mod FewSites
 pub mod Fronts
@@ -34,3 +32,5 @@ pub mod ShortStatements
 pub mod ShortKernels
 pub mod Named
 pub mod FitKernels
+pub mod Reach
+pub mod SmallArrays

@@ -16,7 +16,7 @@ use Rattle.regcode.specs.declared.instruction.Instruction.{Instruction}
 use Rattle.lower_expr.specs.Scope.{Scope}
 use Rattle.lower_code.specs.Code.{variable, result_in, parameter_variables, pass_code, body_code, call_code, arguments_code, kernel_code}
 use Rattle.lower.specs.Bounds.{TypedKernelsFewRegisters}
-use Rattle.lower.proofs.Looking.{look_left, look_last}
+use Rattle.lower_code.proofs.Looking.{look_left, look_last}
 use Rattle.lower.proofs.Low.{Few, Low, low_count, low_both, at_low}
 use Rattle.lower.proofs.LowStatements.{CallLow, no_value_low, stmts_low}
 use Rattle.lower.proofs.Scoped.{with_params_before}

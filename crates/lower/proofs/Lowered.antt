@@ -9,16 +9,19 @@ use Rattle.clmodel.specs.Setup.{kernel_in, kernel_number, functions_before, same
 use Rattle.clmodel.specs.Tree.{Program, Func, Funcs, NoFunc, ThenFunc}
 use Rattle.clmodel.specs.Typing.{IsTypedProgram}
 use Rattle.clmodel.specs.Typing.Functions.{size_of}
+use Rattle.clmodel.specs.Typing.Rules.{length_limit}
 use Rattle.clmodel.specs.Typing.Sizes.{node_limit, parameter_limit}
 use Rattle.regcode.specs.Listing.{Listing}
 use Rattle.regcode.specs.Rules.{IsVerified}
 use Rattle.lower_code.specs.Code.{kernel_code}
+use Rattle.lower_code.specs.Variables.{row_elements}
 use Rattle.lower.specs.Accepted.{TypedKernelsVerified}
-use Rattle.lower.specs.Bounds.{FewBarriers, FewNodes, FewArguments, TypedKernelsFewBarriers, TypedKernelsShort}
+use Rattle.lower.specs.Bounds.{FewBarriers, FewNodes, FewArguments, SmallArrays, TypedKernelsFewBarriers, TypedKernelsShort}
 use Rattle.lower.specs.Correct.{ActsAsTheTree}
 use Rattle.lower.specs.Lists.{Lists}
 use Rattle.lower.specs.Lowers.{IsLowered}
 use Rattle.lower.proofs.FitKernels.{few_parameters}
+use Rattle.lower.proofs.SmallArrays.{kernel_arrays}
 
 -- what is made of a typed program's kernel is verified
 lists_verified : (p : Program) (number : ℕ) (code : Listing) → TypedKernelsVerified → IsTypedProgram p → Lists p.functions number code → IsVerified code
@@ -54,6 +57,14 @@ few_arguments p number typed f is = go (cases_lt parameter_limit (length f.param
   where
     go : (parameter_limit < length f.parameters) ⊎ (length f.parameters ≤ parameter_limit) → length f.parameters ≤ parameter_limit
     go (inl more) = absurd (∥∥₁_elim typed (λ x y. absurd x) (λ t. let most = few_parameters p number f t is in omega (arith, most, more)))
+    go (inr few) = few
+
+-- and arrays with few elements
+pub small_arrays : (p : Program) (number : ℕ) → ∥ IsTypedProgram p ∥₁ → SmallArrays p.functions number
+small_arrays p number typed f is = go (cases_lt length_limit (row_elements f.body))
+  where
+    go : (length_limit < row_elements f.body) ⊎ (row_elements f.body ≤ length_limit) → row_elements f.body ≤ length_limit
+    go (inl more) = absurd (∥∥₁_elim typed (λ x y. absurd x) (λ t. let most = kernel_arrays p number f t is in omega (arith, most, more)))
     go (inr few) = few
 
 -- it is the code that is defined for the kernel

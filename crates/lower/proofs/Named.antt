@@ -8,12 +8,16 @@ use Rattle.clmodel.specs.declared.tree.Function.{Function}
 use Rattle.clmodel.specs.Tree.{Program, Func, Funcs, ThenFunc, func}
 use Rattle.clmodel.specs.Typing.{IsTypedProgram}
 use Rattle.clmodel.specs.Typing.Functions.{names, size_of, AreTypedFunctions}
+use Rattle.clmodel.specs.Typing.Rules.{length_limit}
 use Rattle.clmodel.specs.Typing.Sizes.{Size, or_nothing, sizes_of, parameter_limit}
 use Rattle.lower_code.specs.Helpers.{functions_of, sizes_in, nodes_in, NodesCounted}
-use Rattle.lower_code.specs.Room.{FewParameters}
+use Rattle.lower_code.specs.Room.{FewParameters, FewElements}
+use Rattle.lower_code.specs.Trees.{all_of}
+use Rattle.lower_code.specs.Variables.{row_elements}
 use Rattle.lower_code.proofs.Lists.{functions_more}
 use Rattle.lower.specs.Accepted.{Distinct}
-use Rattle.lower.proofs.Looking.{look_last}
+use Rattle.lower_code.proofs.Looking.{look_last}
+use Rattle.lower.proofs.SmallArrays.{row_arrays}
 use Rattle.lower.proofs.TypedKernels.{distinct}
 
 step_stays : {V : Type 0} (v w : V) (b : Bool) (r other : Option V) → (r ≡ Some w → other ≡ Some w) → cond b (Some v) r ≡ Some w → cond b (Some v) other ≡ Some w
@@ -101,4 +105,19 @@ few_parameters p gs same typed i f below f_is = go (cases_lt parameter_limit (le
   where
     go : (parameter_limit < length f.parameters.items) ⊎ (length f.parameters.items ≤ parameter_limit) → length f.parameters.items ≤ parameter_limit
     go (inl more) = absurd (∥∥₁_elim typed (λ x y. absurd x) (λ t. let few = typed_few p gs same t i f below f_is in omega (arith, few, more)))
+    go (inr few) = few
+
+typed_elements : (p : Program) (gs : List Function) → p.functions ≡ functions_of gs → IsTypedProgram p → FewElements gs
+unfolding IsTypedProgram
+typed_elements p gs same typed i f below f_is =
+    let Typed = AreTypedFunctions (names p.functions) in
+    let first = first_have Typed (λ fs g h. h.0) gs (length gs - (i + 1)) (i + 1) (omega (arith, below)) (subst Typed same typed) in
+    row_arrays _ _ (subst Typed (functions_more gs i f below f_is) first).1.body
+
+-- and arrays with few elements
+pub few_elements : (p : Program) (gs : List Function) → p.functions ≡ functions_of gs → ∥ IsTypedProgram p ∥₁ → FewElements gs
+few_elements p gs same typed i f below f_is = go (cases_lt length_limit (row_elements (all_of f.body.items)))
+  where
+    go : (length_limit < row_elements (all_of f.body.items)) ⊎ (row_elements (all_of f.body.items) ≤ length_limit) → row_elements (all_of f.body.items) ≤ length_limit
+    go (inl more) = absurd (∥∥₁_elim typed (λ x y. absurd x) (λ t. let few = typed_elements p gs same t i f below f_is in omega (arith, few, more)))
     go (inr few) = few

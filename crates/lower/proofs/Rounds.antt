@@ -1,22 +1,25 @@
 -- Loops and the bodies of functions from their parts.
-use Rattle.std.proofs.Common.{◌≡◌, ℕ, ◌+◌, ◌-◌, Option, None, Some, Box, Bor, List, [], ◌++◌, length, refl, ap, ap₂, sym, ◌∙◌, arith}
+use Rattle.std.proofs.Common.{◌≡◌, ℕ, ◌+◌, ◌-◌, Option, None, Some, Box, Bor, max, ◌<◌, List, [], ◌∷◌, ◌++◌, length, refl, ap, ap₂, sym, ◌∙◌, arith}
 use Rattle.std.specs.Option.{option_map}
 use Rattle.std.specs.declared.alloc.Global.{Global}
 use Rattle.std.proofs.lemmas.List.{append_assoc, append-nil}
 use Rattle.clmodel.specs.Next.{sites, part_sites, all_sites}
 use Rattle.clmodel.specs.declared.tree.Function.{Function}
 use Rattle.clmodel.specs.declared.tree.Statement as rust_statement
-use Rattle.clmodel.specs.declared.tree.Statement.{Statement}
-use Rattle.clmodel.specs.Tree.{Stmt, stmt, For, MaybeStmt, Without, With, MaybeTerm}
+use Rattle.clmodel.specs.declared.tree.Statement.{Statement, size-Statement}
+use Rattle.clmodel.specs.Tree.{Term, Stmt, stmt, term, maybe_term, If, IfElse, While, DoWhile, For, MaybeStmt, Without, With, MaybeTerm, WithTerm}
 use Rattle.clmodel.specs.declared.tree.Expression.{Expression}
 use Rattle.regcode.specs.declared.instruction.Instruction.{Instruction}
-use Rattle.lower_expr.specs.Scope.{Scope}
+use Rattle.regcode.specs.declared.instruction.Instruction.TheVariants as instruction
+use Rattle.lower_expr.specs.Scope.{Scope, free_level}
+use Rattle.lower_expr.specs.Expressions.{expr_code, register_for}
 use Rattle.lower_code.specs.Code.{Exits, past, body_exits, stmt_code, stmts_code, part_code, call_code, result_in, condition_code, while_code, no_value_code, parameter_variables, scope_after_part}
 use Rattle.lower_code.specs.Emission.{functions_of, inside, body_of, exits_of, statement_code, maybe_code}
 use Rattle.lower_code.specs.Trees.{all_of, part_of}
 use Rattle.lower_code.specs.declared.holes.StatementContext.{StatementContext}
 use Rattle.lower_code.specs.declared.positions.Exits as declared
 use Rattle.lower_code.specs.declared.positions.Position.{Position}
+use Rattle.lower_code.proofs.Lists.{part_depth, boxed_depth}
 use Rattle.lower_code.proofs.Rows.{longer}
 use Rattle.lower.specs.Statements.{once_code, round_code}
 
@@ -122,3 +125,77 @@ for_sites f at None condition None body = refl
 for_sites f at None condition (Some third) body = refl
 for_sites f at (Some first) condition None body = refl
 for_sites f at (Some first) condition (Some third) body = refl
+
+-- a choice without a second side
+pub if_placed : (s : StatementContext) (scope later : Scope) (p : Position) (test : Term) (chosen : Stmt) (old one two : List Instruction) (over : ℕ)
+    → one ≡ statement_code s scope chosen p ++ old → later ≡ scope → over ≡ length one - length old
+    → two ≡ expr_code later (free_level later) test ++ (instruction.JumpIfZero (register_for later (free_level later) test) over ∷ one)
+    → two ≡ statement_code s scope (If 0 test chosen) p ++ old
+if_placed s scope later p test chosen old one two over one_is later_is over_is two_is =
+    let first = statement_code s scope chosen p in
+    let size = longer first old one one_is in
+    let by : over ≡ length first = omega (arith, over_is, size) in
+    let code : Scope → ℕ → List Instruction → List Instruction = λ c n xs. expr_code c (free_level c) test ++ (instruction.JumpIfZero (register_for c (free_level c) test) n ∷ xs) in
+    two_is ∙ ap (λ (c : Scope). code c over one) later_is ∙ ap₂ (λ n xs. code scope n xs) by one_is
+    ∙ sym (append_assoc (expr_code scope (free_level scope) test) (instruction.JumpIfZero (register_for scope (free_level scope) test) (length first) ∷ first) old)
+
+-- a loop with a condition is a `for` with no more
+pub while_laid : (s : StatementContext) (scope : Scope) (at : ℕ) (test : Term) (body : Stmt) (p : Position)
+    → statement_code s scope (For 0 Without (WithTerm test) Without body) p ≡ statement_code s scope (While at test body) p
+while_laid s scope at test body p =
+    let condition = condition_code scope (WithTerm test) in
+    let n = length condition in
+    let first : p.site + 0 + 0 ≡ p.site = omega arith in
+    let rest : 0 + n + 1 ≡ n + 1 = omega arith in
+    ap₂ (λ a b. while_code p.depth (code_in s scope body (p.depth + 1) a (body_exits b (exits_of p.exits)) ++ []) condition) first rest
+    ∙ ap (λ xs. while_code p.depth xs condition) (append-nil (code_in s scope body (p.depth + 1) p.site (body_exits (n + 1) (exits_of p.exits))))
+
+-- what statements stand for
+pub while_is : (s : Statement) (at : ℕ) (condition : Box Expression Global) (body : Box Statement Global) (e : Expression) (b : Statement)
+    → s ≡ rust_statement.While at condition body → e ≡ condition.value → b ≡ body.value → While at (term e) (stmt b) ≡ stmt s
+while_is s at condition body e b s_is e_is b_is = ap₂ (λ x y. While at (term x) (stmt y)) e_is b_is ∙ ap stmt (sym s_is)
+
+pub do_is : (s : Statement) (at : ℕ) (body : Box Statement Global) (condition : Box Expression Global) (b : Statement)
+    → s ≡ rust_statement.DoWhile at body condition → b ≡ body.value → DoWhile at (stmt b) (term condition.value) ≡ stmt s
+do_is s at body condition b s_is b_is = ap (λ y. DoWhile at (stmt y) (term condition.value)) b_is ∙ ap stmt (sym s_is)
+
+pub if_else_is : (s : Statement) (at : ℕ) (condition : Box Expression Global) (chosen otherwise : Box Statement Global) (a b : Statement)
+    → s ≡ rust_statement.IfElse at condition chosen otherwise → a ≡ chosen.value → b ≡ otherwise.value → IfElse at (term condition.value) (stmt a) (stmt b) ≡ stmt s
+if_else_is s at condition chosen otherwise a b s_is a_is b_is = ap₂ (λ x y. IfElse at (term condition.value) (stmt x) (stmt y)) a_is b_is ∙ ap stmt (sym s_is)
+
+for_stmt : (at : ℕ) (first : Option (Box Statement Global)) (condition : Option (Box Expression Global)) (third : Option (Box Statement Global)) (body : Box Statement Global)
+    → For at (part_named (option_map (λ s. s.value) first)) (maybe_term condition) (part_named (option_map (λ s. s.value) third)) (stmt body.value) ≡ stmt (rust_statement.For at first condition third body)
+for_stmt at None None None body = refl
+for_stmt at None None (Some third) body = refl
+for_stmt at (Some first) None None body = refl
+for_stmt at (Some first) None (Some third) body = refl
+for_stmt at None (Some e) None body = refl
+for_stmt at None (Some e) (Some third) body = refl
+for_stmt at (Some first) (Some e) None body = refl
+for_stmt at (Some first) (Some e) (Some third) body = refl
+
+pub for_is : (s : Statement) (at : ℕ) (first : Option (Box Statement Global)) (condition : Option (Box Expression Global)) (third : Option (Box Statement Global)) (body : Box Statement Global)
+    (p q : Option (Bor Statement)) (o : MaybeTerm) (b : Statement)
+    → s ≡ rust_statement.For at first condition third body → option_map (λ x. x.now) p ≡ option_map (λ x. x.value) first → o ≡ maybe_term condition
+    → option_map (λ x. x.now) q ≡ option_map (λ x. x.value) third → b ≡ body.value
+    → For at (part_of p) o (part_of q) (stmt b) ≡ stmt s
+for_is s at first condition third body p q o b s_is p_is o_is q_is b_is =
+    ap₂ (λ x y. For at x o y (stmt b)) (part_is p ∙ ap part_named p_is) (part_is q ∙ ap part_named q_is)
+    ∙ ap₂ (λ x y. For at (part_named (option_map (λ s. s.value) first)) x (part_named (option_map (λ s. s.value) third)) (stmt y)) o_is b_is
+    ∙ for_stmt at first condition third body ∙ ap stmt (sym s_is)
+
+-- how deep the parts of a `for` are
+abbrev depth_named : Option Statement → ℕ
+depth_named None = 0
+depth_named (Some s) = size-Statement s
+
+part_named_depth : (o : Option (Bor Statement)) → part_depth o ≡ depth_named (option_map (λ s. s.now) o)
+part_named_depth None = refl
+part_named_depth (Some s) = refl
+
+boxed_named_depth : (o : Option (Box Statement Global)) → boxed_depth o ≡ depth_named (option_map (λ s. s.value) o)
+boxed_named_depth None = refl
+boxed_named_depth (Some s) = refl
+
+pub part_depth_is : (o : Option (Bor Statement)) (p : Option (Box Statement Global)) → option_map (λ s. s.now) o ≡ option_map (λ s. s.value) p → part_depth o ≡ boxed_depth p
+part_depth_is o p e = part_named_depth o ∙ ap depth_named e ∙ sym (boxed_named_depth p)

@@ -20,7 +20,7 @@ use Rattle.lower_expr.specs.Scope.{Scope, register_at, register_of, free_level}
 use Rattle.lower_expr.specs.Expressions.{kind_named}
 use Rattle.lower_code.specs.Code.{with_variable, array_variable, parameter_variables, scope_after, scope_after_part, scope_after_all}
 use Rattle.lower.specs.Accepted.{declared_kind, is_private, Matches}
-use Rattle.lower.proofs.Looking.{look_left, look_last}
+use Rattle.lower_code.proofs.Looking.{look_left, look_last}
 
 -- a name that stands for a helper
 called_callable : (s : Option Signature) (f : Option BuiltIn) (b : Bool) (t : Signature) → called s f b ≡ Callable t → s ≡ Some t

@@ -17,10 +17,11 @@ use Rattle.lower_code.specs.Code.{result_in, parameter_variables, pass_code, bod
 use Rattle.lower_code.proofs.Lengths.{pass_length, arguments_length}
 use Rattle.lower.specs.Bounds.{TypedKernelsShort, TypedKernelsFewBarriers}
 use Rattle.lower.proofs.FewSites.{body_few}
-use Rattle.lower.proofs.Looking.{look_left, look_last}
+use Rattle.lower_code.proofs.Looking.{look_left, look_last}
 use Rattle.lower.proofs.Scoped.{with_params_before}
 use Rattle.lower_expr.proofs.Short.{Short, single, both, within}
-use Rattle.lower.proofs.ShortStatements.{CallShort, no_value_short, stmts_short}
+use Rattle.lower_code.proofs.Short.{no_value_short}
+use Rattle.lower.proofs.ShortStatements.{CallShort, stmts_short}
 use Rattle.lower.proofs.TypedKernels.{sizes_none, distinct, kernel_typed, new_parts, unreserved, same_signature}
 
 body_short : (all : List ℕ) (earlier : Funcs) (f : Func) → IsTypedFunction all earlier f

@@ -20,6 +20,7 @@ use Rattle.lower_expr.specs.Expressions.{registers_for}
 use Rattle.lower_code.specs.Code.{Exits, Calls, with_variable, scope_after_part, scope_after_all, array_code, needed_code, no_value_code, value_code, wait_code, condition_code, right_code, step_code, call_only_statement, stmt_code, part_code, stmts_code}
 use Rattle.lower.proofs.Scoped.{callable_is, after_part_before, after_all_before}
 use Rattle.lower_expr.proofs.Short.{Short, none, single, more, both, within, expr_short, terms_short, target_short, call_only_short, few_terms, fetch_short, put_short, combine_short}
+use Rattle.lower_code.proofs.Short.{needed_short, no_value_short, value_short, wait_short, array_short, condition_short, step_short}
 use Rattle.lower.proofs.Suited.{built_in_is, barrier_is}
 use Rattle.lower.proofs.TypedRights.{no_helper}
 
@@ -28,35 +29,6 @@ pub record CallShort (sizes : Sizes) (calls : Calls) (x : ℕ) (s : Signature) :
   pub is_helper : built_in x ≡ None
   pub no_barrier : is_barrier x ≡ false
   pub short : (numbers : List ℕ) (level depth site : ℕ) → Short (7 * (size_in sizes x).nodes + length s.parameters + 1) (calls x numbers level depth site)
-
-needed_short : (result : Option IntType) → Short 1 (needed_code result)
-needed_short None = single
-needed_short (Some kind) = within none (omega arith)
-
-pub no_value_short : (result : Option IntType) (level : ℕ) → Short 1 (no_value_code result level)
-no_value_short None level = within none (omega arith)
-no_value_short (Some kind) level = single
-
-value_short : (result : Option IntType) (level from : ℕ) → Short 1 (value_code result level from)
-value_short None level from = within none (omega arith)
-value_short (Some kind) level from = single
-
-wait_short : (named : Option Fences) (site depth : ℕ) → Short 1 (wait_code named site depth)
-wait_short None site depth = single
-wait_short (Some f) site depth = single
-
-array_short : (is_local : Bool) (t : IntType) (count number level : ℕ) → Short 2 (array_code is_local t count number level)
-array_short true t count number level = within single (omega arith)
-array_short false t count number level = more single
-
-condition_short : (sizes : Sizes) (scope : Scope) (test : MaybeTerm) → Short (6 * (condition_size sizes test).nodes + 1) (condition_code scope test)
-condition_short sizes scope WithoutTerm = within none (omega arith)
-condition_short sizes scope (WithTerm e) = both (expr_short sizes scope (free_level scope) e) single
-
-step_short : (sizes : Sizes) (scope : Scope) (calls : Calls) (results : ℕ → Option IntType) (inside : ℕ → ℕ) (result : Option IntType) (level : ℕ) (place : Target) (operator : BinaryOperator)
-    → Short (6 * (target_size sizes place).nodes + 5) (step_code calls results inside result scope level place operator)
-step_short sizes scope calls results inside result level place operator =
-    both (target_short sizes scope level place) (both (fetch_short scope place _ _) (more (combine_short scope place level operator _ _ _)))
 
 module _ (sizes : Sizes) (calls : Calls) (results : ℕ → Option IntType) (inside : ℕ → ℕ) (result : Option IntType) where
   -- the helpers of a context are known

@@ -22,7 +22,7 @@ use Rattle.lower_expr.specs.Scope.{Scope, register_at}
 use Rattle.lower_code.specs.Code.{Exits, parameter_variables, pass_code, no_value_code, stmts_code, result_in, body_code, call_code, arguments_code, kernel_code}
 use Rattle.lower.specs.Accepted.{Suit, Matches, Distinct, TypedKernelsVerified}
 use Rattle.lower.proofs.Suiting.{is_at, suit_both, unset_suits, hold_suits, argument_suits}
-use Rattle.lower.proofs.Looking.{look_left, look_last}
+use Rattle.lower_code.proofs.Looking.{look_left, look_last}
 use Rattle.lower.proofs.Scoped.{function_unbound, matches_params, with_params_before}
 use Rattle.lower.proofs.TypedRights.{Filled, CallSuits, no_value_suits}
 use Rattle.lower.proofs.TypedStatements.{stmts_suit}

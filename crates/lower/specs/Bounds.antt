@@ -5,8 +5,10 @@ use Rattle.clmodel.specs.Setup.{kernel_in, functions_before}
 use Rattle.clmodel.specs.Tree.{Program, Func, Funcs}
 use Rattle.clmodel.specs.Typing.{IsTypedProgram}
 use Rattle.clmodel.specs.Typing.Functions.{size_of}
+use Rattle.clmodel.specs.Typing.Rules.{length_limit}
 use Rattle.clmodel.specs.Typing.Sizes.{node_limit, parameter_limit}
 use Rattle.lower_code.specs.Code.{kernel_code}
+use Rattle.lower_code.specs.Variables.{row_elements}
 use Rattle.lower.specs.Tables.{register_count}
 
 -- how many instructions a node has at most
@@ -53,3 +55,7 @@ FewNodes functions number =
 -- nor more parameters
 abbrev pub FewArguments : Funcs → ℕ → Type 0
 FewArguments functions number = (f : Func) → kernel_in functions number ≡ Some f → length f.parameters ≤ parameter_limit
+
+-- nor an array of more elements than one may have
+abbrev pub SmallArrays : Funcs → ℕ → Type 0
+SmallArrays functions number = (f : Func) → kernel_in functions number ≡ Some f → row_elements f.body ≤ length_limit

@@ -10,8 +10,6 @@ use Rattle.lower_code.specs.Code.{stmt_code, part_code, call_code, result_in, bo
 use Rattle.lower_code.specs.Emission.{functions_of, inside, exits_of}
 use Rattle.lower_code.specs.declared.holes.StatementContext.{StatementContext}
 use Rattle.lower_code.specs.declared.positions.Position.{Position}
-use Rattle.lower.specs.declared.sites.Callee.{Callee}
-use Rattle.lower.specs.declared.sites.Callee.TheVariants as callee
 use Rattle.lower.specs.declared.statements.Ending.{Ending}
 
 -- loops
@@ -33,12 +31,6 @@ is_single (statement.Break at) = true
 is_single (statement.Continue at) = true
 is_single (statement.Return at value) = true
 is_single _ = false
-
--- the barriers in what a name calls
-abbrev pub callee_sites : (ℕ → ℕ) → Callee → ℕ
-callee_sites inside callee.Nothing = 0
-callee_sites inside callee.Barrier = 1
-callee_sites inside (callee.Helper name) = inside name
 
 -- the position of a statement that ends there, by the number of its first barrier
 abbrev pub begun_at : Ending → ℕ → Position

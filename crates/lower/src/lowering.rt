@@ -6,8 +6,8 @@ ghost use Rattle.clmodel.specs.Setup.{kernel_in, kernel_number};
 ghost use Rattle.clmodel.specs.Tree.{program};
 ghost use Rattle.regcode.specs.Listed.{listing};
 ghost use Rattle.lower_code.specs.Helpers.{NodesCounted};
-ghost use Rattle.lower_code.specs.Room.{FewParameters};
-ghost use Rattle.lower.specs.Bounds.{FewBarriers, FewNodes, FewArguments};
+ghost use Rattle.lower_code.specs.Room.{FewParameters, FewElements};
+ghost use Rattle.lower.specs.Bounds.{FewBarriers, FewNodes, FewArguments, SmallArrays};
 ghost use Rattle.lower.specs.Lists.{Lists};
 ghost use Rattle.lower.specs.Lowers.{IsLowered};
 ghost use Rattle.lower.specs.Names.{LowersNamed, ListsNamed};
@@ -58,7 +58,9 @@ fn list_kernel(alloc: Global, tree: &Tree, number: u32) -> Result<Option<Listed>
     requires small { FewNodes (program tree.now).functions number }
     requires nodes { NodesCounted tree.now.functions.items }
     requires parameters { FewParameters tree.now.functions.items }
+    requires elements { FewElements tree.now.functions.items }
     requires arguments { FewArguments (program tree.now).functions number }
+    requires arrays { SmallArrays (program tree.now).functions number }
     ensures code { IfOk result (λ found. IfSome found (λ code. Lists (program tree.now).functions number (listing code.instructions.items code.tables))) }
     ensures none { IfOk result (λ found. found ≡ None → kernel_in (program tree.now).functions number ≡ None) }
     ensures some { IfErr result (λ fault. IsSome (kernel_in (program tree.now).functions number)) }
@@ -77,10 +79,9 @@ fn list_kernel(alloc: Global, tree: &Tree, number: u32) -> Result<Option<Listed>
     }))
 }
 
-/// The code of the kernel of a name's number. Err(OutOfMemory) comes where memory is refused. It would also come where the length of a
-/// jump or of a private array passed 32 bits; by the law `typed_kernels_fit` a checked kernel's code has at most 153,002 instructions, and
-/// its private arrays have at most 4,096 bytes. Neither the number of a barrier, the depth of a loop nor a register is tested, nor whether the
-/// length of a helper that it calls is known: by the limits of nodes and of parameters they fit, and it is.
+/// The code of the kernel of a name's number. Err(OutOfMemory) comes where memory is refused. No count is tested: by the limits of nodes, of
+/// parameters and of the length of an array, the length of each jump and of each private array, the number of each barrier and register and
+/// the depth of each loop have 32 bits, and the length of each helper that is called is known.
 pub fn lower_kernel(alloc: Global, checked: &Checked, number: u32) -> Result<Code, LowerFault>
     ensures code { IfOk result (λ code. IsLowered (program checked.now.tree) number code) }
     ensures listed { IfOk result (λ code. Lists (program checked.now.tree).functions number code) }

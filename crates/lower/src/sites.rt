@@ -1,54 +1,16 @@
 //! How many barriers are in a statement, with those in the helper functions that it calls, which are looked up.
 #![tactic(auto)]
 
-ghost use Rattle.std.specs.Prelude.{◌≡◌, ℕ, ◌+◌, ◌<◌, ◌≤◌, ◌^◌, None, Some, length, get_or, IfSome};
-ghost use Rattle.clmodel.specs.BuiltIns.{built_in};
-ghost use Rattle.clmodel.specs.Barrier as barrier;
+ghost use Rattle.std.specs.Prelude.{◌≡◌, ◌+◌, ◌<◌, ◌≤◌, ◌^◌, None, Some, length, get_or, IfSome};
 ghost use Rattle.clmodel.specs.Next as next;
-ghost use Rattle.clmodel.specs.Tree.{stmt, term};
+ghost use Rattle.clmodel.specs.Tree.{stmt};
 ghost use Rattle.lower_code.specs.Trees.{all_of};
-ghost use Rattle.lower_code.specs.Emission.{found_sites, inside};
-ghost use Rattle.lower.specs.Statements.{callee_sites};
+ghost use Rattle.lower_code.specs.Emission.{callee_sites, found_sites, inside};
 
-use clmodel::barrier::is_barrier;
-use clmodel::setup::built_in_named;
-use clmodel::tree::{Expression, Statement};
+use clmodel::tree::Statement;
+use lower_code::callees::{Callee, callee_in, callee_of};
 use lower_code::functions::{Found, find};
 use lower_code::holes::Helpers;
-
-/// What is called: nothing that can meet a barrier, the barrier itself, or the helper function of a name.
-#[derive(Clone, Copy)]
-pub enum Callee {
-    Nothing,
-    Barrier,
-    Helper(u32),
-}
-
-/// What a call that is a whole statement calls.
-fn callee_of(name: u32) -> Callee
-    ensures { (inside : ℕ → ℕ) → next.statement_sites inside (barrier.is_barrier name) (built_in name) name ≡ callee_sites inside result }
-{
-    if is_barrier(name) {
-        return Callee::Barrier;
-    }
-    match built_in_named(name) {
-        Some(_) => Callee::Nothing,
-        None => Callee::Helper(name),
-    }
-}
-
-/// What an expression calls that is the right side of an assignment.
-fn callee_in(value: &Expression) -> Callee
-    ensures { (inside : ℕ → ℕ) → next.call_sites inside (next.helper_call (term value.now)) ≡ callee_sites inside result }
-{
-    match value {
-        Expression::Call { name, .. } => match built_in_named(*name) {
-            Some(_) => Callee::Nothing,
-            None => Callee::Helper(*name),
-        },
-        _ => Callee::Nothing,
-    }
-}
 
 /// The barriers in a statement; None where there are 2^32 or more.
 #[cycle(sites)]

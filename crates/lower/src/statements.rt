@@ -7,18 +7,20 @@
 //! put together before the loop is; a statement inside n such loops is so gone through n times more (8 at most in a checked kernel).
 #![tactic(auto, using(lower_code::proofs::Growth::unchanged, lower_code::proofs::Growth::before, lower_code::proofs::Growth::one_before, lower_code::proofs::Growth::same_scope, lower_code::proofs::Growth::inner_scope))]
 
-ghost use Rattle.std.specs.Prelude.{◌≡◌, ◌+◌, ◌<◌, ◌≤◌, ◌^◌, ◌++◌, true, length, IfOk, OnOk, OnErr};
+ghost use Rattle.std.specs.Prelude.{◌≡◌, ◌+◌, ◌<◌, ◌≤◌, ◌^◌, ◌++◌, max, true, length, IfOk, OnOk, OnErr};
 ghost use Rattle.std.specs.Option.{option_map};
 ghost use Rattle.clmodel.specs.Next.{sites, part_sites, all_sites};
 ghost use Rattle.clmodel.specs.Tree as tree;
 ghost use Rattle.clmodel.specs.Tree.{stmt, term};
+ghost use Rattle.clmodel.specs.Typing.Rules.{length_limit};
 ghost use Rattle.clmodel.specs.Typing.Sizes.{size, condition_size, part_size, row_size, node_limit};
 ghost use Rattle.lower_expr.specs.Scope.{free_level};
 ghost use Rattle.lower_code.specs.Trees.{all_of, part_of};
 ghost use Rattle.lower_code.specs.Code.{condition_code, while_code};
 ghost use Rattle.lower_code.specs.Emission.{inside, sizes_in, body_of, statement_code, row_code, maybe_code, test_of};
 ghost use Rattle.lower_code.specs.Growth.{GrowsBefore, KeepsOuter};
-ghost use Rattle.lower_code.specs.Room.{levels};
+ghost use Rattle.lower_code.specs.Room.{levels, reach, turn_reach};
+ghost use Rattle.lower_code.specs.Variables.{elements, part_elements, row_elements};
 ghost use Rattle.lower.specs.Statements.{is_loop, is_single, begun_at, once_code, round_code};
 
 use crate::sites::{site_before, site_behind_all};
@@ -73,6 +75,7 @@ fn emit_single<'a>(
     requires few { sites (inside setting.now.helpers.functions.now) (stmt statement.now) ≤ ending.behind }
     requires small { ending.depth + (size (sizes_in setting.now.helpers.functions.now) (stmt statement.now)).nodes ≤ node_limit }
     requires low { free_level scope.old + levels (size (sizes_in setting.now.helpers.functions.now) (stmt statement.now)).nodes < 2 ^ 28 }
+    requires arrays { elements (stmt statement.now) ≤ length_limit }
     ensures code { IfOk result (λ site. code.new ≡ statement_code setting.now scope.old (stmt statement.now) (begun_at ending site) ++ code.old) }
     ensures site { IfOk result (λ site. site + sites (inside setting.now.helpers.functions.now) (stmt statement.now) ≡ ending.behind) }
     ensures scope { scope.new ≡ scope.old }
@@ -100,6 +103,7 @@ fn put_single<'a>(
     requires few { position.site + sites (inside setting.now.helpers.functions.now) (stmt statement.now) < 2 ^ 32 }
     requires small { position.depth + (size (sizes_in setting.now.helpers.functions.now) (stmt statement.now)).nodes ≤ node_limit }
     requires low { free_level scope.old + levels (size (sizes_in setting.now.helpers.functions.now) (stmt statement.now)).nodes < 2 ^ 28 }
+    requires arrays { elements (stmt statement.now) ≤ length_limit }
     ensures code { OnOk result (code.new ≡ statement_code setting.now scope.old (stmt statement.now) position ++ code.old) }
     ensures scope { scope.new ≡ scope.old }
     ensures longer { OnErr result (GrowsBefore code.old code.new) }
@@ -119,24 +123,28 @@ fn put_single<'a>(
     }
 }
 
-/// The barriers of statements have numbers from 0 on where the first one behind them has its own, and the statements have no more nodes,
-/// with the loops round them, than a kernel may have; their levels have registers. This is the contract of a function that does nothing: what it asks is shown at its call.
+/// Statements of a kernel within the limits have numbers for their barriers, registers for their levels, and jumps and arrays of 32 bits. This is the
+/// contract of a function that does nothing: what it asks is shown at its call.
 fn numbers_suffice(
     setting: &StatementContext<'_>,
     scope: &Scope,
     statements: &[Statement],
     ending: Ending,
+    code: &Draft<'_>,
 )
     requires few { all_sites (inside setting.now.helpers.functions.now) (all_of statements.now) ≤ ending.behind }
     requires small { ending.depth + (row_size (sizes_in setting.now.helpers.functions.now) (all_of statements.now)).nodes ≤ node_limit }
     requires low { free_level scope.now + levels (row_size (sizes_in setting.now.helpers.functions.now) (all_of statements.now)).nodes < 2 ^ 28 }
+    requires short { reach ending.exits code.now (row_size (sizes_in setting.now.helpers.functions.now) (all_of statements.now)).nodes < 2 ^ 32 }
+    requires arrays { row_elements (all_of statements.now) ≤ length_limit }
     ensures few { all_sites (inside setting.now.helpers.functions.now) (all_of statements.now) ≤ ending.behind }
     ensures small { ending.depth + (row_size (sizes_in setting.now.helpers.functions.now) (all_of statements.now)).nodes ≤ node_limit }
     ensures low { free_level scope.now + levels (row_size (sizes_in setting.now.helpers.functions.now) (all_of statements.now)).nodes < 2 ^ 28 }
+    ensures short { reach ending.exits code.now (row_size (sizes_in setting.now.helpers.functions.now) (all_of statements.now)).nodes < 2 ^ 32 }
+    ensures arrays { row_elements (all_of statements.now) ≤ length_limit }
 {}
 
-/// Puts a statement before the code, and gives the number of its first barrier, or of the first behind it if it has none. Err if out
-/// of memory, or if a register or a jump has no number of 32 bits.
+/// Puts a statement before the code, and gives the number of its first barrier, or of the first behind it if it has none.
 #[cycle(emission)]
 fn emit_statement<'a>(
     setting: &StatementContext<'a>,
@@ -148,6 +156,8 @@ fn emit_statement<'a>(
     requires few { sites (inside setting.now.helpers.functions.now) (stmt statement.now) ≤ ending.behind }
     requires small { ending.depth + (size (sizes_in setting.now.helpers.functions.now) (stmt statement.now)).nodes ≤ node_limit }
     requires low { free_level scope.old + levels (size (sizes_in setting.now.helpers.functions.now) (stmt statement.now)).nodes < 2 ^ 28 }
+    requires short { reach ending.exits code.old (size (sizes_in setting.now.helpers.functions.now) (stmt statement.now)).nodes < 2 ^ 32 }
+    requires arrays { elements (stmt statement.now) ≤ length_limit }
     ensures code { IfOk result (λ site. code.new ≡ statement_code setting.now scope.old (stmt statement.now) (begun_at ending site) ++ code.old) }
     ensures site { IfOk result (λ site. site + sites (inside setting.now.helpers.functions.now) (stmt statement.now) ≡ ending.behind) }
     ensures scope { OnOk result (scope.new ≡ scope.old) }
@@ -157,7 +167,7 @@ fn emit_statement<'a>(
     match statement {
         Statement::Block { body, .. } => {
             let body = body.as_slice();
-            numbers_suffice(setting, scope, body, ending);
+            numbers_suffice(setting, scope, body, ending, code);
             emit_all(setting, scope, body, ending, code)
         }
         Statement::If {
@@ -199,6 +209,8 @@ fn emit_loop<'a>(
     requires few { sites (inside setting.now.helpers.functions.now) (stmt statement.now) ≤ ending.behind }
     requires small { ending.depth + (size (sizes_in setting.now.helpers.functions.now) (stmt statement.now)).nodes ≤ node_limit }
     requires low { free_level scope.old + levels (size (sizes_in setting.now.helpers.functions.now) (stmt statement.now)).nodes < 2 ^ 28 }
+    requires short { reach ending.exits code.old (size (sizes_in setting.now.helpers.functions.now) (stmt statement.now)).nodes < 2 ^ 32 }
+    requires arrays { elements (stmt statement.now) ≤ length_limit }
     ensures code { IfOk result (λ site. code.new ≡ statement_code setting.now scope.old (stmt statement.now) (begun_at ending site) ++ code.old) }
     ensures site { IfOk result (λ site. site + sites (inside setting.now.helpers.functions.now) (stmt statement.now) ≡ ending.behind) }
     ensures scope { OnOk result (scope.new ≡ scope.old) }
@@ -257,6 +269,8 @@ fn emit_all<'a>(
     requires few { all_sites (inside setting.now.helpers.functions.now) (all_of statements.now) ≤ ending.behind }
     requires small { ending.depth + (row_size (sizes_in setting.now.helpers.functions.now) (all_of statements.now)).nodes ≤ node_limit }
     requires low { free_level scope.old + levels (row_size (sizes_in setting.now.helpers.functions.now) (all_of statements.now)).nodes < 2 ^ 28 }
+    requires short { reach ending.exits code.old (row_size (sizes_in setting.now.helpers.functions.now) (all_of statements.now)).nodes < 2 ^ 32 }
+    requires arrays { row_elements (all_of statements.now) ≤ length_limit }
     ensures code { IfOk result (λ site. code.new ≡ row_code setting.now scope.old (all_of statements.now) (begun_at ending site) ++ code.old) }
     ensures site { IfOk result (λ site. site + all_sites (inside setting.now.helpers.functions.now) (all_of statements.now) ≡ ending.behind) }
     ensures scope { OnOk result (scope.new ≡ scope.old) }
@@ -272,7 +286,7 @@ fn emit_all<'a>(
         let here = Ending {
             depth: ending.depth,
             behind,
-            exits: ending.exits.past(code.added(end)?)?,
+            exits: ending.exits.past(code.added(end)),
         };
         behind = emit_statement(setting, scope, statement, here, code)?;
     }
@@ -291,6 +305,8 @@ pub fn emit_body<'a>(
     requires few { site + all_sites (inside helpers.functions.now) (all_of function.now.body.items) < 2 ^ 32 }
     requires small { depth + (row_size (sizes_in helpers.functions.now) (all_of function.now.body.items)).nodes ≤ node_limit }
     requires low { level + length function.now.parameters.items + levels (row_size (sizes_in helpers.functions.now) (all_of function.now.body.items)).nodes < 2 ^ 28 }
+    requires short { length code.old < 2 ^ 31 }
+    requires arrays { row_elements (all_of function.now.body.items) ≤ length_limit }
     ensures code { OnOk result (code.new ≡ body_of helpers.entry.functions.now function.now level depth site ++ code.old) }
     ensures longer { OnErr result (GrowsBefore code.old code.new) }
 {
@@ -299,7 +315,7 @@ pub fn emit_body<'a>(
     let exits = Exits {
         broken: 0,
         continued: 0,
-        returned: code.added(end)?,
+        returned: code.added(end),
     };
     let mut scope = Scope::new(code.allocator(), level);
     declare_parameters(&mut scope, function.parameters.as_slice())?;
@@ -331,6 +347,8 @@ fn emit_if<'a>(
     requires few { sites (inside setting.now.helpers.functions.now) (stmt chosen.now) ≤ ending.behind }
     requires small { ending.depth + (size (sizes_in setting.now.helpers.functions.now) (tree.If 0 (term condition.now) (stmt chosen.now))).nodes ≤ node_limit }
     requires low { free_level scope.old + levels (size (sizes_in setting.now.helpers.functions.now) (tree.If 0 (term condition.now) (stmt chosen.now))).nodes < 2 ^ 28 }
+    requires short { reach ending.exits code.old (size (sizes_in setting.now.helpers.functions.now) (tree.If 0 (term condition.now) (stmt chosen.now))).nodes < 2 ^ 32 }
+    requires arrays { elements (stmt chosen.now) ≤ length_limit }
     ensures code { IfOk result (λ site. code.new ≡ statement_code setting.now scope.old (tree.If 0 (term condition.now) (stmt chosen.now)) (begun_at ending site) ++ code.old) }
     ensures site { IfOk result (λ site. site + sites (inside setting.now.helpers.functions.now) (stmt chosen.now) ≡ ending.behind) }
     ensures scope { OnOk result (scope.new ≡ scope.old) }
@@ -339,7 +357,7 @@ fn emit_if<'a>(
 {
     let end = code.len();
     let site = emit_statement(setting, scope, chosen, ending, code)?;
-    put_test(scope, condition, code.added(end)?, code)?;
+    put_test(scope, condition, code.added(end), code)?;
     Ok(site)
 }
 
@@ -357,6 +375,8 @@ fn emit_choice<'a>(
     requires few { sites (inside setting.now.helpers.functions.now) (stmt chosen.now) + sites (inside setting.now.helpers.functions.now) (stmt otherwise.now) ≤ ending.behind }
     requires small { ending.depth + (size (sizes_in setting.now.helpers.functions.now) (tree.IfElse 0 (term condition.now) (stmt chosen.now) (stmt otherwise.now))).nodes ≤ node_limit }
     requires low { free_level scope.old + levels (size (sizes_in setting.now.helpers.functions.now) (tree.IfElse 0 (term condition.now) (stmt chosen.now) (stmt otherwise.now))).nodes < 2 ^ 28 }
+    requires short { reach ending.exits code.old (size (sizes_in setting.now.helpers.functions.now) (tree.IfElse 0 (term condition.now) (stmt chosen.now) (stmt otherwise.now))).nodes < 2 ^ 32 }
+    requires arrays { elements (tree.IfElse 0 (term condition.now) (stmt chosen.now) (stmt otherwise.now)) ≤ length_limit }
     ensures code { IfOk result (λ site. code.new ≡ statement_code setting.now scope.old (tree.IfElse 0 (term condition.now) (stmt chosen.now) (stmt otherwise.now)) (begun_at ending site) ++ code.old) }
     ensures site { IfOk result (λ site. site + (sites (inside setting.now.helpers.functions.now) (stmt chosen.now) + sites (inside setting.now.helpers.functions.now) (stmt otherwise.now)) ≡ ending.behind) }
     ensures scope { OnOk result (scope.new ≡ scope.old) }
@@ -366,15 +386,15 @@ fn emit_choice<'a>(
     let end = code.len();
     let between = emit_statement(setting, scope, otherwise, ending, code)?;
     let middle = code.len();
-    let by = code.added(end)?;
+    let by = code.added(end);
     code.put(Instruction::Jump { by })?;
     let first = Ending {
         depth: ending.depth,
         behind: between,
-        exits: ending.exits.past(code.added(end)?)?,
+        exits: ending.exits.past(code.added(end)),
     };
     let site = emit_statement(setting, scope, chosen, first, code)?;
-    put_test(scope, condition, code.added(middle)?, code)?;
+    put_test(scope, condition, code.added(middle), code)?;
     Ok(site)
 }
 
@@ -390,6 +410,8 @@ fn emit_part<'a>(
     requires few { part_sites (inside setting.now.helpers.functions.now) (part_of part) ≤ ending.behind }
     requires small { ending.depth + (part_size (sizes_in setting.now.helpers.functions.now) (part_of part)).nodes ≤ node_limit }
     requires low { free_level scope.old + levels (part_size (sizes_in setting.now.helpers.functions.now) (part_of part)).nodes < 2 ^ 28 }
+    requires short { reach ending.exits code.old (part_size (sizes_in setting.now.helpers.functions.now) (part_of part)).nodes < 2 ^ 32 }
+    requires arrays { part_elements (part_of part) ≤ length_limit }
     ensures code { IfOk result (λ site. code.new ≡ maybe_code setting.now scope.old (part_of part.entry) (begun_at ending site) ++ code.old) }
     ensures site { IfOk result (λ site. site + part_sites (inside setting.now.helpers.functions.now) (part_of part.entry) ≡ ending.behind) }
     ensures scope { OnOk result (scope.new ≡ scope.old) }
@@ -415,6 +437,8 @@ fn emit_do<'a>(
     requires few { sites (inside setting.now.helpers.functions.now) (stmt body.now) ≤ ending.behind }
     requires small { ending.depth + (size (sizes_in setting.now.helpers.functions.now) (stmt body.now)).nodes < node_limit }
     requires low { free_level scope.old + levels (size (sizes_in setting.now.helpers.functions.now) (tree.DoWhile 0 (stmt body.now) (term condition.now))).nodes < 2 ^ 28 }
+    requires short { reach ending.exits code.old (size (sizes_in setting.now.helpers.functions.now) (tree.DoWhile 0 (stmt body.now) (term condition.now))).nodes < 2 ^ 32 }
+    requires arrays { elements (stmt body.now) ≤ length_limit }
     ensures code { IfOk result (λ site. code.new ≡ statement_code setting.now scope.old (tree.DoWhile 0 (stmt body.now) (term condition.now)) (begun_at ending site) ++ code.old) }
     ensures site { IfOk result (λ site. site + sites (inside setting.now.helpers.functions.now) (stmt body.now) ≡ ending.behind) }
     ensures scope { OnOk result (scope.new ≡ scope.old) }
@@ -440,6 +464,8 @@ fn emit_once<'a>(
     requires few { sites (inside setting.now.helpers.functions.now) (stmt body.now) ≤ ending.behind }
     requires small { ending.depth + (size (sizes_in setting.now.helpers.functions.now) (stmt body.now)).nodes < node_limit }
     requires low { free_level scope.old + levels (size (sizes_in setting.now.helpers.functions.now) (stmt body.now)).nodes < 2 ^ 28 }
+    requires short { turn_reach ending.exits turn.old (size (sizes_in setting.now.helpers.functions.now) (stmt body.now)).nodes < 2 ^ 32 }
+    requires arrays { elements (stmt body.now) ≤ length_limit }
     ensures code { IfOk result (λ site. turn.new ≡ once_code setting.now scope.old (stmt body.now) (begun_at ending site) (length turn.old) ++ turn.old) }
     ensures site { IfOk result (λ site. site + sites (inside setting.now.helpers.functions.now) (stmt body.now) ≡ ending.behind) }
     ensures scope { OnOk result (scope.new ≡ scope.old) }
@@ -449,7 +475,7 @@ fn emit_once<'a>(
     let here = Ending {
         depth: ending.depth + 1,
         behind: ending.behind,
-        exits: ending.exits.in_loop(turn.past(0)?)?,
+        exits: ending.exits.in_loop(turn.past(0)),
     };
     let site = emit_statement(setting, scope, body, here, turn)?;
     Ok(site)
@@ -469,6 +495,8 @@ fn emit_stepped<'a>(
     requires small_third { ending.depth + (size (sizes_in setting.now.helpers.functions.now) (stmt third.now)).nodes < node_limit }
     requires small { ending.depth + (size (sizes_in setting.now.helpers.functions.now) (stmt body.now)).nodes < node_limit }
     requires low { free_level scope.old + levels ((size (sizes_in setting.now.helpers.functions.now) (stmt third.now)).nodes + (size (sizes_in setting.now.helpers.functions.now) (stmt body.now)).nodes) < 2 ^ 28 }
+    requires short { turn_reach ending.exits turn.old ((size (sizes_in setting.now.helpers.functions.now) (stmt third.now)).nodes + (size (sizes_in setting.now.helpers.functions.now) (stmt body.now)).nodes) < 2 ^ 32 }
+    requires arrays { max (elements (stmt third.now)) (elements (stmt body.now)) ≤ length_limit }
     ensures code { IfOk result (λ site. turn.new ≡ round_code setting.now scope.old (tree.With (stmt third.now)) (stmt body.now) (begun_at ending site) (length turn.old) ++ turn.old) }
     ensures site { IfOk result (λ site. site + (sites (inside setting.now.helpers.functions.now) (stmt third.now) + sites (inside setting.now.helpers.functions.now) (stmt body.now)) ≡ ending.behind) }
     ensures scope { OnOk result (scope.new ≡ scope.old) }
@@ -479,7 +507,7 @@ fn emit_stepped<'a>(
     let last = Ending {
         depth: ending.depth + 1,
         behind: between,
-        exits: ending.exits.in_loop(turn.past(0)?)?,
+        exits: ending.exits.in_loop(turn.past(0)),
     };
     let site = emit_statement(setting, scope, third, last, turn)?;
     emit_once(setting, scope, body, ending, turn)?;
@@ -500,6 +528,8 @@ fn emit_round<'a>(
     requires small_third { ending.depth + (part_size (sizes_in setting.now.helpers.functions.now) (part_of third)).nodes < node_limit }
     requires small { ending.depth + (size (sizes_in setting.now.helpers.functions.now) (stmt body.now)).nodes < node_limit }
     requires low { free_level scope.old + levels ((part_size (sizes_in setting.now.helpers.functions.now) (part_of third)).nodes + (size (sizes_in setting.now.helpers.functions.now) (stmt body.now)).nodes) < 2 ^ 28 }
+    requires short { turn_reach ending.exits turn.old ((part_size (sizes_in setting.now.helpers.functions.now) (part_of third)).nodes + (size (sizes_in setting.now.helpers.functions.now) (stmt body.now)).nodes) < 2 ^ 32 }
+    requires arrays { max (part_elements (part_of third)) (elements (stmt body.now)) ≤ length_limit }
     ensures code { IfOk result (λ site. turn.new ≡ round_code setting.now scope.old (part_of third.entry) (stmt body.now) (begun_at ending site) (length turn.old) ++ turn.old) }
     ensures site { IfOk result (λ site. site + (part_sites (inside setting.now.helpers.functions.now) (part_of third.entry) + sites (inside setting.now.helpers.functions.now) (stmt body.now)) ≡ ending.behind) }
     ensures scope { OnOk result (scope.new ≡ scope.old) }
@@ -527,6 +557,8 @@ fn emit_for<'a>(
     requires few { sites (inside setting.now.helpers.functions.now) (tree.For 0 (part_of first) (test_of condition) (part_of third) (stmt body.now)) ≤ ending.behind }
     requires small { ending.depth + (size (sizes_in setting.now.helpers.functions.now) (tree.For 0 (part_of first) (test_of condition) (part_of third) (stmt body.now))).nodes ≤ node_limit }
     requires low { free_level scope.old + levels (size (sizes_in setting.now.helpers.functions.now) (tree.For 0 (part_of first) (test_of condition) (part_of third) (stmt body.now))).nodes < 2 ^ 28 }
+    requires short { reach ending.exits code.old (size (sizes_in setting.now.helpers.functions.now) (tree.For 0 (part_of first) (test_of condition) (part_of third) (stmt body.now))).nodes < 2 ^ 32 }
+    requires arrays { elements (tree.For 0 (part_of first) (test_of condition) (part_of third) (stmt body.now)) ≤ length_limit }
     ensures code { IfOk result (λ site. code.new ≡ statement_code setting.now scope.old (tree.For 0 (part_of first.entry) (test_of condition.entry) (part_of third.entry) (stmt body.now)) (begun_at ending site) ++ code.old) }
     ensures site { IfOk result (λ site. site + sites (inside setting.now.helpers.functions.now) (tree.For 0 (part_of first.entry) (test_of condition.entry) (part_of third.entry) (stmt body.now)) ≡ ending.behind) }
     ensures scope { OnOk result (scope.new ≡ scope.old) }
@@ -540,7 +572,7 @@ fn emit_for<'a>(
     let before = Ending {
         depth: ending.depth,
         behind,
-        exits: ending.exits.past(code.added(end)?)?,
+        exits: ending.exits.past(code.added(end)),
     };
     let site = emit_part(setting, scope, first, before, code)?;
     Ok(site)
@@ -561,6 +593,8 @@ fn emit_turns<'a>(
     requires small_third { ending.depth + (part_size (sizes_in setting.now.helpers.functions.now) (part_of third)).nodes < node_limit }
     requires small { ending.depth + (size (sizes_in setting.now.helpers.functions.now) (stmt body.now)).nodes < node_limit }
     requires low { free_level scope.old + levels ((condition_size (sizes_in setting.now.helpers.functions.now) (test_of condition)).nodes + (part_size (sizes_in setting.now.helpers.functions.now) (part_of third)).nodes + (size (sizes_in setting.now.helpers.functions.now) (stmt body.now)).nodes) < 2 ^ 28 }
+    requires short { reach ending.exits code.old ((condition_size (sizes_in setting.now.helpers.functions.now) (test_of condition)).nodes + (part_size (sizes_in setting.now.helpers.functions.now) (part_of third)).nodes + (size (sizes_in setting.now.helpers.functions.now) (stmt body.now)).nodes + 1) < 2 ^ 32 }
+    requires arrays { max (part_elements (part_of third)) (elements (stmt body.now)) ≤ length_limit }
     ensures code { IfOk result (λ site. code.new
         ≡ while_code ending.depth (round_code setting.now scope.old (part_of third.entry) (stmt body.now) (begun_at ending site) (length (condition_code scope.old (test_of condition.entry)))) (condition_code scope.old (test_of condition.entry)) ++ code.old) }
     ensures site { IfOk result (λ site. site + (part_sites (inside setting.now.helpers.functions.now) (part_of third.entry) + sites (inside setting.now.helpers.functions.now) (stmt body.now)) ≡ ending.behind) }

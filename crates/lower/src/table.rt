@@ -4,12 +4,13 @@
 //! only functions of no more nodes than a kernel may have are measured.
 #![tactic(auto)]
 
-ghost use Rattle.std.specs.Prelude.{◌≡◌, ℕ, suc, ◌<◌, ◌≤◌, ◌^◌, min, None, Some, length, get_or, IfOk};
+ghost use Rattle.std.specs.Prelude.{◌≡◌, ℕ, suc, ◌<◌, ◌≤◌, ◌^◌, min, None, Some, length, IfOk};
 ghost use Rattle.clmodel.specs.Next.{all_sites};
+ghost use Rattle.clmodel.specs.Typing.Rules.{length_limit};
 ghost use Rattle.clmodel.specs.Typing.Sizes.{row_size, node_limit, parameter_limit};
-ghost use Rattle.clmodel.specs.declared.tree.Function.{Function};
 ghost use Rattle.lower_code.specs.Trees.{all_of};
-ghost use Rattle.lower_code.specs.Room.{FewParameters};
+ghost use Rattle.lower_code.specs.Variables.{row_elements};
+ghost use Rattle.lower_code.specs.Room.{FewParameters, FewElements};
 ghost use Rattle.lower_code.specs.Helpers.{inside, sizes_in, body_of, BarriersKnown, BarriersCounted, LengthsKnown, LengthsCounted, NodesCounted, EndsKnown};
 
 use crate::sites::sites_in_all;
@@ -30,6 +31,7 @@ fn length_of(alloc: Global, helpers: Helpers<'_>, function: &Function) -> Result
     requires few { all_sites (inside helpers.functions.now) (all_of function.now.body.items) < 2 ^ 32 }
     requires small { (row_size (sizes_in helpers.functions.now) (all_of function.now.body.items)).nodes ≤ node_limit }
     requires parameters { length function.now.parameters.items ≤ parameter_limit }
+    requires arrays { row_elements (all_of function.now.body.items) ≤ length_limit }
     ensures { IfOk result (λ n. (level depth site : ℕ) → n ≡ length (body_of helpers.entry.functions.now function.now level depth site)) }
 {
     let mut code = Draft::new(alloc);
@@ -47,6 +49,7 @@ fn measured(
 ) -> Result<Option<usize>, AllocError>
     requires few { all_sites (inside helpers.functions.now) (all_of function.now.body.items) < 2 ^ 32 }
     requires parameters { length function.now.parameters.items ≤ parameter_limit }
+    requires arrays { row_elements (all_of function.now.body.items) ≤ length_limit }
     requires counted { nodes ≡ min (row_size (sizes_in helpers.functions.now) (all_of function.now.body.items)).nodes (suc node_limit) }
     ensures length { IfOk result (λ found. (n level depth site : ℕ) → found ≡ Some n → n ≡ length (body_of helpers.entry.functions.now function.now level depth site)) }
     ensures none { IfOk result (λ found. found ≡ None → node_limit < (row_size (sizes_in helpers.entry.functions.now) (all_of function.now.body.items)).nodes) }
@@ -66,6 +69,7 @@ fn known_of(
     nodes: u32,
 ) -> Result<Known, AllocError>
     requires parameters { length function.now.parameters.items ≤ parameter_limit }
+    requires arrays { row_elements (all_of function.now.body.items) ≤ length_limit }
     requires counted { nodes ≡ min (row_size (sizes_in helpers.functions.now) (all_of function.now.body.items)).nodes (suc node_limit) }
     ensures barriers { IfOk result (λ known. (n : ℕ) → known.barriers ≡ Some n → n ≡ all_sites (inside helpers.entry.functions.now) (all_of function.now.body.items)) }
     ensures counted { IfOk result (λ known. known.barriers ≡ None → 2 ^ 32 ≤ all_sites (inside helpers.entry.functions.now) (all_of function.now.body.items)) }
@@ -89,6 +93,7 @@ pub fn known_of_all(
     requires ends { EndsKnown functions.now ends.now }
     requires nodes { NodesCounted functions.now }
     requires parameters { FewParameters functions.now }
+    requires elements { FewElements functions.now }
     ensures barriers { IfOk result (λ known. BarriersKnown functions.now known.items) }
     ensures complete { IfOk result (λ known. length known.items ≡ length functions.now) }
     ensures counted { IfOk result (λ known. BarriersCounted functions.now known.items) }
@@ -109,27 +114,4 @@ pub fn known_of_all(
         known.push(next)?;
     }
     Ok(known)
-}
-
-/// One more than the greatest number of a function's name.
-fn name_end(functions: &[Function]) -> usize
-    ensures { (i : ℕ) (f : Function) → i < length functions.now → f ≡ get_or functions.now i f → f.name < result }
-{
-    let mut end = 0;
-    for function in functions {
-        end = end.max(function.name as usize + 1);
-    }
-    end
-}
-
-/// The end of each name among functions: how many of them there are up to the last that has it, and 0 where none has it. Err if out
-/// of memory.
-pub fn ends_of(alloc: Global, functions: &[Function]) -> Result<Vec<usize>, AllocError>
-    ensures { IfOk result (λ ends. EndsKnown functions.now ends.items) }
-{
-    let mut ends = vec![in alloc; 0; name_end(functions)]?;
-    for i in 0..functions.len() {
-        ends[functions[i].name as usize] = i + 1;
-    }
-    Ok(ends)
 }

@@ -40,7 +40,7 @@ result_miss gs i name g h p t =
     ∙ ap (λ (b : Bool). elim b as (λ _. Option IntType) [ true ↦ g.result | false ↦ result_in (functions_of (take i gs)) name ]) (ne_eqb name g.name t)
 
 -- the function at a place
-function_there : (gs : List Function) (i : ℕ) → i < length gs → (g : Function) × (g ≡ get_or gs i g)
+pub function_there : (gs : List Function) (i : ℕ) → i < length gs → (g : Function) × (g ≡ get_or gs i g)
 function_there [] i h = absurd (omega arith)
 function_there (g ∷ gs) zero h = (g, refl)
 function_there (g ∷ gs) (suc i) h = function_there gs i (omega arith)

@@ -11,3 +11,5 @@ pub mod Trees
 pub mod Parameters
 pub mod Growth
 pub mod Room
+pub mod Looking
+pub mod Short

@@ -1,6 +1,7 @@
 -- What is known of functions, for fewer functions and for one more.
-use Rattle.std.proofs.Common.{◌≡◌, ℕ, zero, suc, ◌<◌, ◌≤◌, ◌^◌, Option, None, Some, IfSome, List, [], ◌∷◌, ◌++◌, length, take, get_or, refl, sym, ap, subst, ◌∙◌, arith}
-use Rattle.std.proofs.lemmas.List.{get_or-take, take-take, length-take}
+use Rattle.std.proofs.Common.{◌≡◌, ℕ, zero, suc, ◌+◌, ◌<◌, ◌≤◌, ◌^◌, ◌⊎◌, inl, inr, Option, None, Some, IfSome, List, [], ◌∷◌, ◌++◌, length, take, get_or, refl, sym, ap, subst, ◌∙◌, arith}
+use Rattle.std.proofs.lemmas.Bool.{cases_lt}
+use Rattle.std.proofs.lemmas.List.{get_or_default, get_or-take, take-take, length-take}
 use Rattle.std.proofs.Math.Seq.{take-length}
 use Rattle.clmodel.specs.Next.{all_sites}
 use Rattle.clmodel.specs.declared.tree.Function.{Function}
@@ -10,7 +11,7 @@ use Rattle.clmodel.specs.Typing.Sizes.{node_limit}
 use Rattle.lower_code.specs.Trees.{all_of}
 use Rattle.lower_code.specs.Helpers.{functions_of, inside, body_of, BarriersKnown, BarriersCounted, LengthsKnown, LengthsCounted, NodesCounted, EndsKnown, nodes_in}
 use Rattle.lower_code.specs.declared.known.Known.{Known}
-use Rattle.lower_code.specs.Room.{FewParameters}
+use Rattle.lower_code.specs.Room.{FewParameters, FewElements}
 use Rattle.lower_code.proofs.Lengths.{function_length}
 
 -- what stands at a place doesn't depend on the default
@@ -65,6 +66,11 @@ nodes_before fs n small h count i f below there f_is =
 
 pub parameters_before : (fs : List Function) (n : ℕ) → n ≤ length fs → FewParameters fs → FewParameters (take n fs)
 parameters_before fs n small h i f below f_is =
+    let inner : i < n = within fs n i small below in
+    h i f (omega (arith, inner, small)) (f_is ∙ get_or-take n fs i f inner)
+
+pub elements_before : (fs : List Function) (n : ℕ) → n ≤ length fs → FewElements fs → FewElements (take n fs)
+elements_before fs n small h i f below f_is =
     let inner : i < n = within fs n i small below in
     h i f (omega (arith, inner, small)) (f_is ∙ get_or-take n fs i f inner)
 
@@ -150,3 +156,16 @@ lengths_there fs ks i f k d counted measured below there f_is k_is few small non
 
 pub body_length_of : (fs : List Function) (f : Function) (level depth site : ℕ) → length (body_of fs f 0 0 0) ≡ length (body_of fs f level depth site)
 body_length_of fs f level depth site = function_length (functions_of fs) (func f) 0 0 0 level depth site
+
+-- what is said of each of the first functions, and of one more
+pub one_further : (P : ℕ → Function → Type 0) (fs : List Function) (n : ℕ) (g : Function) → n < length fs → g ≡ get_or fs n g
+    → ((i : ℕ) (f : Function) → i < n → i < length fs → f ≡ get_or fs i f → P i f) → P n g
+    → (i : ℕ) (f : Function) → i < n + 1 → i < length fs → f ≡ get_or fs i f → P i f
+one_further P fs n g below g_is h last i f small there f_is = go (cases_lt i n)
+  where
+    go : (i < n) ⊎ (n ≤ i) → P i f
+    go (inl less) = h i f less there f_is
+    go (inr more) =
+        let e : i ≡ n = omega (arith, small, more) in
+        let same : f ≡ g = f_is ∙ ap (λ m. get_or fs m f) e ∙ get_or_default fs n f g below ∙ sym g_is in
+        subst (λ m. P m f) (sym e) (subst (λ x. P n x) (sym same) last)

@@ -16,6 +16,8 @@ use Rattle.lower_code.specs.Code as spec
 use Rattle.lower_code.specs.Code.{Calls, stmt_code, stmts_code, part_code, call_code, pass_code, result_in}
 pub use Rattle.lower_code.specs.Helpers.{functions_of, inside, sizes_in, nodes_in, body_of}
 use Rattle.lower_code.specs.declared.assignments.Call.{Call}
+use Rattle.lower_code.specs.declared.callees.Callee.{Callee}
+use Rattle.lower_code.specs.declared.callees.Callee.TheVariants as callee
 use Rattle.lower_code.specs.declared.assignments.Split.{Split}
 use Rattle.lower_code.specs.declared.functions.Found.{Found}
 use Rattle.lower_code.specs.declared.positions.Exits.{Exits}
@@ -60,6 +62,12 @@ found_result (Some f) = f.function.now.result
 abbrev pub found_sites : List Function → Option Found → ℕ
 found_sites functions None = 0
 found_sites functions (Some f) = all_sites (inside (take f.place functions)) (all_of f.function.now.body.items)
+
+-- the barriers in what a name calls
+abbrev pub callee_sites : (ℕ → ℕ) → Callee → ℕ
+callee_sites inside callee.Nothing = 0
+callee_sites inside callee.Barrier = 1
+callee_sites inside (callee.Helper name) = inside name
 
 -- the body of a helper that is called
 abbrev pub called_code : Calls → Option Call → ℕ → ℕ → List Instruction

@@ -1,11 +1,13 @@
 -- Code with the bodies of helpers left out (own).
 use Rattle.std.specs.Prelude.{◌+◌, ◌<◌, ◌≤◌, ◌^◌, List, [], ◌∷◌, ◌++◌, length, All}
 use Rattle.clmodel.specs.Next.{all_sites}
+use Rattle.clmodel.specs.Typing.Rules.{length_limit}
 use Rattle.clmodel.specs.Typing.Sizes.{row_size, node_limit}
 use Rattle.regcode.specs.declared.instruction.Instruction.{Instruction}
 use Rattle.lower_code.specs.Helpers.{inside, sizes_in, body_of, BarriersKnown, BarriersCounted, LengthsKnown, LengthsCounted, NodesCounted, EndsKnown}
-use Rattle.lower_code.specs.Room.{FewParameters, levels}
+use Rattle.lower_code.specs.Room.{FewParameters, FewElements, levels}
 use Rattle.lower_code.specs.Trees.{all_of}
+use Rattle.lower_code.specs.Variables.{row_elements}
 use Rattle.lower_code.specs.declared.holes.Hole.{Hole}
 use Rattle.lower_code.specs.declared.holes.Part.{Part}
 use Rattle.lower_code.specs.declared.holes.Part.TheVariants as part
@@ -24,7 +26,7 @@ whole [] = []
 whole (p ∷ ps) = part_code p ++ whole ps
 
 -- What is known of the functions before a helper is true of them, each of them is known, the barriers of its body have numbers of 32 bits, it has no
--- more nodes, with the loops round it, than a kernel may have, and the levels that its code may need have registers.
+-- more nodes, with the loops round it, than a kernel may have, the levels that its code may need have registers, and its arrays no more elements than one may have.
 pub record HoleKnown (h : Hole) : Type 0 where
   pub barriers : BarriersKnown h.functions.now h.known.now
   pub complete : length h.functions.now ≤ length h.known.now
@@ -37,6 +39,8 @@ pub record HoleKnown (h : Hole) : Type 0 where
   pub small : h.depth + (row_size (sizes_in h.functions.now) (all_of h.function.now.body.items)).nodes ≤ node_limit
   pub parameters : FewParameters h.functions.now
   pub low : h.level + length h.function.now.parameters.items + levels (row_size (sizes_in h.functions.now) (all_of h.function.now.body.items)).nodes < 2 ^ 28
+  pub elements : FewElements h.functions.now
+  pub arrays : row_elements (all_of h.function.now.body.items) ≤ length_limit
 
 abbrev pub IsKnown : Part → Type 0
 IsKnown (part.Own i) = Unit {0}

@@ -1,9 +1,9 @@
 -- The variables that declarations and parameters add to a scope, and the register code that gives them what they begin with (own).
-use Rattle.std.specs.Prelude.{ℕ, ◌+◌, Bool, true, false, None, List, [], ◌∷◌}
+use Rattle.std.specs.Prelude.{ℕ, ◌+◌, max, Bool, true, false, None, List, [], ◌∷◌}
 use Rattle.clnum.specs.declared.int_type.IntType.{IntType}
 use Rattle.clmodel.specs.Next as next
 use Rattle.clmodel.specs.Next.{Binding, Variables, private_array}
-use Rattle.clmodel.specs.Tree.{Stmt, Declare, DeclareAs, DeclareArray, Stmts, NoStmt, ThenStmt, MaybeStmt, Without, With, array_length}
+use Rattle.clmodel.specs.Tree.{Stmt, Block, Declare, DeclareAs, DeclareArray, If, IfElse, While, DoWhile, For, Stmts, NoStmt, ThenStmt, MaybeStmt, Without, With, array_length}
 use Rattle.clmodel.specs.declared.tree.AddressSpace.TheVariants.{Local}
 use Rattle.clmodel.specs.declared.tree.VariableType.{VariableType}
 use Rattle.clmodel.specs.declared.tree.VariableType.TheVariants.{Integer, Pointer}
@@ -51,6 +51,26 @@ scope_after_part scope part = record scope { variables = variables_after_part sc
 
 abbrev pub scope_after_all : Scope → Stmts → Scope
 scope_after_all scope statements = record scope { variables = variables_after_all scope.variables statements }
+
+-- how many elements the largest array has that is declared in a statement, or 0
+abbrev mutual
+  pub elements : Stmt → ℕ
+  elements (Block at body) = row_elements body
+  elements (DeclareArray at is_local element name_at name length_at count) = array_length count
+  elements (If at test chosen) = elements chosen
+  elements (IfElse at test chosen otherwise) = max (elements chosen) (elements otherwise)
+  elements (While at test body) = elements body
+  elements (DoWhile at body test) = elements body
+  elements (For at first test third body) = max (part_elements first) (max (part_elements third) (elements body))
+  elements _ = 0
+
+  pub part_elements : MaybeStmt → ℕ
+  part_elements Without = 0
+  part_elements (With statement) = elements statement
+
+  pub row_elements : Stmts → ℕ
+  row_elements NoStmt = 0
+  row_elements (ThenStmt statements statement) = max (row_elements statements) (elements statement)
 
 -- The declaration of an array at a level, behind n variables: a pointer to its object in local memory, which has their number, or the elements,
 -- none of which is set, of the private array of the level.

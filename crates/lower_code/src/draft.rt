@@ -1,17 +1,17 @@
 //! Code that is written from its end, with the bodies of helpers left out: so a jump is written when the length of what it passes is known.
 #![tactic(auto, using(crate::proofs::Drafts::draft_whole, crate::proofs::Drafts::part_whole, crate::proofs::Drafts::part_length, crate::proofs::Drafts::draft_length, crate::proofs::Growth::unchanged, crate::proofs::Growth::before, crate::proofs::Growth::one_before))]
 
-ghost use Rattle.std.specs.Prelude.{◌≡◌, ◌-◌, ◌+◌, [], ◌∷◌, ◌++◌, length, reverse, IfOk, OnOk, OnErr};
+ghost use Rattle.std.specs.Prelude.{◌≡◌, ◌-◌, ◌+◌, ◌<◌, ◌^◌, [], ◌∷◌, ◌++◌, length, min, reverse, OnOk, OnErr};
 ghost use Rattle.lower_code.specs.Growth.{GrowsBefore};
 ghost use Rattle.lower_code.specs.Parts.{hole_code, whole, HoleKnown, AllKnown};
 
 use crate::holes::{Hole, Part};
-use lower_expr::scope::word;
 use regcode::Instruction;
 use std::alloc::{AllocError, Global};
 use std::marker::Model;
 
-/// Code, kept with its last part first: what is put goes before what is there. A body that is left out counts as if it were there.
+/// Code, kept with its last part first: what is put goes before what is there. A body that is left out counts as if it were there. Its length
+/// is counted up to 2^64 - 1.
 #[derive(Drop)]
 pub struct Draft<'a> {
     alloc: Global,
@@ -20,7 +20,7 @@ pub struct Draft<'a> {
 }
 
 impl<'a> Model for Draft<'a> {
-    ghost use Rattle.std.specs.Prelude.{◌≡◌, List, length, reverse};
+    ghost use Rattle.std.specs.Prelude.{◌≡◌, ◌-◌, ◌^◌, List, length, min, reverse};
     ghost use Rattle.regcode.specs.declared.instruction.Instruction.{Instruction};
     ghost use Rattle.lower_code.specs.Parts.{whole, AllKnown};
 
@@ -28,7 +28,7 @@ impl<'a> Model for Draft<'a> {
 
     ghost view = { λ d. whole (reverse d.parts.items) };
 
-    ghost invariant = { λ d. (d.len ≡ length (whole (reverse d.parts.items))) × AllKnown d.parts.items };
+    ghost invariant = { λ d. (d.len ≡ min (length (whole (reverse d.parts.items))) (2 ^ 64 - 1)) × AllKnown d.parts.items };
 }
 
 impl<'a> Draft<'a> {
@@ -50,36 +50,37 @@ impl<'a> Draft<'a> {
 
     /// How many instructions there are.
     pub fn len(&self) -> usize
+        requires { length self.now < 2 ^ 64 }
         ensures { result ≡ length self.now }
     {
         self.len
     }
 
-    /// How many instructions there are more than `before`. Err where there are too many to jump past them.
-    pub fn added(&self, before: usize) -> Result<u32, AllocError>
-        ensures { IfOk result (λ count. count ≡ length self.now - before) }
+    /// How many instructions there are more than `before`.
+    pub fn added(&self, before: usize) -> u32
+        requires { length self.now < 2 ^ 32 }
+        ensures { result ≡ length self.now - before }
     {
-        word(self.len().saturating_sub(before))
+        self.len().saturating_sub(before) as u32
     }
 
-    /// One more than that. Err where there are too many to jump past them.
-    pub fn past(&self, before: usize) -> Result<u32, AllocError>
-        ensures { IfOk result (λ count. count ≡ length self.now - before + 1) }
+    /// One more than that.
+    pub fn past(&self, before: usize) -> u32
+        requires { length self.now + 1 < 2 ^ 32 }
+        ensures { result ≡ length self.now - before + 1 }
     {
-        let count = self.added(before)?;
-        count.checked_add(1).ok_or(AllocError)
+        self.added(before) + 1
     }
 
-    /// Puts parts before the code, the last first, which have `count` instructions.
+    /// Puts parts before the code, the last first, which have `count` instructions, or more if that is 2^64 - 1.
     fn put_parts(&mut self, parts: &[Part<'a>], count: usize) -> Result<(), AllocError>
-        requires count { count ≡ length (whole (reverse parts.now)) }
+        requires count { count ≡ min (length (whole (reverse parts.now))) (2 ^ 64 - 1) }
         requires known { AllKnown parts.now }
         ensures code { OnOk result (self.new ≡ whole (reverse parts.now) ++ self.old) }
         ensures longer { OnErr result (GrowsBefore self.old self.new) }
     {
-        let len = self.len.checked_add(count).ok_or(AllocError)?;
         self.parts.extend_from_slice(parts)?;
-        self.len = len;
+        self.len = self.len.saturating_add(count);
         Ok(())
     }
 

@@ -1,13 +1,15 @@
-//! The functions that can be called.
+//! The functions that can be called, and where they stand.
 #![tactic(auto)]
 
-ghost use Rattle.std.specs.Prelude.{◌≡◌, ◌<◌, ◌≤◌, ℕ, List, length, take, get_or, IfSome};
+ghost use Rattle.std.specs.Prelude.{◌≡◌, ◌<◌, ◌≤◌, ℕ, List, length, take, get_or, IfSome, IfOk};
 ghost use Rattle.clmodel.specs.declared.tree.Function.{Function};
 ghost use Rattle.lower_code.specs.Code.{call_code, result_in};
+ghost use Rattle.lower_code.specs.Helpers.{EndsKnown};
 ghost use Rattle.lower_code.specs.Emission.{functions_of, inside, found_code, found_result, found_sites};
 
 use crate::holes::Helpers;
 use clmodel::tree::Function;
+use std::alloc::{AllocError, Global};
 
 /// A function, and how many are before it.
 #[derive(Clone, Copy)]
@@ -48,4 +50,27 @@ pub fn find<'a>(helpers: Helpers<'a>, name: u32) -> Option<Found<'a>>
         }
     }
     None
+}
+
+/// One more than the greatest number of a function's name.
+fn name_end(functions: &[Function]) -> usize
+    ensures { (i : ℕ) (f : Function) → i < length functions.now → f ≡ get_or functions.now i f → f.name < result }
+{
+    let mut end = 0;
+    for function in functions {
+        end = end.max(function.name as usize + 1);
+    }
+    end
+}
+
+/// The end of each name among functions: how many of them there are up to the last that has it, and 0 where none has it. Err if out
+/// of memory.
+pub fn ends_of(alloc: Global, functions: &[Function]) -> Result<Vec<usize>, AllocError>
+    ensures { IfOk result (λ ends. EndsKnown functions.now ends.items) }
+{
+    let mut ends = vec![in alloc; 0; name_end(functions)]?;
+    for i in 0..functions.len() {
+        ends[functions[i].name as usize] = i + 1;
+    }
+    Ok(ends)
 }

@@ -3,7 +3,7 @@
 
 ghost use Rattle.std.specs.Prelude.{◌≡◌, ◌≤◌, length, take};
 ghost use Rattle.lower_code.specs.Helpers.{BarriersKnown, BarriersCounted, LengthsKnown, LengthsCounted, NodesCounted, EndsKnown};
-ghost use Rattle.lower_code.specs.Room.{FewParameters};
+ghost use Rattle.lower_code.specs.Room.{FewParameters, FewElements};
 
 use crate::known::Known;
 use clmodel::tree::Function;
@@ -25,6 +25,7 @@ pub struct Helpers<'a> {
     pub ghost nodes: { NodesCounted functions.now },
     pub ghost ends_known: { EndsKnown functions.now ends.now },
     pub ghost parameters: { FewParameters functions.now },
+    pub ghost elements: { FewElements functions.now },
 }
 
 impl<'a> Helpers<'a> {

@@ -1,11 +1,12 @@
 //! The register code of statements in which no other statements stand, and of what stands round those that do, with the bodies
 //! of helper functions left out of their calls.
 //!
-//! An error is want of memory, or a number above 32 bits: a register of level 2^28 or above, an array of 2^32 elements, a jump past 2^32
-//! instructions. Code that was lent is only longer then: a draft ends with what was there. A scope that was lent has its variables.
+//! An error is want of memory. Code that was lent is only longer then: a draft ends with what was there. A scope that was lent has its
+//! variables.
 #![tactic(auto)]
 
 pub mod assignments;
+pub mod callees;
 pub mod calls;
 pub mod draft;
 pub mod functions;

@@ -60,10 +60,11 @@ pub fn put_condition(
 
 /// Puts a loop's turn before the code: its body and condition, and the way back.
 fn end_turn<'a>(depth: u32, turn: Draft<'a>, code: &mut Draft<'a>) -> Result<(), AllocError>
+    requires { length turn + 1 < 2 ^ 32 }
     ensures code { OnOk result ((body condition : List Instruction) → turn.entry ≡ body ++ condition → code.new ≡ spec.turn_code depth body condition ++ code.old) }
     ensures longer { OnErr result (GrowsBefore code.old code.new) }
 {
-    let by = turn.past(0)?;
+    let by = turn.past(0);
     code.put(Instruction::Back { by })?;
     code.put_draft(turn)?;
     code.put(Instruction::Turn { depth })
@@ -71,6 +72,7 @@ fn end_turn<'a>(depth: u32, turn: Draft<'a>, code: &mut Draft<'a>) -> Result<(),
 
 /// Puts a loop that begins with its body before the code.
 pub fn end_do<'a>(depth: u32, turn: Draft<'a>, code: &mut Draft<'a>) -> Result<(), AllocError>
+    requires { length turn + 1 < 2 ^ 32 }
     ensures code { OnOk result ((body condition : List Instruction) → turn.entry ≡ body ++ condition → code.new ≡ spec.do_code depth body condition ++ code.old) }
     ensures longer { OnErr result (GrowsBefore code.old code.new) }
 {
@@ -85,11 +87,12 @@ pub fn end_while<'a>(
     turn: Draft<'a>,
     code: &mut Draft<'a>,
 ) -> Result<(), AllocError>
+    requires { length turn + 1 < 2 ^ 32 }
     ensures code { OnOk result ((body condition : List Instruction) → turn.entry ≡ body ++ condition → start ≡ length condition
         → code.new ≡ spec.while_code depth body condition ++ code.old) }
     ensures longer { OnErr result (GrowsBefore code.old code.new) }
 {
-    let by = turn.past(start)?;
+    let by = turn.past(start);
     end_turn(depth, turn, code)?;
     code.put(Instruction::Jump { by })?;
     code.put(Instruction::Enter { depth })

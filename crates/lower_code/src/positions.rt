@@ -1,11 +1,9 @@
 //! Where a statement stands.
 #![tactic(auto)]
 
-ghost use Rattle.std.specs.Prelude.{◌≡◌, IfOk};
+ghost use Rattle.std.specs.Prelude.{◌≡◌, ◌+◌, ◌<◌, ◌^◌};
 ghost use Rattle.lower_code.specs.Code as spec;
 ghost use Rattle.lower_code.specs.Emission.{exits_of};
-
-use std::alloc::AllocError;
 
 /// How far behind the end of a statement's code its other ends are.
 #[derive(Clone, Copy)]
@@ -16,26 +14,30 @@ pub struct Exits {
 }
 
 impl Exits {
-    /// The exits from `count` instructions earlier. Err where one is too far.
-    pub fn past(self, count: u32) -> Result<Exits, AllocError>
-        ensures { IfOk result (λ exits. exits_of exits ≡ spec.past count (exits_of self)) }
+    /// The exits from `count` instructions earlier.
+    pub fn past(self, count: u32) -> Exits
+        requires broken { count + self.broken < 2 ^ 32 }
+        requires continued { count + self.continued < 2 ^ 32 }
+        requires returned { count + self.returned < 2 ^ 32 }
+        ensures { exits_of result ≡ spec.past count (exits_of self) }
     {
-        Ok(Exits {
-            broken: count.checked_add(self.broken).ok_or(AllocError)?,
-            continued: count.checked_add(self.continued).ok_or(AllocError)?,
-            returned: count.checked_add(self.returned).ok_or(AllocError)?,
-        })
+        Exits {
+            broken: count + self.broken,
+            continued: count + self.continued,
+            returned: count + self.returned,
+        }
     }
 
-    /// The exits of a part of a loop, behind which stand `rest` instructions of it. Err where one is too far.
-    pub fn in_loop(self, rest: u32) -> Result<Exits, AllocError>
-        ensures { IfOk result (λ exits. exits_of exits ≡ spec.body_exits rest (exits_of self)) }
+    /// The exits of a part of a loop, behind which stand `rest` instructions of it.
+    pub fn in_loop(self, rest: u32) -> Exits
+        requires { rest + self.returned < 2 ^ 32 }
+        ensures { exits_of result ≡ spec.body_exits rest (exits_of self) }
     {
-        Ok(Exits {
+        Exits {
             broken: rest,
             continued: 0,
-            returned: rest.checked_add(self.returned).ok_or(AllocError)?,
-        })
+            returned: rest + self.returned,
+        }
     }
 }
 

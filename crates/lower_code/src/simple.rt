@@ -6,10 +6,12 @@
 ghost use Rattle.std.specs.Prelude.{◌≡◌, ◌+◌, ◌<◌, ◌≤◌, ◌^◌, ◌++◌, true, OnOk, OnErr};
 ghost use Rattle.clmodel.specs.Next.{sites};
 ghost use Rattle.clmodel.specs.Tree.{stmt};
+ghost use Rattle.clmodel.specs.Typing.Rules.{length_limit};
 ghost use Rattle.clmodel.specs.Typing.Sizes.{size, node_limit};
 ghost use Rattle.lower_code.specs.Emission.{inside, sizes_in, is_declaration, is_assignment, is_jump, statement_code};
 ghost use Rattle.lower_code.specs.Growth.{GrowsBefore};
 ghost use Rattle.lower_code.specs.Room.{levels};
+ghost use Rattle.lower_code.specs.Variables.{elements};
 ghost use Rattle.lower_expr.specs.Scope.{free_level};
 
 use crate::assignments::{assign, call_statement, compound, declare_as, put_step};
@@ -36,6 +38,7 @@ pub fn emit_declaration<'a>(
     requires few { position.site + sites (inside setting.now.helpers.functions.now) (stmt statement.now) < 2 ^ 32 }
     requires small { position.depth + (size (sizes_in setting.now.helpers.functions.now) (stmt statement.now)).nodes ≤ node_limit }
     requires low { free_level scope.old + levels (size (sizes_in setting.now.helpers.functions.now) (stmt statement.now)).nodes < 2 ^ 28 }
+    requires arrays { elements (stmt statement.now) ≤ length_limit }
     ensures code { OnOk result (code.new ≡ statement_code setting.now scope.old (stmt statement.now) position ++ code.old) }
     ensures scope { scope.new ≡ scope.old }
     ensures longer { OnErr result (GrowsBefore code.old code.new) }

@@ -1,9 +1,10 @@
 //! The variables of blocks and of functions, and the registers that they are given.
 #![tactic(auto, using(crate::proofs::Growth::unchanged, crate::proofs::Growth::before, crate::proofs::Growth::one_before))]
 
-ghost use Rattle.std.specs.Prelude.{◌≡◌, ◌+◌, ◌<◌, ◌≤◌, ◌^◌, ◌++◌, [], ◌∷◌, drop, length, IfOk, OnOk, OnErr};
+ghost use Rattle.std.specs.Prelude.{◌≡◌, ◌+◌, ◌<◌, ◌≤◌, ◌^◌, ◌++◌, [], ◌∷◌, drop, length, OnOk, OnErr};
 ghost use Rattle.clmodel.specs.Tree as tree;
 ghost use Rattle.clmodel.specs.Tree.{stmt};
+ghost use Rattle.clmodel.specs.Typing.Rules.{length_limit};
 ghost use Rattle.regcode.specs.declared.instruction.Instruction.TheVariants as instruction;
 ghost use Rattle.lower_expr.specs.Scope.{Scope, free_level, register_at};
 ghost use Rattle.lower_code.specs.Variables as spec;
@@ -13,19 +14,17 @@ ghost use Rattle.lower_code.specs.Growth.{GrowsBefore, KeepsOuter};
 use crate::draft::Draft;
 use clmodel::tree::{AddressSpace, Parameter, PointerType, Statement, VariableType};
 use clnum::{IntType, Value};
-use lower_expr::scope::{Scope, level_at, register_at, word};
+use lower_expr::scope::{Scope, level_at, register_at};
 use regcode::Instruction;
 use std::alloc::AllocError;
 
-/// How many elements an array has, by the number in its brackets. Err where there are too many.
-fn array_length(length: Value) -> Result<u32, AllocError>
-    ensures { IfOk result (λ count. count ≡ tree.array_length length) }
+/// How many elements an array has, by the number in its brackets.
+fn array_length(length: Value) -> u32
+    requires { tree.array_length length ≤ length_limit }
+    ensures { result ≡ tree.array_length length }
 {
     let number = length.number();
-    if number < 0 {
-        return Ok(0);
-    }
-    word(number as usize)
+    if number < 0 { 0 } else { number as u32 }
 }
 
 /// The type of the variable that points to a local array.
@@ -47,17 +46,19 @@ fn declare_array(
     name: u32,
     length: Value,
 ) -> Result<(), AllocError>
+    requires { tree.array_length length ≤ length_limit }
     ensures declared { OnOk result (scope.new ≡ record scope.old { variables = spec.array_variable is_local element (tree.array_length length) name ∷ scope.old.variables }) }
     ensures err { OnErr result (scope.new ≡ scope.old) }
 {
     if is_local {
         return scope.declare(name, local_pointer(element));
     }
-    scope.declare_array(name, element, array_length(length)?)
+    scope.declare_array(name, element, array_length(length))
 }
 
 /// Declares the variable of a declaration.
 fn declare(scope: &mut Scope, statement: &Statement) -> Result<(), AllocError>
+    requires { spec.elements (stmt statement.now) ≤ length_limit }
     ensures declared { OnOk result (scope.new ≡ spec.scope_after scope.old (stmt statement.now)) }
     ensures err { OnErr result (scope.new ≡ scope.old) }
 {
@@ -76,6 +77,7 @@ fn declare(scope: &mut Scope, statement: &Statement) -> Result<(), AllocError>
 
 /// Declares the variable of a part of a `for`.
 pub fn declare_part(scope: &mut Scope, part: Option<&Statement>) -> Result<(), AllocError>
+    requires { spec.part_elements (part_of part) ≤ length_limit }
     ensures declared { OnOk result (scope.new ≡ spec.scope_after_part scope.old (part_of part.entry)) }
     ensures err { OnErr result (scope.new ≡ scope.old) }
 {
@@ -88,6 +90,7 @@ pub fn declare_part(scope: &mut Scope, part: Option<&Statement>) -> Result<(), A
 /// Declares the variables of statements.
 #[tactic(auto, using(crate::proofs::Growth::after_statements))]
 pub fn declare_all(scope: &mut Scope, statements: &[Statement]) -> Result<(), AllocError>
+    requires { spec.row_elements (all_of statements.now) ≤ length_limit }
     ensures declared { OnOk result (scope.new ≡ spec.scope_after_all scope.old (all_of statements.now)) }
     ensures kept { OnErr result (KeepsOuter scope.old scope.new) }
 {
@@ -199,7 +202,8 @@ pub fn put_array(
     size: Value,
     code: &mut Draft<'_>,
 ) -> Result<(), AllocError>
-    requires { free_level scope.now < 2 ^ 28 }
+    requires low { free_level scope.now < 2 ^ 28 }
+    requires arrays { tree.array_length size ≤ length_limit }
     ensures code { OnOk result (code.new ≡ spec.array_code is_local element (tree.array_length size) (length scope.now.variables) (free_level scope.now) ++ code.old) }
     ensures longer { OnErr result (GrowsBefore code.old code.new) }
 {
@@ -214,7 +218,7 @@ pub fn put_array(
         });
     }
     let to = register_at(array, VariableType::Integer(element));
-    let length = array_length(size)?;
+    let length = array_length(size);
     code.put(Instruction::UnsetArray { array, length })?;
     code.put(Instruction::Unset { to })
 }

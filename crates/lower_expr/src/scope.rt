@@ -1,7 +1,7 @@
 //! The variables in scope, and the registers of values.
 #![tactic(auto)]
 
-ghost use Rattle.std.specs.Prelude.{◌≡◌, ℕ, ◌+◌, ◌<◌, ◌≤◌, ◌^◌, [], ◌∷◌, None, length, drop, IfOk, OnOk, OnErr};
+ghost use Rattle.std.specs.Prelude.{◌≡◌, ℕ, ◌+◌, ◌<◌, ◌≤◌, ◌^◌, [], ◌∷◌, None, length, drop, OnOk, OnErr};
 ghost use Rattle.clmodel.specs.Next as next;
 ghost use Rattle.lower_expr.specs.Scope as spec;
 ghost use Rattle.lower_expr.specs.Expressions as expressions;
@@ -30,16 +30,6 @@ pub fn register_at(level: u32, kind: VariableType) -> u32
     ensures { result ≡ spec.register_at level kind }
 {
     16 * level + kind_number(kind)
-}
-
-/// A count as a number of 32 bits. Err where it is 2^32 or above.
-pub fn word(count: usize) -> Result<u32, AllocError>
-    ensures { IfOk result (λ word. word ≡ count) }
-{
-    if count > u32::MAX as usize {
-        return Err(AllocError);
-    }
-    Ok(count as u32)
 }
 
 /// The level `count` above another.

@@ -5,9 +5,9 @@ use Rattle.clmodel.specs.Tree.{func}
 use Rattle.clmodel.specs.Typing.Functions.{size_of}
 use Rattle.clmodel.specs.Typing.Sizes.{node_limit}
 use Rattle.clmodel.specs.declared.lookup.PlacedFunction.{PlacedFunction}
-use Rattle.lower_code.specs.Room.{FewParameters}
+use Rattle.lower_code.specs.Room.{FewParameters, FewElements}
 use Rattle.lower_code.specs.Helpers.{functions_of, NodesCounted, BarriersKnown, BarriersCounted, LengthsKnown, LengthsCounted, EndsKnown}
-use Rattle.lower_code.proofs.Tables.{nodes_before, parameters_before}
+use Rattle.lower_code.proofs.Tables.{nodes_before, parameters_before, elements_before}
 use Rattle.lower.proofs.kernels.emit_kernel.Goals as goal
 
 pub invariant_of-helpers : goal.invariant_of-helpers
@@ -23,6 +23,7 @@ invariant_of-helpers c =
       counted = subst (λ ks. BarriersCounted before ks) (sym c.as_slice-2.ensures.value) c.in_ok-known.ensures.counted;
       nodes = nodes_before functions place within (subst NodesCounted (sym same) c.requires.nodes);
       parameters = parameters_before functions place within (subst FewParameters (sym same) c.requires.parameters);
+      elements = elements_before functions place within (subst FewElements (sym same) c.requires.elements);
       ends_known = subst (λ es. EndsKnown before es) (sym c.as_slice-3.ensures.value) c.in_ok-ends.ensures;
       measured = subst (λ ks. LengthsCounted before ks) (sym c.as_slice-2.ensures.value) c.in_ok-known.ensures.measured;
       lengths = subst (λ ks. LengthsKnown before ks) (sym c.as_slice-2.ensures.value) c.in_ok-known.ensures.lengths;
@@ -38,6 +39,11 @@ known_of_all-requires-clause-parameters c =
     let same = c.as_slice-functions.ensures.value in
     parameters_before c.as_slice-functions.result.now c.in-Some.found.place (omega (arith, c.in-Some.ensures.within, ap length same)) (subst FewParameters (sym same) c.requires.parameters)
 
+pub known_of_all-requires-clause-elements : goal.known_of_all-requires-clause-elements
+known_of_all-requires-clause-elements c =
+    let same = c.as_slice-functions.ensures.value in
+    elements_before c.as_slice-functions.result.now c.in-Some.found.place (omega (arith, c.in-Some.ensures.within, ap length same)) (subst FewElements (sym same) c.requires.elements)
+
 pub emit_function-requires : goal.emit_function-requires
 emit_function-requires c =
     let f = func c.in-Some.found.function.now in
@@ -47,4 +53,5 @@ emit_function-requires c =
       few = subst (λ fs. all_sites (sites_in fs) f.body < 2 ^ 32) (sym before) (c.requires.few f there);
       small = subst (λ fs. (size_of fs f).nodes ≤ node_limit) (sym before) (c.requires.small f there);
       parameters = c.requires.arguments f there;
+      arrays = c.requires.arrays f there;
     }

@@ -1,8 +1,8 @@
 use Rattle.std.proofs.Common.{refl}
 use Rattle.std.proofs.lemmas.Bool.{false≢true}
 use Rattle.clmodel.specs.Tree.{program}
-use Rattle.lower.proofs.Lowered.{few_barriers, few_nodes, few_arguments, never_rejected, lists_lowered, lists_same}
-use Rattle.lower.proofs.Named.{nodes_counted, few_parameters}
+use Rattle.lower.proofs.Lowered.{few_barriers, few_nodes, few_arguments, small_arrays, never_rejected, lists_lowered, lists_same}
+use Rattle.lower.proofs.Named.{nodes_counted, few_parameters, few_elements}
 use Rattle.lower.proofs.lowering.lower_kernel.Goals as goal
 
 pub list_kernel-requires : goal.list_kernel-requires
@@ -15,7 +15,9 @@ list_kernel-requires c =
       small = few_nodes p c.args.number c.typed_kernels_are_short.ensures typed;
       nodes = nodes_counted p functions refl typed;
       parameters = few_parameters p functions refl typed;
+      elements = few_elements p functions refl typed;
       arguments = few_arguments p c.args.number typed;
+      arrays = small_arrays p c.args.number typed;
     }
 
 pub unreachable-requires : goal.unreachable-requires

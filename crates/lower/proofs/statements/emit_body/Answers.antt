@@ -4,7 +4,9 @@ use Rattle.lower_expr.specs.Scope.{Scope, free_level}
 use Rattle.lower_code.specs.Code.{parameter_variables}
 use Rattle.lower_code.specs.Emission.{sizes_in}
 use Rattle.lower_code.specs.Trees.{all_of}
+use Rattle.lower_code.proofs.Short.{no_value_short}
 use Rattle.lower.proofs.LowKernels.{parameters_counted}
+use Rattle.lower.proofs.Reach.{put_length}
 use Rattle.lower.proofs.Rounds.{body_placed}
 use Rattle.lower.proofs.statements.emit_body.Goals as goal
 
@@ -12,10 +14,10 @@ pub returns-clause-code : goal.returns-clause-code
 returns-clause-code c =
     let one = c.put_no_value.new.code in
     body_placed c.args.helpers.functions.now c.args.function.now c.args.level c.args.depth c.args.site c.in_ok-emit_all.field-0 c.site_behind_all-behind.result c.declare_parameters.new.scope c.as_slice-body.result.now
-    c.in_ok-added.field-0 c.args.code.now one c.emit_all.new.code
+    c.added.result c.args.code.now one c.emit_all.new.code
     c.as_slice-body.ensures.value c.site_behind_all-behind.ensures c.in_ok-emit_all.ensures.site
     (c.in_ok-declare_parameters.ensures.declared ∙ ap₂ (λ (z : Scope) ps. record z { variables = parameter_variables ps z.variables }) c.new-scope.ensures c.as_slice.ensures.value)
-    c.in_ok-put_no_value.ensures.code (c.in_ok-added.ensures ∙ ap (λ n. length one - n) c.len-end.ensures) c.in_ok-emit_all.ensures.code
+    c.in_ok-put_no_value.ensures.code (c.added.ensures ∙ ap (λ n. length one - n) c.len-end.ensures) c.in_ok-emit_all.ensures.code
 
 pub emit_all-requires-clause-low : goal.emit_all-requires-clause-low
 emit_all-requires-clause-low c =
@@ -28,3 +30,20 @@ emit_all-requires-clause-low c =
     ap (λ ss. (row_size (sizes_in c.args.helpers.functions.now) (all_of ss)).nodes) c.as_slice-body.ensures.value in
     let low = c.requires.low in
     omega (arith, level, count, nodes, low)
+
+pub emit_all-requires-clause-short : goal.emit_all-requires-clause-short
+emit_all-requires-clause-short c =
+    let one = c.put_no_value.new.code in
+    let end = put_length c.args.code.now one (no_value_short c.args.function.now.result c.args.level) c.in_ok-put_no_value.ensures.code in
+    let added : c.added.result ≡ length one - length c.args.code.now = c.added.ensures ∙ ap (λ n. length one - n) c.len-end.ensures in
+    let nodes : (row_size (sizes_in c.args.helpers.functions.now) (all_of c.as_slice-body.result.now)).nodes ≡ (row_size (sizes_in c.args.helpers.functions.now) (all_of c.args.function.now.body.items)).nodes =
+    ap (λ ss. (row_size (sizes_in c.args.helpers.functions.now) (all_of ss)).nodes) c.as_slice-body.ensures.value in
+    let small = c.requires.small in
+    let far = c.requires.short in
+    omega (arith, end, added, nodes, small, far)
+
+pub added-requires : goal.added-requires
+added-requires c =
+    let end = put_length c.args.code.now c.put_no_value.new.code (no_value_short c.args.function.now.result c.args.level) c.in_ok-put_no_value.ensures.code in
+    let far = c.requires.short in
+    omega (arith, end, far)

@@ -11,10 +11,10 @@ pub returns-clause-code : goal.returns-clause-code
 returns-clause-code c =
     on_ok_weaker c.put-2.result (λ h body condition e.
     let size = ap length e ∙ length-append body condition in
-    let by : c.in_ok-by.by ≡ length body + length condition + 1 = omega (arith, c.in_ok-by.ensures, size) in
+    let by : c.past-by.result ≡ length body + length condition + 1 = omega (arith, c.past-by.ensures, size) in
     h ∙ ap (λ xs. instruction.Turn c.args.depth ∷ xs) (c.in_ok-put_draft.ensures.code ∙ ap (λ xs. c.args.turn ++ xs) c.in_ok-put.ensures.code)
-    ∙ ap (λ xs. instruction.Turn c.args.depth ∷ (xs ++ instruction.Back c.in_ok-by.by ∷ c.args.code.now)) e
-    ∙ turn_laid c.args.depth c.in_ok-by.by body condition c.args.code.now by)
+    ∙ ap (λ xs. instruction.Turn c.args.depth ∷ (xs ++ instruction.Back c.past-by.result ∷ c.args.code.now)) e
+    ∙ turn_laid c.args.depth c.past-by.result body condition c.args.code.now by)
     c.put-2.ensures.code
 
 pub returns-in_err-put_draft-clause-longer : goal.returns-in_err-put_draft-clause-longer

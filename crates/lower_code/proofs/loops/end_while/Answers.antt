@@ -11,8 +11,8 @@ pub returns-clause-code : goal.returns-clause-code
 returns-clause-code c =
     on_ok_weaker c.put-2.result (λ h body condition e p.
     let size = ap length e ∙ length-append body condition in
-    let by : c.in_ok-by.by ≡ 1 + length body = omega (arith, c.in_ok-by.ensures, size, p) in
-    h ∙ ap (λ xs. instruction.Enter c.args.depth ∷ xs) (c.in_ok-put.ensures.code ∙ ap (λ xs. instruction.Jump c.in_ok-by.by ∷ xs) (c.in_ok-end_turn.ensures.code body condition e)
+    let by : c.past-by.result ≡ 1 + length body = omega (arith, c.past-by.ensures, size, p) in
+    h ∙ ap (λ xs. instruction.Enter c.args.depth ∷ xs) (c.in_ok-put.ensures.code ∙ ap (λ xs. instruction.Jump c.past-by.result ∷ xs) (c.in_ok-end_turn.ensures.code body condition e)
     ∙ ap (λ n. instruction.Jump n ∷ (turn_code c.args.depth body condition ++ c.args.code.now)) by))
     c.put-2.ensures.code
 

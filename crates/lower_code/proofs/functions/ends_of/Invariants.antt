@@ -1,6 +1,6 @@
 use Rattle.std.proofs.Common.{◌≡◌, ℕ, ◌<◌, get_or, length}
 use Rattle.clmodel.specs.declared.tree.Function.{Function}
-use Rattle.lower.proofs.table.ends_of.Given as goal
+use Rattle.lower_code.proofs.functions.ends_of.Given as goal
 
 abbrev pub invariant-loop-i : goal.invariant-loop-i
 invariant-loop-i l = record {

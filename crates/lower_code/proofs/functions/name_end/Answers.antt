@@ -1,6 +1,6 @@
 use Rattle.std.proofs.Common.{◌≡◌, ◌+◌, ◌<◌, max, arith, rules}
-use Rattle.lower.proofs.Places.{one_further}
-use Rattle.lower.proofs.table.name_end.Goals as goal
+use Rattle.lower_code.proofs.Tables.{one_further}
+use Rattle.lower_code.proofs.functions.name_end.Goals as goal
 
 pub loop-function-preserved : goal.loop-function-preserved
 loop-function-preserved c =
