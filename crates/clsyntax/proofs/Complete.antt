@@ -5,7 +5,7 @@ use Rattle.std.proofs.Common.{◌≡◌, ℕ, suc, ◌≤◌, List, [], ◌∷�
 use Rattle.clmodel.specs.Tree.{Term, Call, Terms, NoTerm, ThenTerm, TargetDereference, CallOnly, Stmts, NoStmt, ThenStmt, MaybeStmt, MaybeTerm}
 use Rattle.clsyntax_lex.specs.declared.token.TokenKind.TheVariants as kinds
 use Rattle.clsyntax_terms.specs.Grammar as grammar
-use Rattle.clsyntax_terms.specs.Grammar.{Placed, put, start, level, tight, prefixed_by, head, Goal, Expr, Arguments, Assignee, Simple, Statement, Initial, Condition, Final, Typing, Declaration, Items, OneParameter, Parameters, Returning, Heading, Program, Reads, number, variable, element, address, bare_call, call, round, operator, cast, prefixed, binary, choice, one_argument, next_argument, variable_target, part, behind_star, assign, step_before, step_behind, bare_call_only, call_only, simple, empty, block, if_only, if_else, while_loop, do_loop, for_loop, no_initial, simple_initial, declared_initial, no_condition, condition, no_final, simple_final, break_only, continue_only, return_only, return_value, integer, pointer, const_pointer, declare, declare_as, array, local_array, no_items, statement, declaration, parameter, first_parameter, next_parameter, kernel, void, typed, bare_heading, heading, no_functions, function}
+use Rattle.clsyntax_terms.specs.Grammar.{Placed, put, start, level, tight, prefixed_by, head, Goal, Expr, Arguments, Assignee, Simple, Statement, Initial, Condition, Final, Typing, Declaration, Items, OneParameter, Parameters, Returning, Heading, Program, Reads, number, variable, element, address, bare_call, call, round, operator, cast, prefixed, binary, choice, one_argument, next_argument, variable_target, element_target, dereference_target, assign, step_before, step_behind, bare_call_only, call_only, simple, empty, block, if_only, if_else, while_loop, do_loop, for_loop, no_initial, simple_initial, declared_initial, no_condition, condition, no_final, simple_final, break_only, continue_only, return_only, return_value, integer, pointer, const_pointer, declare, declare_as, array, local_array, no_items, statement, declaration, parameter, first_parameter, next_parameter, kernel, void, typed, bare_heading, heading, no_functions, function}
 use Rattle.clsyntax_terms.specs.Machine.{Frame, After, Before, Asked, Chosen, InRound, InElement, InAddress, InCall, InPart, InBehind, InStep, InAssign, InDeclare, InReturn, InIf, InWhile, InDo, InInitial, InCondition, InFinal, Then, Otherwise, Turns, DoTurns, ForTurns, InItems, InBlock, InBody, InHead, InProgram, Purpose, ForParameter, ForDeclaration, Mode, Operand, Have, Named, CallOpen, Optional, Item, Begin, Aim, BeginName, Aimed, Ended, Did, AfterTyping, Top, AfterReturning, HeadOpen, WantParameter, AfterParameter, HeadDone, State, in_mode, go, add_parameter, begun}
 use Rattle.clsyntax.proofs.Moves.{Runs, stop, onward, joined, Alike, Meets, meets, meets_then, further, alike_then}
 use Rattle.clsyntax.proofs.Levels.{reach, Follows, infix_follows, question_follows, looser_follows, looser_tight, ends, no_less, operator_step, question_step}
@@ -92,10 +92,10 @@ complete (next_argument {n = n} {m = m} {es = es} {e = e} {qs = qs} r q) = λ u 
     record { before = es; last = e; m = m; from = start qs; same = refl; meets_ = meets_then (meets comma) (complete q _ gs (at_operand (suc n) gs) (no_less 0) f) }
 complete (variable_target {n = n} {x = x} {a = a} {qs = qs}) = λ u s fs w f.
     record { reached = in_mode (BeginName u n a x) fs; run = name_begins a x qs w; alike = begin_alike u n a x fs qs f }
-complete (part {n = n} {x = x} {a = a} {b = b} {ps = ps} r) = λ u s fs w f.
+complete (element_target {n = n} {x = x} {a = a} {b = b} {ps = ps} r) = λ u s fs w f.
     let gs : List Frame = InPart u a x n ∷ fs in
     meets (joined (part_begins a x b ps w) (further (complete r _ gs (at_operand (suc n) gs) (no_less 0) (ends kinds.CloseSquare refl tt)) refl))
-complete (behind_star {n = n} {a = a} {m = o} {e = e} {ps = ps} {qs = qs} r) = λ u s fs w f.
+complete (dereference_target {n = n} {a = a} {m = o} {e = e} {ps = ps} {qs = qs} r) = λ u s fs w f.
     let gs : List Frame = InBehind u a n ∷ fs in
     let inner = complete r (in_mode (Operand (suc n)) gs) gs (at_operand (suc n) gs) (no_less tight) (target_ends (TargetDereference a e) u qs f (λ h. h)) in
     meets_then (meets (star_begins a ps w)) (likewise inner (behind_alike u n o a (start ps) e fs qs f))

@@ -9,7 +9,7 @@ use Rattle.clmodel.specs.declared.tree.VariableType.{VariableType}
 use Rattle.clmodel.specs.Tree.{Term, Variable, Element, ElementAddress, Call, Binary, Choice, Terms, ThenTerm, Target, TargetElement, TargetDereference, Stmt, DeclareAs, Assign, Step, CallOnly, DoWhile, ReturnValue, Return, Stmts, ThenStmt, MaybeStmt, With, MaybeTerm, WithTerm, WithoutTerm}
 use Rattle.clsyntax_lex.specs.declared.token.TokenKind.{TokenKind}
 use Rattle.clsyntax_lex.specs.declared.token.TokenKind.TheVariants as kinds
-use Rattle.clsyntax_terms.specs.Grammar.{Placed, put, start, prefixed_by, infix_of, level, tight, assign_of, Expr, Simple, Declaration, Reads, number, variable, element, address, bare_call, call, round, operator, cast, prefixed, binary, choice, part, behind_star, assign, step_before, bare_call_only, call_only, simple, do_loop, simple_initial, declared_initial, no_condition, condition, simple_final, return_only, return_value, declare_as, declaration}
+use Rattle.clsyntax_terms.specs.Grammar.{Placed, put, start, prefixed_by, infix_of, level, tight, assign_of, Expr, Simple, Declaration, Reads, number, variable, element, address, bare_call, call, round, operator, cast, prefixed, binary, choice, element_target, dereference_target, assign, step_before, bare_call_only, call_only, simple, do_loop, simple_initial, declared_initial, no_condition, condition, simple_final, return_only, return_value, declare_as, declaration}
 use Rattle.clsyntax_terms.specs.Machine.{Frame, After, Before, Asked, Chosen, InRound, InElement, InAddress, InCall, InPart, InBehind, InStep, InAssign, InDeclare, InReturn, InIf, InWhile, InDo, InInitial, InCondition, InFinal, Then, Turns, ForTurns, InItems, Operand, Have, Named, Opened, CastType, AfterAnd, AndName, CallOpen, Optional, Moved, go, Folded, folded, close, on_operand, on_close_round, on_comma, on_close_square, on_colon, end_simple, end_final, ends_simple, end_step, end_declaration, without, on_semicolon, on_assignment, unless_behind, end_expression, asked_level, after_folded, close_call}
 use Rattle.clsyntax.proofs.Levels.{reach, level_low}
 use Rattle.clsyntax.proofs.Stands.{AnExpr, SomeArguments, AnItem, AStatement, ASimple, none_yet, some_yet, arguments_then, Stands, in_items, as_item, as_statement, as_initial, in_then, in_turns, in_for_turns, in_initial, in_condition, in_final, in_if, in_while, in_do, in_return, declared_initially, in_step, in_part, in_behind, in_assign, in_declare, in_after, in_before, in_asked, in_chosen, in_round, in_element, in_address, call_open, in_call, HasExpr, has_expr, HasTarget, has_target, HasStatement, HasEnded, HasClosing, HasAnd, has_and, HasAndName, has_and_name, KeepsFrom, Keeps, Safe, kept}
@@ -132,7 +132,7 @@ address_end : {w qs : List Placed} {fs : List Frame} {m from a b x n c : ℕ} {e
 address_end (has_folded (in_address s) g h f r) = has_expr s (λ l. address (r 0 f))
 
 part_end : {w qs : List Placed} {fs : List Frame} {u : Bool} {m from a x n c : ℕ} {e : Term} → HasFolded w 0 m from e (InPart u a x n ∷ fs) (put (suc n) kinds.CloseSquare c ∷ qs) → HasTarget w u n a (TargetElement a x e) fs qs
-part_end (has_folded (in_part s) g h f r) = has_target s tt (part (r 0 f))
+part_end (has_folded (in_part s) g h f r) = has_target s tt (element_target (r 0 f))
 
 colon_end : {w qs : List Placed} {fs : List Frame} {m from b c : ℕ} {d e : Term} → HasFolded w 0 m from e (Asked b d ∷ fs) (put m kinds.Colon c ∷ qs) → Stands w (AnExpr m) (Chosen b d e ∷ fs) qs
 colon_end (has_folded (in_asked s y q) g h f r) = in_chosen s y q (r 0 f)
@@ -141,7 +141,7 @@ assigned : {w qs : List Placed} {fs : List Frame} {a n m from : ℕ} {p : Target
 assigned (has_folded (in_assign {ps = ps} s i r) g h f q) = record { from = ps; stands = s; reads = assign i r (q 0 f) }
 
 stepped : {w qs : List Placed} {fs : List Frame} {a n b k m from : ℕ} {up : Bool} {e : Term} → HasFolded w 0 m from e (InBehind true a n ∷ InStep b k up ∷ fs) qs → HasEnded w k (Step b (TargetDereference a e) up) fs qs
-stepped (has_folded (in_behind (in_step s i)) g h f r) = record { from = _; stands = s; reads = step_before i (behind_star (r tight h)) }
+stepped (has_folded (in_behind (in_step s i)) g h f r) = record { from = _; stands = s; reads = step_before i (dereference_target (r tight h)) }
 
 -- ---- where a simple statement ends
 
@@ -216,7 +216,7 @@ do_end {n = n} {m = m} {c = d} {e = e} (has_folded {ps = ps} (in_do s q) g h f r
 
 behind_end : {w qs : List Placed} {fs : List Frame} {a n m from c : ℕ} {k : TokenKind} {op : Option BinaryOperator} {e : Term} → HasFolded w 0 m from e (InBehind false a n ∷ fs) (put n k c ∷ qs) → assign_of k ≡ Some op
     → Stands w (AnExpr n) (InAssign a n (TargetDereference a e) op ∷ fs) qs
-behind_end (has_folded (in_behind s) g h f r) i = in_assign s i (behind_star (r tight h))
+behind_end (has_folded (in_behind s) g h f r) i = in_assign s i (dereference_target (r tight h))
 
 abbrev Ending : (m from : ℕ) → Term → List Frame → TokenKind → (w qs : List Placed) → ℕ → Moved → Type 0
 Ending m from e fs kind w qs a x = KeepsFrom w qs (λ k. HasFolded w 0 m from e fs (put k kind a ∷ qs)) x

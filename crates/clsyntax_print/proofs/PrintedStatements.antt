@@ -11,7 +11,7 @@ use Rattle.clmodel.specs.Tree.{Term, Terms, NoTerm, ThenTerm, Target, TargetVari
 use Rattle.clsyntax_lex.specs.declared.token.Token.{Token}
 use Rattle.clsyntax_lex.specs.declared.token.TokenKind.{TokenKind}
 use Rattle.clsyntax_lex.specs.declared.token.TokenKind.TheVariants as kinds
-use Rattle.clsyntax_terms.specs.Grammar.{Placed, put, start, tight, type_of, assign_of, step_of, IsNoElse, Assignee, Simple, Statement, Typing, Declaration, Reads, variable_target, part, behind_star, assign, step_before, step_behind, bare_call_only, call_only, simple, empty, block, if_only, if_else, while_loop, do_loop, for_loop, break_only, continue_only, return_only, return_value, integer, pointer, const_pointer, declare, declare_as, array, local_array}
+use Rattle.clsyntax_terms.specs.Grammar.{Placed, put, start, tight, type_of, assign_of, step_of, IsNoElse, Assignee, Simple, Statement, Typing, Declaration, Reads, variable_target, element_target, dereference_target, assign, step_before, step_behind, bare_call_only, call_only, simple, empty, block, if_only, if_else, while_loop, do_loop, for_loop, break_only, continue_only, return_only, return_value, integer, pointer, const_pointer, declare, declare_as, array, local_array}
 use Rattle.clsyntax.specs.Correct.{tokens}
 use Rattle.clsyntax_lex.specs.Printed.{kinds_of}
 use Rattle.clsyntax_print.specs.Printing.{plain_term, plain_target, plain_stmt, Kinds, assign_kind, step_kind, print_term, print_target, print_type, print_simple, print_stmt}
@@ -38,7 +38,7 @@ target_again (TargetElement at x e) n rest ts s =
       same = ap (TargetElement 0 x) inside.same;
       place = λ qs q. let f = inside.place (put (suc n) kinds.CloseSquare close_.at ∷ qs) (behind_one (suc n) close_ qs q) in
           let opened : List Placed = put n kinds.OpenSquare open_.at ∷ f.placed in
-          record { placed = put n (kinds.Name x) name.at ∷ opened; same = behind_one n name opened (behind_one n open_ f.placed f.same); reads = part f.reads };
+          record { placed = put n (kinds.Name x) name.at ∷ opened; same = behind_one n name opened (behind_one n open_ f.placed f.same); reads = element_target f.reads };
     }
 target_again (TargetDereference at e) n rest ts s =
     let star = first_of_kinds kinds.Star _ ts s in
@@ -48,7 +48,7 @@ target_again (TargetDereference at e) n rest ts s =
       after = inside.after;
       kinds = inside.kinds;
       same = ap (TargetDereference 0) inside.same;
-      place = λ qs q. let f = inside.place qs q in record { placed = put n kinds.Star star.at ∷ f.placed; same = behind_one n star f.placed f.same; reads = behind_star f.reads };
+      place = λ qs q. let f = inside.place qs q in record { placed = put n kinds.Star star.at ∷ f.placed; same = behind_one n star f.placed f.same; reads = dereference_target f.reads };
     }
 
 abbrev pub AgainSimple : (n : ℕ) → Stmt → Kinds → List Token → Type 0

@@ -10,7 +10,7 @@ use Rattle.clmodel.specs.Tree.{Term, Terms, NoTerm, ThenTerm}
 use Rattle.clsyntax_lex.specs.declared.token.TokenKind.{TokenKind}
 use Rattle.clsyntax_lex.specs.declared.token.TokenKind.TheVariants as kinds
 use Rattle.clsyntax_terms.specs.Grammar as grammar
-use Rattle.clsyntax_terms.specs.Grammar.{Placed, start, level, tight, Prefix, Operator, Fetch, Convert, prefixed_by, prefix_of, infix_of, type_of, assign_of, step_of, with_body, Goal, Expr, Arguments, Assignee, Simple, Statement, Typing, Declaration, Items, OneParameter, Parameters, Heading, Program, Reads, number, variable, element, address, bare_call, call, round, operator, cast, prefixed, binary, choice, one_argument, next_argument, variable_target, part, behind_star, assign, step_before, step_behind, bare_call_only, call_only, simple, empty, block, if_only, if_else, while_loop, do_loop, for_loop, no_initial, simple_initial, declared_initial, no_condition, condition, no_final, simple_final, break_only, continue_only, return_only, return_value, integer, pointer, const_pointer, declare, declare_as, array, local_array, no_items, statement, declaration, parameter, first_parameter, next_parameter, kernel, void, typed, bare_heading, heading, no_functions, function}
+use Rattle.clsyntax_terms.specs.Grammar.{Placed, start, level, tight, Prefix, Operator, Fetch, Convert, prefixed_by, prefix_of, infix_of, type_of, assign_of, step_of, with_body, Goal, Expr, Arguments, Assignee, Simple, Statement, Typing, Declaration, Items, OneParameter, Parameters, Heading, Program, Reads, number, variable, element, address, bare_call, call, round, operator, cast, prefixed, binary, choice, one_argument, next_argument, variable_target, element_target, dereference_target, assign, step_before, step_behind, bare_call_only, call_only, simple, empty, block, if_only, if_else, while_loop, do_loop, for_loop, no_initial, simple_initial, declared_initial, no_condition, condition, no_final, simple_final, break_only, continue_only, return_only, return_value, integer, pointer, const_pointer, declare, declare_as, array, local_array, no_items, statement, declaration, parameter, first_parameter, next_parameter, kernel, void, typed, bare_heading, heading, no_functions, function}
 use Rattle.clsyntax.specs.Correct.{tokens}
 use Rattle.clsyntax_lex.specs.Printed.{kinds_of}
 use Rattle.clsyntax_print.specs.Printing.{Kinds, infix_kind, unary_kind, assign_kind, step_kind, bracketed, print_term, print_terms, print_target, print_type, with_token, print_simple, print_part, print_condition, print_stmt, print_stmts, print_parameter, print_parameters, result_kind, print_func, print_funcs, with_word, words_in, HasWords}
@@ -127,8 +127,8 @@ same_words (one_argument r) = λ rest h. same_words r 0 rest h
 same_words (next_argument {es = es} {e = e} r q) = λ rest h.
     same_words r (kinds.Comma ∷ print_term 0 e rest) (same_words q 0 rest h) ∙ ap words_in (terms_then es e rest (some_argument r))
 same_words (variable_target {x = x}) = λ rest h. name_then x h
-same_words (part {x = x} r) = λ rest h. name_then x (same_words r 0 (kinds.CloseSquare ∷ rest) h)
-same_words (behind_star r) = λ rest h. same_words r tight rest h
+same_words (element_target {x = x} r) = λ rest h. name_then x (same_words r 0 (kinds.CloseSquare ∷ rest) h)
+same_words (dereference_target r) = λ rest h. same_words r tight rest h
 same_words (assign {k = k} {op = op} {e = e} {qs = qs} i r q) = λ rest h.
     let value = same_words q 0 rest h in
     let sign = assign_is_none (assign_kind op) op (words_in (print_term 0 e rest)) (assign_assign k op i) in

@@ -217,10 +217,10 @@ pub data Reads : Goal → List Placed → List Placed → Type 0 where
       → Reads (Expr 0 (suc n) e m) qs rs
       → Reads (Arguments n (ThenTerm es e)) ps rs
   variable_target : {n x a : ℕ} {qs : List Placed} → Reads (Assignee n (TargetVariable a x)) (put n (kinds.Name x) a ∷ qs) qs
-  part : {n x a b c m : ℕ} {e : Term} {ps qs : List Placed}
+  element_target : {n x a b c m : ℕ} {e : Term} {ps qs : List Placed}
       → Reads (Expr 0 (suc n) e m) ps (put (suc n) kinds.CloseSquare c ∷ qs)
       → Reads (Assignee n (TargetElement a x e)) (put n (kinds.Name x) a ∷ put n kinds.OpenSquare b ∷ ps) qs
-  behind_star : {n a m : ℕ} {e : Term} {ps qs : List Placed}
+  dereference_target : {n a m : ℕ} {e : Term} {ps qs : List Placed}
       → Reads (Expr tight (suc n) e m) ps qs
       → Reads (Assignee n (TargetDereference a e)) (put n kinds.Star a ∷ ps) qs
   -- the value's expression begins anew: operators of the target count no more

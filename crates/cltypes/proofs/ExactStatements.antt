@@ -25,11 +25,11 @@ use Rattle.cltypes.proofs.Helpers.{some_type, helper_sound, helper_faultless, va
 -- typed where there is no fault
 
 behind_sound : (c : Context) (a b : ℕ) (e : Term) (k : VariableType) → Types c e k → least (pointer_faults k b ++ store_faults k a) ≡ None → TypesTarget c (tree.TargetDereference a e) (element_kind k)
-behind_sound c a b e (Pointer p) t n = rule.behind (store_sound p a n) t
+behind_sound c a b e (Pointer p) t n = rule.dereference_target (store_sound p a n) t
 behind_sound c a b e (Number u) t n = absurd (some_fault (fault.TypeMismatch b) [] n)
 
 target_sound : (c : Context) (p : Target) → first (target_faults c p) ≡ None → TypesTarget c p (target_kind c p)
-target_sound c (tree.TargetVariable a x) n = rule.whole (whole_sound (meaning c x) a (one_place (whole_faults (meaning c x) a) n))
+target_sound c (tree.TargetVariable a x) n = rule.variable_target (whole_sound (meaning c x) a (one_place (whole_faults (meaning c x) a) n))
 target_sound c (tree.TargetElement a x e) n =
     let m = meaning c x in
     let r = node_split (term_faults c e) (element_target_faults m a ++ integer_faults (kind_of c e) (start e)) n in
@@ -39,7 +39,7 @@ target_sound c (tree.TargetElement a x e) n =
     let w = unless_none (is_stored p.declared) (fault.NotAssignable a) (subst (λ v. least (stored_faults v a) ≡ None) p.is t.1) in
     let u = integer_sound (kind_of c e) (start e) s.1 in
     subst (λ k. TypesTarget c (tree.TargetElement a x e) k) (sym p.kind)
-    (rule.part p.is p.typed w (as_integer c e (kind_of c e) u.0 u.1 (term_sound c e r.0)))
+    (rule.element_target p.is p.typed w (as_integer c e (kind_of c e) u.0 u.1 (term_sound c e r.0)))
 target_sound c (tree.TargetDereference a e) n =
     let r = node_split (term_faults c e) (pointer_faults (kind_of c e) (start e) ++ store_faults (kind_of c e) a) n in
     behind_sound c a (start e) e (kind_of c e) (term_sound c e r.0) r.1
@@ -181,11 +181,11 @@ pub record IsTargetOf (c : Context) (p : Target) (k : VariableType) : Type 0 whe
   pub same : target_kind c p ≡ k
 
 target_complete : (c : Context) (p : Target) (k : VariableType) → TypesTarget c p k → IsTargetOf c p k
-target_complete c _ _ (rule.whole {a = a} {x = x} m) = record {
+target_complete c _ _ (rule.variable_target {a = a} {x = x} m) = record {
   faultless = subst (λ v. first (whole_faults v a ∷ []) ≡ None) (sym m) refl;
   same = ap name_kind m;
 }
-target_complete c _ _ (rule.part {a = a} {x = x} {d = d} {t = t} {u = u} {e = e} m v w h) =
+target_complete c _ _ (rule.element_target {a = a} {x = x} {d = d} {t = t} {u = u} {e = e} m v w h) =
     let r = term_complete c e (Number u) h in
     record {
       faultless = node_joined (term_faults c e) (element_target_faults (meaning c x) a ++ integer_faults (kind_of c e) (start e)) r.faultless
@@ -195,7 +195,7 @@ target_complete c _ _ (rule.part {a = a} {x = x} {d = d} {t = t} {u = u} {e = e}
           (subst (λ v. least (integer_faults v (start e)) ≡ None) (sym r.same) refl));
       same = ap front_kind m ∙ ap number_or_int v;
     }
-target_complete c _ _ (rule.behind {a = a} {p = p} {e = e} w h) =
+target_complete c _ _ (rule.dereference_target {a = a} {p = p} {e = e} w h) =
     let r = term_complete c e (Pointer p) h in
     record {
       faultless = node_joined (term_faults c e) (pointer_faults (kind_of c e) (start e) ++ store_faults (kind_of c e) a) r.faultless

@@ -383,11 +383,11 @@ module _ (c : Context) (scope : Scope) (m : Matches c scope) where
           suit_both parameters (terms_code scope level es) (expr_code scope (level + count es) e) (terms_suit level es ks arguments) (expression_suits (level + count es) e k last)
 
     pub target_suits : (level : ℕ) (place : Target) (k : VariableType) → TypesTarget c place k → Suit parameters (target_code scope level place)
-    target_suits level _ _ (rule.whole is) = tt
-    target_suits level _ _ (rule.part {x = x} {d = d} {t = t} {u = u} {e = e} is of stored index) =
+    target_suits level _ _ (rule.variable_target is) = tt
+    target_suits level _ _ (rule.element_target {x = x} {d = d} {t = t} {u = u} {e = e} is of stored index) =
         subst (λ b. Suit parameters (if b then expr_code scope level e else address_code scope level x e)) (sym (m x d is).array)
         (reached_suits level x d e t u is of index (expression_suits level e (Integer u) index) (expression_suits (level + 1) e (Integer u) index))
-    target_suits level _ _ (rule.behind {p = p} {e = e} writable pointer) =
+    target_suits level _ _ (rule.dereference_target {p = p} {e = e} writable pointer) =
         let is = is_as level (kind_of scope e) (Pointer p) (type_is e (Pointer p) pointer) in
         suit_both parameters (expr_code scope level e) (instruction.MovePointer (register_for scope level e) (register_for scope level e) ∷ []) (expression_suits level e (Pointer p) pointer)
         (point_suits parameters (register_for scope level e) (register_for scope level e) (Pointer p) is is refl, tt)

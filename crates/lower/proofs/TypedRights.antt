@@ -121,9 +121,9 @@ module _ (parameters : List VariableType) where
 
 module _ (c : Context) (scope : Scope) (m : Matches c scope) where
   target_type_is : (place : Target) (k : VariableType) → TypesTarget c place k → type_of_target scope place ≡ k
-  target_type_is _ _ (rule.whole {x = x} {k = k} is) = (m x (Single k) is).declared
-  target_type_is _ _ (rule.part {x = x} {d = d} {t = t} is of stored index) = ap (λ k. Integer (base_type k)) (m x d is).declared ∙ ap Integer (element_is d t of)
-  target_type_is _ _ (rule.behind {p = p} {e = e} writable pointer) = ap (λ k. Integer (base_type k)) (type_is c scope m e (Pointer p) pointer)
+  target_type_is _ _ (rule.variable_target {x = x} {k = k} is) = (m x (Single k) is).declared
+  target_type_is _ _ (rule.element_target {x = x} {d = d} {t = t} is of stored index) = ap (λ k. Integer (base_type k)) (m x d is).declared ∙ ap Integer (element_is d t of)
+  target_type_is _ _ (rule.dereference_target {p = p} {e = e} writable pointer) = ap (λ k. Integer (base_type k)) (type_is c scope m e (Pointer p) pointer)
 
   filled : (level : ℕ) (ps : List VariableType) (es : Terms) → AreGiven c ps es → Filled ps (registers_for scope level es)
   filled level ps _ rule.no_argument = filled_none ps
@@ -178,14 +178,14 @@ module _ (c : Context) (scope : Scope) (m : Matches c scope) where
 
     fetch_suits : (level : ℕ) (place : Target) (k : VariableType) → TypesTarget c place k
         → Suit parameters (fetch_code scope place (target_register scope level place) (register_at (level + 1) (type_of_target scope place)))
-    fetch_suits level _ _ (rule.whole {x = x} {k = k} is) = variable_suits c scope m parameters (level + 1) (kind_named scope x) x (Single k) k is refl (m x (Single k) is).declared
-    fetch_suits level _ _ (rule.part {x = x} {d = d} {t = t} {u = u} {e = e} is of stored index) =
+    fetch_suits level _ _ (rule.variable_target {x = x} {k = k} is) = variable_suits c scope m parameters (level + 1) (kind_named scope x) x (Single k) k is refl (m x (Single k) is).declared
+    fetch_suits level _ _ (rule.element_target {x = x} {d = d} {t = t} {u = u} {e = e} is of stored index) =
         let target = register_at (level + 1) (Integer (type_of_elements scope x)) in
         let there = register_for scope level e in
         let pointer = register_at level (kind_named scope x) in
         subst (λ b. Suit parameters (if b then private_load scope target x (if b then there else pointer) ∷ [] else instruction.Load target (if b then there else pointer) ∷ [])) (sym (m x d is).array)
         (part_loaded level x d e t u is of index)
-    fetch_suits level _ _ (rule.behind {p = p} {e = e} writable pointer) =
+    fetch_suits level _ _ (rule.dereference_target {p = p} {e = e} writable pointer) =
         let kind = kind_of scope e in
         let same = type_is c scope m e (Pointer p) pointer in (
           load_suits parameters (register_at (level + 1) (Integer (base_type kind))) (register_at level kind) p.element
@@ -195,19 +195,19 @@ module _ (c : Context) (scope : Scope) (m : Matches c scope) where
 
     put_suits : (level from : ℕ) (place : Target) (k r : VariableType) → TypesTarget c place k → Passes k r → Is from r
         → Suit parameters (put_code scope place (target_register scope level place) from)
-    put_suits level from _ _ r (rule.whole {x = x} {k = k} is) passes of =
+    put_suits level from _ _ r (rule.variable_target {x = x} {k = k} is) passes of =
         let there = m x (Single k) is in
         subst (λ o. Suit parameters (hold_code o from (kind_named scope x))) (sym there.register) (
           hold_suits parameters (register_at there.level k) from (kind_named scope x) r (is_as there.level k (kind_named scope x) (sym there.declared)) of
               (subst (λ q. Passes q r) (sym there.declared) passes),
           tt,
         )
-    put_suits level from _ _ _ (rule.part {x = x} {d = d} {t = t} {u = u} {e = e} is of stored index) (rule.integers {u = v}) by =
+    put_suits level from _ _ _ (rule.element_target {x = x} {d = d} {t = t} {u = u} {e = e} is of stored index) (rule.integers {u = v}) by =
         let there = register_for scope level e in
         let pointer = register_at level (kind_named scope x) in
         subst (λ b. Suit parameters (if b then private_store scope x (if b then there else pointer) from ∷ [] else instruction.Store (if b then there else pointer) from ∷ [])) (sym (m x d is).array)
         (part_stored level from x d e t u v is of index by)
-    put_suits level from _ _ _ (rule.behind {p = p} {e = e} writable pointer) (rule.integers {u = u}) of =
+    put_suits level from _ _ _ (rule.dereference_target {p = p} {e = e} writable pointer) (rule.integers {u = u}) of =
         (store_suits parameters (register_for scope level e) from p.element u (is_as level (kind_of scope e) (Pointer p) (type_is c scope m e (Pointer p) pointer)) of, tt)
 
     combine_suits : (level : ℕ) (place : Target) (operator : BinaryOperator) (kind : VariableType) (old right : ℕ) (k j r : VariableType) → TypesTarget c place k → kind ≡ j

@@ -121,10 +121,10 @@ mutual
 
 -- What can be a target, and its type.
 pub data TypesTarget (c : Context) : Target → VariableType → Type 0 where
-  whole : {a x : ℕ} {k : VariableType} → meaning c x ≡ Bound (Single k) → TypesTarget c (tree.TargetVariable a x) k
-  part : {a x : ℕ} {d : Declaration} {t u : IntType} {e : Term}
+  variable_target : {a x : ℕ} {k : VariableType} → meaning c x ≡ Bound (Single k) → TypesTarget c (tree.TargetVariable a x) k
+  element_target : {a x : ℕ} {d : Declaration} {t u : IntType} {e : Term}
       → meaning c x ≡ Bound d → element_type d ≡ Some t → is_stored d ≡ true → Types c e (Number u) → TypesTarget c (tree.TargetElement a x e) (Number t)
-  behind : {a : ℕ} {p : PointerType} {e : Term} → is_writable p ≡ true → Types c e (Pointer p) → TypesTarget c (tree.TargetDereference a e) (Number p.element)
+  dereference_target : {a : ℕ} {p : PointerType} {e : Term} → is_writable p ≡ true → Types c e (Pointer p) → TypesTarget c (tree.TargetDereference a e) (Number p.element)
 
 abbrev pub count : Terms → ℕ
 count NoTerm = 0
