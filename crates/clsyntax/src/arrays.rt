@@ -11,9 +11,9 @@ use clmodel::tree::{AddressSpace, PointerType, Statement, VariableType};
 use clnum::Value;
 use clsyntax_lex::token::{Token, TokenKind};
 use clsyntax_terms::closing::add_declaration;
+use clsyntax_terms::nesting::Nesting;
 use clsyntax_terms::state::{
     Array, ArrayMode, Declared, Frame, Frames, Identifier, Mode, Moved, Purpose, Stack, Step,
-    deeper,
 };
 
 /// Whether the items of a block are in front.
@@ -25,7 +25,7 @@ fn in_block(frames: &Frames) -> bool
 
 /// The square bracket behind a declared name.
 pub(crate) fn on_array(declared: Declared, stack: Stack) -> Moved
-    ensures { Steps result (machine.on_array declared.nesting declared.at declared.kind declared.identifier.at declared.identifier.name (opened stack)) }
+    ensures { Steps result (machine.on_array declared.nesting.0 declared.at declared.kind declared.identifier.at declared.identifier.name (opened stack)) }
 {
     let VariableType::Integer(element) = declared.kind else {
         return Ok(Step::Refused);
@@ -69,9 +69,9 @@ pub(crate) fn on_local_name(
 
 /// The length of an array.
 fn on_length(array: Array, length_at: u32, length: Value, stack: Stack) -> Moved
-    ensures { Steps result (machine.go (suc array.nesting) (machine.ArraySized array.nesting (tree.DeclareArray array.at array.is_local array.element array.identifier.at array.identifier.name length_at length)) (opened stack)) }
+    ensures { Steps result (machine.go (suc array.nesting.0) (machine.ArraySized array.nesting.0 (tree.DeclareArray array.at array.is_local array.element array.identifier.at array.identifier.name length_at length)) (opened stack)) }
 {
-    let Some(inner) = deeper(array.nesting) else {
+    let Some(inner) = array.nesting.deeper() else {
         return Ok(Step::Deep);
     };
     let declaration = Statement::DeclareArray {
@@ -92,10 +92,10 @@ fn on_length(array: Array, length_at: u32, length: Value, stack: Stack) -> Moved
 }
 
 /// The bracket behind an array's length.
-fn on_sized(nesting: u32, statement: Box<Statement>, stack: Stack) -> Moved
-    ensures { Steps result (machine.go (suc nesting) (machine.ArrayClosed nesting (stmt statement.value)) (opened stack)) }
+fn on_sized(nesting: Nesting, statement: Box<Statement>, stack: Stack) -> Moved
+    ensures { Steps result (machine.go (suc nesting.0) (machine.ArrayClosed nesting.0 (stmt statement.value)) (opened stack)) }
 {
-    match deeper(nesting) {
+    match nesting.deeper() {
         Some(inner) => stack.go(inner, Mode::Array(ArrayMode::Closed { nesting, statement })),
         None => Ok(Step::Deep),
     }

@@ -13,12 +13,13 @@ use crate::statements::{begin_controlled, on_item, on_simple};
 use clmodel::tree::{Expression, Statement};
 use clsyntax_lex::token::{Token, TokenKind};
 use clsyntax_terms::closing::{begin_condition, begin_turns};
-use clsyntax_terms::state::{Frame, Frames, Mode, Moved, Purpose, Stack, Step, Turns, deeper};
+use clsyntax_terms::nesting::Nesting;
+use clsyntax_terms::state::{Frame, Frames, Mode, Moved, Purpose, Stack, Step, Turns};
 use std::alloc::AllocError;
 
 /// After `if`.
-pub(crate) fn on_after_if(nesting: u32, at: u32, stack: Stack, kind: TokenKind) -> Moved
-    ensures { Steps result (machine.on_after_if nesting at (opened stack) kind) }
+pub(crate) fn on_after_if(nesting: Nesting, at: u32, stack: Stack, kind: TokenKind) -> Moved
+    ensures { Steps result (machine.on_after_if nesting.0 at (opened stack) kind) }
 {
     match kind {
         TokenKind::OpenRound => stack.open(nesting, Frame::InIf { at, nesting }),
@@ -27,8 +28,8 @@ pub(crate) fn on_after_if(nesting: u32, at: u32, stack: Stack, kind: TokenKind) 
 }
 
 /// After `while`.
-pub(crate) fn on_after_while(nesting: u32, at: u32, stack: Stack, kind: TokenKind) -> Moved
-    ensures { Steps result (machine.on_after_while nesting at (opened stack) kind) }
+pub(crate) fn on_after_while(nesting: Nesting, at: u32, stack: Stack, kind: TokenKind) -> Moved
+    ensures { Steps result (machine.on_after_while nesting.0 at (opened stack) kind) }
 {
     match kind {
         TokenKind::OpenRound => stack.open(nesting, Frame::InWhile { at, nesting }),
@@ -38,13 +39,13 @@ pub(crate) fn on_after_while(nesting: u32, at: u32, stack: Stack, kind: TokenKin
 
 /// After the `while` of a `do`.
 pub(crate) fn on_after_do(
-    nesting: u32,
+    nesting: Nesting,
     at: u32,
     body: Box<Statement>,
     stack: Stack,
     kind: TokenKind,
 ) -> Moved
-    ensures { Steps result (machine.on_after_do nesting at (stmt body.value) (opened stack) kind) }
+    ensures { Steps result (machine.on_after_do nesting.0 at (stmt body.value) (opened stack) kind) }
 {
     match kind {
         TokenKind::OpenRound => stack.open(nesting, Frame::InDo { at, nesting, body }),
@@ -53,22 +54,22 @@ pub(crate) fn on_after_do(
 }
 
 /// After `for`.
-pub(crate) fn on_after_for(nesting: u32, at: u32, stack: Stack, kind: TokenKind) -> Moved
-    ensures { Steps result (machine.on_after_for nesting at (opened stack) kind) }
+pub(crate) fn on_after_for(nesting: Nesting, at: u32, stack: Stack, kind: TokenKind) -> Moved
+    ensures { Steps result (machine.on_after_for nesting.0 at (opened stack) kind) }
 {
     if !matches!(kind, TokenKind::OpenRound) {
         return Ok(Step::Refused);
     }
     let stack = stack.push(Frame::InInitial { at })?;
-    match deeper(nesting) {
+    match nesting.deeper() {
         Some(inner) => stack.go(nesting, Mode::Initial { nesting: inner }),
         None => Ok(Step::Deep),
     }
 }
 
 /// The first semicolon of a `for` without a first part.
-fn no_initial(nesting: u32, stack: Stack) -> Moved
-    ensures { Steps result (machine.no_initial nesting (opened stack)) }
+fn no_initial(nesting: Nesting, stack: Stack) -> Moved
+    ensures { Steps result (machine.no_initial nesting.0 (opened stack)) }
 {
     let Some((frame, stack)) = stack.pop() else {
         return Ok(Step::Refused);
@@ -81,8 +82,8 @@ fn no_initial(nesting: u32, stack: Stack) -> Moved
 }
 
 /// Where the first part of a `for` may begin.
-pub(crate) fn on_initial(nesting: u32, stack: Stack, token: Token) -> Moved
-    ensures { Steps result (machine.on_initial nesting (opened stack) token) }
+pub(crate) fn on_initial(nesting: Nesting, stack: Stack, token: Token) -> Moved
+    ensures { Steps result (machine.on_initial nesting.0 (opened stack) token) }
 {
     let Token { kind, at } = token;
     match kind {
@@ -95,8 +96,8 @@ pub(crate) fn on_initial(nesting: u32, stack: Stack, token: Token) -> Moved
 }
 
 /// The bracket of a `for` without a third part.
-fn no_final(nesting: u32, stack: Stack) -> Moved
-    ensures { Steps result (machine.no_final nesting (opened stack)) }
+fn no_final(nesting: Nesting, stack: Stack) -> Moved
+    ensures { Steps result (machine.no_final nesting.0 (opened stack)) }
 {
     let Some((frame, stack)) = stack.pop() else {
         return Ok(Step::Refused);
@@ -111,8 +112,8 @@ fn no_final(nesting: u32, stack: Stack) -> Moved
 }
 
 /// Where the third part of a `for` may begin.
-pub(crate) fn on_final(nesting: u32, stack: Stack, token: Token) -> Moved
-    ensures { Steps result (machine.on_final nesting (opened stack) token) }
+pub(crate) fn on_final(nesting: Nesting, stack: Stack, token: Token) -> Moved
+    ensures { Steps result (machine.on_final nesting.0 (opened stack) token) }
 {
     match token.kind {
         TokenKind::CloseRound => no_final(nesting, stack),
@@ -195,13 +196,13 @@ fn settle(before_else: bool, statement: Box<Statement>, stack: Stack) -> Result<
 
 /// The `else` behind the statement that an `if` chooses.
 fn begin_otherwise(
-    nesting: u32,
+    nesting: Nesting,
     at: u32,
     condition: Box<Expression>,
     chosen: Box<Statement>,
     stack: Stack,
 ) -> Moved
-    ensures { Steps result (machine.go nesting (machine.Begin (suc nesting)) (machine.Otherwise at (term condition.value) (stmt chosen.value) ∷ opened stack)) }
+    ensures { Steps result (machine.go nesting.0 (machine.Begin (suc nesting.0)) (machine.Otherwise at (term condition.value) (stmt chosen.value) ∷ opened stack)) }
 {
     let otherwise = Frame::Otherwise {
         at,

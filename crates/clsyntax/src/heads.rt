@@ -10,16 +10,17 @@ use crate::arrays::on_local_name;
 use clmodel::tree::{Parameter, PointerType, VariableType};
 use clnum::IntType;
 use clsyntax_lex::token::{Token, TokenKind};
+use clsyntax_terms::nesting::Nesting;
 use clsyntax_terms::state::{
     Declared, Frame, Head, HeadMode, Identifier, Mode, Moved, Purpose, Stack, Step, TypeMode,
 };
 
 /// The nesting of a type's tokens.
-fn nesting_of(wanted: Purpose) -> u32
-    ensures { result ≡ machine.nesting_of (purpose wanted) }
+fn nesting_of(wanted: Purpose) -> Nesting
+    ensures { result.0 ≡ machine.nesting_of (purpose wanted) }
 {
     match wanted {
-        Purpose::Parameter { .. } => 1,
+        Purpose::Parameter { .. } => Nesting(1),
         Purpose::Declaration { nesting, .. } => nesting,
     }
 }
@@ -58,9 +59,10 @@ fn on_parameter_name(takes_size: bool, parameter: Parameter, stack: Stack) -> Mo
     match frame {
         Frame::InHead(mut head) => {
             head.parameters.push(parameter)?;
-            stack
-                .push(Frame::InHead(head))?
-                .go(1, Mode::Head(HeadMode::AfterParameter { takes_size }))
+            stack.push(Frame::InHead(head))?.go(
+                Nesting(1),
+                Mode::Head(HeadMode::AfterParameter { takes_size }),
+            )
         }
         _ => {
             drop(frame);
@@ -140,9 +142,10 @@ fn on_open_brace(at: u32, stack: Stack) -> Moved
         Frame::InHead(head) => {
             let body = Vec::new(stack.alloc);
             let stack = stack.push(Frame::InBody { head, at })?;
+            let nesting = Nesting(1);
             stack
-                .push(Frame::InItems { nesting: 1, body })?
-                .go(0, Mode::Item { nesting: 1 })
+                .push(Frame::InItems { nesting, body })?
+                .go(Nesting(0), Mode::Item { nesting })
         }
         _ => {
             drop(frame);
@@ -156,7 +159,7 @@ fn on_top(stack: Stack, token: Token) -> Moved
     ensures { Steps result (machine.on_top (opened stack) token) }
 {
     let result = match token.kind {
-        TokenKind::Kernel => return stack.go(0, Mode::Head(HeadMode::AfterKernel)),
+        TokenKind::Kernel => return stack.go(Nesting(0), Mode::Head(HeadMode::AfterKernel)),
         TokenKind::Void => None,
         TokenKind::Type(integer) => Some(integer),
         TokenKind::SizeT => Some(IntType::Ulong),
@@ -164,7 +167,7 @@ fn on_top(stack: Stack, token: Token) -> Moved
     };
     let is_kernel = false;
     stack.go(
-        0,
+        Nesting(0),
         Mode::Head(HeadMode::AfterReturning { is_kernel, result }),
     )
 }
@@ -188,7 +191,7 @@ fn open_head(
     let takes_size = !is_kernel;
     stack
         .push(head)?
-        .go(0, Mode::Head(HeadMode::HeadOpen { takes_size }))
+        .go(Nesting(0), Mode::Head(HeadMode::HeadOpen { takes_size }))
 }
 
 /// After what a function returns.
@@ -208,7 +211,7 @@ fn on_after_returning(
         result: returned,
         identifier: Identifier { at: token.at, name },
     };
-    stack.go(0, Mode::Head(named))
+    stack.go(Nesting(0), Mode::Head(named))
 }
 
 /// After `kernel`.
@@ -222,7 +225,7 @@ fn on_after_kernel(stack: Stack, token: Token) -> Moved
         is_kernel: true,
         result: None,
     };
-    stack.go(0, Mode::Head(returning))
+    stack.go(Nesting(0), Mode::Head(returning))
 }
 
 /// In the head of a function.
@@ -244,10 +247,13 @@ pub(crate) fn on_head(mode: HeadMode, stack: Stack, token: Token) -> Moved
             TokenKind::OpenRound,
         ) => { open_head(is_kernel, result, identifier, stack) }
         (HeadMode::HeadOpen { .. } | HeadMode::AfterParameter { .. }, TokenKind::CloseRound) => {
-            stack.go(1, Mode::Head(HeadMode::HeadDone))
+            stack.go(Nesting(1), Mode::Head(HeadMode::HeadDone))
         }
         (HeadMode::AfterParameter { takes_size }, TokenKind::Comma) => {
-            stack.go(1, Mode::Head(HeadMode::WantParameter { takes_size }))
+            stack.go(
+                Nesting(1),
+                Mode::Head(HeadMode::WantParameter { takes_size }),
+            )
         }
         (HeadMode::HeadOpen { takes_size } | HeadMode::WantParameter { takes_size }, kind) => {
             on_typing(Purpose::Parameter { takes_size }, stack, kind)

@@ -18,14 +18,15 @@ use clmodel::tree::{Expression, Statement};
 use clsyntax_lex::token::{Token, TokenKind};
 use clsyntax_terms::closing::on_ended;
 use clsyntax_terms::expressions::{on_have, on_operand};
+use clsyntax_terms::nesting::Nesting;
 use clsyntax_terms::state::{
-    Address, Cast, Frame, Have, Identifier, Mode, Moved, Prefix, Stack, State, Step, deeper,
+    Address, Cast, Frame, Have, Identifier, Mode, Moved, Prefix, Stack, State, Step,
 };
 use std::alloc::Global;
 
 /// After a name in an expression.
-fn on_named(nesting: u32, identifier: Identifier, stack: Stack, token: Token) -> Moved
-    ensures { Steps result (machine.on_named nesting identifier.at identifier.name (opened stack) token) }
+fn on_named(nesting: Nesting, identifier: Identifier, stack: Stack, token: Token) -> Moved
+    ensures { Steps result (machine.on_named nesting.0 identifier.at identifier.name (opened stack) token) }
 {
     match token.kind {
         TokenKind::OpenSquare => stack.open(
@@ -51,13 +52,13 @@ fn on_named(nesting: u32, identifier: Identifier, stack: Stack, token: Token) ->
 
 /// After the type of a cast.
 fn on_cast_type(cast: Cast, stack: Stack, token: Token) -> Moved
-    ensures { Steps result (machine.on_cast_type cast.nesting cast.at cast.target (opened stack) token) }
+    ensures { Steps result (machine.on_cast_type cast.nesting.0 cast.at cast.target (opened stack) token) }
 {
     if !matches!(token.kind, TokenKind::CloseRound) {
         return Ok(Step::Refused);
     }
     let prefix = Prefix::Convert(cast.target);
-    match deeper(cast.nesting) {
+    match cast.nesting.deeper() {
         Some(inner) => stack.want(
             inner,
             Frame::Before {
@@ -70,8 +71,8 @@ fn on_cast_type(cast: Cast, stack: Stack, token: Token) -> Moved
 }
 
 /// After `&`.
-fn on_after_and(nesting: u32, at: u32, stack: Stack, token: Token) -> Moved
-    ensures { Steps result (machine.on_after_and nesting at (opened stack) token) }
+fn on_after_and(nesting: Nesting, at: u32, stack: Stack, token: Token) -> Moved
+    ensures { Steps result (machine.on_after_and nesting.0 at (opened stack) token) }
 {
     let TokenKind::Name(name) = token.kind else {
         return Ok(Step::Refused);
@@ -86,7 +87,7 @@ fn on_after_and(nesting: u32, at: u32, stack: Stack, token: Token) -> Moved
 
 /// After `&` and a name.
 fn on_and_name(address: Address, stack: Stack, token: Token) -> Moved
-    ensures { Steps result (machine.on_and_name address.nesting address.at address.identifier.at address.identifier.name (opened stack) token) }
+    ensures { Steps result (machine.on_and_name address.nesting.0 address.at address.identifier.at address.identifier.name (opened stack) token) }
 {
     match token.kind {
         TokenKind::OpenSquare => stack.open(address.nesting, Frame::InAddress(address)),
@@ -95,8 +96,8 @@ fn on_and_name(address: Address, stack: Stack, token: Token) -> Moved
 }
 
 /// After a statement that only lacks its semicolon.
-fn on_closing(nesting: u32, statement: Box<Statement>, stack: Stack, token: Token) -> Moved
-    ensures { Steps result (machine.on_closing nesting (stmt statement.value) (opened stack) token) }
+fn on_closing(nesting: Nesting, statement: Box<Statement>, stack: Stack, token: Token) -> Moved
+    ensures { Steps result (machine.on_closing nesting.0 (stmt statement.value) (opened stack) token) }
 {
     match token.kind {
         TokenKind::Semicolon => stack.go(nesting, Mode::Did(statement)),

@@ -9,8 +9,9 @@ use clnum::IntType;
 use clsyntax_lex::token::{Token, TokenKind};
 use clsyntax_terms::closing::on_nothing;
 use clsyntax_terms::expressions::{end_call, on_operand};
+use clsyntax_terms::nesting::Nesting;
 use clsyntax_terms::operators::prefix_of;
-use clsyntax_terms::state::{Cast, Frame, Mode, Moved, Stack, Step, deeper};
+use clsyntax_terms::state::{Cast, Frame, Mode, Moved, Stack, Step};
 
 /// Whether an operand or the type of a cast begins with a token.
 fn begins_operand(kind: TokenKind) -> bool
@@ -24,13 +25,13 @@ fn begins_operand(kind: TokenKind) -> bool
 }
 
 /// After a bracket where an operand was wanted: the type of a cast, or an operand.
-pub(crate) fn on_opened(nesting: u32, at: u32, stack: Stack, token: Token) -> Moved
-    ensures { Steps result (machine.on_opened nesting at (opened stack) token) }
+pub(crate) fn on_opened(nesting: Nesting, at: u32, stack: Stack, token: Token) -> Moved
+    ensures { Steps result (machine.on_opened nesting.0 at (opened stack) token) }
 {
     if !begins_operand(token.kind) {
         return Ok(Step::Refused);
     }
-    let Some(inner) = deeper(nesting) else {
+    let Some(inner) = nesting.deeper() else {
         return Ok(Step::Deep);
     };
     match token.kind {
@@ -70,8 +71,8 @@ fn close_call(stack: Stack) -> Moved
 }
 
 /// After the bracket of a call.
-pub(crate) fn on_call_open(nesting: u32, stack: Stack, token: Token) -> Moved
-    ensures { Steps result (machine.on_call_open nesting (opened stack) token) }
+pub(crate) fn on_call_open(nesting: Nesting, stack: Stack, token: Token) -> Moved
+    ensures { Steps result (machine.on_call_open nesting.0 (opened stack) token) }
 {
     match token.kind {
         TokenKind::CloseRound => close_call(stack),
@@ -80,8 +81,8 @@ pub(crate) fn on_call_open(nesting: u32, stack: Stack, token: Token) -> Moved
 }
 
 /// Where an expression is wanted, or a semicolon in its place.
-pub(crate) fn on_optional(nesting: u32, stack: Stack, token: Token) -> Moved
-    ensures { Steps result (machine.on_optional nesting (opened stack) token) }
+pub(crate) fn on_optional(nesting: Nesting, stack: Stack, token: Token) -> Moved
+    ensures { Steps result (machine.on_optional nesting.0 (opened stack) token) }
 {
     match token.kind {
         TokenKind::Semicolon => on_nothing(stack),

@@ -12,7 +12,8 @@ use crate::machine::step;
 use clmodel::text::Name;
 use clmodel::tree::Function;
 use clsyntax_lex::token::{SyntaxFault, Token};
-use clsyntax_terms::state::{Frame, Frames, HeadMode, LIMIT, Mode, State, Step};
+use clsyntax_terms::nesting::LIMIT;
+use clsyntax_terms::state::{Frame, Frames, HeadMode, Mode, State, Step};
 use std::alloc::{AllocError, Global};
 
 /// The state before the first token.
@@ -41,7 +42,7 @@ fn advance(alloc: Global, state: Box<State>, token: Token) -> Result<Box<State>,
         Step::Refused => Err(SyntaxFault::Unexpected { at }),
         Step::Deep => Err(SyntaxFault::TooDeep { at }),
         Step::To { nesting, state } => {
-            if nesting > LIMIT {
+            if nesting.0 > LIMIT {
                 Err(SyntaxFault::TooDeep { at })
             } else {
                 Ok(state)

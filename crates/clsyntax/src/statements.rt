@@ -13,15 +13,16 @@ use crate::heads::on_typing;
 use clmodel::tree::{Expression, Function, Statement, Target};
 use clsyntax_lex::token::{Token, TokenKind};
 use clsyntax_terms::closing::{add_declaration, declaration, end_step};
+use clsyntax_terms::nesting::Nesting;
 use clsyntax_terms::operators::assign_of;
 use clsyntax_terms::state::{
     Aimed, Assign, Call, Declared, FirstName, Frame, HeadMode, Identifier, Mode, Moved, Purpose,
-    Stack, Step, deeper,
+    Stack, Step,
 };
 
 /// After a declared name.
 pub(crate) fn on_declared(declared: Declared, stack: Stack, token: Token) -> Moved
-    ensures { Steps result (machine.on_declared declared.nesting declared.at declared.kind declared.identifier.at declared.identifier.name (opened stack) token) }
+    ensures { Steps result (machine.on_declared declared.nesting.0 declared.at declared.kind declared.identifier.at declared.identifier.name (opened stack) token) }
 {
     match token.kind {
         TokenKind::Assign => stack.want(declared.nesting, Frame::InDeclare(declared)),
@@ -36,8 +37,8 @@ pub(crate) fn on_declared(declared: Declared, stack: Stack, token: Token) -> Mov
 
 /// Where a function ends.
 #[tactic(auto, using(crate::proofs::Lists::funcs_then))]
-fn end_function(nesting: u32, function: Function, stack: Stack) -> Moved
-    ensures { Steps result (machine.end_function nesting (func function) (opened stack)) }
+fn end_function(nesting: Nesting, function: Function, stack: Stack) -> Moved
+    ensures { Steps result (machine.end_function nesting.0 (func function) (opened stack)) }
 {
     let Some((frame, stack)) = stack.pop() else {
         return Ok(Step::Refused);
@@ -63,8 +64,8 @@ fn block_of(at: u32, body: Vec<Statement>) -> Statement
 }
 
 /// Where a block with these statements ends.
-fn end_items(nesting: u32, body: Vec<Statement>, stack: Stack) -> Moved
-    ensures { Steps result (machine.end_items nesting (stmts_of body.items) (opened stack)) }
+fn end_items(nesting: Nesting, body: Vec<Statement>, stack: Stack) -> Moved
+    ensures { Steps result (machine.end_items nesting.0 (stmts_of body.items) (opened stack)) }
 {
     let Some((frame, stack)) = stack.pop() else {
         return Ok(Step::Refused);
@@ -109,10 +110,10 @@ fn on_close_brace(stack: Stack) -> Moved
 }
 
 /// Where a block begins that is a statement.
-fn open_block(nesting: u32, at: u32, stack: Stack) -> Moved
-    ensures { Steps result (machine.go nesting (machine.Item (suc nesting)) (machine.InItems (suc nesting) NoStmt ∷ machine.InBlock at nesting ∷ opened stack)) }
+fn open_block(nesting: Nesting, at: u32, stack: Stack) -> Moved
+    ensures { Steps result (machine.go nesting.0 (machine.Item (suc nesting.0)) (machine.InItems (suc nesting.0) NoStmt ∷ machine.InBlock at nesting.0 ∷ opened stack)) }
 {
-    let Some(inner) = deeper(nesting) else {
+    let Some(inner) = nesting.deeper() else {
         return Ok(Step::Deep);
     };
     let body = Vec::new(stack.alloc);
@@ -126,10 +127,10 @@ fn open_block(nesting: u32, at: u32, stack: Stack) -> Moved
 }
 
 /// The step of a `++` or `--` with which a statement begins.
-fn begin_step(nesting: u32, at: u32, is_increment: bool, stack: Stack) -> Moved
-    ensures { Steps result (machine.go nesting (machine.Aim (suc nesting)) (machine.InStep at nesting is_increment ∷ opened stack)) }
+fn begin_step(nesting: Nesting, at: u32, is_increment: bool, stack: Stack) -> Moved
+    ensures { Steps result (machine.go nesting.0 (machine.Aim (suc nesting.0)) (machine.InStep at nesting.0 is_increment ∷ opened stack)) }
 {
-    let Some(inner) = deeper(nesting) else {
+    let Some(inner) = nesting.deeper() else {
         return Ok(Step::Deep);
     };
     let step = Frame::InStep {
@@ -142,8 +143,8 @@ fn begin_step(nesting: u32, at: u32, is_increment: bool, stack: Stack) -> Moved
 }
 
 /// Where a simple statement may begin.
-pub(crate) fn on_simple(nesting: u32, stack: Stack, token: Token) -> Moved
-    ensures { Steps result (machine.on_simple nesting (opened stack) token) }
+pub(crate) fn on_simple(nesting: Nesting, stack: Stack, token: Token) -> Moved
+    ensures { Steps result (machine.on_simple nesting.0 (opened stack) token) }
 {
     let Token { kind, at } = token;
     match kind {
@@ -170,27 +171,27 @@ pub(crate) fn on_simple(nesting: u32, stack: Stack, token: Token) -> Moved
 }
 
 /// The step of a word that is a statement but for its semicolon.
-fn close_word(nesting: u32, word: Statement, stack: Stack) -> Moved
-    ensures { Steps result (machine.go nesting (machine.Closing nesting (stmt word)) (opened stack)) }
+fn close_word(nesting: Nesting, word: Statement, stack: Stack) -> Moved
+    ensures { Steps result (machine.go nesting.0 (machine.Closing nesting.0 (stmt word)) (opened stack)) }
 {
     let statement = Box::new(stack.alloc, word)?;
     stack.go(nesting, Mode::Closing { nesting, statement })
 }
 
 /// The step of a token before a statement that a frame controls.
-pub(crate) fn begin_controlled(nesting: u32, frame: Frame, stack: Stack) -> Moved
-    ensures { Steps result (machine.go nesting (machine.Begin (suc nesting)) (frame_of frame ∷ opened stack)) }
+pub(crate) fn begin_controlled(nesting: Nesting, frame: Frame, stack: Stack) -> Moved
+    ensures { Steps result (machine.go nesting.0 (machine.Begin (suc nesting.0)) (frame_of frame ∷ opened stack)) }
 {
     let stack = stack.push(frame)?;
-    match deeper(nesting) {
+    match nesting.deeper() {
         Some(inner) => stack.go(nesting, Mode::Begin { nesting: inner }),
         None => Ok(Step::Deep),
     }
 }
 
 /// Where a statement may begin.
-pub(crate) fn on_begin(nesting: u32, stack: Stack, token: Token) -> Moved
-    ensures { Steps result (machine.on_begin nesting (opened stack) token) }
+pub(crate) fn on_begin(nesting: Nesting, stack: Stack, token: Token) -> Moved
+    ensures { Steps result (machine.on_begin nesting.0 (opened stack) token) }
 {
     let Token { kind, at } = token;
     match kind {
@@ -214,8 +215,8 @@ pub(crate) fn on_begin(nesting: u32, stack: Stack, token: Token) -> Moved
 }
 
 /// Where a statement, a declaration or the block's end is wanted.
-pub(crate) fn on_item(nesting: u32, stack: Stack, token: Token) -> Moved
-    ensures { Steps result (machine.on_item nesting (opened stack) token) }
+pub(crate) fn on_item(nesting: Nesting, stack: Stack, token: Token) -> Moved
+    ensures { Steps result (machine.on_item nesting.0 (opened stack) token) }
 {
     let Token { kind, at } = token;
     match kind {
@@ -228,8 +229,8 @@ pub(crate) fn on_item(nesting: u32, stack: Stack, token: Token) -> Moved
 }
 
 /// Where the target of `++` or `--` is wanted.
-pub(crate) fn on_aim(nesting: u32, stack: Stack, token: Token) -> Moved
-    ensures { Steps result (machine.on_aim nesting (opened stack) token) }
+pub(crate) fn on_aim(nesting: Nesting, stack: Stack, token: Token) -> Moved
+    ensures { Steps result (machine.on_aim nesting.0 (opened stack) token) }
 {
     let Token { kind, at } = token;
     match kind {
@@ -265,8 +266,8 @@ fn step_of(kind: TokenKind) -> Option<bool>
 }
 
 /// After the target with which a statement begins.
-fn on_placed(nesting: u32, at: u32, target: Box<Target>, stack: Stack, token: Token) -> Moved
-    ensures { Steps result (machine.on_aimed false nesting at (tree_target target.value) (opened stack) token.kind) }
+fn on_placed(nesting: Nesting, at: u32, target: Box<Target>, stack: Stack, token: Token) -> Moved
+    ensures { Steps result (machine.on_aimed false nesting.0 at (tree_target target.value) (opened stack) token.kind) }
 {
     match assign_of(token.kind) {
         Some(operator) => {
@@ -295,7 +296,7 @@ fn on_placed(nesting: u32, at: u32, target: Box<Target>, stack: Stack, token: To
 
 /// After a name or an element that is a target.
 pub(crate) fn on_aimed(aimed: Aimed, stack: Stack, token: Token) -> Moved
-    ensures { Steps result (machine.on_aimed aimed.is_step aimed.nesting aimed.at (tree_target aimed.target.value) (opened stack) token.kind) }
+    ensures { Steps result (machine.on_aimed aimed.is_step aimed.nesting.0 aimed.at (tree_target aimed.target.value) (opened stack) token.kind) }
 {
     let Aimed {
         is_step,
@@ -314,13 +315,13 @@ pub(crate) fn on_aimed(aimed: Aimed, stack: Stack, token: Token) -> Moved
 /// The step of a call's bracket.
 pub(crate) fn open_call(
     is_statement: bool,
-    nesting: u32,
+    nesting: Nesting,
     identifier: Identifier,
     stack: Stack,
 ) -> Moved
-    ensures { Steps result (machine.go nesting (machine.CallOpen (suc nesting)) (machine.InCall is_statement identifier.at identifier.name nesting NoTerm ∷ opened stack)) }
+    ensures { Steps result (machine.go nesting.0 (machine.CallOpen (suc nesting.0)) (machine.InCall is_statement identifier.at identifier.name nesting.0 NoTerm ∷ opened stack)) }
 {
-    let Some(inner) = deeper(nesting) else {
+    let Some(inner) = nesting.deeper() else {
         return Ok(Step::Deep);
     };
     let arguments = Vec::new(stack.alloc);
@@ -335,7 +336,7 @@ pub(crate) fn open_call(
 
 /// After the name with which a statement, or a target behind `++` or `--`, begins.
 pub(crate) fn on_begin_name(first: FirstName, stack: Stack, token: Token) -> Moved
-    ensures { Steps result (machine.on_begin_name first.is_step first.nesting first.identifier.at first.identifier.name (opened stack) token) }
+    ensures { Steps result (machine.on_begin_name first.is_step first.nesting.0 first.identifier.at first.identifier.name (opened stack) token) }
 {
     let FirstName {
         is_step,

@@ -61,39 +61,39 @@ maybe_statement (Some s) = With (stmt s.value)
 
 abbrev pub purpose : Purpose → machine.Purpose
 purpose (purposes.Parameter takes_size) = machine.ForParameter takes_size
-purpose (purposes.Declaration at nesting) = machine.ForDeclaration at nesting
+purpose (purposes.Declaration at nesting) = machine.ForDeclaration at nesting.0
 
 abbrev pub in_call : Call → machine.Frame
-in_call c = machine.InCall c.is_statement c.identifier.at c.identifier.name c.nesting (terms c.arguments.items)
+in_call c = machine.InCall c.is_statement c.identifier.at c.identifier.name c.nesting.0 (terms c.arguments.items)
 
 abbrev pub frame_of : Frame → machine.Frame
 frame_of (frames.After from operator left) = machine.After from operator (term left.value)
 frame_of (frames.Before at p) = machine.Before at (prefix p)
 frame_of (frames.Asked from condition) = machine.Asked from (term condition.value)
 frame_of (frames.Chosen from condition chosen) = machine.Chosen from (term condition.value) (term chosen.value)
-frame_of (frames.InRound at nesting) = machine.InRound at nesting
-frame_of (frames.InElement i nesting) = machine.InElement i.at i.name nesting
-frame_of (frames.InAddress a) = machine.InAddress a.at a.identifier.at a.identifier.name a.nesting
+frame_of (frames.InRound at nesting) = machine.InRound at nesting.0
+frame_of (frames.InElement i nesting) = machine.InElement i.at i.name nesting.0
+frame_of (frames.InAddress a) = machine.InAddress a.at a.identifier.at a.identifier.name a.nesting.0
 frame_of (frames.InCall call) = in_call call
-frame_of (frames.InPart n) = machine.InPart n.is_step n.identifier.at n.identifier.name n.nesting
-frame_of (frames.InBehind is_step at nesting) = machine.InBehind is_step at nesting
-frame_of (frames.InStep at nesting is_increment) = machine.InStep at nesting is_increment
-frame_of (frames.InAssign a) = machine.InAssign a.at a.nesting (tree_target a.target.value) a.operator
-frame_of (frames.InDeclare d) = machine.InDeclare d.at d.nesting d.kind d.identifier.at d.identifier.name
-frame_of (frames.InReturn at nesting) = machine.InReturn at nesting
-frame_of (frames.InIf at nesting) = machine.InIf at nesting
-frame_of (frames.InWhile at nesting) = machine.InWhile at nesting
-frame_of (frames.InDo at nesting body) = machine.InDo at nesting (stmt body.value)
+frame_of (frames.InPart n) = machine.InPart n.is_step n.identifier.at n.identifier.name n.nesting.0
+frame_of (frames.InBehind is_step at nesting) = machine.InBehind is_step at nesting.0
+frame_of (frames.InStep at nesting is_increment) = machine.InStep at nesting.0 is_increment
+frame_of (frames.InAssign a) = machine.InAssign a.at a.nesting.0 (tree_target a.target.value) a.operator
+frame_of (frames.InDeclare d) = machine.InDeclare d.at d.nesting.0 d.kind d.identifier.at d.identifier.name
+frame_of (frames.InReturn at nesting) = machine.InReturn at nesting.0
+frame_of (frames.InIf at nesting) = machine.InIf at nesting.0
+frame_of (frames.InWhile at nesting) = machine.InWhile at nesting.0
+frame_of (frames.InDo at nesting body) = machine.InDo at nesting.0 (stmt body.value)
 frame_of (frames.InInitial at) = machine.InInitial at
-frame_of (frames.InCondition turns) = machine.InCondition turns.value.at turns.value.nesting (maybe_statement turns.value.initial)
+frame_of (frames.InCondition turns) = machine.InCondition turns.value.at turns.value.nesting.0 (maybe_statement turns.value.initial)
 frame_of (frames.InFinal turns) = machine.InFinal turns.value.at (maybe_statement turns.value.initial) (maybe_term turns.value.condition)
-frame_of (frames.Then at nesting condition) = machine.Then at nesting (term condition.value)
+frame_of (frames.Then at nesting condition) = machine.Then at nesting.0 (term condition.value)
 frame_of (frames.Otherwise at condition chosen) = machine.Otherwise at (term condition.value) (stmt chosen.value)
 frame_of (frames.Turns at condition) = machine.Turns at (term condition.value)
-frame_of (frames.DoTurns at nesting) = machine.DoTurns at nesting
+frame_of (frames.DoTurns at nesting) = machine.DoTurns at nesting.0
 frame_of (frames.ForTurns turns) = machine.ForTurns turns.value.at (maybe_statement turns.value.initial) (maybe_term turns.value.condition) (maybe_statement turns.value.last)
-frame_of (frames.InItems nesting body) = machine.InItems nesting (stmts_of body.items)
-frame_of (frames.InBlock at nesting) = machine.InBlock at nesting
+frame_of (frames.InItems nesting body) = machine.InItems nesting.0 (stmts_of body.items)
+frame_of (frames.InBlock at nesting) = machine.InBlock at nesting.0
 frame_of (frames.InBody head at) = machine.InBody (head_of head) at
 frame_of (frames.InHead head) = machine.InHead (head_of head)
 frame_of (frames.InProgram functions) = machine.InProgram (funcs_of functions.items)
@@ -119,37 +119,37 @@ type_mode_of p (types.AfterElement t) = machine.AfterElement (purpose p) t.space
 type_mode_of p (types.Whole kind) = machine.AfterTyping (purpose p) kind
 
 abbrev pub array_mode_of : ArrayMode → machine.Mode
-array_mode_of (arrays.Named a) = machine.ArrayNamed a.nesting a.at a.is_local a.element a.identifier.at a.identifier.name
-array_mode_of (arrays.Opened a) = machine.ArrayOpened a.nesting a.at a.is_local a.element a.identifier.at a.identifier.name
-array_mode_of (arrays.Sized nesting statement) = machine.ArraySized nesting (stmt statement.value)
-array_mode_of (arrays.Closed nesting statement) = machine.ArrayClosed nesting (stmt statement.value)
+array_mode_of (arrays.Named a) = machine.ArrayNamed a.nesting.0 a.at a.is_local a.element a.identifier.at a.identifier.name
+array_mode_of (arrays.Opened a) = machine.ArrayOpened a.nesting.0 a.at a.is_local a.element a.identifier.at a.identifier.name
+array_mode_of (arrays.Sized nesting statement) = machine.ArraySized nesting.0 (stmt statement.value)
+array_mode_of (arrays.Closed nesting statement) = machine.ArrayClosed nesting.0 (stmt statement.value)
 
 abbrev pub mode_of : Mode → machine.Mode
-mode_of (modes.Operand nesting) = machine.Operand nesting
-mode_of (modes.Have h) = machine.Have h.nesting h.from (term h.value.value)
-mode_of (modes.Named nesting i) = machine.Named nesting i.at i.name
-mode_of (modes.Opened nesting at) = machine.Opened nesting at
-mode_of (modes.CastType c) = machine.CastType c.nesting c.at c.target
-mode_of (modes.AfterAnd nesting at) = machine.AfterAnd nesting at
-mode_of (modes.AndName a) = machine.AndName a.nesting a.at a.identifier.at a.identifier.name
-mode_of (modes.CallOpen nesting) = machine.CallOpen nesting
-mode_of (modes.Optional nesting) = machine.Optional nesting
-mode_of (modes.Item nesting) = machine.Item nesting
-mode_of (modes.Begin nesting) = machine.Begin nesting
-mode_of (modes.Initial nesting) = machine.Initial nesting
-mode_of (modes.Final nesting) = machine.Final nesting
-mode_of (modes.Aim nesting) = machine.Aim nesting
-mode_of (modes.BeginName n) = machine.BeginName n.is_step n.nesting n.identifier.at n.identifier.name
-mode_of (modes.Aimed a) = machine.Aimed a.is_step a.nesting a.at (tree_target a.target.value)
-mode_of (modes.Ended nesting statement) = machine.Ended nesting (stmt statement.value)
-mode_of (modes.Closing nesting statement) = machine.Closing nesting (stmt statement.value)
+mode_of (modes.Operand nesting) = machine.Operand nesting.0
+mode_of (modes.Have h) = machine.Have h.nesting.0 h.from (term h.value.value)
+mode_of (modes.Named nesting i) = machine.Named nesting.0 i.at i.name
+mode_of (modes.Opened nesting at) = machine.Opened nesting.0 at
+mode_of (modes.CastType c) = machine.CastType c.nesting.0 c.at c.target
+mode_of (modes.AfterAnd nesting at) = machine.AfterAnd nesting.0 at
+mode_of (modes.AndName a) = machine.AndName a.nesting.0 a.at a.identifier.at a.identifier.name
+mode_of (modes.CallOpen nesting) = machine.CallOpen nesting.0
+mode_of (modes.Optional nesting) = machine.Optional nesting.0
+mode_of (modes.Item nesting) = machine.Item nesting.0
+mode_of (modes.Begin nesting) = machine.Begin nesting.0
+mode_of (modes.Initial nesting) = machine.Initial nesting.0
+mode_of (modes.Final nesting) = machine.Final nesting.0
+mode_of (modes.Aim nesting) = machine.Aim nesting.0
+mode_of (modes.BeginName n) = machine.BeginName n.is_step n.nesting.0 n.identifier.at n.identifier.name
+mode_of (modes.Aimed a) = machine.Aimed a.is_step a.nesting.0 a.at (tree_target a.target.value)
+mode_of (modes.Ended nesting statement) = machine.Ended nesting.0 (stmt statement.value)
+mode_of (modes.Closing nesting statement) = machine.Closing nesting.0 (stmt statement.value)
 mode_of (modes.Did statement) = machine.Did (stmt statement.value)
-mode_of (modes.AfterIf nesting at) = machine.AfterIf nesting at
-mode_of (modes.AfterWhile nesting at) = machine.AfterWhile nesting at
-mode_of (modes.AfterFor nesting at) = machine.AfterFor nesting at
-mode_of (modes.AfterDo nesting at body) = machine.AfterDo nesting at (stmt body.value)
+mode_of (modes.AfterIf nesting at) = machine.AfterIf nesting.0 at
+mode_of (modes.AfterWhile nesting at) = machine.AfterWhile nesting.0 at
+mode_of (modes.AfterFor nesting at) = machine.AfterFor nesting.0 at
+mode_of (modes.AfterDo nesting at body) = machine.AfterDo nesting.0 at (stmt body.value)
 mode_of (modes.Typing p t) = type_mode_of p t
-mode_of (modes.Declared d) = machine.Declared d.nesting d.at d.kind d.identifier.at d.identifier.name
+mode_of (modes.Declared d) = machine.Declared d.nesting.0 d.at d.kind d.identifier.at d.identifier.name
 mode_of (modes.Array a) = array_mode_of a
 mode_of (modes.Head h) = head_mode_of h
 
@@ -199,7 +199,7 @@ IsDeep (Some x) = limit < x.0
 abbrev pub IsStep : Step → Moved → Type 0
 IsStep Refused m = m ≡ None
 IsStep Deep m = IsDeep m
-IsStep (To nesting state) m = m ≡ Some (nesting, state_of state.value)
+IsStep (To nesting state) m = m ≡ Some (nesting.0, state_of state.value)
 
 -- the step that was made, if memory sufficed
 abbrev pub Steps : Result Step AllocError → Moved → Type 0

@@ -7,19 +7,20 @@ ghost use Rattle.clmodel.specs.Tree.{term, tree_target, stmt, maybe_term, ThenSt
 ghost use Rattle.clsyntax_terms.specs.Machine as machine;
 ghost use Rattle.clsyntax_terms.specs.Views.{opened, frame_of, stmts_of, maybe_statement, Steps};
 
-use crate::state::{Assign, Declared, Frame, Mode, Moved, Part, Stack, Step, Turns, deeper};
+use crate::nesting::Nesting;
+use crate::state::{Assign, Declared, Frame, Mode, Moved, Part, Stack, Step, Turns};
 use clmodel::tree::{Expression, Statement, Target};
 use clsyntax_lex::token::TokenKind;
 use std::alloc::{AllocError, Global};
 
 /// The second part of a `for`, behind the first.
 pub fn begin_condition(
-    nesting: u32,
+    nesting: Nesting,
     at: u32,
     initial: Option<Box<Statement>>,
     stack: Stack,
 ) -> Moved
-    ensures { Steps result (machine.go nesting (machine.Optional nesting) (machine.InCondition at nesting (maybe_statement initial) ∷ opened stack)) }
+    ensures { Steps result (machine.go nesting.0 (machine.Optional nesting.0) (machine.InCondition at nesting.0 (maybe_statement initial) ∷ opened stack)) }
 {
     let turns = Turns {
         at,
@@ -35,57 +36,32 @@ pub fn begin_condition(
 
 /// The third part of a `for`, behind the second.
 fn begin_final(turns: Box<Turns>, condition: Option<Box<Expression>>, stack: Stack) -> Moved
-    ensures { Steps result (machine.go turns.value.nesting (machine.Final turns.value.nesting) (machine.InFinal turns.value.at (maybe_statement turns.value.initial) (maybe_term condition) ∷ opened stack)) }
+    ensures { Steps result (machine.go turns.value.nesting.0 (machine.Final turns.value.nesting.0) (machine.InFinal turns.value.at (maybe_statement turns.value.initial) (maybe_term condition) ∷ opened stack)) }
 {
-    let Turns {
-        at,
-        nesting,
-        initial,
-        last,
-        ..
-    } = Box::into_inner(turns);
-    let turns = Turns {
-        at,
-        nesting,
-        initial,
-        condition,
-        last,
-    };
-    let turns = Box::new(stack.alloc, turns)?;
+    let mut turns = turns;
+    let nesting = turns.nesting;
+    turns.condition = condition;
     let stack = stack.push(Frame::InFinal(turns))?;
     stack.go(nesting, Mode::Final { nesting })
 }
 
 /// The body of a `for`, behind the third part.
 pub fn begin_turns(
-    nesting: u32,
+    nesting: Nesting,
     turns: Box<Turns>,
     last: Option<Box<Statement>>,
     stack: Stack,
 ) -> Moved
-    ensures { Steps result (machine.go nesting (machine.Begin nesting) (machine.ForTurns turns.value.at (maybe_statement turns.value.initial) (maybe_term turns.value.condition) (maybe_statement last) ∷ opened stack)) }
+    ensures { Steps result (machine.go nesting.0 (machine.Begin nesting.0) (machine.ForTurns turns.value.at (maybe_statement turns.value.initial) (maybe_term turns.value.condition) (maybe_statement last) ∷ opened stack)) }
 {
-    let Turns {
-        at,
-        nesting: inner,
-        initial,
-        condition,
-        ..
-    } = Box::into_inner(turns);
-    let turns = Turns {
-        at,
-        nesting: inner,
-        initial,
-        condition,
-        last,
-    };
-    let turns = Box::new(stack.alloc, turns)?;
+    let mut turns = turns;
+    turns.last = last;
     stack.begin(nesting, Frame::ForTurns(turns))
 }
 
 /// The semicolon of a simple statement.
-fn end_simple(nesting: u32, statement: Box<Statement>, stack: Stack) -> Moved
-    ensures { Steps result (machine.end_simple nesting (stmt statement.value) (opened stack)) }
+fn end_simple(nesting: Nesting, statement: Box<Statement>, stack: Stack) -> Moved
+    ensures { Steps result (machine.end_simple nesting.0 (stmt statement.value) (opened stack)) }
 {
     // The frame is looked at before it is taken, since it stays but in front of the second part of a `for`.
     match stack.part() {
@@ -107,8 +83,8 @@ fn end_simple(nesting: u32, statement: Box<Statement>, stack: Stack) -> Moved
 }
 
 /// The bracket behind a simple statement.
-fn end_final(nesting: u32, statement: Box<Statement>, stack: Stack) -> Moved
-    ensures { Steps result (machine.end_final nesting (stmt statement.value) (opened stack)) }
+fn end_final(nesting: Nesting, statement: Box<Statement>, stack: Stack) -> Moved
+    ensures { Steps result (machine.end_final nesting.0 (stmt statement.value) (opened stack)) }
 {
     let Some((frame, stack)) = stack.pop() else {
         return Ok(Step::Refused);
@@ -125,11 +101,11 @@ fn end_final(nesting: u32, statement: Box<Statement>, stack: Stack) -> Moved
 /// The semicolon or the bracket behind a simple statement.
 pub(crate) fn ends_simple(
     is_bracket: bool,
-    nesting: u32,
+    nesting: Nesting,
     statement: Box<Statement>,
     stack: Stack,
 ) -> Moved
-    ensures { Steps result (machine.ends_simple is_bracket nesting (stmt statement.value) (opened stack)) }
+    ensures { Steps result (machine.ends_simple is_bracket nesting.0 (stmt statement.value) (opened stack)) }
 {
     if is_bracket {
         end_final(nesting, statement, stack)
@@ -139,8 +115,8 @@ pub(crate) fn ends_simple(
 }
 
 /// After a simple statement.
-pub fn on_ended(nesting: u32, statement: Box<Statement>, stack: Stack, kind: TokenKind) -> Moved
-    ensures { Steps result (machine.on_ended nesting (stmt statement.value) (opened stack) kind) }
+pub fn on_ended(nesting: Nesting, statement: Box<Statement>, stack: Stack, kind: TokenKind) -> Moved
+    ensures { Steps result (machine.on_ended nesting.0 (stmt statement.value) (opened stack) kind) }
 {
     match kind {
         TokenKind::Semicolon => end_simple(nesting, statement, stack),
@@ -179,7 +155,7 @@ pub fn end_step(is_bracket: bool, target: Box<Target>, stack: Stack) -> Moved
 
 /// Where an assignment of a value ends.
 fn end_assign(is_bracket: bool, assign: Assign, value: Box<Expression>, stack: Stack) -> Moved
-    ensures { Steps result (machine.ends_simple is_bracket assign.nesting (tree.Assign assign.at (tree_target assign.target.value) assign.operator (term value.value)) (opened stack)) }
+    ensures { Steps result (machine.ends_simple is_bracket assign.nesting.0 (tree.Assign assign.at (tree_target assign.target.value) assign.operator (term value.value)) (opened stack)) }
 {
     let Assign {
         at,
@@ -218,13 +194,13 @@ pub fn declaration(
 /// One more declaration of a block.
 #[tactic(auto, using(crate::proofs::Lists::stmts_then))]
 fn add_item(
-    nesting: u32,
-    outer: u32,
+    nesting: Nesting,
+    outer: Nesting,
     body: Vec<Statement>,
     statement: Box<Statement>,
     stack: Stack,
 ) -> Moved
-    ensures { Steps result (machine.go nesting (machine.Item nesting) (machine.InItems outer (ThenStmt (stmts_of body.items) (stmt statement.value)) ∷ opened stack)) }
+    ensures { Steps result (machine.go nesting.0 (machine.Item nesting.0) (machine.InItems outer.0 (ThenStmt (stmts_of body.items) (stmt statement.value)) ∷ opened stack)) }
 {
     let mut body = body;
     body.push(Box::into_inner(statement))?;
@@ -236,8 +212,8 @@ fn add_item(
 }
 
 /// Where a declaration of a block ends.
-pub fn add_declaration(nesting: u32, statement: Box<Statement>, stack: Stack) -> Moved
-    ensures { Steps result (machine.add_declaration nesting (stmt statement.value) (opened stack)) }
+pub fn add_declaration(nesting: Nesting, statement: Box<Statement>, stack: Stack) -> Moved
+    ensures { Steps result (machine.add_declaration nesting.0 (stmt statement.value) (opened stack)) }
 {
     let Some((frame, stack)) = stack.pop() else {
         return Ok(Step::Refused);
@@ -254,8 +230,8 @@ pub fn add_declaration(nesting: u32, statement: Box<Statement>, stack: Stack) ->
 }
 
 /// Where a declaration with a value ends.
-fn end_declaration(nesting: u32, statement: Box<Statement>, stack: Stack) -> Moved
-    ensures { Steps result (machine.end_declaration nesting (stmt statement.value) (opened stack)) }
+fn end_declaration(nesting: Nesting, statement: Box<Statement>, stack: Stack) -> Moved
+    ensures { Steps result (machine.end_declaration nesting.0 (stmt statement.value) (opened stack)) }
 {
     let Some((frame, stack)) = stack.pop() else {
         return Ok(Step::Refused);
@@ -274,8 +250,8 @@ fn end_declaration(nesting: u32, statement: Box<Statement>, stack: Stack) -> Mov
 }
 
 /// Where a value is given back, if there is one.
-fn end_return(nesting: u32, at: u32, value: Option<Box<Expression>>, stack: Stack) -> Moved
-    ensures { Steps result (machine.go nesting (machine.Did (tree.returned at value)) (opened stack)) }
+fn end_return(nesting: Nesting, at: u32, value: Option<Box<Expression>>, stack: Stack) -> Moved
+    ensures { Steps result (machine.go nesting.0 (machine.Did (tree.returned at value)) (opened stack)) }
 {
     let statement = Box::new(stack.alloc, Statement::Return { at, value })?;
     stack.go(nesting, Mode::Did(statement))
@@ -329,10 +305,10 @@ pub fn on_nothing(stack: Stack) -> Moved
 }
 
 /// What a condition in brackets controls.
-fn begin_body(nesting: u32, frame: Frame, stack: Stack) -> Moved
-    ensures { Steps result (machine.go (suc nesting) (machine.Begin (suc nesting)) (frame_of frame ∷ opened stack)) }
+fn begin_body(nesting: Nesting, frame: Frame, stack: Stack) -> Moved
+    ensures { Steps result (machine.go (suc nesting.0) (machine.Begin (suc nesting.0)) (frame_of frame ∷ opened stack)) }
 {
-    match deeper(nesting) {
+    match nesting.deeper() {
         Some(inner) => stack.begin(inner, frame),
         None => {
             drop(frame);
@@ -343,15 +319,15 @@ fn begin_body(nesting: u32, frame: Frame, stack: Stack) -> Moved
 
 /// The bracket behind the condition of a `do`.
 fn end_do(
-    nesting: u32,
+    nesting: Nesting,
     at: u32,
     body: Box<Statement>,
     condition: Box<Expression>,
     stack: Stack,
 ) -> Moved
-    ensures { Steps result (machine.go (suc nesting) (machine.Closing nesting (tree.DoWhile at (stmt body.value) (term condition.value))) (opened stack)) }
+    ensures { Steps result (machine.go (suc nesting.0) (machine.Closing nesting.0 (tree.DoWhile at (stmt body.value) (term condition.value))) (opened stack)) }
 {
-    let Some(inner) = deeper(nesting) else {
+    let Some(inner) = nesting.deeper() else {
         return Ok(Step::Deep);
     };
     let turns = Statement::DoWhile {

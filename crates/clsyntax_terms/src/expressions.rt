@@ -9,16 +9,17 @@ ghost use Rattle.clsyntax_terms.specs.Machine as machine;
 ghost use Rattle.clsyntax_terms.specs.Views.{opened, folded_of, Steps};
 
 use crate::closing::{end_bracket, on_semicolon};
+use crate::nesting::Nesting;
 use crate::operators::{Folded, assign_of, close, infix_of, is_star, prefix_of};
 use crate::state::{
-    Aimed, Assign, Call, FirstName, Frame, Have, Identifier, Mode, Moved, Stack, Step, deeper,
+    Aimed, Assign, Call, FirstName, Frame, Have, Identifier, Mode, Moved, Stack, Step,
 };
 use clmodel::tree::{Expression, InfixOperator, Statement, Target};
 use clsyntax_lex::token::{Token, TokenKind};
 
 /// Where an operand is wanted.
-pub fn on_operand(nesting: u32, stack: Stack, token: Token) -> Moved
-    ensures { Steps result (machine.on_operand nesting (opened stack) token) }
+pub fn on_operand(nesting: Nesting, stack: Stack, token: Token) -> Moved
+    ensures { Steps result (machine.on_operand nesting.0 (opened stack) token) }
 {
     let Token { kind, at } = token;
     match kind {
@@ -41,7 +42,7 @@ pub fn on_operand(nesting: u32, stack: Stack, token: Token) -> Moved
                 },
             )
         }
-        TokenKind::And => match deeper(nesting) {
+        TokenKind::And => match nesting.deeper() {
             Some(inner) => stack.go(nesting, Mode::AfterAnd { nesting: inner, at }),
             None => Ok(Step::Deep),
         },
@@ -65,7 +66,7 @@ fn call_of(called: Identifier, arguments: Vec<Expression>) -> Expression
 
 /// Where a call's bracket closes.
 pub fn end_call(call: Call, stack: Stack) -> Moved
-    ensures { Steps result (machine.end_call call.is_statement call.identifier.at call.identifier.name call.nesting (terms call.arguments.items) (opened stack)) }
+    ensures { Steps result (machine.end_call call.is_statement call.identifier.at call.identifier.name call.nesting.0 (terms call.arguments.items) (opened stack)) }
 {
     let Call {
         is_statement,
@@ -73,7 +74,7 @@ pub fn end_call(call: Call, stack: Stack) -> Moved
         nesting,
         arguments,
     } = call;
-    let Some(inner) = deeper(nesting) else {
+    let Some(inner) = nesting.deeper() else {
         return Ok(Step::Deep);
     };
     if is_statement {
@@ -123,7 +124,7 @@ fn on_comma(value: Box<Expression>, stack: Stack) -> Moved
     };
     match frame {
         Frame::InCall(mut call) => {
-            let Some(inner) = deeper(call.nesting) else {
+            let Some(inner) = call.nesting.deeper() else {
                 return Ok(Step::Deep);
             };
             call.arguments.push(Box::into_inner(value))?;
@@ -138,7 +139,7 @@ fn on_comma(value: Box<Expression>, stack: Stack) -> Moved
 
 /// Where the index of a target ends.
 fn end_part(array: FirstName, index: Box<Expression>, stack: Stack) -> Moved
-    ensures { Steps result (machine.go (suc array.nesting) (machine.Aimed array.is_step array.nesting array.identifier.at (tree.TargetElement array.identifier.at array.identifier.name (term index.value))) (opened stack)) }
+    ensures { Steps result (machine.go (suc array.nesting.0) (machine.Aimed array.is_step array.nesting.0 array.identifier.at (tree.TargetElement array.identifier.at array.identifier.name (term index.value))) (opened stack)) }
 {
     let FirstName {
         is_step,
@@ -147,7 +148,7 @@ fn end_part(array: FirstName, index: Box<Expression>, stack: Stack) -> Moved
     } = array;
     let Identifier { at, name } = identifier;
     let target = Box::new(stack.alloc, Target::Element { at, name, index })?;
-    let Some(inner) = deeper(nesting) else {
+    let Some(inner) = nesting.deeper() else {
         return Ok(Step::Deep);
     };
     let aimed = Aimed {
@@ -194,8 +195,8 @@ fn on_close_square(index: Box<Expression>, stack: Stack) -> Moved
 }
 
 /// Between the two values of a choice.
-fn on_colon(nesting: u32, chosen: Box<Expression>, stack: Stack) -> Moved
-    ensures { Steps result (machine.on_colon nesting (term chosen.value) (opened stack)) }
+fn on_colon(nesting: Nesting, chosen: Box<Expression>, stack: Stack) -> Moved
+    ensures { Steps result (machine.on_colon nesting.0 (term chosen.value) (opened stack)) }
 {
     let Some((frame, stack)) = stack.pop() else {
         return Ok(Step::Refused);
@@ -249,8 +250,8 @@ fn on_assignment(kind: TokenKind, pointer: Box<Expression>, stack: Stack) -> Mov
 }
 
 /// After an expression, at a token that is no operator between two.
-fn end_expression(kind: TokenKind, nesting: u32, folded: Folded) -> Moved
-    ensures { Steps result (machine.end_expression kind nesting (folded_of folded)) }
+fn end_expression(kind: TokenKind, nesting: Nesting, folded: Folded) -> Moved
+    ensures { Steps result (machine.end_expression kind nesting.0 (folded_of folded)) }
 {
     let Folded { from, value, stack } = folded;
     match kind {
@@ -284,7 +285,7 @@ fn asked_level(between: Option<InfixOperator>, kind: TokenKind) -> u32
 
 /// After an expression.
 pub fn on_have(have: Have, stack: Stack, token: Token) -> Moved
-    ensures { Steps result (machine.on_have have.nesting have.from (term have.value.value) (opened stack) token) }
+    ensures { Steps result (machine.on_have have.nesting.0 have.from (term have.value.value) (opened stack) token) }
 {
     let Have {
         nesting,
@@ -292,7 +293,8 @@ pub fn on_have(have: Have, stack: Stack, token: Token) -> Moved
         value,
     } = have;
     let infix = infix_of(token.kind);
-    let folded = close(asked_level(infix, token.kind), from, value, stack)?;
+    let operand = Folded { from, value, stack };
+    let folded = close(asked_level(infix, token.kind), operand)?;
     match infix {
         Some(_) if is_star(&folded.stack.frames) => Ok(Step::Refused),
         Some(operator) => {

@@ -3,5 +3,6 @@
 
 pub mod closing;
 pub mod expressions;
+pub mod nesting;
 pub mod operators;
 pub mod state;

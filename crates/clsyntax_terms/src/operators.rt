@@ -171,23 +171,19 @@ pub(crate) fn is_star(frames: &Frames) -> bool
 }
 
 /// An expression with the prefixes before it, the operators that bind at least so tightly, and, at 0, a choice.
-pub(crate) fn close(
-    least: u32,
-    from: u32,
-    value: Box<Expression>,
-    stack: Stack,
-) -> Result<Folded, AllocError>
-    ensures { IfOk result (λ folded. folded_of folded ≡ machine.close least from (term value.value) (opened stack)) }
+pub(crate) fn close(least: u32, operand: Folded) -> Result<Folded, AllocError>
+    ensures { IfOk result (λ folded. folded_of folded ≡ machine.close least operand.from (term operand.value.value) (opened operand.stack)) }
 {
     // The frame is looked at before it is taken out of its box: it couldn't be put back without memory.
-    if !takes(least, &stack.frames) {
-        return Ok(Folded { from, value, stack });
+    if !takes(least, &operand.stack.frames) {
+        return Ok(operand);
     }
+    let Folded { value, stack, .. } = operand;
     let Frames::Inside(frame, frames) = Box::into_inner(stack.frames) else {
         unreachable!()
     };
     let alloc = stack.alloc;
-    let (from, whole) = match frame {
+    let (from, value) = match frame {
         Frame::After {
             from,
             operator,
@@ -201,5 +197,6 @@ pub(crate) fn close(
         } => (from, choice(alloc, from, condition, chosen, value)?),
         _ => unreachable!(),
     };
-    close(least, from, whole, Stack { alloc, frames })
+    let stack = Stack { alloc, frames };
+    close(least, Folded { from, value, stack })
 }

@@ -1,20 +1,18 @@
 //! What the parser holds between two tokens. A `nesting` is that of the next token, with something open that outside of it.
 #![tactic(auto)]
 
-ghost use Rattle.std.specs.Prelude.{◌≡◌, [], ◌∷◌, suc, ◌<◌, IfOk, MatchOption};
+ghost use Rattle.std.specs.Prelude.{◌≡◌, [], ◌∷◌, suc, IfOk, MatchOption};
 ghost use Rattle.clmodel.specs.Tree.{term};
 ghost use Rattle.clsyntax_terms.specs.Machine as machine;
 ghost use Rattle.clsyntax_terms.specs.Views.{opened, frame_of, mode_of, part_of, Steps};
 
+use crate::nesting::Nesting;
 use clmodel::tree::{
     AddressSpace, Expression, Function, InfixOperator, Parameter, PointerType, Statement, Target,
     VariableType,
 };
 use clnum::{BinaryOperator, IntType, UnaryOperator};
 use std::alloc::{AllocError, Global};
-
-/// How deep tokens may be nested.
-pub const LIMIT: u32 = 64;
 
 /// An identifier in a source: where it begins, and its name, by its place in the table of names.
 #[derive(Clone, Copy)]
@@ -38,13 +36,13 @@ pub enum Prefix {
 pub enum Purpose {
     /// A parameter, which may be of type size_t or not
     Parameter { takes_size: bool },
-    Declaration { at: u32, nesting: u32 },
+    Declaration { at: u32, nesting: Nesting },
 }
 
 /// A type and a name of that type; `at` is where the type begins.
 #[derive(Clone, Copy)]
 pub struct Declared {
-    pub nesting: u32,
+    pub nesting: Nesting,
     pub at: u32,
     pub kind: VariableType,
     pub identifier: Identifier,
@@ -53,7 +51,7 @@ pub struct Declared {
 /// An array's type and name; `at` is where its declaration begins.
 #[derive(Clone, Copy)]
 pub struct Array {
-    pub nesting: u32,
+    pub nesting: Nesting,
     pub at: u32,
     pub is_local: bool,
     pub element: IntType,
@@ -74,7 +72,7 @@ pub struct Head {
 pub struct Call {
     pub is_statement: bool,
     pub identifier: Identifier,
-    pub nesting: u32,
+    pub nesting: Nesting,
     pub arguments: Vec<Expression>,
 }
 
@@ -82,7 +80,7 @@ pub struct Call {
 #[derive(Drop)]
 pub struct Turns {
     pub at: u32,
-    pub nesting: u32,
+    pub nesting: Nesting,
     pub initial: Option<Box<Statement>>,
     pub condition: Option<Box<Expression>>,
     pub last: Option<Box<Statement>>,
@@ -92,7 +90,7 @@ pub struct Turns {
 #[derive(Drop)]
 pub struct Assign {
     pub at: u32,
-    pub nesting: u32,
+    pub nesting: Nesting,
     pub target: Box<Target>,
     pub operator: Option<BinaryOperator>,
 }
@@ -100,7 +98,7 @@ pub struct Assign {
 /// `&name`; `at` is where it begins.
 #[derive(Clone, Copy)]
 pub struct Address {
-    pub nesting: u32,
+    pub nesting: Nesting,
     pub at: u32,
     pub identifier: Identifier,
 }
@@ -109,7 +107,7 @@ pub struct Address {
 #[derive(Clone, Copy)]
 pub struct FirstName {
     pub is_step: bool,
-    pub nesting: u32,
+    pub nesting: Nesting,
     pub identifier: Identifier,
 }
 
@@ -117,7 +115,7 @@ pub struct FirstName {
 #[derive(Drop)]
 pub struct Aimed {
     pub is_step: bool,
-    pub nesting: u32,
+    pub nesting: Nesting,
     pub at: u32,
     pub target: Box<Target>,
 }
@@ -125,7 +123,7 @@ pub struct Aimed {
 /// An expression, and where it begins.
 #[derive(Drop)]
 pub struct Have {
-    pub nesting: u32,
+    pub nesting: Nesting,
     pub from: u32,
     pub value: Box<Expression>,
 }
@@ -133,7 +131,7 @@ pub struct Have {
 /// `(type` of a cast.
 #[derive(Clone, Copy)]
 pub struct Cast {
-    pub nesting: u32,
+    pub nesting: Nesting,
     pub at: u32,
     pub target: IntType,
 }
@@ -166,12 +164,12 @@ pub enum Frame {
     /// `(`
     InRound {
         at: u32,
-        nesting: u32,
+        nesting: Nesting,
     },
     /// `name[` in an expression
     InElement {
         identifier: Identifier,
-        nesting: u32,
+        nesting: Nesting,
     },
     /// `&name[`
     InAddress(Address),
@@ -182,12 +180,12 @@ pub enum Frame {
     InBehind {
         is_step: bool,
         at: u32,
-        nesting: u32,
+        nesting: Nesting,
     },
     /// `++` or `--`
     InStep {
         at: u32,
-        nesting: u32,
+        nesting: Nesting,
         is_increment: bool,
     },
     InAssign(Assign),
@@ -196,22 +194,22 @@ pub enum Frame {
     /// `return`
     InReturn {
         at: u32,
-        nesting: u32,
+        nesting: Nesting,
     },
     /// `if (`
     InIf {
         at: u32,
-        nesting: u32,
+        nesting: Nesting,
     },
     /// `while (`
     InWhile {
         at: u32,
-        nesting: u32,
+        nesting: Nesting,
     },
     /// `do body while (`
     InDo {
         at: u32,
-        nesting: u32,
+        nesting: Nesting,
         body: Box<Statement>,
     },
     /// `for (`
@@ -225,7 +223,7 @@ pub enum Frame {
     /// `if (condition)`
     Then {
         at: u32,
-        nesting: u32,
+        nesting: Nesting,
         condition: Box<Expression>,
     },
     /// `if (condition) chosen else`
@@ -242,19 +240,19 @@ pub enum Frame {
     /// `do`
     DoTurns {
         at: u32,
-        nesting: u32,
+        nesting: Nesting,
     },
     /// `for (initial; condition; last)`
     ForTurns(Box<Turns>),
     /// The statements so far of a block
     InItems {
-        nesting: u32,
+        nesting: Nesting,
         body: Vec<Statement>,
     },
     /// A block that is a statement
     InBlock {
         at: u32,
-        nesting: u32,
+        nesting: Nesting,
     },
     /// The block of a function
     InBody {
@@ -279,56 +277,56 @@ pub enum Frames {
 pub enum Mode {
     /// An operand is wanted
     Operand {
-        nesting: u32,
+        nesting: Nesting,
     },
     /// An expression was read
     Have(Have),
     /// In an expression a name was read
     Named {
-        nesting: u32,
+        nesting: Nesting,
         identifier: Identifier,
     },
     /// Where an operand was wanted, `(` was read
     Opened {
-        nesting: u32,
+        nesting: Nesting,
         at: u32,
     },
     /// `(type` of a cast was read
     CastType(Cast),
     /// `&` was read
     AfterAnd {
-        nesting: u32,
+        nesting: Nesting,
         at: u32,
     },
     /// `&name` was read
     AndName(Address),
     /// The bracket of a call was read
     CallOpen {
-        nesting: u32,
+        nesting: Nesting,
     },
     /// An expression is wanted, or a semicolon in its place
     Optional {
-        nesting: u32,
+        nesting: Nesting,
     },
     /// A statement, a declaration or the block's end is wanted
     Item {
-        nesting: u32,
+        nesting: Nesting,
     },
     /// A statement is wanted
     Begin {
-        nesting: u32,
+        nesting: Nesting,
     },
     /// The first part of a `for` is wanted
     Initial {
-        nesting: u32,
+        nesting: Nesting,
     },
     /// The third part of a `for` is wanted
     Final {
-        nesting: u32,
+        nesting: Nesting,
     },
     /// The target of `++` or `--` is wanted
     Aim {
-        nesting: u32,
+        nesting: Nesting,
     },
     /// A target's or a call's first name was read
     BeginName(FirstName),
@@ -336,31 +334,31 @@ pub enum Mode {
     Aimed(Aimed),
     /// A simple statement was read
     Ended {
-        nesting: u32,
+        nesting: Nesting,
         statement: Box<Statement>,
     },
     /// Another statement but its semicolon was read
     Closing {
-        nesting: u32,
+        nesting: Nesting,
         statement: Box<Statement>,
     },
     /// A statement was read
     Did(Box<Statement>),
     AfterIf {
-        nesting: u32,
+        nesting: Nesting,
         at: u32,
     },
     AfterWhile {
-        nesting: u32,
+        nesting: Nesting,
         at: u32,
     },
     AfterFor {
-        nesting: u32,
+        nesting: Nesting,
         at: u32,
     },
     /// `do body while` was read
     AfterDo {
-        nesting: u32,
+        nesting: Nesting,
         at: u32,
         body: Box<Statement>,
     },
@@ -397,12 +395,12 @@ pub enum ArrayMode {
     Opened(Array),
     /// Its length: all but `];`
     Sized {
-        nesting: u32,
+        nesting: Nesting,
         statement: Box<Statement>,
     },
     /// All but its semicolon
     Closed {
-        nesting: u32,
+        nesting: Nesting,
         statement: Box<Statement>,
     },
 }
@@ -452,22 +450,11 @@ pub enum Step {
     /// It is nested too deep.
     Deep,
     /// It has this nesting, and this is the state after it.
-    To { nesting: u32, state: Box<State> },
+    To { nesting: Nesting, state: Box<State> },
 }
 
 /// What a token does, if memory suffices.
 pub type Moved = Result<Step, AllocError>;
-
-/// The nesting one further in, but none where a token of this nesting is too deep itself.
-pub fn deeper(nesting: u32) -> Option<u32>
-    ensures { MatchOption result (LIMIT < nesting) (λ inner. inner ≡ suc nesting) }
-{
-    if nesting > LIMIT {
-        None
-    } else {
-        Some(nesting + 1)
-    }
-}
 
 /// What is open, and where memory for more comes from.
 #[derive(Drop)]
@@ -499,8 +486,8 @@ impl Stack {
     }
 
     /// The step of a token with this nesting to a mode.
-    pub fn go(self, nesting: u32, mode: Mode) -> Moved
-        ensures { Steps result (machine.go nesting (mode_of mode) (opened self)) }
+    pub fn go(self, nesting: Nesting, mode: Mode) -> Moved
+        ensures { Steps result (machine.go nesting.0 (mode_of mode) (opened self)) }
     {
         let Stack { alloc, frames } = self;
         let state = Box::new(alloc, State { mode, frames })?;
@@ -529,35 +516,35 @@ impl Stack {
     }
 
     /// The step to an operand in a frame.
-    pub fn want(self, nesting: u32, frame: Frame) -> Moved
-        ensures { Steps result (machine.go nesting (machine.Operand nesting) (frame_of frame ∷ opened self)) }
+    pub fn want(self, nesting: Nesting, frame: Frame) -> Moved
+        ensures { Steps result (machine.go nesting.0 (machine.Operand nesting.0) (frame_of frame ∷ opened self)) }
     {
         self.push(frame)?.go(nesting, Mode::Operand { nesting })
     }
 
     /// The step to an operand in a frame, one deeper.
-    pub fn open(self, nesting: u32, frame: Frame) -> Moved
-        ensures { Steps result (machine.go nesting (machine.Operand (suc nesting)) (frame_of frame ∷ opened self)) }
+    pub fn open(self, nesting: Nesting, frame: Frame) -> Moved
+        ensures { Steps result (machine.go nesting.0 (machine.Operand (suc nesting.0)) (frame_of frame ∷ opened self)) }
     {
         let stack = self.push(frame)?;
-        match deeper(nesting) {
+        match nesting.deeper() {
             Some(inner) => stack.go(nesting, Mode::Operand { nesting: inner }),
             None => Ok(Step::Deep),
         }
     }
 
     /// The step to a statement that a frame controls.
-    pub(crate) fn begin(self, nesting: u32, frame: Frame) -> Moved
-        ensures { Steps result (machine.go nesting (machine.Begin nesting) (frame_of frame ∷ opened self)) }
+    pub(crate) fn begin(self, nesting: Nesting, frame: Frame) -> Moved
+        ensures { Steps result (machine.go nesting.0 (machine.Begin nesting.0) (frame_of frame ∷ opened self)) }
     {
         self.push(frame)?.go(nesting, Mode::Begin { nesting })
     }
 
     /// The step of a bracket's end, at which an expression was read that begins at an offset.
-    pub(crate) fn close(self, nesting: u32, from: u32, value: Box<Expression>) -> Moved
-        ensures { Steps result (machine.go (suc nesting) (machine.Have nesting from (term value.value)) (opened self)) }
+    pub(crate) fn close(self, nesting: Nesting, from: u32, value: Box<Expression>) -> Moved
+        ensures { Steps result (machine.go (suc nesting.0) (machine.Have nesting.0 from (term value.value)) (opened self)) }
     {
-        match deeper(nesting) {
+        match nesting.deeper() {
             Some(inner) => {
                 let have = Have {
                     nesting,

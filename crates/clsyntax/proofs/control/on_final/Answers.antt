@@ -14,5 +14,5 @@ pub returns-in_default : goal.returns-in_default
 returns-in_default c =
     let t = c.args.token in
     let is = c.in_default in
-    let same = no_bracket c.args.nesting (opened c.args.stack) t.kind t.at is.not-CloseRound in
+    let same = no_bracket c.args.nesting.0 (opened c.args.stack) t.kind t.at is.not-CloseRound in
     subst (λ (m : Moved). Steps c.on_simple.result m) (sym same) c.on_simple.ensures

@@ -17,5 +17,5 @@ pub returns-in_default : goal.returns-in_default
 returns-in_default c =
     let t = c.args.token in
     let is = c.in_default in
-    let same = no_declaration c.args.nesting (opened c.args.stack) t.kind t.at is.not-Semicolon is.not-Type is.not-SizeT in
+    let same = no_declaration c.args.nesting.0 (opened c.args.stack) t.kind t.at is.not-Semicolon is.not-Type is.not-SizeT in
     subst (λ (m : Moved). Steps c.on_simple.result m) (sym same) c.on_simple.ensures

@@ -13,5 +13,5 @@ no_bracket n fs _ at h = refl
 pub returns-in_default : goal.returns-in_default
 returns-in_default c =
     let t = c.args.token in
-    let same = no_bracket c.args.nesting (opened c.args.stack) t.kind t.at c.in_default.not-CloseRound in
+    let same = no_bracket c.args.nesting.0 (opened c.args.stack) t.kind t.at c.in_default.not-CloseRound in
     subst (λ (m : Moved). Steps c.on_operand.result m) (sym same) c.on_operand.ensures

@@ -15,7 +15,7 @@ no_type n a fs _ at h k = refl
 pub returns-in_ok-push-in_default-kind : goal.returns-in_ok-push-in_default-kind
 returns-in_ok-push-in_default-kind c =
     let t = c.args.token in
-    let same = no_type c.args.nesting c.args.at (opened c.args.stack) t.kind t.at c.in_default-kind.not-Type c.in_default-kind.not-SizeT in
+    let same = no_type c.args.nesting.0 c.args.at (opened c.args.stack) t.kind t.at c.in_default-kind.not-Type c.in_default-kind.not-SizeT in
     let at_inner = subst (λ (n : ℕ). Steps c.on_operand.result (on_operand n (opened c.in_ok-push-in_default-kind.field-0) t)) c.in-Some.ensures c.on_operand.ensures in
-    let in_round = subst (λ (fs : List Frame). Steps c.on_operand.result (on_operand (suc c.args.nesting) fs t)) c.in_ok-push-in_default-kind.ensures at_inner in
+    let in_round = subst (λ (fs : List Frame). Steps c.on_operand.result (on_operand (suc c.args.nesting.0) fs t)) c.in_ok-push-in_default-kind.ensures at_inner in
     subst (λ (m : Moved). Steps c.on_operand.result m) (sym same) in_round

@@ -22,5 +22,5 @@ pub returns-in_default : goal.returns-in_default
 returns-in_default c =
     let t = c.args.token in
     let is = c.in_default in
-    let same = no_word c.args.nesting (opened c.args.stack) t.kind t.at is.not-OpenBrace is.not-Semicolon is.not-If is.not-While is.not-Do is.not-For is.not-Break is.not-Continue is.not-Return in
+    let same = no_word c.args.nesting.0 (opened c.args.stack) t.kind t.at is.not-OpenBrace is.not-Semicolon is.not-If is.not-While is.not-Do is.not-For is.not-Break is.not-Continue is.not-Return in
     subst (λ (m : Moved). Steps c.on_simple.result m) (sym same) c.on_simple.ensures

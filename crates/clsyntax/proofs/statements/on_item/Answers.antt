@@ -19,5 +19,5 @@ pub returns-in_default : goal.returns-in_default
 returns-in_default c =
     let t = c.args.token in
     let is = c.in_default in
-    let same = no_declaration c.args.nesting (opened c.args.stack) t.kind t.at is.not-CloseBrace is.not-Type is.not-SizeT is.not-Space in
+    let same = no_declaration c.args.nesting.0 (opened c.args.stack) t.kind t.at is.not-CloseBrace is.not-Type is.not-SizeT is.not-Space in
     subst (λ (m : Moved). Steps c.on_begin.result m) (sym same) c.on_begin.ensures

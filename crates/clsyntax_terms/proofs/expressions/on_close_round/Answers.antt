@@ -1,6 +1,7 @@
 -- What is no bracket in an expression is one of a statement.
 use Rattle.std.proofs.Common.{◌≡◌, ℕ, List, ◌∷◌, refl, sym, ap, ◌∙◌, subst}
 use Rattle.clmodel.specs.Tree.{Term, term}
+use Rattle.clsyntax_terms.specs.declared.nesting.Nesting.{Nesting}
 use Rattle.clsyntax_terms.specs.declared.state.Call.{Call}
 use Rattle.clsyntax_terms.specs.declared.state.Frame.{Frame}
 use Rattle.clsyntax_terms.specs.declared.state.Frame.TheVariants as frames
@@ -9,7 +10,7 @@ use Rattle.clsyntax_terms.specs.Machine.{Moved, on_close_round, end_bracket}
 use Rattle.clsyntax_terms.specs.Views.{frame_of, opened, Steps}
 use Rattle.clsyntax_terms.proofs.expressions.on_close_round.Goals as goal
 
-no_bracket : (e : Term) (f : Frame) (fs : List machine.Frame) → ((at nesting : ℕ) → f ≡ frames.InRound at nesting → ⊥) → ((call : Call) → f ≡ frames.InCall call → ⊥) → on_close_round e (frame_of f ∷ fs) ≡ end_bracket e (frame_of f ∷ fs)
+no_bracket : (e : Term) (f : Frame) (fs : List machine.Frame) → ((at : ℕ) (nesting : Nesting) → f ≡ frames.InRound at nesting → ⊥) → ((call : Call) → f ≡ frames.InCall call → ⊥) → on_close_round e (frame_of f ∷ fs) ≡ end_bracket e (frame_of f ∷ fs)
 no_bracket e (frames.InRound at n) fs h k = absurd (h at n refl)
 no_bracket e (frames.InCall call) fs h k = absurd (k call refl)
 no_bracket e _ fs h k = refl
