@@ -26,7 +26,7 @@ fn kind_number(kind: VariableType) -> u32
 }
 
 /// The number of a level. Each variable has a level of its own, and so has each operand that waits. Those below 2^28 have registers.
-#[derive(Clone, Copy)]
+#[derive(Clone, Copy, Default)]
 pub struct Level(pub u32);
 
 /// The number of a register: 16 times its level, and the number of its type.
