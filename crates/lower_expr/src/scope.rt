@@ -25,11 +25,12 @@ fn kind_number(kind: VariableType) -> u32
     }
 }
 
-/// The number of a level. Each variable has a level of its own, and so has each operand that waits. Those below 2^28 have registers.
+/// The number of a level of registers. Each variable has a level of its own, and so has each value that waits for others. Levels below
+/// 2^28 have registers, one for each type.
 #[derive(Clone, Copy, Default)]
 pub struct Level(pub u32);
 
-/// The number of a register: 16 times its level, and the number of its type.
+/// The number of a register, of 32 bits: 16 times its level, and the number of its type, which is below 16.
 #[derive(Clone, Copy, Default)]
 pub struct Register(pub u32);
 
