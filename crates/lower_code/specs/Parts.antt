@@ -42,9 +42,14 @@ pub record HoleKnown (h : Hole) : Type 0 where
   pub elements : FewElements h.functions.now
   pub arrays : row_elements (all_of h.function.now.body.items) ≤ length_limit
 
+-- a body that is left out of code is known, and is not empty
+pub record IsLeft (h : Hole) : Type 0 where
+  pub known : HoleKnown h
+  pub code : 0 < length (hole_code h)
+
 abbrev pub IsKnown : Part → Type 0
 IsKnown (part.Own i) = Unit {0}
-IsKnown (part.Left h) = HoleKnown h
+IsKnown (part.Left h) = IsLeft h
 
 abbrev pub AllKnown : List Part → Type 0
 AllKnown parts = All IsKnown parts
