@@ -24,14 +24,7 @@ fn open<'a>(alloc: Global, hole: &Hole<'a>) -> Result<Vec<Part<'a>>, AllocError>
         ends: hole.ends,
     };
     let mut body = Draft::new(alloc);
-    emit_body(
-        helpers,
-        hole.function,
-        hole.level,
-        hole.depth,
-        hole.site,
-        &mut body,
-    )?;
+    emit_body(helpers, hole.function, hole.position, &mut body)?;
     Ok(body.into_parts())
 }
 

@@ -22,6 +22,7 @@ use clmodel::tree::{Function, Tree};
 use lower_code::draft::Draft;
 use lower_code::functions::ends_of;
 use lower_code::holes::Helpers;
+use lower_code::positions::BodyPosition;
 use lower_code::variables::put_arguments;
 use regcode::Instruction;
 use std::alloc::{AllocError, Global};
@@ -40,7 +41,7 @@ fn emit_function(
 {
     let mut code = Draft::new(alloc);
     code.put(Instruction::End)?;
-    emit_body(helpers, kernel, 0, 0, 0, &mut code)?;
+    emit_body(helpers, kernel, BodyPosition::default(), &mut code)?;
     put_arguments(kernel.parameters.as_slice(), &mut code)?;
     expand(alloc, code.into_parts())
 }

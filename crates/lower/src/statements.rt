@@ -28,7 +28,7 @@ use clmodel::tree::{Expression, Function, Statement};
 use lower_code::draft::Draft;
 use lower_code::holes::{Helpers, StatementContext};
 use lower_code::loops::{end_do, end_while, put_condition, put_no_value, put_test};
-use lower_code::positions::{Exits, Position};
+use lower_code::positions::{BodyPosition, Exits, Position};
 use lower_code::simple::{emit_assignment, emit_declaration, put_jump};
 use lower_code::variables::{declare_all, declare_parameters, declare_part, leave, leave_part};
 use lower_expr::scope::Scope;
@@ -293,40 +293,38 @@ fn emit_all<'a>(
     Ok(behind)
 }
 
-/// Puts the body of a function, whose parameters are at a level and above, before the code.
+/// Puts the body of a function at a position before the code.
 pub fn emit_body<'a>(
     helpers: Helpers<'a>,
     function: &Function,
-    level: u32,
-    depth: u32,
-    site: u32,
+    position: BodyPosition,
     code: &mut Draft<'a>,
 ) -> Result<(), AllocError>
-    requires few { site + all_sites (inside helpers.functions.now) (all_of function.now.body.items) < 2 ^ 32 }
-    requires small { depth + (row_size (sizes_in helpers.functions.now) (all_of function.now.body.items)).nodes ≤ node_limit }
-    requires low { level + length function.now.parameters.items + levels (row_size (sizes_in helpers.functions.now) (all_of function.now.body.items)).nodes < 2 ^ 28 }
+    requires few { position.site + all_sites (inside helpers.functions.now) (all_of function.now.body.items) < 2 ^ 32 }
+    requires small { position.depth + (row_size (sizes_in helpers.functions.now) (all_of function.now.body.items)).nodes ≤ node_limit }
+    requires low { position.level.0 + length function.now.parameters.items + levels (row_size (sizes_in helpers.functions.now) (all_of function.now.body.items)).nodes < 2 ^ 28 }
     requires short { length code.old < 2 ^ 31 }
     requires arrays { row_elements (all_of function.now.body.items) ≤ length_limit }
-    ensures code { OnOk result (code.new ≡ body_of helpers.entry.functions.now function.now level depth site ++ code.old) }
+    ensures code { OnOk result (code.new ≡ body_of helpers.entry.functions.now function.now position.level.0 position.depth position.site ++ code.old) }
     ensures longer { OnErr result (GrowsBefore code.old code.new) }
 {
     let end = code.len();
-    put_no_value(function.result, level, code)?;
+    put_no_value(function.result, position.level, code)?;
     let exits = Exits {
         broken: 0,
         continued: 0,
         returned: code.added(end),
     };
-    let mut scope = Scope::new(code.allocator(), level);
+    let mut scope = Scope::new(code.allocator(), position.level);
     declare_parameters(&mut scope, function.parameters.as_slice())?;
     let setting = StatementContext {
         helpers,
         result: function.result,
     };
     let body = function.body.as_slice();
-    let behind = site_behind_all(helpers, site, body);
+    let behind = site_behind_all(helpers, position.site, body);
     let ending = Ending {
-        depth,
+        depth: position.depth,
         behind,
         exits,
     };

@@ -20,6 +20,7 @@ use cltypes_limits::Summaries;
 use lower_code::draft::Draft;
 use lower_code::holes::Helpers;
 use lower_code::known::Known;
+use lower_code::positions::BodyPosition;
 use std::alloc::{AllocError, Global};
 
 /// How many nodes a function has at most that is measured: as many as a kernel may have.
@@ -35,7 +36,7 @@ fn length_of(alloc: Global, helpers: Helpers<'_>, function: &Function) -> Result
     ensures { IfOk result (λ n. (level depth site : ℕ) → n ≡ length (body_of helpers.entry.functions.now function.now level depth site)) }
 {
     let mut code = Draft::new(alloc);
-    emit_body(helpers, function, 0, 0, 0, &mut code)?;
+    emit_body(helpers, function, BodyPosition::default(), &mut code)?;
     Ok(code.len())
 }
 

@@ -34,16 +34,16 @@ passed_first : (x : Instruction) (p : Parameter) (ps : List Parameter) (ns : Lis
 passed_first x p ps [] level e = ap (λ xs. head_or x xs ∷ pass_code ps [] (level + 1)) e
 passed_first x p ps (n ∷ ns) level e = ap (λ xs. head_or x xs ∷ pass_code ps ns (level + 1)) e
 
-pub passed_more : (x : Instruction) (ps : List Parameter) (d : Parameter) (ns : List ℕ) (level at n k m : ℕ) (code old : List Instruction)
-    → n < length ps → k ≡ n + 1 → m ≡ n → at ≡ level + n → x ∷ [] ≡ pass_code (get_or ps n d ∷ []) (drop n ns) at
+pub passed_more : (x : Instruction) (ps : List Parameter) (d : Parameter) (ns rest : List ℕ) (level at n k m : ℕ) (code old : List Instruction)
+    → n < length ps → k ≡ n + 1 → m ≡ n → at ≡ level + n → rest ≡ drop n ns → x ∷ [] ≡ pass_code (get_or ps n d ∷ []) rest at
     → code ≡ pass_code (drop k ps) (drop k ns) (level + k) ++ old → x ∷ code ≡ pass_code (drop m ps) (drop m ns) (level + m) ++ old
-passed_more x ps d ns level at n k m code old h k_is m_is at_is x_is code_is =
+passed_more x ps d ns rest level at n k m code old h k_is m_is at_is rest_is x_is code_is =
     let p = get_or ps n d in
     let one : suc n ≡ k = omega arith in
     let above : level + k ≡ at + 1 = omega arith in
     ap (λ xs. x ∷ xs) code_is
     ∙ ap (λ xs. x ∷ (xs ++ old)) (ap₂ (λ ys l. pass_code (drop k ps) ys l) (ap (λ j. drop j ns) (sym one) ∙ sym (drop_more ns n)) above)
-    ∙ ap (λ xs. xs ++ old) (passed_first x p (drop k ps) (drop n ns) at x_is)
+    ∙ ap (λ xs. xs ++ old) (passed_first x p (drop k ps) (drop n ns) at (x_is ∙ ap (λ ys. pass_code (p ∷ []) ys at) rest_is))
     ∙ ap₂ (λ qs l. pass_code qs (drop n ns) l ++ old) (ap (λ j. p ∷ drop j ps) k_is ∙ sym (drop_one ps n d h)) at_is
     ∙ ap (λ j. pass_code (drop j ps) (drop j ns) (level + j) ++ old) (sym m_is)
 

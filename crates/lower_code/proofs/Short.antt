@@ -1,5 +1,5 @@
 -- How many instructions the code of statements has, typed or not: at most 13,007 a node, with the nodes of the helpers that are called.
-use Rattle.std.proofs.Common.{◌≡◌, ℕ, zero, suc, ◌+◌, ◌*◌, ◌<◌, ◌≤◌, ◌++◌, Bool, true, false, nat_eq, Option, None, Some, List, [], length, take, get_or, refl, ap, sym, subst, ◌∙◌, arith, eqb-true}
+use Rattle.std.proofs.Common.{◌≡◌, ℕ, zero, suc, ◌+◌, ◌*◌, ◌<◌, ◌≤◌, ◌++◌, Bool, true, false, nat_eq, Option, None, Some, List, [], length, take, refl, ap, sym, subst, ◌∙◌, arith, eqb-true}
 use Rattle.std.proofs.Math.Seq.{take-length}
 use Rattle.clnum.specs.declared.int_type.IntType.{IntType}
 use Rattle.clnum.specs.declared.operators.BinaryOperator.{BinaryOperator}
@@ -8,7 +8,7 @@ use Rattle.clmodel.specs.BuiltIns.{built_in}
 use Rattle.clmodel.specs.Next.{helper_or, helper_call, step_operator, sites_in}
 use Rattle.clmodel.specs.Tree.{Term, Number, Variable, Element, ElementAddress, Dereference, Call, Unary, Cast, Binary, Choice, Terms, Target, MaybeTerm, WithoutTerm, WithTerm, Stmt, Empty, Block, Declare, DeclareAs, DeclareArray, Assign, Step, CallOnly, If, IfElse, While, DoWhile, For, Break, Continue, Return, ReturnValue, Stmts, NoStmt, ThenStmt, MaybeStmt, Without, With, Func, Funcs, ThenFunc, func, array_length}
 use Rattle.clmodel.specs.Typing.Functions.{size_of}
-use Rattle.clmodel.specs.Typing.Sizes.{Size, Sizes, or_nothing, size_in, term_size, terms_size, target_size, condition_size, size, part_size, row_size, sizes_of, parameter_limit}
+use Rattle.clmodel.specs.Typing.Sizes.{Size, Sizes, or_nothing, size_in, term_size, target_size, condition_size, size, part_size, row_size, sizes_of, parameter_limit}
 use Rattle.clmodel.specs.declared.action.Fences.{Fences}
 use Rattle.clmodel.specs.declared.setup.BuiltIn.{BuiltIn}
 use Rattle.clmodel.specs.declared.tree.Function.{Function}

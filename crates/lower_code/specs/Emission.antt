@@ -10,6 +10,7 @@ use Rattle.clmodel.specs.declared.tree.Statement as statement
 use Rattle.clmodel.specs.declared.tree.Statement.{Statement}
 use Rattle.regcode.specs.declared.instruction.Instruction.{Instruction}
 use Rattle.regcode.specs.declared.instruction.Instruction.TheVariants as instruction
+use Rattle.lower_expr.specs.Registers.{numbers}
 use Rattle.lower_expr.specs.Scope.{Scope}
 use Rattle.lower_code.specs.Trees.{all_of}
 use Rattle.lower_code.specs.Code as spec
@@ -72,7 +73,7 @@ callee_sites inside (callee.Helper name) = inside name
 -- the body of a helper that is called
 abbrev pub called_code : Calls → Option Call → ℕ → ℕ → List Instruction
 called_code calls None depth site = []
-called_code calls (Some c) depth site = calls c.name c.arguments.items c.level depth site
+called_code calls (Some c) depth site = calls c.name (numbers c.arguments.items) c.level.0 depth site
 
 -- the barriers in it
 abbrev pub called_sites : (ℕ → ℕ) → Option Call → ℕ

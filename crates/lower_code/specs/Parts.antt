@@ -14,7 +14,7 @@ use Rattle.lower_code.specs.declared.holes.Part.TheVariants as part
 
 -- the body that is left out
 abbrev pub hole_code : Hole → List Instruction
-hole_code h = body_of h.functions.now h.function.now h.level h.depth h.site
+hole_code h = body_of h.functions.now h.function.now h.position.level.0 h.position.depth h.position.site
 
 abbrev pub part_code : Part → List Instruction
 part_code (part.Own i) = i ∷ []
@@ -35,16 +35,21 @@ pub record HoleKnown (h : Hole) : Type 0 where
   pub measured : LengthsCounted h.functions.now h.known.now
   pub ends : EndsKnown h.functions.now h.ends.now
   pub nodes : NodesCounted h.functions.now
-  pub few : h.site + all_sites (inside h.functions.now) (all_of h.function.now.body.items) < 2 ^ 32
-  pub small : h.depth + (row_size (sizes_in h.functions.now) (all_of h.function.now.body.items)).nodes ≤ node_limit
+  pub few : h.position.site + all_sites (inside h.functions.now) (all_of h.function.now.body.items) < 2 ^ 32
+  pub small : h.position.depth + (row_size (sizes_in h.functions.now) (all_of h.function.now.body.items)).nodes ≤ node_limit
   pub parameters : FewParameters h.functions.now
-  pub low : h.level + length h.function.now.parameters.items + levels (row_size (sizes_in h.functions.now) (all_of h.function.now.body.items)).nodes < 2 ^ 28
+  pub low : h.position.level.0 + length h.function.now.parameters.items + levels (row_size (sizes_in h.functions.now) (all_of h.function.now.body.items)).nodes < 2 ^ 28
   pub elements : FewElements h.functions.now
   pub arrays : row_elements (all_of h.function.now.body.items) ≤ length_limit
 
+-- a body that is left out of code is known, and is not empty
+pub record IsLeft (h : Hole) : Type 0 where
+  pub known : HoleKnown h
+  pub code : 0 < length (hole_code h)
+
 abbrev pub IsKnown : Part → Type 0
 IsKnown (part.Own i) = Unit {0}
-IsKnown (part.Left h) = HoleKnown h
+IsKnown (part.Left h) = IsLeft h
 
 abbrev pub AllKnown : List Part → Type 0
 AllKnown parts = All IsKnown parts

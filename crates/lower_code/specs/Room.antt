@@ -24,7 +24,7 @@ FewElements functions = (i : ℕ) (f : Function) → i < length functions → f 
 -- the level of the first argument of a helper that is called
 abbrev pub called_level : Option Call → ℕ
 called_level None = 0
-called_level (Some c) = c.level
+called_level (Some c) = c.level.0
 
 -- How many instructions code of so many nodes has at most: a node is a call at the most, which has one for each parameter besides seven.
 abbrev pub instructions : ℕ → ℕ

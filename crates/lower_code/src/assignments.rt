@@ -20,6 +20,7 @@ ghost use Rattle.lower_code.specs.Room.{called_level};
 use crate::draft::Draft;
 use crate::functions::find;
 use crate::holes::Helpers;
+use crate::positions::Position;
 use clmodel::action::Fences;
 use clmodel::barrier::{fences, is_barrier};
 use clmodel::setup::{BuiltIn, built_in_named};
@@ -28,7 +29,7 @@ use clnum::{BinaryOperator, IntType, Value};
 use lower_expr::destinations::{combine, destination_type, fetch, put, reach};
 use lower_expr::emission::{emit_arguments, emit_expression};
 use lower_expr::instructions::{add, call_only};
-use lower_expr::scope::{Scope, register_at};
+use lower_expr::scope::{Level, Register, Scope, level_at, register_at};
 use lower_expr::types::call_type;
 use regcode::Instruction;
 use smallvec::SmallVec;
@@ -45,8 +46,8 @@ pub struct HelperCall<'a> {
 #[derive(Drop)]
 pub struct Call {
     pub name: u32,
-    pub arguments: SmallVec<u32, 2>,
-    pub level: u32,
+    pub arguments: SmallVec<Register, 2>,
+    pub level: Level,
 }
 
 /// The code before the body of the helper that a statement calls, if it calls one, and the code behind it.
@@ -118,17 +119,17 @@ fn add_needed(kind: Option<IntType>, code: &mut Vec<Instruction>) -> Result<(), 
 fn right_side(
     helpers: Helpers<'_>,
     scope: &Scope,
-    level: u32,
+    level: Level,
     value: &Expression,
     front: Vec<Instruction>,
 ) -> Result<Right, AllocError>
-    requires free { free_level scope.now ≤ level }
-    requires low { level + (term_size [] (term value.now)).nodes < 2 ^ 28 }
+    requires free { free_level scope.now ≤ level.0 }
+    requires low { level.0 + (term_size [] (term value.now)).nodes < 2 ^ 28 }
     ensures code { IfOk result (λ right. (calls : Calls) (inside : ℕ → ℕ) (kind : Option IntType) (depth site : ℕ)
         → split_code calls right.split depth site
-        ≡ front.items ++ spec.right_code calls (result_in (functions_of helpers.entry.functions.now)) inside kind scope.now level (next.helper_call (term value.now)) (term value.now) depth site) }
+        ≡ front.items ++ spec.right_code calls (result_in (functions_of helpers.entry.functions.now)) inside kind scope.now level.0 (next.helper_call (term value.now)) (term value.now) depth site) }
     ensures sites { IfOk result (λ right. (inside : ℕ → ℕ) → called_sites inside right.split.call ≡ next.call_sites inside (next.helper_call (term value.now))) }
-    ensures level { IfOk result (λ right. called_level right.split.call ≤ level) }
+    ensures level { IfOk result (λ right. called_level right.split.call ≤ level.0) }
     ensures kind { IfOk result (λ right. (calls : Calls) (inside : ℕ → ℕ) (kind : Option IntType)
         → right.kind ≡ spec.right_type calls (result_in (functions_of helpers.entry.functions.now)) inside kind scope.now (next.helper_call (term value.now)) (term value.now)) }
 {
@@ -181,7 +182,7 @@ pub fn assign(
     ensures level { IfOk result (λ split. called_level split.call ≤ free_level scope.now + 2) }
 {
     let level = scope.free_level();
-    let above = level + 1;
+    let above = level_at(level, 1);
     let mut front = Vec::new(scope.allocator());
     let destination = reach(scope, level, target, &mut front)?;
     let mut right = right_side(helpers, scope, above, value, front)?;
@@ -206,8 +207,8 @@ pub fn compound(
     ensures level { IfOk result (λ split. called_level split.call ≤ free_level scope.now + 2) }
 {
     let level = scope.free_level();
-    let above = level + 1;
-    let top = level + 2;
+    let above = level_at(level, 1);
+    let top = level_at(level, 2);
     let mut front = Vec::new(scope.allocator());
     let destination = reach(scope, level, target, &mut front)?;
     let old = register_at(above, destination_type(scope, destination));
@@ -253,8 +254,8 @@ pub fn put_step(
     ensures longer { OnErr result (GrowsBefore code.old code.new) }
 {
     let level = scope.free_level();
-    let above = level + 1;
-    let top = level + 2;
+    let above = level_at(level, 1);
+    let top = level_at(level, 2);
     let int = VariableType::Integer(IntType::Int);
     let mut front = Vec::new(scope.allocator());
     let destination = reach(scope, level, target, &mut front)?;
@@ -264,7 +265,7 @@ pub fn put_step(
     add(
         &mut front,
         Instruction::Constant {
-            to: one,
+            to: one.0,
             value: Value::new(IntType::Int, 1),
         },
     )?;
@@ -298,8 +299,8 @@ pub fn declare_as(
     ensures scope { scope.new ≡ scope.old }
 {
     let level = scope.free_level();
-    let above = level + 1;
-    let to = register_at(level, kind);
+    let above = level_at(level, 1);
+    let to = register_at(level, kind).0;
     let mut front = Vec::new(scope.allocator());
     add(&mut front, Instruction::Unset { to })?;
     let count = scope.len();
@@ -307,7 +308,7 @@ pub fn declare_as(
     let right = right_side(helpers, scope, above, value, front);
     scope.leave(count);
     let mut right = right?;
-    let from = register_at(above, right.kind);
+    let from = register_at(above, right.kind).0;
     add(
         &mut right.split.back,
         Instruction::AssignConversion { to, from, kind },
@@ -315,14 +316,14 @@ pub fn declare_as(
     Ok(right.split)
 }
 
-/// The wait at a barrier with these fences; the item ends where its argument names none.
-fn wait(fences: Option<Fences>, site: u32, depth: u32) -> Instruction
-    ensures { result ∷ [] ≡ spec.wait_code fences site depth }
+/// The wait at a barrier with these fences, at a position; the item ends where its argument names none.
+fn wait(fences: Option<Fences>, position: Position) -> Instruction
+    ensures { result ∷ [] ≡ spec.wait_code fences position.site position.depth }
 {
     match fences {
         Some(fences) => Instruction::Barrier {
-            site,
-            depth,
+            site: position.site,
+            depth: position.depth,
             fences,
         },
         None => Instruction::End,
@@ -377,24 +378,23 @@ fn call_helper(scope: &Scope, name: u32, arguments: &[Expression]) -> Result<Spl
     })
 }
 
-/// A call that is a whole statement, inside `depth` loops and with a number for a barrier.
+/// A call that is a whole statement, at a position.
 pub fn call_statement(
     scope: &Scope,
     name: u32,
     arguments: &[Expression],
-    depth: u32,
-    site: u32,
+    position: Position,
 ) -> Result<Split, AllocError>
     requires { free_level scope.now + (terms_size [] (terms arguments.now)).nodes < 2 ^ 28 }
     ensures code { IfOk result (λ split. (calls : Calls) (results : ℕ → Option IntType) (inside : ℕ → ℕ) (kind : Option IntType)
-        → split_code calls split depth site ≡ spec.call_only_statement calls results inside kind scope.now (barrier.is_barrier name) (built_in name) name (terms arguments.now) depth site) }
+        → split_code calls split position.depth position.site ≡ spec.call_only_statement calls results inside kind scope.now (barrier.is_barrier name) (built_in name) name (terms arguments.now) position.depth position.site) }
     ensures sites { IfOk result (λ split. (inside : ℕ → ℕ) → called_sites inside split.call ≤ next.statement_sites inside (barrier.is_barrier name) (built_in name) name) }
     ensures called { IfOk result (λ split. (inside : ℕ → ℕ) → called_sites inside split.call ≤ inside name) }
     ensures level { IfOk result (λ split. called_level split.call ≤ free_level scope.now) }
 {
     if is_barrier(name) {
         let mut front = Vec::new(scope.allocator());
-        add(&mut front, wait(fences(arguments), site, depth))?;
+        add(&mut front, wait(fences(arguments), position))?;
         return Ok(Split {
             front,
             call: None,

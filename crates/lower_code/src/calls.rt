@@ -4,6 +4,7 @@
 ghost use Rattle.std.specs.Prelude.{◌≡◌, ℕ, ◌+◌, ◌<◌, ◌≤◌, ◌^◌, ◌++◌, length, take, get_or, OnOk, OnErr};
 ghost use Rattle.clmodel.specs.Next.{all_sites};
 ghost use Rattle.clmodel.specs.Typing.Sizes.{row_size, node_limit};
+ghost use Rattle.lower_expr.specs.Registers.{numbers};
 ghost use Rattle.lower_code.specs.Code.{call_code};
 ghost use Rattle.lower_code.specs.Emission.{functions_of, inside, sizes_in, nodes_in, body_of, called_sites, split_code};
 ghost use Rattle.lower_code.specs.Trees.{all_of};
@@ -14,8 +15,9 @@ use crate::assignments::Split;
 use crate::draft::Draft;
 use crate::functions::{Found, find};
 use crate::holes::{Helpers, Hole};
-use crate::positions::Position;
+use crate::positions::{BodyPosition, Position};
 use crate::variables::put_passed;
+use lower_expr::scope::{Level, Register};
 use regcode::Instruction;
 use std::alloc::AllocError;
 
@@ -51,15 +53,15 @@ pub fn emit_split<'a>(
 fn emit_call<'a>(
     helpers: Helpers<'a>,
     name: u32,
-    arguments: &[u32],
-    level: u32,
+    arguments: &[Register],
+    level: Level,
     position: Position,
     code: &mut Draft<'a>,
 ) -> Result<(), AllocError>
     requires few { position.site + inside helpers.functions.now name < 2 ^ 32 }
     requires small { position.depth + nodes_in helpers.functions.now name ≤ node_limit }
-    requires low { level + levels (nodes_in helpers.functions.now name + 1) < 2 ^ 28 }
-    ensures code { OnOk result (code.new ≡ call_code (functions_of helpers.entry.functions.now) name arguments.now level position.depth position.site ++ code.old) }
+    requires low { level.0 + levels (nodes_in helpers.functions.now name + 1) < 2 ^ 28 }
+    ensures code { OnOk result (code.new ≡ call_code (functions_of helpers.entry.functions.now) name (numbers arguments.now) level.0 position.depth position.site ++ code.old) }
     ensures longer { OnErr result (GrowsBefore code.old code.new) }
 {
     let Some(found) = find(helpers, name) else {
@@ -87,7 +89,7 @@ fn length_of(helpers: Helpers<'_>, found: Found<'_>) -> usize
 fn leave_body<'a>(
     helpers: Helpers<'a>,
     found: Found<'a>,
-    level: u32,
+    level: Level,
     position: Position,
     code: &mut Draft<'a>,
 ) -> Result<(), AllocError>
@@ -95,8 +97,8 @@ fn leave_body<'a>(
     requires there { found.function.now ≡ get_or helpers.functions.now found.place found.function.now }
     requires few { position.site + all_sites (inside (take found.place helpers.functions.now)) (all_of found.function.now.body.items) < 2 ^ 32 }
     requires small { position.depth + (row_size (sizes_in (take found.place helpers.functions.now)) (all_of found.function.now.body.items)).nodes ≤ node_limit }
-    requires low { level + length found.function.now.parameters.items + levels (row_size (sizes_in (take found.place helpers.functions.now)) (all_of found.function.now.body.items)).nodes < 2 ^ 28 }
-    ensures code { OnOk result (code.new ≡ body_of (take found.entry.place helpers.entry.functions.now) found.entry.function.now level position.depth position.site ++ code.old) }
+    requires low { level.0 + length found.function.now.parameters.items + levels (row_size (sizes_in (take found.place helpers.functions.now)) (all_of found.function.now.body.items)).nodes < 2 ^ 28 }
+    ensures code { OnOk result (code.new ≡ body_of (take found.entry.place helpers.entry.functions.now) found.entry.function.now level.0 position.depth position.site ++ code.old) }
     ensures longer { OnErr result (GrowsBefore code.old code.new) }
 {
     let count = length_of(helpers, found);
@@ -106,9 +108,11 @@ fn leave_body<'a>(
         known: before.known,
         ends: before.ends,
         function: found.function,
-        level,
-        depth: position.depth,
-        site: position.site,
+        position: BodyPosition {
+            level,
+            depth: position.depth,
+            site: position.site,
+        },
     };
     code.leave(hole, count)
 }

@@ -92,13 +92,16 @@ impl<'a> Draft<'a> {
         self.put_parts(&[Part::Own(instruction)], 1)
     }
 
-    /// Puts the body of a helper before the code, and leaves it out. It has `count` instructions.
+    /// Puts the body of a helper before the code, and leaves it out. It has `count` instructions: where these are none, nothing is put.
     pub fn leave(&mut self, hole: Hole<'a>, count: usize) -> Result<(), AllocError>
         requires count { count ≡ length (hole_code hole) }
         requires known { HoleKnown hole }
         ensures code { OnOk result (self.new ≡ hole_code hole.entry ++ self.old) }
         ensures longer { OnErr result (GrowsBefore self.old self.new) }
     {
+        if count == 0 {
+            return Ok(());
+        }
         self.put_parts(&[Part::Left(hole)], count)
     }
 

@@ -6,6 +6,7 @@ ghost use Rattle.lower_code.specs.Helpers.{BarriersKnown, BarriersCounted, Lengt
 ghost use Rattle.lower_code.specs.Room.{FewParameters, FewElements};
 
 use crate::known::Known;
+use crate::positions::BodyPosition;
 use clmodel::tree::Function;
 use clnum::IntType;
 use regcode::Instruction;
@@ -50,16 +51,14 @@ pub struct StatementContext<'a> {
 }
 
 /// The body of a helper that is left out of code: the functions before the helper, what is known of them and the ends of names, the
-/// level of its first parameter, how many loops are round the call, and the number of its first barrier.
+/// helper, and where its body stands.
 #[derive(Clone, Copy)]
 pub struct Hole<'a> {
     pub functions: &'a [Function],
     pub known: &'a [Known],
     pub ends: &'a [usize],
     pub function: &'a Function,
-    pub level: u32,
-    pub depth: u32,
-    pub site: u32,
+    pub position: BodyPosition,
 }
 
 /// A part of code: an instruction, or the body of a helper that is left out.

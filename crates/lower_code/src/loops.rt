@@ -18,7 +18,7 @@ use clmodel::tree::{Expression, VariableType};
 use clnum::IntType;
 use lower_expr::emission::emit_expression;
 use lower_expr::instructions::add;
-use lower_expr::scope::{Scope, register_at};
+use lower_expr::scope::{Level, Register, Scope, register_at};
 use regcode::Instruction;
 use std::alloc::AllocError;
 
@@ -37,7 +37,7 @@ pub fn put_test(
     let level = scope.free_level();
     let mut front = Vec::new(scope.allocator());
     let kind = emit_expression(scope, level, test, &mut front)?;
-    let test = register_at(level, kind);
+    let test = register_at(level, kind).0;
     code.put(Instruction::JumpIfZero { test, by })?;
     code.put_all(front)
 }
@@ -101,10 +101,10 @@ pub fn end_while<'a>(
 /// Puts before the code that a function returns no value: one that gives a value ends the item there.
 pub fn put_no_value(
     kind: Option<IntType>,
-    level: u32,
+    level: Level,
     code: &mut Draft<'_>,
 ) -> Result<(), AllocError>
-    ensures code { OnOk result (code.new ≡ spec.no_value_code kind level ++ code.old) }
+    ensures code { OnOk result (code.new ≡ spec.no_value_code kind level.0 ++ code.old) }
     ensures longer { OnErr result (GrowsBefore code.old code.new) }
 {
     match kind {
@@ -131,19 +131,20 @@ pub fn put_return(
 #[tactic(auto, using(lower_expr::proofs::Growth::unchanged, lower_expr::proofs::Growth::behind))]
 fn add_value(
     kind: Option<IntType>,
-    level: u32,
-    from: u32,
+    level: Level,
+    from: Register,
     code: &mut Vec<Instruction>,
 ) -> Result<(), AllocError>
-    requires { level < 2 ^ 28 }
-    ensures code { OnOk result (code.new.items ≡ code.old.items ++ spec.value_code kind level from) }
+    requires { level.0 < 2 ^ 28 }
+    ensures code { OnOk result (code.new.items ≡ code.old.items ++ spec.value_code kind level.0 from.0) }
     ensures longer { OnErr result (IsLonger code.old.items code.new.items) }
 {
     match kind {
         None => Ok(()),
         Some(kind) => {
             let kind = VariableType::Integer(kind);
-            let to = register_at(level, kind);
+            let to = register_at(level, kind).0;
+            let from = from.0;
             add(code, Instruction::AssignConversion { to, from, kind })
         }
     }

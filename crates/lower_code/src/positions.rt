@@ -5,6 +5,8 @@ ghost use Rattle.std.specs.Prelude.{◌≡◌, ◌+◌, ◌<◌, ◌^◌};
 ghost use Rattle.lower_code.specs.Code as spec;
 ghost use Rattle.lower_code.specs.Emission.{exits_of};
 
+use lower_expr::scope::Level;
+
 /// How far behind the end of a statement's code its other ends are.
 #[derive(Clone, Copy)]
 pub struct Exits {
@@ -47,4 +49,13 @@ pub struct Position {
     pub depth: u32,
     pub site: u32,
     pub exits: Exits,
+}
+
+/// Where the body of a function stands: the level of its first parameter, how many loops are round it, and the number of its first
+/// barrier. The default is where the body of a kernel stands: each is 0.
+#[derive(Clone, Copy, Default)]
+pub struct BodyPosition {
+    pub level: Level,
+    pub depth: u32,
+    pub site: u32,
 }

@@ -107,7 +107,7 @@ pub fn emit_assignment<'a>(
             arguments,
             ..
         } => {
-            let split = call_statement(scope, *name, arguments, position.depth, position.site)?;
+            let split = call_statement(scope, *name, arguments, position)?;
             emit_split(setting.helpers, split, position, code)
         }
         _ => unreachable!(),

@@ -7,6 +7,7 @@ ghost use Rattle.clmodel.specs.Tree.{stmt};
 ghost use Rattle.clmodel.specs.Typing.Rules.{length_limit};
 ghost use Rattle.regcode.specs.declared.instruction.Instruction.TheVariants as instruction;
 ghost use Rattle.lower_expr.specs.Scope.{Scope, free_level, register_at};
+ghost use Rattle.lower_expr.specs.Registers.{numbers};
 ghost use Rattle.lower_code.specs.Variables as spec;
 ghost use Rattle.lower_code.specs.Trees.{all_of, part_of};
 ghost use Rattle.lower_code.specs.Growth.{GrowsBefore, KeepsOuter};
@@ -14,7 +15,7 @@ ghost use Rattle.lower_code.specs.Growth.{GrowsBefore, KeepsOuter};
 use crate::draft::Draft;
 use clmodel::tree::{AddressSpace, Parameter, PointerType, Statement, VariableType};
 use clnum::{IntType, Value};
-use lower_expr::scope::{Scope, level_at, register_at};
+use lower_expr::scope::{Level, PrivateArray, Register, Scope, level_at, register_at};
 use regcode::Instruction;
 use std::alloc::AllocError;
 
@@ -53,7 +54,11 @@ fn declare_array(
     if is_local {
         return scope.declare(name, local_pointer(element));
     }
-    scope.declare_array(name, element, array_length(length))
+    scope.declare_array(PrivateArray {
+        name,
+        element,
+        length: array_length(length),
+    })
 }
 
 /// Declares the variable of a declaration.
@@ -135,13 +140,13 @@ pub fn declare_parameters(scope: &mut Scope, parameters: &[Parameter]) -> Result
 }
 
 /// The instruction that gives a parameter its argument at a level; one without an argument is unset.
-fn pass_one(parameter: Parameter, arguments: &[u32], place: usize, level: u32) -> Instruction
-    requires { level < 2 ^ 28 }
-    ensures { result ∷ [] ≡ spec.pass_code (parameter ∷ []) (drop place arguments.now) level }
+fn pass_one(parameter: Parameter, arguments: &[Register], place: usize, level: Level) -> Instruction
+    requires { level.0 < 2 ^ 28 }
+    ensures { result ∷ [] ≡ spec.pass_code (parameter ∷ []) (numbers (drop place arguments.now)) level.0 }
 {
-    let to = register_at(level, parameter.kind);
+    let to = register_at(level, parameter.kind).0;
     if place < arguments.len() {
-        let from = arguments[place];
+        let from = arguments[place].0;
         let kind = parameter.kind;
         return Instruction::AssignConversion { to, from, kind };
     }
@@ -151,12 +156,12 @@ fn pass_one(parameter: Parameter, arguments: &[u32], place: usize, level: u32) -
 /// Puts before the code what gives the parameters of a helper from a level on the arguments of a call.
 pub fn put_passed(
     parameters: &[Parameter],
-    arguments: &[u32],
-    level: u32,
+    arguments: &[Register],
+    level: Level,
     code: &mut Draft<'_>,
 ) -> Result<(), AllocError>
-    requires { level + length parameters.now ≤ 2 ^ 28 }
-    ensures code { OnOk result (code.new ≡ spec.pass_code parameters.now arguments.now level ++ code.old) }
+    requires { level.0 + length parameters.now ≤ 2 ^ 28 }
+    ensures code { OnOk result (code.new ≡ spec.pass_code parameters.now (numbers arguments.now) level.0 ++ code.old) }
     ensures longer { OnErr result (GrowsBefore code.old code.new) }
 {
     for i in 0..parameters.len() {
@@ -176,8 +181,9 @@ pub fn put_arguments(parameters: &[Parameter], code: &mut Draft<'_>) -> Result<(
     for i in 0..parameters.len() {
         let place = parameters.len() - 1 - i;
         let kind = parameters[place].kind;
-        let number = level_at(0, place);
-        let to = register_at(number, kind);
+        let at = level_at(Level(0), place);
+        let to = register_at(at, kind).0;
+        let number = at.0;
         code.put(Instruction::Argument { to, number, kind })?;
     }
     Ok(())
@@ -190,7 +196,7 @@ pub fn put_unset(scope: &Scope, kind: VariableType, code: &mut Draft<'_>) -> Res
     ensures longer { OnErr result (GrowsBefore code.old code.new) }
 {
     let level = scope.free_level();
-    let to = register_at(level, kind);
+    let to = register_at(level, kind).0;
     code.put(Instruction::Unset { to })
 }
 
@@ -207,9 +213,9 @@ pub fn put_array(
     ensures code { OnOk result (code.new ≡ spec.array_code is_local element (tree.array_length size) (length scope.now.variables) (free_level scope.now) ++ code.old) }
     ensures longer { OnErr result (GrowsBefore code.old code.new) }
 {
-    let array = scope.free_level();
+    let level = scope.free_level();
     if is_local {
-        let to = register_at(array, local_pointer(element));
+        let to = register_at(level, local_pointer(element)).0;
         let number = scope.len() as u32;
         return code.put(Instruction::Local {
             to,
@@ -217,7 +223,8 @@ pub fn put_array(
             element,
         });
     }
-    let to = register_at(array, VariableType::Integer(element));
+    let to = register_at(level, VariableType::Integer(element)).0;
+    let array = level.0;
     let length = array_length(size);
     code.put(Instruction::UnsetArray { array, length })?;
     code.put(Instruction::Unset { to })

@@ -4,3 +4,4 @@ pub mod Agreement
 pub mod Index
 pub mod Targets
 pub mod Growth
+pub mod Registers

@@ -5,14 +5,14 @@ ghost use Rattle.std.specs.Prelude.{◌≡◌, ℕ, ◌+◌, ◌<◌, ◌≤◌,
 ghost use Rattle.clmodel.specs.Tree.{Target as TreeTarget, tree_target};
 ghost use Rattle.clmodel.specs.Typing.Sizes.{target_size};
 ghost use Rattle.lower_expr.specs.Scope.{free_level, register_of};
-ghost use Rattle.lower_expr.specs.Expressions.{kind_named, variable_code, target_code, target_register};
+ghost use Rattle.lower_expr.specs.Expressions.{kind_named, target_code, target_register};
 ghost use Rattle.lower_expr.specs.Growth.{IsLonger};
 ghost use Rattle.lower_expr.specs.Targets as spec;
 ghost use Rattle.lower_expr.specs.Targets.{target_name, destination_of};
 
 use crate::emission::{TargetKind, emit_target};
-use crate::instructions::{add, private_load, private_store};
-use crate::scope::{Scope, register_at};
+use crate::instructions::{add, fetch_variable, private_load, private_store};
+use crate::scope::{Level, Register, Scope, level_at, register_at};
 use crate::types::{base_type, infix_type};
 use clmodel::tree::{InfixOperator, Target, VariableType};
 use clnum::BinaryOperator;
@@ -40,13 +40,13 @@ fn target_name(target: &Target) -> u32
 /// Adds the code of a target, which leaves its index or a pointer to it at a level.
 pub fn reach(
     scope: &Scope,
-    level: u32,
+    level: Level,
     target: &Target,
     code: &mut Vec<Instruction>,
 ) -> Result<Destination, AllocError>
-    requires free { free_level scope.now ≤ level }
-    requires low { level + (target_size [] (tree_target target.now)).nodes < 2 ^ 28 }
-    ensures code { IfOk result (λ _. code.new.items ≡ code.old.items ++ target_code scope.now level (tree_target target.now)) }
+    requires free { free_level scope.now ≤ level.0 }
+    requires low { level.0 + (target_size [] (tree_target target.now)).nodes < 2 ^ 28 }
+    ensures code { IfOk result (λ _. code.new.items ≡ code.old.items ++ target_code scope.now level.0 (tree_target target.now)) }
     ensures found { IfOk result (λ destination. destination ≡ destination_of scope.now (tree_target target.now)) }
     ensures longer { OnErr result (IsLonger code.old.items code.new.items) }
 {
@@ -71,15 +71,15 @@ pub fn destination_type(scope: &Scope, destination: Destination) -> VariableType
 /// Adds the code that fetches the value which is there.
 pub fn fetch(
     scope: &Scope,
-    level: u32,
+    level: Level,
     destination: Destination,
-    to: u32,
+    to: Register,
     code: &mut Vec<Instruction>,
 ) -> Result<(), AllocError>
-    requires free { free_level scope.now ≤ level }
-    requires low { level < 2 ^ 28 }
+    requires free { free_level scope.now ≤ level.0 }
+    requires low { level.0 < 2 ^ 28 }
     ensures code { OnOk result ((target : TreeTarget) → destination ≡ destination_of scope.now target
-        → code.new.items ≡ code.old.items ++ spec.fetch_code scope.now target (target_register scope.now level target) to) }
+        → code.new.items ≡ code.old.items ++ spec.fetch_code scope.now target (target_register scope.now level.0 target) to.0) }
     ensures longer { OnErr result (IsLonger code.old.items code.new.items) }
 {
     match destination.kind {
@@ -90,27 +90,13 @@ pub fn fetch(
         }
         TargetKind::Pointer(pointer) => {
             let pointer = register_at(level, pointer);
-            add(code, Instruction::Load { to, pointer })
-        }
-    }
-}
-
-/// Adds the code of a variable's value.
-fn fetch_variable(
-    scope: &Scope,
-    name: u32,
-    to: u32,
-    code: &mut Vec<Instruction>,
-) -> Result<(), AllocError>
-    requires { free_level scope.now ≤ 2 ^ 28 }
-    ensures code { OnOk result (code.new.items ≡ code.old.items ++ variable_code to (register_of scope.now name) name) }
-    ensures longer { OnErr result (IsLonger code.old.items code.new.items) }
-{
-    match scope.register(name) {
-        Some(from) => add(code, Instruction::Move { to, from, name }),
-        None => {
-            add(code, Instruction::Unset { to })?;
-            add(code, Instruction::Move { to, from: to, name })
+            add(
+                code,
+                Instruction::Load {
+                    to: to.0,
+                    pointer: pointer.0,
+                },
+            )
         }
     }
 }
@@ -118,15 +104,15 @@ fn fetch_variable(
 /// Adds the code that puts a register's value there.
 pub fn put(
     scope: &Scope,
-    level: u32,
+    level: Level,
     destination: Destination,
-    from: u32,
+    from: Register,
     code: &mut Vec<Instruction>,
 ) -> Result<(), AllocError>
-    requires free { free_level scope.now ≤ level }
-    requires low { level < 2 ^ 28 }
+    requires free { free_level scope.now ≤ level.0 }
+    requires low { level.0 < 2 ^ 28 }
     ensures code { OnOk result ((target : TreeTarget) → destination ≡ destination_of scope.now target
-        → code.new.items ≡ code.old.items ++ spec.put_code scope.now target (target_register scope.now level target) from) }
+        → code.new.items ≡ code.old.items ++ spec.put_code scope.now target (target_register scope.now level.0 target) from.0) }
     ensures longer { OnErr result (IsLonger code.old.items code.new.items) }
 {
     match destination.kind {
@@ -140,8 +126,8 @@ pub fn put(
             add(
                 code,
                 Instruction::Store {
-                    pointer,
-                    value: from,
+                    pointer: pointer.0,
+                    value: from.0,
                 },
             )
         }
@@ -149,9 +135,14 @@ pub fn put(
 }
 
 /// Adds the code that gives a variable a register's value.
-fn hold(scope: &Scope, name: u32, from: u32, code: &mut Vec<Instruction>) -> Result<(), AllocError>
+fn hold(
+    scope: &Scope,
+    name: u32,
+    from: Register,
+    code: &mut Vec<Instruction>,
+) -> Result<(), AllocError>
     requires { free_level scope.now ≤ 2 ^ 28 }
-    ensures code { OnOk result (code.new.items ≡ code.old.items ++ spec.hold_code (register_of scope.now name) from (kind_named scope.now name)) }
+    ensures code { OnOk result (code.new.items ≡ code.old.items ++ spec.hold_code (register_of scope.now name) from.0 (kind_named scope.now name)) }
     ensures longer { OnErr result (IsLonger code.old.items code.new.items) }
 {
     let kind = scope.kind(name);
@@ -159,28 +150,35 @@ fn hold(scope: &Scope, name: u32, from: u32, code: &mut Vec<Instruction>) -> Res
         Some(to) => to,
         None => from,
     };
-    add(code, Instruction::AssignConversion { to, from, kind })
+    add(
+        code,
+        Instruction::AssignConversion {
+            to: to.0,
+            from: from.0,
+            kind,
+        },
+    )
 }
 
 /// Adds the code of an operator on the value that was there and on a right operand of a type, whose value is put there.
 pub fn combine(
     scope: &Scope,
-    level: u32,
+    level: Level,
     destination: Destination,
     operator: BinaryOperator,
     kind: VariableType,
-    old: u32,
-    right: u32,
+    old: Register,
+    right: Register,
     code: &mut Vec<Instruction>,
 ) -> Result<(), AllocError>
-    requires free { free_level scope.now ≤ level }
-    requires low { level + 1 < 2 ^ 28 }
+    requires free { free_level scope.now ≤ level.0 }
+    requires low { level.0 + 1 < 2 ^ 28 }
     ensures code { OnOk result ((target : TreeTarget) → destination ≡ destination_of scope.now target
-        → code.new.items ≡ code.old.items ++ spec.combine_code scope.now target level operator kind old right) }
+        → code.new.items ≡ code.old.items ++ spec.combine_code scope.now target level.0 operator kind old.0 right.0) }
     ensures longer { OnErr result (IsLonger code.old.items code.new.items) }
 {
     let first = destination_type(scope, destination);
-    let above = level + 1;
+    let above = level_at(level, 1);
     let to = register_at(
         above,
         infix_type(InfixOperator::Arithmetic(operator), first, kind),
@@ -188,10 +186,10 @@ pub fn combine(
     add(
         code,
         Instruction::Binary {
-            to,
+            to: to.0,
             operator,
-            left: old,
-            right,
+            left: old.0,
+            right: right.0,
         },
     )?;
     put(scope, level, destination, to, code)

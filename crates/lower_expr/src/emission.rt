@@ -8,12 +8,13 @@ ghost use Rattle.clmodel.specs.Typing.Sizes.{term_size, terms_size, target_size}
 ghost use Rattle.lower_expr.specs.Scope.{free_level};
 ghost use Rattle.lower_expr.specs.Expressions.{kind_of, kind_named, expr_code, address_code, terms_code, registers_for, target_code, target_kind};
 ghost use Rattle.lower_expr.specs.Growth.{IsLonger};
+ghost use Rattle.lower_expr.specs.Registers.{numbers};
 
 use crate::instructions::{
     Arguments, array_element, call, cast, load, number, offset, point, unary, variable,
 };
 use crate::jumps::{begin_choice, begin_infix, between_branches, end_choice, end_infix};
-use crate::scope::{Scope, level_at, register_at};
+use crate::scope::{Level, Scope, level_at, register_at};
 use crate::types::base_type;
 use clmodel::setup::built_in_named;
 use clmodel::tree::{Expression, Target, VariableType};
@@ -23,15 +24,15 @@ use smallvec::SmallVec;
 use std::alloc::AllocError;
 
 /// The levels that an expression needs have registers. This is the contract of a function that does nothing: what it asks is shown at its call.
-fn level_suffices(level: u32, expression: &Expression)
-    requires { level + (term_size [] (term expression.now)).nodes < 2 ^ 28 }
-    ensures { level + (term_size [] (term expression.now)).nodes < 2 ^ 28 }
+fn level_suffices(level: Level, expression: &Expression)
+    requires { level.0 + (term_size [] (term expression.now)).nodes < 2 ^ 28 }
+    ensures { level.0 + (term_size [] (term expression.now)).nodes < 2 ^ 28 }
 {}
 
 /// The same of arguments.
-fn levels_suffice(level: u32, arguments: &[Expression])
-    requires { level + (terms_size [] (terms arguments.now)).nodes < 2 ^ 28 }
-    ensures { level + (terms_size [] (terms arguments.now)).nodes < 2 ^ 28 }
+fn levels_suffice(level: Level, arguments: &[Expression])
+    requires { level.0 + (terms_size [] (terms arguments.now)).nodes < 2 ^ 28 }
+    ensures { level.0 + (terms_size [] (terms arguments.now)).nodes < 2 ^ 28 }
 {}
 
 /// Adds the code of an expression, which leaves its value in the register of its type at a level, and gives its type (OpenCL 1.2,
@@ -39,13 +40,13 @@ fn levels_suffice(level: u32, arguments: &[Expression])
 #[cycle(emission)]
 pub fn emit_expression(
     scope: &Scope,
-    level: u32,
+    level: Level,
     expression: &Expression,
     code: &mut Vec<Instruction>,
 ) -> Result<VariableType, AllocError>
-    requires free { free_level scope.now ≤ level }
-    requires low { level + (term_size [] (term expression.now)).nodes < 2 ^ 28 }
-    ensures code { IfOk result (λ kind. code.new.items ≡ code.old.items ++ expr_code scope.now level (term expression.now)) }
+    requires free { free_level scope.now ≤ level.0 }
+    requires low { level.0 + (term_size [] (term expression.now)).nodes < 2 ^ 28 }
+    ensures code { IfOk result (λ kind. code.new.items ≡ code.old.items ++ expr_code scope.now level.0 (term expression.now)) }
     ensures kind { IfOk result (λ kind. kind ≡ kind_of scope.now (term expression.now)) }
     ensures longer { OnErr result (IsLonger code.old.items code.new.items) }
 {
@@ -102,7 +103,7 @@ pub fn emit_expression(
         } => {
             let first = emit_expression(scope, level, left, code)?;
             let place = begin_infix(level, *operator, first, code)?;
-            let second = emit_expression(scope, level + 1, right, code)?;
+            let second = emit_expression(scope, level_at(level, 1), right, code)?;
             let kind = end_infix(level, *operator, first, second, place, code)?;
             Ok(kind)
         }
@@ -127,19 +128,19 @@ pub fn emit_expression(
 #[cycle(emission)]
 fn emit_address(
     scope: &Scope,
-    level: u32,
+    level: Level,
     name: u32,
     index: &Expression,
     code: &mut Vec<Instruction>,
 ) -> Result<VariableType, AllocError>
-    requires free { free_level scope.now ≤ level }
-    requires low { level + 1 + (term_size [] (term index.now)).nodes < 2 ^ 28 }
-    ensures code { IfOk result (λ pointer. code.new.items ≡ code.old.items ++ address_code scope.now level name (term index.now)) }
+    requires free { free_level scope.now ≤ level.0 }
+    requires low { level.0 + 1 + (term_size [] (term index.now)).nodes < 2 ^ 28 }
+    ensures code { IfOk result (λ pointer. code.new.items ≡ code.old.items ++ address_code scope.now level.0 name (term index.now)) }
     ensures kind { IfOk result (λ pointer. pointer ≡ kind_named scope.now name) }
     ensures longer { OnErr result (IsLonger code.old.items code.new.items) }
 {
     let pointer = variable(scope, level, name, code)?;
-    let index = emit_expression(scope, level + 1, index, code)?;
+    let index = emit_expression(scope, level_at(level, 1), index, code)?;
     offset(level, pointer, index, code)?;
     Ok(pointer)
 }
@@ -149,14 +150,14 @@ fn emit_address(
 #[cycle(emission)]
 pub fn emit_arguments(
     scope: &Scope,
-    level: u32,
+    level: Level,
     arguments: &[Expression],
     code: &mut Vec<Instruction>,
 ) -> Result<Arguments, AllocError>
-    requires free { free_level scope.now ≤ level }
-    requires low { level + (terms_size [] (terms arguments.now)).nodes < 2 ^ 28 }
-    ensures code { IfOk result (λ found. code.new.items ≡ code.old.items ++ terms_code scope.now level (terms arguments.now)) }
-    ensures registers { IfOk result (λ found. found.registers.items ≡ registers_for scope.now level (terms arguments.now)) }
+    requires free { free_level scope.now ≤ level.0 }
+    requires low { level.0 + (terms_size [] (terms arguments.now)).nodes < 2 ^ 28 }
+    ensures code { IfOk result (λ found. code.new.items ≡ code.old.items ++ terms_code scope.now level.0 (terms arguments.now)) }
+    ensures registers { IfOk result (λ found. numbers found.registers.items ≡ registers_for scope.now level.0 (terms arguments.now)) }
     ensures kind { IfOk result (λ found. found.kind ≡ argument_type scope.now.variables (terms arguments.now)) }
     ensures longer { OnErr result (IsLonger code.old.items code.new.items) }
 {
@@ -190,13 +191,13 @@ pub enum TargetKind {
 /// nothing where it is a variable as a whole (C99 6.5.16). Err if out of memory.
 pub fn emit_target(
     scope: &Scope,
-    level: u32,
+    level: Level,
     target: &Target,
     code: &mut Vec<Instruction>,
 ) -> Result<TargetKind, AllocError>
-    requires free { free_level scope.now ≤ level }
-    requires low { level + (target_size [] (tree_target target.now)).nodes < 2 ^ 28 }
-    ensures code { IfOk result (λ found. code.new.items ≡ code.old.items ++ target_code scope.now level (tree_target target.now)) }
+    requires free { free_level scope.now ≤ level.0 }
+    requires low { level.0 + (target_size [] (tree_target target.now)).nodes < 2 ^ 28 }
+    ensures code { IfOk result (λ found. code.new.items ≡ code.old.items ++ target_code scope.now level.0 (tree_target target.now)) }
     ensures kind { IfOk result (λ found. found ≡ target_kind scope.now (tree_target target.now)) }
     ensures longer { OnErr result (IsLonger code.old.items code.new.items) }
 {

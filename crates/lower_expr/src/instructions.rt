@@ -11,8 +11,9 @@ ghost use Rattle.regcode.specs.declared.instruction.Instruction.TheVariants as i
 ghost use Rattle.lower_expr.specs.Scope.{free_level, register_at, register_of};
 ghost use Rattle.lower_expr.specs.Expressions as expressions;
 ghost use Rattle.lower_expr.specs.Growth.{IsLonger};
+ghost use Rattle.lower_expr.specs.Registers.{numbers};
 
-use crate::scope::{Scope, register_at};
+use crate::scope::{Level, Register, Scope, level_at, register_at};
 use crate::types::{base_type, call_type, infix_type};
 use clmodel::setup::{AtomicFunction, BuiltIn, WorkItemFunction};
 use clmodel::tree::{InfixOperator, VariableType};
@@ -32,100 +33,121 @@ pub fn add(code: &mut Vec<Instruction>, instruction: Instruction) -> Result<(), 
 
 /// Adds the code of a number, and gives its type.
 pub(crate) fn number(
-    level: u32,
+    level: Level,
     value: Value,
     code: &mut Vec<Instruction>,
 ) -> Result<VariableType, AllocError>
-    requires { level < 2 ^ 28 }
-    ensures code { IfOk result (λ kind. code.new.items ≡ code.old.items ++ instruction.Constant (register_at level (kinds.Integer value.kind)) value ∷ []) }
+    requires { level.0 < 2 ^ 28 }
+    ensures code { IfOk result (λ kind. code.new.items ≡ code.old.items ++ instruction.Constant (register_at level.0 (kinds.Integer value.kind)) value ∷ []) }
     ensures kind { IfOk result (λ kind. kind ≡ kinds.Integer value.kind) }
     ensures longer { OnErr result (IsLonger code.old.items code.new.items) }
 {
     let kind = VariableType::Integer(value.kind());
     let to = register_at(level, kind);
-    add(code, Instruction::Constant { to, value })?;
+    add(code, Instruction::Constant { to: to.0, value })?;
     Ok(kind)
+}
+
+/// Adds the code of a variable's value, which is left in a register.
+pub(crate) fn fetch_variable(
+    scope: &Scope,
+    name: u32,
+    to: Register,
+    code: &mut Vec<Instruction>,
+) -> Result<(), AllocError>
+    requires { free_level scope.now ≤ 2 ^ 28 }
+    ensures code { OnOk result (code.new.items ≡ code.old.items ++ expressions.variable_code to.0 (register_of scope.now name) name) }
+    ensures longer { OnErr result (IsLonger code.old.items code.new.items) }
+{
+    let to = to.0;
+    match scope.register(name) {
+        Some(Register(from)) => add(code, Instruction::Move { to, from, name }),
+        None => {
+            add(code, Instruction::Unset { to })?;
+            add(code, Instruction::Move { to, from: to, name })
+        }
+    }
 }
 
 /// Adds the code of a variable's value, and gives its type.
 pub(crate) fn variable(
     scope: &Scope,
-    level: u32,
+    level: Level,
     name: u32,
     code: &mut Vec<Instruction>,
 ) -> Result<VariableType, AllocError>
-    requires free { free_level scope.now ≤ level }
-    requires low { level < 2 ^ 28 }
+    requires free { free_level scope.now ≤ level.0 }
+    requires low { level.0 < 2 ^ 28 }
     ensures code { IfOk result (λ kind. code.new.items
-        ≡ code.old.items ++ expressions.variable_code (register_at level (expressions.kind_named scope.now name)) (register_of scope.now name) name) }
+        ≡ code.old.items ++ expressions.variable_code (register_at level.0 (expressions.kind_named scope.now name)) (register_of scope.now name) name) }
     ensures kind { IfOk result (λ kind. kind ≡ expressions.kind_named scope.now name) }
     ensures longer { OnErr result (IsLonger code.old.items code.new.items) }
 {
     let kind = scope.kind(name);
     let to = register_at(level, kind);
-    match scope.register(name) {
-        Some(from) => add(code, Instruction::Move { to, from, name })?,
-        None => {
-            add(code, Instruction::Unset { to })?;
-            add(code, Instruction::Move { to, from: to, name })?;
-        }
-    }
+    fetch_variable(scope, name, to, code)?;
     Ok(kind)
 }
 
 /// Adds the move of a pointer of this type at a level by an index of that type at the level above.
 pub(crate) fn offset(
-    level: u32,
+    level: Level,
     pointer: VariableType,
     index: VariableType,
     code: &mut Vec<Instruction>,
 ) -> Result<(), AllocError>
-    requires { level + 1 < 2 ^ 28 }
+    requires { level.0 + 1 < 2 ^ 28 }
     ensures code { OnOk result (code.new.items
-        ≡ code.old.items ++ instruction.Offset (register_at level pointer) (register_at level pointer) (register_at (level + 1) index) ∷ []) }
+        ≡ code.old.items ++ instruction.Offset (register_at level.0 pointer) (register_at level.0 pointer) (register_at (level.0 + 1) index) ∷ []) }
     ensures longer { OnErr result (IsLonger code.old.items code.new.items) }
 {
     let pointer = register_at(level, pointer);
-    let index = register_at(level + 1, index);
+    let index = register_at(level_at(level, 1), index);
     add(
         code,
         Instruction::Offset {
-            to: pointer,
-            pointer,
-            index,
+            to: pointer.0,
+            pointer: pointer.0,
+            index: index.0,
         },
     )
 }
 
 /// Adds the load of what a pointer of this type points to, and gives its type.
 pub(crate) fn load(
-    level: u32,
+    level: Level,
     pointer: VariableType,
     code: &mut Vec<Instruction>,
 ) -> Result<VariableType, AllocError>
-    requires { level < 2 ^ 28 }
+    requires { level.0 < 2 ^ 28 }
     ensures code { IfOk result (λ kind. code.new.items
-        ≡ code.old.items ++ instruction.Load (register_at level (kinds.Integer (next.base_type pointer))) (register_at level pointer) ∷ []) }
+        ≡ code.old.items ++ instruction.Load (register_at level.0 (kinds.Integer (next.base_type pointer))) (register_at level.0 pointer) ∷ []) }
     ensures kind { IfOk result (λ kind. kind ≡ kinds.Integer (next.base_type pointer)) }
     ensures longer { OnErr result (IsLonger code.old.items code.new.items) }
 {
     let kind = VariableType::Integer(base_type(pointer));
     let to = register_at(level, kind);
     let pointer = register_at(level, pointer);
-    add(code, Instruction::Load { to, pointer })?;
+    add(
+        code,
+        Instruction::Load {
+            to: to.0,
+            pointer: pointer.0,
+        },
+    )?;
     Ok(kind)
 }
 
 /// Adds the load of an element of the private array of a name, by the index that a register holds.
 pub fn private_load(
     scope: &Scope,
-    to: u32,
+    to: Register,
     name: u32,
-    index: u32,
+    index: Register,
     code: &mut Vec<Instruction>,
 ) -> Result<(), AllocError>
     requires { free_level scope.now ≤ 2 ^ 28 }
-    ensures code { OnOk result (code.new.items ≡ code.old.items ++ expressions.private_load scope.now to name index ∷ []) }
+    ensures code { OnOk result (code.new.items ≡ code.old.items ++ expressions.private_load scope.now to.0 name index.0 ∷ []) }
     ensures longer { OnErr result (IsLonger code.old.items code.new.items) }
 {
     let array = scope.level(name);
@@ -133,9 +155,9 @@ pub fn private_load(
     add(
         code,
         Instruction::PrivateLoad {
-            to,
-            array,
-            index,
+            to: to.0,
+            array: array.0,
+            index: index.0,
             element,
             name,
         },
@@ -145,15 +167,15 @@ pub fn private_load(
 /// Adds the load of an element of the private array of a name at a level, by its index of this type there, and gives its type.
 pub(crate) fn array_element(
     scope: &Scope,
-    level: u32,
+    level: Level,
     name: u32,
     index: VariableType,
     code: &mut Vec<Instruction>,
 ) -> Result<VariableType, AllocError>
-    requires free { free_level scope.now ≤ level }
-    requires low { level < 2 ^ 28 }
+    requires free { free_level scope.now ≤ level.0 }
+    requires low { level.0 < 2 ^ 28 }
     ensures code { IfOk result (λ kind. code.new.items ≡ code.old.items
-        ++ expressions.private_load scope.now (register_at level (kinds.Integer (expressions.type_of_elements scope.now name))) name (register_at level index) ∷ []) }
+        ++ expressions.private_load scope.now (register_at level.0 (kinds.Integer (expressions.type_of_elements scope.now name))) name (register_at level.0 index) ∷ []) }
     ensures kind { IfOk result (λ kind. kind ≡ kinds.Integer (expressions.type_of_elements scope.now name)) }
     ensures longer { OnErr result (IsLonger code.old.items code.new.items) }
 {
@@ -168,12 +190,12 @@ pub(crate) fn array_element(
 pub fn private_store(
     scope: &Scope,
     name: u32,
-    index: u32,
-    value: u32,
+    index: Register,
+    value: Register,
     code: &mut Vec<Instruction>,
 ) -> Result<(), AllocError>
     requires { free_level scope.now ≤ 2 ^ 28 }
-    ensures code { OnOk result (code.new.items ≡ code.old.items ++ expressions.private_store scope.now name index value ∷ []) }
+    ensures code { OnOk result (code.new.items ≡ code.old.items ++ expressions.private_store scope.now name index.0 value.0 ∷ []) }
     ensures longer { OnErr result (IsLonger code.old.items code.new.items) }
 {
     let array = scope.level(name);
@@ -182,9 +204,9 @@ pub fn private_store(
     add(
         code,
         Instruction::PrivateStore {
-            array,
-            index,
-            value,
+            array: array.0,
+            index: index.0,
+            value: value.0,
             element,
             name,
         },
@@ -193,28 +215,34 @@ pub fn private_store(
 
 /// Adds the test that a value of this type at a level is a pointer.
 pub(crate) fn point(
-    level: u32,
+    level: Level,
     pointer: VariableType,
     code: &mut Vec<Instruction>,
 ) -> Result<(), AllocError>
-    requires { level < 2 ^ 28 }
-    ensures code { OnOk result (code.new.items ≡ code.old.items ++ instruction.MovePointer (register_at level pointer) (register_at level pointer) ∷ []) }
+    requires { level.0 < 2 ^ 28 }
+    ensures code { OnOk result (code.new.items ≡ code.old.items ++ instruction.MovePointer (register_at level.0 pointer) (register_at level.0 pointer) ∷ []) }
     ensures longer { OnErr result (IsLonger code.old.items code.new.items) }
 {
     let from = register_at(level, pointer);
-    add(code, Instruction::MovePointer { to: from, from })
+    add(
+        code,
+        Instruction::MovePointer {
+            to: from.0,
+            from: from.0,
+        },
+    )
 }
 
 /// Adds an operator on an operand of this type, and gives its type.
 pub(crate) fn unary(
-    level: u32,
+    level: Level,
     operator: UnaryOperator,
     operand: VariableType,
     code: &mut Vec<Instruction>,
 ) -> Result<VariableType, AllocError>
-    requires { level < 2 ^ 28 }
+    requires { level.0 < 2 ^ 28 }
     ensures code { IfOk result (λ kind. code.new.items
-        ≡ code.old.items ++ instruction.Unary (register_at level (kinds.Integer (operations.unary_kind operator (next.base_type operand)))) operator (register_at level operand) ∷ []) }
+        ≡ code.old.items ++ instruction.Unary (register_at level.0 (kinds.Integer (operations.unary_kind operator (next.base_type operand)))) operator (register_at level.0 operand) ∷ []) }
     ensures kind { IfOk result (λ kind. kind ≡ kinds.Integer (operations.unary_kind operator (next.base_type operand))) }
     ensures longer { OnErr result (IsLonger code.old.items code.new.items) }
 {
@@ -224,9 +252,9 @@ pub(crate) fn unary(
     add(
         code,
         Instruction::Unary {
-            to,
+            to: to.0,
             operator,
-            operand,
+            operand: operand.0,
         },
     )?;
     Ok(kind)
@@ -234,14 +262,14 @@ pub(crate) fn unary(
 
 /// Adds a cast of an operand of this type, and gives its type.
 pub(crate) fn cast(
-    level: u32,
+    level: Level,
     target: IntType,
     operand: VariableType,
     code: &mut Vec<Instruction>,
 ) -> Result<VariableType, AllocError>
-    requires { level < 2 ^ 28 }
+    requires { level.0 < 2 ^ 28 }
     ensures code { IfOk result (λ kind. code.new.items
-        ≡ code.old.items ++ instruction.Convert (register_at level (kinds.Integer target)) (register_at level operand) target ∷ []) }
+        ≡ code.old.items ++ instruction.Convert (register_at level.0 (kinds.Integer target)) (register_at level.0 operand) target ∷ []) }
     ensures kind { IfOk result (λ kind. kind ≡ kinds.Integer target) }
     ensures longer { OnErr result (IsLonger code.old.items code.new.items) }
 {
@@ -251,8 +279,8 @@ pub(crate) fn cast(
     add(
         code,
         Instruction::Convert {
-            to,
-            from,
+            to: to.0,
+            from: from.0,
             kind: target,
         },
     )?;
@@ -262,21 +290,21 @@ pub(crate) fn cast(
 /// The registers of arguments from left to right, and the integer type of the first, or of what it points to; int where there is none.
 #[derive(Drop)]
 pub struct Arguments {
-    pub registers: SmallVec<u32, 2>,
+    pub registers: SmallVec<Register, 2>,
     pub kind: IntType,
 }
 
 /// Adds the call of a built-in function that gives a value, and gives its type. Where there is no such function with that many
 /// arguments, the item ends.
 pub(crate) fn call(
-    level: u32,
+    level: Level,
     function: Option<BuiltIn>,
     arguments: &Arguments,
     code: &mut Vec<Instruction>,
 ) -> Result<VariableType, AllocError>
-    requires { level < 2 ^ 28 }
+    requires { level.0 < 2 ^ 28 }
     ensures code { IfOk result (λ kind. code.new.items
-        ≡ code.old.items ++ expressions.call_code function (register_at level (kinds.Integer (next.call_type function arguments.now.kind))) arguments.now.registers.items) }
+        ≡ code.old.items ++ expressions.call_code function (register_at level.0 (kinds.Integer (next.call_type function arguments.now.kind))) (numbers arguments.now.registers.items)) }
     ensures kind { IfOk result (λ kind. kind ≡ kinds.Integer (next.call_type function arguments.now.kind)) }
     ensures longer { OnErr result (IsLonger code.old.items code.new.items) }
 {
@@ -293,11 +321,11 @@ pub(crate) fn call(
 /// function with that many arguments, the item ends.
 pub fn call_only(
     function: BuiltIn,
-    to: u32,
-    arguments: &[u32],
+    to: Register,
+    arguments: &[Register],
     code: &mut Vec<Instruction>,
 ) -> Result<(), AllocError>
-    ensures code { OnOk result (code.new.items ≡ code.old.items ++ expressions.call_only_code (Some function) to arguments.now) }
+    ensures code { OnOk result (code.new.items ≡ code.old.items ++ expressions.call_only_code (Some function) to.0 (numbers arguments.now)) }
     ensures longer { OnErr result (IsLonger code.old.items code.new.items) }
 {
     let instruction = match function {
@@ -311,8 +339,8 @@ pub fn call_only(
 }
 
 /// The call of a built-in function that gives a value.
-fn value_call(function: Option<BuiltIn>, to: u32, arguments: &[u32]) -> Instruction
-    ensures { result ∷ [] ≡ expressions.call_code function to arguments.now }
+fn value_call(function: Option<BuiltIn>, to: Register, arguments: &[Register]) -> Instruction
+    ensures { result ∷ [] ≡ expressions.call_code function to.0 (numbers arguments.now) }
 {
     match function {
         Some(BuiltIn::WorkDim) => dimensions(to, arguments),
@@ -324,29 +352,29 @@ fn value_call(function: Option<BuiltIn>, to: u32, arguments: &[u32]) -> Instruct
 }
 
 /// The call of an atomic function whose value is used.
-fn fetch(to: u32, function: AtomicFunction, arguments: &[u32]) -> Instruction
-    ensures { result ∷ [] ≡ expressions.call_code (Some (built_in_function.Atomic function)) to arguments.now }
+fn fetch(to: Register, function: AtomicFunction, arguments: &[Register]) -> Instruction
+    ensures { result ∷ [] ≡ expressions.call_code (Some (built_in_function.Atomic function)) to.0 (numbers arguments.now) }
 {
     match arguments {
         [pointer] => Instruction::Fetch {
-            to,
+            to: to.0,
             function,
-            pointer: *pointer,
+            pointer: pointer.0,
             operands: FetchOperands::Alone,
         },
         [pointer, value] => Instruction::Fetch {
-            to,
+            to: to.0,
             function,
-            pointer: *pointer,
-            operands: FetchOperands::Number(*value),
+            pointer: pointer.0,
+            operands: FetchOperands::Number(value.0),
         },
         [pointer, expected, value] => Instruction::Fetch {
-            to,
+            to: to.0,
             function,
-            pointer: *pointer,
+            pointer: pointer.0,
             operands: FetchOperands::Pair {
-                expected: *expected,
-                value: *value,
+                expected: expected.0,
+                value: value.0,
             },
         },
         _ => Instruction::End,
@@ -354,64 +382,64 @@ fn fetch(to: u32, function: AtomicFunction, arguments: &[u32]) -> Instruction
 }
 
 /// An atomic update.
-fn update(function: AtomicFunction, arguments: &[u32]) -> Instruction
-    ensures { result ∷ [] ≡ expressions.update_code function arguments.now }
+fn update(function: AtomicFunction, arguments: &[Register]) -> Instruction
+    ensures { result ∷ [] ≡ expressions.update_code function (numbers arguments.now) }
 {
     match arguments {
         [pointer] => Instruction::Update {
             function,
-            pointer: *pointer,
+            pointer: pointer.0,
             value: None,
         },
         [pointer, value] => Instruction::Update {
             function,
-            pointer: *pointer,
-            value: Some(*value),
+            pointer: pointer.0,
+            value: Some(value.0),
         },
         _ => Instruction::End,
     }
 }
 
 /// The call of `get_work_dim`.
-fn dimensions(to: u32, arguments: &[u32]) -> Instruction
-    ensures { result ∷ [] ≡ expressions.call_code (Some built_in_function.WorkDim) to arguments.now }
+fn dimensions(to: Register, arguments: &[Register]) -> Instruction
+    ensures { result ∷ [] ≡ expressions.call_code (Some built_in_function.WorkDim) to.0 (numbers arguments.now) }
 {
     match arguments {
-        [] => Instruction::Dimensions { to },
+        [] => Instruction::Dimensions { to: to.0 },
         _ => Instruction::End,
     }
 }
 
 /// The call of a work-item function.
-fn query(to: u32, function: WorkItemFunction, arguments: &[u32]) -> Instruction
-    ensures { result ∷ [] ≡ expressions.call_code (Some (built_in_function.WorkItem function)) to arguments.now }
+fn query(to: Register, function: WorkItemFunction, arguments: &[Register]) -> Instruction
+    ensures { result ∷ [] ≡ expressions.call_code (Some (built_in_function.WorkItem function)) to.0 (numbers arguments.now) }
 {
     match arguments {
         [dimension] => Instruction::Query {
-            to,
+            to: to.0,
             function,
-            dimension: *dimension,
+            dimension: dimension.0,
         },
         _ => Instruction::End,
     }
 }
 
 /// The call of a function of integers.
-fn builtin(to: u32, function: Builtin, arguments: &[u32]) -> Instruction
-    ensures { result ∷ [] ≡ expressions.call_code (Some (built_in_function.Integer function)) to arguments.now }
+fn builtin(to: Register, function: Builtin, arguments: &[Register]) -> Instruction
+    ensures { result ∷ [] ≡ expressions.call_code (Some (built_in_function.Integer function)) to.0 (numbers arguments.now) }
 {
     match arguments {
         [first] => Instruction::Builtin {
-            to,
+            to: to.0,
             function,
-            first: *first,
+            first: first.0,
             second: None,
         },
         [first, second] => Instruction::Builtin {
-            to,
+            to: to.0,
             function,
-            first: *first,
-            second: Some(*second),
+            first: first.0,
+            second: Some(second.0),
         },
         _ => Instruction::End,
     }

@@ -13,7 +13,7 @@ ghost use Rattle.lower_expr.specs.Expressions.{truth_code, infix_begun, infix_co
 ghost use Rattle.lower_expr.specs.Growth.{IsLonger};
 
 use crate::instructions::add;
-use crate::scope::register_at;
+use crate::scope::{Level, Register, level_at, register_at};
 use crate::types::{base_type, infix_type};
 use clmodel::tree::{InfixOperator, VariableType};
 use clnum::{BinaryOperator, IntType, Value};
@@ -22,17 +22,17 @@ use std::alloc::AllocError;
 
 /// Begins an operator behind its left operand of this type, and gives the place where the right one's code begins.
 pub fn begin_infix(
-    level: u32,
+    level: Level,
     operator: InfixOperator,
     first: VariableType,
     code: &mut Vec<Instruction>,
 ) -> Result<usize, AllocError>
-    requires { level < 2 ^ 28 }
-    ensures code { OnOk result (code.new.items ≡ code.old.items ++ infix_begun operator (register_at level first)) }
+    requires { level.0 < 2 ^ 28 }
+    ensures code { OnOk result (code.new.items ≡ code.old.items ++ infix_begun operator (register_at level.0 first)) }
     ensures place { IfOk result (λ place. place ≡ length code.new.items) }
     ensures longer { OnErr result (IsLonger code.old.items code.new.items) }
 {
-    let test = register_at(level, first);
+    let test = register_at(level, first).0;
     match operator {
         InfixOperator::Arithmetic(_) => {}
         InfixOperator::LogicalAnd => add(code, Instruction::JumpIfZero { test, by: 0 })?,
@@ -45,14 +45,14 @@ pub fn begin_infix(
 }
 
 /// Adds the int 1, or the int 0 where it is jumped to the last instruction.
-fn truth(to: u32, code: &mut Vec<Instruction>) -> Result<(), AllocError>
-    ensures code { OnOk result (code.new.items ≡ code.old.items ++ truth_code to) }
+fn truth(to: Register, code: &mut Vec<Instruction>) -> Result<(), AllocError>
+    ensures code { OnOk result (code.new.items ≡ code.old.items ++ truth_code to.0) }
     ensures longer { OnErr result (IsLonger code.old.items code.new.items) }
 {
     add(
         code,
         Instruction::Constant {
-            to,
+            to: to.0,
             value: Value::new(IntType::Int, 1),
         },
     )?;
@@ -60,7 +60,7 @@ fn truth(to: u32, code: &mut Vec<Instruction>) -> Result<(), AllocError>
     add(
         code,
         Instruction::Constant {
-            to,
+            to: to.0,
             value: Value::new(IntType::Int, 0),
         },
     )
@@ -69,57 +69,57 @@ fn truth(to: u32, code: &mut Vec<Instruction>) -> Result<(), AllocError>
 /// Adds an operator on integers or pointers.
 fn arithmetic(
     operator: BinaryOperator,
-    to: u32,
-    left: u32,
-    right: u32,
+    to: Register,
+    left: Register,
+    right: Register,
     code: &mut Vec<Instruction>,
 ) -> Result<(), AllocError>
-    ensures code { OnOk result (code.new.items ≡ code.old.items ++ instruction.Binary to operator left right ∷ []) }
+    ensures code { OnOk result (code.new.items ≡ code.old.items ++ instruction.Binary to.0 operator left.0 right.0 ∷ []) }
     ensures longer { OnErr result (IsLonger code.old.items code.new.items) }
 {
     add(
         code,
         Instruction::Binary {
-            to,
+            to: to.0,
             operator,
-            left,
-            right,
+            left: left.0,
+            right: right.0,
         },
     )
 }
 
 /// Ends `&&` behind its right operand, whose code begins at a place.
 fn logical_and(
-    to: u32,
-    first: u32,
-    second: u32,
+    to: Register,
+    first: Register,
+    second: Register,
     place: usize,
     code: &mut Vec<Instruction>,
 ) -> Result<(), AllocError>
     requires begun { 0 < place }
     requires inside { place ≤ length code.old.items }
     requires near { length code.old.items - place + 3 < 2 ^ 32 }
-    ensures code { OnOk result ((before right : List Instruction) → code.old.items ≡ before ++ (instruction.JumpIfZero first 0 ∷ right) → place ≡ length before + 1
-        → code.new.items ≡ before ++ (instruction.JumpIfZero first (length right + 3) ∷ (right ++ instruction.JumpIfZero second 2 ∷ truth_code to))) }
+    ensures code { OnOk result ((before right : List Instruction) → code.old.items ≡ before ++ (instruction.JumpIfZero first.0 0 ∷ right) → place ≡ length before + 1
+        → code.new.items ≡ before ++ (instruction.JumpIfZero first.0 (length right + 3) ∷ (right ++ instruction.JumpIfZero second.0 2 ∷ truth_code to.0))) }
     ensures longer { OnErr result (IsLonger code.old.items code.new.items) }
 {
     let by = (code.len() - place + 3) as u32;
     add(
         code,
         Instruction::JumpIfZero {
-            test: second,
+            test: second.0,
             by: 2,
         },
     )?;
     truth(to, code)?;
-    code[place - 1] = Instruction::JumpIfZero { test: first, by };
+    code[place - 1] = Instruction::JumpIfZero { test: first.0, by };
     Ok(())
 }
 
 /// Ends `||` behind its right operand, whose code begins at a place.
 fn logical_or(
-    to: u32,
-    second: u32,
+    to: Register,
+    second: Register,
     place: usize,
     code: &mut Vec<Instruction>,
 ) -> Result<(), AllocError>
@@ -127,14 +127,14 @@ fn logical_or(
     requires inside { place ≤ length code.old.items }
     requires near { length code.old.items - place + 1 < 2 ^ 32 }
     ensures code { OnOk result ((before right : List Instruction) → code.old.items ≡ before ++ (instruction.Jump 0 ∷ right) → place ≡ length before + 1
-        → code.new.items ≡ before ++ (instruction.Jump (length right + 1) ∷ (right ++ instruction.JumpIfZero second 2 ∷ truth_code to))) }
+        → code.new.items ≡ before ++ (instruction.Jump (length right + 1) ∷ (right ++ instruction.JumpIfZero second.0 2 ∷ truth_code to.0))) }
     ensures longer { OnErr result (IsLonger code.old.items code.new.items) }
 {
     let by = (code.len() - place + 1) as u32;
     add(
         code,
         Instruction::JumpIfZero {
-            test: second,
+            test: second.0,
             by: 2,
         },
     )?;
@@ -145,27 +145,27 @@ fn logical_or(
 
 /// Ends an operator behind its right operand, whose code begins at a place, and gives its type.
 pub fn end_infix(
-    level: u32,
+    level: Level,
     operator: InfixOperator,
     first: VariableType,
     second: VariableType,
     place: usize,
     code: &mut Vec<Instruction>,
 ) -> Result<VariableType, AllocError>
-    requires low { level + 1 < 2 ^ 28 }
+    requires low { level.0 + 1 < 2 ^ 28 }
     requires begun { length (infix_begun operator 0) ≤ place }
     requires inside { place ≤ length code.old.items }
     requires near { length code.old.items - place + 3 < 2 ^ 32 }
-    ensures code { OnOk result ((before right : List Instruction) → code.old.items ≡ before ++ (infix_begun operator (register_at level first) ++ right)
+    ensures code { OnOk result ((before right : List Instruction) → code.old.items ≡ before ++ (infix_begun operator (register_at level.0 first) ++ right)
         → place ≡ length before + length (infix_begun operator 0)
-        → code.new.items ≡ before ++ infix_code operator (register_at level (infix_type operator first second)) (register_at level first) (register_at (level + 1) second) right) }
+        → code.new.items ≡ before ++ infix_code operator (register_at level.0 (infix_type operator first second)) (register_at level.0 first) (register_at (level.0 + 1) second) right) }
     ensures kind { IfOk result (λ kind. kind ≡ infix_type operator first second) }
     ensures longer { OnErr result (IsLonger code.old.items code.new.items) }
 {
     let kind = infix_type(operator, first, second);
     let to = register_at(level, kind);
     let left = register_at(level, first);
-    let right = register_at(level + 1, second);
+    let right = register_at(level_at(level, 1), second);
     match operator {
         InfixOperator::Arithmetic(operator) => arithmetic(operator, to, left, right, code)?,
         InfixOperator::LogicalAnd => logical_and(to, left, right, place, code)?,
@@ -176,17 +176,23 @@ pub fn end_infix(
 
 /// Begins a choice behind its condition of this type, and gives the place where the chosen branch begins.
 pub fn begin_choice(
-    level: u32,
+    level: Level,
     condition: VariableType,
     code: &mut Vec<Instruction>,
 ) -> Result<usize, AllocError>
-    requires { level < 2 ^ 28 }
-    ensures code { OnOk result (code.new.items ≡ code.old.items ++ instruction.JumpIfZero (register_at level condition) 0 ∷ []) }
+    requires { level.0 < 2 ^ 28 }
+    ensures code { OnOk result (code.new.items ≡ code.old.items ++ instruction.JumpIfZero (register_at level.0 condition) 0 ∷ []) }
     ensures place { IfOk result (λ place. place ≡ length code.new.items) }
     ensures longer { OnErr result (IsLonger code.old.items code.new.items) }
 {
     let test = register_at(level, condition);
-    add(code, Instruction::JumpIfZero { test, by: 0 })?;
+    add(
+        code,
+        Instruction::JumpIfZero {
+            test: test.0,
+            by: 0,
+        },
+    )?;
     Ok(code.len())
 }
 
@@ -210,7 +216,7 @@ pub fn between_branches(code: &mut Vec<Instruction>) -> Result<usize, AllocError
 
 /// Ends a choice behind both branches, of these types, which begin at these places, and gives its type.
 pub fn end_choice(
-    level: u32,
+    level: Level,
     condition: VariableType,
     chosen: VariableType,
     otherwise: VariableType,
@@ -218,17 +224,17 @@ pub fn end_choice(
     second: usize,
     code: &mut Vec<Instruction>,
 ) -> Result<VariableType, AllocError>
-    requires low { level < 2 ^ 28 }
+    requires low { level.0 < 2 ^ 28 }
     requires begun { 0 < first }
     requires between { first + 2 ≤ second }
     requires inside { second ≤ length code.old.items }
     requires near { length code.old.items - first + 1 < 2 ^ 32 }
     ensures code { OnOk result ((before one other : List Instruction)
-        → code.old.items ≡ before ++ (instruction.JumpIfZero (register_at level condition) 0 ∷ (one ++ (instruction.UsualConversion 0 0 integer.Int ∷ instruction.Jump 0 ∷ other)))
+        → code.old.items ≡ before ++ (instruction.JumpIfZero (register_at level.0 condition) 0 ∷ (one ++ (instruction.UsualConversion 0 0 integer.Int ∷ instruction.Jump 0 ∷ other)))
         → first ≡ length before + 1 → second ≡ first + length one + 2
-        → code.new.items ≡ before ++ choice_code (register_at level condition)
-        (branch_code (register_at level (kinds.Integer (common (base_type chosen) (base_type otherwise)))) one (register_at level chosen) otherwise)
-        (branch_code (register_at level (kinds.Integer (common (base_type chosen) (base_type otherwise)))) other (register_at level otherwise) chosen)) }
+        → code.new.items ≡ before ++ choice_code (register_at level.0 condition)
+        (branch_code (register_at level.0 (kinds.Integer (common (base_type chosen) (base_type otherwise)))) one (register_at level.0 chosen) otherwise)
+        (branch_code (register_at level.0 (kinds.Integer (common (base_type chosen) (base_type otherwise)))) other (register_at level.0 otherwise) chosen)) }
     ensures kind { IfOk result (λ kind. kind ≡ kinds.Integer (common (base_type chosen) (base_type otherwise))) }
     ensures longer { OnErr result (IsLonger code.old.items code.new.items) }
 {
@@ -240,19 +246,19 @@ pub fn end_choice(
     add(
         code,
         Instruction::UsualConversion {
-            to,
-            from,
+            to: to.0,
+            from: from.0,
             other: base_type(chosen),
         },
     )?;
     let past = (code.len() - second) as u32;
     let by = (second - first) as u32;
     code[second - 2] = Instruction::UsualConversion {
-        to,
-        from: one,
+        to: to.0,
+        from: one.0,
         other: base_type(otherwise),
     };
     code[second - 1] = Instruction::Jump { by: past };
-    code[first - 1] = Instruction::JumpIfZero { test, by };
+    code[first - 1] = Instruction::JumpIfZero { test: test.0, by };
     Ok(kind)
 }

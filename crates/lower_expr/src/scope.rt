@@ -2,6 +2,7 @@
 #![tactic(auto)]
 
 ghost use Rattle.std.specs.Prelude.{◌≡◌, ℕ, ◌+◌, ◌<◌, ◌≤◌, ◌^◌, [], ◌∷◌, None, length, drop, OnOk, OnErr};
+ghost use Rattle.std.specs.Option.{option_map};
 ghost use Rattle.clmodel.specs.Next as next;
 ghost use Rattle.lower_expr.specs.Scope as spec;
 ghost use Rattle.lower_expr.specs.Expressions as expressions;
@@ -24,20 +25,29 @@ fn kind_number(kind: VariableType) -> u32
     }
 }
 
+/// The number of a level of registers. Each variable has a level of its own, and so has each value that waits for others. Levels below
+/// 2^28 have registers, one for each type.
+#[derive(Clone, Copy, Default)]
+pub struct Level(pub u32);
+
+/// The number of a register, of 32 bits: 16 times its level, and the number of its type, which is below 16.
+#[derive(Clone, Copy, Default)]
+pub struct Register(pub u32);
+
 /// The register of a type at a level. Levels from 2^28 on have none.
-pub fn register_at(level: u32, kind: VariableType) -> u32
-    requires { level < 2 ^ 28 }
-    ensures { result ≡ spec.register_at level kind }
+pub fn register_at(level: Level, kind: VariableType) -> Register
+    requires { level.0 < 2 ^ 28 }
+    ensures { result.0 ≡ spec.register_at level.0 kind }
 {
-    16 * level + kind_number(kind)
+    Register(16 * level.0 + kind_number(kind))
 }
 
 /// The level `count` above another.
-pub fn level_at(base: u32, count: usize) -> u32
-    requires { base + count < 2 ^ 32 }
-    ensures { result ≡ base + count }
+pub fn level_at(base: Level, count: usize) -> Level
+    requires { base.0 + count < 2 ^ 32 }
+    ensures { result.0 ≡ base.0 + count }
 {
-    base + count as u32
+    Level(base.0 + count as u32)
 }
 
 /// A variable: its name, its declared type, and how many elements it has, if it is a private array; its type is that of the elements then.
@@ -46,6 +56,14 @@ pub struct Variable {
     name: u32,
     kind: VariableType,
     elements: u32,
+}
+
+/// A private array that is declared: its name, the type of its elements, and how many it has.
+#[derive(Clone, Copy)]
+pub struct PrivateArray {
+    pub name: u32,
+    pub element: IntType,
+    pub length: u32,
 }
 
 /// A variable in scope, and the place of the one of its name that it hides.
@@ -59,7 +77,7 @@ pub struct Entry {
 #[derive(Drop)]
 pub struct Scope {
     alloc: Global,
-    base: u32,
+    base: Level,
     entries: Vec<Entry>,
     latest: IndexMap<u32, usize>,
 }
@@ -72,15 +90,15 @@ impl Model for Scope {
 
     ghost Value = { Scope };
 
-    ghost view = { λ s. record { base = s.base; variables = variables_of (reverse s.entries.items) } };
+    ghost view = { λ s. record { base = s.base.0; variables = variables_of (reverse s.entries.items) } };
 
     ghost invariant = { λ s. ((name : ℕ) → get nat_eq s.latest name ≡ last_place (variables_of (reverse s.entries.items)) name) × Hides (reverse s.entries.items) };
 }
 
 impl Scope {
     /// No variables.
-    pub fn new(alloc: Global, base: u32) -> Self
-        ensures { result ≡ record { base = base; variables = [] } }
+    pub fn new(alloc: Global, base: Level) -> Self
+        ensures { result ≡ record { base = base.0; variables = [] } }
     {
         Scope {
             alloc,
@@ -91,8 +109,8 @@ impl Scope {
     }
 
     /// The level of the outermost variable.
-    pub fn base(&self) -> u32
-        ensures { result ≡ self.now.base }
+    pub fn base(&self) -> Level
+        ensures { result.0 ≡ self.now.base }
     {
         self.base
     }
@@ -128,21 +146,15 @@ impl Scope {
         })
     }
 
-    /// Declares a private array of `count` elements, which is the innermost variable from now on. Err if out of memory: nothing
-    /// changes then.
-    pub fn declare_array(
-        &mut self,
-        name: u32,
-        element: IntType,
-        count: u32,
-    ) -> Result<(), AllocError>
-        ensures declared { OnOk result (self.new ≡ spec.declared_array self.old name element count) }
+    /// Declares a private array, which is the innermost variable from now on. Err if out of memory: nothing changes then.
+    pub fn declare_array(&mut self, array: PrivateArray) -> Result<(), AllocError>
+        ensures declared { OnOk result (self.new ≡ spec.declared_array self.old array.name array.element array.length) }
         ensures err { OnErr result (self.new ≡ self.old) }
     {
         self.add(Variable {
-            name,
-            kind: VariableType::Integer(element),
-            elements: count,
+            name: array.name,
+            kind: VariableType::Integer(array.element),
+            elements: array.length,
         })
     }
 
@@ -213,9 +225,9 @@ impl Scope {
     }
 
     /// The level of the innermost variable of a name, which is the number of its private array; the lowest where there is none.
-    pub(crate) fn level(&self, name: u32) -> u32
+    pub(crate) fn level(&self, name: u32) -> Level
         requires { spec.free_level self.now ≤ 2 ^ 28 }
-        ensures { result ≡ spec.level_of self.now name }
+        ensures { result.0 ≡ spec.level_of self.now name }
     {
         match self.place(name) {
             Some(place) => level_at(self.base, place),
@@ -224,9 +236,9 @@ impl Scope {
     }
 
     /// The register of the innermost variable of a name.
-    pub fn register(&self, name: u32) -> Option<u32>
+    pub fn register(&self, name: u32) -> Option<Register>
         requires { spec.free_level self.now ≤ 2 ^ 28 }
-        ensures { result ≡ spec.register_of self.now name }
+        ensures { option_map (λ register. register.0) result ≡ spec.register_of self.now name }
     {
         let Some(place) = self.place(name) else {
             return None;
@@ -236,9 +248,9 @@ impl Scope {
     }
 
     /// The first level that is free.
-    pub fn free_level(&self) -> u32
+    pub fn free_level(&self) -> Level
         requires { spec.free_level self.now ≤ 2 ^ 28 }
-        ensures { result ≡ spec.free_level self.now }
+        ensures { result.0 ≡ spec.free_level self.now }
     {
         level_at(self.base, self.entries.len())
     }

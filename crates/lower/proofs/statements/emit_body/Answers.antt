@@ -13,7 +13,8 @@ use Rattle.lower.proofs.statements.emit_body.Goals as goal
 pub returns-clause-code : goal.returns-clause-code
 returns-clause-code c =
     let one = c.put_no_value.new.code in
-    body_placed c.args.helpers.functions.now c.args.function.now c.args.level c.args.depth c.args.site c.in_ok-emit_all.field-0 c.site_behind_all-behind.result c.declare_parameters.new.scope c.as_slice-body.result.now
+    let p = c.args.position in
+    body_placed c.args.helpers.functions.now c.args.function.now p.level.0 p.depth p.site c.in_ok-emit_all.field-0 c.site_behind_all-behind.result c.declare_parameters.new.scope c.as_slice-body.result.now
     c.added.result c.args.code.now one c.emit_all.new.code
     c.as_slice-body.ensures.value c.site_behind_all-behind.ensures c.in_ok-emit_all.ensures.site
     (c.in_ok-declare_parameters.ensures.declared ∙ ap₂ (λ (z : Scope) ps. record z { variables = parameter_variables ps z.variables }) c.new-scope.ensures c.as_slice.ensures.value)
@@ -22,9 +23,9 @@ returns-clause-code c =
 pub emit_all-requires-clause-low : goal.emit_all-requires-clause-low
 emit_all-requires-clause-low c =
     let ps = c.args.function.now.parameters.items in
-    let scope : c.declare_parameters.new.scope ≡ record { base = c.args.level; variables = parameter_variables ps [] } =
+    let scope : c.declare_parameters.new.scope ≡ record { base = c.args.position.level.0; variables = parameter_variables ps [] } =
     c.in_ok-declare_parameters.ensures.declared ∙ ap₂ (λ (z : Scope) qs. record z { variables = parameter_variables qs z.variables }) c.new-scope.ensures c.as_slice.ensures.value in
-    let level : free_level c.declare_parameters.new.scope ≡ c.args.level + length (parameter_variables ps []) = ap (λ (z : Scope). free_level z) scope in
+    let level : free_level c.declare_parameters.new.scope ≡ c.args.position.level.0 + length (parameter_variables ps []) = ap (λ (z : Scope). free_level z) scope in
     let count = parameters_counted ps [] in
     let nodes : (row_size (sizes_in c.args.helpers.functions.now) (all_of c.as_slice-body.result.now)).nodes ≡ (row_size (sizes_in c.args.helpers.functions.now) (all_of c.args.function.now.body.items)).nodes =
     ap (λ ss. (row_size (sizes_in c.args.helpers.functions.now) (all_of ss)).nodes) c.as_slice-body.ensures.value in
@@ -34,7 +35,7 @@ emit_all-requires-clause-low c =
 pub emit_all-requires-clause-short : goal.emit_all-requires-clause-short
 emit_all-requires-clause-short c =
     let one = c.put_no_value.new.code in
-    let end = put_length c.args.code.now one (no_value_short c.args.function.now.result c.args.level) c.in_ok-put_no_value.ensures.code in
+    let end = put_length c.args.code.now one (no_value_short c.args.function.now.result c.args.position.level.0) c.in_ok-put_no_value.ensures.code in
     let added : c.added.result ≡ length one - length c.args.code.now = c.added.ensures ∙ ap (λ n. length one - n) c.len-end.ensures in
     let nodes : (row_size (sizes_in c.args.helpers.functions.now) (all_of c.as_slice-body.result.now)).nodes ≡ (row_size (sizes_in c.args.helpers.functions.now) (all_of c.args.function.now.body.items)).nodes =
     ap (λ ss. (row_size (sizes_in c.args.helpers.functions.now) (all_of ss)).nodes) c.as_slice-body.ensures.value in
@@ -44,6 +45,6 @@ emit_all-requires-clause-short c =
 
 pub added-requires : goal.added-requires
 added-requires c =
-    let end = put_length c.args.code.now c.put_no_value.new.code (no_value_short c.args.function.now.result c.args.level) c.in_ok-put_no_value.ensures.code in
+    let end = put_length c.args.code.now c.put_no_value.new.code (no_value_short c.args.function.now.result c.args.position.level.0) c.in_ok-put_no_value.ensures.code in
     let far = c.requires.short in
     omega (arith, end, far)

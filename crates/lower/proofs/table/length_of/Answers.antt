@@ -1,4 +1,4 @@
-use Rattle.std.proofs.Common.{length, ap, ◌∙◌, arith}
+use Rattle.std.proofs.Common.{length, sym, ap, ◌∙◌, arith}
 use Rattle.lower_code.specs.Helpers.{body_of}
 use Rattle.lower_code.proofs.Rows.{begun}
 use Rattle.lower_code.proofs.Short.{body_short}
@@ -9,13 +9,15 @@ pub returns : goal.returns
 returns c level depth site =
     let fs = c.args.helpers.functions.now in
     let f = c.args.function.now in
-    c.len.ensures ∙ ap length (begun (body_of fs f 0 0 0) c.new-code.result c.emit_body.new.code c.new-code.ensures c.in_ok-emit_body.ensures.code) ∙ body_length_of fs f level depth site
+    let p = c.default.result in
+    c.len.ensures ∙ ap length (begun (body_of fs f p.level.0 p.depth p.site) c.new-code.result c.emit_body.new.code c.new-code.ensures c.in_ok-emit_body.ensures.code) ∙ sym (body_length_of fs f p.level.0 p.depth p.site) ∙ body_length_of fs f level depth site
 
 pub len-requires : goal.len-requires
 len-requires c =
     let fs = c.args.helpers.functions.now in
     let f = c.args.function.now in
-    let whole = ap length (begun (body_of fs f 0 0 0) c.new-code.result c.emit_body.new.code c.new-code.ensures c.in_ok-emit_body.ensures.code) in
-    let most = (body_short fs c.args.helpers.nodes c.args.helpers.parameters f 0 0 0).most in
+    let p = c.default.result in
+    let whole = ap length (begun (body_of fs f p.level.0 p.depth p.site) c.new-code.result c.emit_body.new.code c.new-code.ensures c.in_ok-emit_body.ensures.code) in
+    let most = (body_short fs c.args.helpers.nodes c.args.helpers.parameters f p.level.0 p.depth p.site).most in
     let small = c.requires.small in
     omega (arith, whole, most, small)

@@ -11,7 +11,7 @@ returns-clause-code c =
     let scope = c.args.scope.now in
     let test = term c.args.test.now in
     let level = c.free_level-level.ensures in
-    let code = c.in_ok-kind.ensures.code ∙ ap (λ xs. xs ++ expr_code scope c.free_level-level.result test) c.new-front.ensures.items ∙ ap (λ l. expr_code scope l test) level in
+    let code = c.in_ok-kind.ensures.code ∙ ap (λ xs. xs ++ expr_code scope c.free_level-level.result.0 test) c.new-front.ensures.items ∙ ap (λ l. expr_code scope l test) level in
     let register = c.register_at-test.ensures ∙ ap (λ l. register_at l c.in_ok-kind.kind) level ∙ ap (register_at (free_level scope)) c.in_ok-kind.ensures.kind in
     on_ok_weaker c.put_all.result (λ h.
     h ∙ ap (λ xs. xs ++ c.put.new.self) code

@@ -6,9 +6,9 @@ use Rattle.clmodel.specs.Typing.Sizes.{size}
 use Rattle.regcode.specs.declared.instruction.Instruction.{Instruction}
 use Rattle.lower_expr.specs.Scope.{free_level}
 use Rattle.lower_code.specs.Code.{step_code, call_code, result_in}
-use Rattle.lower_code.specs.Emission.{functions_of, inside, nodes_in, sizes_in, statement_code, split_code}
+use Rattle.lower_code.specs.Emission.{functions_of, inside, sizes_in, statement_code, split_code}
 use Rattle.lower_code.proofs.Calling.{assign_is, step_is, call_is}
-use Rattle.lower_code.proofs.Room.{fewer, fewer_all, fewer_there, split_low}
+use Rattle.lower_code.proofs.Room.{fewer, fewer_all, fewer_there}
 use Rattle.lower_code.proofs.Rows.{placed}
 use Rattle.lower_code.proofs.simple.emit_assignment.Goals as goal
 

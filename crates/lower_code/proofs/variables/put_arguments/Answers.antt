@@ -14,8 +14,8 @@ loop-i-preserved c =
     let ps = c.args.parameters.now in
     let n = length ps - 1 - c.loop-i.i in
     c.in_ok-put.ensures.code
-    ∙ arguments_more ps _ c.register_at-to.result c.level_at-number.result n (length ps - c.loop-i.i) (length ps - (c.loop-i.i + 1)) c.loop-i.code c.args.code.now
-    (omega (arith, c.loop-i-test.true)) (omega (arith, c.loop-i-test.true)) (omega arith) (omega (arith, c.level_at-number.ensures)) c.register_at-to.ensures c.loop-i.invariant
+    ∙ arguments_more ps _ c.register_at-to.result.0 c.level_at-at.result.0 n (length ps - c.loop-i.i) (length ps - (c.loop-i.i + 1)) c.loop-i.code c.args.code.now
+    (omega (arith, c.loop-i-test.true)) (omega (arith, c.loop-i-test.true)) (omega arith) (omega (arith, c.level_at-at.ensures)) c.register_at-to.ensures c.loop-i.invariant
 
 pub returns-clause-code : goal.returns-clause-code
 returns-clause-code c =

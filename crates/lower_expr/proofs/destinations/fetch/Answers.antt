@@ -13,8 +13,8 @@ returns-in-Index-clause-code c =
     let scope = c.args.scope.now in
     let old = c.args.code.now.items in
     let d = c.args.destination in
-    let to = c.args.to in
-    let level = c.args.level in
+    let to = c.args.to.0 in
+    let level = c.args.level.0 in
     on_ok_weaker {Q = (place : Target) → d ≡ destination_of scope place → c.private_load.new.code.items ≡ old ++ fetch_code scope place (target_register scope level place) to} c.private_load.result
     (λ h place e.
     h ∙ ap (λ n. old ++ private_load scope to d.name n ∷ []) c.register_at-index.ensures

@@ -13,8 +13,8 @@ returns-in-Index-clause-code c =
     let scope = c.args.scope.now in
     let old = c.args.code.now.items in
     let d = c.args.destination in
-    let from = c.args.from in
-    let level = c.args.level in
+    let from = c.args.from.0 in
+    let level = c.args.level.0 in
     on_ok_weaker {Q = (place : Target) → d ≡ destination_of scope place → c.private_store.new.code.items ≡ old ++ put_code scope place (target_register scope level place) from} c.private_store.result
     (λ h place e.
     h ∙ ap (λ n. old ++ private_store scope d.name n from ∷ []) c.register_at-index.ensures

@@ -1,5 +1,5 @@
-use Rattle.std.proofs.Common.{◌≡◌, ℕ, ◌+◌, ◌++◌, ◌∷◌, [], List, length, take, refl, sym, ap, ap₂, ◌∙◌, arith, Option}
-use Rattle.std.proofs.lemmas.List.{append_assoc, length-append}
+use Rattle.std.proofs.Common.{◌≡◌, ℕ, ◌+◌, ◌++◌, ◌∷◌, [], List, length, take, sym, ap, ap₂, ◌∙◌, arith, Option}
+use Rattle.std.proofs.lemmas.List.{append_assoc, length-append, map-append}
 use Rattle.clmodel.specs.BuiltIns.{built_in}
 use Rattle.clmodel.specs.Next.{argument_type, call_type, base_type}
 use Rattle.clmodel.specs.Tree.{Term, Terms, term, terms}
@@ -12,10 +12,11 @@ use Rattle.clmodel.specs.declared.tree.VariableType.TheVariants.{Integer}
 use Rattle.regcode.specs.declared.instruction.Instruction.{Instruction}
 use Rattle.lower_expr.specs.Scope.{register_at}
 use Rattle.lower_expr.specs.Expressions.{kind_of, expr_code, terms_code, registers_for, call_code, count}
+use Rattle.lower_expr.specs.Registers.{numbers}
+use Rattle.lower_expr.specs.declared.scope.Register.{Register}
 use Rattle.lower_expr.proofs.Arguments.{calls, terms_more, terms_count, type_here, type_stays, binary_laid, call_laid}
 use Rattle.lower_expr.proofs.Room.{argument_room}
 use Rattle.lower_expr.proofs.Short.{expr_short}
-use Rattle.lower_expr.proofs.Growth.{unchanged, behind, on_err}
 use Rattle.lower_expr.proofs.emission.+emission.Goals as goal
 use Rattle.lower_expr.proofs.emission.+emission.Goals.{emit_arguments-then-i-eq0, emit_arguments-else-i-eq0}
 
@@ -23,19 +24,20 @@ pub emit_arguments-loop-i-preserved : goal.emit_arguments-loop-i-preserved
 emit_arguments-loop-i-preserved t c =
     let es = c.args.arguments.now in
     let scope = c.args.scope.now in
-    let level = c.args.level in
+    let level = c.args.level.0 in
     let i = c.loop-i.i in
     let e = c.index-arguments-i.result in
     let before = terms (take i es) in
     let more = sym (terms_more es i e c.loop-i-test.true c.index-arguments-i.is) in
     let counted = terms_count es i (omega (arith, c.loop-i-test.true)) in
-    let above : c.level_at-above.result ≡ level + count before = omega (arith, c.level_at-above.ensures, counted) in
+    let above : c.level_at-above.result.0 ≡ level + count before = omega (arith, c.level_at-above.ensures, counted) in
     let kind = c.in_ok-found.ensures.kind in (
       c.in_ok-found.ensures.code
           ∙ ap₂ (λ (code : List Instruction) (n : ℕ). code ++ expr_code scope n (term e)) c.loop-i.invariant.0 above
           ∙ append_assoc c.args.code.now.items (terms_code scope level before) (expr_code scope (level + count before) (term e))
           ∙ ap (λ (ts : Terms). c.args.code.now.items ++ terms_code scope level ts) more,
-      c.in_ok-push.ensures.ok
+      ap numbers c.in_ok-push.ensures.ok
+          ∙ map-append (λ (r : Register). r.0) c.loop-i.registers.items (c.register_at.result ∷ [])
           ∙ ap₂ (λ (rs : List ℕ) (r : ℕ). rs ++ r ∷ []) c.loop-i.invariant.1 (c.register_at.ensures ∙ ap₂ (λ (n : ℕ) (k : VariableType). register_at n k) above kind)
           ∙ ap (λ (ts : Terms). registers_for scope level ts) more,
       elim c.if-i-eq0.branch [
@@ -49,18 +51,18 @@ pub emit_expression-returns-in_ok-kind-in-Call-clause-code : goal.emit_expressio
 emit_expression-returns-in_ok-kind-in-Call-clause-code t c =
     let old = c.args.code.now.items in
     let scope = c.args.scope.now in
-    let level = c.args.level in
+    let level = c.args.level.0 in
     let called = c.in-Call in
     let es = terms called.arguments.items in
     let found = c.in_ok-arguments-in-Call in
     let whole = ap term called.is ∙ calls called.at called.name called.arguments in
     let kind = found.ensures.kind ∙ ap (λ (xs : List Expression). argument_type scope.variables (terms xs)) c.as_slice-given.ensures.value in
-    call_laid scope level called.at called.name es old c.emit_arguments.new.code.items c.call.new.code.items (Integer (call_type (built_in called.name) found.arguments.kind)) found.arguments.registers.items
+    call_laid scope level called.at called.name es old c.emit_arguments.new.code.items c.call.new.code.items (Integer (call_type (built_in called.name) found.arguments.kind)) (numbers found.arguments.registers.items)
     (found.ensures.code ∙ ap (λ (xs : List Expression). old ++ terms_code scope level (terms xs)) c.as_slice-given.ensures.value)
     (found.ensures.registers ∙ ap (λ (xs : List Expression). registers_for scope level (terms xs)) c.as_slice-given.ensures.value)
     (ap (λ (k : IntType). Integer (call_type (built_in called.name) k)) kind)
     (c.in_ok-kind-in-Call.ensures.code
-    ∙ ap (λ (f : Option BuiltIn). c.emit_arguments.new.code.items ++ call_code f (register_at level (Integer (call_type f found.arguments.kind))) found.arguments.registers.items) c.built_in_named.ensures)
+    ∙ ap (λ (f : Option BuiltIn). c.emit_arguments.new.code.items ++ call_code f (register_at level (Integer (call_type f found.arguments.kind))) (numbers found.arguments.registers.items)) c.built_in_named.ensures)
     ∙ sym (ap (λ (x : Term). old ++ expr_code scope level x) whole)
 
 pub emit_expression-returns-in_ok-kind-in-Call-clause-kind : goal.emit_expression-returns-in_ok-kind-in-Call-clause-kind
@@ -76,7 +78,8 @@ pub emit_expression-returns-in_ok-kind-in-Binary-clause-code : goal.emit_express
 emit_expression-returns-in_ok-kind-in-Binary-clause-code t c =
     let old = c.args.code.now.items in
     let scope = c.args.scope.now in
-    let level = c.args.level in
+    let level = c.args.level.0 in
+    let above = c.level_at.result.0 in
     let node = c.in-Binary in
     let left = node.left.value in
     let right = node.right.value in
@@ -84,11 +87,11 @@ emit_expression-returns-in_ok-kind-in-Binary-clause-code t c =
     let two = c.begin_infix.new.code.items in
     let first = c.in_ok-first-in-Binary in
     let second = c.in_ok-second-in-Binary in
-    binary_laid scope level node.at node.operator (term left) (term right) old one two c.emit_expression-in-Binary-2.new.code.items c.end_infix.new.code.items first.first second.second (level + 1) c.in_ok-place-in-Binary.place
+    binary_laid scope level node.at node.operator (term left) (term right) old one two c.emit_expression-in-Binary-2.new.code.items c.end_infix.new.code.items first.first second.second above c.in_ok-place-in-Binary.place
     (first.ensures.code ∙ ap (λ (x : Expression). old ++ expr_code scope level (term x)) c.deref-in-Binary.ensures)
     (first.ensures.kind ∙ ap (λ (x : Expression). kind_of scope (term x)) c.deref-in-Binary.ensures)
-    c.in_ok-place-in-Binary.ensures.code c.in_ok-place-in-Binary.ensures.place refl
-    (second.ensures.code ∙ ap (λ (x : Expression). two ++ expr_code scope (level + 1) (term x)) c.deref-in-Binary-2.ensures)
+    c.in_ok-place-in-Binary.ensures.code c.in_ok-place-in-Binary.ensures.place c.level_at.ensures
+    (second.ensures.code ∙ ap (λ (x : Expression). two ++ expr_code scope above (term x)) c.deref-in-Binary-2.ensures)
     (second.ensures.kind ∙ ap (λ (x : Expression). kind_of scope (term x)) c.deref-in-Binary-2.ensures)
     c.in_ok-kind-in-Binary.ensures.code
     ∙ sym (ap (λ (x : Expression). old ++ expr_code scope level (term x)) node.is)
@@ -104,7 +107,7 @@ emit_expression-levels_suffice-requires t c =
 pub emit_expression-end_infix-requires-clause-near : goal.emit_expression-end_infix-requires-clause-near
 emit_expression-end_infix-requires-clause-near t c =
     let scope = c.args.scope.now in
-    let level = c.args.level + 1 in
+    let level = c.level_at.result.0 in
     let right = term c.deref-in-Binary-2.result.now in
     let before = c.begin_infix.new.code.items in
     let size = ap length c.in_ok-second-in-Binary.ensures.code ∙ length-append before (expr_code scope level right) in
@@ -131,7 +134,7 @@ emit_arguments-register_at-requires t c =
 pub emit_expression-end_choice-requires-clause-near : goal.emit_expression-end_choice-requires-clause-near
 emit_expression-end_choice-requires-clause-near t c =
     let scope = c.args.scope.now in
-    let level = c.args.level in
+    let level = c.args.level.0 in
     let begun = c.begin_choice.new.code.items in
     let one = c.emit_expression-in-Choice-2.new.code.items in
     let two = c.between_branches.new.code.items in

@@ -13,19 +13,19 @@ use Rattle.lower_expr.proofs.jumps.end_choice.Goals as goal
 pub returns-clause-code : goal.returns-clause-code
 returns-clause-code c before one other e p q =
     let a = c.args in
-    let test0 = instruction.JumpIfZero (register_at a.level a.condition) 0 in
-    let to = register_at a.level (kinds.Integer (common (base_type a.chosen) (base_type a.otherwise))) in
-    let to_is : c.register_at-to.result ≡ to = c.register_at-to.ensures ∙ ap (λ k. register_at a.level (kinds.Integer k)) (c.common.ensures ∙ ap₂ common c.base_type.ensures c.base_type-2.ensures) in
-    let first : Instruction = instruction.UsualConversion to (register_at a.level a.chosen) (base_type a.otherwise) in
-    let last : Instruction = instruction.UsualConversion to (register_at a.level a.otherwise) (base_type a.chosen) in
-    let first_is : instruction.UsualConversion c.register_at-to.result c.register_at-one.result c.base_type-4.result ≡ first = rw (to_is, c.register_at-one.ensures, c.base_type-4.ensures) refl in
-    let last_is : instruction.UsualConversion c.register_at-to.result c.register_at-from.result c.base_type-3.result ≡ last = rw (to_is, c.register_at-from.ensures, c.base_type-3.ensures) refl in
+    let test0 = instruction.JumpIfZero (register_at a.level.0 a.condition) 0 in
+    let to = register_at a.level.0 (kinds.Integer (common (base_type a.chosen) (base_type a.otherwise))) in
+    let to_is : c.register_at-to.result.0 ≡ to = c.register_at-to.ensures ∙ ap (λ k. register_at a.level.0 (kinds.Integer k)) (c.common.ensures ∙ ap₂ common c.base_type.ensures c.base_type-2.ensures) in
+    let first : Instruction = instruction.UsualConversion to (register_at a.level.0 a.chosen) (base_type a.otherwise) in
+    let last : Instruction = instruction.UsualConversion to (register_at a.level.0 a.otherwise) (base_type a.chosen) in
+    let first_is : instruction.UsualConversion c.register_at-to.result.0 c.register_at-one.result.0 c.base_type-4.result ≡ first = rw (to_is, c.register_at-one.ensures, c.base_type-4.ensures) refl in
+    let last_is : instruction.UsualConversion c.register_at-to.result.0 c.register_at-from.result.0 c.base_type-3.result ≡ last = rw (to_is, c.register_at-from.ensures, c.base_type-3.ensures) refl in
     let size : length a.code.now.items ≡ length before + length one + length other + 3 =
     omega (arith, ap length e ∙ length-append before _, length-append one (instruction.UsualConversion 0 0 integer.Int ∷ instruction.Jump 0 ∷ other)) in
     let added : length c.add.new.code.items ≡ length a.code.now.items + 1 = omega (arith, ap length c.in_ok-add.ensures.code ∙ length-append a.code.now.items _) in
     let past : (c.len.result - a.second) ≡ length (other ++ last ∷ []) = omega (arith, c.len.ensures, c.add.new.code.ok.0, size, added, p, q, length-append other (last ∷ [])) in
     let by : (a.second - a.first) ≡ length (one ++ first ∷ []) + 1 = omega (arith, q, length-append one (first ∷ [])) in
     let jump_is : instruction.Jump (c.len.result - a.second) ≡ instruction.Jump (length (other ++ last ∷ [])) = ap (λ n. instruction.Jump n) past in
-    let test_is : instruction.JumpIfZero c.register_at-test.result (a.second - a.first) ≡ instruction.JumpIfZero (register_at a.level a.condition) (length (one ++ first ∷ []) + 1) = rw (c.register_at-test.ensures, by) refl in
+    let test_is : instruction.JumpIfZero c.register_at-test.result.0 (a.second - a.first) ≡ instruction.JumpIfZero (register_at a.level.0 a.condition) (length (one ++ first ∷ []) + 1) = rw (c.register_at-test.ensures, by) refl in
     rw (c.in_ok-add.ensures.code, first_is, last_is, jump_is, test_is)
     (choice_laid a.code.now.items before one other test0 _ (instruction.UsualConversion 0 0 integer.Int) first (instruction.Jump 0) _ last a.first a.second e p q)

@@ -8,9 +8,9 @@ use Rattle.lower_expr.proofs.jumps.logical_and.Goals as goal
 pub returns-clause-code : goal.returns-clause-code
 returns-clause-code c before right e p =
     let a = c.args in
-    let tail = instruction.JumpIfZero a.second 2 ∷ truth_code a.to in
-    let count = ap length e ∙ length-append before (instruction.JumpIfZero a.first 0 ∷ right) in
+    let tail = instruction.JumpIfZero a.second.0 2 ∷ truth_code a.to.0 in
+    let count = ap length e ∙ length-append before (instruction.JumpIfZero a.first.0 0 ∷ right) in
     let by : (c.len.result - a.place + 3) ≡ length right + 3 = omega (arith, c.len.ensures, a.code.now.ok.0, count, p) in
-    ap (λ xs. slice_set xs (a.place - 1) (instruction.JumpIfZero a.first (c.len.result - a.place + 3))) (twice _ _ _ _ _ c.in_ok-add.ensures.code c.in_ok-truth.ensures.code)
-    ∙ patched a.code.now.items before right tail (instruction.JumpIfZero a.first 0) (instruction.JumpIfZero a.first (c.len.result - a.place + 3)) a.place e p
-    ∙ ap (λ n. before ++ instruction.JumpIfZero a.first n ∷ (right ++ tail)) by
+    ap (λ xs. slice_set xs (a.place - 1) (instruction.JumpIfZero a.first.0 (c.len.result - a.place + 3))) (twice _ _ _ _ _ c.in_ok-add.ensures.code c.in_ok-truth.ensures.code)
+    ∙ patched a.code.now.items before right tail (instruction.JumpIfZero a.first.0 0) (instruction.JumpIfZero a.first.0 (c.len.result - a.place + 3)) a.place e p
+    ∙ ap (λ n. before ++ instruction.JumpIfZero a.first.0 n ∷ (right ++ tail)) by

@@ -8,7 +8,7 @@ use Rattle.lower_expr.proofs.jumps.logical_or.Goals as goal
 pub returns-clause-code : goal.returns-clause-code
 returns-clause-code c before right e p =
     let a = c.args in
-    let tail = instruction.JumpIfZero a.second 2 ∷ truth_code a.to in
+    let tail = instruction.JumpIfZero a.second.0 2 ∷ truth_code a.to.0 in
     let count = ap length e ∙ length-append before (instruction.Jump 0 ∷ right) in
     let by : (c.len.result - a.place + 1) ≡ length right + 1 = omega (arith, c.len.ensures, a.code.now.ok.0, count, p) in
     ap (λ xs. slice_set xs (a.place - 1) (instruction.Jump (c.len.result - a.place + 1))) (twice _ _ _ _ _ c.in_ok-add.ensures.code c.in_ok-truth.ensures.code)

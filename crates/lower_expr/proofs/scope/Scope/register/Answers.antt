@@ -17,7 +17,7 @@ pub returns : goal.returns
 returns c =
     let found = ap (λ (s : Scope). last_place s.variables c.args.name) c.self.view_is ∙ sym c.place.ensures ∙ c.in-Some.is in
     ap Some (c.register_at.ensures ∙ ap₂ register_at c.level_at-level.ensures (ap (λ (e : Entry). e.variable.kind) c.index.ensures))
-    ∙ found_register c.self.inside.entries.items c.args.name c.in-Some.place c.index.result.now c.self.inside.base found
+    ∙ found_register c.self.inside.entries.items c.args.name c.in-Some.place c.index.result.now c.self.inside.base.0 found
     ∙ ap (λ (s : Scope). register_of s c.args.name) c.self.view_is
 
 pub level_at-level-requires : goal.level_at-level-requires
