@@ -6,7 +6,7 @@ use Rattle.std.proofs.lemmas.List.Elements.{All-pop, All-push, All-same}
 use Rattle.lower_code.specs.Parts.{part_code, whole, IsKnown, AllKnown}
 use Rattle.lower_code.specs.declared.holes.Part.{Part}
 use Rattle.lower_code.specs.declared.holes.Part.TheVariants as part
-use Rattle.lower_code.proofs.Drafts.{part_whole, part_length}
+use Rattle.lower_code.proofs.Drafts.{part_whole}
 use Rattle.lower.specs.Bodies.{left, EachKnown, Opened}
 
 pub left_more : (bodies : List (Vec Part Global)) (body : Vec Part Global) → left (reverse (bodies ++ body ∷ [])) ≡ whole (reverse body.items) ++ left (reverse bodies)

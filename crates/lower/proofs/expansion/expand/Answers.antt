@@ -1,5 +1,4 @@
-use Rattle.std.proofs.Common.{◌++◌, reverse, ap, sym, ◌∙◌}
-use Rattle.lower.specs.Bodies.{left}
+use Rattle.std.proofs.Common.{◌++◌, ap, sym, ◌∙◌}
 use Rattle.lower.proofs.Bodies.{Taken, known_taken, left_taken, work_written}
 use Rattle.lower.proofs.expansion.expand.Goals as goal
 
