@@ -34,3 +34,4 @@ pub mod Named
 pub mod FitKernels
 pub mod Reach
 pub mod SmallArrays
+pub mod Bodies

@@ -6,3 +6,4 @@ pub mod Lists
 pub mod Names
 pub mod Statements
 pub mod Bounds
+pub mod Bodies

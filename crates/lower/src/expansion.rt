@@ -1,9 +1,11 @@
 //! The bodies of helpers that were left out, written in their places.
 //!
-//! No call of a helper is a call of this code: what is left to write stands on a list, whose end is what comes next.
-#![tactic(auto, using(lower_code::proofs::Drafts::draft_whole, lower_code::proofs::Drafts::part_whole))]
+//! No call of a helper is a call of this code: the bodies that are being written stand on a list, each behind the one that calls it. One is
+//! taken off only when it is the last and nothing is left of it, so memory bounds how many are begun before the next instruction is written.
+#![tactic(auto, using(lower_code::proofs::Drafts::part_whole, crate::proofs::Bodies::left_more))]
 
 ghost use Rattle.std.specs.Prelude.{◌≡◌, ◌++◌, reverse, IfOk, OnOk, OnErr};
+ghost use Rattle.lower.specs.Bodies.{left, EachKnown, Opened};
 ghost use Rattle.lower_code.specs.Parts.{hole_code, part_code, whole, HoleKnown, IsKnown, AllKnown};
 
 use crate::statements::emit_body;
@@ -28,31 +30,26 @@ fn open<'a>(alloc: Global, hole: &Hole<'a>) -> Result<Vec<Part<'a>>, AllocError>
     Ok(body.into_parts())
 }
 
-/// Takes a part off the rest: an instruction is added to the code, and a hole is opened. Err if out of memory: nothing changes then.
+/// Writes a part: an instruction is added to the code, and the body of a hole is put behind the bodies. Err if out of memory: nothing changes then.
 fn write<'a>(
     alloc: Global,
     part: &Part<'a>,
-    rest: &mut Vec<Part<'a>>,
+    bodies: &mut Vec<Vec<Part<'a>>>,
     code: &mut Vec<Instruction>,
 ) -> Result<(), AllocError>
     requires known { IsKnown part.now }
-    requires rest { AllKnown rest.old.items }
-    ensures code { OnOk result (code.new.items ++ whole (reverse rest.new.items) ≡ code.old.items ++ (part_code part.now ++ whole (reverse rest.old.items))) }
-    ensures known { OnOk result (AllKnown rest.new.items) }
+    requires bodies { EachKnown bodies.old.items }
+    ensures code { OnOk result (code.new.items ++ left (reverse bodies.new.items) ≡ code.old.items ++ (part_code part.now ++ left (reverse bodies.old.items))) }
+    ensures bodies { OnOk result (Opened part.now bodies.old.items bodies.new.items) }
+    ensures known { OnOk result (EachKnown bodies.new.items) }
     ensures same_code { OnErr result (code.new.items ≡ code.old.items) }
-    ensures same_rest { OnErr result (rest.new.items ≡ rest.old.items) }
+    ensures same_bodies { OnErr result (bodies.new.items ≡ bodies.old.items) }
 {
     match part {
-        Part::Own(instruction) => {
-            code.push(*instruction)?;
-            Ok(())
-        }
-        Part::Left(hole) => {
-            let body = open(alloc, hole)?;
-            rest.extend_from_slice(&body)?;
-            Ok(())
-        }
+        Part::Own(instruction) => code.push(*instruction)?,
+        Part::Left(hole) => bodies.push(open(alloc, hole)?)?,
     }
+    Ok(())
 }
 
 /// The whole code of parts, the last first. Err if out of memory.
@@ -60,13 +57,14 @@ pub fn expand(alloc: Global, parts: Vec<Part<'_>>) -> Result<Vec<Instruction>, A
     requires { AllKnown parts.items }
     ensures { IfOk result (λ code. code.items ≡ whole (reverse parts.entry.items)) }
 {
-    let mut rest = parts;
+    let mut bodies = Vec::new(alloc);
+    bodies.push(parts)?;
     let mut code = Vec::new(alloc);
-    for _ in 0..u64::MAX {
-        let Some(part) = rest.pop() else {
-            return Ok(code);
-        };
-        write(alloc, &part, &mut rest, &mut code)?;
+    while let Some(mut body) = bodies.pop() {
+        if let Some(part) = body.pop() {
+            bodies.push(body)?;
+            write(alloc, &part, &mut bodies, &mut code)?;
+        }
     }
-    Err(AllocError)
+    Ok(code)
 }
