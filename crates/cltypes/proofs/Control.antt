@@ -1,6 +1,8 @@
 -- What the checker's steps say of the places of control statements.
 use Rattle.std.proofs.Common.{◌≡◌, ℕ, List, ◌⊎◌, inl, inr, ◌++◌, Option, None, Some, Result, Ok, Err, refl, sym, ap, ◌∙◌, subst}
+use Rattle.std.proofs.lemmas.Result.{err_from_is_err_and}
 use Rattle.std.specs.Prelude.{IfOk, IfErr, Box}
+use Rattle.std.specs.Result.{IsErrAnd}
 use Rattle.std.specs.declared.alloc.Global.{Global}
 use Rattle.clmodel.specs.declared.tree.Expression.{Expression}
 use Rattle.clmodel.specs.declared.tree.Statement as rust
@@ -74,5 +76,7 @@ in_rest o p q e h = e ∙ ap (λ z. earlier z q) h
 
 -- the fault that `?` hands on is the one that it met
 pub handed_on : {A : Type 0} (r : Result A TypeFault) (f : TypeFault) (o : Option TypeFault)
-    → (y : TypeFault) × (r ≡ Err y) × (y ≡ f) → (f ≡ fault.OutOfMemory) ⊎ (o ≡ Some f) → Ends r o
-handed_on r f o h x = subst (λ z. Ends z o) (sym h.1) (subst (λ y. (y ≡ fault.OutOfMemory) ⊎ (o ≡ Some y)) (sym h.2) x)
+    → IsErrAnd r (λ y. y ≡ f) → (f ≡ fault.OutOfMemory) ⊎ (o ≡ Some f) → Ends r o
+handed_on r f o h x =
+    let e = err_from_is_err_and r h in
+    subst (λ z. Ends z o) (sym e.1) (subst (λ y. (y ≡ fault.OutOfMemory) ⊎ (o ≡ Some y)) (sym e.2) x)

@@ -18,8 +18,8 @@ use Rattle.clmodel.specs.declared.schedule.EventRun.TheVariants as run
 use Rattle.replay_text.specs.Text.{run_text, schedule_text, fault_text, fault_line}
 use Rattle.replay_text.specs.ScheduleFile.{IsRun, AreRuns, ticket_line, IsScheduleFile}
 use Rattle.simfile_fields.specs.Fronts.{after, before, number_at, front_length, or_else}
-use Rattle.replay_text.specs.Reading.{same, number32_at, is_inner, line_of, item_run_at, release_at, run_at, run_of, run_named, is_run, words_of, is_schedule, schedule_of, schedule_at, fault_at, file_of}
-use Rattle.simfile_fields.proofs.FieldLaws.{bind_some, if_some, and_true, front_of, after_takes, after_again, number_takes, not_behind, decimal_digits}
+use Rattle.replay_text.specs.Reading.{same, is_inner, line_of, item_run_at, release_at, run_at, run_of, run_named, is_run, words_of, is_schedule, schedule_of, schedule_at, fault_at, file_of}
+use Rattle.simfile_fields.proofs.FieldLaws.{bind_some, read_then, if_some, and_true, front_of, after_takes, after_again, number_takes, not_behind, decimal_digits}
 use Rattle.replay_text.proofs.FieldLaws.{number32_takes, number_last, number32_last, number_before, number_before_again, number32_before, number32_before_again}
 use Rattle.replay_text.proofs.Grammar.{append_none, fault_takes}
 use Rattle.replay_text.proofs.Again.{fault_again}
@@ -54,23 +54,20 @@ RunBehind bytes r rest = (bytes ≡ run_word r ++ rest) × IsRun r
 release_takes : (bytes onto : List ℕ) (x : EventRun × List ℕ) → bytes ≡ 114 ∷ onto → release_at onto ≡ Some x → RunBehind bytes x.0 x.1
 unfolding release_at
 release_takes bytes onto x is e =
-    let s1 = bind_some (number32_at onto) _ x e in
-    let t1 = number32_takes onto s1.0 s1.1 in
+    let s1 = read_then _ (number32_takes onto) e in
     let one : (run.Release s1.0.0, s1.0.1) ≡ x = let f = s1.2 in cc in
     let P : EventRun × List ℕ → Type 0 = λ y. RunBehind bytes y.0 y.1 in
-    subst P one (is ∙ ap (λ l. 114 ∷ l) t1.0, t1.1)
+    subst P one (is ∙ ap (λ l. 114 ∷ l) s1.1.0, s1.1.1)
 
 item_run_takes : (bytes : List ℕ) (x : EventRun × List ℕ) → item_run_at bytes ≡ Some x → RunBehind bytes x.0 x.1
 unfolding item_run_at
 item_run_takes bytes x e =
-    let s1 = bind_some (before 42 (number32_at bytes)) _ x e in
-    let t1 = number32_before 42 bytes s1.0 s1.1 in
-    let s2 = bind_some (number_at s1.0.1) _ x s1.2 in
-    let t2 = number_takes s1.0.1 s2.0 s2.1 in
+    let s1 = read_then _ (number32_before 42 bytes) e in
+    let s2 = read_then _ (number_takes s1.0.1) s1.2 in
     let p = if_some (nat_lt 0 s2.0.0) (run.Item s1.0.0 s2.0.0, s2.0.1) x s2.2 in
     let some : 0 < s2.0.0 = above s2.0.0 p.0 in
     let P : EventRun × List ℕ → Type 0 = λ y. RunBehind bytes y.0 y.1 in
-    subst P p.1 (t1.0 ∙ (ap (λ l. decimal s1.0.0 ++ 42 ∷ l) t2.0 ∙ sym (append_assoc (decimal s1.0.0) (42 ∷ decimal s2.0.0) s2.0.1)), (t1.1, some, t2.1)) where
+    subst P p.1 (s1.1.0 ∙ (ap (λ l. decimal s1.0.0 ++ 42 ∷ l) s2.1.0 ∙ sym (append_assoc (decimal s1.0.0) (42 ∷ decimal s2.0.0) s2.0.1)), (s1.1.1, some, s2.1.1)) where
       above : (n : ℕ) → nat_lt 0 n ≡ true → 0 < n
       above n h = grind (arith, nat_tests)
 
@@ -89,12 +86,11 @@ empty_of (x ∷ xs) h = absurd (omega (arith, eqb-true (length (x ∷ xs)) 0 h))
 run_takes : (word : List ℕ) (r : EventRun) → run_of word ≡ Some r → (word ≡ run_word r) × IsRun r
 unfolding run_of
 run_takes word r e =
-    let s1 = bind_some (run_at word) _ r e in
-    let t1 = run_at_takes word s1.0 s1.1 in
+    let s1 = read_then _ (run_at_takes word) e in
     let p = if_some (length s1.0.1 == 0) s1.0.0 r s1.2 in
     let nothing = empty_of s1.0.1 p.0 in
     let P : EventRun → Type 0 = λ y. (word ≡ run_word y) × IsRun y in
-    subst P p.1 (t1.0 ∙ (ap (λ l. run_word s1.0.0 ++ l) nothing ∙ append_none (run_word s1.0.0)), t1.1)
+    subst P p.1 (s1.1.0 ∙ (ap (λ l. run_word s1.0.0 ++ l) nothing ∙ append_none (run_word s1.0.0)), s1.1.1)
 
 run_back : (r : EventRun) → IsRun r → run_of (run_word r) ≡ Some r
 unfolding run_of run_at release_at item_run_at
@@ -155,13 +151,11 @@ line_again text h =
 schedule_takes : (bytes text : List ℕ) → schedule_at bytes ≡ Some text → (bytes ≡ codes "schedule" ++ (schedule_text (schedule_of text) ++ 10 ∷ [])) × AreRuns (schedule_of text)
 unfolding schedule_at
 schedule_takes bytes text e =
-    let s1 = bind_some (after (codes "schedule ") bytes) _ text e in
-    let t1 = after_takes (codes "schedule ") bytes s1.0 s1.1 in
-    let s2 = bind_some (line_of s1.0) _ text s1.2 in
-    let t2 = line_takes s1.0 s2.0 s2.1 in
+    let s1 = read_then _ (after_takes (codes "schedule ") bytes) e in
+    let s2 = read_then _ (line_takes s1.0) s1.2 in
     let p = if_some (is_schedule s2.0) s2.0 text s2.2 in
     let by = schedule_by s2.0 (same s2.0 (codes "-")) refl p.0 in
-    let split : bytes ≡ codes "schedule" ++ (schedule_text (schedule_of s2.0) ++ 10 ∷ []) = t1 ∙ ap (λ l. codes "schedule " ++ l) t2 ∙ ap (λ l. codes "schedule" ++ (l ++ 10 ∷ [])) by.0 in
+    let split : bytes ≡ codes "schedule" ++ (schedule_text (schedule_of s2.0) ++ 10 ∷ []) = s1.1 ∙ ap (λ l. codes "schedule " ++ l) s2.1 ∙ ap (λ l. codes "schedule" ++ (l ++ 10 ∷ [])) by.0 in
     let P : List ℕ → Type 0 = λ l. (bytes ≡ codes "schedule" ++ (schedule_text (schedule_of l) ++ 10 ∷ [])) × AreRuns (schedule_of l) in
     subst P p.1 (split, by.1)
 

@@ -19,9 +19,9 @@ use Rattle.replay_text.specs.Text.{kind_text, clash_text, location_text, later_t
 use Rattle.simfile_fields.specs.Texts.{list_text}
 use Rattle.replay_text.specs.Fields.{is_name, turns_of, IsElement}
 use Rattle.replay_text.specs.ScheduleFile.{IsPlace, IsLocalPlace, IsStop, IsWritten}
-use Rattle.simfile_fields.specs.Fronts.{after, number_at, before, or_else}
-use Rattle.replay_text.specs.Reading.{name_at, number32_at, list_at, same, kind_of, kind_at, buffer_at, local_at, local_place_at, place_at, listed_at, turns_at, barrier_at, barrier_stop_at, stop_at, conflict_at, divergence_at, element_at, private_at, private_bounds_at, access_bounds_at, bounds_at, variable_at, private_unset_at, access_unset_at, unset_at, divide_by_zero_at, divide_overflow_at, budget_at, alone_fault_at, memory_fault_at, fault_at}
-use Rattle.simfile_fields.proofs.FieldLaws.{bind_some, after_takes, after_again}
+use Rattle.simfile_fields.specs.Fronts.{after, before, or_else}
+use Rattle.replay_text.specs.Reading.{same, kind_of, kind_at, buffer_at, local_at, local_place_at, place_at, listed_at, turns_at, barrier_at, barrier_stop_at, stop_at, conflict_at, divergence_at, element_at, private_at, private_bounds_at, access_bounds_at, bounds_at, variable_at, private_unset_at, access_unset_at, unset_at, divide_by_zero_at, divide_overflow_at, budget_at, alone_fault_at, memory_fault_at, fault_at}
+use Rattle.simfile_fields.proofs.FieldLaws.{bind_some, read_then, after_takes, after_again}
 use Rattle.replay_text.proofs.FieldLaws.{name_before, name_before_again, number_before, number32_before, number32_before_again, signed_before, list_before, list_before_again, list_back, IsList}
 
 -- texts one after another, and then the rest
@@ -61,13 +61,12 @@ kind_back kind.Fetch = (refl, unfold Rattle.simfile_fields.specs.Texts.is_later 
 kind_takes : (bytes : List ℕ) (x : AccessKind × List ℕ) → kind_at bytes ≡ Some x → bytes ≡ kind_text x.0 ++ 32 ∷ x.1
 unfolding kind_at
 kind_takes bytes x e =
-    let s1 = bind_some (before 32 (name_at bytes)) _ x e in
-    let t1 = name_before bytes s1.0 s1.1 in
+    let s1 = read_then _ (name_before bytes) e in
     let s2 = bind_some (kind_of s1.0.0) _ x s1.2 in
     let w = kind_word s1.0.0 s2.0 s2.1 in
     let one : (s2.0, s1.0.1) ≡ x = let f = s2.2 in cc in
     let P : AccessKind × List ℕ → Type 0 = λ y. bytes ≡ kind_text y.0 ++ 32 ∷ y.1 in
-    subst P one (t1.0 ∙ ap (λ l. l ++ 32 ∷ s1.0.1) w)
+    subst P one (s1.1.0 ∙ ap (λ l. l ++ 32 ∷ s1.0.1) w)
 
 pub kind_again : (k : AccessKind) (rest : List ℕ) → kind_at (kind_text k ++ 32 ∷ rest) ≡ Some (k, rest)
 unfolding kind_at
@@ -81,12 +80,11 @@ PlaceBehind bytes place rest = (bytes ≡ location_text place ++ 32 ∷ rest) ×
 buffer_takes : (bytes onto : List ℕ) (x : Location × List ℕ) → bytes ≡ codes "buffer " ++ onto → buffer_at onto ≡ Some x → PlaceBehind bytes x.0 x.1
 unfolding buffer_at
 buffer_takes bytes onto x is e =
-    let s1 = bind_some (before 32 (name_at onto)) _ x e in
-    let t1 = name_before onto s1.0 s1.1 in
+    let s1 = read_then _ (name_before onto) e in
     let one : (location.Buffer s1.0.0, s1.0.1) ≡ x = let f = s1.2 in cc in
     let P : Location × List ℕ → Type 0 = λ y. PlaceBehind bytes y.0 y.1 in
-    let split : bytes ≡ joined_onto (codes "buffer " ∷ s1.0.0 ∷ []) (32 ∷ s1.0.1) = is ∙ ap (λ l. codes "buffer " ++ l) t1.0 in
-    subst P one (split ∙ sym (joined-append (codes "buffer " ∷ s1.0.0 ∷ []) (32 ∷ s1.0.1)), t1.1)
+    let split : bytes ≡ joined_onto (codes "buffer " ∷ s1.0.0 ∷ []) (32 ∷ s1.0.1) = is ∙ ap (λ l. codes "buffer " ++ l) s1.1.0 in
+    subst P one (split ∙ sym (joined-append (codes "buffer " ∷ s1.0.0 ∷ []) (32 ∷ s1.0.1)), s1.1.1)
 
 abbrev LocalBehind : List ℕ → Location → List ℕ → Type 0
 LocalBehind bytes place rest = (bytes ≡ location_text place ++ 32 ∷ rest) × IsLocalPlace place
@@ -94,15 +92,13 @@ LocalBehind bytes place rest = (bytes ≡ location_text place ++ 32 ∷ rest) ×
 local_takes : (bytes onto : List ℕ) (x : Location × List ℕ) → bytes ≡ codes "local " ++ onto → local_at onto ≡ Some x → LocalBehind bytes x.0 x.1
 unfolding local_at
 local_takes bytes onto x is e =
-    let s1 = bind_some (before 32 (number32_at onto)) _ x e in
-    let t1 = number32_before 32 onto s1.0 s1.1 in
-    let s2 = bind_some (before 32 (name_at s1.0.1)) _ x s1.2 in
-    let t2 = name_before s1.0.1 s2.0 s2.1 in
+    let s1 = read_then _ (number32_before 32 onto) e in
+    let s2 = read_then _ (name_before s1.0.1) s1.2 in
     let one : (location.Local s1.0.0 s2.0.0, s2.0.1) ≡ x = let f = s2.2 in cc in
     let parts = codes "local " ∷ decimal s1.0.0 ∷ codes " " ∷ s2.0.0 ∷ [] in
     let P : Location × List ℕ → Type 0 = λ y. LocalBehind bytes y.0 y.1 in
-    let split : bytes ≡ joined_onto parts (32 ∷ s2.0.1) = is ∙ ap (λ l. codes "local " ++ l) (t1.0 ∙ ap (λ l. decimal s1.0.0 ++ 32 ∷ l) t2.0) in
-    subst P one (split ∙ sym (joined-append parts (32 ∷ s2.0.1)), (t1.1, t2.1))
+    let split : bytes ≡ joined_onto parts (32 ∷ s2.0.1) = is ∙ ap (λ l. codes "local " ++ l) (s1.1.0 ∙ ap (λ l. decimal s1.0.0 ++ 32 ∷ l) s2.1.0) in
+    subst P one (split ∙ sym (joined-append parts (32 ∷ s2.0.1)), (s1.1.1, s2.1.1))
 
 local_place_takes : (bytes : List ℕ) (x : Location × List ℕ) → local_place_at bytes ≡ Some x → LocalBehind bytes x.0 x.1
 unfolding local_place_at
@@ -160,12 +156,11 @@ TurnsBehind bytes list rest = (32 ∷ bytes ≡ turns_text (turns_of list) ++ 32
 listed_takes : (bytes onto : List ℕ) (x : Option (List ℕ) × List ℕ) → bytes ≡ codes "turns " ++ onto → listed_at onto ≡ Some x → TurnsBehind bytes x.0 x.1
 unfolding listed_at
 listed_takes bytes onto x is e =
-    let s1 = bind_some (before 32 (list_at onto)) _ x e in
-    let t1 = list_before onto s1.0 s1.1 in
+    let s1 = read_then _ (list_before onto) e in
     let one : (Some s1.0.0, s1.0.1) ≡ x = let f = s1.2 in cc in
     let P : Option (List ℕ) × List ℕ → Type 0 = λ y. TurnsBehind bytes y.0 y.1 in
-    let text = turns_list (turns_of (Some s1.0.0)) t1.1.0 in
-    subst P one (rw text (ap (λ l. 32 ∷ l) (is ∙ ap (λ l. codes "turns " ++ l) t1.0)), t1.1.1)
+    let text = turns_list (turns_of (Some s1.0.0)) s1.1.1.0 in
+    subst P one (rw text (ap (λ l. 32 ∷ l) (is ∙ ap (λ l. codes "turns " ++ l) s1.1.0)), s1.1.1.1)
 
 turns_by : (bytes : List ℕ) (x : Option (List ℕ) × List ℕ) (o : Option (List ℕ)) → after (codes "turns ") bytes ≡ o → or_else o listed_at (Some (None, bytes)) ≡ Some x → TurnsBehind bytes x.0 x.1
 turns_by bytes x (Some onto) is e = listed_takes bytes onto x (after_takes (codes "turns ") bytes onto is) e
@@ -187,16 +182,13 @@ barrier_text site turns rest = ap (λ l. (codes "barrier " ++ l) ++ turns_text t
 barrier_takes : (bytes : List ℕ) (x : Stop × List ℕ) → barrier_stop_at bytes ≡ Some x → StopBehind bytes x.0 x.1
 unfolding barrier_stop_at barrier_at
 barrier_takes bytes x e =
-    let s0 = bind_some (after (codes "barrier ") bytes) _ x e in
-    let t0 = after_takes (codes "barrier ") bytes s0.0 s0.1 in
-    let s1 = bind_some (before 32 (number32_at s0.0)) _ x s0.2 in
-    let t1 = number32_before 32 s0.0 s1.0 s1.1 in
-    let s2 = bind_some (turns_at s1.0.1) _ x s1.2 in
-    let t2 = turns_takes s1.0.1 s2.0 s2.1 in
+    let s0 = read_then _ (after_takes (codes "barrier ") bytes) e in
+    let s1 = read_then _ (number32_before 32 s0.0) s0.2 in
+    let s2 = read_then _ (turns_takes s1.0.1) s1.2 in
     let one : (stop.At (record { site = s1.0.0; turns = turns_of s2.0.0 }), s2.0.1) ≡ x = let f = s2.2 in cc in
     let P : Stop × List ℕ → Type 0 = λ y. StopBehind bytes y.0 y.1 in
-    let split : bytes ≡ codes "barrier " ++ (decimal s1.0.0 ++ (turns_text (turns_of s2.0.0) ++ 32 ∷ s2.0.1)) = t0 ∙ ap (λ l. codes "barrier " ++ l) (t1.0 ∙ ap (λ l. decimal s1.0.0 ++ l) t2.0) in
-    subst P one (split ∙ sym (barrier_text s1.0.0 (turns_of s2.0.0) s2.0.1), (t1.1, t2.1))
+    let split : bytes ≡ codes "barrier " ++ (decimal s1.0.0 ++ (turns_text (turns_of s2.0.0) ++ 32 ∷ s2.0.1)) = s0.1 ∙ ap (λ l. codes "barrier " ++ l) (s1.1.0 ∙ ap (λ l. decimal s1.0.0 ++ l) s2.1.0) in
+    subst P one (split ∙ sym (barrier_text s1.0.0 (turns_of s2.0.0) s2.0.1), (s1.1.1, s2.1.1))
 
 stop_by : (bytes : List ℕ) (x : Stop × List ℕ) (o : Option (List ℕ)) → after (codes "end ") bytes ≡ o → or_else o (λ rest. Some (stop.Ended, rest)) (barrier_stop_at bytes) ≡ Some x → StopBehind bytes x.0 x.1
 stop_by bytes x None is e = barrier_takes bytes x e
@@ -268,59 +260,43 @@ says words bytes parts x y e split text written =
 conflict_takes : (clash : Clash) (bytes : List ℕ) (x : Fault × List ℕ) → conflict_at clash bytes ≡ Some x → Says (clash_text clash) bytes x.0 x.1
 unfolding conflict_at
 conflict_takes clash bytes x e =
-    let s1 = bind_some (before 32 (number32_at bytes)) _ x e in
-    let t1 = number32_before 32 bytes s1.0 s1.1 in
-    let s2 = bind_some (kind_at s1.0.1) _ x s1.2 in
-    let t2 = kind_takes s1.0.1 s2.0 s2.1 in
-    let s3 = bind_some (after (codes "item ") s2.0.1) _ x s2.2 in
-    let t3 = after_takes (codes "item ") s2.0.1 s3.0 s3.1 in
-    let s4 = bind_some (before 32 (number32_at s3.0)) _ x s3.2 in
-    let t4 = number32_before 32 s3.0 s4.0 s4.1 in
-    let s5 = bind_some (kind_at s4.0.1) _ x s4.2 in
-    let t5 = kind_takes s4.0.1 s5.0 s5.1 in
-    let s6 = bind_some (place_at s5.0.1) _ x s5.2 in
-    let t6 = place_takes s5.0.1 s6.0 s6.1 in
-    let s7 = bind_some (after (codes "byte ") s6.0.1) _ x s6.2 in
-    let t7 = after_takes (codes "byte ") s6.0.1 s7.0 s7.1 in
-    let s8 = bind_some (before 32 (number_at s7.0)) _ x s7.2 in
-    let t8 = number_before 32 s7.0 s8.0 s8.1 in
+    let s1 = read_then _ (number32_before 32 bytes) e in
+    let s2 = read_then _ (kind_takes s1.0.1) s1.2 in
+    let s3 = read_then _ (after_takes (codes "item ") s2.0.1) s2.2 in
+    let s4 = read_then _ (number32_before 32 s3.0) s3.2 in
+    let s5 = read_then _ (kind_takes s4.0.1) s4.2 in
+    let s6 = read_then _ (place_takes s5.0.1) s5.2 in
+    let s7 = read_then _ (after_takes (codes "byte ") s6.0.1) s6.2 in
+    let s8 = read_then _ (number_before 32 s7.0) s7.2 in
     let parts = clash_text clash ∷ decimal s1.0.0 ∷ codes " " ∷ kind_text s2.0.0 ∷ codes " item " ∷ decimal s4.0.0 ∷ codes " " ∷ kind_text s5.0.0 ∷ codes " " ∷ location_text s6.0.0 ∷ codes " byte " ∷ decimal s8.0.0 ∷ [] in
-    says (clash_text clash) bytes parts (fault.Conflict clash s1.0.0 s2.0.0 s4.0.0 s5.0.0 s6.0.0 s8.0.0, s8.0.1) x s8.2 (ap (λ l. (clash_text clash) ++ l) (t1.0 ∙ ap (λ l. decimal s1.0.0 ++ 32 ∷ l) (t2 ∙ ap (λ l. kind_text s2.0.0 ++ 32 ∷ l) (t3 ∙ ap (λ l. codes "item " ++ l) (t4.0 ∙ ap (λ l. decimal s4.0.0 ++ 32 ∷ l) (t5 ∙ ap (λ l. kind_text s5.0.0 ++ 32 ∷ l) (t6.0 ∙ ap (λ l. location_text s6.0.0 ++ 32 ∷ l) (t7 ∙ ap (λ l. codes "byte " ++ l) (t8.0))))))))) refl (t1.1, t4.1, t6.1, t8.1)
+    says (clash_text clash) bytes parts (fault.Conflict clash s1.0.0 s2.0.0 s4.0.0 s5.0.0 s6.0.0 s8.0.0, s8.0.1) x s8.2 (ap (λ l. (clash_text clash) ++ l) (s1.1.0 ∙ ap (λ l. decimal s1.0.0 ++ 32 ∷ l) (s2.1 ∙ ap (λ l. kind_text s2.0.0 ++ 32 ∷ l) (s3.1 ∙ ap (λ l. codes "item " ++ l) (s4.1.0 ∙ ap (λ l. decimal s4.0.0 ++ 32 ∷ l) (s5.1 ∙ ap (λ l. kind_text s5.0.0 ++ 32 ∷ l) (s6.1.0 ∙ ap (λ l. location_text s6.0.0 ++ 32 ∷ l) (s7.1 ∙ ap (λ l. codes "byte " ++ l) (s8.1.0))))))))) refl (s1.1.1, s4.1.1, s6.1.1, s8.1.1)
 
 divergence_takes : (bytes : List ℕ) (x : Fault × List ℕ) → divergence_at bytes ≡ Some x → Says (codes "fault 3 divergence item ") bytes x.0 x.1
 unfolding divergence_at
 divergence_takes bytes x e =
-    let s1 = bind_some (before 32 (number32_at bytes)) _ x e in
-    let t1 = number32_before 32 bytes s1.0 s1.1 in
-    let s2 = bind_some (stop_at s1.0.1) _ x s1.2 in
-    let t2 = stop_takes s1.0.1 s2.0 s2.1 in
-    let s3 = bind_some (after (codes "item ") s2.0.1) _ x s2.2 in
-    let t3 = after_takes (codes "item ") s2.0.1 s3.0 s3.1 in
-    let s4 = bind_some (before 32 (number32_at s3.0)) _ x s3.2 in
-    let t4 = number32_before 32 s3.0 s4.0 s4.1 in
-    let s5 = bind_some (stop_at s4.0.1) _ x s4.2 in
-    let t5 = stop_takes s4.0.1 s5.0 s5.1 in
+    let s1 = read_then _ (number32_before 32 bytes) e in
+    let s2 = read_then _ (stop_takes s1.0.1) s1.2 in
+    let s3 = read_then _ (after_takes (codes "item ") s2.0.1) s2.2 in
+    let s4 = read_then _ (number32_before 32 s3.0) s3.2 in
+    let s5 = read_then _ (stop_takes s4.0.1) s4.2 in
     let parts = codes "fault 3 divergence item " ∷ decimal s1.0.0 ∷ codes " " ∷ stop_text s2.0.0 ∷ codes " item " ∷ decimal s4.0.0 ∷ codes " " ∷ stop_text s5.0.0 ∷ [] in
-    says (codes "fault 3 divergence item ") bytes parts (fault.Divergence s1.0.0 s2.0.0 s4.0.0 s5.0.0, s5.0.1) x s5.2 (ap (λ l. (codes "fault 3 divergence item ") ++ l) (t1.0 ∙ ap (λ l. decimal s1.0.0 ++ 32 ∷ l) (t2.0 ∙ ap (λ l. stop_text s2.0.0 ++ 32 ∷ l) (t3 ∙ ap (λ l. codes "item " ++ l) (t4.0 ∙ ap (λ l. decimal s4.0.0 ++ 32 ∷ l) (t5.0)))))) refl (t1.1, t2.1, t4.1, t5.1)
+    says (codes "fault 3 divergence item ") bytes parts (fault.Divergence s1.0.0 s2.0.0 s4.0.0 s5.0.0, s5.0.1) x s5.2 (ap (λ l. (codes "fault 3 divergence item ") ++ l) (s1.1.0 ∙ ap (λ l. decimal s1.0.0 ++ 32 ∷ l) (s2.1.0 ∙ ap (λ l. stop_text s2.0.0 ++ 32 ∷ l) (s3.1 ∙ ap (λ l. codes "item " ++ l) (s4.1.0 ∙ ap (λ l. decimal s4.0.0 ++ 32 ∷ l) (s5.1.0)))))) refl (s1.1.1, s2.1.1, s4.1.1, s5.1.1)
 
 element_takes : (bytes : List ℕ) (x : ℤ × List ℕ) → element_at bytes ≡ Some x → (bytes ≡ codes "element " ++ (signed_decimal x.0 ++ 32 ∷ x.1)) × IsElement x.0
 unfolding element_at
 element_takes bytes x e =
-    let s1 = bind_some (after (codes "element ") bytes) _ x e in
-    let t1 = after_takes (codes "element ") bytes s1.0 s1.1 in
+    let s1 = read_then _ (after_takes (codes "element ") bytes) e in
     let t2 = signed_before s1.0 x s1.2 in
-    (t1 ∙ ap (λ l. codes "element " ++ l) t2.0, t2.1)
+    (s1.1 ∙ ap (λ l. codes "element " ++ l) t2.0, t2.1)
 
 private_takes : (bytes : List ℕ) (x : (List ℕ × ℤ) × List ℕ) → private_at bytes ≡ Some x → (bytes ≡ x.0.0 ++ 32 ∷ (codes "element " ++ (signed_decimal x.0.1 ++ 32 ∷ x.1))) × IsTrue (is_name x.0.0) × IsElement x.0.1
 unfolding private_at
 private_takes bytes x e =
-    let s1 = bind_some (before 32 (name_at bytes)) _ x e in
-    let t1 = name_before bytes s1.0 s1.1 in
-    let s2 = bind_some (element_at s1.0.1) _ x s1.2 in
-    let t2 = element_takes s1.0.1 s2.0 s2.1 in
+    let s1 = read_then _ (name_before bytes) e in
+    let s2 = read_then _ (element_takes s1.0.1) s1.2 in
     let one : ((s1.0.0, s2.0.0), s2.0.1) ≡ x = let f = s2.2 in cc in
     let P : (List ℕ × ℤ) × List ℕ → Type 0 = λ y. (bytes ≡ y.0.0 ++ 32 ∷ (codes "element " ++ (signed_decimal y.0.1 ++ 32 ∷ y.1))) × IsTrue (is_name y.0.0) × IsElement y.0.1 in
-    subst P one (t1.0 ∙ ap (λ l. s1.0.0 ++ 32 ∷ l) t2.0, t1.1, t2.1)
+    subst P one (s1.1.0 ∙ ap (λ l. s1.0.0 ++ 32 ∷ l) s2.1.0, s1.1.1, s2.1.1)
 
 -- a whole text is that of a fault, and then a space and the rest
 abbrev Tells : List ℕ → Fault → List ℕ → Type 0
@@ -335,22 +311,18 @@ tells whole parts x y e split text written =
 private_bounds_takes : (item : ℕ) → item < 2 ^ 32 → (whole bytes : List ℕ) (x : Fault × List ℕ) → whole ≡ codes "fault 4 bounds item " ++ (decimal item ++ (codes " private " ++ bytes)) → private_bounds_at item bytes ≡ Some x → Tells whole x.0 x.1
 unfolding private_bounds_at
 private_bounds_takes item h whole bytes x is e =
-    let s1 = bind_some (private_at bytes) _ x e in
-    let t1 = private_takes bytes s1.0 s1.1 in
+    let s1 = read_then _ (private_takes bytes) e in
     let parts = codes "fault 4 bounds item " ∷ decimal item ∷ codes " private " ∷ s1.0.0.0 ∷ codes " element " ∷ signed_decimal s1.0.0.1 ∷ [] in
-    tells whole parts (fault.PrivateBounds item s1.0.0.0 s1.0.0.1, s1.0.1) x s1.2 (is ∙ ap (λ l. codes "fault 4 bounds item " ++ (decimal item ++ (codes " private " ++ l))) t1.0) refl (h, t1.1, t1.2)
+    tells whole parts (fault.PrivateBounds item s1.0.0.0 s1.0.0.1, s1.0.1) x s1.2 (is ∙ ap (λ l. codes "fault 4 bounds item " ++ (decimal item ++ (codes " private " ++ l))) s1.1.0) refl (h, s1.1.1, s1.1.2)
 
 access_bounds_takes : (item : ℕ) → item < 2 ^ 32 → (whole bytes : List ℕ) (x : Fault × List ℕ) → whole ≡ codes "fault 4 bounds item " ++ (decimal item ++ 32 ∷ bytes) → access_bounds_at item bytes ≡ Some x → Tells whole x.0 x.1
 unfolding access_bounds_at
 access_bounds_takes item h whole bytes x is e =
-    let s1 = bind_some (kind_at bytes) _ x e in
-    let t1 = kind_takes bytes s1.0 s1.1 in
-    let s2 = bind_some (place_at s1.0.1) _ x s1.2 in
-    let t2 = place_takes s1.0.1 s2.0 s2.1 in
-    let s3 = bind_some (element_at s2.0.1) _ x s2.2 in
-    let t3 = element_takes s2.0.1 s3.0 s3.1 in
+    let s1 = read_then _ (kind_takes bytes) e in
+    let s2 = read_then _ (place_takes s1.0.1) s1.2 in
+    let s3 = read_then _ (element_takes s2.0.1) s2.2 in
     let parts = codes "fault 4 bounds item " ∷ decimal item ∷ codes " " ∷ kind_text s1.0.0 ∷ codes " " ∷ location_text s2.0.0 ∷ codes " element " ∷ signed_decimal s3.0.0 ∷ [] in
-    tells whole parts (fault.Bounds item s1.0.0 s2.0.0 s3.0.0, s3.0.1) x s3.2 (is ∙ ap (λ l. codes "fault 4 bounds item " ++ (decimal item ++ 32 ∷ l)) (t1 ∙ ap (λ l. kind_text s1.0.0 ++ 32 ∷ l) (t2.0 ∙ ap (λ l. location_text s2.0.0 ++ 32 ∷ l) t3.0))) refl (h, t2.1, t3.1)
+    tells whole parts (fault.Bounds item s1.0.0 s2.0.0 s3.0.0, s3.0.1) x s3.2 (is ∙ ap (λ l. codes "fault 4 bounds item " ++ (decimal item ++ 32 ∷ l)) (s1.1 ∙ ap (λ l. kind_text s1.0.0 ++ 32 ∷ l) (s2.1.0 ∙ ap (λ l. location_text s2.0.0 ++ 32 ∷ l) s3.1.0))) refl (h, s2.1.1, s3.1.1)
 
 bounds_by : (item : ℕ) → item < 2 ^ 32 → (whole bytes : List ℕ) (x : Fault × List ℕ) (o : Option (List ℕ)) → after (codes "private ") bytes ≡ o → whole ≡ codes "fault 4 bounds item " ++ (decimal item ++ 32 ∷ bytes) → or_else o (private_bounds_at item) (access_bounds_at item bytes) ≡ Some x → Tells whole x.0 x.1
 bounds_by item h whole bytes x None found is e = access_bounds_takes item h whole bytes x is e
@@ -360,39 +332,32 @@ bounds_by item h whole bytes x (Some onto) found is e =
 bounds_takes : (bytes : List ℕ) (x : Fault × List ℕ) → bounds_at bytes ≡ Some x → Says (codes "fault 4 bounds item ") bytes x.0 x.1
 unfolding bounds_at
 bounds_takes bytes x e =
-    let s1 = bind_some (before 32 (number32_at bytes)) _ x e in
-    let t1 = number32_before 32 bytes s1.0 s1.1 in
-    bounds_by s1.0.0 t1.1 (codes "fault 4 bounds item " ++ bytes) s1.0.1 x (after (codes "private ") s1.0.1) refl (ap (λ l. codes "fault 4 bounds item " ++ l) t1.0) s1.2
+    let s1 = read_then _ (number32_before 32 bytes) e in
+    bounds_by s1.0.0 s1.1.1 (codes "fault 4 bounds item " ++ bytes) s1.0.1 x (after (codes "private ") s1.0.1) refl (ap (λ l. codes "fault 4 bounds item " ++ l) s1.1.0) s1.2
 
 variable_takes : (item : ℕ) → item < 2 ^ 32 → (whole bytes : List ℕ) (x : Fault × List ℕ) → whole ≡ codes "fault 5 unset item " ++ (decimal item ++ (codes " variable " ++ bytes)) → variable_at item bytes ≡ Some x → Tells whole x.0 x.1
 unfolding variable_at
 variable_takes item h whole bytes x is e =
-    let s1 = bind_some (before 32 (name_at bytes)) _ x e in
-    let t1 = name_before bytes s1.0 s1.1 in
+    let s1 = read_then _ (name_before bytes) e in
     let parts = codes "fault 5 unset item " ∷ decimal item ∷ codes " variable " ∷ s1.0.0 ∷ [] in
-    tells whole parts (fault.UnsetVariable item s1.0.0, s1.0.1) x s1.2 (is ∙ ap (λ l. codes "fault 5 unset item " ++ (decimal item ++ (codes " variable " ++ l))) t1.0) refl (h, t1.1)
+    tells whole parts (fault.UnsetVariable item s1.0.0, s1.0.1) x s1.2 (is ∙ ap (λ l. codes "fault 5 unset item " ++ (decimal item ++ (codes " variable " ++ l))) s1.1.0) refl (h, s1.1.1)
 
 private_unset_takes : (item : ℕ) → item < 2 ^ 32 → (whole bytes : List ℕ) (x : Fault × List ℕ) → whole ≡ codes "fault 5 unset item " ++ (decimal item ++ (codes " private " ++ bytes)) → private_unset_at item bytes ≡ Some x → Tells whole x.0 x.1
 unfolding private_unset_at
 private_unset_takes item h whole bytes x is e =
-    let s1 = bind_some (private_at bytes) _ x e in
-    let t1 = private_takes bytes s1.0 s1.1 in
+    let s1 = read_then _ (private_takes bytes) e in
     let parts = codes "fault 5 unset item " ∷ decimal item ∷ codes " private " ∷ s1.0.0.0 ∷ codes " element " ∷ signed_decimal s1.0.0.1 ∷ [] in
-    tells whole parts (fault.UnsetElement item s1.0.0.0 s1.0.0.1, s1.0.1) x s1.2 (is ∙ ap (λ l. codes "fault 5 unset item " ++ (decimal item ++ (codes " private " ++ l))) t1.0) refl (h, t1.1, t1.2)
+    tells whole parts (fault.UnsetElement item s1.0.0.0 s1.0.0.1, s1.0.1) x s1.2 (is ∙ ap (λ l. codes "fault 5 unset item " ++ (decimal item ++ (codes " private " ++ l))) s1.1.0) refl (h, s1.1.1, s1.1.2)
 
 access_unset_takes : (item : ℕ) → item < 2 ^ 32 → (whole bytes : List ℕ) (x : Fault × List ℕ) → whole ≡ codes "fault 5 unset item " ++ (decimal item ++ 32 ∷ bytes) → access_unset_at item bytes ≡ Some x → Tells whole x.0 x.1
 unfolding access_unset_at
 access_unset_takes item h whole bytes x is e =
-    let s1 = bind_some (kind_at bytes) _ x e in
-    let t1 = kind_takes bytes s1.0 s1.1 in
-    let s2 = bind_some (local_place_at s1.0.1) _ x s1.2 in
-    let t2 = local_place_takes s1.0.1 s2.0 s2.1 in
-    let s3 = bind_some (after (codes "byte ") s2.0.1) _ x s2.2 in
-    let t3 = after_takes (codes "byte ") s2.0.1 s3.0 s3.1 in
-    let s4 = bind_some (before 32 (number_at s3.0)) _ x s3.2 in
-    let t4 = number_before 32 s3.0 s4.0 s4.1 in
+    let s1 = read_then _ (kind_takes bytes) e in
+    let s2 = read_then _ (local_place_takes s1.0.1) s1.2 in
+    let s3 = read_then _ (after_takes (codes "byte ") s2.0.1) s2.2 in
+    let s4 = read_then _ (number_before 32 s3.0) s3.2 in
     let parts = codes "fault 5 unset item " ∷ decimal item ∷ codes " " ∷ kind_text s1.0.0 ∷ codes " " ∷ location_text s2.0.0 ∷ codes " byte " ∷ decimal s4.0.0 ∷ [] in
-    tells whole parts (fault.Unset item s1.0.0 s2.0.0 s4.0.0, s4.0.1) x s4.2 (is ∙ ap (λ l. codes "fault 5 unset item " ++ (decimal item ++ 32 ∷ l)) (t1 ∙ ap (λ l. kind_text s1.0.0 ++ 32 ∷ l) (t2.0 ∙ ap (λ l. location_text s2.0.0 ++ 32 ∷ l) (t3 ∙ ap (λ l. codes "byte " ++ l) t4.0)))) refl (h, t2.1, t4.1)
+    tells whole parts (fault.Unset item s1.0.0 s2.0.0 s4.0.0, s4.0.1) x s4.2 (is ∙ ap (λ l. codes "fault 5 unset item " ++ (decimal item ++ 32 ∷ l)) (s1.1 ∙ ap (λ l. kind_text s1.0.0 ++ 32 ∷ l) (s2.1.0 ∙ ap (λ l. location_text s2.0.0 ++ 32 ∷ l) (s3.1 ∙ ap (λ l. codes "byte " ++ l) s4.1.0)))) refl (h, s2.1.1, s4.1.1)
 
 unset_by : (item : ℕ) → item < 2 ^ 32 → (whole bytes : List ℕ) (x : Fault × List ℕ) (o p : Option (List ℕ)) → after (codes "variable ") bytes ≡ o → after (codes "private ") bytes ≡ p → whole ≡ codes "fault 5 unset item " ++ (decimal item ++ 32 ∷ bytes)
     → or_else o (variable_at item) (or_else p (private_unset_at item) (access_unset_at item bytes)) ≡ Some x → Tells whole x.0 x.1
@@ -405,33 +370,29 @@ unset_by item h whole bytes x None None found other is e = access_unset_takes it
 unset_takes : (bytes : List ℕ) (x : Fault × List ℕ) → unset_at bytes ≡ Some x → Says (codes "fault 5 unset item ") bytes x.0 x.1
 unfolding unset_at
 unset_takes bytes x e =
-    let s1 = bind_some (before 32 (number32_at bytes)) _ x e in
-    let t1 = number32_before 32 bytes s1.0 s1.1 in
-    unset_by s1.0.0 t1.1 (codes "fault 5 unset item " ++ bytes) s1.0.1 x (after (codes "variable ") s1.0.1) (after (codes "private ") s1.0.1) refl refl (ap (λ l. codes "fault 5 unset item " ++ l) t1.0) s1.2
+    let s1 = read_then _ (number32_before 32 bytes) e in
+    unset_by s1.0.0 s1.1.1 (codes "fault 5 unset item " ++ bytes) s1.0.1 x (after (codes "variable ") s1.0.1) (after (codes "private ") s1.0.1) refl refl (ap (λ l. codes "fault 5 unset item " ++ l) s1.1.0) s1.2
 
 divide_by_zero_takes : (bytes : List ℕ) (x : Fault × List ℕ) → divide_by_zero_at bytes ≡ Some x → Says (codes "fault 6 divide_by_zero item ") bytes x.0 x.1
 unfolding divide_by_zero_at
 divide_by_zero_takes bytes x e =
-    let s1 = bind_some (before 32 (number32_at bytes)) _ x e in
-    let t1 = number32_before 32 bytes s1.0 s1.1 in
+    let s1 = read_then _ (number32_before 32 bytes) e in
     let parts = codes "fault 6 divide_by_zero item " ∷ decimal s1.0.0 ∷ [] in
-    says (codes "fault 6 divide_by_zero item ") bytes parts (fault.DivideByZero s1.0.0, s1.0.1) x s1.2 (ap (λ l. codes "fault 6 divide_by_zero item " ++ l) t1.0) refl t1.1
+    says (codes "fault 6 divide_by_zero item ") bytes parts (fault.DivideByZero s1.0.0, s1.0.1) x s1.2 (ap (λ l. codes "fault 6 divide_by_zero item " ++ l) s1.1.0) refl s1.1.1
 
 divide_overflow_takes : (bytes : List ℕ) (x : Fault × List ℕ) → divide_overflow_at bytes ≡ Some x → Says (codes "fault 7 divide_overflow item ") bytes x.0 x.1
 unfolding divide_overflow_at
 divide_overflow_takes bytes x e =
-    let s1 = bind_some (before 32 (number32_at bytes)) _ x e in
-    let t1 = number32_before 32 bytes s1.0 s1.1 in
+    let s1 = read_then _ (number32_before 32 bytes) e in
     let parts = codes "fault 7 divide_overflow item " ∷ decimal s1.0.0 ∷ [] in
-    says (codes "fault 7 divide_overflow item ") bytes parts (fault.DivideOverflow s1.0.0, s1.0.1) x s1.2 (ap (λ l. codes "fault 7 divide_overflow item " ++ l) t1.0) refl t1.1
+    says (codes "fault 7 divide_overflow item ") bytes parts (fault.DivideOverflow s1.0.0, s1.0.1) x s1.2 (ap (λ l. codes "fault 7 divide_overflow item " ++ l) s1.1.0) refl s1.1.1
 
 budget_takes : (bytes : List ℕ) (x : Fault × List ℕ) → budget_at bytes ≡ Some x → Says (codes "fault 8 budget item ") bytes x.0 x.1
 unfolding budget_at
 budget_takes bytes x e =
-    let s1 = bind_some (before 32 (number32_at bytes)) _ x e in
-    let t1 = number32_before 32 bytes s1.0 s1.1 in
+    let s1 = read_then _ (number32_before 32 bytes) e in
     let parts = codes "fault 8 budget item " ∷ decimal s1.0.0 ∷ [] in
-    says (codes "fault 8 budget item ") bytes parts (fault.Budget s1.0.0, s1.0.1) x s1.2 (ap (λ l. codes "fault 8 budget item " ++ l) t1.0) refl t1.1
+    says (codes "fault 8 budget item ") bytes parts (fault.Budget s1.0.0, s1.0.1) x s1.2 (ap (λ l. codes "fault 8 budget item " ++ l) s1.1.0) refl s1.1.1
 
 -- a fault by its words, behind those that are read already
 by_word : (front word bytes : List ℕ) (f : List ℕ → Option (Fault × List ℕ)) (other : Option (Fault × List ℕ)) (x : Fault × List ℕ) → ((b : List ℕ) (y : Fault × List ℕ) → f b ≡ Some y → Says (front ++ word) b y.0 y.1)
@@ -466,7 +427,6 @@ memory_fault_takes bytes x e =
 pub fault_takes : (bytes : List ℕ) (x : Fault × List ℕ) → fault_at bytes ≡ Some x → (bytes ≡ fault_text x.0 ++ 32 ∷ x.1) × IsWritten x.0
 unfolding fault_at
 fault_takes bytes x e =
-    let s1 = bind_some (after (codes "fault ") bytes) _ x e in
-    let t1 = after_takes (codes "fault ") bytes s1.0 s1.1 in
+    let s1 = read_then _ (after_takes (codes "fault ") bytes) e in
     let t2 = memory_fault_takes s1.0 x s1.2 in
-    (t1 ∙ t2.0, t2.1)
+    (s1.1 ∙ t2.0, t2.1)

@@ -70,14 +70,17 @@ pub record Walk (e x : Entry) (n : ℕ) (log rest : List Entry) : Type 0 where
   pub rest_is : rest ≡ drop n log
   pub past : All (IsPast x) (take n log)
 
-pub walk_finds : (u : Bool) (e x : Entry) (n : ℕ) (log rest : List Entry) → Walk e x n log rest → hit (within_group u) e rest ≡ hit (within_group u) x log
-walk_finds u e x n log rest w = ap (λ y. hit (within_group u) y rest) w.kept ∙ ap (hit (within_group u) x) w.rest_is ∙ sym (same_hit u x n log w.past)
+pub walked : {e x : Entry} {log all : List Entry} (n : ℕ) → e ≡ x → all ≡ log → All (IsPast x) (take n log) → Walk e x n log (drop n all)
+walked n kept same past = record { kept = kept; rest_is = ap (drop n) same; past = past }
 
-pub walk_sees : (e x : Entry) (n : ℕ) (log rest : List Entry) → Walk e x n log rest → (all : List Entry) → all ≡ log → IsThere all e.access → IsThere log x.access
-walk_sees e x n log rest w all a t = subst (λ (y : Entry). IsThere log y.access) w.kept (subst (λ l. IsThere l e.access) a t)
+pub walk_finds : {e x : Entry} {n : ℕ} {log rest : List Entry} (u : Bool) → Walk e x n log rest → hit (within_group u) e rest ≡ hit (within_group u) x log
+walk_finds {x = x} {n = n} {log = log} {rest = rest} u w = ap (λ y. hit (within_group u) y rest) w.kept ∙ ap (hit (within_group u) x) w.rest_is ∙ sym (same_hit u x n log w.past)
 
-pub walk_misses : (e x : Entry) (n : ℕ) (log rest : List Entry) → Walk e x n log rest → IsThere log x.access → IsThere rest e.access
-walk_misses e x n log rest w t =
+pub walk_sees : {e x : Entry} {n : ℕ} {log rest all : List Entry} → Walk e x n log rest → all ≡ log → IsThere all e.access → IsThere log x.access
+walk_sees {e = e} {log = log} w a t = subst (λ (y : Entry). IsThere log y.access) w.kept (subst (λ l. IsThere l e.access) a t)
+
+pub walk_misses : {e x : Entry} {n : ℕ} {log rest : List Entry} → Walk e x n log rest → IsThere log x.access → IsThere rest e.access
+walk_misses {x = x} {n = n} {log = log} {rest = rest} w t =
     subst (λ (y : Entry). IsThere rest y.access) (sym w.kept) (subst (λ l. IsThere l x.access) (sym w.rest_is) (still_there x n log w.past t))
 
 -- ---- what a push leaves: the entries with one more, or as they were

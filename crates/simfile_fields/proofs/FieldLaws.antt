@@ -1,5 +1,5 @@
 -- Fields of a line: what is read is the text of the field, and that text is read.
-use Rattle.std.proofs.Common.{◌≡◌, ℕ, zero, suc, ◌+◌, ◌-◌, ◌*◌, ℤ, pos, negsuc, map, ◌<◌, ◌≤◌, ◌^◌, ◌==◌, Bool, true, false, not, ◌&&◌, ◌||◌, List, [], ◌∷◌, ◌++◌, length, take, drop, get_or, slice_index, Option, None, Some, refl, ap, sym, ◌∙◌, subst, arith, rules, nat_lt, nat_le, nat_eq, if◌then◌else◌, decimal, IsTrue}
+use Rattle.std.proofs.Common.{◌≡◌, ℕ, zero, suc, ◌+◌, ◌-◌, ℤ, pos, negsuc, map, ◌<◌, ◌≤◌, ◌^◌, ◌==◌, Bool, true, false, not, ◌&&◌, ◌||◌, List, [], ◌∷◌, ◌++◌, length, take, drop, get_or, slice_index, Option, None, Some, refl, ap, sym, ◌∙◌, subst, arith, rules, nat_lt, nat_le, nat_eq, if◌then◌else◌, decimal, IsTrue}
 use Rattle.std.proofs.lemmas.List.{take-append-drop}
 use Rattle.std.proofs.Math.Seq.{take-append_seam, drop-append_seam}
 use Rattle.std.proofs.lemmas.Bool.Decides.{nat_tests}
@@ -20,6 +20,12 @@ use Rattle.simfile_fields.specs.Fronts.{after, name_to, number_at, list_below, n
 pub bind_some : {A B : Type 0} (o : Option A) (f : A → Option B) (y : B) → (o >>= f) ≡ Some y → (x : A) × (o ≡ Some x) × (f x ≡ Some y)
 bind_some None f y e = absurd (cc)
 bind_some (Some x) f y e = (x, refl, e)
+
+-- what is read first, what that says, and what is read behind it
+pub read_then : {A B : Type 0} {o : Option A} {P : A → Type 0} {y : B} (f : A → Option B) → ((x : A) → o ≡ Some x → P x) → (o >>= f) ≡ Some y → (x : A) × P x × (f x ≡ Some y)
+read_then {o} {P} {y} f says e =
+    let s = bind_some o f y e in
+    (s.0, says s.0 s.1, s.2)
 
 pub if_some : {A : Type 0} (b : Bool) (v x : A) → (if b then Some v else None) ≡ Some x → (b ≡ true) × (v ≡ x)
 if_some true v x e = (refl, cc)

@@ -71,6 +71,12 @@ pub first_there :
 first_there bytes log_of l g (Done number spaces log runs) rs h = h.0
 first_there bytes log_of l g (Stopped number fault log runs) rs h = h.0
 
+-- the group whose result comes next is one of the groups
+pub next_below :
+    {G L : Type 0} (bytes : G → List (Option ℕ)) (log_of : L → Log) (l : Launch) (g groups : ℕ) (r : GroupResult G L) (rs : List (GroupResult G L)) → groups * l.group_size ≡ l.items
+    → AreResults bytes log_of l g (r ∷ rs) → g < groups
+next_below bytes log_of l g groups r rs count h = there_below g groups l.group_size l.items count (first_there bytes log_of l g r rs h)
+
 pub first_result :
     {G L : Type 0} (bytes : G → List (Option ℕ)) (log_of : L → Log) (l : Launch) (g : ℕ) (r : GroupResult G L) (rs : List (GroupResult G L)) → AreResults bytes log_of l g (r ∷ rs)
     → IsResult bytes log_of l g r

@@ -184,12 +184,13 @@ abbrev pub Finds : Bool → ℕ → JoinedGroups → Log → Option Met → Type
 Finds u g so_far log found =
     (kept : List Access) → IsFootprint so_far.footprint kept → (g ≡ 0 → kept ≡ []) → AreOthers log.accesses kept → IsFirstMet u true log.accesses kept found
 
--- what it finds in a short list that stands for the log
+-- what it finds in a short list that stands for the log, by whether the launch is uniform
 pub finds_whole :
-    (u : Bool) (g : ℕ) (so_far : JoinedGroups) (last : Bool) (listed : List Entry) (log : Log) (found : Option Met) → StandsWith last listed log.accesses
-    → ((kept : List Access) → IsFootprint so_far.footprint kept → (g ≡ 0 → kept ≡ []) → AreOthers listed kept → IsFirstMet u last listed kept found) → Finds u g so_far log found
-finds_whole u g so_far last listed log found stand finds kept remembers none apart =
-    first_whole u last listed log.accesses kept found stand apart (finds kept remembers none (others_listed last listed log.accesses kept stand apart))
+    {u : Bool} (l : Launch) (g : ℕ) (so_far : JoinedGroups) (last : Bool) (listed : List Entry) (log : Log) (found : Option Met) → u ≡ l.uniform → StandsWith last listed log.accesses
+    → ((kept : List Access) → IsFootprint so_far.footprint kept → (g ≡ 0 → kept ≡ []) → AreOthers listed kept → IsFirstMet u last listed kept found) → Finds l.uniform g so_far log found
+finds_whole {u} l g so_far last listed log found same stand finds =
+    subst (λ v. Finds v g so_far log found) same
+    (λ kept remembers none apart. first_whole u last listed log.accesses kept found stand apart (finds kept remembers none (others_listed last listed log.accesses kept stand apart)))
 
 stopped_running :
     (l : Launch) (g : ℕ) (so_far : JoinedGroups) (log : Log) (more : List EventRun) (fault : Fault) (c : IsGiven l g so_far more) (run : IsRun (plan_of l g) (IsLogged (plan_of l g) log) (start l) (events_of more) (Some fault))

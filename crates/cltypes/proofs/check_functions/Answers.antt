@@ -1,5 +1,4 @@
 use Rattle.std.proofs.Common.{take, inl, inr, ◌∙◌}
-use Rattle.std.proofs.lemmas.Result.{err_from_is_err_and}
 use Rattle.clmodel.specs.Typing.Functions.{names}
 use Rattle.cltypes.specs.Views.{functions_of}
 use Rattle.cltypes.proofs.Texts.{signatures_more, summary_more, function_inside, functions_more}
@@ -12,7 +11,7 @@ returns-in_err-check_function c =
     let i = c.loop-function.function-index in
     let f = c.function-item.result in
     let e = c.in_err-check_function in
-    handed_on c.from_residual-in_err-check_function.result e.field-0.0 _ (err_from_is_err_and c.from_residual-in_err-check_function.result c.from_residual-in_err-check_function.ensures.1)
+    handed_on c.from_residual-in_err-check_function.result e.field-0.0 _ c.from_residual-in_err-check_function.ensures.1
     (elim (e.ensures.first (functions_of (take i fs)) c.loop-function.invariant.before c.loop-function.invariant.summed) [
       | inl h ↦ inl h
       | inr h ↦ inr (function_inside (names (functions_of fs)) c.loop-function.context.all fs i f e.field-0.0

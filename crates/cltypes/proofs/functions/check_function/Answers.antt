@@ -1,5 +1,4 @@
 use Rattle.std.proofs.Common.{rules, ◌≡◌, ◌++◌, [], ◌∷◌, true, sym, ap, ◌∙◌}
-use Rattle.std.proofs.lemmas.Result.{err_from_is_err_and}
 use Rattle.clmodel.specs.Tree.{func}
 use Rattle.clmodel.specs.Typing.Context as typing
 use Rattle.clmodel.specs.Typing.Faults.{row_faults}
@@ -29,7 +28,7 @@ returns-in_err-declare_parameters-clause-first c = λ fs n k.
     let w : s ≡ begun x f.name (signature_of c.in_ok-signature.signature) = search rules in
     let b = begun_context x s fs f (signature_of c.in_ok-signature.signature) n c.in_ok-signature.ensures w in
     let h = heading_of x.before fs f true n (sym (sym c.is_new.ensures ∙ c.if-not-is_new.false)) in
-    handed_on c.from_residual-in_err-declare_parameters.result c.in_err-declare_parameters.field-0.0 _ (err_from_is_err_and c.from_residual-in_err-declare_parameters.result c.from_residual-in_err-declare_parameters.ensures.1)
+    handed_on c.from_residual-in_err-declare_parameters.result c.in_err-declare_parameters.field-0.0 _ c.from_residual-in_err-declare_parameters.ensures.1
     (through (first (params_faults s c.deref.result.now)) (first (function_faults x.all fs f)) c.in_err-declare_parameters.field-0.0
     (λ e. in_parameters x.all s fs f c.in_err-declare_parameters.field-0.0 h b (ap (λ z. first (params_faults s z)) (sym c.deref.ensures.value) ∙ e))
     c.in_err-declare_parameters.ensures.first)
@@ -44,7 +43,7 @@ returns-in_err-check_statements-clause-first c = λ fs n k.
     let w : s ≡ begun x f.name (signature_of c.in_ok-signature.signature) = search rules in
     let b = begun_context x s fs f (signature_of c.in_ok-signature.signature) n c.in_ok-signature.ensures w in
     let h = heading_of x.before fs f true n (sym (sym c.is_new.ensures ∙ c.if-not-is_new.false)) in
-    handed_on c.from_residual-in_err-check_statements.result g _ (err_from_is_err_and c.from_residual-in_err-check_statements.result c.from_residual-in_err-check_statements.ensures.1)
+    handed_on c.from_residual-in_err-check_statements.result g _ c.from_residual-in_err-check_statements.ensures.1
     (through (first (row_faults t (statements c.deref-2.result.now))) (first (function_faults x.all fs f)) g
     (λ e. in_body x.all s t fs f g h b
     (ap (λ z. first (params_faults s z)) (sym c.deref.ensures.value) ∙ c.in_ok-declare_parameters.ensures.first)

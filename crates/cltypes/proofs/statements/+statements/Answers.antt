@@ -1,5 +1,4 @@
 use Rattle.std.proofs.Common.{rules, ◌≡◌, ◌++◌, inr, sym, ap, ◌∙◌, subst}
-use Rattle.std.proofs.lemmas.Result.{err_from_is_err_and}
 use Rattle.clmodel.specs.Tree as tree
 use Rattle.clmodel.specs.Tree.{term, stmt, maybe_term}
 use Rattle.clmodel.specs.Typing.Context.{enter, turning, after_part, after_all}
@@ -30,7 +29,7 @@ check_statement-returns-in-Block-clause-first t c =
 
 pub check_statements-returns-in_err-check_statement-clause-first : goal.check_statements-returns-in_err-check_statement-clause-first
 check_statements-returns-in_err-check_statement-clause-first t c =
-    handed_on c.from_residual.result c.in_err-check_statement.field-0.0 _ (err_from_is_err_and c.from_residual.result c.from_residual.ensures.1)
+    handed_on c.from_residual.result c.in_err-check_statement.field-0.0 _ c.from_residual.ensures.1
     (statement_inside c.args.context.now c.loop-statement.context c.args.body.now c.loop-statement.statement-index c.statement-item.result c.in_err-check_statement.field-0.0
     c.loop-statement-test.true c.statement-item.is c.loop-statement.invariant.after c.loop-statement.invariant.faultless c.in_err-check_statement.ensures.first)
 
@@ -57,7 +56,7 @@ check_if-returns-in_err-condition-clause-first t c = λ at.
     let p = term_faults x (term c.args.condition.now) in
     let q = faults (enter x) (stmt c.args.chosen.now) in
     let f = c.in_err-condition.field-0.0 in
-    handed_on c.from_residual.result f _ (err_from_is_err_and c.from_residual.result c.from_residual.ensures.1)
+    handed_on c.from_residual.result f _ c.from_residual.ensures.1
     (inr (inside (p ++ q) _ f (inside_first p q f c.in_err-condition.ensures)))
 
 pub check_if-returns-in_err-check_controlled-clause-first : goal.check_if-returns-in_err-check_controlled-clause-first
@@ -66,7 +65,7 @@ check_if-returns-in_err-check_controlled-clause-first t c = λ at.
     let p = term_faults x (term c.args.condition.now) in
     let q = faults (enter x) (stmt c.args.chosen.now) in
     let f = c.in_err-check_controlled.field-0.0 in
-    handed_on c.from_residual-in_err-check_controlled.result f _ (err_from_is_err_and c.from_residual-in_err-check_controlled.result c.from_residual-in_err-check_controlled.ensures.1)
+    handed_on c.from_residual-in_err-check_controlled.result f _ c.from_residual-in_err-check_controlled.ensures.1
     (through (first q) _ f (λ e. inside (p ++ q) _ f (inside_second p q f c.in_ok-condition.ensures.0 e)) c.in_err-check_controlled.ensures.first)
 
 pub check_if-returns-clause-first : goal.check_if-returns-clause-first
@@ -89,7 +88,7 @@ check_if_else-returns-in_err-condition-clause-first t c = λ at.
     let q = faults (enter x) (stmt c.args.chosen.now) in
     let r = faults (enter x) (stmt c.args.otherwise.now) in
     let f = c.in_err-condition.field-0.0 in
-    handed_on c.from_residual.result f _ (err_from_is_err_and c.from_residual.result c.from_residual.ensures.1)
+    handed_on c.from_residual.result f _ c.from_residual.ensures.1
     (inr (inside (p ++ q ++ r) _ f (inside_first (p ++ q) r f (inside_first p q f c.in_err-condition.ensures))))
 
 pub check_if_else-returns-in_err-check_controlled-clause-first : goal.check_if_else-returns-in_err-check_controlled-clause-first
@@ -99,7 +98,7 @@ check_if_else-returns-in_err-check_controlled-clause-first t c = λ at.
     let q = faults (enter x) (stmt c.args.chosen.now) in
     let r = faults (enter x) (stmt c.args.otherwise.now) in
     let f = c.in_err-check_controlled.field-0.0 in
-    handed_on c.from_residual-in_err-check_controlled.result f _ (err_from_is_err_and c.from_residual-in_err-check_controlled.result c.from_residual-in_err-check_controlled.ensures.1)
+    handed_on c.from_residual-in_err-check_controlled.result f _ c.from_residual-in_err-check_controlled.ensures.1
     (through (first q) _ f (λ e. inside (p ++ q ++ r) _ f (inside_first (p ++ q) r f (inside_second p q f c.in_ok-condition.ensures.0 e))) c.in_err-check_controlled.ensures.first)
 
 pub check_if_else-returns-in_err-check_controlled-2-clause-first : goal.check_if_else-returns-in_err-check_controlled-2-clause-first
@@ -110,7 +109,7 @@ check_if_else-returns-in_err-check_controlled-2-clause-first t c = λ at.
     let r = faults (enter x) (stmt c.args.otherwise.now) in
     let f = c.in_err-check_controlled-2.field-0.0 in
     let same : c.check_controlled.new.context ≡ x = c.in_ok-check_controlled.ensures.left in
-    handed_on c.from_residual-in_err-check_controlled-2.result f _ (err_from_is_err_and c.from_residual-in_err-check_controlled-2.result c.from_residual-in_err-check_controlled-2.ensures.1)
+    handed_on c.from_residual-in_err-check_controlled-2.result f _ c.from_residual-in_err-check_controlled-2.ensures.1
     (through (first (faults (enter c.check_controlled.new.context) (stmt c.args.otherwise.now))) _ f
     (λ e. inside (p ++ q ++ r) _ f
     (inside_second (p ++ q) r f (neither_of p q c.in_ok-condition.ensures.0 c.in_ok-check_controlled.ensures.first)
@@ -139,7 +138,7 @@ check_while-returns-in_err-condition-clause-first t c = λ at.
     let p = term_faults x (term c.args.condition.now) in
     let q = faults (turning x) (stmt c.args.body.now) in
     let f = c.in_err-condition.field-0.0 in
-    handed_on c.from_residual.result f _ (err_from_is_err_and c.from_residual.result c.from_residual.ensures.1)
+    handed_on c.from_residual.result f _ c.from_residual.ensures.1
     (inr (inside (p ++ q) _ f (inside_first p q f c.in_err-condition.ensures)))
 
 pub check_while-returns-in_err-check_turn-clause-first : goal.check_while-returns-in_err-check_turn-clause-first
@@ -148,7 +147,7 @@ check_while-returns-in_err-check_turn-clause-first t c = λ at.
     let p = term_faults x (term c.args.condition.now) in
     let q = faults (turning x) (stmt c.args.body.now) in
     let f = c.in_err-check_turn.field-0.0 in
-    handed_on c.from_residual-in_err-check_turn.result f _ (err_from_is_err_and c.from_residual-in_err-check_turn.result c.from_residual-in_err-check_turn.ensures.1)
+    handed_on c.from_residual-in_err-check_turn.result f _ c.from_residual-in_err-check_turn.ensures.1
     (through (first q) _ f (λ e. inside (p ++ q) _ f (inside_second p q f c.in_ok-condition.ensures.0 e)) c.in_err-check_turn.ensures.first)
 
 pub check_while-returns-clause-first : goal.check_while-returns-clause-first
@@ -170,7 +169,7 @@ check_do-returns-in_err-check_turn-clause-first t c = λ at.
     let p = faults (turning x) (stmt c.args.body.now) in
     let q = term_faults x (term c.args.condition.now) in
     let f = c.in_err-check_turn.field-0.0 in
-    handed_on c.from_residual.result f _ (err_from_is_err_and c.from_residual.result c.from_residual.ensures.1)
+    handed_on c.from_residual.result f _ c.from_residual.ensures.1
     (through (first p) _ f (λ e. inside (p ++ q) _ f (inside_first p q f e)) c.in_err-check_turn.ensures.first)
 
 pub check_do-returns-in_err-condition-clause-first : goal.check_do-returns-in_err-condition-clause-first
@@ -181,7 +180,7 @@ check_do-returns-in_err-condition-clause-first t c = λ at.
     let q = term_faults x e in
     let f = c.in_err-condition.field-0.0 in
     let same : c.check_turn.new.context ≡ x = c.in_ok-check_turn.ensures.left in
-    handed_on c.from_residual-in_err-condition.result f _ (err_from_is_err_and c.from_residual-in_err-condition.result c.from_residual-in_err-condition.ensures.1)
+    handed_on c.from_residual-in_err-condition.result f _ c.from_residual-in_err-condition.ensures.1
     (inr (inside (p ++ q) _ f (inside_second p q f c.in_ok-check_turn.ensures.first (ap (λ z. first (term_faults z e)) (sym same) ∙ c.in_err-condition.ensures))))
 
 pub check_do-returns-clause-first : goal.check_do-returns-clause-first
@@ -205,7 +204,7 @@ check_turns-returns-in_err-fault-clause-first t c =
     let q = part_faults (enter x) (held c.args.third.now) in
     let r = faults (turning x) (stmt c.args.body.now) in
     let f = c.in_err-fault.field-0.0 in
-    handed_on c.from_residual.result f _ (err_from_is_err_and c.from_residual.result c.from_residual.ensures.1)
+    handed_on c.from_residual.result f _ c.from_residual.ensures.1
     (inr (inside (p ++ q ++ r) _ f (inside_first (p ++ q) r f (inside_first p q f c.in_err-fault.ensures))))
 
 pub check_turns-returns-in_err-check_third-clause-first : goal.check_turns-returns-in_err-check_third-clause-first
@@ -215,7 +214,7 @@ check_turns-returns-in_err-check_third-clause-first t c =
     let q = part_faults (enter x) (held c.args.third.now) in
     let r = faults (turning x) (stmt c.args.body.now) in
     let f = c.in_err-check_third.field-0.0 in
-    handed_on c.from_residual-in_err-check_third.result f _ (err_from_is_err_and c.from_residual-in_err-check_third.result c.from_residual-in_err-check_third.ensures.1)
+    handed_on c.from_residual-in_err-check_third.result f _ c.from_residual-in_err-check_third.ensures.1
     (through (first q) _ f (λ e. inside (p ++ q ++ r) _ f (inside_first (p ++ q) r f (inside_second p q f c.in_ok-fault.ensures.0 e))) c.in_err-check_third.ensures.first)
 
 pub check_turns-returns-in_err-check_turn-clause-first : goal.check_turns-returns-in_err-check_turn-clause-first
@@ -226,7 +225,7 @@ check_turns-returns-in_err-check_turn-clause-first t c =
     let r = faults (turning x) (stmt c.args.body.now) in
     let f = c.in_err-check_turn.field-0.0 in
     let same : c.check_third.new.context ≡ x = c.in_ok-check_third.ensures.left in
-    handed_on c.from_residual-in_err-check_turn.result f _ (err_from_is_err_and c.from_residual-in_err-check_turn.result c.from_residual-in_err-check_turn.ensures.1)
+    handed_on c.from_residual-in_err-check_turn.result f _ c.from_residual-in_err-check_turn.ensures.1
     (through (first (faults (turning c.check_third.new.context) (stmt c.args.body.now))) _ f
     (λ e. inside (p ++ q ++ r) _ f
     (inside_second (p ++ q) r f (neither_of p q c.in_ok-fault.ensures.0 c.in_ok-check_third.ensures.first) (ap (λ z. first (faults (turning z) (stmt c.args.body.now))) (sym same) ∙ e)))
@@ -254,7 +253,7 @@ check_for-returns-in_err-check_part-clause-first t c = λ at.
     let s = stmt c.args.body.now in
     let f = c.in_err-check_part.field-0.0 in
     let entered : c.enter.new.self ≡ enter x = search rules in
-    handed_on c.from_residual-in_err-check_part.result f _ (err_from_is_err_and c.from_residual-in_err-check_part.result c.from_residual-in_err-check_part.ensures.1)
+    handed_on c.from_residual-in_err-check_part.result f _ c.from_residual-in_err-check_part.ensures.1
     (through (first (part_faults c.enter.new.self begin)) (first (faults x (tree.For at begin e third s))) f
     (λ h. in_first _ (first (part_faults (enter x) begin)) (first (turns_faults (after_part (enter x) begin) e third s)) f (for_first x at begin e third s)
     (ap (λ z. first (part_faults z begin)) (sym entered) ∙ h))
@@ -270,7 +269,7 @@ check_for-returns-in_err-check_turns-clause-first t c = λ at.
     let f = c.in_err-check_turns.field-0.0 in
     let entered : c.enter.new.self ≡ enter x = search rules in
     let there : c.check_part.new.context ≡ after_part (enter x) begin = c.in_ok-check_part.ensures.after ∙ ap (λ z. after_part z begin) entered in
-    handed_on c.from_residual-in_err-check_turns.result f _ (err_from_is_err_and c.from_residual-in_err-check_turns.result c.from_residual-in_err-check_turns.ensures.1)
+    handed_on c.from_residual-in_err-check_turns.result f _ c.from_residual-in_err-check_turns.ensures.1
     (through (first (turns_faults c.check_part.new.context e third s)) (first (faults x (tree.For at begin e third s))) f
     (λ h. in_rest _ (first (part_faults (enter x) begin)) (first (turns_faults (after_part (enter x) begin) e third s)) (for_first x at begin e third s)
     (ap (λ z. first (part_faults z begin)) (sym entered) ∙ c.in_ok-check_part.ensures.first)

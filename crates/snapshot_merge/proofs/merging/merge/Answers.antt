@@ -1,4 +1,4 @@
-use Rattle.std.proofs.Common.{◌≡◌, true, ℕ, suc, ◌<◌, Option, Some, None, List, [], sym, ap₂, ◌∙◌, subst, arith, add-one}
+use Rattle.std.proofs.Common.{◌≡◌, true, ℕ, suc, Option, Some, None, List, [], sym, ap₂, ◌∙◌, subst, arith, add-one}
 use Rattle.std.specs.Prelude.{Vec}
 use Rattle.std.specs.declared.alloc.Global.{Global}
 use Rattle.clmodel.specs.Launch as model
@@ -14,7 +14,7 @@ use Rattle.std.specs.Vec.Iter.{into_iter_items}
 use Rattle.spaces.specs.Overlay.{Overlaid}
 use Rattle.joining.specs.Steps.{HasGroup}
 use Rattle.snapshot_merge.specs.Launches.{AreResults, IsShortResult}
-use Rattle.snapshot_merge.proofs.Ending.{grouped_of, there_below, further_there, next_stopped, next_held, concludes_fault, concludes_clean, first_there, first_result, rest_results, none_left}
+use Rattle.snapshot_merge.proofs.Ending.{grouped_of, next_below, further_there, next_stopped, next_held, concludes_fault, concludes_clean, first_there, first_result, rest_results, none_left}
 use Rattle.snapshot_merge.proofs.Listed.{short_whole}
 use Rattle.snapshot_merge.proofs.merging.merge.Goals as goal
 
@@ -34,18 +34,14 @@ pub overflow_add-number : goal.overflow_add-number
 overflow_add-number g c =
     let l = launch_of (setup_of c.args.launch.now) (bytes_in c.args.buffers.now) in
     let now = subst (AreResults bytes_of g.L.Logged.log l c.loop-result.group) c.in-Some.ensures.steps.0 c.loop-result.invariant.rest in
-    let there : HasGroup l c.loop-result.group = first_there bytes_of g.L.Logged.log l c.loop-result.group c.in-Some.result (into_iter_items c.next.new.self) now in
-    let below : c.loop-result.group < c.group_count-groups.result
-    = there_below c.loop-result.group c.group_count-groups.result l.group_size l.items c.group_count-groups.ensures.count there in
+    let below = next_below bytes_of g.L.Logged.log l c.loop-result.group c.group_count-groups.result c.in-Some.result (into_iter_items c.next.new.self) c.group_count-groups.ensures.count now in
     omega (arith, below, c.group_count-groups.type_inv)
 
 pub overflow_add-group : goal.overflow_add-group
 overflow_add-group g c =
     let l = launch_of (setup_of c.args.launch.now) (bytes_in c.args.buffers.now) in
     let now = subst (AreResults bytes_of g.L.Logged.log l c.loop-result.group) c.in-Some.ensures.steps.0 c.loop-result.invariant.rest in
-    let there : HasGroup l c.loop-result.group = first_there bytes_of g.L.Logged.log l c.loop-result.group c.in-Some.result (into_iter_items c.next.new.self) now in
-    let below : c.loop-result.group < c.group_count-groups.result
-    = there_below c.loop-result.group c.group_count-groups.result l.group_size l.items c.group_count-groups.ensures.count there in
+    let below = next_below bytes_of g.L.Logged.log l c.loop-result.group c.group_count-groups.result c.in-Some.result (into_iter_items c.next.new.self) c.group_count-groups.ensures.count now in
     omega (arith, below, c.group_count-groups.type_inv)
 
 pub join-requires : goal.join-requires

@@ -1,15 +1,10 @@
-use Rattle.std.proofs.Common.{◌+◌, true, false, List, [], ◌∷◌, ◌++◌, refl, sym, ap, ◌∙◌, subst, inl, inr, ℕ}
-use Rattle.std.specs.Prelude.{is_ok, drop}
-use Rattle.shadow_list.specs.Log.{stamped, logged}
+use Rattle.std.proofs.Common.{◌+◌, true, false, List, [], ◌∷◌, ◌++◌, refl, sym, ap, ◌∙◌, subst, inl, inr}
+use Rattle.std.specs.Prelude.{is_ok}
 use Rattle.shadow_list.specs.Past.{IsBefore}
 use Rattle.shadow_list.specs.declared.list.ListLog.{ListLog}
 use Rattle.shadow_list.specs.declared.log.Entry.{Entry}
-use Rattle.shadow_list.proofs.Past.{Walk, walk_finds, walk_sees, walk_misses, all_pushed, front_pushed, local_before, global_before}
+use Rattle.shadow_list.proofs.Past.{walked, walk_finds, walk_sees, walk_misses, all_pushed, front_pushed, local_before, global_before}
 use Rattle.shadow_list.proofs.list.ListLogAccessLog.note.Goals as goal
-
--- the access as it is kept
-abbrev kept : ListLog → Entry → Entry
-kept l x = stamped (logged l.entries.items l.local_interval l.global_interval l.uniform) x
 
 pub invariant_of-self-clause-local_made : goal.invariant_of-self-clause-local_made
 invariant_of-self-clause-local_made c =
@@ -40,12 +35,8 @@ invariant_of-self-clause-global_past c =
 pub returns-in_ok-keep-clause-noted : goal.returns-in_ok-keep-clause-noted
 returns-in_ok-keep-clause-noted c =
     let l : ListLog = c.args.self.now in
-    let x : Entry = kept l c.args.entry in
-    let n : ℕ = c.first-from.result in
-    let e : Entry = c.stamped-entry.result in
-    let rest : List Entry = drop n c.as_slice-log.result.now in
-    let w : Walk e x n l.entries.items rest = record { kept = c.stamped-entry.ensures; rest_is = ap (drop n) c.as_slice-log.ensures.value; past = c.first-from.ensures.past } in (
-      c.hit_from-found.ensures ∙ walk_finds l.uniform e x n l.entries.items rest w,
+    let w = walked c.first-from.result c.stamped-entry.ensures c.as_slice-log.ensures.value c.first-from.ensures.past in (
+      c.hit_from-found.ensures ∙ walk_finds l.uniform w,
       inr (c.in_ok-keep.ensures.items ∙ ap (λ (y : Entry). l.entries.items ++ y ∷ []) c.stamped-entry.ensures),
       refl,
       refl,
@@ -55,26 +46,18 @@ returns-in_ok-keep-clause-noted c =
 pub returns-in_ok-keep-clause-once : goal.returns-in_ok-keep-clause-once
 returns-in_ok-keep-clause-once c =
     let l : ListLog = c.args.self.now in
-    let x : Entry = kept l c.args.entry in
-    let n : ℕ = c.first-from.result in
-    let e : Entry = c.stamped-entry.result in
-    let rest : List Entry = drop n c.as_slice-log.result.now in
-    let w : Walk e x n l.entries.items rest = record { kept = c.stamped-entry.ensures; rest_is = ap (drop n) c.as_slice-log.ensures.value; past = c.first-from.ensures.past } in
+    let w = walked c.first-from.result c.stamped-entry.ensures c.as_slice-log.ensures.value c.first-from.ensures.past in
     inr (
-      λ t. c.is_there.ensures.new c.if-not-is_there.true (walk_misses e x n l.entries.items rest w t),
+      λ t. c.is_there.ensures.new c.if-not-is_there.true (walk_misses w t),
       c.in_ok-keep.ensures.items ∙ ap (λ (y : Entry). l.entries.items ++ y ∷ []) c.stamped-entry.ensures,
     )
 
 pub returns-else-not-is_there-clause-noted : goal.returns-else-not-is_there-clause-noted
 returns-else-not-is_there-clause-noted c =
     let l : ListLog = c.args.self.now in
-    let x : Entry = kept l c.args.entry in
-    let n : ℕ = c.first-from.result in
-    let e : Entry = c.stamped-entry.result in
-    let rest : List Entry = drop n c.as_slice-log.result.now in
-    let w : Walk e x n l.entries.items rest = record { kept = c.stamped-entry.ensures; rest_is = ap (drop n) c.as_slice-log.ensures.value; past = c.first-from.ensures.past } in (
-      c.hit_from-found.ensures ∙ walk_finds l.uniform e x n l.entries.items rest w,
-      inl (walk_sees e x n l.entries.items rest w c.as_slice-log.result.now c.as_slice-log.ensures.value (c.is_there.ensures.there c.if-not-is_there.false), refl),
+    let w = walked c.first-from.result c.stamped-entry.ensures c.as_slice-log.ensures.value c.first-from.ensures.past in (
+      c.hit_from-found.ensures ∙ walk_finds l.uniform w,
+      inl (walk_sees w c.as_slice-log.ensures.value (c.is_there.ensures.there c.if-not-is_there.false), refl),
       refl,
       refl,
       refl,
@@ -82,10 +65,5 @@ returns-else-not-is_there-clause-noted c =
 
 pub returns-else-not-is_there-clause-once : goal.returns-else-not-is_there-clause-once
 returns-else-not-is_there-clause-once c =
-    let l : ListLog = c.args.self.now in
-    let x : Entry = kept l c.args.entry in
-    let n : ℕ = c.first-from.result in
-    let e : Entry = c.stamped-entry.result in
-    let rest : List Entry = drop n c.as_slice-log.result.now in
-    let w : Walk e x n l.entries.items rest = record { kept = c.stamped-entry.ensures; rest_is = ap (drop n) c.as_slice-log.ensures.value; past = c.first-from.ensures.past } in
-    inl (walk_sees e x n l.entries.items rest w c.as_slice-log.result.now c.as_slice-log.ensures.value (c.is_there.ensures.there c.if-not-is_there.false), refl)
+    let w = walked c.first-from.result c.stamped-entry.ensures c.as_slice-log.ensures.value c.first-from.ensures.past in
+    inl (walk_sees w c.as_slice-log.ensures.value (c.is_there.ensures.there c.if-not-is_there.false), refl)

@@ -11,13 +11,9 @@ pub returns-in_ok-cross-in-Some : goal.returns-in_ok-cross-in-Some
 returns-in_ok-cross-in-Some g c =
     let l : Launch = g.D.Described.launch c.args.launch.now in
     let log : Log = c.requires.ran.0 in
-    let stand = c.requires.ran.1 in
-    let run = c.requires.ran.2 in
-    let listed = g.L.GroupAccesses.listed c.args.log.now in
-    let last = g.L.GroupAccesses.has_last c.args.log.now in
     let given : IsGiven l c.args.number.group c.args.self.now c.args.runs.now = record { laws = c.laws.ensures; grouped = c.requires.grouped; there = c.requires.there; holds = c.requires.so_far; merged = c.requires.merged } in
-    done_meets l c.args.number.group c.args.self.now log c.args.runs.now c.cross.new.self.runs.items c.args.spaces.now given run c.in-Some.met c.in_ok-cross-in-Some.field-0
-    (subst (λ u. Finds u c.args.number.group c.args.self.now log (Some c.in-Some.met)) c.uniform.ensures (finds_whole c.uniform.result c.args.number.group c.args.self.now last listed log (Some c.in-Some.met) stand c.in-Some.ensures))
+    done_meets l c.args.number.group c.args.self.now log c.args.runs.now c.cross.new.self.runs.items c.args.spaces.now given c.requires.ran.2 c.in-Some.met c.in_ok-cross-in-Some.field-0
+    (finds_whole l c.args.number.group c.args.self.now (g.L.GroupAccesses.has_last c.args.log.now) (g.L.GroupAccesses.listed c.args.log.now) log (Some c.in-Some.met) c.uniform.ensures c.requires.ran.1 c.in-Some.ensures)
     c.in_ok-cross-in-Some.ensures.runs c.in_ok-cross-in-Some.ensures.report
 
 pub returns-after-number : goal.returns-after-number
@@ -25,20 +21,19 @@ returns-after-number g c =
     let l : Launch = g.D.Described.launch c.args.launch.now in
     let log : Log = c.requires.ran.0 in
     let stand = c.requires.ran.1 in
-    let run = c.requires.ran.2 in
     let listed = g.L.GroupAccesses.listed c.args.log.now in
     let last = g.L.GroupAccesses.has_last c.args.log.now in
     let given : IsGiven l c.args.number.group c.args.self.now c.args.runs.now = record { laws = c.laws.ensures; grouped = c.requires.grouped; there = c.requires.there; holds = c.requires.so_far; merged = c.requires.merged } in
     let finds : Finds l.uniform c.args.number.group c.args.self.now log None
-    = subst (λ u. Finds u c.args.number.group c.args.self.now log None) c.uniform.ensures (finds_whole c.uniform.result c.args.number.group c.args.self.now last listed log None stand c.in-None.ensures) in
+    = finds_whole l c.args.number.group c.args.self.now last listed log None c.uniform.ensures stand c.in-None.ensures in
     elim c.if-number.branch [
       | then-number+in_ok-add-in-None w ↦
           subst (HoldsGroups l (suc c.args.number.group)) (sym w.self-is)
-          (done_added l c.args.number.group c.args.self.now log c.args.runs.now c.args.spaces.now given run finds last listed stand c.change.new.self w.add.new.self
+          (done_added l c.args.number.group c.args.self.now log c.args.runs.now c.args.spaces.now given c.requires.ran.2 finds last listed stand c.change.new.self w.add.new.self
           c.in_ok-change-in-None.ensures.changed c.in_ok-change-in-None.ensures.first c.in_ok-change-in-None.ensures.footprint c.in_ok-change-in-None.ensures.runs w.in_ok-add-in-None.ensures.first
           w.in_ok-add-in-None.ensures.contents w.in_ok-add-in-None.ensures.accesses w.in_ok-add-in-None.ensures.runs)
       | else-number w ↦
           subst (HoldsGroups l (suc c.args.number.group)) (sym w.self-is)
-          (done_last l c.args.number.group c.args.self.now log c.args.runs.now c.args.spaces.now given run finds last listed stand c.change.new.self c.in_ok-change-in-None.ensures.changed
+          (done_last l c.args.number.group c.args.self.now log c.args.runs.now c.args.spaces.now given c.requires.ran.2 finds last listed stand c.change.new.self c.in_ok-change-in-None.ensures.changed
           c.in_ok-change-in-None.ensures.first (λ h. true≢false (sym (c.requires.further h) ∙ w.if-number.false)))
     ]

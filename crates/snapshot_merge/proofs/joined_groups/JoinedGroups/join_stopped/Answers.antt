@@ -3,31 +3,23 @@ use Rattle.clmodel.specs.Launch.{Launch}
 use Rattle.clmodel.specs.Outcome.{events_of}
 use Rattle.shadow_list.specs.Log.{Log}
 use Rattle.snapshot_merge.specs.Runs.{Adds}
-use Rattle.snapshot_merge.proofs.Joining.{IsGiven, Finds, finds_whole, stop_meets, stop_alone, both_ok}
+use Rattle.snapshot_merge.proofs.Joining.{IsGiven, finds_whole, stop_meets, stop_alone, both_ok}
 use Rattle.snapshot_merge.proofs.joined_groups.JoinedGroups.join_stopped.Goals as goal
 
 pub returns-in-Some : goal.returns-in-Some
 returns-in-Some g c =
     let l : Launch = g.D.Described.launch c.args.launch.now in
     let log : Log = c.requires.ran.0 in
-    let stand = c.requires.ran.1 in
-    let run = c.requires.ran.2 in
-    let listed = g.L.GroupAccesses.listed c.args.log.now in
-    let last = g.L.GroupAccesses.has_last c.args.log.now in
     let given : IsGiven l c.args.group c.args.self.now c.args.runs.now = record { laws = c.laws.ensures; grouped = c.requires.grouped; there = c.requires.there; holds = c.requires.so_far; merged = c.requires.merged } in
     both_ok _ _ _ c.cross.result c.cross.ensures.report c.cross.ensures.runs (λ report told adds.
-    stop_meets l c.args.group c.args.self.now log c.args.runs.now c.cross.new.self.runs.items c.args.fault given run c.in-Some.met report
-    (subst (λ u. Finds u c.args.group c.args.self.now log (Some c.in-Some.met)) c.uniform.ensures (finds_whole c.uniform.result c.args.group c.args.self.now last listed log (Some c.in-Some.met) stand c.in-Some.ensures)) adds told)
+    stop_meets l c.args.group c.args.self.now log c.args.runs.now c.cross.new.self.runs.items c.args.fault given c.requires.ran.2 c.in-Some.met report
+    (finds_whole l c.args.group c.args.self.now (g.L.GroupAccesses.has_last c.args.log.now) (g.L.GroupAccesses.listed c.args.log.now) log (Some c.in-Some.met) c.uniform.ensures c.requires.ran.1 c.in-Some.ensures) adds told)
 
 pub returns-in_ok-add_all-in-None : goal.returns-in_ok-add_all-in-None
 returns-in_ok-add_all-in-None g c =
     let l : Launch = g.D.Described.launch c.args.launch.now in
     let log : Log = c.requires.ran.0 in
-    let stand = c.requires.ran.1 in
-    let run = c.requires.ran.2 in
-    let listed = g.L.GroupAccesses.listed c.args.log.now in
-    let last = g.L.GroupAccesses.has_last c.args.log.now in
     let given : IsGiven l c.args.group c.args.self.now c.args.runs.now = record { laws = c.laws.ensures; grouped = c.requires.grouped; there = c.requires.there; holds = c.requires.so_far; merged = c.requires.merged } in
-    stop_alone l c.args.group c.args.self.now log c.args.runs.now c.add_all.new.runs.items c.args.fault given run
-    (subst (λ u. Finds u c.args.group c.args.self.now log None) c.uniform.ensures (finds_whole c.uniform.result c.args.group c.args.self.now last listed log None stand c.in-None.ensures))
+    stop_alone l c.args.group c.args.self.now log c.args.runs.now c.add_all.new.runs.items c.args.fault given c.requires.ran.2
+    (finds_whole l c.args.group c.args.self.now (g.L.GroupAccesses.has_last c.args.log.now) (g.L.GroupAccesses.listed c.args.log.now) log None c.uniform.ensures c.requires.ran.1 c.in-None.ensures)
     (subst (λ z. Adds c.args.self.now.runs.items c.add_all.new.runs.items z (events_of z)) c.as_slice.ensures c.in_ok-add_all-in-None.ensures)
