@@ -92,5 +92,5 @@ work_written bodies front back new body rest (part.Left h) t known opened =
     let new_number = ap length opened.1 ∙ counted back inner in
     let before = ap (λ bs. steps (length bodies) (innermost (reverse bs))) t.last ∙ ap (steps (length bodies)) (innermost_of front body) ∙ steps_begun (length bodies) body.items some in
     let after = ap (λ bs. steps (length new.items) (innermost (reverse bs))) opened.1 ∙ ap (steps (length new.items)) (innermost_of back inner)
-        ∙ steps_begun (length new.items) inner.items (begun inner.items coded) in
+    ∙ steps_begun (length new.items) inner.items (begun inner.items coded) in
     omega (arith, code, more, whole_inner, number, back_number, new_number, before, after, new.ok, new.small)
