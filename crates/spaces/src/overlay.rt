@@ -40,7 +40,7 @@ impl<'a> Overlay<'a> {
     }
 
     /// The numbers of the pages of 256 bytes outside of which it is as the lent buffer.
-    pub fn changed(&self) -> &[u16]
+    pub fn changed(&self) -> &[usize]
         ensures { (byte : ℕ) → All (λ page. byte / 256 ≢ page) result.now → cells_of self.now.bytes byte ≡ slice_get self.now.base byte }
     {
         self.pages.numbers.as_slice()

@@ -10,10 +10,10 @@ use std::alloc::{AllocError, Global};
 /// The copies of pages of 256 bytes, each made before the page's first change.
 #[derive(Drop)]
 pub(crate) struct Pages {
-    /// For each page of the buffer 0, or the count of its copy; no entries before the first copy.
-    pub(crate) table: Vec<u16>,
+    /// For each page up to the last that has a copy 0, or the count of its copy.
+    pub(crate) table: Vec<usize>,
     /// The numbers of the copied pages, in the order of their copies.
-    pub(crate) numbers: Vec<u16>,
+    pub(crate) numbers: Vec<usize>,
     /// The copies, of 256 bytes each.
     pub(crate) cells: Vec<u8>,
     ghost numbered: { AreNumbered table.items numbers.items },
@@ -49,14 +49,14 @@ fn add_row(cells: &mut Vec<u8>, place: usize, row: &[u8]) -> Result<(), AllocErr
     cells.resize(place + 256, 0)
 }
 
-/// Makes room in a table for n pages, one of which is to be used.
-fn make_room(table: &mut Vec<u16>, pages: usize, page: usize) -> Result<(), AllocError>
-    requires { page < pages }
+/// Makes room in a table for a page and those before it.
+fn make_room(table: &mut Vec<usize>, page: usize) -> Result<(), AllocError>
+    requires { page + 1 < 2 ^ 64 }
     ensures long { OnOk result (page < length table.new.items) }
     ensures same { (other : ℕ) → slice_index table.new.items other ≡ slice_index table.old.items other }
 {
     if table.len() <= page {
-        table.resize(pages, 0)?;
+        table.resize(page + 1, 0)?;
     }
     Ok(())
 }
@@ -77,11 +77,10 @@ impl Pages {
     /// The count of a page's copy, or 0.
     fn copy_of(&self, page: usize) -> usize
         ensures value { result ≡ slice_index self.now.table.items page }
-        ensures few { result < 2 ^ 16 }
     {
         match self.table.get(page) {
             None => 0,
-            Some(copy) => *copy as usize,
+            Some(copy) => *copy,
         }
     }
 
@@ -128,7 +127,7 @@ impl Pages {
         }
     }
 
-    /// Copies a page that has no copy. An error is out of memory, or a buffer with more than 65,535 pages.
+    /// Copies a page that has no copy.
     fn copy(&mut self, base: &[u8], page: usize) -> Result<(), AllocError>
         requires { page * 256 < length base.now }
         ensures bytes { (byte : ℕ) → byte < length base.now → overlaid_byte base.now self.new.table.items self.new.cells.items byte ≡ overlaid_byte base.now self.old.table.items self.old.cells.items byte }
@@ -139,13 +138,10 @@ impl Pages {
             return Ok(());
         }
         let count = self.numbers.len();
-        if page >= 65535 || count >= 65535 {
-            return Err(AllocError);
-        }
-        make_room(&mut self.table, base.len() / 256 + 1, page)?;
+        make_room(&mut self.table, page)?;
         add_row(&mut self.cells, count * 256, page_row(base, page))?;
-        self.numbers.push(page as u16)?;
-        self.table[page] = (count + 1) as u16;
+        self.numbers.push(page)?;
+        self.table[page] = count + 1;
         Ok(())
     }
 

@@ -14,7 +14,22 @@ fn changes_over_a_page_end(rt: HostRuntime) -> Result<(), Fail> {
     assert_eq!(rt; overlay.load(253, Width::Eight), Ok(0x0909_0904_0302_0109));
     assert!(rt; overlay.update(596, Class::Add, 1).is_ok());
     assert_eq!(rt; overlay.load(592, Width::Eight), Ok(0x0909_090A_0909_0909));
-    assert_eq!(rt; overlay.changed(), [0u16, 1, 2].as_slice());
+    assert_eq!(rt; overlay.changed(), [0usize, 1, 2].as_slice());
     assert!(rt; overlay.store(597, Width::Four, 0).is_err());
+    Ok(())
+}
+
+// The page 65,536, of a buffer that is larger than any of a device.
+#[test]
+fn changes_a_far_page(rt: HostRuntime) -> Result<(), Fail> {
+    let mut bytes: Vec<u8> = Vec::new(rt.alloc());
+    bytes.resize(16_777_300, 9)?;
+    let mut overlay = Overlay::new(rt.alloc(), bytes.as_slice());
+    assert!(rt; overlay.store(16_777_290, Width::Four, 1).is_ok());
+    assert_eq!(rt;
+        overlay.load(16_777_288, Width::Eight),
+        Ok(0x0909_0000_0001_0909)
+    );
+    assert_eq!(rt; overlay.changed(), [65_536usize].as_slice());
     Ok(())
 }
