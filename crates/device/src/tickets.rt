@@ -27,10 +27,6 @@ impl Machine<Command, Reply> for Device {
     fn apply(&mut self, command: Command) -> Reply {
         Device::apply(self, command)
     }
-
-    fn placeholder() -> Reply {
-        Reply::Done
-    }
 }
 
 /// Who does the commands of a queue over a device, in the order of their tickets (OpenCL 1.2, section 3.2.1): a launch runs by 1 to 16 workers.

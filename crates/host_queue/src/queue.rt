@@ -17,8 +17,8 @@ use crate::machine::Machine;
 use crate::table::{Admit, Answer, Draw, Gather, Learn, Leave, Look, Place, Put, Rows, Take, Tell};
 use crate::view::Request;
 use atomic_table::Table;
+use core::mem::replace_with;
 use std::alloc::{AllocError, Global};
-use std::mem;
 use std::snapshot::Snapshot;
 use std::sync::Wait;
 
@@ -193,6 +193,25 @@ impl<D: Machine<C, R>, C: Drop, R: Drop> Client<D, C, R> {
     }
 }
 
+// Does the command of a request, and answers the request with the reply.
+fn served<'a, D: Machine<C, R>, C: Drop, R: Drop, F: FnOnce(&mut D, C) -> R>(
+    request: Request<C, R>,
+    by: (&'a mut D, F),
+) -> (Request<C, R>, &'a mut D)
+    requires asked { (c : C) × (request ≡ Asked c) }
+    requires callable { F.IsAlwaysCallable by.1 }
+    requires steps { DoesSteps D.step F.FnOnce by.1 }
+    ensures same_machine { result.1.ghost_name ≡ by.entry.0.ghost_name }
+    ensures served { (c : C) × (r : R) × (request ≡ Asked c) × (result.0 ≡ AnsweredBy r) × D.step by.entry.0.now c r result.1.now }
+{
+    let Request::Asked(command) = request else {
+        unreachable!()
+    };
+    let (machine, how) = by;
+    let reply = how(&mut *machine, command);
+    (Request::Answered(reply), machine)
+}
+
 // Does the command in the box, and leaves the reply in it.
 fn serve<D: Machine<C, R>, C: Drop, R: Drop, F: FnOnce(&mut D, C) -> R>(
     machine: &mut D,
@@ -204,11 +223,7 @@ fn serve<D: Machine<C, R>, C: Drop, R: Drop, F: FnOnce(&mut D, C) -> R>(
     requires steps { DoesSteps D.step F.FnOnce how }
     ensures { (c : C) × (r : R) × (request.old ≡ Asked c) × (request.new ≡ AnsweredBy r) × D.step machine.old c r machine.new }
 {
-    let Request::Asked(command) = mem::replace(request, Request::Answered(D::placeholder())) else {
-        unreachable!()
-    };
-    let reply = how(machine, command);
-    *request = Request::Answered(reply);
+    replace_with(request, (machine, how), served);
 }
 
 impl<D: Machine<C, R>, C: Drop, R: Drop> Driver<D, C, R> {

@@ -16,8 +16,4 @@ impl Machine<u32, u32> for Tally {
         self.total = self.total.wrapping_add(add);
         self.total
     }
-
-    fn placeholder() -> u32 {
-        0
-    }
 }

@@ -47,8 +47,6 @@ impl Machine<u64, ()> for Waiting {
             self.counts.met.fetch_add(1, Ordering::SeqCst);
         }
     }
-
-    fn placeholder() {}
 }
 
 /// Submits a command that waits for the next submit, and submits once more when it has begun.
