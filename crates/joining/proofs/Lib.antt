@@ -12,4 +12,5 @@ pub mod Runs
 pub mod Lowest
 pub mod Kept
 pub mod Steps
+pub mod EventGroups
 pub mod JoinedBytes

@@ -1,5 +1,5 @@
 -- The groups of a launch joined one by one, as code joins them (OpenCL 1.2, 3.2; own).
-use Rattle.std.specs.Prelude.{◌≡◌, ◌≢◌, ℕ, zero, suc, ◌*◌, ◌/◌, ◌%◌, ◌<◌, ◌≤◌, ◌⊎◌, true, false, None, Some, List, ◌++◌}
+use Rattle.std.specs.Prelude.{◌≡◌, ◌≢◌, ℕ, zero, suc, ◌*◌, ◌/◌, ◌%◌, ◌<◌, ◌≤◌, ◌⊎◌, true, false, None, Some, List, ◌++◌, Contains}
 use Rattle.clmodel.specs.Cells.{byte_of, number}
 use Rattle.clmodel.specs.Launch.{Launch, group_of, region_of, across_groups, conflict, conflict_between}
 use Rattle.clmodel.specs.Law.{Keeps, Logged, conflict_from, RunsClean, RunsIntoFault}
@@ -9,6 +9,7 @@ use Rattle.clmodel.specs.declared.access.AccessKind.TheVariants as kind
 use Rattle.clmodel.specs.declared.access.Class.{Class}
 use Rattle.clmodel.specs.declared.access.Object.{Object}
 use Rattle.clmodel.specs.declared.fault.Fault.{Fault}
+use Rattle.clmodel.specs.declared.schedule.Event.TheVariants.{Item}
 use Rattle.joining.specs.Parts.{Part, IsGrouped, IsPart}
 use Rattle.joining.specs.Memory.{writes, at_byte, wrote, joined_number, joined_memory}
 use Rattle.joining.specs.Crossings.{crossing}
@@ -48,6 +49,17 @@ abbrev pub AreLower : Type 0
 AreLower =
     (launch : Launch) (group : ℕ) (lower : Joined) → IsGrouped launch → IsJoined launch group lower
     → (x : Access) → Logged lower.log x → (group_of launch x.item < group) × (object : Object) × (x.region ≡ region_of (group_of launch x.item) object)
+
+-- the events of items in a group's run are of its items (own)
+abbrev pub EventsAreOwn : Type 0
+EventsAreOwn =
+    (launch : Launch) (group : ℕ) (part : Part) → IsPart launch group part → (item : ℕ) → Contains part.events (Item item) → group_of launch item ≡ group
+
+-- the events of items in those of the groups joined so far are of the items of lower groups (own)
+abbrev pub EventsAreLower : Type 0
+EventsAreLower =
+    (launch : Launch) (group : ℕ) (lower : Joined) → IsJoined launch group lower
+    → (item : ℕ) → Contains lower.events (Item item) → group_of launch item < group
 
 -- the byte of an access of a further group is the further group's own (3.3)
 abbrev pub IsOwnByte : Launch → Joined → Part → Access → ℕ → Type 0

@@ -5,7 +5,7 @@
 ghost use Rattle.joining.specs.Crossings.{LowerFirst};
 ghost use Rattle.joining.specs.Join.{JoinIsCanonical};
 ghost use Rattle.joining.specs.Parts.{OnePart, PartExists};
-ghost use Rattle.joining.specs.Steps.{JoinReports, JoinEnds, AreOwn, AreLower, BytesAreJoined, KeptConflicts, KeptBoth};
+ghost use Rattle.joining.specs.Steps.{JoinReports, JoinEnds, AreOwn, AreLower, EventsAreOwn, EventsAreLower, BytesAreJoined, KeptConflicts, KeptBoth};
 
 /// The groups of a launch run apart and joined, up to the first report, are its canonical run: its events, what it leaves in memory, and its
 /// report. This holds for all classes of updates, for a group that stops, and for one whose access conflicts with a lower group's.
@@ -46,6 +46,16 @@ pub fn accesses_are_own()
 /// The accesses of the groups joined so far are of the items of lower groups, to buffers or to those groups' local objects.
 pub fn accesses_are_lower()
     ensures { AreLower }
+{}
+
+/// The events of items in a group's run are of its items.
+pub fn events_are_own()
+    ensures { EventsAreOwn }
+{}
+
+/// The events of items in those of the groups joined so far are of the items of lower groups.
+pub fn events_are_lower()
+    ensures { EventsAreLower }
 {}
 
 /// A byte that a further group wrote, where nothing crosses, is the group's own where no lower group wrote it, and where both stored it in a
