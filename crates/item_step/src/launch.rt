@@ -1,14 +1,14 @@
 //! A launch: a setup with the code of its kernel.
 #![tactic(auto)]
 
-ghost use Rattle.std.specs.Prelude.{◌≡◌, ◌<◌, ◌^◌, [], length, map, All, IfOk, List};
+ghost use Rattle.std.specs.Prelude.{◌≡◌, ◌<◌, ◌^◌, [], false, length, map, All, IfOk, List};
 ghost use Rattle.std.specs.List.{list_any};
 ghost use Rattle.clmodel.specs.Next.{next};
 ghost use Rattle.clmodel.specs.Setup as model;
 ghost use Rattle.clmodel.specs.Setup.{names_among, same_text, group_items};
 ghost use Rattle.clmodel.specs.declared.action.Answer.{Answer};
 ghost use Rattle.item_step.specs.Setups.{plain, ActsAsNext};
-ghost use Rattle.item_step.specs.Objects.{Lists};
+ghost use Rattle.item_step.specs.Objects.{Lists, are_too_large};
 ghost use Rattle.item_step.specs.Running.{action_of};
 
 use crate::item::Item;
@@ -65,7 +65,8 @@ impl<'a> Launch<'a> {
     ghost use Rattle.clmodel.specs.Setup.{buffer_names};
     ghost use Rattle.item_step.specs.Launches.{setup_of};
 
-    /// A launch of code that acts as the setup's program. The group's size is that of the range, and no local size is 0.
+    /// A launch of code that acts as the setup's program. The group's size is that of the range, and no local size is 0. The buffers
+    /// have numbers of 32 bits, and the local objects are no more than a group may have. Err if out of memory.
     pub fn new(
         alloc: Global,
         setup: Setup<'a>,
@@ -76,12 +77,11 @@ impl<'a> Launch<'a> {
         requires grouped { group_size ≡ group_items setup.range.now }
         requires some { 0 < group_size }
         requires sized { All (λ size. 0 < size) setup.range.now.local }
+        requires few { length (buffer_names (plain setup)) < 2 ^ 32 }
+        requires fits { are_too_large (model.local_objects (plain setup)) ≡ false }
         ensures { IfOk result (λ launch. setup_of launch ≡ plain setup.entry) }
     {
         let buffers = buffers_of(alloc, setup.arguments)?;
-        if buffers.len() > u32::MAX as usize {
-            return Err(AllocError);
-        }
         let group_counts = group_counts(alloc, setup.range)?;
         let local_objects = local_objects(alloc, setup.tree, setup.kernel, setup.arguments)?;
         Ok(Launch {

@@ -1,11 +1,11 @@
 //! The objects in the local memory of a group (OpenCL 1.2, section 6.5.2).
 #![tactic(auto)]
 
-ghost use Rattle.std.specs.Prelude.{◌≡◌, ◌-◌, ◌^◌, None, get_or, map, min, nat_lt, IfOk};
+ghost use Rattle.std.specs.Prelude.{◌≡◌, ◌<◌, ◌-◌, ◌^◌, None, false, get_or, map, min, IfOk};
 ghost use Rattle.clmodel.specs.Setup as model;
 ghost use Rattle.clmodel.specs.Tree as tree;
 ghost use Rattle.clmodel.specs.Tree.{program, stmt, then_stmts, NoStmt};
-ghost use Rattle.item_step.specs.Objects.{Lists, all_sizes, capped, listed};
+ghost use Rattle.item_step.specs.Objects.{Lists, all_sizes, are_too_large, capped, listed};
 
 use clmodel::setup::{Argument, LOCAL_LIMIT};
 use clmodel::tree::{Parameter, Statement, Tree};
@@ -84,8 +84,9 @@ fn declared_size(statement: &Statement) -> u64
     declared_object(statement).map_or(0, |object| object.1)
 }
 
-/// The local objects that the outermost block of a kernel declares. One of more bytes than can be counted is out of memory.
+/// The local objects that the outermost block of a kernel declares, if their bytes can be counted.
 fn declared_objects(alloc: Global, body: &[Statement]) -> Result<LocalObjects, AllocError>
+    requires { all_sizes (model.body_objects (then_stmts NoStmt (map stmt body.now))) < 2 ^ 64 - 1 }
     ensures { IfOk result (Lists (model.body_objects (then_stmts NoStmt (map stmt body.now)))) }
 {
     let mut names = Vec::new(alloc);
@@ -94,22 +95,20 @@ fn declared_objects(alloc: Global, body: &[Statement]) -> Result<LocalObjects, A
         let Some(object) = declared_object(statement) else {
             continue;
         };
-        if object.1 == u64::MAX {
-            return Err(AllocError);
-        }
         names.push(object.0)?;
         sizes.push(object.1)?;
     }
     Ok(LocalObjects { names, sizes })
 }
 
-/// The local objects of the kernel of a name's number, with these arguments.
+/// The local objects of the kernel of a name's number, with these arguments, if they are no more than a group may have.
 pub(crate) fn local_objects(
     alloc: Global,
     tree: &Tree,
     number: u32,
     arguments: &[Option<Argument>],
 ) -> Result<LocalObjects, AllocError>
+    requires { are_too_large (model.objects_of (model.kernel_in (program tree.now).functions number) arguments.now) ≡ false }
     ensures { IfOk result (Lists (model.objects_of (model.kernel_in (program tree.now).functions number) arguments.now)) }
 {
     match tree.kernel(number as usize) {
@@ -154,7 +153,7 @@ fn declared_bytes(body: &[Statement]) -> u64
 /// Whether the local objects of the kernel of a name's number, with these arguments, are more than a group may have.
 #[tactic(auto, using(crate::proofs::Declarations::all_above))]
 pub fn is_local_too_large(tree: &Tree, number: u32, arguments: &[Option<Argument>]) -> bool
-    ensures { result ≡ nat_lt model.local_limit (all_sizes (model.objects_of (model.kernel_in (program tree.now).functions number) arguments.now)) }
+    ensures { result ≡ are_too_large (model.objects_of (model.kernel_in (program tree.now).functions number) arguments.now) }
 {
     match tree.kernel(number as usize) {
         Some(found) => {

@@ -15,5 +15,5 @@ loop-statement-preserved c =
       c.in_ok-push.ensures.items ∙ ap (λ names. names ++ c.in-Some.object.0 ∷ []) c.loop-statement.invariant.0
           ∙ names_more ss i c.statement-item.result c.in-Some.object below c.statement-item.is c.in-Some.ensures,
       c.in_ok-push-2.ensures.items ∙ ap (λ sizes. sizes ++ c.in-Some.object.1 ∷ []) c.loop-statement.invariant.1
-          ∙ sizes_more ss i c.statement-item.result c.in-Some.object below c.statement-item.is c.in-Some.ensures c.if-object.false,
+          ∙ sizes_more ss i c.statement-item.result c.in-Some.object below c.statement-item.is c.in-Some.ensures c.requires,
     )
