@@ -2,3 +2,4 @@ pub mod Arguments
 pub mod Counts
 pub mod ArrayLaws
 pub mod LeadingLaws
+pub mod RegisterValues

@@ -4,3 +4,5 @@ pub mod Leading
 pub mod ItemContext
 pub mod Giving
 pub mod Reading
+pub mod RegisterValues
+pub mod Kept

@@ -15,6 +15,7 @@ use crate::operators::work_dim;
 use crate::parameters::parameter;
 use crate::pointers::local_pointer;
 use crate::private_array::PrivateArray;
+use crate::register_value::RegisterValue;
 use crate::registers::RegisterFile;
 use crate::termination::Termination;
 use crate::values::{
@@ -27,7 +28,7 @@ use regcode::Instruction;
 /// The value that an instruction with a target gives it without an answer.
 pub fn value_of(
     context: &ItemContext<'_>,
-    values: &[Option<Operand>],
+    values: &[RegisterValue],
     arrays: &[PrivateArray],
     instruction: &Instruction,
 ) -> Result<Option<Operand>, Termination>

@@ -9,6 +9,7 @@ mod parameters;
 pub mod pointers;
 pub mod position;
 pub mod private_array;
+pub mod register_value;
 pub mod registers;
 pub mod termination;
 pub mod values;

@@ -5,7 +5,7 @@ use Rattle.item_value.proofs.registers.register.Goals as goal
 
 pub returns-then-place-values : goal.returns-then-place-values
 returns-then-place-values c =
-    get_or_read c.args.values.now _ _ c.if-place-values.true c.index-values-place.is None ∙ sym (entry_is None c.args.values.now c.args.number)
+    c.value.ensures ∙ get_or_read c.args.values.now _ _ c.if-place-values.true c.index-values-place.is None ∙ sym (entry_is None c.args.values.now c.args.number)
 
 pub returns-else-place-values : goal.returns-else-place-values
 returns-else-place-values c = sym (entry_past None c.args.values.now c.args.number c.if-place-values.false)
