@@ -1,13 +1,19 @@
--- Each kernel has its program and its code.
-use Rattle.std.proofs.Common.{◌≡◌, ℕ, Bool, true, false, cond, List, [], ◌∷◌, ◌++◌, Option, Some, is_some, Result, Ok, Err, OnOk, OnErr, IfSome, refl, ap, sym, ◌∙◌, subst}
-use Rattle.std.proofs.lemmas.List.{map-append}
+-- Each kernel has its program and its code, and few arguments.
+use Rattle.std.proofs.Common.{◌≡◌, ℕ, ◌≤◌, Bool, true, false, cond, List, [], ◌∷◌, ◌++◌, length, Option, None, Some, is_some, Result, Ok, Err, OnOk, OnErr, IfSome, refl, ap, sym, ◌∙◌, subst, arith}
+use Rattle.std.proofs.lemmas.List.{map-append, length-set, length-replicate}
 use Rattle.std.proofs.lemmas.List.Elements.{All-push, All-weaker}
 use Rattle.std.proofs.lemmas.Map.Views.{All-values-set_value, IfSome-lookup_from_All}
 use Rattle.std.specs.List.{All}
 use Rattle.std.specs.Map.{lookup, set_value, values_of}
-use Rattle.clmodel.specs.Tree.{program}
+use Rattle.std.specs.Option.{option_map_or}
+use Rattle.clmodel.specs.Setup.{kernel_in}
+use Rattle.clmodel.specs.Tree.{Func, program}
+use Rattle.clmodel.specs.Typing.Sizes.{parameter_limit}
 use Rattle.clmodel.specs.declared.setup.Argument.{Argument}
+use Rattle.clmodel.specs.declared.tree.Parameter.{Parameter}
 use Rattle.cltypes.specs.declared.checked.Checked.{Checked}
+use Rattle.host_commands.specs.Kernels.{KernelState, new_kernel, parameters_of}
+use Rattle.lower.proofs.Lowered.{few_arguments}
 use Rattle.lower.specs.Lowers.{IsLowered}
 use Rattle.spaces_base.specs.Tables.{Table, is, find}
 use Rattle.device.specs.declared.compiled.CompiledKernel.{CompiledKernel}
@@ -26,7 +32,7 @@ found_among_more {A} {B} test (e ∷ es) last there = by (test e.0) (found_among
 -- a kernel stays compiled where its program stays
 pub still_compiled : (programs new : Table Checked) (compiled : CompiledKernel) → find new compiled.kernel.program ≡ find programs compiled.kernel.program → IsCompiled programs compiled → IsCompiled new compiled
 still_compiled programs new compiled same was =
-    record { there = ap is_some same ∙ was.there; acts_as = λ checked found. was.acts_as checked (sym same ∙ found) }
+    record { there = ap is_some same ∙ was.there; acts_as = λ checked found. was.acts_as checked (sym same ∙ found); few = was.few }
 
 -- one program more
 kept_with_program : (programs : Table Checked) (kernels : Table CompiledKernel) (name : List ℕ) (checked : Checked) → AllCompiled programs kernels
@@ -67,15 +73,32 @@ pub kept_with_argument : (programs : Table Checked) (kernels : Table CompiledKer
 kept_with_argument programs kernels name compiled index argument kept found =
     let was : IsCompiled programs compiled = found_is_compiled programs kernels name compiled kept found in
     All-values-set_value (is name) (IsCompiled programs) kernels (with_argument_set compiled index argument) kept
-    (record { there = was.there; acts_as = was.acts_as })
+    (record { there = was.there; acts_as = was.acts_as; few = omega (arith, length-set compiled.kernel.arguments index (Some argument), was.few) })
+
+-- a kernel of a checked program has few parameters
+few_parameters : (checked : Checked) (number : ℕ) → length (parameters_of (program checked.tree) number) ≤ parameter_limit
+few_parameters checked number = go (kernel_in (program checked.tree).functions number) refl
+  where
+    go : (found : Option Func) → kernel_in (program checked.tree).functions number ≡ found → length (option_map_or (λ f. f.parameters) found []) ≤ parameter_limit
+    go None is = omega arith
+    go (Some f) is = few_arguments (program checked.tree) number checked.typed f is
+
+-- so a kernel that was made has few arguments
+pub made_has_few : (checked : Checked) (number : ℕ) (program_name : List ℕ) (parameters : List Parameter) (kernel : KernelState) → parameters ≡ parameters_of (program checked.tree) number
+    → kernel ≡ new_kernel program_name number (length parameters) → length kernel.arguments ≤ parameter_limit
+made_has_few checked number program_name parameters kernel of_parameters made =
+    let given : length kernel.arguments ≡ length parameters = ap (λ k. length k.arguments) made ∙ length-replicate (length parameters) None in
+    let same : length parameters ≡ length (parameters_of (program checked.tree) number) = ap length of_parameters in
+    omega (arith, given, same, few_parameters checked number)
 
 -- a kernel that was made of a program that is there
 pub made_is_compiled : (programs : Table Checked) (compiled : CompiledKernel) (checked : Checked) → find programs compiled.kernel.program ≡ Some checked
-    → IsLowered (program checked.tree) compiled.kernel.function compiled.code → IsCompiled programs compiled
-made_is_compiled programs compiled checked found lowered =
+    → IsLowered (program checked.tree) compiled.kernel.function compiled.code → length compiled.kernel.arguments ≤ parameter_limit → IsCompiled programs compiled
+made_is_compiled programs compiled checked found lowered few =
     record {
       there = ap is_some found;
       acts_as = λ other found_too. subst (λ (c : Checked). ActsAs (program c.tree) compiled.kernel.function compiled.code) (some_is (sym found ∙ found_too)) lowered.acts_as;
+      few = few;
     }
   where
     some_is : {A : Type 0} {a b : A} → Some a ≡ Some b → a ≡ b
@@ -85,3 +108,8 @@ made_is_compiled programs compiled checked found lowered =
 pub code_acts : (programs : Table Checked) (kernels : Table CompiledKernel) (name : List ℕ) (compiled : CompiledKernel) (checked : Checked) → AllCompiled programs kernels
     → find kernels name ≡ Some compiled → find programs compiled.kernel.program ≡ Some checked → ActsAs (program checked.tree) compiled.kernel.function compiled.code
 code_acts programs kernels name compiled checked kept found there = (found_is_compiled programs kernels name compiled kept found).acts_as checked there
+
+-- and its arguments are few
+pub code_has_few : (programs : Table Checked) (kernels : Table CompiledKernel) (name : List ℕ) (compiled : CompiledKernel) → AllCompiled programs kernels
+    → find kernels name ≡ Some compiled → length compiled.kernel.arguments ≤ parameter_limit
+code_has_few programs kernels name compiled kept found = (found_is_compiled programs kernels name compiled kept found).few

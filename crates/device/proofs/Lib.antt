@@ -2,5 +2,6 @@ pub mod Programs
 pub mod Runs
 pub mod Launches
 pub mod Kept
+pub mod Names
 pub mod Arguments
 pub mod Removed

@@ -4,6 +4,7 @@
 ghost use Rattle.std.specs.Prelude.{◌≡◌, IfOk, IfErr, IfSome, Some, is_some, false, ◌≤◌, ◌<◌, ◌+◌, ◌^◌, length, nat_lt};
 ghost use Rattle.std.specs.Option.{option_map};
 ghost use Rattle.clmodel.specs.Tree.{program};
+ghost use Rattle.clmodel.specs.Typing.Sizes.{parameter_limit};
 ghost use Rattle.spaces_base.specs.Tables.{find};
 ghost use Rattle.device.specs.Kept.{ActsAs, AllCompiled};
 
@@ -115,6 +116,7 @@ impl Device {
         ensures kernel { IfSome result (λ found. found.1.now.kernel ≡ kernel_of (machine_of self.now) name.now) }
         ensures kept { IfSome result (λ found. find self.now.kernels name.now ≡ Some found.1.now) }
         ensures faithful { IfSome result (λ found. ActsAs (program found.0.now.tree) found.1.now.kernel.function found.1.now.code) }
+        ensures few { IfSome result (λ found. length found.1.now.kernel.arguments ≤ parameter_limit) }
     {
         let Some(compiled) = self.compiled(name) else {
             return None;

@@ -1,9 +1,12 @@
 //! Launches that weren't refused.
 #![tactic(auto)]
 
-ghost use Rattle.std.specs.Prelude.{◌≡◌, ◌≤◌, IfOk};
+ghost use Rattle.std.specs.Prelude.{◌≡◌, ◌≤◌, false, length, IfOk};
+ghost use Rattle.item_step.specs.Objects.{are_too_large};
 ghost use Rattle.item_step.specs.Setups.{plain};
+ghost use Rattle.clmodel.specs.Setup.{kernel_in, objects_of};
 ghost use Rattle.clmodel.specs.Tree.{program};
+ghost use Rattle.clmodel.specs.Typing.Sizes.{parameter_limit};
 ghost use Rattle.host_commands.specs.Ranges.{IsLaunchable};
 ghost use Rattle.device.specs.Kept.{ActsAs};
 
@@ -26,6 +29,8 @@ pub(crate) struct Prepared<'a> {
     pub(crate) budget: u32,
     pub(crate) ghost faithful: { ActsAs (program checked.now.tree) kernel.now.function code.now },
     pub(crate) ghost limited: { budget ≤ 1000000 },
+    pub(crate) ghost few: { length kernel.now.arguments ≤ parameter_limit },
+    pub(crate) ghost fits: { are_too_large (objects_of (kernel_in (program checked.now.tree).functions kernel.now.function) kernel.now.arguments) ≡ false },
 }
 
 /// What a launch came to, with the names of its buffers.

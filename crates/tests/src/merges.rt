@@ -15,7 +15,7 @@ use clmodel::text::{Bytes, Name, Numbers};
 use group_run::GroupResult;
 use host_commands::build::{NotBuilt, build};
 use host_commands::ranges::{group_items, is_bad_dimension, is_bad_group, is_too_many};
-use item_step::{Launch, Setup};
+use item_step::{Launch, Setup, is_local_too_large};
 use lower::lower_kernel;
 use shadow_list::ListLog;
 use snapshot_merge::{merge, run_launch};
@@ -145,6 +145,9 @@ fn outcomes(
     let mut buffers = Buffers::new(alloc);
     buffers.insert(Name::copy_of(alloc, b"a")?, Bytes::copy_of(alloc, bytes)?)?;
     let arguments = vec![in alloc; Some(Argument::Buffer(Name::copy_of(alloc, b"a")?))]?;
+    if is_local_too_large(&checked.tree, number, arguments.as_slice()) {
+        return Ok(None);
+    }
     let setup = Setup {
         tree: &checked.tree,
         kernel: number,

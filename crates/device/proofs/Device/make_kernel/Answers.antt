@@ -1,9 +1,10 @@
-use Rattle.std.proofs.Common.{◌≡◌, ℕ, Some, ap, sym, ◌∙◌, subst}
+use Rattle.std.proofs.Common.{◌≡◌, ℕ, ◌≤◌, Some, length, ap, sym, ◌∙◌, subst}
 use Rattle.clmodel.specs.Tree.{program}
+use Rattle.clmodel.specs.Typing.Sizes.{parameter_limit}
 use Rattle.lower.specs.Lowers.{IsLowered}
 use Rattle.spaces_base.specs.Tables.{find}
 use Rattle.device.specs.declared.compiled.CompiledKernel.{CompiledKernel}
-use Rattle.device.proofs.Kept.{kept_after_kernel, made_is_compiled}
+use Rattle.device.proofs.Kept.{kept_after_kernel, made_has_few, made_is_compiled}
 use Rattle.device.proofs.Device.make_kernel.Goals as goal
 
 pub invariant_of-self : goal.invariant_of-self
@@ -15,9 +16,11 @@ invariant_of-self c =
     ap (λ k. find device.programs k.program) c.in_ok-kernel.ensures ∙ sym c.in-Some.ensures.kept in
     let lowered : IsLowered (program checked.tree) compiled.kernel.function compiled.code =
     subst (λ (n : ℕ). IsLowered (program checked.tree) n compiled.code) (sym (ap (λ k. k.function) c.in_ok-kernel.ensures)) c.in_ok-code.ensures in
+    let few : length compiled.kernel.arguments ≤ parameter_limit =
+    made_has_few checked c.in-Some-kernel_number.number c.args.program c.parameters_of-count.result.now compiled.kernel c.parameters_of-count.ensures c.in_ok-kernel.ensures in
     record {
       kept =
-          kept_after_kernel device.programs device.kernels c.insert.new.self c.args.name compiled c.insert.result device.kept (made_is_compiled device.programs compiled checked found lowered)
+          kept_after_kernel device.programs device.kernels c.insert.new.self c.args.name compiled c.insert.result device.kept (made_is_compiled device.programs compiled checked found lowered few)
           c.insert.ensures.ok c.insert.ensures.err;
       limited = device.limited;
     }
