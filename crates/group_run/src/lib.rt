@@ -13,4 +13,3 @@ mod runs;
 pub use faults::conflict_fault;
 pub use result::GroupResult;
 pub use running::run_group;
-pub use runs::last_count;

@@ -30,7 +30,7 @@ impl Model for Runs {
 }
 
 /// The count of the last run, if it is of this item.
-pub fn last_count(runs: &[EventRun], item: u32) -> Option<u64>
+fn last_count(runs: &[EventRun], item: u32) -> Option<u64>
     ensures some { IfSome result (λ count. (rest : List EventRun) × (runs.now ≡ rest ++ EventRun.Item item count ∷ [])) }
     ensures none { IfNone result (EndsWith item runs.now → ⊥) }
 {

@@ -1,12 +1,12 @@
 -- One more group joined to the groups so far, as code does it.
-use Rattle.std.proofs.Common.{◌≡◌, Bool, true, ℕ, zero, suc, ◌+◌, ◌==◌, ◌&&◌, if◌then◌else◌, Option, None, Some, List, [], ◌∷◌, ◌++◌, length, take, map, refl, sym, ap, ap₂, ◌∙◌, subst, arith}
-use Rattle.std.specs.Prelude.{Vec, Result, Ok, Err, IfOk}
+use Rattle.std.proofs.Common.{◌≡◌, Bool, true, ℕ, zero, suc, ◌+◌, ◌<◌, ◌==◌, ◌&&◌, if◌then◌else◌, Option, None, Some, List, [], ◌∷◌, ◌++◌, length, take, map, refl, sym, ap, ap₂, ◌∙◌, subst, arith}
+use Rattle.std.specs.Prelude.{Vec, Result, Ok, Err, IfOk, Contains}
 use Rattle.std.specs.declared.alloc.Global.{Global}
 use denote.Bor.{Bor}
 use Rattle.spaces.specs.Overlay.{Overlaid}
 use Rattle.std.specs.Option.{option_map}
 use Rattle.clmodel.specs.Cells.{byte_count}
-use Rattle.clmodel.specs.Launch.{Launch, across_groups, conflict_between}
+use Rattle.clmodel.specs.Launch.{Launch, group_of, across_groups, conflict_between}
 use Rattle.clmodel.specs.Law.{Keeps, RunsIntoFault}
 use Rattle.clmodel.specs.Outcome.{events_of, IsMerged}
 use Rattle.clmodel.specs.Run.{State, Events, start}
@@ -14,6 +14,7 @@ use Rattle.clmodel.specs.declared.access.Access.{Access}
 use Rattle.clmodel.specs.declared.access.Region.{Region}
 use Rattle.clmodel.specs.declared.access.Region.TheVariants as region
 use Rattle.clmodel.specs.declared.fault.Fault.{Fault}
+use Rattle.clmodel.specs.declared.schedule.Event.TheVariants as event
 use Rattle.clmodel.specs.declared.schedule.EventRun.{EventRun}
 use Rattle.joining.specs.Group.{plan_of, IsRun}
 use Rattle.joining.specs.Memory.{wrote}
@@ -30,7 +31,7 @@ use Rattle.shadow.specs.declared.seen.Meeting.{Meeting}
 use Rattle.clmodel.proofs.Steps.{none_some}
 use Rattle.shadow_list.specs.Log.{Log}
 use Rattle.shadow_list.specs.declared.log.Entry.{Entry}
-use Rattle.snapshot_merge.specs.Runs.{Adds}
+use Rattle.snapshot_merge.specs.Runs.{Adds, MayFollow}
 use Rattle.snapshot_merge.specs.Laws.{JoiningLaws}
 use Rattle.snapshot_merge.specs.Meetings.{AreOthers, MissUpTo, IsFirstMet, report_at, is_below, meeting_fault}
 use Rattle.snapshot_merge.specs.Changes.{AreChanged, changes_of, value_of}
@@ -42,6 +43,7 @@ use Rattle.snapshot_merge.specs.declared.meetings.Met.{Met}
 use Rattle.snapshot_merge.proofs.Crossed.{Laws, IsFurther, Misses, Crosses, not_crossed, crossed, entries_of_others, locals_miss}
 use Rattle.snapshot_merge.proofs.CrossedRuns.{none_from}
 use Rattle.shadow.proofs.Listing.{stands}
+use Rattle.snapshot_merge.proofs.Merged.{ends_contained, begins_apart}
 use Rattle.snapshot_merge.proofs.Listed.{first_whole, others_listed, footprint_whole}
 
 -- the laws that tell of crossings
@@ -169,6 +171,18 @@ log_joined l g lower part log footprint old more r next new first remembers adds
       merged = adds.merged r.held.merged r.merged;
     }
 
+-- the group's runs may follow those of the lower groups, whose items are others
+may_follow : (l : Launch) (g : ℕ) (lower : Joined) (part : Part) (log : Log) (footprint : Footprint) (old more : List EventRun) → IsRunning l g lower part log footprint old more → MayFollow old more
+may_follow l g lower part log footprint old more r =
+    record {
+      merged = r.merged;
+      apart = λ item ends. begins_apart item more r.merged (λ begins.
+          let own : group_of l item ≡ g = r.laws.own_events l g part r.runs item (subst (λ es. Contains es (event.Item item)) (sym r.events) begins) in
+          let below : group_of l item < g
+          = r.laws.lower_events l g lower r.joined item (subst (λ es. Contains es (event.Item item)) r.held.events (ends_contained item old r.held.merged ends)) in
+          absurd (omega (arith, own, below)));
+    }
+
 -- ---- from what a call is given
 
 -- what a call that joins one more group is given
@@ -233,6 +247,19 @@ found_first :
     → Finds l.uniform g so_far log found → IsFirstMet l.uniform true log.accesses r.held.kept found
 found_first l g lower part log so_far more r found finds =
     finds r.held.kept r.held.remembers (first_none l g lower part log so_far.footprint so_far.runs.items more r) (others l g lower part log so_far.footprint so_far.runs.items more r)
+
+-- its runs may follow
+pub stopped_follows :
+    (l : Launch) (g : ℕ) (so_far : JoinedGroups) (log : Log) (more : List EventRun) (fault : Fault) → IsGiven l g so_far more → IsRun (plan_of l g) (IsLogged (plan_of l g) log) (start l) (events_of more) (Some fault)
+    → MayFollow so_far.runs.items more
+stopped_follows l g so_far log more fault c run =
+    may_follow l g c.holds.joined (stopped_part l g (IsLogged (plan_of l g) log) (events_of more) fault run) log so_far.footprint so_far.runs.items more (stopped_running l g so_far log more fault c run)
+
+pub done_follows :
+    (l : Launch) (g : ℕ) (so_far : JoinedGroups) (log : Log) (more : List EventRun) (spaces : List Overlaid) → IsGiven l g so_far more → IsRun (plan_of l g) (Left l g spaces log) (start l) (events_of more) None
+    → MayFollow so_far.runs.items more
+done_follows l g so_far log more spaces c run =
+    may_follow l g c.holds.joined (done_part l g (Left l g spaces log) (events_of more) run) log so_far.footprint so_far.runs.items more (done_running l g so_far log more spaces c run)
 
 -- a group that stopped meets the lower groups
 pub stop_meets :

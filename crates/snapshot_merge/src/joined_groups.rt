@@ -20,7 +20,7 @@ ghost use Rattle.spaces_base.specs.Buffers.{bytes_in};
 ghost use Rattle.snapshot_merge.specs.Changes.{AreChanged, changes_of, value_of};
 ghost use Rattle.snapshot_merge.specs.Launches.{IsShortResult};
 ghost use Rattle.snapshot_merge.specs.Meetings.{AreOthers, IsFirstMet, report_at};
-ghost use Rattle.snapshot_merge.specs.Runs.{Adds};
+ghost use Rattle.snapshot_merge.specs.Runs.{Adds, MayFollow};
 ghost use Rattle.snapshot_merge.specs.JoinedGroups.{HoldsGroups, IsStopped, CameOfDone, CameOfNext, HandsBack, report_of};
 
 use crate::changes::{Before, make_changes};
@@ -145,6 +145,7 @@ impl<'a> JoinedGroups<'a> {
         log: &L,
         runs: &Schedule,
     ) -> Result<(), AllocError>
+        requires { MayFollow self.old.runs.items runs.now }
         ensures accesses { OnOk result ((kept : List TheAccess) → IsFootprint self.old.footprint kept → IsFootprint self.new.footprint (accesses_of (L.listed log.now) ++ kept)) }
         ensures runs { OnOk result (Adds self.old.runs.items self.new.runs.items runs.now (events_of runs.now)) }
         ensures first { self.new.first ≡ self.old.first }
@@ -162,6 +163,7 @@ impl<'a> JoinedGroups<'a> {
         stopped: Option<Fault>,
         runs: &Schedule,
     ) -> Result<Fault, AllocError>
+        requires { MayFollow self.old.runs.items runs.now }
         ensures report { IfOk result (λ fault. Some fault ≡ report_at (D.launch launch.now) met.now stopped) }
         ensures runs { IfOk result (λ fault. Adds self.old.runs.items self.new.runs.items runs.now (take (met.now.entry.event + 1) (events_of runs.now))) }
     {

@@ -3,8 +3,8 @@
 ghost use Rattle.snapshot_merge.specs.Laws.{JoiningLaws};
 
 use joining::{
-    accesses_are_lower, accesses_are_own, bytes_are_joined, join_ends, join_reports, kept_both,
-    kept_conflicts, lower_byte_first,
+    accesses_are_lower, accesses_are_own, bytes_are_joined, events_are_lower, events_are_own,
+    join_ends, join_reports, kept_both, kept_conflicts, lower_byte_first,
 };
 
 /// All laws of joining.
@@ -13,6 +13,8 @@ pub(crate) fn laws()
 {
     accesses_are_own();
     accesses_are_lower();
+    events_are_own();
+    events_are_lower();
     kept_conflicts();
     lower_byte_first();
     bytes_are_joined();

@@ -1,11 +1,5 @@
-use Rattle.std.proofs.lemmas.Option.{slice_get-get_or}
-use Rattle.snapshot_merge.proofs.Merged.{adds_none, adds_step}
+use Rattle.snapshot_merge.proofs.Merged.{adds_all}
 use Rattle.snapshot_merge.proofs.cutting.add_all.Goals as goal
 
-pub loop-run-init : goal.loop-run-init
-loop-run-init c = adds_none c.args.runs.now.items c.args.more.now
-
-pub loop-run-preserved : goal.loop-run-preserved
-loop-run-preserved c =
-    adds_step c.args.runs.now.items c.loop-run.runs.items c.add_run.new.runs.items c.args.more.now c.loop-run.run-index _ (slice_get-get_or c.args.more.now c.loop-run.run-index _ c.loop-run-test.true) c.loop-run.invariant
-    c.in_ok-add_run.ensures
+pub returns : goal.returns
+returns c = adds_all c.extend_from_slice.result c.args.runs.now.items c.args.more.now c.extend_from_slice.new.self.items c.requires c.extend_from_slice.ensures.items

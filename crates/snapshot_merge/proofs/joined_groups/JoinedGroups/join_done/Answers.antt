@@ -1,11 +1,28 @@
 use Rattle.std.proofs.Common.{suc, None, Some, sym, subst, ◌∙◌}
+use Rattle.std.specs.Prelude.{Vec}
+use Rattle.std.specs.declared.alloc.Global.{Global}
 use Rattle.std.proofs.lemmas.Bool.{true≢false}
 use Rattle.clmodel.specs.Launch.{Launch}
+use Rattle.clmodel.specs.declared.schedule.EventRun.{EventRun}
 use Rattle.shadow_list.specs.Log.{Log}
 use Rattle.snapshot_merge.specs.JoinedGroups.{HoldsGroups}
-use Rattle.snapshot_merge.proofs.Joining.{IsGiven, Finds, finds_whole, done_meets, done_added, done_last}
+use Rattle.snapshot_merge.specs.Runs.{MayFollow}
+use Rattle.snapshot_merge.proofs.Joining.{IsGiven, Finds, finds_whole, done_follows, done_meets, done_added, done_last}
 use Rattle.snapshot_merge.proofs.joined_groups.JoinedGroups.join_done.Goals as goal
 use Rattle.snapshot_merge.proofs.joined_groups.JoinedGroups.join_done.Goals.{then-number+in_ok-add-in-None, else-number}
+
+pub cross-requires : goal.cross-requires
+cross-requires g c =
+    let l : Launch = g.D.Described.launch c.args.launch.now in
+    let given : IsGiven l c.args.number.group c.args.self.now c.args.runs.now = record { laws = c.laws.ensures; grouped = c.requires.grouped; there = c.requires.there; holds = c.requires.so_far; merged = c.requires.merged } in
+    done_follows l c.args.number.group c.args.self.now c.requires.ran.0 c.args.runs.now c.args.spaces.now given c.requires.ran.2
+
+pub add-requires : goal.add-requires
+add-requires g c =
+    let l : Launch = g.D.Described.launch c.args.launch.now in
+    let given : IsGiven l c.args.number.group c.args.self.now c.args.runs.now = record { laws = c.laws.ensures; grouped = c.requires.grouped; there = c.requires.there; holds = c.requires.so_far; merged = c.requires.merged } in
+    subst (λ (z : Vec EventRun Global). MayFollow z.items c.args.runs.now) (sym c.in_ok-change-in-None.ensures.runs)
+    (done_follows l c.args.number.group c.args.self.now c.requires.ran.0 c.args.runs.now c.args.spaces.now given c.requires.ran.2)
 
 pub returns-in_ok-cross-in-Some : goal.returns-in_ok-cross-in-Some
 returns-in_ok-cross-in-Some g c =

@@ -1,10 +1,23 @@
-use Rattle.std.proofs.Common.{None, Some, subst}
+use Rattle.std.proofs.Common.{None, Some, sym, subst}
 use Rattle.clmodel.specs.Launch.{Launch}
 use Rattle.clmodel.specs.Outcome.{events_of}
 use Rattle.shadow_list.specs.Log.{Log}
-use Rattle.snapshot_merge.specs.Runs.{Adds}
-use Rattle.snapshot_merge.proofs.Joining.{IsGiven, finds_whole, stop_meets, stop_alone, both_ok}
+use Rattle.snapshot_merge.specs.Runs.{Adds, MayFollow}
+use Rattle.snapshot_merge.proofs.Joining.{IsGiven, finds_whole, stopped_follows, stop_meets, stop_alone, both_ok}
 use Rattle.snapshot_merge.proofs.joined_groups.JoinedGroups.join_stopped.Goals as goal
+
+pub cross-requires : goal.cross-requires
+cross-requires g c =
+    let l : Launch = g.D.Described.launch c.args.launch.now in
+    let given : IsGiven l c.args.group c.args.self.now c.args.runs.now = record { laws = c.laws.ensures; grouped = c.requires.grouped; there = c.requires.there; holds = c.requires.so_far; merged = c.requires.merged } in
+    stopped_follows l c.args.group c.args.self.now c.requires.ran.0 c.args.runs.now c.args.fault given c.requires.ran.2
+
+pub add_all-requires : goal.add_all-requires
+add_all-requires g c =
+    let l : Launch = g.D.Described.launch c.args.launch.now in
+    let given : IsGiven l c.args.group c.args.self.now c.args.runs.now = record { laws = c.laws.ensures; grouped = c.requires.grouped; there = c.requires.there; holds = c.requires.so_far; merged = c.requires.merged } in
+    subst (MayFollow c.args.self.now.runs.items) (sym c.as_slice.ensures)
+    (stopped_follows l c.args.group c.args.self.now c.requires.ran.0 c.args.runs.now c.args.fault given c.requires.ran.2)
 
 pub returns-in-Some : goal.returns-in-Some
 returns-in-Some g c =
