@@ -12,7 +12,7 @@ use spaces::Overlay;
 const ROUND_ACCESSES: usize = 65_536;
 
 /// What a result holds beside its accesses takes about as much as this many of them.
-const ACCESSES_BESIDE: usize = 32;
+const ACCESSES_BESIDE: usize = 96;
 
 /// How many groups the first round has for each worker, and each other one at least.
 const GROUPS_EACH: u32 = 2;
