@@ -1,13 +1,16 @@
 -- Two operations on the cells of one region that agree where they meet can be done in either order.
-use Rattle.std.proofs.Common.{◌≡◌, ℕ, zero, suc, ◌+◌, ◌-◌, ◌*◌, ◌^◌, ◌<◌, ◌≤◌, ◌⊎◌, Bool, true, false, nat_lt, nat_le, if◌then◌else◌, Option, None, Some, refl, sym, ap, ap₂, ◌∙◌, subst, inl, inr, arith, ltb-true, lt-ltb, leb-true, le-leb}
+use Rattle.std.proofs.Common.{◌≡◌, ℕ, zero, suc, ◌+◌, ◌-◌, ◌*◌, ◌^◌, ◌<◌, ◌≤◌, ◌⊎◌, Bool, true, false, nat_lt, nat_le, if◌then◌else◌, Option, None, Some, refl, sym, ap, ap₂, ◌∙◌, subst, inl, inr, arith, ltb-true, lt-ltb, leb-true, le-leb, List, [], ◌∷◌, map, replicate}
 use mathlib.Core.Path.{fun_ext}
 use Rattle.std.proofs.lemmas.Bool.{and_parts, and_from, false≢true, cases_eq}
-use Rattle.clmodel.specs.Cells.{Cells, byte_count, byte_of, joined, number, unset_or, lowest_unset, covers, written, combined, fetched, size_of, reads, found, answer_to, effect}
+use Rattle.std.specs.Prelude.{slice_get}
+use Rattle.clmodel.specs.Cells.{Cells, byte_count, byte_of, joined, number, unset_or, lowest_unset, covers, written, combined, fetched, size_of, reads, found, answer_to, effect, cells_of}
 use Rattle.clmodel.specs.declared.access.Class.{Class}
 use Rattle.clmodel.specs.declared.access.Operation.{Operation}
 use Rattle.clmodel.specs.declared.access.Operation.TheVariants.{Load, Store, Update, Fetch}
 use Rattle.clmodel.proofs.Bytes.{combined_below, combined_swap, four_bytes_are}
 use Rattle.clmodel.proofs.Steps.{none_some, some_inj, if_true, if_false}
+use Rattle.clmodel.specs.declared.access.Width.{Width}
+use Rattle.clmodel.specs.declared.access.Width.TheVariants.{One, Two, Four, Eight}
 
 -- ---- which bytes are covered
 
@@ -123,7 +126,7 @@ apart_swap op op2 c first first2 v v2 apart finds finds2 =
 
 -- ---- two stores of the same bytes
 
-written_out : (c : Cells) (first count value byte : ℕ) → covers first count byte ≡ false → written c first count value byte ≡ c byte
+pub written_out : (c : Cells) (first count value byte : ℕ) → covers first count byte ≡ false → written c first count value byte ≡ c byte
 unfolding written
 written_out c first count value byte h = if_false (covers first count byte) (Some (byte_of (byte - first) value)) (c byte) h
 
@@ -257,7 +260,7 @@ unset_stays op op2 c first first2 v2 al al2 compatible finds finds2 = found_apar
 
 -- ---- unset bytes
 
-number_unset : (c : Cells) (first count byte : ℕ) → lowest_unset c first count ≡ Some byte → number c first count ≡ None
+pub number_unset : (c : Cells) (first count byte : ℕ) → lowest_unset c first count ≡ Some byte → number c first count ≡ None
 number_unset c first zero byte h = absurd (none_some byte h)
 number_unset c first (suc count) byte h = go (c first) h (number_unset c (suc first) count byte)
   where
@@ -274,3 +277,19 @@ found_unset (Load width) c first byte r h = number_unset c first (byte_count wid
 found_unset (Store width value) c first byte r h = absurd (false≢true r)
 found_unset (Update class operand) c first byte r h = number_unset c first 4 byte h
 found_unset (Fetch op operand) c first byte r h = number_unset c first 4 byte h
+
+pub byte_count_some : (w : Width) → 0 < byte_count w
+byte_count_some One = omega arith
+byte_count_some Two = omega arith
+byte_count_some Four = omega arith
+byte_count_some Eight = omega arith
+
+pub cells_some : (bytes : List ℕ) (byte : ℕ) → cells_of (map Some bytes) byte ≡ slice_get bytes byte
+cells_some [] byte = refl
+cells_some (b ∷ bytes) zero = refl
+cells_some (b ∷ bytes) (suc byte) = cells_some bytes byte
+
+pub cells_none : (n byte : ℕ) → cells_of (replicate n None) byte ≡ None
+cells_none zero byte = refl
+cells_none (suc n) zero = refl
+cells_none (suc n) (suc byte) = cells_none n byte

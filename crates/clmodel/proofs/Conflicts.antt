@@ -18,7 +18,7 @@ use Rattle.clmodel.specs.declared.access.Operation.{Operation}
 use Rattle.clmodel.specs.declared.access.Region.{Region}
 use Rattle.clmodel.specs.declared.access.Rule.{Rule}
 use Rattle.clmodel.specs.declared.access.Operation.TheVariants.{Load, Store, Update, Fetch}
-use Rattle.clmodel.proofs.Steps.{none_some, if_true, or_else_none, region_for, ItemStep}
+use Rattle.clmodel.proofs.Steps.{none_some, if_true, or_else_none, region_for, ItemStep, map_none}
 use Rattle.clmodel.proofs.CellLaws.{covers_parts, Agree, Compatible}
 use Rattle.clmodel.proofs.Swaps.{same_region_self, same_region-true, Free}
 
@@ -44,11 +44,11 @@ not_parts : (a b : Bool) → not a ≡ true → a ≡ true → ⊥
 not_parts true b h e = false≢true h
 not_parts false b h e = false≢true e
 
-or_at : (a b : Bool) → (not a || b) ≡ true → a ≡ true → b ≡ true
+pub or_at : (a b : Bool) → (not a || b) ≡ true → a ≡ true → b ≡ true
 or_at true b h e = h
 or_at false b h e = absurd (false≢true e)
 
-or_made : (a b : Bool) → (a ≡ true → b ≡ true) → (not a || b) ≡ true
+pub or_made : (a b : Bool) → (a ≡ true → b ≡ true) → (not a || b) ≡ true
 or_made true b h = h refl
 or_made false b h = refl
 
@@ -131,7 +131,7 @@ class_of-number class.UnsignedMin = refl
 class_of-number class.SignedMax = refl
 class_of-number class.UnsignedMax = refl
 
-clash_sym : (a b : AccessKind) → clash a b ≡ None → clash b a ≡ None
+pub clash_sym : (a b : AccessKind) → clash a b ≡ None → clash b a ≡ None
 clash_sym kind.Load kind.Load h = refl
 clash_sym kind.Load kind.Store h = absurd (none_some Race (sym h))
 clash_sym kind.Load (kind.Update d) h = absurd (none_some Race (sym h))
@@ -147,7 +147,7 @@ clash_sym kind.Fetch kind.Store h = absurd (none_some Race (sym h))
 clash_sym kind.Fetch (kind.Update d) h = absurd (none_some Order (sym h))
 clash_sym kind.Fetch kind.Fetch h = absurd (none_some Order (sym h))
 
-eqb_sym : (a b : ℕ) → (a == b) ≡ (b == a)
+pub eqb_sym : (a b : ℕ) → (a == b) ≡ (b == a)
 eqb_sym a b = go (cases_eq a b)
   where
     go : (a ≡ b) ⊎ (a ≡ b → ⊥) → (a == b) ≡ (b == a)
@@ -273,10 +273,6 @@ free_from l s i t j u p q ne calm =
 -- no two accesses of a log conflict
 abbrev pub Harmless : Launch → List Access → Type 0
 Harmless l log = (x y : Access) (byte : ℕ) → Logged log x → Logged log y → conflict l x y byte ≡ None
-
-pub map_none : {A B : Type 0} (f : A → B) (o : Option A) → option_map f o ≡ None → o ≡ None
-map_none f None h = refl
-map_none f (Some a) h = absurd (none_some (f a) (sym h))
 
 on_byte : (l : Launch) (x : Access) (byte : ℕ) (log : List Access) → conflict_on (conflict l) x byte log ≡ None → (y : Access) → Logged log y → conflict l y x byte ≡ None
 on_byte l x byte (z ∷ log) h y w =

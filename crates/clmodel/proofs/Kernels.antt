@@ -25,7 +25,7 @@ before_more gs i name g b h p e =
     ap (λ fs. functions_before fs name) (functions_more gs i g h p) ∙ ap (λ x. cond x (funcs (take i gs)) (functions_before (funcs (take i gs)) name)) e
 
 -- a function that is found has the name that was looked for
-named : (fs : Funcs) (number : ℕ) (f : Func) → kernel_in fs number ≡ Some f → f.name ≡ number
+pub named : (fs : Funcs) (number : ℕ) (f : Func) → kernel_in fs number ≡ Some f → f.name ≡ number
 named NoFunc number f h = cc
 named (ThenFunc fs g) number f h = by (g.is_kernel && (g.name == number)) refl (named fs number f) h
   where

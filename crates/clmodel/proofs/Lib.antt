@@ -14,3 +14,5 @@ pub mod Fences
 pub mod Kernels
 pub mod Products
 pub mod Sameness
+pub mod Turns
+pub mod Logs

@@ -1,6 +1,6 @@
 -- What the code computes in 128 bits, as the formulas over whole numbers.
 use Rattle.std.proofs.Common.{◌≡◌, ℕ, suc, zero, ◌+◌, ◌-◌, ◌*◌, ◌/◌, ◌%◌, ◌^◌, ◌<◌, ◌≤◌, ℤ, pos, negsuc, neg_ℤ, ◌+ℤ◌, ◌-ℤ◌, ◌*ℤ◌, ◌≤ℤ◌, ◌<ℤ◌, refl, sym, ap, ap₂, ◌∙◌, subst, arith, lit<, lit≤, true, false, Bool, inl, inr, Ok, Err}
-use Rattle.std.proofs.Math.Nat.{mod-eq_of_lt, mod-lt, div-le_self, div-lt_iff_lt-mul, zero-lt-suc}
+use Rattle.std.proofs.Math.Nat.{mod-eq_of_lt, mod-lt, div-le_self, div-lt_iff_lt-mul, zero-lt-suc, mul_assoc}
 use Rattle.std.proofs.Math.Pow.{pow_mono}
 use Rattle.std.proofs.lemmas.Bool.{cases_lt}
 use Rattle.std.specs.Int.Signed.{shr_z, mag_shr}
@@ -207,62 +207,25 @@ back-shifted_right x m h =
     ∙ passed (shr_z x m) (shr-fits x m (IsWithin-fits x h))
     ∙ shr-div x m
 
--- a count modulo a width, from the bits of its own type
-count-8 : (kind : IntType) (z : ℤ) → bits_of kind z % 8 ≡ residue 8 z
+-- a count modulo a number that divides 256, from the bits of its own type
+modulo_bits : (m q r : ℕ) (z : ℤ) → m * q ≡ 256 → 0 < m → 0 < r → residue (256 * r) z % m ≡ residue m z
+modulo_bits m q r z e positive some =
+    let same : 256 * r ≡ m * (q * r) = ap (λ n. n * r) (sym e) ∙ mul_assoc m q r in
+    ap (λ n. residue n z % m) same ∙ residue-multiple m (q * r) z positive (omega (arith, same, some))
+
+count : (m q : ℕ) (kind : IntType) (z : ℤ) → m * q ≡ 256 → 0 < m → bits_of kind z % m ≡ residue m z
 unfolding bits_of
-count-8 Char z = residue-multiple 8 (2 ^ 8 / 8) z (lit< tt) (lit< tt)
-count-8 Uchar z = residue-multiple 8 (2 ^ 8 / 8) z (lit< tt) (lit< tt)
-count-8 Short z = residue-multiple 8 (2 ^ 16 / 8) z (lit< tt) (lit< tt)
-count-8 Ushort z = residue-multiple 8 (2 ^ 16 / 8) z (lit< tt) (lit< tt)
-count-8 Int z = residue-multiple 8 (2 ^ 32 / 8) z (lit< tt) (lit< tt)
-count-8 Uint z = residue-multiple 8 (2 ^ 32 / 8) z (lit< tt) (lit< tt)
-count-8 Long z = residue-multiple 8 (2 ^ 64 / 8) z (lit< tt) (lit< tt)
-count-8 Ulong z = residue-multiple 8 (2 ^ 64 / 8) z (lit< tt) (lit< tt)
+count m q Char z e positive = modulo_bits m q 1 z e positive (lit< tt)
+count m q Uchar z e positive = modulo_bits m q 1 z e positive (lit< tt)
+count m q Short z e positive = modulo_bits m q (2 ^ 8) z e positive (lit< tt)
+count m q Ushort z e positive = modulo_bits m q (2 ^ 8) z e positive (lit< tt)
+count m q Int z e positive = modulo_bits m q (2 ^ 24) z e positive (lit< tt)
+count m q Uint z e positive = modulo_bits m q (2 ^ 24) z e positive (lit< tt)
+count m q Long z e positive = modulo_bits m q (2 ^ 56) z e positive (lit< tt)
+count m q Ulong z e positive = modulo_bits m q (2 ^ 56) z e positive (lit< tt)
 
-pub count_in-8 : (kind k own : IntType) (z : ℤ) (x : ℕ) → kind ≡ k → bits k ≡ 8 → x ≡ bits_of own z → x % 8 ≡ residue (bits kind) z
-count_in-8 kind k own z x e w p = ap (λ n. n % 8) p ∙ count-8 own z ∙ ap (λ b. residue b z) (sym w ∙ ap bits (sym e))
-
-count-16 : (kind : IntType) (z : ℤ) → bits_of kind z % 16 ≡ residue 16 z
-unfolding bits_of
-count-16 Char z = residue-multiple 16 (2 ^ 8 / 16) z (lit< tt) (lit< tt)
-count-16 Uchar z = residue-multiple 16 (2 ^ 8 / 16) z (lit< tt) (lit< tt)
-count-16 Short z = residue-multiple 16 (2 ^ 16 / 16) z (lit< tt) (lit< tt)
-count-16 Ushort z = residue-multiple 16 (2 ^ 16 / 16) z (lit< tt) (lit< tt)
-count-16 Int z = residue-multiple 16 (2 ^ 32 / 16) z (lit< tt) (lit< tt)
-count-16 Uint z = residue-multiple 16 (2 ^ 32 / 16) z (lit< tt) (lit< tt)
-count-16 Long z = residue-multiple 16 (2 ^ 64 / 16) z (lit< tt) (lit< tt)
-count-16 Ulong z = residue-multiple 16 (2 ^ 64 / 16) z (lit< tt) (lit< tt)
-
-pub count_in-16 : (kind k own : IntType) (z : ℤ) (x : ℕ) → kind ≡ k → bits k ≡ 16 → x ≡ bits_of own z → x % 16 ≡ residue (bits kind) z
-count_in-16 kind k own z x e w p = ap (λ n. n % 16) p ∙ count-16 own z ∙ ap (λ b. residue b z) (sym w ∙ ap bits (sym e))
-
-count-32 : (kind : IntType) (z : ℤ) → bits_of kind z % 32 ≡ residue 32 z
-unfolding bits_of
-count-32 Char z = residue-multiple 32 (2 ^ 8 / 32) z (lit< tt) (lit< tt)
-count-32 Uchar z = residue-multiple 32 (2 ^ 8 / 32) z (lit< tt) (lit< tt)
-count-32 Short z = residue-multiple 32 (2 ^ 16 / 32) z (lit< tt) (lit< tt)
-count-32 Ushort z = residue-multiple 32 (2 ^ 16 / 32) z (lit< tt) (lit< tt)
-count-32 Int z = residue-multiple 32 (2 ^ 32 / 32) z (lit< tt) (lit< tt)
-count-32 Uint z = residue-multiple 32 (2 ^ 32 / 32) z (lit< tt) (lit< tt)
-count-32 Long z = residue-multiple 32 (2 ^ 64 / 32) z (lit< tt) (lit< tt)
-count-32 Ulong z = residue-multiple 32 (2 ^ 64 / 32) z (lit< tt) (lit< tt)
-
-pub count_in-32 : (kind k own : IntType) (z : ℤ) (x : ℕ) → kind ≡ k → bits k ≡ 32 → x ≡ bits_of own z → x % 32 ≡ residue (bits kind) z
-count_in-32 kind k own z x e w p = ap (λ n. n % 32) p ∙ count-32 own z ∙ ap (λ b. residue b z) (sym w ∙ ap bits (sym e))
-
-count-64 : (kind : IntType) (z : ℤ) → bits_of kind z % 64 ≡ residue 64 z
-unfolding bits_of
-count-64 Char z = residue-multiple 64 (2 ^ 8 / 64) z (lit< tt) (lit< tt)
-count-64 Uchar z = residue-multiple 64 (2 ^ 8 / 64) z (lit< tt) (lit< tt)
-count-64 Short z = residue-multiple 64 (2 ^ 16 / 64) z (lit< tt) (lit< tt)
-count-64 Ushort z = residue-multiple 64 (2 ^ 16 / 64) z (lit< tt) (lit< tt)
-count-64 Int z = residue-multiple 64 (2 ^ 32 / 64) z (lit< tt) (lit< tt)
-count-64 Uint z = residue-multiple 64 (2 ^ 32 / 64) z (lit< tt) (lit< tt)
-count-64 Long z = residue-multiple 64 (2 ^ 64 / 64) z (lit< tt) (lit< tt)
-count-64 Ulong z = residue-multiple 64 (2 ^ 64 / 64) z (lit< tt) (lit< tt)
-
-pub count_in-64 : (kind k own : IntType) (z : ℤ) (x : ℕ) → kind ≡ k → bits k ≡ 64 → x ≡ bits_of own z → x % 64 ≡ residue (bits kind) z
-count_in-64 kind k own z x e w p = ap (λ n. n % 64) p ∙ count-64 own z ∙ ap (λ b. residue b z) (sym w ∙ ap bits (sym e))
+pub count_in : (m q : ℕ) (kind k own : IntType) (z : ℤ) (x : ℕ) → m * q ≡ 256 → 0 < m → kind ≡ k → bits k ≡ m → x ≡ bits_of own z → x % m ≡ residue (bits kind) z
+count_in m q kind k own z x d positive e w p = ap (λ n. n % m) p ∙ count m q own z d positive ∙ ap (λ b. residue b z) (sym w ∙ ap bits (sym e))
 
 -- the code's test that a divisor is zero
 pub zero_test : (y : ℤ) → FitsSigned w128 y → (cast_unsigned w128 y ≡ 0 → ⊥) → int_eq y (pos 0) ≡ false

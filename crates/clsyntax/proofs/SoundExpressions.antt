@@ -54,7 +54,7 @@ abbrev IsFolded : List Placed → (k m : ℕ) → Folded → List Placed → Typ
 IsFolded w k m x qs = HasFolded w k m x.from x.term x.rest qs
 
 -- what holds of 0 holds of every number that is no more
-at_zero : (P : ℕ → Type 0) → P 0 → (l : ℕ) → l ≤ 0 → P l
+pub at_zero : (P : ℕ → Type 0) → P 0 → (l : ℕ) → l ≤ 0 → P l
 at_zero P h zero f = h
 at_zero P h (suc l) f = absurd (let g : suc l ≤ 0 = f in omega arith)
 

@@ -24,7 +24,7 @@ typing_of : (p : Purpose) (a : ℕ) (k : TokenKind) {w rest qs : List Placed} {f
 typing_of (ForParameter u) a k s r = parameter_typing s r
 typing_of (ForDeclaration b n) a k s r = declaration_typing s r
 
-word_of : (u : Bool) (type : IntType) → type_of u (kinds.Type type) ≡ Some type
+pub word_of : (u : Bool) (type : IntType) → type_of u (kinds.Type type) ≡ Some type
 word_of true type = refl
 word_of false type = refl
 

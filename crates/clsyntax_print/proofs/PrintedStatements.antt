@@ -11,8 +11,9 @@ use Rattle.clmodel.specs.Tree.{Term, Terms, NoTerm, ThenTerm, Target, TargetVari
 use Rattle.clsyntax_lex.specs.declared.token.Token.{Token}
 use Rattle.clsyntax_lex.specs.declared.token.TokenKind.{TokenKind}
 use Rattle.clsyntax_lex.specs.declared.token.TokenKind.TheVariants as kinds
-use Rattle.clsyntax_terms.specs.Grammar.{Placed, put, start, tight, type_of, assign_of, step_of, IsNoElse, Assignee, Simple, Statement, Typing, Declaration, Reads, variable_target, element_target, dereference_target, assign, step_before, step_behind, bare_call_only, call_only, simple, empty, block, if_only, if_else, while_loop, do_loop, for_loop, break_only, continue_only, return_only, return_value, integer, pointer, const_pointer, declare, declare_as, array, local_array}
+use Rattle.clsyntax_terms.specs.Grammar.{Placed, put, start, tight, assign_of, step_of, IsNoElse, Assignee, Simple, Statement, Typing, Declaration, Reads, variable_target, element_target, dereference_target, assign, step_before, step_behind, bare_call_only, call_only, simple, empty, block, if_only, if_else, while_loop, do_loop, for_loop, break_only, continue_only, return_only, return_value, integer, pointer, const_pointer, declare, declare_as, array, local_array}
 use Rattle.clsyntax.specs.Correct.{tokens}
+use Rattle.clsyntax.proofs.SoundStatements.{word_of}
 use Rattle.clsyntax_lex.specs.Printed.{kinds_of}
 use Rattle.clsyntax_print.specs.Printing.{plain_term, plain_target, plain_stmt, Kinds, assign_kind, step_kind, print_term, print_target, print_type, print_simple, print_stmt}
 use Rattle.clsyntax_print.proofs.PrintedTerms.{first_of_kinds, begin, begins, behind_one, Again, term_again, terms_again}
@@ -205,10 +206,6 @@ statement_no_else (return_value r) rest = λ e. cc
 -- a type, without what is read for it
 abbrev pub AgainType : Bool → ℕ → VariableType → Kinds → List Token → Type 0
 AgainType u n kind rest ts = Again (Unit {0}) (λ x. Typing u n kind) (λ x. Unit {0}) rest ts
-
-pub word_of : (u : Bool) (type : IntType) → type_of u (kinds.Type type) ≡ Some type
-word_of true type = refl
-word_of false type = refl
 
 pub type_again : {u : Bool} {n : ℕ} {kind : VariableType} {ps qs : List Placed} → Reads (Typing u n kind) ps qs → (rest : Kinds) (ts : List Token) → kinds_of ts ≡ print_type kind rest → AgainType u n kind rest ts
 type_again (integer {n = n} {u = u} {type = type} i) = λ rest ts s.

@@ -1,5 +1,5 @@
 -- The tokens that an expression is printed as stand for it.
-use Rattle.std.proofs.Common.{◌≡◌, ℕ, zero, suc, ◌≤◌, List, [], ◌∷◌, Bool, true, false, Some, refl, sym, ◌∙◌, ap, subst, arith}
+use Rattle.std.proofs.Common.{◌≡◌, ℕ, suc, ◌≤◌, List, [], ◌∷◌, Bool, true, false, Some, refl, sym, ◌∙◌, ap, subst, arith}
 use Rattle.std.specs.Prelude.{nat_lt}
 use Rattle.std.proofs.lemmas.Bool.{ltb-false}
 use Rattle.clnum.specs.declared.operators.UnaryOperator.{UnaryOperator}
@@ -14,6 +14,7 @@ use Rattle.clsyntax_lex.specs.declared.token.TokenKind.{TokenKind}
 use Rattle.clsyntax_lex.specs.declared.token.TokenKind.TheVariants as kinds
 use Rattle.clsyntax_terms.specs.Grammar.{Placed, put, start, level, tight, Operator, prefix_of, infix_of, Goal, Expr, Arguments, Reads, number, variable, element, address, bare_call, call, round, operator, cast, prefixed, binary, choice, one_argument, next_argument}
 use Rattle.clsyntax.specs.Correct.{tokens}
+use Rattle.clsyntax.proofs.SoundExpressions.{at_zero}
 use Rattle.clsyntax_lex.specs.Printed.{kinds_of}
 use Rattle.clsyntax_print.specs.Printing.{plain_term, plain_terms, Kinds, infix_kind, arithmetic_kind, unary_kind, bracketed, print_term, print_terms}
 
@@ -102,11 +103,6 @@ pub infix_infix : (op : InfixOperator) → infix_of (infix_kind op) ≡ Some op
 infix_infix (Arithmetic op) = arithmetic_infix op
 infix_infix LogicalAnd = refl
 infix_infix LogicalOr = refl
-
--- what holds of 0 holds of every number that is no more
-at_zero : (P : ℕ → Type 0) → P 0 → (l : ℕ) → l ≤ 0 → P l
-at_zero P h zero f = h
-at_zero P h (suc l) f = absurd (let g : suc l ≤ 0 = f in omega arith)
 
 -- ---- the rules
 

@@ -16,7 +16,8 @@ use Rattle.clmodel.specs.Typing.Rules as rule
 use Rattle.clmodel.specs.Typing.Rules.{Types, count}
 use Rattle.clmodel.specs.Typing.Faults.{unless, start, integer_faults, WholeStatement, kind_of, flags_faults, inside_call, call_faults, term_faults, terms_faults}
 use Rattle.cltypes_scope.proofs.Fenced.{fence_meaning}
-use Rattle.cltypes.proofs.Splits.{none_joined, places_joined, node_joined, unless_none, unless_true}
+use Rattle.cltypes_scope.proofs.Follows.{neither_of}
+use Rattle.cltypes.proofs.Splits.{none_joined, node_joined, unless_none, unless_true}
 use Rattle.cltypes.proofs.CallTables.{one_term}
 use Rattle.cltypes.proofs.Exact.{term_complete}
 
@@ -69,7 +70,7 @@ flag_complete c a e f h =
     let r = term_complete (fenced c) e (Number t.0) t.1 in
     let given = integer_faults (kind_of (fenced c) e) (start e) in
     let flags = unless (is_some (fences_of e)) (fault.BadBarrierFlags (start e)) in
-    node_joined (terms_faults (fenced c) (ThenTerm NoTerm e)) (call_faults c WholeStatement Barrier a (ThenTerm NoTerm e)) (places_joined [] (term_faults (fenced c) e) refl r.faultless)
+    node_joined (terms_faults (fenced c) (ThenTerm NoTerm e)) (call_faults c WholeStatement Barrier a (ThenTerm NoTerm e)) (neither_of [] (term_faults (fenced c) e) refl r.faultless)
     (none_joined given flags (subst (λ k. least (integer_faults k (start e)) ≡ None) (sym r.same) refl) (unless_true (is_some (fences_of e)) (fault.BadBarrierFlags (start e)) (ap is_some h)))
 
 pub barrier_complete : (c : Context) (a x : ℕ) (es : Terms) (f : Fences) → meaning c x ≡ Barrier → fences es ≡ Some f

@@ -1,7 +1,8 @@
 -- A call's own faults against the rule of what is called, by the types of its arguments.
-use Rattle.std.proofs.Common.{◌≡◌, ℕ, Bool, true, false, not, nat_eq, ◌&&◌, List, [], ◌∷◌, ◌++◌, length, None, Some, refl, sym, ap, ◌∙◌, subst, arith}
+use Rattle.std.proofs.Common.{◌≡◌, ℕ, true, false, not, nat_eq, ◌&&◌, List, [], ◌∷◌, ◌++◌, length, None, Some, refl, sym, ap, ◌∙◌, subst, arith}
 use Rattle.std.proofs.lemmas.Bool.Decides.{nat_tests}
 use Rattle.std.proofs.lemmas.List.{length-append}
+use Rattle.std.proofs.lemmas.Bool.{not-true, eqb-true}
 use Rattle.clnum.specs.Builtins.{is_same}
 use Rattle.clnum.specs.declared.int_type.IntType.{IntType}
 use Rattle.clnum.specs.declared.int_type.IntType.TheVariants.{Int, Uint}
@@ -91,15 +92,8 @@ pub data IsCallee (spot : Spot) (m : Meaning) (n : ℕ) : Type 0 where
   a_barrier : IsBarrier spot m n → IsCallee spot m n
   a_helper : IsHelper spot m n → IsCallee spot m n
 
-same_count : (m n : ℕ) → nat_eq m n ≡ true → m ≡ n
-same_count m n e = grind (arith, nat_tests)
-
 count_test : (m n : ℕ) → m ≡ n → nat_eq m n ≡ true
 count_test m n e = grind (arith, nat_tests)
-
-not_true : (b : Bool) → not b ≡ true → b ≡ false
-not_true false h = refl
-not_true true h = absurd (cc)
 
 helper_sound : (spot : Spot) (s : Signature) (a n : ℕ) → least (helper_faults spot s a n) ≡ None → IsHelper spot (Callable s) n
 helper_sound spot s a n e =
@@ -109,8 +103,8 @@ helper_sound spot s a n e =
       signature = s;
       is = refl;
       placed = and_left (takes_helper spot) (not s.is_kernel) t;
-      is_helper = not_true s.is_kernel (and_right (takes_helper spot) (not s.is_kernel) t);
-      counted = same_count n (length s.parameters) (unless_none (nat_eq n (length s.parameters)) (fault.WrongArgumentCount a) r.1);
+      is_helper = not-true s.is_kernel (and_right (takes_helper spot) (not s.is_kernel) t);
+      counted = eqb-true n (length s.parameters) (unless_none (nat_eq n (length s.parameters)) (fault.WrongArgumentCount a) r.1);
     }
 
 pub callee_sound : (spot : Spot) (m : Meaning) (a n : ℕ) → least (callee_faults spot m a n) ≡ None → IsCallee spot m n
@@ -118,14 +112,14 @@ callee_sound spot (BuiltInFunction f) a n e =
     a_built_in (record {
       function = f;
       is = refl;
-      counted = same_count n (length (wants f)) (unless_none (nat_eq n (length (wants f))) (fault.WrongArgumentCount a) e);
+      counted = eqb-true n (length (wants f)) (unless_none (nat_eq n (length (wants f))) (fault.WrongArgumentCount a) e);
     })
 callee_sound spot Barrier a n e =
     let r = none_split (unless (is_statement spot) (fault.TypeMismatch a)) (unless (nat_eq n 1) (fault.WrongArgumentCount a)) e in
     a_barrier (record {
       is = refl;
       placed = unless_none (is_statement spot) (fault.TypeMismatch a) r.0;
-      counted = same_count n 1 (unless_none (nat_eq n 1) (fault.WrongArgumentCount a) r.1);
+      counted = eqb-true n 1 (unless_none (nat_eq n 1) (fault.WrongArgumentCount a) r.1);
     })
 callee_sound spot (Callable s) a n e = a_helper (helper_sound spot s a n e)
 callee_sound spot (Current s) a n e = absurd (some_fault (fault.Recursion a) [] (none_split (helper_faults spot s a n) (fault.Recursion a ∷ []) e).1)

@@ -14,7 +14,7 @@ use Rattle.clmodel.specs.Tree.{Stmt, MaybeStmt, MaybeTerm, stmt, maybe_term}
 use Rattle.clmodel.specs.Typing.Context.{Context, enter, turning, for_context}
 use Rattle.clmodel.specs.Typing.Least.{least, lesser, earlier, first}
 use Rattle.clmodel.specs.Typing.Faults.{condition_parts, condition_faults, part_faults, faults}
-use Rattle.cltypes_scope.proofs.Least.{least_append, first_append, first_node}
+use Rattle.cltypes_scope.proofs.Least.{least_append, first_append, first_node, earlier_assoc}
 use Rattle.cltypes.specs.Answers.{Ends}
 use Rattle.cltypes.specs.Views.{held, turns_faults}
 
@@ -46,10 +46,6 @@ for_view at None (Some t) condition body = refl
 for_view at (Some s) None condition body = refl
 for_view at (Some s) (Some t) condition body = refl
 
-earlier_later : (o p q : Option TypeFault) → earlier (earlier o p) q ≡ earlier o (earlier p q)
-earlier_later None p q = refl
-earlier_later (Some f) p q = refl
-
 -- the first part, and then the others
 pub for_first : (c : Context) (at : ℕ) (start : MaybeStmt) (e : MaybeTerm) (third : MaybeStmt) (s : Stmt)
     → first (faults c (tree.For at start e third s)) ≡ earlier (first (part_faults (enter c) start)) (first (turns_faults (for_context c start) e third s))
@@ -62,9 +58,9 @@ for_first c at start e third s =
     let own = condition_faults d e in
     first_node (p ++ q ++ r ++ t) own
     ∙ ap (λ z. earlier z (least own))
-    (first_append (p ++ q ++ r) t ∙ ap (λ z. earlier z (first t)) (first_append (p ++ q) r ∙ ap (λ z. earlier z (first r)) (first_append p q) ∙ earlier_later (first p) (first q) (first r))
-    ∙ earlier_later (first p) (earlier (first q) (first r)) (first t))
-    ∙ earlier_later (first p) (earlier (earlier (first q) (first r)) (first t)) (least own)
+    (first_append (p ++ q ++ r) t ∙ ap (λ z. earlier z (first t)) (first_append (p ++ q) r ∙ ap (λ z. earlier z (first r)) (first_append p q) ∙ earlier_assoc (first p) (first q) (first r))
+    ∙ earlier_assoc (first p) (earlier (first q) (first r)) (first t))
+    ∙ earlier_assoc (first p) (earlier (earlier (first q) (first r)) (first t)) (least own)
     ∙ ap (earlier (first p))
     (sym (first_node (q ++ r ++ t) own ∙ ap (λ z. earlier z (least own)) (first_append (q ++ r) t ∙ ap (λ z. earlier z (first t)) (first_append q r))))
 

@@ -12,11 +12,12 @@ use Rattle.clmodel.specs.Tree.{Term, Terms, NoTerm, ThenTerm}
 use Rattle.clmodel.specs.Typing.Context.{Context, meaning, Bound, BuiltInFunction}
 use Rattle.clmodel.specs.Typing.Least.{least, first, node}
 use Rattle.clmodel.specs.Typing.Rules as rule
-use Rattle.clmodel.specs.Typing.Rules.{Calls, Types, TypesAll, count}
+use Rattle.clmodel.specs.Typing.Rules.{Types, TypesAll, count}
 use Rattle.clmodel.specs.Typing.Faults.{start, integer_faults, pointer_faults, name_faults, front_faults, address_faults, operand_faults, Spot, Inside, wanted, type_or_int, name_kind, number_or_int, front_kind, element_kind, unary_type, binary_type, choice_type, call_kind, kind_of, first_kind, arguments_faults, inside_call, call_faults, term_faults, terms_faults}
-use Rattle.cltypes.proofs.Splits.{none_split, none_joined, place_then, places_split, places_joined, node_split, node_joined, one_place, some_fault}
+use Rattle.cltypes.proofs.Splits.{none_split, none_joined, place_then, places_split, node_split, node_joined, one_place, some_fault}
 use Rattle.cltypes.proofs.Tables.{integer_sound, name_sound, name_complete, front_sound, front_complete, address_sound, address_complete, operands_sound, operands_complete}
 use Rattle.cltypes.proofs.CallTables.{kinds_of, IsBuiltIn, a_built_in, a_barrier, a_helper, own_sound, calls_sound, IsCalled, calls_complete, own_complete}
+use Rattle.cltypes_scope.proofs.Follows.{neither_of}
 
 -- typed where there is no fault
 
@@ -195,7 +196,7 @@ mutual
       let w = operands_complete op j k r (start d) (start e) o in
       record {
         faultless = node_joined (term_faults c d ++ term_faults c e) (operand_faults op (kind_of c d) (kind_of c e) (start d) (start e))
-            (places_joined (term_faults c d) (term_faults c e) s.faultless t.faultless)
+            (neither_of (term_faults c d) (term_faults c e) s.faultless t.faultless)
             (subst (λ v. least (operand_faults op v (kind_of c e) (start d) (start e)) ≡ None) (sym s.same)
             (subst (λ v. least (operand_faults op j v (start d) (start e)) ≡ None) (sym t.same) w.0));
         same = ap (λ v. binary_type op v (kind_of c e)) s.same ∙ ap (λ v. binary_type op j v) t.same ∙ w.1;
@@ -206,7 +207,7 @@ mutual
       let r = term_complete c f (Number u) z in
       record {
         faultless = node_joined (term_faults c e ++ term_faults c d ++ term_faults c f) (integer_faults (kind_of c e) (start e) ++ integer_faults (kind_of c d) (start d) ++ integer_faults (kind_of c f) (start f))
-            (places_joined (term_faults c e ++ term_faults c d) (term_faults c f) (places_joined (term_faults c e) (term_faults c d) p.faultless q.faultless) r.faultless)
+            (neither_of (term_faults c e ++ term_faults c d) (term_faults c f) (neither_of (term_faults c e) (term_faults c d) p.faultless q.faultless) r.faultless)
             (chosen c e d f s t u p.same q.same r.same);
         same = ap (λ v. choice_type v (kind_of c f)) q.same ∙ ap (λ v. choice_type (Number t) v) r.same;
       }
@@ -217,6 +218,6 @@ mutual
       let r = terms_complete c es ks all in
       let s = term_complete c e k one in
       record {
-        faultless = places_joined (terms_faults c es) (term_faults c e) r.faultless s.faultless;
+        faultless = neither_of (terms_faults c es) (term_faults c e) r.faultless s.faultless;
         same = ap (λ v. v ++ kind_of c e ∷ []) r.same ∙ ap (λ v. ks ++ v ∷ []) s.same;
       }

@@ -12,10 +12,12 @@ use Rattle.clmodel.specs.declared.declaration.Declaration.TheVariants.{Single}
 use Rattle.clmodel.specs.Typing.Context.{Context, meaning, Bound, is_outermost, is_free, bind, enter, turning, for_context, after_all}
 use Rattle.clmodel.specs.Typing.Least.{least, first, node}
 use Rattle.clmodel.specs.Typing.Rules as rule
-use Rattle.clmodel.specs.Typing.Rules.{count, is_writable, is_stored, length_limit, Passes, Types, TypesTarget, Gives, IsCondition, IsTyped, IsTypedPart, AreTyped}
+use Rattle.clmodel.specs.Typing.Rules.{is_stored, length_limit, Types, TypesTarget, IsCondition, IsTyped, IsTypedPart, AreTyped}
 use Rattle.clmodel.specs.Typing.Faults.{unless, start, target_start, integer_faults, pointer_faults, passing_faults, whole_faults, front_faults, assigning_faults, WholeStatement, wanted, name_kind, number_or_int, front_kind, element_kind, kind_of, arguments_faults, inside_call, barrier_faults, call_faults, term_faults, terms_faults, store_faults, stored_faults, element_target_faults, target_faults, target_kind, value_faults, void_faults, declared_faults, array_faults, initial_faults, assignment_faults, condition_parts, condition_faults, return_faults, faults, part_faults, row_faults}
+use Rattle.clmodel.proofs.Conflicts.{or_at, or_made}
 use Rattle.cltypes_scope.proofs.Least.{earlier_none}
-use Rattle.cltypes.proofs.Splits.{none_split, none_joined, places_split, places_joined, node_split, node_joined, one_place, place_then, some_fault, unless_none, unless_true, and_true, and_left, and_right, same_le, le_test, where_it, or_not}
+use Rattle.cltypes_scope.proofs.Follows.{neither_of}
+use Rattle.cltypes.proofs.Splits.{none_split, none_joined, places_split, node_split, node_joined, one_place, place_then, some_fault, unless_none, unless_true, and_true, and_left, and_right, same_le, le_test}
 use Rattle.cltypes.proofs.Tables.{integer_sound, whole_sound, front_sound, front_complete, passing_sound, passing_complete, assigning_sound, assigning_complete, store_sound, store_complete}
 use Rattle.cltypes.proofs.CallTables.{a_built_in, a_barrier, a_helper, own_sound, calls_sound, calls_complete}
 use Rattle.cltypes.proofs.Barriers.{flags_sound, barrier_complete}
@@ -88,7 +90,7 @@ array_sound c a is_local t b x d m n =
     let r = none_split (declared_faults c b x ++ unless stands (fault.WrongSpace b)) (unless (n1 && n2) (fault.TooLarge d)) n in
     let s = none_split (declared_faults c b x) (unless stands (fault.WrongSpace b)) r.0 in
     let w = unless_none (n1 && n2) (fault.TooLarge d) r.1 in
-    rule.declare_array (unless_none (is_free c x) (fault.Redeclared b) s.0) (where_it is_local (is_outermost c) (unless_none stands (fault.WrongSpace b) s.1))
+    rule.declare_array (unless_none (is_free c x) (fault.Redeclared b) s.0) (or_at is_local (is_outermost c) (unless_none stands (fault.WrongSpace b) s.1))
     (same_le 1 (array_length m) (and_left n1 n2 w)) (same_le (array_length m) length_limit (and_right n1 n2 w))
 
 array_complete : (c : Context) (is_local : Bool) (b x d : ℕ) (m : Integer) → is_free c x ≡ true → (is_local ≡ true → is_outermost c ≡ true) → 1 ≤ array_length m
@@ -99,7 +101,7 @@ array_complete c is_local b x d m f o l u =
     let stands = not is_local || is_outermost c in
     none_joined (declared_faults c b x ++ unless stands (fault.WrongSpace b)) (unless (n1 && n2) (fault.TooLarge d))
     (none_joined (declared_faults c b x) (unless stands (fault.WrongSpace b)) (unless_true (is_free c x) (fault.Redeclared b) f)
-    (unless_true stands (fault.WrongSpace b) (or_not is_local (is_outermost c) o)))
+    (unless_true stands (fault.WrongSpace b) (or_made is_local (is_outermost c) o)))
     (unless_true (n1 && n2) (fault.TooLarge d) (and_true n1 n2 (le_test 1 (array_length m) l) (le_test (array_length m) length_limit u)))
 
 no_type : (o : Option IntType) → not (is_some o) ≡ true → o ≡ None
@@ -206,7 +208,7 @@ target_complete c _ _ (rule.dereference_target {a = a} {p = p} {e = e} w h) =
 assigned : (c : Context) (a : ℕ) (p : Target) (op : Option BinaryOperator) (e : Term) → first (target_faults c p) ≡ None → first (value_faults c e) ≡ None
     → least (assignment_faults c p op e) ≡ None → first (faults c (tree.Assign a p op e)) ≡ None
 assigned c a p op e x y n =
-    node_joined (target_faults c p ++ value_faults c e) (assignment_faults c p op e) (places_joined (target_faults c p) (value_faults c e) x y) n
+    node_joined (target_faults c p ++ value_faults c e) (assignment_faults c p op e) (neither_of (target_faults c p) (value_faults c e) x y) n
 
 -- an integer as a condition
 record IsInteger (c : Context) (e : Term) : Type 0 where
@@ -258,18 +260,18 @@ mutual
   complete _ _ (rule.call_helper {c = c} {a = a} {x = x} {es = es} {s = s} h) = helper_faultless c WholeStatement a x es s refl h
   complete _ _ (rule.if {c = c} {e = e} {s = s} {t = t} h k) =
       let r = integer_complete c e t h in
-      node_joined (term_faults c e ++ faults (enter c) s) (condition_faults c (WithTerm e)) (places_joined (term_faults c e) (faults (enter c) s) r.faultless (complete (enter c) s k)) r.own
+      node_joined (term_faults c e ++ faults (enter c) s) (condition_faults c (WithTerm e)) (neither_of (term_faults c e) (faults (enter c) s) r.faultless (complete (enter c) s k)) r.own
   complete _ _ (rule.if_else {c = c} {e = e} {s = s} {r = o} {t = t} h k l) =
       let r = integer_complete c e t h in
       node_joined (term_faults c e ++ faults (enter c) s ++ faults (enter c) o) (condition_faults c (WithTerm e))
-      (places_joined (term_faults c e ++ faults (enter c) s) (faults (enter c) o)
-      (places_joined (term_faults c e) (faults (enter c) s) r.faultless (complete (enter c) s k)) (complete (enter c) o l)) r.own
+      (neither_of (term_faults c e ++ faults (enter c) s) (faults (enter c) o)
+      (neither_of (term_faults c e) (faults (enter c) s) r.faultless (complete (enter c) s k)) (complete (enter c) o l)) r.own
   complete _ _ (rule.while {c = c} {e = e} {s = s} {t = t} h k) =
       let r = integer_complete c e t h in
-      node_joined (term_faults c e ++ faults (turning c) s) (condition_faults c (WithTerm e)) (places_joined (term_faults c e) (faults (turning c) s) r.faultless (complete (turning c) s k)) r.own
+      node_joined (term_faults c e ++ faults (turning c) s) (condition_faults c (WithTerm e)) (neither_of (term_faults c e) (faults (turning c) s) r.faultless (complete (turning c) s k)) r.own
   complete _ _ (rule.do_while {c = c} {e = e} {s = s} {t = t} k h) =
       let r = integer_complete c e t h in
-      node_joined (faults (turning c) s ++ term_faults c e) (condition_faults c (WithTerm e)) (places_joined (faults (turning c) s) (term_faults c e) (complete (turning c) s k) r.faultless) r.own
+      node_joined (faults (turning c) s ++ term_faults c e) (condition_faults c (WithTerm e)) (neither_of (faults (turning c) s) (term_faults c e) (complete (turning c) s k) r.faultless) r.own
   complete _ _ (rule.for {c = c} {first = begin} {third = third} {e = e} {s = s} b h k l) =
       let d = for_context c begin in
       let p = part_faults (enter c) begin in
@@ -278,7 +280,7 @@ mutual
       let t = faults (turning d) s in
       let u = condition_complete d e h in
       node_joined (p ++ q ++ r ++ t) (condition_faults d e)
-      (places_joined (p ++ q ++ r) t (places_joined (p ++ q) r (places_joined p q (part_complete (enter c) begin b) u.0) (part_complete (enter d) third k)) (complete (turning d) s l)) u.1
+      (neither_of (p ++ q ++ r) t (neither_of (p ++ q) r (neither_of p q (part_complete (enter c) begin b) u.0) (part_complete (enter d) third k)) (complete (turning d) s l)) u.1
   complete _ _ (rule.break {c = c} {a = a} h) = place_then (unless c.in_loop (fault.TypeMismatch a)) [] (unless_true c.in_loop (fault.TypeMismatch a) h) refl
   complete _ _ (rule.continue {c = c} {a = a} h) = place_then (unless c.in_loop (fault.TypeMismatch a)) [] (unless_true c.in_loop (fault.TypeMismatch a) h) refl
   complete _ _ (rule.return {c = c} {a = a} h) =
@@ -297,4 +299,4 @@ mutual
   pub row_complete : (c : Context) (ss : Stmts) → AreTyped c ss → first (row_faults c ss) ≡ None
   row_complete c _ rule.no_statement = refl
   row_complete _ _ (rule.statement {c = c} {ss = ss} {s = s} all one) =
-      places_joined (row_faults c ss) (faults (after_all c ss) s) (row_complete c ss all) (complete (after_all c ss) s one)
+      neither_of (row_faults c ss) (faults (after_all c ss) s) (row_complete c ss all) (complete (after_all c ss) s one)

@@ -18,6 +18,7 @@ use Rattle.cltypes_scope.specs.Names.{without_innermost, begun}
 use Rattle.cltypes_scope.proofs.Follows.{inside_first, inside_second, neither_of}
 use Rattle.cltypes.specs.Answers.{Ends}
 use Rattle.cltypes.proofs.Bodies.{left_all}
+use Rattle.cltypes.proofs.Splits.{unless_true}
 
 -- the parameters, one after the other
 
@@ -44,9 +45,6 @@ next_parameter ps i p h g = take_more ps i no_parameter h ∙ ap (λ q. take i p
 
 unless_false : (b : Bool) (f : TypeFault) → b ≡ false → least (unless b f) ≡ Some f
 unless_false b f e = rw e refl
-
-unless_true : (b : Bool) (f : TypeFault) → b ≡ true → least (unless b f) ≡ None
-unless_true b f e = rw e refl
 
 first_one : (fs : List TypeFault) (o : Option TypeFault) → least fs ≡ o → first (fs ∷ []) ≡ o
 first_one fs None e = ap (λ z. earlier z None) e

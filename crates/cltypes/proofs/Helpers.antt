@@ -11,12 +11,13 @@ use Rattle.clmodel.specs.Tree.{Term, Terms, NoTerm, ThenTerm}
 use Rattle.clmodel.specs.Typing.Context.{Context, Signature, meaning, Callable}
 use Rattle.clmodel.specs.Typing.Least.{least, first, node}
 use Rattle.clmodel.specs.Typing.Rules as rule
-use Rattle.clmodel.specs.Typing.Rules.{count, Passes, Types, AreGiven, CallsHelper, Gives}
+use Rattle.clmodel.specs.Typing.Rules.{count, Types, AreGiven, CallsHelper, Gives}
 use Rattle.clmodel.specs.Typing.Faults.{start, Spot, RightSide, takes_helper, ForParameter, argument_faults, passing_faults, callee_faults, wanted, call_kind, result_kind, kind_of, last_kind, first_kind, arguments_faults, inside_call, call_faults, term_faults, terms_faults, value_faults, gives_value, void_faults}
-use Rattle.cltypes.proofs.Splits.{none_split, none_joined, places_split, places_joined, node_split, node_joined, unless_none, unless_true}
+use Rattle.cltypes.proofs.Splits.{none_split, none_joined, places_split, node_split, node_joined, unless_none, unless_true}
 use Rattle.cltypes.proofs.Tables.{passing_sound, passing_complete}
 use Rattle.cltypes.proofs.CallTables.{IsHelper, a_built_in, a_barrier, a_helper, own_sound, helper_complete, calls_complete}
 use Rattle.cltypes.proofs.Exact.{term_sound, terms_sound, term_complete, terms_complete, built_in_sound, call_complete}
+use Rattle.cltypes_scope.proofs.Follows.{neither_of}
 
 -- arguments for parameters
 
@@ -46,7 +47,7 @@ given_complete c ps _ (rule.argument {es = es} {e = e} {p = p} {k = k} all one g
     let ws = map ForParameter ps in
     let r = given_complete c ps es all in
     let q = term_complete c e k one in (
-      places_joined (terms_faults c es) (term_faults c e) r.0 q.faultless,
+      neither_of (terms_faults c es) (term_faults c e) r.0 q.faultless,
       none_joined (arguments_faults c ws es) (argument_faults (slice_get ws (count es)) (last_kind c es) (kind_of c e) (start e)) r.1
           (subst (λ w. least (argument_faults w (last_kind c es) (kind_of c e) (start e)) ≡ None) (sym (wanted_there ps (count es) p g))
           (subst (λ v. least (passing_faults p v (start e)) ≡ None) (sym q.same) (passing_complete p k (start e) s))),

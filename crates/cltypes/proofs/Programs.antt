@@ -11,9 +11,11 @@ use Rattle.clmodel.specs.Typing.Faults.{unless, declared_faults, row_faults}
 use Rattle.clmodel.specs.Typing.Sizes.{Size, loop_limit, byte_limit, node_limit, parameter_limit, row_returns}
 use Rattle.clmodel.specs.Typing.Functions.{names, begin, with_params, AreParams, is_new, size_of, IsTypedFunction, AreTypedFunctions, params_faults, heading_faults, end_faults, function_faults, functions_faults, program_faults}
 use Rattle.clmodel.specs.Typing.{IsTypedProgram, IsTypeFault}
+use Rattle.clmodel.proofs.Conflicts.{or_at, or_made}
 use Rattle.cltypes.specs.Answers.{IsExactlyTyped}
 use Rattle.cltypes_scope.proofs.Least.{earlier_none, first_none, first_some, one_least}
-use Rattle.cltypes.proofs.Splits.{places_split, places_joined, one_place, place_then, unless_none, unless_true, same_le, le_test, where_it, or_not}
+use Rattle.cltypes_scope.proofs.Follows.{neither_of}
+use Rattle.cltypes.proofs.Splits.{places_split, one_place, place_then, unless_none, unless_true, same_le, le_test}
 use Rattle.cltypes.proofs.ExactStatements.{row_sound, row_complete}
 
 params_sound : (c : Context) (ps : List Parameter) → first (params_faults c ps) ≡ None → AreParams c ps
@@ -53,10 +55,10 @@ end_sound f s n =
     let w = earlier_none (least v) (first (r ∷ z ∷ [])) u.1 in
     let x = earlier_none (least r) (first (z ∷ [])) w.1 in
     record {
-      returns = where_it (is_some f.result) (row_returns f.body) (unless_none a (fault.MissingReturn f.name_at) t.0);
-      loops = λ k. same_le s.loops loop_limit (where_it f.is_kernel (nat_le s.loops loop_limit) (unless_none b (fault.TooManyLoops f.name_at) u.0) k);
-      bytes = λ k. same_le s.bytes byte_limit (where_it f.is_kernel (nat_le s.bytes byte_limit) (unless_none e (fault.TooLarge f.name_at) w.0) k);
-      nodes = λ k. same_le s.nodes node_limit (where_it f.is_kernel (nat_le s.nodes node_limit) (unless_none d (fault.TooLarge f.name_at) x.0) k);
+      returns = or_at (is_some f.result) (row_returns f.body) (unless_none a (fault.MissingReturn f.name_at) t.0);
+      loops = λ k. same_le s.loops loop_limit (or_at f.is_kernel (nat_le s.loops loop_limit) (unless_none b (fault.TooManyLoops f.name_at) u.0) k);
+      bytes = λ k. same_le s.bytes byte_limit (or_at f.is_kernel (nat_le s.bytes byte_limit) (unless_none e (fault.TooLarge f.name_at) w.0) k);
+      nodes = λ k. same_le s.nodes node_limit (or_at f.is_kernel (nat_le s.nodes node_limit) (unless_none d (fault.TooLarge f.name_at) x.0) k);
       few = same_le (length f.parameters) parameter_limit (unless_none g (fault.TooLarge f.name_at) (one_place z x.1));
     }
 
@@ -72,10 +74,10 @@ end_complete f s h =
     let g = nat_le (length f.parameters) parameter_limit in
     let r = unless d (fault.TooLarge f.name_at) in
     let z = unless g (fault.TooLarge f.name_at) in
-    place_then p (q ∷ v ∷ r ∷ z ∷ []) (unless_true a (fault.MissingReturn f.name_at) (or_not (is_some f.result) (row_returns f.body) h.returns))
-    (place_then q (v ∷ r ∷ z ∷ []) (unless_true b (fault.TooManyLoops f.name_at) (or_not f.is_kernel (nat_le s.loops loop_limit) (λ k. le_test s.loops loop_limit (h.loops k))))
-    (place_then v (r ∷ z ∷ []) (unless_true e (fault.TooLarge f.name_at) (or_not f.is_kernel (nat_le s.bytes byte_limit) (λ k. le_test s.bytes byte_limit (h.bytes k))))
-    (place_then r (z ∷ []) (unless_true d (fault.TooLarge f.name_at) (or_not f.is_kernel (nat_le s.nodes node_limit) (λ k. le_test s.nodes node_limit (h.nodes k))))
+    place_then p (q ∷ v ∷ r ∷ z ∷ []) (unless_true a (fault.MissingReturn f.name_at) (or_made (is_some f.result) (row_returns f.body) h.returns))
+    (place_then q (v ∷ r ∷ z ∷ []) (unless_true b (fault.TooManyLoops f.name_at) (or_made f.is_kernel (nat_le s.loops loop_limit) (λ k. le_test s.loops loop_limit (h.loops k))))
+    (place_then v (r ∷ z ∷ []) (unless_true e (fault.TooLarge f.name_at) (or_made f.is_kernel (nat_le s.bytes byte_limit) (λ k. le_test s.bytes byte_limit (h.bytes k))))
+    (place_then r (z ∷ []) (unless_true d (fault.TooLarge f.name_at) (or_made f.is_kernel (nat_le s.nodes node_limit) (λ k. le_test s.nodes node_limit (h.nodes k))))
     (place_then z [] (unless_true g (fault.TooLarge f.name_at) (le_test (length f.parameters) parameter_limit h.few)) refl))))
 
 function_sound : (all : List ℕ) (fs : Funcs) (f : Func) → first (function_faults all fs f) ≡ None → IsTypedFunction all fs f
@@ -104,8 +106,8 @@ function_complete all fs f h =
     let body = row_faults (with_params (begin all fs f) f.parameters) f.body in
     let end = end_faults f (size_of fs f) in
     place_then (heading_faults fs f) (params ++ body ++ end) (unless_true (is_new fs f.name) (fault.Redeclared f.name_at) h.name)
-    (places_joined (params ++ body) end
-    (places_joined params body (params_complete (begin all fs f) f.parameters h.parameters) (row_complete (with_params (begin all fs f) f.parameters) f.body h.body))
+    (neither_of (params ++ body) end
+    (neither_of params body (params_complete (begin all fs f) f.parameters h.parameters) (row_complete (with_params (begin all fs f) f.parameters) f.body h.body))
     (end_complete f (size_of fs f) (record { returns = h.returns; loops = h.loops; bytes = h.bytes; nodes = h.nodes; few = h.few })))
 
 functions_sound : (all : List ℕ) (fs : Funcs) → first (functions_faults all fs) ≡ None → AreTypedFunctions all fs
@@ -117,7 +119,7 @@ functions_sound all (ThenFunc fs f) n =
 functions_complete : (all : List ℕ) (fs : Funcs) → AreTypedFunctions all fs → first (functions_faults all fs) ≡ None
 functions_complete all NoFunc h = refl
 functions_complete all (ThenFunc fs f) h =
-    places_joined (functions_faults all fs) (function_faults all fs f) (functions_complete all fs h.0) (function_complete all fs f h.1)
+    neither_of (functions_faults all fs) (function_faults all fs f) (functions_complete all fs h.0) (function_complete all fs f h.1)
 
 pub program_sound : (p : Program) → first (program_faults p) ≡ None → IsTypedProgram p
 unfolding IsTypedProgram

@@ -15,9 +15,6 @@ none_joined fs gs p q = least_append fs gs ∙ ap (λ o. lesser o (least gs)) p 
 pub places_split : (ps qs : Places) → first (ps ++ qs) ≡ None → (first ps ≡ None) × (first qs ≡ None)
 places_split ps qs e = earlier_none (first ps) (first qs) (sym (first_append ps qs) ∙ e)
 
-pub places_joined : (ps qs : Places) → first ps ≡ None → first qs ≡ None → first (ps ++ qs) ≡ None
-places_joined ps qs p q = first_append ps qs ∙ ap (λ o. earlier o (first qs)) p ∙ q
-
 pub node_split : (ps : Places) (own : List TypeFault) → first (node ps own) ≡ None → (first ps ≡ None) × (least own ≡ None)
 node_split ps own e = earlier_none (first ps) (least own) (sym (first_node ps own) ∙ e)
 
@@ -80,12 +77,3 @@ same_le m n e = grind (arith, nat_tests)
 
 pub le_test : (m n : ℕ) → m ≤ n → nat_le m n ≡ true
 le_test m n e = grind (arith, nat_tests)
-
--- what holds where another does
-pub where_it : (b d : Bool) → (not b || d) ≡ true → b ≡ true → d ≡ true
-where_it true d h e = h
-where_it false d h e = absurd (cc)
-
-pub or_not : (b d : Bool) → (b ≡ true → d ≡ true) → (not b || d) ≡ true
-or_not true d h = h refl
-or_not false d h = refl

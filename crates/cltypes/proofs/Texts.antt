@@ -14,6 +14,7 @@ use Rattle.clmodel.specs.Typing.Sizes.{Sizes}
 use Rattle.cltypes_limits.specs.Limits.{IsSummary}
 use Rattle.clmodel.specs.Typing.Least.{first}
 use Rattle.clmodel.specs.Typing.Functions.{names, signature, signatures, function_faults, functions_faults, program_faults}
+use Rattle.clmodel.proofs.Kernels.{then_last}
 use Rattle.cltypes_scope.specs.Names.{with_function}
 use Rattle.cltypes.specs.Answers.{IsFaultOf}
 use Rattle.cltypes.specs.Views.{functions_of, known}
@@ -22,13 +23,9 @@ use Rattle.cltypes.proofs.Programs.{program_sound, program_fault, typed_has_none
 
 -- their names
 
-then_one : (gs : Funcs) (fs : List Function) (f : Function) → then_funcs gs (map func (fs ++ f ∷ [])) ≡ ThenFunc (then_funcs gs (map func fs)) (func f)
-then_one gs [] f = refl
-then_one gs (g ∷ fs) f = then_one (ThenFunc gs (func g)) fs f
-
 next_function : (fs : List Function) (i : ℕ) (f : Function) → i < length fs → f ≡ get_or fs i f → functions_of (take (i + 1) fs) ≡ ThenFunc (functions_of (take i fs)) (func f)
 next_function fs i f h g =
-    ap functions_of (take_more fs i f h) ∙ then_one NoFunc (take i fs) (get_or fs i f) ∙ ap (λ z. ThenFunc (functions_of (take i fs)) (func z)) (sym g)
+    ap functions_of (take_more fs i f h) ∙ then_last NoFunc (take i fs) (get_or fs i f) ∙ ap (λ z. ThenFunc (functions_of (take i fs)) (func z)) (sym g)
 
 pub signatures_more : (fs : List Function) (i : ℕ) (f : Function) (before now : List (ℕ × Signature)) → i < length fs → f ≡ get_or fs i f → signatures (functions_of (take i fs)) ≡ before
     → now ≡ before ++ (f.name, signature (func f)) ∷ [] → signatures (functions_of (take (i + 1) fs)) ≡ now

@@ -1,9 +1,9 @@
 -- A table of sizes up to the limits gives the sizes up to the limits.
 use Rattle.std.proofs.Common.{◌≡◌, ℕ, Bool, true, false, nat_eq, cond, List, [], ◌∷◌, ◌++◌, Option, None, Some, is_some, map, refl, sym, ap, ◌∙◌, arith, true≢false}
-use Rattle.std.proofs.lemmas.Bool.Decides.{nat_tests}
 use Rattle.std.specs.Option.{option_map, option_or}
 use Rattle.std.specs.Map.{lookup}
 use Rattle.std.proofs.lemmas.Map.Made.{lookup-map_values}
+use Rattle.std.proofs.lemmas.Bool.{eqb-true}
 use Rattle.clmodel.specs.Tree as tree
 use Rattle.clmodel.specs.Tree.{Term, Terms, NoTerm, ThenTerm, Target, Stmt, Stmts, NoStmt, ThenStmt, MaybeStmt, Without, With, MaybeTerm, WithoutTerm, WithTerm, Func, Funcs, ThenFunc}
 use Rattle.clmodel.specs.Typing.Sizes as counted
@@ -154,9 +154,6 @@ added table fs f s h e x =
 
 -- an entry of a name that is there is never found
 
-same_name : (m n : ℕ) → nat_eq m n ≡ true → m ≡ n
-same_name m n e = grind (arith, nat_tests)
-
 some_mapped : (o : Option counted.Size) → is_some (option_map capped o) ≡ is_some o
 some_mapped None = refl
 some_mapped (Some s) = refl
@@ -173,7 +170,7 @@ there table fs f h k x =
     h x
     ∙ sym (ap (option_map capped) (lookup_behind t (sizes_of fs) f.name (size_of fs f))
     ∙ never_found (t f.name) (lookup t (sizes_of fs)) (size_of fs f)
-    (λ e. ap is_some (sym (h x)) ∙ some_mapped (lookup t table) ∙ ap (λ y. is_some (lookup (nat_eq y) table)) (same_name x f.name e) ∙ k))
+    (λ e. ap is_some (sym (h x)) ∙ some_mapped (lookup t table) ∙ ap (λ y. is_some (lookup (nat_eq y) table)) (eqb-true x f.name e) ∙ k))
 
 -- the entries as they are kept
 

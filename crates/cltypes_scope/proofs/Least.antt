@@ -126,7 +126,7 @@ pub earlier_none : (o p : Option TypeFault) → earlier o p ≡ None → (o ≡ 
 earlier_none None p e = (refl, e)
 earlier_none (Some f) p e = absurd (cc)
 
-earlier_assoc : (o p q : Option TypeFault) → earlier (earlier o p) q ≡ earlier o (earlier p q)
+pub earlier_assoc : (o p q : Option TypeFault) → earlier (earlier o p) q ≡ earlier o (earlier p q)
 earlier_assoc None p q = refl
 earlier_assoc (Some f) p q = refl
 

@@ -1,10 +1,11 @@
 -- Names that were removed.
-use Rattle.std.proofs.Common.{◌≡◌, ℕ, Bool, true, false, not, cond, ◌&&◌, ◌||◌, List, [], ◌∷◌, Option, None, Some, is_some, map, refl, ap, sym, ◌∙◌, subst}
+use Rattle.std.proofs.Common.{◌≡◌, ℕ, Bool, true, false, not, cond, ◌&&◌, List, [], ◌∷◌, Option, None, Some, is_some, map, refl, ap, sym, ◌∙◌, subst}
 use Rattle.std.proofs.lemmas.List.Elements.{All-nil, All-cons, All-head, All-tail}
 use Rattle.std.proofs.lemmas.Map.Views.{All-map-remove_entry}
 use Rattle.std.specs.List.{list_any}
 use Rattle.std.specs.Map.{remove_entry, values_of}
 use Rattle.std.specs.Option.{MatchOption, option_map}
+use Rattle.std.proofs.lemmas.Bool.{or_parts}
 use Rattle.clmodel.specs.Tree.{Program, program}
 use Rattle.cltypes.specs.declared.checked.Checked.{Checked}
 use Rattle.host_commands.specs.Kernels.{KernelState}
@@ -46,16 +47,12 @@ found_after {A} (e ∷ es) name other apart = by (is name e.0) refl (found_after
     by true here rest = ap (λ t. cond t (Some e.1) (find es other)) (sym (another name other e.0 (is other e.0) refl here apart))
     by false here rest = ap (cond (is other e.0) (Some e.1)) rest
 
-neither : (a b : Bool) → (a || b) ≡ false → (a ≡ false) × (b ≡ false)
-neither true b none = cc
-neither false b none = (refl, none)
-
 -- kernels stay compiled where none is of what was removed
 all_apart : (programs : Table Checked) (kernels : Table CompiledKernel) (name : List ℕ) → AllCompiled programs kernels
     → list_any (λ k. is name k.program) (values_of (map (λ e. (e.0, e.1.kernel)) kernels)) ≡ false → AllCompiled (remove_entry (is name) programs) kernels
 all_apart programs [] name kept none = All-nil (IsCompiled (remove_entry (is name) programs))
 all_apart programs (e ∷ kernels) name kept none =
-    let others = neither (is name e.1.kernel.program) (list_any (λ k. is name k.program) (values_of (map (λ e. (e.0, e.1.kernel)) kernels))) none in
+    let others = or_parts (is name e.1.kernel.program) (list_any (λ k. is name k.program) (values_of (map (λ e. (e.0, e.1.kernel)) kernels))) none in
     All-cons (IsCompiled (remove_entry (is name) programs)) e.1 (values_of kernels)
     (still_compiled programs (remove_entry (is name) programs) e.1 (found_after programs name e.1.kernel.program others.0) (All-head (IsCompiled programs) e.1 (values_of kernels) kept))
     (all_apart programs kernels name (All-tail (IsCompiled programs) e.1 (values_of kernels) kept) others.1)
@@ -92,7 +89,7 @@ pub remove_kernel : (es : Table CompiledKernel) (name : List ℕ)
     → map (λ e. (e.0, e.1.kernel)) (remove_entry (is name) es) ≡ remove_entry (is name) (map (λ e. (e.0, e.1.kernel)) es)
 remove_kernel es name = remove_mapped (λ c. c.kernel) (is name) es
 
--- neither of two refusals
+-- or_parts of two refusals
 neither_of_two : (a b : Bool) (x y : Refusal) (D : Type 0) (R : Refusal → Type 0) → a ≡ true → b ≡ false → D → MatchOption (first ((not a, x) ∷ (b, y) ∷ [])) D R
 neither_of_two true false x y D R p q d = d
 neither_of_two false b x y D R p q d = cc
@@ -114,7 +111,7 @@ pub unheld_of : (old : Machine) (programs : Table Checked) (name : List ℕ) →
 unheld_of old programs name are free =
     ap (λ b. b && has_kernels old name)
     (sym (ap (λ ps. is_some (find ps name)) are ∙ ap is_some (find_program programs name) ∙ some_mapped (find programs name)))
-    ∙ (neither _ _ free).1
+    ∙ (or_parts _ _ free).1
 
 -- a machine without a name
 pub released : (old : Machine) (buffers : Table (List ℕ)) (programs : Table Program) (kernels : Table KernelState) (name : List ℕ)

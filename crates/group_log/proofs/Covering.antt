@@ -1,5 +1,5 @@
 -- Accesses that kept ones cover.
-use Rattle.std.proofs.Common.{◌≡◌, ℕ, ◌+◌, ◌-◌, ◌<◌, ◌≤◌, ◌⊎◌, Bool, true, false, not, ◌&&◌, ◌||◌, ◌==◌, if◌then◌else◌, Option, None, Some, List, [], ◌∷◌, ◌++◌, refl, sym, ap, ◌∙◌, subst, inl, inr, arith, eqb-true, ltb-true, leb-true, nat_lt, nat_le}
+use Rattle.std.proofs.Common.{◌≡◌, ℕ, ◌+◌, ◌-◌, ◌<◌, ◌≤◌, ◌⊎◌, Bool, true, false, not, ◌&&◌, ◌||◌, ◌==◌, if◌then◌else◌, Option, None, Some, List, [], ◌∷◌, ◌++◌, refl, sym, ap, ◌∙◌, subst, inl, inr, arith, eqb-true}
 use Rattle.std.proofs.lemmas.Bool.{and_parts, and_from, cases_eq, ne_eqb}
 use Rattle.clmodel.specs.Cells.{byte_count, covers}
 use Rattle.clmodel.specs.Launch.{same_region, unordered, share, clash, both_store, left_at, same_store, clash_at, within_group, conflict_between}
@@ -7,17 +7,12 @@ use Rattle.clmodel.specs.Run.{or_else}
 use Rattle.clmodel.specs.declared.access.Access.{Access}
 use Rattle.clmodel.specs.declared.access.Clash.{Clash}
 use Rattle.clmodel.specs.declared.access.Rule.{Rule}
-use Rattle.clmodel.proofs.Conflicts.{map_none}
-use Rattle.clmodel.proofs.Steps.{none_some}
+use Rattle.clmodel.proofs.Steps.{or_else_none, map_none, decided}
+use Rattle.clmodel.proofs.CellLaws.{covers_parts}
 use Rattle.shadow_list.specs.Log.{hit_between, hit_on}
 use Rattle.shadow_list.specs.declared.log.Entry.{Entry}
 use Rattle.shadow_list.specs.declared.log.Hit.{Hit}
 use Rattle.group_log.specs.Covers.{CoversAt, Covers}
-
--- a truth value, by cases that keep its equation
-pub decided : {P : Type 0} (b : Bool) → (b ≡ true → P) → (b ≡ false → P) → P
-decided true positive negative = positive refl
-decided false positive negative = negative refl
 
 -- ---- conflicts by their parts
 
@@ -52,16 +47,11 @@ covers_item u kept a i j ne first other byte z none = go (cases_eq a.item z.acce
 same_left : (g : Rule) (a z : Access) (v byte : ℕ) → left_at (record a { value = v }) byte ≡ left_at a byte → clash_at g a z byte ≡ None → clash_at g (record a { value = v }) z byte ≡ None
 same_left g a z v byte e h = ap (λ l. if both_store a.kind z.kind && g.uniform && (l == left_at z byte) then None else clash a.kind z.kind) e ∙ h
 
-at_place : (first count byte : ℕ) → covers first count byte ≡ true → (first ≤ byte) × (byte < first + count)
-at_place first count byte h =
-    let r : (nat_le first byte ≡ true) × (nat_lt byte (first + count) ≡ true) = and_parts (nat_le first byte) (nat_lt byte (first + count)) h in
-    (leb-true first byte r.0, ltb-true byte (first + count) r.1)
-
 pub first_at : (x z : Access) (byte : ℕ) → share x z byte ≡ true → (x.first ≤ byte) × (byte < x.first + byte_count x.width)
 first_at x z byte p =
     let r : ((same_region x.region z.region && covers x.first (byte_count x.width) byte) ≡ true) × (covers z.first (byte_count z.width) byte ≡ true) = and_parts _ _ p in
     let s : (same_region x.region z.region ≡ true) × (covers x.first (byte_count x.width) byte ≡ true) = and_parts _ _ r.0 in
-    at_place x.first (byte_count x.width) byte s.1
+    covers_parts x.first (byte_count x.width) byte s.1
 
 -- an access each byte of which its item's kept ones left, or left two of
 pub covers_left :
@@ -99,10 +89,6 @@ on_push g z byte (y ∷ log) e = ap (or_else (hit_between g y z byte)) (on_push 
     go None = refl
     go (Some h) = refl
 
-neither : {A : Type 0} (a b : Option A) → or_else a b ≡ None → (a ≡ None) × (b ≡ None)
-neither None b h = (refl, h)
-neither (Some x) b h = absurd (none_some x (sym h))
-
 no_hit : (g : Rule) (e z : Entry) (byte : ℕ) → hit_between g e z byte ≡ None → conflict_between g e.access z.access byte ≡ None
 no_hit g e z byte h = map_none (λ clash. record { clash = clash; earlier = e; later = z; byte = byte }) (conflict_between g e.access z.access byte) h
 
@@ -110,7 +96,7 @@ pub before_push : (u : Bool) (kept : List Entry) (e z : Entry) (byte : ℕ) → 
     → (hit_on (within_group u) z byte kept ≡ None) × (conflict_between (within_group u) e.access z.access byte ≡ None)
 before_push u kept e z byte h =
     let r : (hit_on (within_group u) z byte kept ≡ None) × (hit_between (within_group u) e z byte ≡ None) =
-    neither (hit_on (within_group u) z byte kept) (hit_between (within_group u) e z byte) (sym (on_push (within_group u) z byte kept e) ∙ h) in
+    or_else_none (hit_on (within_group u) z byte kept) (hit_between (within_group u) e z byte) (sym (on_push (within_group u) z byte kept e) ∙ h) in
     (r.0, no_hit (within_group u) e z byte r.1)
 
 pub still_covers : (u : Bool) (kept : List Entry) (e : Entry) (x : Access) (byte : ℕ) → CoversAt u kept x byte → CoversAt u (kept ++ e ∷ []) x byte

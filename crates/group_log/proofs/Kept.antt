@@ -7,8 +7,8 @@ use Rattle.std.proofs.lemmas.Option.{same_Some}
 use Rattle.shadow_list.specs.declared.log.Entry.{Entry}
 use Rattle.group_log.specs.Place.{IsFaithful}
 use Rattle.group_log.specs.declared.place.Place.{Place}
-use Rattle.group_log.proofs.Covering.{decided}
 use Rattle.group_log.proofs.Faithful.{faithful_still}
+use Rattle.clmodel.proofs.Steps.{decided}
 
 abbrev pub AreFaithful : {S : Type 0} → Bool → ℕ → List Entry → HashMap ℕ Place S → Type 0
 AreFaithful u n kept m = (key : ℕ) (p : Place) → get nat_eq m key ≡ Some p → IsFaithful u n kept p

@@ -11,11 +11,11 @@ use Rattle.clmodel.specs.declared.access.Access.{Access}
 use Rattle.clmodel.specs.declared.access.Region.{Region}
 use Rattle.clmodel.specs.declared.access.Region.TheVariants as region
 use Rattle.clmodel.specs.declared.access.Rule.{Rule}
-use Rattle.clmodel.proofs.Conflicts.{map_none}
-use Rattle.clmodel.proofs.Steps.{none_some}
+use Rattle.clmodel.proofs.Steps.{none_some, map_none}
 use Rattle.shadow_list.specs.Log.{hit_between, hit_on, hit_from, hit, in_buffer, IsThere, IsKept, Log, stamped}
 use Rattle.shadow_list.specs.declared.log.Entry.{Entry}
 use Rattle.shadow_list.specs.declared.log.Hit.{Hit}
+use Rattle.shadow_list.proofs.Past.{one_memory}
 use Rattle.group_log.specs.Tells.{Tells, IsTaken}
 use Rattle.group_log.proofs.Covering.{no_conflict, on_push}
 
@@ -54,16 +54,10 @@ other_interval u x z byte ne =
     no_conflict (within_group u) x z byte
     (λ o s. absurd (false≢true (sym (ne_eqb x.interval z.interval ne) ∙ (and_parts (not (x.item == z.item)) (x.interval == z.interval) o).1)))
 
-one_space : (a b : Region) → same_region a b ≡ true → in_buffer a ≡ in_buffer b
-one_space (region.Buffer a) (region.Buffer b) h = refl
-one_space (region.Buffer a) (region.Local h b) e = absurd (false≢true e)
-one_space (region.Local g a) (region.Buffer b) e = absurd (false≢true e)
-one_space (region.Local g a) (region.Local h b) e = refl
-
 other_space : (u : Bool) (x z : Access) (byte : ℕ) → (in_buffer x.region ≡ in_buffer z.region → ⊥) → conflict_between (within_group u) x z byte ≡ None
 other_space u x z byte ne =
     no_conflict (within_group u) x z byte
-    (λ o s. absurd (ne (one_space x.region z.region (and_parts (same_region x.region z.region) (covers x.first (byte_count x.width) byte) (and_parts (same_region x.region z.region && covers x.first (byte_count x.width) byte) (covers z.first (byte_count z.width) byte) s).0).0)))
+    (λ o s. absurd (ne (one_memory x.region z.region (and_parts (same_region x.region z.region) (covers x.first (byte_count x.width) byte) (and_parts (same_region x.region z.region && covers x.first (byte_count x.width) byte) (covers z.first (byte_count z.width) byte) s).0).0)))
 
 -- ---- one access more
 

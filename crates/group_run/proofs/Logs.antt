@@ -10,51 +10,16 @@ use Rattle.clmodel.specs.Law.{Logged, Keeps, conflict_on, conflict_from, newest_
 use Rattle.clmodel.specs.declared.access.Access.{Access}
 use Rattle.clmodel.specs.declared.access.Clash.{Clash}
 use Rattle.clmodel.specs.declared.access.Conflict as conflict_type
-use Rattle.clmodel.proofs.Steps.{or_else_none}
+use Rattle.clmodel.proofs.Steps.{or_else_map}
+use Rattle.clmodel.proofs.Logs.{logged_kept, logged_front, logged_back}
 use Rattle.shadow_list.specs.Log.{hit_between, hit_on, hit_from, hit, IsThere, IsKept}
 use Rattle.shadow_list.specs.declared.log.Entry.{Entry}
 use Rattle.shadow_list.specs.declared.log.Hit.{Hit}
 use Rattle.group_run.specs.Logs.{accesses_of, conflict_of, AreMine}
+use Rattle.joining.proofs.Kept.{on_kept}
+use Rattle.joining.proofs.Crossings.{on_append}
 
 -- ---- an access that is there already
-
--- the conflict with one access
-abbrev one_conflict : (Access → Access → ℕ → Option Clash) → Access → ℕ → Access → Option conflict_type.Conflict
-one_conflict judge x byte y = option_map (λ clash. record { earlier = y; later = x; byte = byte; clash = clash }) (judge y x byte)
-
-none_each :
-    (judge : Access → Access → ℕ → Option Clash) (x : Access) (byte : ℕ) (y : Access) (log : List Access) → Logged log y → conflict_on judge x byte log ≡ None
-    → one_conflict judge x byte y ≡ None
-none_each judge x byte y [] h e = absurd h
-none_each judge x byte y (z ∷ log) (inl i) e =
-    ap (λ a. one_conflict judge x byte a) (sym i)
-    ∙ (or_else_none (conflict_on judge x byte log) (one_conflict judge x byte z) e).1
-none_each judge x byte y (z ∷ log) (inr h) e =
-    none_each judge x byte y log h
-    (or_else_none (conflict_on judge x byte log) (one_conflict judge x byte z) e).0
-
--- a repeat brings no other conflict
-repeat_is_harmless :
-    (judge : Access → Access → ℕ → Option Clash) (x : Access) (byte : ℕ) (y : Access) (log : List Access) → Logged log y
-    → conflict_on judge x byte (y ∷ log) ≡ conflict_on judge x byte log
-repeat_is_harmless judge x byte y log h = go (conflict_on judge x byte log) refl
-  where
-    go :
-        (o : Option conflict_type.Conflict) → conflict_on judge x byte log ≡ o
-        → or_else (conflict_on judge x byte log) (one_conflict judge x byte y) ≡ conflict_on judge x byte log
-    go None e =
-        ap (λ z. or_else z (one_conflict judge x byte y)) e
-        ∙ none_each judge x byte y log h e ∙ sym e
-    go (Some c) e = ap (λ z. or_else z (one_conflict judge x byte y)) e ∙ sym e
-
-conflict_on-kept :
-    (judge : Access → Access → ℕ → Option Clash) (x : Access) (byte : ℕ) (log kept : List Access) → Keeps log kept
-    → conflict_on judge x byte log ≡ conflict_on judge x byte kept
-conflict_on-kept judge x byte [] kept h = ap (conflict_on judge x byte) (sym h)
-conflict_on-kept judge x byte (y ∷ log) kept (inl h) = repeat_is_harmless judge x byte y log h.0 ∙ conflict_on-kept judge x byte log kept h.1
-conflict_on-kept judge x byte (y ∷ log) kept (inr h) =
-    ap (λ o. or_else o (one_conflict judge x byte y)) (conflict_on-kept judge x byte log h.0 h.2)
-    ∙ ap (conflict_on judge x byte) (sym h.1)
 
 conflict_from-same :
     (judge : Access → Access → ℕ → Option Clash) (x : Access) (log kept : List Access) → ((byte : ℕ) → conflict_on judge x byte log ≡ conflict_on judge x byte kept)
@@ -64,31 +29,11 @@ conflict_from-same judge x log kept h byte (suc count) = ap₂ or_else (h byte) 
 
 -- ---- the conflict that the code's log finds
 
-accesses_cons : (y : Entry) (es : List Entry) → accesses_of (y ∷ es) ≡ accesses_of es ++ y.access ∷ []
+pub accesses_cons : (y : Entry) (es : List Entry) → accesses_of (y ∷ es) ≡ accesses_of es ++ y.access ∷ []
 accesses_cons y es = ap (map (λ (e : Entry). e.access)) (reverse-append (y ∷ []) es) ∙ map-append (λ (e : Entry). e.access) (reverse es) (y ∷ [])
 
 pub accesses_push : (es : List Entry) (y : Entry) → accesses_of (es ++ y ∷ []) ≡ y.access ∷ accesses_of es
 accesses_push es y = ap (map (λ (e : Entry). e.access)) (reverse-append es (y ∷ []))
-
-or_else_assoc : {A : Type 0} (a b c : Option A) → or_else (or_else a b) c ≡ or_else a (or_else b c)
-or_else_assoc None b c = refl
-or_else_assoc (Some a) b c = refl
-
-or_else_map : {A B : Type 0} (f : A → B) (a b : Option A) → option_map f (or_else a b) ≡ or_else (option_map f a) (option_map f b)
-or_else_map f None b = refl
-or_else_map f (Some a) b = refl
-
-or_else_nothing : {A : Type 0} (a : Option A) → or_else a None ≡ a
-or_else_nothing None = refl
-or_else_nothing (Some a) = refl
-
-conflict_on-append :
-    (judge : Access → Access → ℕ → Option Clash) (x : Access) (byte : ℕ) (later earlier : List Access)
-    → conflict_on judge x byte (later ++ earlier) ≡ or_else (conflict_on judge x byte earlier) (conflict_on judge x byte later)
-conflict_on-append judge x byte [] earlier = sym (or_else_nothing (conflict_on judge x byte earlier))
-conflict_on-append judge x byte (y ∷ later) earlier =
-    ap (λ o. or_else o (one_conflict judge x byte y)) (conflict_on-append judge x byte later earlier)
-    ∙ or_else_assoc (conflict_on judge x byte earlier) (conflict_on judge x byte later) (one_conflict judge x byte y)
 
 one_judge : (l : Launch) (g : ℕ) (y x : Access) (byte : ℕ) → group_of l y.item ≡ g → group_of l x.item ≡ g → conflict l y x byte ≡ conflict_between (within_group l.uniform) y x byte
 unfolding conflict
@@ -110,7 +55,7 @@ on_is_hit :
 on_is_hit l g x byte [] m h = refl
 on_is_hit l g x byte (y ∷ es) m h =
     ap (conflict_on (conflict l) x.access byte) (accesses_cons y es)
-    ∙ conflict_on-append (conflict l) x.access byte (accesses_of es) (y.access ∷ [])
+    ∙ on_append (conflict l) x.access byte (accesses_of es) (y.access ∷ [])
     ∙ ap₂ or_else
     (ap (told_as y x byte) (one_judge l g y.access x.access byte h.0 m)
     ∙ told_hit y x byte (conflict_between (within_group l.uniform) y.access x.access byte))
@@ -131,32 +76,14 @@ pub newest_is_hit :
     → newest_conflict l (x.access ∷ log) ≡ option_map conflict_of (hit (within_group l.uniform) x es)
 unfolding hit
 newest_is_hit l g log x es m h k =
-    conflict_from-same (conflict l) x.access log (accesses_of es) (λ byte. conflict_on-kept (conflict l) x.access byte log (accesses_of es) k) x.access.first (byte_count x.access.width)
+    conflict_from-same (conflict l) x.access log (accesses_of es) (λ byte. on_kept (conflict l) x.access byte log (accesses_of es) k) x.access.first (byte_count x.access.width)
     ∙ from_is_hit l g x es m h x.access.first (byte_count x.access.width)
 
 -- ---- one access more
 
-logged_kept : (log kept : List Access) (x : Access) → Keeps log kept → Logged kept x → Logged log x
-logged_kept [] kept x h l = subst (λ z. Logged z x) h l
-logged_kept (y ∷ log) kept x (inl h) l = inr (logged_kept log kept x h.1 l)
-logged_kept (y ∷ log) kept x (inr h) l = go (logged_kept log h.0 x h.2) (subst (λ z. Logged z x) h.1 l)
-  where
-    go : (Logged h.0 x → Logged log x) → Logged (y ∷ h.0) x → Logged (y ∷ log) x
-    go rest (inl e) = inl e
-    go rest (inr m) = inr (rest m)
-
-logged_last : (xs : List Access) (y x : Access) → y ≡ x → Logged (xs ++ y ∷ []) x
-logged_last [] y x e = inl e
-logged_last (z ∷ xs) y x e = inr (logged_last xs y x e)
-
-logged_front : (xs ys : List Access) (x : Access) → Logged xs x → Logged (xs ++ ys) x
-logged_front [] ys x h = absurd h
-logged_front (z ∷ xs) ys x (inl e) = inl e
-logged_front (z ∷ xs) ys x (inr h) = inr (logged_front xs ys x h)
-
 there_logged : (es : List Entry) (x : Access) → IsThere es x → Logged (accesses_of es) x
 there_logged [] x h = absurd h
-there_logged (y ∷ es) x (inl e) = subst (λ z. Logged z x) (sym (accesses_cons y es)) (logged_last (accesses_of es) y.access x e)
+there_logged (y ∷ es) x (inl e) = subst (λ z. Logged z x) (sym (accesses_cons y es)) (logged_back (accesses_of es) (y.access ∷ []) x (inl e))
 there_logged (y ∷ es) x (inr h) = subst (λ z. Logged z x) (sym (accesses_cons y es)) (logged_front (accesses_of es) (y.access ∷ []) x (there_logged es x h))
 
 pub keeps_noted :

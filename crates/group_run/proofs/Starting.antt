@@ -13,8 +13,10 @@ use Rattle.clmodel.specs.declared.action.Answer.{Answer}
 use Rattle.clmodel.specs.declared.access.Region.TheVariants as region
 use Rattle.clmodel.specs.declared.fault.Fault.{Fault}
 use Rattle.clmodel.proofs.Steps.{none_some, some_inj}
+use Rattle.clmodel.proofs.CellLaws.{cells_some, cells_none}
 use Rattle.shadow_list.specs.Log.{Log, fresh_log}
 use Rattle.objects.specs.Objects.{SpacesHold}
+use Rattle.objects.proofs.Memory.{local_at, local_past}
 use Rattle.group_run.specs.Fits.{Fits, AreStarted}
 use Rattle.joining.specs.Parts.{IsGrouped}
 use Rattle.joining.specs.Group.{Plan, IsGroup, Reached, Reported, IsRun, plan_of}
@@ -33,16 +35,6 @@ under : (a b c : ℕ) → a ≤ b → b < c → a < c
 under a b c h e = omega (arith, h, e)
 
 -- ---- the bytes
-
-cells_some : (bytes : List ℕ) (byte : ℕ) → cells_of (map Some bytes) byte ≡ slice_get bytes byte
-cells_some [] byte = refl
-cells_some (b ∷ bytes) zero = refl
-cells_some (b ∷ bytes) (suc byte) = cells_some bytes byte
-
-cells_none : (n byte : ℕ) → cells_of (replicate n None) byte ≡ None
-cells_none zero byte = refl
-cells_none (suc n) zero = refl
-cells_none (suc n) (suc byte) = cells_none n byte
 
 head_is : {A : Type 0} (x y : A) (xs ys : List A) → x ∷ xs ≡ y ∷ ys → x ≡ y
 head_is x y xs ys h = cc
@@ -67,16 +59,6 @@ past xs [] n h e = refl
 past [] (b ∷ bs) n h e = absurd (omega (arith, h))
 past (x ∷ xs) (b ∷ bs) zero h e = absurd (none_some x (sym e))
 past (x ∷ xs) (b ∷ bs) (suc n) h e = past xs bs n (omega (arith, h)) e
-
-local_at : (sizes : List ℕ) (n : ℕ) (x : List (Option ℕ)) → slice_get (map (λ size. replicate size None) sizes) n ≡ Some x → x ≡ replicate (slice_index sizes n) None
-local_at [] n x e = absurd (none_some x e)
-local_at (s ∷ sizes) zero x e = sym (some_inj (replicate s None) x e)
-local_at (s ∷ sizes) (suc n) x e = local_at sizes n x e
-
-local_past : (sizes : List ℕ) (n : ℕ) → ◌≡◌ {A = Option (List (Option ℕ))} (slice_get (map (λ size. replicate size None) sizes) n) None → slice_index sizes n ≡ 0
-local_past [] n e = refl
-local_past (s ∷ sizes) zero e = absurd (none_some (replicate s None) (sym e))
-local_past (s ∷ sizes) (suc n) e = local_past sizes n e
 
 many_filled : {G : Type 0} (bytes : G → List (Option ℕ)) (xs : List G) (bs : List (List ℕ)) → map bytes xs ≡ map (λ b. map Some b) bs → length xs ≡ length bs
 many_filled bytes xs bs h = sym (length-map xs bytes) ∙ ap length h ∙ length-map bs (λ b. map Some b)

@@ -24,8 +24,8 @@ use Rattle.clmodel.specs.declared.fault.Fault.TheVariants as fault
 use Rattle.clmodel.specs.declared.schedule.Event.{Event}
 use Rattle.clmodel.specs.declared.schedule.Event.TheVariants.{Item, Release}
 use Rattle.clmodel.proofs.CellLaws.{found_unset}
-use Rattle.clmodel.proofs.Ending.{sum_below_less, not_over}
-use Rattle.clmodel.proofs.Steps.{none_some, some_inj, if_true, if_false, made, region_for, item_at, release_at}
+use Rattle.clmodel.proofs.Ending.{sum_below_less, not_over, one_more, less_left}
+use Rattle.clmodel.proofs.Steps.{none_some, if_true, if_false, made, region_for, item_at, release_at, map_some, map_none}
 use Rattle.shadow_list.specs.Log.{Log, stamped, entry_of, hit, IsKept, IsNoted}
 use Rattle.shadow_list.specs.declared.log.Entry.{Entry}
 use Rattle.shadow_list.specs.declared.log.Hit.{Hit}
@@ -80,12 +80,6 @@ unset_item_turn l s leader item o element op first byte acts placed r h =
 
 -- ---- the count of events
 
-one_more : (answers : List Answer) (a : Answer) → length (answers ++ a ∷ []) ≡ length answers + 1
-one_more answers a = length-append answers (a ∷ [])
-
-fewer : (bound n m : ℕ) → n < bound → m ≡ n + 1 → bound - m < bound - n
-fewer bound n m h e = omega (arith, h, e)
-
 no_fewer : (bound n m : ℕ) → n ≤ m → bound - m ≤ bound - n
 no_fewer bound n m h = omega (arith, h)
 
@@ -108,7 +102,7 @@ counts_more p number events s n k e whole c b active each here =
     let left : group_left p c.bound n < group_left p c.bound s
     = sum_below_less (λ j. c.bound - length (n.answers (p.first + j))) (λ j. c.bound - length (s.answers (p.first + j))) p.count k b
     (λ j q. no_fewer c.bound (length (s.answers (p.first + j))) (length (n.answers (p.first + j))) (each j q))
-    (fewer c.bound (length (s.answers (p.first + k))) (length (n.answers (p.first + k))) less here) in
+    (less_left c.bound (length (s.answers (p.first + k))) (length (n.answers (p.first + k))) less here) in
     record {
       counted = omega (arith, c.counted, more);
       bound = c.bound;
@@ -334,14 +328,6 @@ place_read bytes {globals} {xs} {locals} {ys} o {element} {told} op is same here
     ∙ ap (λ z. first_byte (length (space_of bytes xs ys o)) z (size_of op)) same
     ∙ ap₂ (λ a b. first_byte (length (space_of bytes a b o)) element (size_of op)) here there
 
-nothing_mapped : {A B : Type 0} (f : A → B) (o : Option A) → option_map f o ≡ None → o ≡ None
-nothing_mapped f None h = refl
-nothing_mapped f (Some a) h = absurd (none_some (f a) (sym h))
-
-some_mapped : {A B : Type 0} (f : A → B) (o : Option A) (b : B) → option_map f o ≡ Some b → (a : A) × (o ≡ Some a) × (f a ≡ b)
-some_mapped f None b h = absurd (none_some b h)
-some_mapped f (Some a) b h = (a, refl, some_inj (f a) b h)
-
 module _
     {I G : Type 0} (acts : I → List Answer → Action) (bytes : G → List (Option ℕ)) (ro : Bool) (p : Plan) (items : List I) (number : ℕ) (globals : List G)
     (locals : List (List (Option ℕ))) (log : Log) (k : ℕ) (o : Object) (element : ℤ) (op : Operation) (inside : k < p.count) where
@@ -420,7 +406,7 @@ module _
         subst (λ z. IsMade p before (Fits acts bytes ro z (set items k j) (number + 1) globals2 locals2 log2) (p.first + k) (action.Access o element op) made_as.Done) (sym last)
         (λ events s f asked.
         let a = after events s f asked in
-        let quiet = nothing_mapped (λ hit. conflict_fault p.launch (conflict_of hit)) judged.0 (sym judged.2 ∙ none) in
+        let quiet = map_none (λ hit. conflict_fault p.launch (conflict_of hit)) judged.0 (sym judged.2 ∙ none) in
         (a.next, a.steps, a.fits, a.conflict ∙ ap (option_map conflict_of) quiet))
 
     conflict_made :
@@ -430,7 +416,7 @@ module _
         subst (λ z. IsMade p before (Fits acts bytes ro z (set items k j) (number + 1) globals2 locals2 log2) (p.first + k) (action.Access o element op) (made_as.Conflicts report)) (sym last)
         (λ events s f asked.
         let a = after events s f asked in
-        let found = some_mapped (λ hit. conflict_fault p.launch (conflict_of hit)) judged.0 report (sym judged.2 ∙ some) in
+        let found = map_some (λ hit. conflict_fault p.launch (conflict_of hit)) judged.0 report (sym judged.2 ∙ some) in
         (a.next, conflict_of found.0, a.steps, a.fits, a.conflict ∙ ap (option_map conflict_of) found.1, found.2))
 
     by_report :

@@ -17,10 +17,10 @@ use Rattle.clmodel.specs.declared.fault.Fault.{Fault}
 use Rattle.clmodel.specs.declared.fault.Fault.TheVariants as fault
 use Rattle.clmodel.specs.declared.schedule.Event.{Event}
 use Rattle.clmodel.specs.declared.schedule.Event.TheVariants.{Item, Release}
-use Rattle.clmodel.proofs.Steps.{none_some, some_inj, lowest_is_none, item_inverse, ReleaseStep, release_inverse, answers_other, same_action}
+use Rattle.clmodel.proofs.Steps.{none_some, some_inj, lowest_is_none, item_inverse, ReleaseStep, release_inverse, answers_other, same_action, found_first}
 use Rattle.clmodel.proofs.Ending.{step_less}
 use Rattle.joining.specs.Group.{Plan, IsGroup, going, turn_of, RunsIn, Reached, Reported, IsRun}
-use Rattle.joining.proofs.Grouped.{found_first}
+use Rattle.joining.proofs.GroupTurns.{gathered}
 use Rattle.group_run.specs.Loops.{Accesses, Steps, IsMade, AtOneStop, Gathers, IsBrief, IsAdvanced, IsItemRun, IsGathered}
 use Rattle.group_run.specs.declared.loops.ItemRun.{ItemRun}
 use Rattle.group_run.specs.declared.loops.ItemRun.TheVariants as item_step
@@ -60,10 +60,6 @@ stop_at p s k = stop_of (next_action p.launch s (p.first + k))
 straggles : Plan → State → ℕ → Bool
 straggles p s item = (group_of p.launch item == p.group) && not (both_stop (first_stop p s) (stop_of (next_action p.launch s item)))
 
-passed : (x y : Bool) → y ≡ true → (x && not y) ≡ false
-passed true y h = ap not h
-passed false y h = refl
-
 stays_behind : (x y : Bool) → x ≡ true → y ≡ false → (x && not y) ≡ true
 stays_behind x y h e = ap (λ z. z && not y) h ∙ ap not e
 
@@ -78,7 +74,7 @@ keeps_up p whole s k item gathered b l = at_group (group_of p.launch item == p.g
     at_group false q = ap (λ z. z && not (both_stop (first_stop p s) (stop_of (next_action p.launch s item)))) q
     at_group true q =
         let w : (j : ℕ) × (j < p.count) × (p.first + j ≡ item) = whole.listed item b (eqb-true (group_of p.launch item) p.group q) in
-        passed (group_of p.launch item == p.group) (both_stop (first_stop p s) (stop_of (next_action p.launch s item)))
+        gathered (group_of p.launch item == p.group) (both_stop (first_stop p s) (stop_of (next_action p.launch s item)))
         (subst (λ z. both_stop (first_stop p s) (stop_of (next_action p.launch s z)) ≡ true) w.2 (gathered w.0 (omega (arith, w.2, l))))
 
 pub straggler_at :

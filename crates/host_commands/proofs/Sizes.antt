@@ -1,18 +1,13 @@
 -- Sizes of an index space.
-use Rattle.std.proofs.Common.{◌≡◌, ℕ, zero, suc, ◌+◌, ◌*◌, ◌-◌, ◌^◌, ◌/◌, ◌%◌, ◌==◌, ◌≤◌, ◌<◌, min, Bool, true, false, not, ◌||◌, nat_lt, List, [], ◌∷◌, length, All, refl, ap, sym, ◌∙◌, arith}
+use Rattle.std.proofs.Common.{◌≡◌, ℕ, zero, suc, ◌+◌, ◌*◌, ◌-◌, ◌^◌, ◌/◌, ◌%◌, ◌==◌, ◌≤◌, ◌<◌, Bool, true, false, not, ◌||◌, nat_lt, List, [], ◌∷◌, length, All, refl, ap, sym, ◌∙◌, arith}
 use Rattle.std.specs.List.{list_any, zip}
 use Rattle.std.proofs.lemmas.Nat.{div-add-mod', mod-mul-add}
 use Rattle.std.proofs.lemmas.List.Elements.{All-nil, All-cons}
-use Rattle.std.proofs.lemmas.Bool.{eqb-true}
+use Rattle.std.proofs.lemmas.Bool.{eqb-true, or_parts}
 use Rattle.std.proofs.lemmas.Bool.Decides.{nat_tests}
 use Rattle.clmodel.specs.Setup.{product, item_count, group_items}
 use Rattle.clmodel.specs.declared.setup.Range.{Range}
 use Rattle.host_commands.specs.Ranges.{is_bad_dimension, IsLaunchable}
-
-neither : (a b : Bool) → (a || b) ≡ false → (a ≡ false) × (b ≡ false)
-neither false false h = (refl, refl)
-neither false true h = cc
-neither true b h = cc
 
 so : (a : Bool) → not a ≡ false → a ≡ true
 so true h = refl
@@ -46,9 +41,9 @@ positive_product [] [] l h = omega arith
 positive_product [] (y ∷ ys) l h = absurd (omega arith)
 positive_product (x ∷ xs) [] l h = absurd (omega arith)
 positive_product (x ∷ xs) (y ∷ ys) l h =
-    let both = neither ((x == 0) || (y == 0) || not (x % y == 0)) (list_any (λ p. (p.0 == 0) || (p.1 == 0) || not (p.0 % p.1 == 0)) (zip xs ys)) h in
-    let first = neither ((x == 0) || (y == 0)) (not (x % y == 0)) both.0 in
-    let second = neither (x == 0) (y == 0) first.0 in
+    let both = or_parts ((x == 0) || (y == 0) || not (x % y == 0)) (list_any (λ p. (p.0 == 0) || (p.1 == 0) || not (p.0 % p.1 == 0)) (zip xs ys)) h in
+    let first = or_parts ((x == 0) || (y == 0)) (not (x % y == 0)) both.0 in
+    let second = or_parts (x == 0) (y == 0) first.0 in
     let l' : length ys ≡ length xs = omega arith in
     positive_times y (product ys) (positive y second.1) (positive_product xs ys l' both.1)
 
@@ -58,17 +53,17 @@ all_positive [] [] l h = All-nil (λ size. 0 < size)
 all_positive [] (y ∷ ys) l h = absurd (omega arith)
 all_positive (x ∷ xs) [] l h = absurd (omega arith)
 all_positive (x ∷ xs) (y ∷ ys) l h =
-    let both = neither ((x == 0) || (y == 0) || not (x % y == 0)) (list_any (λ p. (p.0 == 0) || (p.1 == 0) || not (p.0 % p.1 == 0)) (zip xs ys)) h in
-    let first = neither ((x == 0) || (y == 0)) (not (x % y == 0)) both.0 in
-    let second = neither (x == 0) (y == 0) first.0 in
+    let both = or_parts ((x == 0) || (y == 0) || not (x % y == 0)) (list_any (λ p. (p.0 == 0) || (p.1 == 0) || not (p.0 % p.1 == 0)) (zip xs ys)) h in
+    let first = or_parts ((x == 0) || (y == 0)) (not (x % y == 0)) both.0 in
+    let second = or_parts (x == 0) (y == 0) first.0 in
     let l' : length ys ≡ length xs = omega arith in
     All-cons (λ size. 0 < size) y ys (positive y second.1) (all_positive xs ys l' both.1)
 
 of_length : (range : Range) → is_bad_dimension range ≡ false → length range.local ≡ length range.global
 of_length range h =
-    let a = neither ((length range.global == 0) || nat_lt 3 (length range.global) || not (length range.local == length range.global) || not (length range.offset == length range.global)) (list_any (λ p. nat_lt (2 ^ 64 - 1) (p.0 + p.1)) (zip range.offset range.global)) h in
-    let b = neither ((length range.global == 0) || nat_lt 3 (length range.global) || not (length range.local == length range.global)) (not (length range.offset == length range.global)) a.0 in
-    let c = neither ((length range.global == 0) || nat_lt 3 (length range.global)) (not (length range.local == length range.global)) b.0 in
+    let a = or_parts ((length range.global == 0) || nat_lt 3 (length range.global) || not (length range.local == length range.global) || not (length range.offset == length range.global)) (list_any (λ p. nat_lt (2 ^ 64 - 1) (p.0 + p.1)) (zip range.offset range.global)) h in
+    let b = or_parts ((length range.global == 0) || nat_lt 3 (length range.global) || not (length range.local == length range.global)) (not (length range.offset == length range.global)) a.0 in
+    let c = or_parts ((length range.global == 0) || nat_lt 3 (length range.global)) (not (length range.local == length range.global)) b.0 in
     eqb-true (length range.local) (length range.global) (so (length range.local == length range.global) c.1)
 
 whole_product : (xs ys : List ℕ) → length ys ≡ length xs
@@ -77,9 +72,9 @@ whole_product [] [] l h = refl
 whole_product [] (y ∷ ys) l h = absurd (omega arith)
 whole_product (x ∷ xs) [] l h = absurd (omega arith)
 whole_product (x ∷ xs) (y ∷ ys) l h =
-    let both = neither ((x == 0) || (y == 0) || not (x % y == 0)) (list_any (λ p. (p.0 == 0) || (p.1 == 0) || not (p.0 % p.1 == 0)) (zip xs ys)) h in
-    let first = neither ((x == 0) || (y == 0)) (not (x % y == 0)) both.0 in
-    let second = neither (x == 0) (y == 0) first.0 in
+    let both = or_parts ((x == 0) || (y == 0) || not (x % y == 0)) (list_any (λ p. (p.0 == 0) || (p.1 == 0) || not (p.0 % p.1 == 0)) (zip xs ys)) h in
+    let first = or_parts ((x == 0) || (y == 0)) (not (x % y == 0)) both.0 in
+    let second = or_parts (x == 0) (y == 0) first.0 in
     let l' : length ys ≡ length xs = omega arith in
     whole_times x y (product xs) (product ys) (positive y second.1) (positive_product xs ys l' both.1) (eqb-true (x % y) 0 (so (x % y == 0) first.1))
     (whole_product xs ys l' both.1)
@@ -95,7 +90,7 @@ pub record Sizes (range : Range) : Type 0 where
 pub sizes : (range : Range) → IsLaunchable range → Sizes range
 sizes range h =
     let l = of_length range h.dimensioned in
-    let g = neither (list_any (λ p. (p.0 == 0) || (p.1 == 0) || not (p.0 % p.1 == 0)) (zip range.global range.local)) (nat_lt 256 (group_items range)) h.grouped in
+    let g = or_parts (list_any (λ p. (p.0 == 0) || (p.1 == 0) || not (p.0 % p.1 == 0)) (zip range.global range.local)) (nat_lt 256 (group_items range)) h.grouped in
     record {
       few = at_most 65536 (item_count range) h.few;
       positive = positive_product range.global range.local l g.0;

@@ -1,16 +1,10 @@
 -- Small lemmas.
-use Rattle.std.proofs.Common.{◌≡◌, ℕ, ◌+◌, ◌<◌, ◌≤◌, ◌==◌, false, Option, None, Some, refl, sym, ap, ap₂, ◌∙◌, ◌-◌, ℤ, nat_lt, lt-ltb, arith}
+use Rattle.std.proofs.Common.{◌≡◌, ℕ, ◌+◌, ◌<◌, ◌≤◌, ◌==◌, false, Option, None, Some, sym, ap, ap₂, ◌∙◌, ◌-◌, ℤ, nat_lt, lt-ltb}
 use Rattle.std.proofs.lemmas.Bool.{ne_eqb}
 use Rattle.std.specs.Option.{option_map}
-use Rattle.clmodel.specs.Cells.{Cells, Outcome, covers, written, byte_of, found, size_of, answer_to, effect, perform}
-use Rattle.clmodel.specs.Launch.{Launch, same_region, clash, group_of, kind_of, access_in}
-use Rattle.clmodel.specs.Run.{Memory, State, with_cells, changed, access_of, by_region, accessed, access_at, item_step, step, next_action, byte_at, first_item, straggler, stop_of}
-use Rattle.clmodel.specs.Law.{Makes, Reports, Finishes, unset_turn, access_turn, divergence, item_turn}
-use Rattle.clmodel.specs.declared.fault.Fault.{Fault}
-use Rattle.clmodel.specs.declared.access.AccessKind.{AccessKind}
-use Rattle.clmodel.specs.declared.action.Action.{Action}
-use Rattle.clmodel.specs.declared.action.Stop.{Stop}
-use Rattle.clmodel.specs.declared.action.Stop.TheVariants.{At, Ended}
+use Rattle.clmodel.specs.Cells.{Cells, Outcome, found, size_of, answer_to, effect, perform}
+use Rattle.clmodel.specs.Launch.{Launch, same_region, clash, group_of, access_in}
+use Rattle.clmodel.specs.Run.{Memory, State, with_cells, changed, access_of, by_region, accessed, access_at, item_step, step, next_action, byte_at, first_item, straggler}
 use Rattle.clmodel.specs.declared.action.Action.TheVariants as action
 use Rattle.clmodel.specs.declared.schedule.Event.{Event}
 use Rattle.clmodel.specs.declared.schedule.Event.TheVariants.{Item, Release}
@@ -22,7 +16,7 @@ use Rattle.clmodel.specs.declared.access.Operation.{Operation}
 use Rattle.clmodel.specs.declared.access.Region.{Region}
 use Rattle.clmodel.proofs.CellLaws as laws
 use Rattle.clmodel.proofs.CellLaws.{covers_parts}
-use Rattle.clmodel.proofs.Steps.{none_some, if_true, if_false, made, region_for, some_inj, first_item_in, same_straggler}
+use Rattle.clmodel.proofs.Steps.{none_some, if_true, if_false, made, region_for, first_item_in, same_straggler}
 use Rattle.clmodel.proofs.Swaps.{same_region_self}
 use Rattle.clmodel.proofs.Conflicts.{same_class, class_of, class_of-number}
 
@@ -31,10 +25,6 @@ some_none c h = none_some c (sym h)
 
 pub no_order : (c d : Class) → clash (kind.Update c) (kind.Update d) ≡ None → c ≡ d
 no_order c d h = sym (class_of-number c) ∙ ap class_of (same_class c d h) ∙ class_of-number d
-
-pub written_out : (c : Cells) (first count v byte : ℕ) → covers first count byte ≡ false → written c first count v byte ≡ c byte
-unfolding written
-written_out c first count v byte h = if_false (covers first count byte) (Some (byte_of (byte - first) v)) (c byte) h
 
 pub with_here : (m : Memory) (p : Region) (c : Cells) → with_cells m p c p ≡ c
 with_here m p c = if_true (same_region p p) c (m p) (same_region_self p)
@@ -57,10 +47,6 @@ entry_same l b s i p first op g h =
 abbrev pub made_at : Launch → State → ℕ → Object → Operation → ℕ → ℕ → State
 made_at l s i object op first x = made l s i (region_for l i object) first op x
 
-pub option_map_some : {A B : Type 0} (f : A → B) (o : Option A) (t : B) → option_map f o ≡ Some t → (a : A) × (o ≡ Some a) × (f a ≡ t)
-option_map_some f None t h = absurd (none_some t h)
-option_map_some f (Some a) t h = (a, refl, some_inj (f a) t h)
-
 abbrev pub outcome_of : Operation → ℕ → Cells → ℕ → Outcome
 outcome_of op x cells first = record { answer = answer_to op x; cells = effect op x cells first }
 
@@ -81,39 +67,3 @@ straggler_same l b s g first leads same =
 abbrev pub event_group : Launch → Event → ℕ
 event_group l (Item i) = group_of l i
 event_group l (Release g) = g
-
-pub makes_not_finishes : (e : Event) → Makes e ≡ Finishes → ⊥
-makes_not_finishes e h = grind arith
-
-pub reports_not_makes : (f : Fault) (e : Event) → Reports f ≡ Makes e → ⊥
-reports_not_makes f e h = grind arith
-
-pub reports_not_finishes : (f : Fault) → Reports f ≡ Finishes → ⊥
-reports_not_finishes f h = grind arith
-
-pub finishes_not_makes : (e : Event) → Finishes ≡ Makes e → ⊥
-finishes_not_makes e h = grind arith
-
-pub finishes_not_reports : (f : Fault) → Finishes ≡ Reports f → ⊥
-finishes_not_reports f h = grind arith
-
-pub same_event : (e f : Event) → Makes e ≡ Makes f → e ≡ f
-same_event e f h = grind arith
-
-unset_not_finishes : (l : Launch) (i : ℕ) (k : AccessKind) (r : Region) (o : Option ℕ) → unset_turn l i k r o ≡ Finishes → ⊥
-unset_not_finishes l i k r None h = makes_not_finishes (Item i) h
-unset_not_finishes l i k r (Some byte) h = reports_not_finishes _ h
-
-access_not_finishes : (l : Launch) (s : State) (i : ℕ) (object : Object) (element : ℤ) (op : Operation) (o : Option ℕ) → access_turn l s i object element op o ≡ Finishes → ⊥
-access_not_finishes l s i object element op None h = reports_not_finishes _ h
-access_not_finishes l s i object element op (Some first) h = unset_not_finishes l i (kind_of op) (region_for l i object) _ h
-
-divergence_not_finishes : (first : ℕ) (o : Option Stop) (i : ℕ) (x : Stop) → divergence first o i x ≡ Finishes → ⊥
-divergence_not_finishes first None i x h = makes_not_finishes (Item i) h
-divergence_not_finishes first (Some a) i x h = reports_not_finishes _ h
-
-pub item_not_finishes : (l : Launch) (s : State) (first i : ℕ) (a : Action) → item_turn l s first i a ≡ Finishes → ⊥
-item_not_finishes l s first i (action.Access object element op) h = access_not_finishes l s i object element op (byte_at l i object element op) h
-item_not_finishes l s first i (action.Barrier x f) h = divergence_not_finishes first (stop_of (next_action l s first)) i (At x) h
-item_not_finishes l s first i action.End h = divergence_not_finishes first (stop_of (next_action l s first)) i Ended h
-item_not_finishes l s first i (action.Fault c) h = reports_not_finishes _ h

@@ -12,27 +12,19 @@ use Rattle.clmodel.specs.declared.access.AccessKind.TheVariants as kind
 use Rattle.clmodel.specs.declared.access.Region.{Region}
 use Rattle.clmodel.specs.declared.access.Clash.{Clash}
 use Rattle.clmodel.specs.declared.access.Conflict as conflict_type
-use Rattle.clmodel.proofs.Steps.{or_else_none, none_some}
+use Rattle.clmodel.proofs.Steps.{or_else_none, none_some, map_none, or_else_nothing, or_else_assoc}
 use Rattle.clmodel.proofs.Swaps.{same_region-true}
-use Rattle.clmodel.proofs.Conflicts.{no_clash, map_none, no_newest}
+use Rattle.clmodel.proofs.Conflicts.{no_clash, no_newest}
 use Rattle.joining.specs.Memory.{at_byte}
 use Rattle.joining.specs.Crossings.{crossing}
-
-or_none : {A : Type 0} (o : Option A) → or_else o None ≡ o
-or_none None = refl
-or_none (Some a) = refl
-
-or_assoc : {A : Type 0} (o p q : Option A) → or_else (or_else o p) q ≡ or_else o (or_else p q)
-or_assoc None p q = refl
-or_assoc (Some a) p q = refl
 
 -- on one byte the conflicts with the lower groups come first
 pub on_append : (judge : Access → Access → ℕ → Option Clash) (x : Access) (byte : ℕ) (own lower : List Access)
     → conflict_on judge x byte (own ++ lower) ≡ or_else (conflict_on judge x byte lower) (conflict_on judge x byte own)
-on_append judge x byte [] lower = sym (or_none (conflict_on judge x byte lower))
+on_append judge x byte [] lower = sym (or_else_nothing (conflict_on judge x byte lower))
 on_append judge x byte (z ∷ own) lower =
     let here : Option conflict_type.Conflict = option_map (λ clash. record { earlier = z; later = x; byte = byte; clash = clash }) (judge z x byte) in
-    ap (λ o. or_else o here) (on_append judge x byte own lower) ∙ or_assoc (conflict_on judge x byte lower) (conflict_on judge x byte own) here
+    ap (λ o. or_else o here) (on_append judge x byte own lower) ∙ or_else_assoc (conflict_on judge x byte lower) (conflict_on judge x byte own) here
 
 from_own : (judge : Access → Access → ℕ → Option Clash) (x : Access) (own lower : List Access) (byte count : ℕ) → conflict_from judge x lower byte count ≡ None
     → conflict_from judge x (own ++ lower) byte count ≡ conflict_from judge x own byte count

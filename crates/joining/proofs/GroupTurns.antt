@@ -1,6 +1,6 @@
 -- The turns of one group: it does the same in a launch where the groups below have ended.
 use Rattle.std.proofs.Common.{◌≡◌, ℕ, zero, suc, ◌/◌, ◌<◌, ◌≤◌, ◌⊎◌, Bool, true, false, not, ◌&&◌, ◌==◌, if◌then◌else◌, Option, None, Some, ℤ, refl, sym, ap, ◌∙◌, subst, inl, inr, arith, eq-eqb, div-mul-le_self, le_trans}
-use Rattle.std.proofs.lemmas.Bool.{false≢true, not-false, cases_lt, and_parts, eqb-true}
+use Rattle.std.proofs.lemmas.Bool.{false≢true, not-false, cases_lt, and_parts, eqb-true, not-true}
 use Rattle.std.proofs.lemmas.Nat.{le-div}
 use Rattle.std.proofs.Math.Nat.{div-zero}
 use Rattle.clmodel.specs.Cells.{size_of, reads, lowest_unset}
@@ -18,8 +18,9 @@ use Rattle.clmodel.specs.declared.action.Stop.{Stop}
 use Rattle.clmodel.specs.declared.action.Stop.TheVariants.{At, Ended}
 use Rattle.clmodel.specs.declared.schedule.Event.{Event}
 use Rattle.clmodel.specs.declared.schedule.Event.TheVariants.{Item, Release}
-use Rattle.joining.proofs.Base.{event_group, makes_not_finishes, reports_not_makes, reports_not_finishes, finishes_not_makes, same_event, item_not_finishes}
+use Rattle.joining.proofs.Base.{event_group}
 use Rattle.clmodel.proofs.Steps.{lowest_some, lowest_none, lowest_is_none, lowest_least, first_item_in, same_straggler, region_for}
+use Rattle.clmodel.proofs.Turns.{makes_finishes, reports_makes, finishes_makes, makes_inj, item_goes, quiet_finishes}
 use Rattle.joining.specs.Group.{Plan, IsGroup, going, turn_of}
 
 -- ---- where items have ended
@@ -45,7 +46,7 @@ no_straggler : (x y : Bool) → x ≡ true → (x && not y) ≡ false → y ≡ 
 no_straggler true y e h = not-false y h
 no_straggler false y e h = absurd (false≢true e)
 
-gathered : (x y : Bool) → y ≡ true → (x && not y) ≡ false
+pub gathered : (x y : Bool) → y ≡ true → (x && not y) ≡ false
 gathered true y h = ap not h
 gathered false y h = refl
 
@@ -83,10 +84,6 @@ goes_on p whole s item b mine goes =
     ap (λ g. group_turn p.launch s g (first_item p.launch g)) mine
     ∙ ap (group_turn p.launch s p.group) whole.leads
     ∙ straggles p s item b mine goes (straggler p.launch s p.group p.first) refl
-
-pub not_ended : (x : Bool) → not x ≡ true → x ≡ false
-not_ended true h = absurd (false≢true h)
-not_ended false h = refl
 
 -- a group whose items have all ended is over
 pub group_is_over :
@@ -174,8 +171,8 @@ unended_at p whole s below j inside mine goes (Some i) is =
     let q : (i < p.launch.items) × (not (has_ended (next_action p.launch s i)) ≡ true) = lowest_some (λ item. not (has_ended (next_action p.launch s item))) p.launch.items i is in
     let order : i ≤ j = not_below j i (λ b. false≢true (sym (lowest_least (λ item. not (has_ended (next_action p.launch s item))) p.launch.items i is j b) ∙ ap not goes)) in
     let least : group_of p.launch i ≤ p.group = subst (λ z. group_of p.launch i ≤ z) mine (group_rises p.launch i j order) in
-    let high : p.group ≤ group_of p.launch i = not_below (group_of p.launch i) p.group (λ b. false≢true (sym (not_ended _ q.1) ∙ below i q.0 b)) in
-    goes_on p whole s i q.0 (omega (arith, least, high)) (not_ended (has_ended (next_action p.launch s i)) q.1)
+    let high : p.group ≤ group_of p.launch i = not_below (group_of p.launch i) p.group (λ b. false≢true (sym (not-true _ q.1) ∙ below i q.0 b)) in
+    goes_on p whole s i q.0 (omega (arith, least, high)) (not-true (has_ended (next_action p.launch s i)) q.1)
 
 -- the turn of the launch is that of the group, where the lower groups have ended
 by_item : (p : Plan) → IsGroup p → (b s : State) → Same p.launch p.group b s → EndedBelow p.launch p.group s
@@ -194,7 +191,7 @@ by_item p whole b s k below (Some j) is t h ne =
     = lowest_some (λ item. (group_of p.launch item == p.group) && not (has_ended (next_action p.launch b item))) p.launch.items j is in
     let r : ((group_of p.launch j == p.group) ≡ true) × (not (has_ended (next_action p.launch b j)) ≡ true) = and_parts (group_of p.launch j == p.group) _ q.1 in
     let mine : group_of p.launch j ≡ p.group = eqb-true (group_of p.launch j) p.group r.0 in
-    unended_at p whole s below j q.0 mine (ap has_ended (same_acts p.launch p.group b s k j mine) ∙ not_ended (has_ended (next_action p.launch b j)) r.1)
+    unended_at p whole s below j q.0 mine (ap has_ended (same_acts p.launch p.group b s k j mine) ∙ not-true (has_ended (next_action p.launch b j)) r.1)
     (lowest (λ item. not (has_ended (next_action p.launch s item))) p.launch.items) refl
     ∙ goes_same p whole b s k ∙ h
 
@@ -213,27 +210,27 @@ turn_over p whole b s k below newest t h ne =
 -- ---- an event that a group's turn makes is the group's
 
 unset_own : (l : Launch) (item : ℕ) (kind : AccessKind) (r : Region) (e : Event) (o : Option ℕ) → unset_turn l item kind r o ≡ Makes e → event_group l e ≡ group_of l item
-unset_own l item kind r e (Some byte) h = absurd (reports_not_makes _ e h)
-unset_own l item kind r e None h = ap (event_group l) (sym (same_event (Item item) e h))
+unset_own l item kind r e (Some byte) h = absurd (reports_makes _ e h)
+unset_own l item kind r e None h = ap (event_group l) (sym (makes_inj (Item item) e h))
 
 access_own : (l : Launch) (s : State) (item : ℕ) (object : Object) (element : ℤ) (op : Operation) (e : Event) (o : Option ℕ)
     → access_turn l s item object element op o ≡ Makes e → event_group l e ≡ group_of l item
-access_own l s item object element op e None h = absurd (reports_not_makes _ e h)
+access_own l s item object element op e None h = absurd (reports_makes _ e h)
 access_own l s item object element op e (Some first) h = unset_own l item (kind_of op) (region_for l item object) e _ h
 
 divergence_own : (l : Launch) (first item : ℕ) (stop : Stop) (e : Event) (o : Option Stop) → divergence first o item stop ≡ Makes e → event_group l e ≡ group_of l item
-divergence_own l first item stop e (Some a) h = absurd (reports_not_makes _ e h)
-divergence_own l first item stop e None h = ap (event_group l) (sym (same_event (Item item) e h))
+divergence_own l first item stop e (Some a) h = absurd (reports_makes _ e h)
+divergence_own l first item stop e None h = ap (event_group l) (sym (makes_inj (Item item) e h))
 
 item_own : (l : Launch) (s : State) (first item : ℕ) (e : Event) (a : Action) → item_turn l s first item a ≡ Makes e → event_group l e ≡ group_of l item
 item_own l s first item e (action.Access object element op) h = access_own l s item object element op e (byte_at l item object element op) h
 item_own l s first item e (action.Barrier i f) h = divergence_own l first item (At i) e (stop_of (next_action l s first)) h
 item_own l s first item e action.End h = divergence_own l first item Ended e (stop_of (next_action l s first)) h
-item_own l s first item e (action.Fault c) h = absurd (reports_not_makes _ e h)
+item_own l s first item e (action.Fault c) h = absurd (reports_makes _ e h)
 
 release_own : (l : Launch) (g : ℕ) (e : Event) (b : Bool) → (if b then Finishes else Makes (Release g)) ≡ Makes e → event_group l e ≡ g
-release_own l g e true h = absurd (finishes_not_makes e h)
-release_own l g e false h = ap (event_group l) (sym (same_event (Release g) e h))
+release_own l g e true h = absurd (finishes_makes e h)
+release_own l g e false h = ap (event_group l) (sym (makes_inj (Release g) e h))
 
 going_own : (p : Plan) (s : State) (e : Event) (o : Option ℕ) → straggler p.launch s p.group p.first ≡ o → going p s o ≡ Makes e → event_group p.launch e ≡ p.group
 going_own p s e None is h = release_own p.launch p.group e (has_ended (next_action p.launch s p.first)) h
@@ -244,7 +241,7 @@ going_own p s e (Some item) is h =
 
 conflict_own : (l : Launch) (g : ℕ) (e : Event) (o : Option conflict_type.Conflict) (t : Turn) → (t ≡ Makes e → event_group l e ≡ g) → conflict_turn l o t ≡ Makes e → (o ≡ None) × (event_group l e ≡ g)
 conflict_own l g e None t f h = (refl, f h)
-conflict_own l g e (Some c) t f h = absurd (reports_not_makes _ e h)
+conflict_own l g e (Some c) t f h = absurd (reports_makes _ e h)
 
 pub event_own : (p : Plan) (s : State) (e : Event) → turn_of p s ≡ Makes e → (newest_conflict p.launch s.log ≡ None) × (event_group p.launch e ≡ p.group)
 event_own p s e h = conflict_own p.launch p.group e (newest_conflict p.launch s.log) _ (going_own p s e (straggler p.launch s p.group p.first) refl) h
@@ -259,17 +256,13 @@ finish_going p whole s None is h i inside mine =
   where
     if_finishes : (b : Bool) → (if b then Finishes else Makes (Release p.group)) ≡ Finishes → b ≡ true
     if_finishes true h = refl
-    if_finishes false h = absurd (makes_not_finishes (Release p.group) h)
-finish_going p whole s (Some item) is h i inside mine = absurd (item_not_finishes p.launch s p.first item (next_action p.launch s item) h)
-
-finish_conflict : (l : Launch) (o : Option conflict_type.Conflict) (t : Turn) → conflict_turn l o t ≡ Finishes → (o ≡ None) × (t ≡ Finishes)
-finish_conflict l None t h = (refl, h)
-finish_conflict l (Some c) t h = absurd (reports_not_finishes _ h)
+    if_finishes false h = absurd (makes_finishes (Release p.group) h)
+finish_going p whole s (Some item) is h i inside mine = absurd (item_goes p.launch s p.first item (next_action p.launch s item) h)
 
 pub finish_parts : (p : Plan) → IsGroup p → (s : State) → turn_of p s ≡ Finishes
     → (newest_conflict p.launch s.log ≡ None) × ((i : ℕ) → i < p.launch.items → group_of p.launch i ≡ p.group → has_ended (next_action p.launch s i) ≡ true)
 finish_parts p whole s h =
-    let q : (newest_conflict p.launch s.log ≡ None) × (going p s (straggler p.launch s p.group p.first) ≡ Finishes) = finish_conflict p.launch (newest_conflict p.launch s.log) _ h in
+    let q : (newest_conflict p.launch s.log ≡ None) × (going p s (straggler p.launch s p.group p.first) ≡ Finishes) = quiet_finishes p.launch (newest_conflict p.launch s.log) _ h in
     (q.0, finish_going p whole s (straggler p.launch s p.group p.first) refl q.1)
 
 none_unended : (l : Launch) (s : State) → ((i : ℕ) → i < l.items → has_ended (next_action l s i) ≡ true) → (o : Option ℕ) → lowest (λ item. not (has_ended (next_action l s item))) l.items ≡ o
@@ -277,7 +270,7 @@ none_unended : (l : Launch) (s : State) → ((i : ℕ) → i < l.items → has_e
 none_unended l s all None is = refl
 none_unended l s all (Some i) is =
     let q : (i < l.items) × (not (has_ended (next_action l s i)) ≡ true) = lowest_some (λ item. not (has_ended (next_action l s item))) l.items i is in
-    absurd (false≢true (sym (not_ended _ q.1) ∙ all i q.0))
+    absurd (false≢true (sym (not-true _ q.1) ∙ all i q.0))
 
 pub all_finish : (l : Launch) (s : State) → newest_conflict l s.log ≡ None → ((i : ℕ) → i < l.items → has_ended (next_action l s i) ≡ true) → turn l s ≡ Finishes
 unfolding turn

@@ -1,24 +1,11 @@
 -- The groups of a launch of whole groups.
-use Rattle.std.proofs.Common.{◌≡◌, ℕ, suc, ◌+◌, ◌*◌, ◌/◌, ◌%◌, ◌<◌, ◌≤◌, ◌⊎◌, Bool, true, false, ◌==◌, Some, sym, ap, ◌∙◌, subst, inl, inr, arith, eq-eqb, ne_eqb}
+use Rattle.std.proofs.Common.{◌≡◌, ℕ, suc, ◌+◌, ◌*◌, ◌/◌, ◌%◌, ◌<◌, ◌≤◌, ◌==◌, sym, ap, ◌∙◌, subst, arith, eq-eqb, ne_eqb}
 use Rattle.std.proofs.Math.Nat.{mod-lt, suc-mul, lt_of_mul-lt-mul_right, mul-le-mul_right}
 use Rattle.std.proofs.lemmas.Nat.{div-add-mod', div-mul-add}
-use Rattle.std.proofs.lemmas.Bool.{false≢true, cases_lt}
 use Rattle.clmodel.specs.Launch.{Launch, group_of}
-use Rattle.clmodel.specs.Run.{lowest}
-use Rattle.clmodel.proofs.Steps.{lowest_some, lowest_least, lowest_finds}
+use Rattle.clmodel.proofs.Steps.{found_first}
 use Rattle.joining.specs.Group.{IsGroup, plan_of}
 use Rattle.joining.specs.Parts.{IsGrouped}
-
-pub found_first : (q : ℕ → Bool) (n k : ℕ) → k < n → q k ≡ true → ((j : ℕ) → j < k → q j ≡ false) → lowest q n ≡ Some k
-found_first q n k b t below = at (lowest_finds q n k b t)
-  where
-    at : (f : (j : ℕ) × (lowest q n ≡ Some j)) → lowest q n ≡ Some k
-    at f = go (cases_lt f.0 k) (cases_lt k f.0)
-      where
-        go : (f.0 < k) ⊎ (k ≤ f.0) → (k < f.0) ⊎ (f.0 ≤ k) → lowest q n ≡ Some k
-        go (inl l) o = absurd (false≢true (sym (below f.0 l) ∙ (lowest_some q n f.0 f.1).1))
-        go (inr l) (inl m) = absurd (false≢true (sym (lowest_least q n f.0 f.1 k m) ∙ t))
-        go (inr l) (inr m) = let e : f.0 ≡ k = omega (arith, l, m) in f.1 ∙ ap Some e
 
 -- sums of numbers that are products elsewhere
 no_rest : (a r n : ℕ) → a + r ≡ n → r ≡ 0 → a ≡ n

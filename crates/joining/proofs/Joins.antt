@@ -1,6 +1,6 @@
 -- Groups run apart and joined in order come to the canonical run of the launch.
 use Rattle.std.proofs.Common.{◌≡◌, ℕ, suc, ◌+◌, ◌-◌, ◌*◌, ◌/◌, ◌%◌, ◌<◌, ◌≤◌, Bool, true, false, Option, Some, None, refl, sym, ap, ap₂, ◌∙◌, subst, arith, ◌⊎◌, ⊎_elim, inl, inr, ◌&&◌, ◌||◌, List, [], ◌∷◌, ◌++◌, length}
-use Rattle.std.proofs.lemmas.Bool.{and_parts, and_from, true≢false, cases_eq, cond-true, cond-false}
+use Rattle.std.proofs.lemmas.Bool.{and_parts, and_from, true≢false, cases_eq, cond-true, cond-false, or_parts}
 use Rattle.std.proofs.Math.Path.{fun_ext}
 use Rattle.clmodel.specs.Cells.{Cells, number, byte_count, byte_of}
 use Rattle.clmodel.specs.Launch.{Launch, same_region, group_of, clash}
@@ -14,18 +14,20 @@ use Rattle.clmodel.specs.declared.access.Region.{Region}
 use Rattle.clmodel.specs.declared.fault.Fault.{Fault}
 use Rattle.clmodel.proofs.CellLaws.{covers_parts, covers_from}
 use Rattle.clmodel.proofs.Steps.{none_some}
+use Rattle.clmodel.proofs.Turns.{reports_finishes}
+use Rattle.clmodel.proofs.Logs.{logged_append, logged_front, logged_back}
 use Rattle.std.specs.Option.{option_map}
 use Rattle.joining.specs.Group.{IsGroup, turn_of, plan_of}
 use Rattle.joining.specs.Parts.{Part, ending, IsPart, AreParts, IsGrouped}
 use Rattle.joining.specs.Memory.{joined_number, writes, class_of, at_byte, wrote, class_at, joined_numbers, joined_update, joined_memory}
 use Rattle.joining.specs.Crossings.{crossing, up_to}
 use Rattle.joining.specs.Join.{Joined, nothing_yet, join_at, join, unless, join_all, Answers, JoinIsCanonical}
-use Rattle.joining.proofs.Base.{some_none, no_order, finishes_not_reports}
+use Rattle.joining.proofs.Base.{some_none, no_order}
 use Rattle.joining.proofs.Grouped.{group_is}
 use Rattle.joining.proofs.GroupTurns.{finish_parts, all_finish, newest_reports}
 use Rattle.joining.proofs.Words.{Updated, folded, joined_folds, updated_number, updated_byte, updated_old, updated_further}
 use Rattle.joining.proofs.Crossings.{BothStores, no_cross, meet}
-use Rattle.joining.proofs.Over.{OnlyStores, update_not_store, wrote_some, wrote_from, wrote_append, logged_append, logged_own, logged_lower, or_false, OnlyUpdates, some_operand, Ready, Over, ready_start, over_start}
+use Rattle.joining.proofs.Over.{OnlyStores, update_not_store, wrote_some, wrote_from, wrote_append, OnlyUpdates, some_operand, Ready, Over, ready_start, over_start}
 use Rattle.joining.proofs.Ride.{Through, Crossed, ride, newest_here, turn_here}
 
 -- canonical runs one after the other
@@ -69,7 +71,7 @@ ready_next l g a b u whole ready over none fin =
       global = λ h k. over.global_others h (next_not g h k) ∙ ready.global h (next_least g h k);
       set = λ h k o byte. over.set_later h (next_above g h k) o byte ∙ ready.set h (next_least g h k) o byte;
       base = λ p byte h.
-          let r = or_false (wrote b.log p byte) (wrote a.log p byte) (sym (wrote_append b.log a.log p byte) ∙ ap (λ z. wrote z p byte) (sym over.log) ∙ h) in
+          let r = or_parts (wrote b.log p byte) (wrote a.log p byte) (sym (wrote_append b.log a.log p byte) ∙ ap (λ z. wrote z p byte) (sym over.log) ∙ h) in
           over.unchanged p byte r.0 ∙ ready.base p byte r.1;
       lower = λ x h. ⊎_elim
           (λ k. (here_below g (group_of l x.item) (over.own x k).0, (over.own x k).1))
@@ -78,8 +80,8 @@ ready_next l g a b u whole ready over none fin =
       newest = newest_here l g a b u ready over none ∙ done.0;
       folds = λ c p n only.
           let only2 : OnlyUpdates c (b.log ++ a.log) p (n * 4) = subst (λ z. OnlyUpdates c z p (n * 4)) over.log only in
-          let f = over.folds c p n (λ x h. only2 x (logged_own b.log a.log x h)) in
-          let r = ready.folds c p n (λ x h. only2 x (logged_lower b.log a.log x h)) in (
+          let f = over.folds c p n (λ x h. only2 x (logged_front b.log a.log x h)) in
+          let r = ready.folds c p n (λ x h. only2 x (logged_back b.log a.log x h)) in (
             f.0 ++ r.0,
             updated_further c r.0 f.0 (initial l p) (a.memory p) (u.memory p) (n * 4) r.1 f.2,
             ap (λ z. wrote z p (n * 4)) over.log ∙ wrote_append b.log a.log p (n * 4) ∙ ap₂ (λ x y. x || y) f.3 r.2 ∙ sym (operands_append f.0 r.0),
@@ -307,9 +309,6 @@ abbrev pub OneMore : Launch → ℕ → Part → Joined → Option Fault → Typ
 OneMore l g part joined None = So_far l (suc g) joined × (part.stopped ≡ None)
 OneMore l g part joined (Some f) = (end : State) × RunsIntoFault l joined.events end f
 
-reports_not : (f : Fault) → Reports f ≡ Finishes → ⊥
-reports_not f h = finishes_not_reports f (sym h)
-
 -- nothing crosses
 one_through : (l : Launch) (g : ℕ) → IsGroup (plan_of l g) → (lower : Joined) (part : Part) (far : So_far l g lower) → IsPart l g part → Through l g far.a far.a part.events part.end
     → (o : Option Fault) → part.stopped ≡ o → OneMore l g part (join_at l lower part None) o
@@ -328,7 +327,7 @@ one_through l g whole lower part far is t (Some f) e = (
   t.0,
   (
     runs_append l lower.events part.events (start l) far.a t.0 far.runs t.1,
-    turn_here l g far.a part.end t.0 whole far.ready t.2 t.3 (Reports f) (is.1 ∙ ap ending e) (reports_not f),
+    turn_here l g far.a part.end t.0 whole far.ready t.2 t.3 (Reports f) (is.1 ∙ ap ending e) (reports_finishes f),
   ),
 )
 

@@ -8,14 +8,14 @@ use Rattle.clmodel.specs.declared.access.Access.{Access}
 use Rattle.clmodel.specs.declared.access.Clash.{Clash}
 use Rattle.clmodel.specs.declared.access.Conflict as conflict_type
 use Rattle.clmodel.proofs.Steps.{or_else_none}
+use Rattle.clmodel.proofs.Logs.{logged_front}
 use Rattle.joining.specs.Steps.{KeptConflicts, KeptBoth}
-use Rattle.joining.proofs.Over.{logged_own}
 
 -- the conflict with one access
-abbrev one_conflict : (Access → Access → ℕ → Option Clash) → Access → ℕ → Access → Option conflict_type.Conflict
+abbrev pub one_conflict : (Access → Access → ℕ → Option Clash) → Access → ℕ → Access → Option conflict_type.Conflict
 one_conflict judge x byte y = option_map (λ clash. record { earlier = y; later = x; byte = byte; clash = clash }) (judge y x byte)
 
-none_each : (judge : Access → Access → ℕ → Option Clash) (x : Access) (byte : ℕ) (y : Access) (log : List Access) → Logged log y → conflict_on judge x byte log ≡ None
+pub none_each : (judge : Access → Access → ℕ → Option Clash) (x : Access) (byte : ℕ) (y : Access) (log : List Access) → Logged log y → conflict_on judge x byte log ≡ None
     → one_conflict judge x byte y ≡ None
 none_each judge x byte y [] h e = absurd h
 none_each judge x byte y (z ∷ log) (inl i) e =
@@ -23,7 +23,7 @@ none_each judge x byte y (z ∷ log) (inl i) e =
 none_each judge x byte y (z ∷ log) (inr h) e = none_each judge x byte y log h (or_else_none (conflict_on judge x byte log) (one_conflict judge x byte z) e).0
 
 -- a repeat brings no other conflict
-repeat_is_harmless : (judge : Access → Access → ℕ → Option Clash) (x : Access) (byte : ℕ) (y : Access) (log : List Access) → Logged log y
+pub repeat_is_harmless : (judge : Access → Access → ℕ → Option Clash) (x : Access) (byte : ℕ) (y : Access) (log : List Access) → Logged log y
     → conflict_on judge x byte (y ∷ log) ≡ conflict_on judge x byte log
 repeat_is_harmless judge x byte y log h = go (conflict_on judge x byte log) refl
   where
@@ -31,7 +31,7 @@ repeat_is_harmless judge x byte y log h = go (conflict_on judge x byte log) refl
     go None e = ap (λ z. or_else z (one_conflict judge x byte y)) e ∙ none_each judge x byte y log h e ∙ sym e
     go (Some c) e = ap (λ z. or_else z (one_conflict judge x byte y)) e ∙ sym e
 
-on_kept : (judge : Access → Access → ℕ → Option Clash) (x : Access) (byte : ℕ) (log kept : List Access) → Keeps log kept → conflict_on judge x byte log ≡ conflict_on judge x byte kept
+pub on_kept : (judge : Access → Access → ℕ → Option Clash) (x : Access) (byte : ℕ) (log kept : List Access) → Keeps log kept → conflict_on judge x byte log ≡ conflict_on judge x byte kept
 on_kept judge x byte [] kept h = ap (conflict_on judge x byte) (sym h)
 on_kept judge x byte (y ∷ log) kept (inl h) = repeat_is_harmless judge x byte y log h.0 ∙ on_kept judge x byte log kept h.1
 on_kept judge x byte (y ∷ log) kept (inr h) =
@@ -69,5 +69,5 @@ kept_conflicts l x log kept byte count keeps apart =
 
 pub kept_both : KeptBoth
 kept_both [] log kept_later kept h k = subst (λ z. Keeps log (z ++ kept)) (sym h) k
-kept_both (x ∷ later) log kept_later kept (inl h) k = inl (logged_own later log x h.0, kept_both later log kept_later kept h.1 k)
+kept_both (x ∷ later) log kept_later kept (inl h) k = inl (logged_front later log x h.0, kept_both later log kept_later kept h.1 k)
 kept_both (x ∷ later) log kept_later kept (inr h) k = inr (h.0 ++ kept, ap (λ z. z ++ kept) h.1, kept_both later log h.0 kept h.2 k)

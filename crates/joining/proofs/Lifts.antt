@@ -1,7 +1,7 @@
 -- A group's events over what the groups below left.
 use Rattle.std.proofs.Common.{◌≡◌, ℕ, suc, ◌+◌, ◌*◌, ◌<◌, ◌≤◌, Bool, true, false, cond, Option, Some, None, refl, sym, ap, ap₂, ◌∙◌, subst, arith, ⊎_elim, inl, inr, ◌&&◌, ◌||◌, eqb, leb, List, [], ◌∷◌, ◌++◌, ℤ, pos, negsuc, ◌==◌, length, slice_index_or}
 use Rattle.std.proofs.Math.Nat.{suc-mul}
-use Rattle.std.proofs.lemmas.Bool.{and_parts, and_from, true≢false, cond-false, ne_eqb, eqb-true, leb-true}
+use Rattle.std.proofs.lemmas.Bool.{and_parts, and_from, true≢false, cond-false, ne_eqb, eqb-true, leb-true, or_left}
 use Rattle.std.proofs.lemmas.Option.{slice_get-get_or}
 use Rattle.clmodel.specs.Cells.{Cells, number, covers, written, combined, size_of, found}
 use Rattle.clmodel.specs.Launch.{Launch, same_region, region_of, bytes_of, first_byte, kind_of, group_of, conflict}
@@ -24,7 +24,7 @@ use Rattle.clmodel.proofs.Swaps.{same_region_self, same_region-true, byte_at_ali
 use Rattle.joining.specs.Memory.{writes, at_byte, wrote}
 use Rattle.joining.proofs.Base.{changed_there, entry_same, made_at}
 use Rattle.joining.proofs.Words.{Updated, updated_same}
-use Rattle.joining.proofs.Over.{is_set, cond_some, performed, performed_in, performed_out, Fit, OnlyUpdates, Folds, entry_at, or_here, Ready, Over, Lift, same_answer, kept_step, unchanged_step, stored_step, older_clear, set_step, set_keeps}
+use Rattle.joining.proofs.Over.{is_set, cond_some, performed, performed_in, performed_out, Fit, OnlyUpdates, Folds, entry_at, Ready, Over, Lift, same_answer, kept_step, unchanged_step, stored_step, older_clear, set_step, set_keeps}
 
 -- a byte of a buffer that is in range is set from the start
 pub buffer_set : (l : Launch) (number : ℕ) (element : ℤ) (width first byte : ℕ) → first_byte (bytes_of l (region_is.Buffer number)) element width ≡ Some first
@@ -103,7 +103,7 @@ folds_hit c q m log i p (Update d v) first x x2 n bm sm old old2 fx fx2 a is k b
       v ∷ f.0,
       updated_more bm p q d c v x first (m * 4) f.0 old e w one fx f.1,
       updated_more sm p q d c v x2 first (m * 4) f.0 old2 e w one fx2 f.2,
-      or_here _ (wrote log q (m * 4)) (and_from (same_region q p) (covers first 4 (m * 4)) r.0 (covers_from first 4 (m * 4) (omega (arith, w)) (omega (arith, w)))),
+      or_left _ (wrote log q (m * 4)) (and_from (same_region q p) (covers first 4 (m * 4)) r.0 (covers_from first 4 (m * 4) (omega (arith, w)) (omega (arith, w)))),
     )
 
 nothing_there : (b w : Bool) → ((b && false) || w) ≡ w

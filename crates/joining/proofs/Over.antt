@@ -1,6 +1,6 @@
 -- One group's run over the memory that the groups below left, beside its run on the first memory.
 use Rattle.std.proofs.Common.{◌≡◌, ℕ, zero, suc, ◌+◌, ◌-◌, ◌*◌, ◌<◌, ◌≤◌, Bool, true, false, cond, Option, Some, None, refl, sym, ap, ◌∙◌, subst, arith, ◌⊎◌, ⊎_elim, inl, inr, ◌&&◌, ◌||◌, List, [], ◌∷◌, ◌++◌}
-use Rattle.std.proofs.lemmas.Bool.{and_parts, and_from, both_ways, true≢false, cases_Bool, cond-true}
+use Rattle.std.proofs.lemmas.Bool.{and_parts, and_from, both_ways, true≢false, cases_Bool, cond-true, or_parts, or_cases, or_left, or_right, and_cases}
 use Rattle.std.proofs.lemmas.Option.{same_Some}
 use Rattle.clmodel.specs.Cells.{Cells, lowest_unset, unset_or, byte_count, covers, written, byte_of, combined, fetched, size_of, found, answer_to, effect}
 use Rattle.clmodel.specs.Launch.{Launch, same_region, region_of, kind_of, access_in, group_of, clash, conflict}
@@ -16,14 +16,14 @@ use Rattle.clmodel.specs.declared.access.Operation.{Operation}
 use Rattle.clmodel.specs.declared.access.Operation.TheVariants.{Load, Store, Update, Fetch}
 use Rattle.clmodel.specs.declared.access.Region.{Region}
 use Rattle.clmodel.specs.declared.access.Width.{Width}
-use Rattle.clmodel.proofs.CellLaws.{covers_parts, covers_from, written_in, effect_out, Aligned}
+use Rattle.clmodel.proofs.CellLaws.{covers_parts, covers_from, written_in, effect_out, Aligned, written_out}
 use Rattle.clmodel.proofs.Steps.{none_some}
 use Rattle.clmodel.proofs.Swaps.{same_region_self, same_region-true}
 use Rattle.joining.specs.Memory.{writes, at_byte, wrote}
 use Rattle.joining.proofs.GroupTurns.{EndedBelow}
 use Rattle.joining.proofs.Words.{Updated}
 use Rattle.joining.proofs.Crossings.{meet}
-use Rattle.joining.proofs.Base.{written_out, with_here, with_there, some_none, no_order, found_frame}
+use Rattle.joining.proofs.Base.{with_here, with_there, some_none, no_order, found_frame}
 
 -- a byte is there
 abbrev pub is_set : Option ℕ → Bool
@@ -96,27 +96,6 @@ performed_load m p (Store width value) x first q byte h = absurd (true≢false h
 performed_load m p (Update class operand) x first q byte h = absurd (true≢false h)
 performed_load m p (Fetch o operand) x first q byte h = absurd (true≢false h)
 
--- what a log wrote
-or_cases : (a b : Bool) → (a || b) ≡ true → (a ≡ true) ⊎ (b ≡ true)
-or_cases true b h = inl refl
-or_cases false b h = inr h
-
-pub or_here : (a b : Bool) → a ≡ true → (a || b) ≡ true
-or_here true b h = refl
-or_here false b h = absurd (true≢false (sym h))
-
-or_there : (a b : Bool) → b ≡ true → (a || b) ≡ true
-or_there true b h = refl
-or_there false b h = h
-
-pub or_false : (a b : Bool) → (a || b) ≡ false → (a ≡ false) × (b ≡ false)
-or_false true b h = absurd (true≢false h)
-or_false false b h = (refl, h)
-
-and_false : (a b : Bool) → (a && b) ≡ false → (a ≡ false) ⊎ (b ≡ false)
-and_false true b h = inr h
-and_false false b h = inl refl
-
 pub wrote_some : (log : List Access) (p : Region) (byte : ℕ) → wrote log p byte ≡ true → (x : Access) × Logged log x × (writes x.kind ≡ true) × (at_byte p byte x ≡ true)
 wrote_some [] p byte h = absurd (true≢false (sym h))
 wrote_some (z ∷ log) p byte h = ⊎_elim
@@ -127,8 +106,8 @@ wrote_some (z ∷ log) p byte h = ⊎_elim
 pub wrote_from : (log : List Access) (p : Region) (byte : ℕ) (x : Access) → Logged log x → writes x.kind ≡ true → at_byte p byte x ≡ true → wrote log p byte ≡ true
 wrote_from [] p byte x k h b = absurd k
 wrote_from (z ∷ log) p byte x (inl e) h b =
-    or_here _ (wrote log p byte) (subst (λ w. (writes w.kind && at_byte p byte w) ≡ true) (sym e) (and_from _ _ h b))
-wrote_from (z ∷ log) p byte x (inr k) h b = or_there (writes z.kind && at_byte p byte z) _ (wrote_from log p byte x k h b)
+    or_left _ (wrote log p byte) (subst (λ w. (writes w.kind && at_byte p byte w) ≡ true) (sym e) (and_from _ _ h b))
+wrote_from (z ∷ log) p byte x (inr k) h b = or_right (writes z.kind && at_byte p byte z) _ (wrote_from log p byte x k h b)
 
 pub wrote_append : (own lower : List Access) (p : Region) (byte : ℕ) → wrote (own ++ lower) p byte ≡ (wrote own p byte || wrote lower p byte)
 wrote_append [] lower p byte = refl
@@ -139,20 +118,6 @@ wrote_append (z ∷ own) lower p byte =
     or_assoc : (a b c : Bool) → (a || (b || c)) ≡ ((a || b) || c)
     or_assoc true b c = refl
     or_assoc false b c = refl
-
-pub logged_append : (own lower : List Access) (x : Access) → Logged (own ++ lower) x → Logged own x ⊎ Logged lower x
-logged_append [] lower x h = inr h
-logged_append (z ∷ own) lower x (inl e) = inl (inl e)
-logged_append (z ∷ own) lower x (inr h) = ⊎_elim (λ k. inl (inr k)) (λ k. inr k) (logged_append own lower x h)
-
-pub logged_own : (own lower : List Access) (x : Access) → Logged own x → Logged (own ++ lower) x
-logged_own [] lower x h = absurd h
-logged_own (z ∷ own) lower x (inl e) = inl e
-logged_own (z ∷ own) lower x (inr h) = inr (logged_own own lower x h)
-
-pub logged_lower : (own lower : List Access) (x : Access) → Logged lower x → Logged (own ++ lower) x
-logged_lower [] lower x h = h
-logged_lower (z ∷ own) lower x h = inr (logged_lower own lower x h)
 
 -- an update has four bytes from a multiple of four on
 abbrev pub Fit : Access → Type 0
@@ -434,10 +399,10 @@ pub unchanged_step : (m : Memory) (log : List Access) (i : ℕ) (p : Region) (op
 unchanged_step m log i p op first x n q byte h = ⊎_elim
     (λ e. performed_load m p op x first q byte e)
     (λ e. performed_out m p op x first q byte e)
-    (and_false (writes (kind_of op)) _ (or_false (writes (kind_of op) && (same_region q p && covers first (size_of op) byte)) (wrote log q byte) h).0)
+    (and_cases (writes (kind_of op)) _ (or_parts (writes (kind_of op) && (same_region q p && covers first (size_of op) byte)) (wrote log q byte) h).0)
 
 pub older_clear : (log : List Access) (e : Access) (q : Region) (byte : ℕ) → wrote (e ∷ log) q byte ≡ false → wrote log q byte ≡ false
-older_clear log e q byte h = (or_false (writes e.kind && at_byte q byte e) (wrote log q byte) h).1
+older_clear log e q byte h = (or_parts (writes e.kind && at_byte q byte e) (wrote log q byte) h).1
 
 -- a byte that is set in one memory is in the other
 pub set_step : (m m2 : Memory) (p : Region) (op : Operation) (first x x2 : ℕ) (q : Region) (byte : ℕ) → is_set (m2 p byte) ≡ is_set (m p byte) → is_set (m2 q byte) ≡ is_set (m q byte)

@@ -1,26 +1,23 @@
 -- A group has at most one run.
-use Rattle.std.proofs.Common.{◌≡◌, Option, None, Some, [], ◌∷◌, refl, sym, ap, ap₂, ◌∙◌, subst, arith}
+use Rattle.std.proofs.Common.{◌≡◌, Option, None, Some, [], ◌∷◌, refl, sym, ap, ap₂, ◌∙◌, subst}
 use Rattle.std.proofs.lemmas.Option.{same_Some}
 use Rattle.clmodel.specs.Run.{State, Events, start, step}
-use Rattle.clmodel.specs.Law.{Makes, Reports}
+use Rattle.clmodel.specs.Law.{Makes}
 use Rattle.clmodel.specs.declared.fault.Fault.{Fault}
 use Rattle.clmodel.specs.declared.schedule.Event.{Event}
+use Rattle.clmodel.proofs.Turns.{reports_makes, reports_finishes, finishes_makes, finishes_reports, makes_inj, reports_inj}
 use Rattle.joining.specs.Group.{Plan, plan_of, turn_of, RunsIn}
 use Rattle.joining.specs.Parts.{ending, OnePart}
-use Rattle.joining.proofs.Base.{reports_not_makes, reports_not_finishes, finishes_not_makes, finishes_not_reports, same_event}
 
 ends_nothing : (o : Option Fault) (e : Event) → ending o ≡ Makes e → ⊥
-ends_nothing None e h = finishes_not_makes e h
-ends_nothing (Some f) e h = reports_not_makes f e h
-
-same_report : (f g : Fault) → Reports f ≡ Reports g → f ≡ g
-same_report f g h = grind arith
+ends_nothing None e h = finishes_makes e h
+ends_nothing (Some f) e h = reports_makes f e h
 
 same_ending : (o p : Option Fault) → ending o ≡ ending p → o ≡ p
 same_ending None None h = refl
-same_ending None (Some g) h = absurd (finishes_not_reports g h)
-same_ending (Some f) None h = absurd (reports_not_finishes f h)
-same_ending (Some f) (Some g) h = ap Some (same_report f g h)
+same_ending None (Some g) h = absurd (finishes_reports g h)
+same_ending (Some f) None h = absurd (reports_finishes f h)
+same_ending (Some f) (Some g) h = ap Some (reports_inj f g h)
 
 -- a run that has ended makes no event
 ended_there : (p : Plan) (s e : State) (o : Option Fault) (x : Event) → s ≡ e → turn_of p e ≡ ending o → turn_of p s ≡ Makes x → ⊥
@@ -33,7 +30,7 @@ one_run p s e f [] [] o q r h k i =
 one_run p s e f [] (y ∷ fs) o q r h k i = absurd (ended_there p s e o y r h k.1)
 one_run p s e f (x ∷ es) [] o q r h k i = absurd (ended_there p s f q x k i r.1)
 one_run p s e f (x ∷ es) (y ∷ fs) o q r h k i =
-    let event : x ≡ y = same_event x y (sym r.1 ∙ k.1) in
+    let event : x ≡ y = makes_inj x y (sym r.1 ∙ k.1) in
     let next : k.0 ≡ r.0 = same_Some k.0 r.0 (sym k.2 ∙ ap (step p.launch s) (sym event) ∙ r.2) in
     let rest = one_run p r.0 e f es fs o q r.3 h (subst (λ z. RunsIn p z fs f) next k.3) i in
     (ap₂ (λ a b. a ∷ b) event rest.0, rest.1, rest.2)

@@ -10,13 +10,14 @@ use Rattle.clmodel.specs.declared.access.Conflict as conflict_type
 use Rattle.clmodel.specs.declared.access.Region.{Region}
 use Rattle.clmodel.specs.declared.schedule.Event.{Event}
 use Rattle.clmodel.specs.declared.schedule.Event.TheVariants.{Item, Release}
-use Rattle.clmodel.proofs.Steps.{region_for, ItemStep, item_inverse, ReleaseStep, release_inverse, release_at, first_item_in}
+use Rattle.clmodel.proofs.Steps.{region_for, ItemStep, item_inverse, ReleaseStep, release_inverse, release_at, first_item_in, map_some}
 use Rattle.clmodel.proofs.Conflicts.{no_newest}
 use Rattle.clmodel.proofs.Ending.{makes_possible}
+use Rattle.clmodel.proofs.Turns.{makes_finishes}
 use Rattle.std.specs.Option.{option_map}
 use Rattle.joining.specs.Group.{IsGroup, turn_of, RunsIn, plan_of}
 use Rattle.joining.specs.Crossings.{crossing, up_to}
-use Rattle.joining.proofs.Base.{made_at, entry_same, option_map_some, outcome_of, item_does, straggler_same, event_group, makes_not_finishes}
+use Rattle.joining.proofs.Base.{made_at, entry_same, outcome_of, item_does, straggler_same, event_group}
 use Rattle.joining.proofs.GroupTurns.{Same, EndedBelow, turn_over, event_own}
 use Rattle.joining.proofs.Crossings.{newest_over, crossing_newest}
 use Rattle.joining.proofs.Over.{unset_same, Ready, Over}
@@ -92,11 +93,11 @@ item_ride l g a b s n s2 end i es ready over none mine t h r on stays =
     e = access_of l b i p r.first r.operation
 
     w : (o : Outcome) × (perform r.operation (s.memory p) r.first ≡ Some o) × (accessed l s i p r.first r.operation o ≡ s2)
-    w = option_map_some (accessed l s i p r.first r.operation) (perform r.operation (s.memory p) r.first) s2
+    w = map_some (accessed l s i p r.first r.operation) (perform r.operation (s.memory p) r.first) s2
         (sym (item_does l s i r.object r.element r.operation r.first r.below (ap (l.next i) (over.mine i mine) ∙ r.acts) r.placed) ∙ h)
 
     f : (x : ℕ) × (found r.operation (s.memory p) r.first ≡ Some x) × (outcome_of r.operation x (s.memory p) r.first ≡ w.0)
-    f = option_map_some (λ x. outcome_of r.operation x (s.memory p) r.first) (found r.operation (s.memory p) r.first) w.0 w.1
+    f = map_some (λ x. outcome_of r.operation x (s.memory p) r.first) (found r.operation (s.memory p) r.first) w.0 w.1
 
     there : made_at l s i r.object r.operation r.first f.0 ≡ s2
     there = ap (accessed l s i p r.first r.operation) f.2 ∙ w.2
@@ -151,7 +152,7 @@ event_ride l g a b s n s2 end (Release r) es ready over none mine t h k on stays
 pub ride : (l : Launch) (g : ℕ) (a : State) → IsGroup (plan_of l g) → Ready l g a → (es : Events) (b s end : State) → Over l g a b s → crossing l a.log b.log ≡ None → RunsIn (plan_of l g) b es end → Rides l g a b s es end
 ride l g a whole ready [] b s end over none r = inl (s, refl, subst (λ z. Over l g a z s) r over, subst (λ z. crossing l a.log z.log ≡ None) r none)
 ride l g a whole ready (e ∷ es) b s end over none r =
-    let t : turn l s ≡ Makes e = turn_here l g a b s whole ready over none (Makes e) r.1 (makes_not_finishes e) in
+    let t : turn l s ≡ Makes e = turn_here l g a b s whole ready over none (Makes e) r.1 (makes_finishes e) in
     let m = makes_possible l s e t in
     event_ride l g a b s r.0 m.0 end e es ready over none (event_own (plan_of l g) b e r.1).1 t m.1 r.2
     (λ o c. ride l g a whole ready es r.0 m.0 end o c r.3)

@@ -1,6 +1,6 @@
 -- Each group of a launch with a bound has a run.
 use Rattle.std.proofs.Common.{◌≡◌, ℕ, zero, suc, ◌<◌, Bool, true, false, not, ◌&&◌, ◌==◌, Option, None, Some, [], ◌∷◌, refl, sym, ◌∙◌, arith, eq-eqb, eqb-true}
-use Rattle.std.proofs.lemmas.Bool.{false≢true, not-false, and_parts}
+use Rattle.std.proofs.lemmas.Bool.{false≢true, not-false, and_parts, not-true}
 use Rattle.clmodel.specs.Launch.{Launch, group_of}
 use Rattle.clmodel.specs.Run.{State, Events, start, next_action, lowest, first_item, straggler}
 use Rattle.clmodel.specs.Law.{Turn, Makes, Reports, Finishes, newest_conflict, conflict_turn, has_ended, IsBounded, IsPossible, answers_left}
@@ -9,22 +9,22 @@ use Rattle.clmodel.specs.declared.fault.Fault.{Fault}
 use Rattle.clmodel.specs.declared.schedule.Event.{Event}
 use Rattle.clmodel.proofs.Ending.{group_possible, step_less}
 use Rattle.clmodel.proofs.Steps.{lowest_some, lowest_none}
+use Rattle.clmodel.proofs.Turns.{reports_makes, finishes_makes}
 use Rattle.joining.specs.Group.{Plan, IsGroup, going, plan_of, turn_of, RunsIn}
 use Rattle.joining.specs.Parts.{ending, PartExists}
-use Rattle.joining.proofs.Base.{reports_not_makes, finishes_not_makes}
 use Rattle.joining.proofs.Grouped.{group_is}
-use Rattle.joining.proofs.GroupTurns.{goes_on, group_is_over, not_ended}
+use Rattle.joining.proofs.GroupTurns.{goes_on, group_is_over}
 
 -- an event is made where no conflict comes before
 going_makes : (l : Launch) (o : Option conflict_type.Conflict) (t : Turn) (e : Event) → conflict_turn l o t ≡ Makes e → t ≡ Makes e
 going_makes l None t e h = h
-going_makes l (Some c) t e h = absurd (reports_not_makes _ e h)
+going_makes l (Some c) t e h = absurd (reports_makes _ e h)
 
 -- an event that a group makes is possible
 possible_by : (p : Plan) → IsGroup p → (s : State) (e : Event) → going p s (straggler p.launch s p.group p.first) ≡ Makes e
     → (o : Option ℕ) → lowest (λ item. (group_of p.launch item == p.group) && not (has_ended (next_action p.launch s item))) p.launch.items ≡ o → IsPossible p.launch s e
 possible_by p whole s e h None is =
-    absurd (finishes_not_makes e (sym (group_is_over p whole s (λ i inside mine. over i (group_of p.launch i == p.group) (eq-eqb (group_of p.launch i) p.group mine)
+    absurd (finishes_makes e (sym (group_is_over p whole s (λ i inside mine. over i (group_of p.launch i == p.group) (eq-eqb (group_of p.launch i) p.group mine)
     (lowest_none (λ item. (group_of p.launch item == p.group) && not (has_ended (next_action p.launch s item))) p.launch.items is i inside))) ∙ h))
   where
     over : (i : ℕ) (x : Bool) → x ≡ true → (x && not (has_ended (next_action p.launch s i))) ≡ false → has_ended (next_action p.launch s i) ≡ true
@@ -35,7 +35,7 @@ possible_by p whole s e h (Some i) is =
     = lowest_some (λ item. (group_of p.launch item == p.group) && not (has_ended (next_action p.launch s item))) p.launch.items i is in
     let r : ((group_of p.launch i == p.group) ≡ true) × (not (has_ended (next_action p.launch s i)) ≡ true) = and_parts (group_of p.launch i == p.group) _ q.1 in
     let mine : group_of p.launch i ≡ p.group = eqb-true (group_of p.launch i) p.group r.0 in
-    let runs : has_ended (next_action p.launch s i) ≡ false = not_ended (has_ended (next_action p.launch s i)) r.1 in
+    let runs : has_ended (next_action p.launch s i) ≡ false = not-true (has_ended (next_action p.launch s i)) r.1 in
     group_possible p.launch s i e q.0 runs (first_item p.launch (group_of p.launch i)) refl (goes_on p whole s i q.0 mine runs ∙ h)
 
 possible : (p : Plan) → IsGroup p → (s : State) (e : Event) → turn_of p s ≡ Makes e → IsPossible p.launch s e

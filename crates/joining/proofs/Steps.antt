@@ -11,16 +11,16 @@ use Rattle.clmodel.specs.declared.access.Conflict as conflict_type
 use Rattle.clmodel.specs.declared.access.Object.{Object}
 use Rattle.clmodel.specs.declared.schedule.Event.{Event}
 use Rattle.clmodel.specs.declared.schedule.Event.TheVariants.{Item, Release}
-use Rattle.clmodel.proofs.Steps.{none_some, ItemStep, item_inverse, release_inverse}
+use Rattle.clmodel.proofs.Steps.{none_some, ItemStep, item_inverse, release_inverse, map_some}
+use Rattle.clmodel.proofs.Logs.{logged_append}
 use Rattle.joining.specs.Group.{RunsIn, plan_of}
 use Rattle.joining.specs.Parts.{Part, IsGrouped}
 use Rattle.joining.specs.Crossings.{crossing}
 use Rattle.joining.specs.Join.{Joined, join_at, join}
 use Rattle.joining.specs.Steps.{IsJoined, JoinReports, JoinEnds, AreOwn, AreLower}
-use Rattle.joining.proofs.Base.{event_group, option_map_some}
+use Rattle.joining.proofs.Base.{event_group}
 use Rattle.joining.proofs.Grouped.{group_is}
 use Rattle.joining.proofs.GroupTurns.{all_finish, event_own}
-use Rattle.joining.proofs.Over.{logged_append}
 use Rattle.joining.proofs.Joins.{So_far, OneMore, one_more, no_group}
 
 -- what is known of groups joined one by one
@@ -75,7 +75,7 @@ crossing_logged l lower (y ∷ log) own x c k = go (crossing l lower log) (λ d.
 
     go : (o : Option (List Access)) → (o ≡ Some own → Logged log x) → or_else o (option_map (λ _. y ∷ log) met) ≡ Some own → Logged (y ∷ log) x
     go (Some older) further d = inr (further d)
-    go None further d = subst (λ z. Logged z x) (sym (option_map_some (λ _. y ∷ log) met own d).2) k
+    go None further d = subst (λ z. Logged z x) (sym (map_some (λ _. y ∷ log) met own d).2) k
 
 join_logged : (l : Launch) (lower : Joined) (part : Part) (x : Access) → Logged (join l lower part).log x → Logged part.end.log x ⊎ Logged lower.log x
 join_logged l lower part x k = go (crossing l lower.log part.end.log) refl k

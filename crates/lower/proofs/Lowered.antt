@@ -1,16 +1,16 @@
 -- The kernel of a name, its code with tables, and what is promised of it.
-use Rattle.std.proofs.Common.{◌≡◌, ℕ, ◌==◌, ◌<◌, ◌≤◌, ◌^◌, ◌⊎◌, inl, inr, ◌&&◌, Bool, true, false, if◌then◌else◌, Option, None, Some, List, length, position, refl, ap, ap₂, sym, ◌∙◌, subst, arith}
+use Rattle.std.proofs.Common.{◌≡◌, ℕ, ◌<◌, ◌≤◌, ◌^◌, ◌⊎◌, inl, inr, Option, None, Some, List, length, position, refl, ap, ap₂, sym, ◌∙◌, subst, arith}
 use Rattle.std.proofs.Math.Logic.{∥∥₁_elim}
 use Rattle.std.proofs.lemmas.Bool.{cases_lt}
-use Rattle.std.proofs.lemmas.Bool.Decides.{nat_tests}
 use Rattle.std.specs.Option.{option_map, option_and_then}
 use Rattle.clmodel.specs.Next.{all_sites, sites_in}
 use Rattle.clmodel.specs.Setup.{kernel_in, kernel_number, functions_before, same_text}
-use Rattle.clmodel.specs.Tree.{Program, Func, Funcs, NoFunc, ThenFunc}
+use Rattle.clmodel.specs.Tree.{Program, Func}
 use Rattle.clmodel.specs.Typing.{IsTypedProgram}
 use Rattle.clmodel.specs.Typing.Functions.{size_of}
 use Rattle.clmodel.specs.Typing.Rules.{length_limit}
 use Rattle.clmodel.specs.Typing.Sizes.{node_limit, parameter_limit}
+use Rattle.clmodel.proofs.Kernels.{named}
 use Rattle.regcode.specs.Listing.{Listing}
 use Rattle.regcode.specs.Rules.{IsVerified}
 use Rattle.lower_code.specs.Code.{kernel_code}
@@ -83,16 +83,6 @@ lists_lowered p number code made law same lists = record {
       item answers;
 }
 
--- a kernel that is found by a number has that number for its name
-name_found : (fs : Funcs) (number : ℕ) (f : Func) → kernel_in fs number ≡ Some f → f.name ≡ number
-name_found NoFunc number f is = absurd (cc)
-name_found (ThenFunc fs g) number f is = go (name_found fs number f) g.is_kernel (g.name == number) refl is
-  where
-    go : (kernel_in fs number ≡ Some f → f.name ≡ number) → (a b : Bool) → (g.name == number) ≡ b → (if a && b then Some g else kernel_in fs number) ≡ Some f → f.name ≡ number
-    go others true true same found = let e : g.name ≡ number = grind (arith, nat_tests) in cc
-    go others true false same found = others found
-    go others false b same found = others found
-
 -- a kernel that has a name is there
 pub named_found : (p : Program) (name : List ℕ) (number : ℕ) → kernel_number p name ≡ Some number → kernel_in p.functions number ≡ None → ⊥
 named_found p name number named none = at (position (same_text name) p.names) named
@@ -100,7 +90,7 @@ named_found p name number named none = at (position (same_text name) p.names) na
     there : (n : ℕ) (k : Option Func) → kernel_in p.functions n ≡ k → option_map (λ f. f.name) k ≡ Some number → ⊥
     there n None is found = cc
     there n (Some f) is found =
-        let same = name_found p.functions n f is in
+        let same = named p.functions n f is in
         let number_is : number ≡ n = cc in
         let gone = ap (kernel_in p.functions) number_is in
         cc

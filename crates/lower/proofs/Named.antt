@@ -17,6 +17,7 @@ use Rattle.lower_code.specs.Variables.{row_elements}
 use Rattle.lower_code.proofs.Lists.{functions_more}
 use Rattle.lower.specs.Accepted.{Distinct}
 use Rattle.lower_code.proofs.Looking.{look_last}
+use Rattle.lower_code.proofs.Helpers.{function_there}
 use Rattle.lower.proofs.SmallArrays.{row_arrays}
 use Rattle.lower.proofs.TypedKernels.{distinct}
 
@@ -29,12 +30,6 @@ look_stays : {V : Type 0} (test : ℕ → Bool) (entries : List (ℕ × V)) (y :
 look_stays test [] y v w e = absurd (cc)
 look_stays test (x ∷ entries) y v w e =
     step_stays x.1 w (test x.0) (lookup test entries) (lookup test (entries ++ (y, v) ∷ [])) (λ h. look_stays test entries y v w h) e
-
--- the function at a place
-function_there : (gs : List Function) (i : ℕ) → i < length gs → (g : Function) × (g ≡ get_or gs i g)
-function_there [] i h = absurd (omega arith)
-function_there (g ∷ gs) zero h = (g, refl)
-function_there (g ∷ gs) (suc i) h = function_there gs i (omega arith)
 
 -- what functions have that lack the last of others that have it, the first functions have if all have
 first_have : (P : Funcs → Type 0) → ((fs : Funcs) (f : Func) → P (ThenFunc fs f) → P fs) → (gs : List Function) (k n : ℕ) → n + k ≡ length gs → P (functions_of gs) → P (functions_of (take n gs))

@@ -1,6 +1,7 @@
 -- The code of a typed expression names registers of the kinds that its instructions want.
 use Rattle.std.proofs.Common.{◌≡◌, ℕ, ◌+◌, Bool, true, false, nat_eq, if◌then◌else◌, Option, None, Some, List, [], ◌∷◌, ◌++◌, length, refl, ap, ap₂, sym, subst, ◌∙◌, arith}
 use Rattle.std.proofs.lemmas.List.{length-append}
+use Rattle.std.proofs.lemmas.Option.{same_Some}
 use Rattle.clnum.specs.Conversions as conversions
 use Rattle.clnum.specs.Conversions.{common, unsigned_of}
 use Rattle.clnum.specs.Operations.{unary_kind, truth}
@@ -160,16 +161,12 @@ fetched_known Ushort e = absurd (cc)
 fetched_known Long e = absurd (cc)
 fetched_known Ulong e = absurd (cc)
 
--- the type of a name's value, and of its elements
-same_kind : (j k : VariableType) → Some j ≡ Some k → j ≡ k
-same_kind j k e = ap (λ o. elim o as (λ _. VariableType) [ None ↦ j | Some l ↦ l ]) e
-
 same_element : (t u : IntType) → Some t ≡ Some u → t ≡ u
 same_element t u e = ap (λ o. elim o as (λ _. IntType) [ None ↦ t | Some s ↦ s ]) e
 
 pub value_is : (d : Declaration) (k : VariableType) → value_type d ≡ Some k → declared_kind d ≡ k
-value_is (Single j) k e = same_kind j k e
-value_is (LocalArray t) k e = same_kind (declared_kind (LocalArray t)) k e
+value_is (Single j) k e = same_Some j k e
+value_is (LocalArray t) k e = same_Some (declared_kind (LocalArray t)) k e
 value_is (PrivateArray t) k e = absurd (cc)
 
 pub element_is : (d : Declaration) (t : IntType) → element_type d ≡ Some t → base_type (declared_kind d) ≡ t

@@ -1,6 +1,7 @@
 -- The code of what typed statements assign, and of the calls in them, names registers of the kinds that its instructions want.
 use Rattle.std.proofs.Common.{◌≡◌, ℕ, ◌+◌, if◌then◌else◌, Bool, true, false, IsTrue, Option, None, Some, List, [], ◌∷◌, ◌++◌, length, slice_get, refl, ap, ap₂, sym, subst, ◌∙◌, arith}
 use Rattle.std.proofs.lemmas.List.{length-append}
+use Rattle.std.proofs.lemmas.Option.{same_Some}
 use Rattle.clnum.specs.declared.int_type.IntType.{IntType}
 use Rattle.clnum.specs.declared.int_type.IntType.TheVariants.{Char, Uchar, Short, Ushort, Int, Uint, Long, Ulong}
 use Rattle.clnum.specs.declared.operators.BinaryOperator.{BinaryOperator}
@@ -45,13 +46,10 @@ filled_none : (ps : List VariableType) → Filled ps []
 filled_none [] = tt
 filled_none (p ∷ ps) = tt
 
-same_some : (p q : VariableType) → Some p ≡ Some q → p ≡ q
-same_some p q e = ap (λ o. elim o as (λ _. VariableType) [ None ↦ p | Some r ↦ r ]) e
-
 filled_more : (ps : List VariableType) (numbers : List ℕ) (p k : VariableType) (number : ℕ) → Filled ps numbers → slice_get ps (length numbers) ≡ Some p → Is number k → Passes p k
     → Filled ps (numbers ++ number ∷ [])
 filled_more [] numbers p k number filled is of passes = tt
-filled_more (q ∷ ps) [] p k number filled is of passes = ((k, (of, subst (λ r. Passes r k) (sym (same_some q p is)) passes)), filled_none ps)
+filled_more (q ∷ ps) [] p k number filled is of passes = ((k, (of, subst (λ r. Passes r k) (sym (same_Some q p is)) passes)), filled_none ps)
 filled_more (q ∷ ps) (first ∷ numbers) p k number filled is of passes = (filled.0, filled_more ps numbers p k number filled.1 is of passes)
 
 counted : (scope : Scope) (level : ℕ) (es : Terms) → length (registers_for scope level es) ≡ rule.count es

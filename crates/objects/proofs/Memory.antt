@@ -1,9 +1,9 @@
 -- Operations on one of a program's spaces, seen in the memory that the spaces hold.
-use Rattle.std.proofs.Common.{◌≡◌, ℕ, ◌+◌, ◌<◌, ◌≤◌, ◌⊎◌, Bool, ◌&&◌, ◌==◌, Option, None, Some, List, length, set, refl, sym, ap, ◌∙◌, subst, inl, inr, arith, eq-eqb, ne_eqb}
-use Rattle.std.specs.Prelude.{slice_get, Result, Ok, Err}
+use Rattle.std.proofs.Common.{◌≡◌, ℕ, ◌+◌, ◌<◌, ◌≤◌, ◌⊎◌, Bool, ◌&&◌, ◌==◌, Option, None, Some, List, length, set, refl, sym, ap, ◌∙◌, subst, inl, inr, arith, eq-eqb, ne_eqb, zero, suc, [], ◌∷◌, map, replicate}
+use Rattle.std.specs.Prelude.{slice_get, Result, Ok, Err, slice_index}
 use Rattle.std.proofs.lemmas.List.{length-set}
 use Rattle.std.proofs.lemmas.Option.{slice_get_within}
-use Rattle.clmodel.specs.Cells.{Cells, cells_of, byte_count, size_of, found, effect, lowest_unset}
+use Rattle.clmodel.specs.Cells.{Cells, cells_of, size_of, found, effect, lowest_unset}
 use Rattle.clmodel.specs.Launch.{Launch, region_of, bytes_of}
 use Rattle.clmodel.specs.Run.{Memory, with_cells}
 use Rattle.clmodel.specs.declared.access.Object.{Object}
@@ -12,10 +12,9 @@ use Rattle.clmodel.specs.declared.access.Operation.{Operation}
 use Rattle.clmodel.specs.declared.access.Operation.TheVariants.{Load, Store, Update, Fetch}
 use Rattle.clmodel.specs.declared.access.Region.{Region}
 use Rattle.clmodel.specs.declared.access.Region.TheVariants as region
-use Rattle.clmodel.specs.declared.access.Width.{Width}
-use Rattle.clmodel.specs.declared.access.Width.TheVariants.{One, Two, Four, Eight}
 use Rattle.clmodel.specs.declared.action.Answer.{Answer}
-use Rattle.clmodel.proofs.Steps.{if_true, if_false}
+use Rattle.clmodel.proofs.Steps.{if_true, if_false, none_some, some_inj}
+use Rattle.clmodel.proofs.CellLaws.{byte_count_some}
 use Rattle.spaces_base.specs.declared.space.SpaceFault.{SpaceFault}
 use Rattle.spaces_base.specs.declared.space.SpaceFault.TheVariants as space_fault
 use Rattle.spaces_base.specs.Operations.{IsPerformed}
@@ -23,12 +22,6 @@ use Rattle.objects.specs.Objects.{SpacesHold, ObjectsHold, IsMoved, bytes_or, sp
 use Rattle.objects.proofs.Lists.{get_set, none_set}
 
 -- ---- the space of an object
-
-byte_count_some : (w : Width) → 0 < byte_count w
-byte_count_some One = omega arith
-byte_count_some Two = omega arith
-byte_count_some Four = omega arith
-byte_count_some Eight = omega arith
 
 pub size_some : (o : Operation) → 0 < size_of o
 size_some (Load w) = byte_count_some w
@@ -200,3 +193,13 @@ on_local bytes l group buffers locals n x y may_want first operation result o is
     let m = subst (λ z. first + size_of operation ≤ length (space_of bytes buffers locals z)) is b in
     subst (λ z. IsMoved (ObjectsHold bytes l group buffers locals) (ObjectsHold bytes l group buffers (set locals n y)) (region_of group z) first operation result) (sym is)
     (in_local bytes l group buffers locals n x y may_want first operation result e (subst (λ z. first + size_of operation ≤ length (bytes_or (λ cells. cells) z)) e m) h)
+
+pub local_at : (sizes : List ℕ) (n : ℕ) (x : List (Option ℕ)) → slice_get (map (λ size. replicate size None) sizes) n ≡ Some x → x ≡ replicate (slice_index sizes n) None
+local_at [] n x e = absurd (none_some x e)
+local_at (s ∷ sizes) zero x e = sym (some_inj (replicate s None) x e)
+local_at (s ∷ sizes) (suc n) x e = local_at sizes n x e
+
+pub local_past : (sizes : List ℕ) (n : ℕ) → ◌≡◌ {A = Option (List (Option ℕ))} (slice_get (map (λ size. replicate size None) sizes) n) None → slice_index sizes n ≡ 0
+local_past [] n e = refl
+local_past (s ∷ sizes) zero e = absurd (none_some (replicate s None) (sym e))
+local_past (s ∷ sizes) (suc n) e = local_past sizes n e

@@ -36,7 +36,7 @@ within : {A : Type 0} (xs : List A) (i : ℕ) (o : Option A) → slice_get xs i 
 within xs i (Some x) e h = slice_get_within xs i x e
 within xs i None e h = absurd h
 
-takes_nothing : (r : Option RegisterKind) → Takes r None → ⊥
+pub takes_nothing : (r : Option RegisterKind) → Takes r None → ⊥
 takes_nothing (Some r) h = h
 takes_nothing None h = h
 

@@ -39,7 +39,7 @@ use Rattle.regcode.specs.declared.tables.Register.{Register}
 use Rattle.regcode.specs.declared.tables.RegisterKind.{RegisterKind}
 use Rattle.regcode.specs.declared.tables.RegisterKind.TheVariants.{Integer as IntegerKind, Pointer as PointerKind}
 use Rattle.regcode.proofs.Registers.{reg_put, reg_kept, array_put, array_kept, with_entry_length, kind_within}
-use Rattle.regcode.proofs.Named.{in_tables}
+use Rattle.regcode.proofs.Named.{in_tables, takes_nothing}
 
 -- The types of operators' values.
 pub unary_is : (operator : UnaryOperator) (v : Integer) → (unary_value operator v).kind ≡ unary_kind operator v.kind
@@ -88,10 +88,6 @@ takes_is : (r v : Option RegisterKind) → Takes r v → r ≡ v
 takes_is (Some r) (Some v) h = ap Some h
 takes_is (Some r) None h = absurd h
 takes_is None v h = absurd h
-
-takes_nothing : (r : Option RegisterKind) → Takes r None → ⊥
-takes_nothing (Some r) h = h
-takes_nothing None h = h
 
 fetched_takes : (kind : IntType) (r : Option RegisterKind) → Takes r (fetched_kind (Some (PointerKind kind))) → r ≡ Some (IntegerKind kind)
 fetched_takes Int r h = takes_is r _ h

@@ -1,6 +1,6 @@
 -- What the next actions of items say of a fault.
 use Rattle.std.proofs.Common.{◌≡◌, ℕ, ℤ, Bool, true, false, Option, None, Some, refl, sym, ap, ◌∙◌, subst, eqb-true, eq-eqb}
-use Rattle.std.specs.Prelude.{IsTrue, is_some, nat_eq}
+use Rattle.std.specs.Prelude.{IsTrue, nat_eq}
 use Rattle.std.specs.Option.{option_eq}
 use Rattle.std.specs.Bool.{Decides}
 use Rattle.std.proofs.lemmas.Bool.{false≢true}
@@ -155,11 +155,3 @@ fails_shown l s f g item answer is same h = subst (λ z. Decides answer (Shows l
 pub same_byte : (found : Option ℕ) (byte : ℕ) (answer : Bool) → answer ≡ option_eq nat_eq found (Some byte) → Decides answer (found ≡ Some byte)
 same_byte None byte answer e = (λ h. absurd (false≢true (sym e ∙ h)), λ h. absurd (none_some byte h))
 same_byte (Some x) byte answer e = (λ h. ap Some (eqb-true x byte (sym e ∙ h)), λ h. e ∙ eq-eqb x byte (some_inj x byte h))
-
-pub none_where : {A : Type 0} (o : Option A) → is_some o ≡ false → o ≡ None
-none_where None e = refl
-none_where (Some a) e = absurd (false≢true (sym e))
-
-pub none_else : {A : Type 0} (o : Option A) → ((a : A) → o ≡ Some a → ⊥) → o ≡ None
-none_else None h = refl
-none_else (Some a) h = absurd (h a refl)

@@ -20,6 +20,7 @@ use Rattle.clmodel.specs.declared.fault.Location.TheVariants as location
 use Rattle.clmodel.proofs.Conflicts.{Meet, no_clash, no_conflict}
 use Rattle.clmodel.proofs.Steps.{none_some, some_inj, if_some, if_true}
 use Rattle.clmodel.proofs.Swaps.{cases_region}
+use Rattle.clmodel.proofs.Logs.{logged_front, logged_back}
 use Rattle.replay.specs.Spots.{number_in, HasOther, AnyMeets}
 use Rattle.replay.specs.declared.conflicts.Spot.{Spot}
 
@@ -35,21 +36,12 @@ logged_at [] k x e = absurd (none_some x e)
 logged_at (y ∷ log) zero x e = inl (some_inj y x e)
 logged_at (y ∷ log) (suc k) x e = inr (logged_at log k x e)
 
-logged_last : (xs : List Access) (x : Access) → Logged (xs ++ x ∷ []) x
-logged_last [] x = inl refl
-logged_last (y ∷ xs) x = inr (logged_last xs x)
-
-logged_front : (xs ys : List Access) (x : Access) → Logged xs x → Logged (xs ++ ys) x
-logged_front [] ys x h = absurd h
-logged_front (y ∷ xs) ys x (inl e) = inl e
-logged_front (y ∷ xs) ys x (inr h) = inr (logged_front xs ys x h)
-
 logged_reverse : (log : List Access) (x : Access) → Logged log x → Logged (reverse log) x
 logged_reverse [] x h = absurd h
 logged_reverse (y ∷ log) x h = subst (λ z. Logged z x) (sym (reverse-append (y ∷ []) log)) (go (logged_reverse log x) h)
   where
     go : (Logged log x → Logged (reverse log) x) → (y ≡ x) ⊎ Logged log x → Logged (reverse log ++ y ∷ []) x
-    go rest (inl e) = subst (Logged (reverse log ++ y ∷ [])) e (logged_last (reverse log) y)
+    go rest (inl e) = subst (Logged (reverse log ++ y ∷ [])) e (logged_back (reverse log) (y ∷ []) y (inl refl))
     go rest (inr h) = logged_front (reverse log) (y ∷ []) x (rest h)
 
 -- ---- two accesses that conflict

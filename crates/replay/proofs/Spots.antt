@@ -2,7 +2,7 @@
 use Rattle.std.proofs.Common.{◌≡◌, ℕ, ◌+◌, ◌<◌, ◌⊎◌, ◌==◌, ◌||◌, not, Bool, true, false, if◌then◌else◌, Option, Some, List, refl, sym, ap, ap₂, ◌∙◌, subst, inl, inr, arith, eqb-true, eq-eqb}
 use Rattle.std.specs.Prelude.{slice_get}
 use Rattle.std.specs.Bool.{Decides}
-use Rattle.std.proofs.lemmas.Bool.{and_parts, and_from, false≢true}
+use Rattle.std.proofs.lemmas.Bool.{and_parts, and_from, false≢true, or_right, or_left, or_cases}
 use Rattle.clmodel.specs.Launch.{left_at}
 use Rattle.clmodel.specs.declared.access.Access.{Access}
 use Rattle.clmodel.specs.declared.access.AccessKind.{AccessKind}
@@ -12,6 +12,7 @@ use Rattle.clmodel.proofs.Steps.{some_inj}
 use Rattle.replay.specs.Spots.{same_spot, differs, IsSpot, HasOther}
 use Rattle.replay.specs.declared.conflicts.Left.{Left}
 use Rattle.replay.specs.declared.conflicts.Spot.{Spot}
+use Rattle.replay_play.proofs.Walks.{below_next}
 
 pub same_spot-is : (a b : Spot) → same_spot a b ≡ true → a ≡ b
 same_spot-is a b h =
@@ -21,17 +22,6 @@ same_spot-is a b h =
 pub same_spot-from : (a b : Spot) → a ≡ b → same_spot a b ≡ true
 same_spot-from a b e =
     and_from (a.number == b.number) (a.interval == b.interval) (eq-eqb a.number b.number (ap (λ (s : Spot). s.number) e)) (eq-eqb a.interval b.interval (ap (λ (s : Spot). s.interval) e))
-
--- a number below the next one is below this one, or is it
-pub below_next : (k n : ℕ) → k < n + 1 → (k < n) ⊎ (k ≡ n)
-below_next k n h = go (k == n) refl
-  where
-    go : (b : Bool) → (k == n) ≡ b → (k < n) ⊎ (k ≡ n)
-    go true e = inr (eqb-true k n e)
-    go false e = inl (omega (arith, h, apart))
-      where
-        apart : k ≡ n → ⊥
-        apart q = false≢true (sym e ∙ eq-eqb k n q)
 
 -- a part of a log one access longer: what its spots tell is what those of the part tell, and what that of the access tells, if it has one
 pub other_more :
@@ -72,18 +62,6 @@ one_spot item kind place byte one x s q h g = spot_numbers s q (some_inj s.numbe
 
 -- ---- what an access adds
 
-either_of : (a b : Bool) → (a || b) ≡ true → (a ≡ true) ⊎ (b ≡ true)
-either_of true b h = inl refl
-either_of false b h = inr h
-
-or_left : (a b : Bool) → a ≡ true → (a || b) ≡ true
-or_left true b h = refl
-or_left false b h = absurd (false≢true h)
-
-or_right : (a b : Bool) → b ≡ true → (a || b) ≡ true
-or_right true b h = refl
-or_right false b h = h
-
 -- a byte that was left is another than this, if bytes matter
 abbrev pub is_other : Bool → ℕ → ℕ → Bool
 is_other by_byte left w = not by_byte || not (left == w)
@@ -120,7 +98,7 @@ one_more item kind place byte rule log n x s there is left left_is q w b more e 
     added = is_other rule.uniform left w
 
     back : (t : Bool) → same_spot s q ≡ t → (if same_spot s q then b || added else b) ≡ true → HasOther item kind place byte rule log (n + 1) q w
-    back true f h = go (either_of b added (sym (ap (λ z. if z then b || added else b) f) ∙ h))
+    back true f h = go (or_cases b added (sym (ap (λ z. if z then b || added else b) f) ∙ h))
       where
         go : (b ≡ true) ⊎ (added ≡ true) → HasOther item kind place byte rule log (n + 1) q w
         go (inl r) = other_kept item kind place byte rule log n q w (d.0 r)

@@ -1,8 +1,8 @@
 -- The bytes of an object that are unset.
-use Rattle.std.proofs.Common.{◌≡◌, ℕ, zero, suc, ◌+◌, ◌<◌, ◌≤◌, inl, inr, Option, None, Some, List, [], length, refl, sym, ap, ◌∙◌, subst, arith}
+use Rattle.std.proofs.Common.{◌≡◌, ℕ, ◌+◌, ◌<◌, ◌≤◌, inl, inr, Option, None, Some, List, [], length, refl, sym, ap, ◌∙◌, subst, arith}
 use Rattle.std.specs.Prelude.{slice_get}
 use Rattle.std.proofs.lemmas.Option.{slice_get_within}
-use Rattle.clmodel.specs.Cells.{Cells, cells_of, byte_count, number, lowest_unset, unset_or, size_of}
+use Rattle.clmodel.specs.Cells.{Cells, cells_of, byte_count, number, lowest_unset, size_of}
 use Rattle.clmodel.specs.Launch.{Launch, bytes_of, region_of}
 use Rattle.clmodel.specs.Run.{Memory}
 use Rattle.clmodel.specs.declared.access.Object.{Object}
@@ -17,6 +17,7 @@ use Rattle.clmodel.proofs.CellLaws.{found_unset}
 use Rattle.objects.specs.Objects.{SpacesHold}
 use Rattle.objects.proofs.Memory.{size_some}
 use Rattle.replay_play.specs.States.{LocalsHold}
+use Rattle.spaces_base.proofs.Rows.{unset_here}
 
 -- bytes that make a number are set
 pub all_set : (w : Width) (c : Cells) (first v : ℕ) → number c first (byte_count w) ≡ Some v → lowest_unset c first (byte_count w) ≡ None
@@ -25,11 +26,6 @@ all_set w c first v h = go (lowest_unset c first (byte_count w)) refl
     go : (o : Option ℕ) → lowest_unset c first (byte_count w) ≡ o → o ≡ None
     go None e = refl
     go (Some b) e = absurd (none_some v (sym (found_unset (Load w) c first b refl e) ∙ h))
-
--- a first byte that is unset is the lowest
-unset_first : (c : Cells) (first n : ℕ) → 0 < n → c first ≡ None → lowest_unset c first n ≡ Some first
-unset_first c first zero some e = absurd (omega (arith, some))
-unset_first c first (suc n) some e = ap (λ z. unset_or z first (lowest_unset c (suc first) n)) e
 
 -- a space that has the bytes of an operation is there
 space_there :
@@ -81,4 +77,4 @@ pub unmade_unset :
 unmade_unset l g m locals o n first op is e (inl h) inside =
     absurd (omega (arith, inside, ap (λ z. bytes_of l (region_of g z)) is, h.none n e, size_some op))
 unmade_unset l g m locals o n first op is e (inr h) inside =
-    sym (unset_first (m (region_of g o)) first (size_of op) (size_some op) (ap (λ z. m (region_of g z) first) is ∙ h.1 n first))
+    sym (unset_here (m (region_of g o)) first (size_of op) (size_some op) (ap (λ z. m (region_of g z) first) is ∙ h.1 n first))

@@ -1,5 +1,5 @@
 -- Events of items, in what a program keeps of a state.
-use Rattle.std.proofs.Common.{◌≡◌, ℕ, zero, suc, ◌*◌, ◌<◌, ◌≤◌, ◌⊎◌, ℤ, Bool, true, false, ◌&&◌, ◌==◌, nat_lt, Option, None, Some, List, [], ◌∷◌, ◌++◌, length, map, replicate, set, refl, sym, ap, ap₂, ◌∙◌, subst, inl, inr, arith, lt-ltb, ltb-true, eqb-true, eq-eqb, ne_eqb}
+use Rattle.std.proofs.Common.{◌≡◌, ℕ, ◌*◌, ◌<◌, ◌≤◌, ◌⊎◌, ℤ, Bool, true, false, ◌&&◌, ◌==◌, nat_lt, Option, None, Some, List, [], ◌∷◌, ◌++◌, length, map, replicate, set, refl, sym, ap, ap₂, ◌∙◌, subst, inl, inr, arith, lt-ltb, ltb-true, eqb-true, eq-eqb, ne_eqb}
 use Rattle.std.specs.Prelude.{slice_get, slice_index, if◌then◌else◌, reverse, Result, Ok, Err}
 use Rattle.std.specs.Option.{option_map, option_and_then}
 use Rattle.std.proofs.Math.Path.{fun_ext}
@@ -18,13 +18,13 @@ use Rattle.clmodel.specs.declared.action.Action.{Action}
 use Rattle.clmodel.specs.declared.action.Action.TheVariants as action
 use Rattle.clmodel.specs.declared.action.Answer.{Answer}
 use Rattle.clmodel.specs.declared.schedule.Event.TheVariants.{Item}
-use Rattle.clmodel.proofs.Steps.{none_some, some_inj, if_true, if_false}
-use Rattle.clmodel.proofs.CellLaws.{found_unset}
+use Rattle.clmodel.proofs.Steps.{if_true, if_false}
+use Rattle.clmodel.proofs.CellLaws.{found_unset, cells_none}
 use Rattle.spaces_base.specs.declared.space.SpaceFault.{SpaceFault}
 use Rattle.spaces_base.specs.declared.space.SpaceFault.TheVariants as space_fault
 use Rattle.objects.specs.Objects.{SpacesHold, ObjectsHold, IsMoved, space_of}
 use Rattle.objects.proofs.Lists.{get_set}
-use Rattle.objects.proofs.Memory.{space_sized}
+use Rattle.objects.proofs.Memory.{space_sized, local_at, local_past}
 use Rattle.replay_play.specs.Items.{acts_of}
 use Rattle.replay_play.specs.States.{LocalsHold, attempt, IsPerformed, IsGroupIn, Tells, IsPlayed}
 use Rattle.replay_play.specs.declared.group.Group.{Group}
@@ -32,21 +32,6 @@ use Rattle.replay_play.specs.declared.group.Performed.{Performed}
 use Rattle.replay_play.specs.declared.slot.Slot.{Slot}
 
 -- ---- local objects
-
-cells_none : (n byte : ℕ) → cells_of (replicate n None) byte ≡ None
-cells_none zero byte = refl
-cells_none (suc n) zero = refl
-cells_none (suc n) (suc byte) = cells_none n byte
-
-local_at : (sizes : List ℕ) (n : ℕ) (x : List (Option ℕ)) → slice_get (map (λ size. replicate size None) sizes) n ≡ Some x → x ≡ replicate (slice_index sizes n) None
-local_at [] n x e = absurd (none_some x e)
-local_at (s ∷ sizes) zero x e = sym (some_inj (replicate s None) x e)
-local_at (s ∷ sizes) (suc n) x e = local_at sizes n x e
-
-local_past : (sizes : List ℕ) (n : ℕ) → ◌≡◌ {A = Option (List (Option ℕ))} (slice_get (map (λ size. replicate size None) sizes) n) None → slice_index sizes n ≡ 0
-local_past [] n e = refl
-local_past (s ∷ sizes) zero e = absurd (none_some (replicate s None) (sym e))
-local_past (s ∷ sizes) (suc n) e = local_past sizes n e
 
 -- unset local objects hold a memory that is unset there
 unset_hold :

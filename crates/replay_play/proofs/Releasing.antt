@@ -7,7 +7,7 @@ use Rattle.std.proofs.lemmas.List.{length-set, length-append, append_assoc}
 use Rattle.std.proofs.lemmas.Nat.{div-add-mod', div-mul-add}
 use Rattle.clmodel.specs.Launch.{Launch, group_of}
 use Rattle.clmodel.specs.Law.{is_over}
-use Rattle.clmodel.specs.Run.{State, step, next_action, lowest, first_item, stop_of, both_stop, straggler, raised, released, release_from, release_if, release}
+use Rattle.clmodel.specs.Run.{State, step, next_action, first_item, stop_of, both_stop, straggler, raised, released, release_from, release_if, release}
 use Rattle.clmodel.specs.declared.access.Access.{Access}
 use Rattle.clmodel.specs.declared.action.Action.{Action}
 use Rattle.clmodel.specs.declared.action.Action.TheVariants as action
@@ -17,7 +17,7 @@ use Rattle.clmodel.specs.declared.action.Fences.{Fences}
 use Rattle.clmodel.specs.declared.action.Instance.{Instance}
 use Rattle.clmodel.specs.declared.action.Stop.{Stop}
 use Rattle.clmodel.specs.declared.schedule.Event.TheVariants.{Release}
-use Rattle.clmodel.proofs.Steps.{if_true, if_false, lowest_some, lowest_least, lowest_finds, lowest_is_none}
+use Rattle.clmodel.proofs.Steps.{if_true, if_false, lowest_finds, lowest_is_none, found_first}
 use Rattle.objects.proofs.Lists.{get_set}
 use Rattle.replay_play.specs.Items.{acts_of, AreAlike, AreAt, AreAnswered}
 use Rattle.launches.specs.Groups.{IsRunnable}
@@ -75,17 +75,6 @@ nothing n = omega arith
 
 first_in : (size g : ℕ) → 0 < size → g * size / size ≡ g
 first_in size g some = ap (λ n. n / size) (nothing (g * size)) ∙ div-mul-add g size 0 some
-
-found_first : (q : ℕ → Bool) (n k : ℕ) → k < n → q k ≡ true → ((j : ℕ) → j < k → q j ≡ false) → lowest q n ≡ Some k
-found_first q n k b t below = at (lowest_finds q n k b t)
-  where
-    at : (f : (j : ℕ) × (lowest q n ≡ Some j)) → lowest q n ≡ Some k
-    at f = go (cases_lt f.0 k) (cases_lt k f.0)
-      where
-        go : (f.0 < k) ⊎ (k ≤ f.0) → (k < f.0) ⊎ (f.0 ≤ k) → lowest q n ≡ Some k
-        go (inl l) o = absurd (false≢true (sym (below f.0 l) ∙ (lowest_some q n f.0 f.1).1))
-        go (inr l) (inl m) = absurd (false≢true (sym (lowest_least q n f.0 f.1 k m) ∙ t))
-        go (inr l) (inr m) = let e : f.0 ≡ k = omega (arith, l, m) in f.1 ∙ ap Some e
 
 pub not_both : (a j : ℕ) → j < a → a ≤ j → ⊥
 not_both a j h e = absurd (omega (arith, h, e))

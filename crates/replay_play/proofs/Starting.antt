@@ -9,6 +9,7 @@ use Rattle.clmodel.specs.Launch.{Launch}
 use Rattle.clmodel.specs.Run.{start, initial}
 use Rattle.clmodel.specs.declared.access.Region.TheVariants as region
 use Rattle.clmodel.proofs.Steps.{none_some, some_inj}
+use Rattle.clmodel.proofs.CellLaws.{cells_some}
 use Rattle.objects.specs.Objects.{SpacesHold}
 use Rattle.replay_play.specs.Items.{acts_of}
 use Rattle.launches.specs.Groups.{filled}
@@ -18,11 +19,6 @@ use Rattle.replay_play.specs.declared.slot.Slot.{Slot}
 use Rattle.replay_play.specs.declared.slot.Slot.TheVariants as slot
 
 -- ---- the buffers
-
-cells_some : (bytes : List ℕ) (byte : ℕ) → cells_of (map Some bytes) byte ≡ slice_get bytes byte
-cells_some [] byte = refl
-cells_some (b ∷ bytes) zero = refl
-cells_some (b ∷ bytes) (suc byte) = cells_some bytes byte
 
 filled_at : (bs : List (List ℕ)) (n : ℕ) (x : List (Option ℕ)) → slice_get (map (λ b. map Some b) bs) n ≡ Some x → x ≡ map Some (slice_index_or bs n [])
 filled_at [] n x e = absurd (none_some x e)

@@ -57,7 +57,7 @@ at_alike :
     (l : Launch) (stop : Stop) (k : ℕ) (x w : Slot) → ((answers : List Answer) → acts_of l k x answers ≡ acts_of l k w answers) → is_at l stop k x ≡ is_at l stop k w
 at_alike l stop k x w same = ap (λ a. both_stop (Some stop) (stop_of a)) (same [])
 
-below_next : (j k : ℕ) → j < k + 1 → (j < k) ⊎ (j ≡ k)
+pub below_next : (j k : ℕ) → j < k + 1 → (j < k) ⊎ (j ≡ k)
 below_next j k h = grind arith
 
 pub at_more :

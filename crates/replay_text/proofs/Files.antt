@@ -3,7 +3,7 @@ use Rattle.std.proofs.Common.{◌≡◌, ℕ, ◌<◌, ◌^◌, ◌==◌, Bool, 
 use Rattle.std.specs.Char.{is_ascii_digit}
 use Rattle.std.specs.List.{list_all, flat_map, join_with_byte, All}
 use Rattle.std.specs.Option.{is_some, unwrap_or}
-use Rattle.std.proofs.lemmas.Bool.{eqb-true, ne_eqb}
+use Rattle.std.proofs.lemmas.Bool.{eqb-true, ne_eqb, not-true}
 use Rattle.std.proofs.lemmas.Bool.Decides.{nat_tests}
 use Rattle.std.proofs.lemmas.Fmt.{decimal_nonempty}
 use Rattle.std.proofs.lemmas.List.{take-append-drop}
@@ -185,12 +185,8 @@ solid_inner (b ∷ bs) h =
     let one = and_true (not (b == 32)) (not (b == 10)) both.0 in
     rw one.1 (solid_inner bs both.1)
 
-not_true : (v : Bool) → not v ≡ true → v ≡ false
-not_true true h = absurd (cc)
-not_true false h = refl
-
 no_spaces : (r : EventRun) → IsRun r → All (λ b. (b == 32) ≡ false) (run_word r)
-no_spaces r h = let all = AllPass-from_list_all is_solid (run_word r) (word_solid r h) in λ k d in_it. not_true _ (and_true _ _ (all k d in_it)).0
+no_spaces r h = let all = AllPass-from_list_all is_solid (run_word r) (word_solid r h) in λ k d in_it. not-true _ (and_true _ _ (all k d in_it)).0
 
 abbrev words_joined : List EventRun → List ℕ
 words_joined runs = join_with_byte 32 (map run_word runs)

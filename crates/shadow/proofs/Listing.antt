@@ -23,7 +23,7 @@ onto_is (x ∷ xs) log =
 accesses_end : (xs : List Entry) (x : Entry) → accesses (xs ++ x ∷ []) ≡ x.access ∷ accesses xs
 accesses_end xs x = ap (map (λ (y : Entry). y.access)) (reverse-append xs (x ∷ []))
 
-take_next : (xs : List Entry) (i : ℕ) (x : Entry) → slice_get xs i ≡ Some x → take (suc i) xs ≡ take i xs ++ x ∷ []
+pub take_next : (xs : List Entry) (i : ℕ) (x : Entry) → slice_get xs i ≡ Some x → take (suc i) xs ≡ take i xs ++ x ∷ []
 take_next [] i x h = absurd (none_some x h)
 take_next (y ∷ xs) zero x h = ap (λ z. z ∷ []) (some_inj y x h)
 take_next (y ∷ xs) (suc i) x h = ap (λ z. y ∷ z) (take_next xs i x h)

@@ -1,5 +1,5 @@
 -- What is kept of bytes tells the conflicts of an access of another group's item.
-use Rattle.std.proofs.Common.{◌≡◌, ℕ, zero, suc, ◌+◌, ◌<◌, ◌≤◌, ◌==◌, Bool, true, false, not, ◌&&◌, ◌||◌, ◌⊎◌, if◌then◌else◌, Option, None, Some, List, [], ◌∷◌, refl, sym, ap, ap₂, ◌∙◌, subst, inl, inr, arith, eqb-true, eq-eqb, le-leb, lt-ltb, length, get_or}
+use Rattle.std.proofs.Common.{◌≡◌, ℕ, zero, suc, ◌+◌, ◌<◌, ◌≤◌, ◌==◌, Bool, true, false, not, ◌&&◌, ◌||◌, ◌⊎◌, if◌then◌else◌, Option, None, Some, List, [], ◌∷◌, refl, sym, ap, ap₂, ◌∙◌, subst, inl, inr, arith, eqb-true, eq-eqb, length, get_or}
 use Rattle.std.proofs.lemmas.List.{get_or-map, get_or_past}
 use Rattle.clmodel.specs.declared.access.Region.TheVariants as region
 use Rattle.std.specs.Option.{option_map}
@@ -16,7 +16,9 @@ use Rattle.clmodel.specs.declared.access.Clash.{Clash}
 use Rattle.clmodel.specs.declared.access.Clash.TheVariants.{Race}
 use Rattle.clmodel.specs.declared.access.Region.{Region}
 use Rattle.clmodel.specs.declared.access.Conflict as conflict_type
-use Rattle.clmodel.proofs.Steps.{none_some}
+use Rattle.clmodel.proofs.Steps.{none_some, or_else_nothing, or_else_map}
+use Rattle.clmodel.proofs.CellLaws.{covers_from}
+use Rattle.clmodel.proofs.Conflicts.{eqb_sym}
 use Rattle.joining.specs.Memory.{writes, at_byte, wrote}
 use Rattle.shadow_list.specs.Kinds.{kind_number}
 use Rattle.shadow_list.proofs.Agreeing.{class_small, agree_number, not_eight, number_agrees}
@@ -28,10 +30,6 @@ use Rattle.shadow.specs.declared.seen.Seen.{Seen}
 use Rattle.shadow.specs.declared.seen.Seen.TheVariants.{Untouched, Touched, Mixed}
 
 -- ---- one access more
-
-or_none : {A : Type 0} (o : Option A) → or_else o None ≡ o
-or_none None = refl
-or_none (Some a) = refl
 
 -- a mark has a byte left where it is of a store alone
 abbrev pub Plain : Mark → Type 0
@@ -272,19 +270,12 @@ written at byte (x ∷ log) = go (written at byte log) (at_byte at byte x) refl
 
 -- ---- the conflict of an access
 
-eqb_swapped : (a b : ℕ) → (a == b) ≡ (b == a)
-eqb_swapped a b = go (cases_eq a b)
-  where
-    go : (a ≡ b) ⊎ (a ≡ b → ⊥) → (a == b) ≡ (b == a)
-    go (inl e) = eq-eqb a b e ∙ sym (eq-eqb b a (sym e))
-    go (inr ne) = ne_eqb a b ne ∙ sym (ne_eqb b a (λ e. ne (sym e)))
-
 -- whether two regions are one, whichever is named first
 pub region_swapped : (a b : Region) → same_region a b ≡ same_region b a
-region_swapped (region.Buffer a) (region.Buffer b) = eqb_swapped a b
+region_swapped (region.Buffer a) (region.Buffer b) = eqb_sym a b
 region_swapped (region.Buffer a) (region.Local h b) = refl
 region_swapped (region.Local g a) (region.Buffer b) = refl
-region_swapped (region.Local g a) (region.Local h b) = ap₂ (λ (x y : Bool). x && y) (eqb_swapped g h) (eqb_swapped a b)
+region_swapped (region.Local g a) (region.Local h b) = ap₂ (λ (x y : Bool). x && y) (eqb_sym g h) (eqb_sym a b)
 
 -- how an access conflicts with one of another item on a byte that it is at
 judged_bits : (same mine there : Bool) (o : Option Clash) → mine ≡ true
@@ -315,10 +306,6 @@ kinds_clash u kind.Fetch k2 a b = refl
 marks_clash : (u : Bool) (y x : Access) (byte : ℕ) → mark_clash u (mark_of y byte) (mark_of x byte) ≡ clash_at (across_groups u) y x byte
 marks_clash u y x byte = kinds_clash u y.kind x.kind (left_at y byte) (left_at x byte)
 
-map_or : {A B : Type 0} (f : A → B) (o p : Option A) → option_map f (or_else o p) ≡ or_else (option_map f o) (option_map f p)
-map_or f None p = refl
-map_or f (Some a) p = refl
-
 told : (x y : Access) (byte : ℕ) (o : Option Clash)
     → option_map meeting_of (option_map (λ c. record { earlier = y; later = x; byte = byte; clash = c }) o) ≡ option_map (λ c. record { clash = c; mark = mark_of y byte; byte = byte }) o
 told x y byte None = refl
@@ -329,7 +316,7 @@ pub on_byte : (u : Bool) (x : Access) (byte : ℕ) (log : List Access) → OfOth
 on_byte u x byte [] others here = refl
 on_byte u x byte (y ∷ log) others here =
     go (on_byte u x byte log (λ z m. others z (inr m)) here) (at_byte x.region byte y) refl
-    ∙ sym (map_or meeting_of older (option_map (λ c. record { earlier = y; later = x; byte = byte; clash = c }) (conflict_between (across_groups u) y x byte))
+    ∙ sym (or_else_map meeting_of older (option_map (λ c. record { earlier = y; later = x; byte = byte; clash = c }) (conflict_between (across_groups u) y x byte))
     ∙ ap (or_else (option_map meeting_of older))
     (told x y byte (conflict_between (across_groups u) y x byte) ∙ ap here_met (judged u x y byte (others y (inl refl)) here)))
   where
@@ -353,11 +340,8 @@ on_byte u x byte (y ∷ log) others here =
     go before false e =
         ap (λ (z : Bool). against u mine byte (if z then seen_with (seen x.region byte log) (mark_of y byte) else seen x.region byte log)) e
         ∙ before
-        ∙ sym (or_none (option_map meeting_of older))
+        ∙ sym (or_else_nothing (option_map meeting_of older))
         ∙ sym (ap (λ (z : Bool). or_else (option_map meeting_of older) (here_met (if z then clash_at (across_groups u) y x byte else None))) e)
-
-covered : (first count byte : ℕ) → first ≤ byte → byte < first + count → covers first count byte ≡ true
-covered first count byte a b = and_from _ _ (le-leb first byte a) (lt-ltb byte (first + count) b)
 
 pub on_bytes : (u : Bool) (x : Access) (log : List Access) (cells : ℕ → Seen) → OfOthers x.item log → ((byte : ℕ) → cells byte ≡ seen x.region byte log)
     → (first count : ℕ) → x.first ≤ first → first + count ≤ x.first + byte_count x.width
@@ -365,9 +349,9 @@ pub on_bytes : (u : Bool) (x : Access) (log : List Access) (cells : ℕ → Seen
 on_bytes u x log cells others kept first zero a b = refl
 on_bytes u x log cells others kept first (suc count) a b =
     ap₂ or_else
-    (ap (against u (mark_of x first) first) (kept first) ∙ on_byte u x first log others (covered x.first (byte_count x.width) first a (omega (arith, b))))
+    (ap (against u (mark_of x first) first) (kept first) ∙ on_byte u x first log others (covers_from x.first (byte_count x.width) first a (omega (arith, b))))
     (on_bytes u x log cells others kept (suc first) count (omega (arith, a)) (omega (arith, b)))
-    ∙ sym (map_or meeting_of (conflict_on (conflict_between (across_groups u)) x first log) (conflict_from (conflict_between (across_groups u)) x log (suc first) count))
+    ∙ sym (or_else_map meeting_of (conflict_on (conflict_between (across_groups u)) x first log) (conflict_from (conflict_between (across_groups u)) x log (suc first) count))
 
 -- ---- cells in lists
 

@@ -1,20 +1,19 @@
 -- An access that tells nothing new is met only where an earlier one of its group is.
-use Rattle.std.proofs.Common.{◌≡◌, ℕ, zero, suc, ◌+◌, ◌<◌, ◌≤◌, ◌==◌, Bool, true, false, ◌⊎◌, if◌then◌else◌, Option, None, Some, List, [], ◌∷◌, refl, sym, ap, ◌∙◌, subst, inl, inr, arith, eqb-true, eq-eqb}
+use Rattle.std.proofs.Common.{◌≡◌, ℕ, zero, suc, ◌+◌, ◌<◌, ◌≤◌, Bool, true, false, ◌⊎◌, if◌then◌else◌, Option, None, List, [], ◌∷◌, refl, sym, ap, ◌∙◌, subst, inl, inr, arith, eq-eqb}
 use Rattle.std.specs.Option.{option_map}
 use Rattle.std.proofs.lemmas.Bool.{and_parts, and_from, cases_eq, false≢true}
 use Rattle.clmodel.specs.Cells.{byte_count, covers}
-use Rattle.clmodel.specs.Launch.{same_region, class_number, clash}
+use Rattle.clmodel.specs.Launch.{same_region, clash}
 use Rattle.clmodel.specs.Run.{or_else}
 use Rattle.clmodel.specs.declared.access.Access.{Access}
-use Rattle.clmodel.specs.declared.access.AccessKind.{AccessKind}
 use Rattle.clmodel.specs.declared.access.AccessKind.TheVariants as kind
 use Rattle.clmodel.specs.declared.access.Clash.{Clash}
-use Rattle.clmodel.specs.declared.access.Clash.TheVariants.{Race, Order}
 use Rattle.clmodel.specs.declared.access.Region.{Region}
 use Rattle.clmodel.specs.declared.access.Region.TheVariants as region
-use Rattle.clmodel.proofs.Steps.{none_some}
+use Rattle.clmodel.proofs.Steps.{or_else_none, map_none}
 use Rattle.clmodel.proofs.Swaps.{same_region-true}
 use Rattle.clmodel.proofs.CellLaws.{covers_parts, covers_from}
+use Rattle.clmodel.proofs.Conflicts.{clash_sym}
 use Rattle.joining.specs.Memory.{at_byte}
 use Rattle.shadow.specs.Seen.{one_sort, seen_with, mark_of, seen, mark_clash, met, against, against_from, meeting, met_at, OfOthers}
 use Rattle.shadow.specs.Lasting.{Absorbed}
@@ -26,40 +25,12 @@ use Rattle.shadow.proofs.Meetings.{Plain, Apart, SameStore, passes, store_passes
 
 -- ---- marks
 
-same_class : (b : Bool) → (if b then None else Some Order) ≡ None → b ≡ true
-same_class true h = refl
-same_class false h = absurd (none_some Order (sym h))
-
-clash_back : (k k2 : AccessKind) → clash k k2 ≡ None → clash k2 k ≡ None
-clash_back kind.Load kind.Load h = refl
-clash_back kind.Load kind.Store h = absurd (none_some Race (sym h))
-clash_back kind.Load (kind.Update d) h = absurd (none_some Race (sym h))
-clash_back kind.Load kind.Fetch h = absurd (none_some Race (sym h))
-clash_back kind.Store k2 h = absurd (none_some Race (sym h))
-clash_back (kind.Update c) kind.Load h = absurd (none_some Race (sym h))
-clash_back (kind.Update c) kind.Store h = absurd (none_some Race (sym h))
-clash_back (kind.Update c) (kind.Update d) h =
-    ap (λ (b : Bool). if b then None else Some Order) (eq-eqb (class_number d) (class_number c) (sym (eqb-true (class_number c) (class_number d) (same_class (class_number c == class_number d) h))))
-clash_back (kind.Update c) kind.Fetch h = absurd (none_some Order (sym h))
-clash_back kind.Fetch kind.Load h = absurd (none_some Race (sym h))
-clash_back kind.Fetch kind.Store h = absurd (none_some Race (sym h))
-clash_back kind.Fetch (kind.Update d) h = absurd (none_some Order (sym h))
-clash_back kind.Fetch kind.Fetch h = absurd (none_some Order (sym h))
-
 mark_back : (u : Bool) (a z : Mark) → mark_clash u a z ≡ None → mark_clash u z a ≡ None
 mark_back u a z h = go (passes u a z h)
   where
     go : SameStore u a z ⊎ (clash a.kind z.kind ≡ None) → mark_clash u z a ≡ None
     go (inl s) = store_passes u z a (s.0, s.2, s.1, sym s.3)
-    go (inr c) = kind_passes u z a (clash_back a.kind z.kind c)
-
-map_none : {A B : Type 0} (f : A → B) (o : Option A) → option_map f o ≡ None → o ≡ None
-map_none f None h = refl
-map_none f (Some a) h = absurd (none_some (f a) (sym h))
-
-or_parts : {A : Type 0} (o p : Option A) → or_else o p ≡ None → (o ≡ None) × (p ≡ None)
-or_parts None p h = (refl, h)
-or_parts (Some a) p h = absurd (none_some a (sym h))
+    go (inr c) = kind_passes u z a (clash_sym a.kind z.kind c)
 
 or_both : {A : Type 0} (o p : Option A) → o ≡ None → p ≡ None → or_else o p ≡ None
 or_both o p e f = ap (λ x. or_else x p) e ∙ f
@@ -88,7 +59,7 @@ sort_pass : (u : Bool) (a m : Mark) (byte : ℕ) (kept : Seen) → one_sort a m 
 sort_pass u a m byte Untouched e h = refl
 sort_pass u a m byte (Touched z) e h = sort_met u a m byte z e h
 sort_pass u a m byte (Mixed z w) e h =
-    let p = or_parts (met u a byte z) (met u a byte w) h in or_both (met u m byte z) (met u m byte w) (sort_met u a m byte z e p.0) (sort_met u a m byte w e p.1)
+    let p = or_else_none (met u a byte z) (met u a byte w) h in or_both (met u m byte z) (met u m byte w) (sort_met u a m byte z e p.0) (sort_met u a m byte w e p.1)
 
 -- nothing that is kept passes two sorts
 two_sorts : (u : Bool) (a b : Mark) (byte : ℕ) (z : Mark) → Plain a → Plain b → one_sort a b ≡ false → met u a byte z ≡ None → met u b byte z ≡ None → ⊥
@@ -99,7 +70,7 @@ apart_pass : (u : Bool) (a b m : Mark) (byte : ℕ) (kept : Seen) → Plain a �
 apart_pass u a b m byte Untouched plain_a plain_b apart h i = refl
 apart_pass u a b m byte (Touched z) plain_a plain_b apart h i = absurd (two_sorts u a b byte z plain_a plain_b apart h i)
 apart_pass u a b m byte (Mixed z w) plain_a plain_b apart h i =
-    absurd (two_sorts u a b byte z plain_a plain_b apart (or_parts (met u a byte z) (met u a byte w) h).0 (or_parts (met u b byte z) (met u b byte w) i).0)
+    absurd (two_sorts u a b byte z plain_a plain_b apart (or_else_none (met u a byte z) (met u a byte w) h).0 (or_else_none (met u b byte z) (met u b byte w) i).0)
 
 -- a mark that changes nothing passes where all that are there do
 taken_pass : (u : Bool) (s : Seen) (m : Mark) (byte : ℕ) (kept : Seen) → Apart s → AllPass u byte kept s → Takes s m → Passes u byte kept m
@@ -136,7 +107,7 @@ each_byte u x cells first zero h byte low high = absurd (omega (arith, low, high
 each_byte u x cells first (suc count) h byte low high = go (λ l. each_byte u x cells (suc first) count parts.1 byte l (omega (arith, high))) (cases_eq first byte)
   where
     parts : (against u (mark_of x first) first (cells first) ≡ None) × (against_from u x cells (suc first) count ≡ None)
-    parts = or_parts (against u (mark_of x first) first (cells first)) (against_from u x cells (suc first) count) h
+    parts = or_else_none (against u (mark_of x first) first (cells first)) (against_from u x cells (suc first) count) h
 
     go : (suc first ≤ byte → against u (mark_of x byte) byte (cells byte) ≡ None) → (first ≡ byte) ⊎ (first ≡ byte → ⊥) → against u (mark_of x byte) byte (cells byte) ≡ None
     go later (inl e) = subst (λ b. against u (mark_of x b) b (cells b) ≡ None) e parts.0

@@ -1,29 +1,18 @@
 -- Which accesses conflict, and searches for the first that does.
-use Rattle.std.proofs.Common.{◌≡◌, ℕ, zero, suc, ◌+◌, ◌-◌, ◌<◌, ◌≤◌, ◌⊎◌, Bool, true, false, nat_lt, nat_le, ◌&&◌, if◌then◌else◌, Option, None, Some, List, [], ◌∷◌, length, drop, get_or, refl, sym, ap, ◌∙◌, subst, inl, inr, arith, ltb-true, leb-true}
+use Rattle.std.proofs.Common.{◌≡◌, ℕ, zero, suc, ◌+◌, ◌-◌, ◌<◌, ◌≤◌, ◌⊎◌, Bool, true, false, ◌&&◌, if◌then◌else◌, Option, None, Some, List, [], ◌∷◌, length, drop, get_or, refl, sym, ap, ◌∙◌, subst, inl, inr, arith}
 use Rattle.std.specs.Prelude.{is_some}
 use Rattle.std.specs.Option.{option_map}
-use Rattle.std.proofs.lemmas.Bool.{and_parts, false≢true}
+use Rattle.std.proofs.lemmas.Bool.{and_parts, false≢true, and_left, and_right}
 use Rattle.clmodel.specs.Cells.{byte_count, covers}
 use Rattle.clmodel.specs.Launch.{unordered, same_region, share, clash, same_store, clash_at, conflict_between}
 use Rattle.clmodel.specs.Run.{or_else}
 use Rattle.clmodel.specs.declared.access.Access.{Access}
 use Rattle.clmodel.specs.declared.access.Rule.{Rule}
+use Rattle.clmodel.proofs.CellLaws.{covers_parts}
+use Rattle.clmodel.proofs.Steps.{decided}
 use Rattle.shadow_list.specs.Log.{hit_between, hit_on, hit_from, hit, IsThere}
 use Rattle.shadow_list.specs.declared.log.Entry.{Entry}
 use Rattle.shadow_list.specs.declared.log.Hit.{Hit}
-
--- a truth value, by cases that keep its equation
-pub decided : {P : Type 0} (b : Bool) → (b ≡ true → P) → (b ≡ false → P) → P
-decided true positive negative = positive refl
-decided false positive negative = negative refl
-
-and_right : (a b : Bool) → b ≡ false → (a && b) ≡ false
-and_right true b h = h
-and_right false b h = refl
-
-pub and_left : (a b : Bool) → a ≡ false → (a && b) ≡ false
-and_left true b h = absurd (false≢true (sym h))
-and_left false b h = refl
 
 -- ---- accesses that don't conflict
 
@@ -43,11 +32,6 @@ other_region g x y byte h =
     (and_left (same_region x.region y.region && covers x.first (byte_count x.width) byte) (covers y.first (byte_count y.width) byte)
     (and_left (same_region x.region y.region) (covers x.first (byte_count x.width) byte) h))
 
-pub covered : (first count byte : ℕ) → covers first count byte ≡ true → (first ≤ byte) × (byte < first + count)
-covered first count byte h =
-    let r : (nat_le first byte ≡ true) × (nat_lt byte (first + count) ≡ true) = and_parts (nat_le first byte) (nat_lt byte (first + count)) h in
-    (leb-true first byte r.0, ltb-true byte (first + count) r.1)
-
 pub apart : (g : Rule) (x y : Access) (byte : ℕ) → (y.first + byte_count y.width ≤ x.first) ⊎ (x.first + byte_count x.width ≤ y.first) → conflict_between g x y byte ≡ None
 apart g x y byte h = decided (share x y byte) (λ p. absurd (never p h)) (not_shared g x y byte)
   where
@@ -55,7 +39,7 @@ apart g x y byte h = decided (share x y byte) (λ p. absurd (never p h)) (not_sh
     never p h =
         let r : ((same_region x.region y.region && covers x.first (byte_count x.width) byte) ≡ true) × (covers y.first (byte_count y.width) byte ≡ true) = and_parts _ _ p in
         let s : (same_region x.region y.region ≡ true) × (covers x.first (byte_count x.width) byte ≡ true) = and_parts _ _ r.0 in
-        both (covered x.first (byte_count x.width) byte s.1) (covered y.first (byte_count y.width) byte r.1) h
+        both (covers_parts x.first (byte_count x.width) byte s.1) (covers_parts y.first (byte_count y.width) byte r.1) h
       where
         both : (x.first ≤ byte) × (byte < x.first + byte_count x.width) → (y.first ≤ byte) × (byte < y.first + byte_count y.width)
             → (y.first + byte_count y.width ≤ x.first) ⊎ (x.first + byte_count x.width ≤ y.first) → ⊥

@@ -5,7 +5,7 @@ use Rattle.std.proofs.lemmas.List.{get_or_past, get_or-set_same, get_or-set_othe
 use Rattle.std.specs.Option.{unwrap_or}
 use Rattle.std.specs.HashMap.{HashMap, get, IsUnchanged}
 use Rattle.std.specs.Map.{lookup}
-use Rattle.std.proofs.lemmas.Bool.{false≢true, and_parts, and_from, cases_eq, cases_lt}
+use Rattle.std.proofs.lemmas.Bool.{false≢true, and_parts, and_from, cases_eq, cases_lt, and_left}
 use Rattle.std.proofs.lemmas.List.Elements.{All-head, All-tail}
 use Rattle.std.proofs.lemmas.Option.{none-some, same_Some, slice_get_within}
 use Rattle.clmodel.specs.Cells.{byte_count, covers}
@@ -14,6 +14,7 @@ use Rattle.clmodel.specs.declared.access.Access.{Access}
 use Rattle.clmodel.specs.declared.access.AccessKind.{AccessKind}
 use Rattle.clmodel.specs.declared.access.Region.{Region}
 use Rattle.clmodel.specs.declared.access.Region.TheVariants as region
+use Rattle.clmodel.proofs.Steps.{decided}
 use Rattle.shadow_list.specs.Cells.{object, cell_key, in_cell, Passes}
 use Rattle.shadow_list.specs.Index.{access_key, same_key, newest_of}
 use Rattle.shadow_list.specs.Kinds.{kind_number}
@@ -24,7 +25,7 @@ use Rattle.shadow_list.specs.declared.log.Entry.{Entry}
 use Rattle.shadow_list.specs.declared.recent.How.TheVariants as how
 use Rattle.shadow_list.specs.declared.recent.Recent.{Recent}
 use Rattle.shadow_list.proofs.Agreeing.{agree_number, number_agrees, stores_by_number}
-use Rattle.shadow_list.proofs.Hits.{decided, ordered, not_shared, no_clash, kinds_agree, stores_agree, past_over, clear, and_left}
+use Rattle.shadow_list.proofs.Hits.{ordered, not_shared, no_clash, kinds_agree, stores_agree, past_over, clear}
 use Rattle.shadow_list.proofs.Past.{other_interval}
 
 -- ---- accesses that pass

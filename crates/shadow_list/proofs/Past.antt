@@ -10,16 +10,17 @@ use Rattle.clmodel.specs.Run.{or_else, by_region}
 use Rattle.clmodel.specs.declared.access.Access.{Access}
 use Rattle.clmodel.specs.declared.access.Region.{Region}
 use Rattle.clmodel.specs.declared.access.Region.TheVariants as region
+use Rattle.clmodel.proofs.Steps.{decided}
 use Rattle.shadow_list.specs.Log.{in_buffer, hit_on, hit_from, hit, IsThere}
 use Rattle.shadow_list.specs.Past.{IsBefore}
 use Rattle.shadow_list.specs.declared.log.Entry.{Entry}
-use Rattle.shadow_list.proofs.Hits.{ordered, other_region, decided, past_over}
+use Rattle.shadow_list.proofs.Hits.{ordered, other_region, past_over}
 
 -- before the interval of an access, or in the other memory
 abbrev pub IsPast : Entry → Entry → Type 0
 IsPast x = IsBefore (in_buffer x.access.region) x.access.interval
 
-one_memory : (a b : Region) → same_region a b ≡ true → in_buffer a ≡ in_buffer b
+pub one_memory : (a b : Region) → same_region a b ≡ true → in_buffer a ≡ in_buffer b
 one_memory (region.Buffer a) (region.Buffer b) h = refl
 one_memory (region.Buffer a) (region.Local h b) e = absurd (false≢true e)
 one_memory (region.Local g a) (region.Buffer b) e = absurd (false≢true e)

@@ -1,8 +1,7 @@
 -- What the joined groups leave in the buffers, as code holds it.
-use Rattle.std.proofs.Common.{◌≡◌, ℕ, zero, suc, ◌+◌, ◌*◌, ◌/◌, ◌%◌, ◌<◌, ◌⊎◌, Bool, true, false, Option, None, Some, List, [], ◌∷◌, ◌++◌, length, map, refl, sym, ap, ap₂, ◌∙◌, subst, inl, inr, arith, ⊎_elim}
-use Rattle.std.specs.Prelude.{reverse, slice_get, if◌then◌else◌}
+use Rattle.std.proofs.Common.{◌≡◌, ℕ, zero, suc, ◌+◌, ◌*◌, ◌/◌, ◌%◌, ◌<◌, ◌⊎◌, Bool, true, false, Option, None, Some, List, [], ◌∷◌, length, map, refl, sym, ap, ap₂, ◌∙◌, subst, inl, inr, arith, ⊎_elim}
+use Rattle.std.specs.Prelude.{slice_get, if◌then◌else◌}
 use Rattle.std.specs.Option.{option_map, unwrap_or}
-use Rattle.std.proofs.lemmas.List.{reverse-append, map-append}
 use Rattle.std.proofs.lemmas.Bool.{and_parts, and_from, true≢false}
 use Rattle.std.proofs.lemmas.Option.{slice_get-get_or, slice_get_within}
 use Rattle.clmodel.specs.Cells.{Cells, cells_of, covers, byte_count, byte_of, number, joined}
@@ -15,8 +14,9 @@ use Rattle.clmodel.specs.declared.access.AccessKind.TheVariants as kind
 use Rattle.clmodel.specs.declared.access.Region.{Region}
 use Rattle.clmodel.specs.declared.access.Region.TheVariants as region
 use Rattle.clmodel.proofs.Steps.{none_some, some_inj, if_false}
-use Rattle.clmodel.proofs.CellLaws.{number_frame, covers_parts}
+use Rattle.clmodel.proofs.CellLaws.{number_frame, covers_parts, cells_some}
 use Rattle.clmodel.proofs.Swaps.{same_region-true}
+use Rattle.clmodel.proofs.Logs.{logged_append, logged_front, logged_back, logged_kept}
 use Rattle.joining.specs.Memory.{joined_number, joined_update, joined_memory, class_at, writes, at_byte, wrote}
 use Rattle.joining.specs.Crossings.{crossing}
 use Rattle.joining.specs.Parts.{Part, IsGrouped, IsPart}
@@ -24,21 +24,17 @@ use Rattle.joining.specs.Join.{Joined}
 use Rattle.joining.specs.Steps.{HasGroup, IsJoined, IsOwnByte, IsUpdatedByte, IsJoinedByte, BytesAreJoined}
 use Rattle.joining.proofs.Over.{wrote_some, wrote_from}
 use Rattle.group_run.specs.Logs.{accesses_of}
+use Rattle.group_run.proofs.Logs.{accesses_cons}
 use Rattle.shadow.specs.Lasting.{StandsFor}
 use Rattle.shadow_list.specs.declared.log.Entry.{Entry}
 use Rattle.snapshot_merge.specs.Changes.{buffer_at, number_or_0, joined_value, value_of, changed_byte, changes_of, AreChanged, cells_at, filled_at}
 use Rattle.snapshot_merge.specs.Memory.{HoldsBytes}
 use Rattle.snapshot_merge.proofs.Listed.{among, wrote_listed}
-use Rattle.snapshot_merge.proofs.Numbers.{number_none, cells_filled}
+use Rattle.snapshot_merge.proofs.Numbers.{number_none}
 use Rattle.snapshot_merge.proofs.Changing.{wrote_by, entries_put, entries_kept}
 use Rattle.snapshot_merge.proofs.Filled.{own_set}
 
 -- ---- what is kept of a log
-
-pub in_log : (log kept : List Access) (x : Access) → Keeps log kept → Logged kept x → Logged log x
-in_log [] kept x h m = subst (λ z. Logged z x) h m
-in_log (y ∷ log) kept x (inl h) m = inr (in_log log kept x h.1 m)
-in_log (y ∷ log) kept x (inr (rest, e, h)) m = ⊎_elim inl (λ p. inr (in_log log rest x h p)) (subst (λ z. Logged z x) e m)
 
 pub in_kept : (log kept : List Access) (x : Access) → Keeps log kept → Logged log x → Logged kept x
 in_kept [] kept x h m = absurd m
@@ -55,38 +51,17 @@ same_test false false f g = refl
 pub kept_wrote : (log kept : List Access) (at : Region) (byte : ℕ) → Keeps log kept → wrote kept at byte ≡ wrote log at byte
 kept_wrote log kept at byte h =
     same_test (wrote kept at byte) (wrote log at byte)
-    (λ w. let z = wrote_some kept at byte w in wrote_from log at byte z.0 (in_log log kept z.0 h z.1) z.2 z.3)
+    (λ w. let z = wrote_some kept at byte w in wrote_from log at byte z.0 (logged_kept log kept z.0 h z.1) z.2 z.3)
     (λ w. let z = wrote_some log at byte w in wrote_from kept at byte z.0 (in_kept log kept z.0 h z.1) z.2 z.3)
 
 -- ---- the entries of a log as accesses
 
-logged_append : (xs ys : List Access) (x : Access) → Logged (xs ++ ys) x → Logged xs x ⊎ Logged ys x
-logged_append [] ys x h = inr h
-logged_append (z ∷ xs) ys x (inl e) = inl (inl e)
-logged_append (z ∷ xs) ys x (inr h) = go (logged_append xs ys x h)
-  where
-    go : Logged xs x ⊎ Logged ys x → Logged (z ∷ xs) x ⊎ Logged ys x
-    go (inl p) = inl (inr p)
-    go (inr p) = inr p
-
-logged_front : (xs ys : List Access) (x : Access) → Logged xs x → Logged (xs ++ ys) x
-logged_front [] ys x h = absurd h
-logged_front (z ∷ xs) ys x (inl e) = inl e
-logged_front (z ∷ xs) ys x (inr h) = inr (logged_front xs ys x h)
-
-logged_back : (xs ys : List Access) (x : Access) → Logged ys x → Logged (xs ++ ys) x
-logged_back [] ys x h = h
-logged_back (z ∷ xs) ys x h = inr (logged_back xs ys x h)
-
-pub accesses_push : (e : Entry) (es : List Entry) → accesses_of (e ∷ es) ≡ accesses_of es ++ e.access ∷ []
-accesses_push e es = ap (map (λ (y : Entry). y.access)) (reverse-append (e ∷ []) es) ∙ map-append (λ (y : Entry). y.access) (reverse es) (e ∷ [])
-
 pub entry_logged : (es : List Entry) (k : ℕ) (e : Entry) → slice_get es k ≡ Some e → Logged (accesses_of es) e.access
 entry_logged [] k e h = absurd (none_some e h)
 entry_logged (y ∷ es) zero e h =
-    subst (λ z. Logged z e.access) (sym (accesses_push y es)) (logged_back (accesses_of es) (y.access ∷ []) e.access (inl (ap (λ (w : Entry). w.access) (some_inj y e h))))
+    subst (λ z. Logged z e.access) (sym (accesses_cons y es)) (logged_back (accesses_of es) (y.access ∷ []) e.access (inl (ap (λ (w : Entry). w.access) (some_inj y e h))))
 entry_logged (y ∷ es) (suc k) e h =
-    subst (λ z. Logged z e.access) (sym (accesses_push y es)) (logged_front (accesses_of es) (y.access ∷ []) e.access (entry_logged es k e h))
+    subst (λ z. Logged z e.access) (sym (accesses_cons y es)) (logged_front (accesses_of es) (y.access ∷ []) e.access (entry_logged es k e h))
 
 later_entry : (y : Entry) (es : List Entry) (x : Access) → (Logged (accesses_of es) x → (k : ℕ) × (e : Entry) × (slice_get es k ≡ Some e) × (e.access ≡ x))
     → Logged (accesses_of es) x ⊎ Logged (y.access ∷ []) x → (k : ℕ) × (e : Entry) × (slice_get (y ∷ es) k ≡ Some e) × (e.access ≡ x)
@@ -97,7 +72,7 @@ later_entry y es x rest (inr (inr m)) = absurd m
 pub logged_entry : (es : List Entry) (x : Access) → Logged (accesses_of es) x → (k : ℕ) × (e : Entry) × (slice_get es k ≡ Some e) × (e.access ≡ x)
 logged_entry [] x h = absurd h
 logged_entry (y ∷ es) x h =
-    later_entry y es x (λ m. logged_entry es x m) (logged_append (accesses_of es) (y.access ∷ []) x (subst (λ z. Logged z x) (accesses_push y es) h))
+    later_entry y es x (λ m. logged_entry es x m) (logged_append (accesses_of es) (y.access ∷ []) x (subst (λ z. Logged z x) (accesses_cons y es) h))
 
 -- ---- buffers and a memory
 
@@ -198,7 +173,7 @@ put_of first old kept spaces = value_of first old (λ n b. wrote kept (region.Bu
 
 -- the number of a word that is in range, in each of the three
 word_first : (l : Launch) (first : List (List ℕ)) (n word s : ℕ) → first ≡ l.buffers → number (initial l (region.Buffer n)) word 4 ≡ Some s → number_or_0 (filled_at first n) word 4 ≡ s
-word_first l first n word s e h = number_as (filled_at first n) (initial l (region.Buffer n)) word 4 s (λ i c. cells_filled (buffer_at first n) i ∙ ap (λ (z : List (List ℕ)). slice_get (buffer_at z n) i) e) h
+word_first l first n word s e h = number_as (filled_at first n) (initial l (region.Buffer n)) word 4 s (λ i c. cells_some (buffer_at first n) i ∙ ap (λ (z : List (List ℕ)). slice_get (buffer_at z n) i) e) h
 
 -- a byte of a word that has a first number is in range
 in_word : (l : Launch) (n word s i : ℕ) → number (initial l (region.Buffer n)) word 4 ≡ Some s → covers word 4 i ≡ true → i < length (buffer_at l.buffers n)
@@ -207,7 +182,7 @@ in_word l n word s i h c = let v = number_each (initial l (region.Buffer n)) wor
 word_lower : (l : Launch) (m : Memory) (old : List (List ℕ)) (n word s a : ℕ) → HoldsBytes l m old → number (initial l (region.Buffer n)) word 4 ≡ Some s → number (m (region.Buffer n)) word 4 ≡ Some a
     → number_or_0 (filled_at old n) word 4 ≡ a
 word_lower l m old n word s a holds h k =
-    number_as (filled_at old n) (m (region.Buffer n)) word 4 a (λ i c. cells_filled (buffer_at old n) i ∙ holds.bytes n i (in_word l n word s i h c)) k
+    number_as (filled_at old n) (m (region.Buffer n)) word 4 a (λ i c. cells_some (buffer_at old n) i ∙ holds.bytes n i (in_word l n word s i h c)) k
 
 word_own : (l : Launch) (m : Memory) (spaces : List (List (Option ℕ))) (n word s b : ℕ) → contents m 0 l.buffers ≡ spaces → number (initial l (region.Buffer n)) word 4 ≡ Some s
     → number (m (region.Buffer n)) word 4 ≡ Some b → number_or_0 (cells_at spaces n) word 4 ≡ b
@@ -289,7 +264,7 @@ joined_contents l g lower part old entries kept first spaces c listed stand new 
     value = put_of first old kept spaces
 
     entry_in : (k : ℕ) (e : Entry) → slice_get listed k ≡ Some e → Logged part.end.log e.access
-    entry_in k e q = let r = among [] listed entries stand k e q in in_log part.end.log (accesses_of entries) e.access c.logged (entry_logged entries r.0 e r.1)
+    entry_in k e q = let r = among [] listed entries stand k e q in logged_kept part.end.log (accesses_of entries) e.access c.logged (entry_logged entries r.0 e r.1)
 
     changed : (n byte v : ℕ) → slice_get (buffer_at old n) byte ≡ Some v → slice_get (buffer_at new n) byte ≡ Some (changed_byte (changes_of value listed) n byte v)
     changed n byte v e = h.bytes n byte ∙ ap (option_map (changed_byte (changes_of value listed) n byte)) e

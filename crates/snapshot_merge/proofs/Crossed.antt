@@ -24,7 +24,9 @@ use Rattle.clmodel.specs.declared.action.Stop.TheVariants.{At, Ended}
 use Rattle.clmodel.specs.declared.fault.Fault.{Fault}
 use Rattle.clmodel.specs.declared.fault.Fault.TheVariants as fault
 use Rattle.clmodel.specs.declared.schedule.Event.TheVariants.{Release}
-use Rattle.clmodel.proofs.Conflicts.{map_none}
+use Rattle.clmodel.proofs.Turns.{reports_finishes, reports_inj}
+use Rattle.clmodel.proofs.Logs.{logged_kept}
+use Rattle.clmodel.proofs.Steps.{map_none}
 use Rattle.shadow_list.specs.Log.{Log}
 use Rattle.shadow_list.specs.declared.log.Entry.{Entry}
 use Rattle.shadow.specs.Seen.{OfOthers, meeting, meeting_of}
@@ -34,12 +36,11 @@ use Rattle.joining.specs.Parts.{Part, IsGrouped, IsPart, ending}
 use Rattle.joining.specs.Crossings.{crossing, lower_first, LowerFirst}
 use Rattle.joining.specs.Join.{Joined, join, join_at}
 use Rattle.joining.specs.Steps.{HasGroup, IsJoined, AreOwn, AreLower, KeptConflicts}
-use Rattle.joining.proofs.Base.{reports_not_finishes}
 use Rattle.group_run.specs.Logs.{IsLogged, numbered}
 use Rattle.snapshot_merge.specs.Meetings.{meeting_fault, is_below}
 use Rattle.snapshot_merge.proofs.CrossedRuns.{accesses, Follows, runs_follow, none_from, repeat_calm, inner_calm, numbered_all, placed, Cut, cut}
 use Rattle.snapshot_merge.proofs.CrossedNotes.{made_there, there_made, there_at, at_there, get_below, Repeats, EndsAt, Found, found}
-use Rattle.snapshot_merge.proofs.CrossedMeets.{logged_kept, apart_between, other_region, crossing_none, crossing_at, IsMet, met_conflict}
+use Rattle.snapshot_merge.proofs.CrossedMeets.{apart_between, other_region, crossing_none, crossing_at, IsMet, met_conflict}
 
 -- the laws of joining that code gets from calls
 pub record Laws : Type 0 where
@@ -146,12 +147,9 @@ calm_end p s stopped byte calm h =
     (subst (λ t. IsQuiet t byte) (sym (ap (λ o. conflict_turn p.launch o (going p s (straggler p.launch s p.group p.first))) calm) ∙ h)
     (going_quiet p s (straggler p.launch s p.group p.first) byte))
 
-same_report : (f g : Fault) → Reports f ≡ Reports g → f ≡ g
-same_report f g h = grind arith
-
 told_end : (f : Fault) (stopped : Option Fault) → Reports f ≡ ending stopped → stopped ≡ Some f
-told_end f None h = absurd (reports_not_finishes f h)
-told_end f (Some g) h = ap Some (sym (same_report f g h))
+told_end f None h = absurd (reports_finishes f h)
+told_end f (Some g) h = ap Some (sym (reports_inj f g h))
 
 -- a group whose newest access has a conflict stopped with it
 conflict_end : (p : Plan) (s : State) (stopped : Option Fault) (d : conflict_type.Conflict) → newest_conflict p.launch s.log ≡ Some d → turn_of p s ≡ ending stopped

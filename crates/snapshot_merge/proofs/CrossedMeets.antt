@@ -5,7 +5,7 @@ use Rattle.std.proofs.lemmas.Bool.{and_parts, false≢true}
 use Rattle.clmodel.specs.Cells.{byte_count}
 use Rattle.clmodel.specs.Launch.{Launch, same_region, region_of, clash_at, unordered, share, across_groups, conflict_between, conflict}
 use Rattle.clmodel.specs.Run.{or_else}
-use Rattle.clmodel.specs.Law.{Logged, Keeps, conflict_on, conflict_from}
+use Rattle.clmodel.specs.Law.{Logged, conflict_on, conflict_from}
 use Rattle.clmodel.specs.declared.access.Access.{Access}
 use Rattle.clmodel.specs.declared.access.Clash.{Clash}
 use Rattle.clmodel.specs.declared.access.Conflict as conflict_type
@@ -13,22 +13,11 @@ use Rattle.clmodel.specs.declared.access.Object.{Object}
 use Rattle.clmodel.specs.declared.access.Object.TheVariants as object
 use Rattle.clmodel.specs.declared.access.Region.TheVariants as region
 use Rattle.clmodel.specs.declared.access.Rule.{Rule}
-use Rattle.clmodel.proofs.Steps.{none_some, some_inj, if_some}
+use Rattle.clmodel.proofs.Steps.{none_some, some_inj, if_some, map_some}
 use Rattle.clmodel.proofs.Swaps.{same_region-true}
 use Rattle.shadow.specs.Seen.{meeting, meeting_of}
 use Rattle.shadow.specs.declared.seen.Meeting.{Meeting}
 use Rattle.joining.specs.Crossings.{crossing}
-use Rattle.joining.proofs.Base.{option_map_some}
-
--- what is kept of a log was there
-pub logged_kept : (log kept : List Access) (x : Access) → Keeps log kept → Logged kept x → Logged log x
-logged_kept [] kept x h l = subst (λ z. Logged z x) h l
-logged_kept (y ∷ log) kept x (inl h) l = inr (logged_kept log kept x h.1 l)
-logged_kept (y ∷ log) kept x (inr h) l = go (λ m. logged_kept log h.0 x h.2 m) (subst (λ z. Logged z x) h.1 l)
-  where
-    go : (Logged h.0 x → Logged log x) → Logged (y ∷ h.0) x → Logged (y ∷ log) x
-    go rest (inl e) = inl e
-    go rest (inr m) = inr (rest m)
 
 -- ---- what a conflict is of
 
@@ -122,6 +111,6 @@ pub record IsMet (u : Bool) (x : Access) (kept : List Access) (met : Meeting) : 
 
 pub met_conflict : (u : Bool) (x : Access) (kept : List Access) (met : Meeting) → meeting u x kept ≡ Some met → IsMet u x kept met
 met_conflict u x kept met h =
-    let r = option_map_some meeting_of (conflict_from (conflict_between (across_groups u)) x kept x.first (byte_count x.width)) met h in
+    let r = map_some meeting_of (conflict_from (conflict_between (across_groups u)) x kept x.first (byte_count x.width)) met h in
     let o : IsOf (conflict_between (across_groups u)) x r.0 = from_of (conflict_between (across_groups u)) x kept x.first (byte_count x.width) r.0 r.1 in
     record { conflict = r.0; there = r.1; later = o.0; regions = one_region (across_groups u) r.0.earlier x r.0.byte r.0.clash o.1; told = r.2 }

@@ -8,6 +8,7 @@ use Rattle.shadow_list.specs.Log.{IsThere, IsKept}
 use Rattle.shadow_list.specs.declared.log.Entry.{Entry}
 use Rattle.group_run.specs.Logs.{Notes}
 use Rattle.snapshot_merge.proofs.CrossedRuns.{accesses}
+use Rattle.snapshot_merge.proofs.Listed.{get_front}
 
 there_front : (xs ys : List Entry) (x : Access) → IsThere xs x → IsThere (xs ++ ys) x
 there_front [] ys x h = absurd h
@@ -69,11 +70,6 @@ pub get_below : (xs : List Entry) (k : ℕ) (e : Entry) → slice_get xs k ≡ S
 get_below [] k e h = absurd (none_some e h)
 get_below (y ∷ xs) zero e h = omega arith
 get_below (y ∷ xs) (suc k) e h = let r : k < length xs = get_below xs k e h in omega (arith, r)
-
-get_front : (xs ys : List Entry) (k : ℕ) (e : Entry) → slice_get xs k ≡ Some e → slice_get (xs ++ ys) k ≡ Some e
-get_front [] ys k e h = absurd (none_some e h)
-get_front (y ∷ xs) ys zero e h = h
-get_front (y ∷ xs) ys (suc k) e h = get_front xs ys k e h
 
 get_push : (xs : List Entry) (x : Entry) (k : ℕ) (e : Entry) → slice_get (xs ++ x ∷ []) k ≡ Some e → (slice_get xs k ≡ Some e) ⊎ ((k ≡ length xs) × (x ≡ e))
 get_push [] x zero e h = inr (refl, some_inj x e h)

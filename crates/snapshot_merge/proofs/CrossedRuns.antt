@@ -6,7 +6,7 @@ use Rattle.std.specs.Option.{option_map}
 use Rattle.clmodel.specs.Cells.{byte_count}
 use Rattle.clmodel.specs.Launch.{Launch, conflict}
 use Rattle.clmodel.specs.Run.{State, Events, step, or_else}
-use Rattle.clmodel.specs.Law.{Logged, Turn, Makes, conflict_on, conflict_from, newest_conflict, conflict_turn}
+use Rattle.clmodel.specs.Law.{Logged, Makes, conflict_on, conflict_from, newest_conflict}
 use Rattle.clmodel.specs.declared.access.Access.{Access}
 use Rattle.clmodel.specs.declared.access.Clash.{Clash}
 use Rattle.clmodel.specs.declared.access.Conflict as conflict_type
@@ -14,10 +14,10 @@ use Rattle.clmodel.specs.declared.schedule.Event.{Event}
 use Rattle.clmodel.specs.declared.schedule.Event.TheVariants.{Item, Release}
 use Rattle.clmodel.proofs.Steps.{item_inverse, release_inverse}
 use Rattle.clmodel.proofs.Conflicts.{Harmless, harmless_more}
+use Rattle.clmodel.proofs.Turns.{quiet_makes}
 use Rattle.shadow_list.specs.declared.log.Entry.{Entry}
 use Rattle.joining.specs.Group.{Plan, turn_of, RunsIn}
 use Rattle.joining.specs.Crossings.{up_to}
-use Rattle.joining.proofs.Base.{reports_not_makes}
 use Rattle.group_run.specs.Logs.{numbered}
 
 -- the accesses of entries
@@ -32,15 +32,11 @@ Follows l (Item i ∷ past) [] = ⊥
 Follows l (Item i ∷ past) (x ∷ log) = (newest_conflict l log ≡ None) × Follows l past log
 Follows l (Release g ∷ past) log = (newest_conflict l log ≡ None) × Follows l past log
 
-makes_calm : (l : Launch) (o : Option conflict_type.Conflict) (t : Turn) (e : Event) → conflict_turn l o t ≡ Makes e → o ≡ None
-makes_calm l None t e h = refl
-makes_calm l (Some c) t e h = absurd (reports_not_makes _ e h)
-
 follows_step : (p : Plan) (s n : State) (past : Events) (e : Event) → Follows p.launch past s.log → turn_of p s ≡ Makes e → step p.launch s e ≡ Some n → Follows p.launch (e ∷ past) n.log
 follows_step p s n past (Item i) f t h =
-    subst (λ z. Follows p.launch (Item i ∷ past) z.log) (item_inverse p.launch s i n h).gives (makes_calm p.launch (newest_conflict p.launch s.log) _ (Item i) t, f)
+    subst (λ z. Follows p.launch (Item i ∷ past) z.log) (item_inverse p.launch s i n h).gives (quiet_makes p.launch (newest_conflict p.launch s.log) _ (Item i) t, f)
 follows_step p s n past (Release g) f t h =
-    subst (λ z. Follows p.launch (Release g ∷ past) z.log) (release_inverse p.launch s g n h).gives (makes_calm p.launch (newest_conflict p.launch s.log) _ (Release g) t, f)
+    subst (λ z. Follows p.launch (Release g ∷ past) z.log) (release_inverse p.launch s g n h).gives (quiet_makes p.launch (newest_conflict p.launch s.log) _ (Release g) t, f)
 
 reverse_cons : (e : Event) (es past : Events) → reverse es ++ (e ∷ past) ≡ reverse (e ∷ es) ++ past
 reverse_cons e es past = sym (append_assoc (reverse es) (e ∷ []) past) ∙ ap (λ z. z ++ past) (sym (reverse-append (e ∷ []) es))

@@ -1,5 +1,5 @@
 -- What a launch concludes once its groups are joined.
-use Rattle.std.proofs.Common.{◌≡◌, ℕ, suc, ◌+◌, ◌*◌, ◌<◌, ◌≤◌, ◌⊎◌, Bool, true, Option, None, Some, List, [], ◌∷◌, length, nat_lt, refl, ap, ◌∙◌, inl, inr, arith}
+use Rattle.std.proofs.Common.{◌≡◌, ℕ, suc, ◌+◌, ◌*◌, ◌<◌, ◌≤◌, ◌⊎◌, Bool, true, Option, None, Some, List, ◌∷◌, nat_lt, refl, ap, ◌∙◌, inl, inr, arith}
 use Rattle.std.proofs.Math.Nat.{suc-mul, mul-le-mul_right}
 use Rattle.std.proofs.lemmas.Bool.{cases_lt, lt-ltb}
 use Rattle.clmodel.specs.Launch.{Launch}
@@ -88,10 +88,6 @@ pub rest_results :
     → CameOfNext l g r None so_far → AreResults bytes log_of l (suc g) rs
 rest_results bytes log_of l g (Done number spaces log runs) rs so_far h n = h.2
 rest_results bytes log_of l g (Stopped number fault log runs) rs so_far h n = absurd n
-
-pub none_left : {A : Type 0} (xs : List A) → length xs ≡ 0 → xs ≡ []
-none_left [] e = refl
-none_left (x ∷ xs) e = absurd (omega arith)
 
 -- ---- results of a round
 

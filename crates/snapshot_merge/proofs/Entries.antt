@@ -7,21 +7,17 @@ use Rattle.std.proofs.lemmas.Grind.{flat_map-append}
 use Rattle.std.proofs.lemmas.List.{append_assoc, append-nil, map-append, reverse-append, take_all}
 use Rattle.std.proofs.lemmas.Option.{slice_get-get_or}
 use Rattle.clmodel.specs.declared.access.Access.{Access}
-use Rattle.clmodel.proofs.Steps.{none_some, some_inj}
+use Rattle.clmodel.proofs.Steps.{some_inj}
 use Rattle.group_run.specs.Logs.{accesses_of}
 use Rattle.shadow_list.specs.declared.log.Entry.{Entry}
 use Rattle.snapshot_merge.specs.declared.changes.Change.{Change}
 use Rattle.snapshot_merge.specs.Changes.{access_changes, changes_of}
 use Rattle.shadow.specs.Seen.{met_at}
+use Rattle.shadow.proofs.Listing.{take_next}
 use Rattle.snapshot_merge.specs.Meetings.{MissUpTo}
 
 pub entry_at : (xs : List Entry) (i : ℕ) (x : Entry) → i < length xs → x ≡ get_or xs i x → slice_get xs i ≡ Some x
 entry_at xs i x h e = slice_get-get_or xs i x h ∙ ap Some (sym e)
-
-take_next : (xs : List Entry) (i : ℕ) (x : Entry) → slice_get xs i ≡ Some x → take (suc i) xs ≡ take i xs ++ x ∷ []
-take_next [] i x h = absurd (none_some x h)
-take_next (y ∷ xs) zero x h = ap (λ z. z ∷ []) (some_inj y x h)
-take_next (y ∷ xs) (suc i) x h = ap (λ z. y ∷ z) (take_next xs i x h)
 
 take_one : (xs : List Entry) (i : ℕ) (x : Entry) → slice_get xs i ≡ Some x → take (i + 1) xs ≡ take i xs ++ x ∷ []
 take_one xs i x h = ap (λ n. take n xs) (add-one i) ∙ take_next xs i x h

@@ -29,7 +29,7 @@ use Rattle.snapshot_merge.specs.declared.meetings.Met.{Met}
 
 -- ---- entries of lists
 
-get_front : (xs ys : List Entry) (k : ℕ) (e : Entry) → slice_get xs k ≡ Some e → slice_get (xs ++ ys) k ≡ Some e
+pub get_front : (xs ys : List Entry) (k : ℕ) (e : Entry) → slice_get xs k ≡ Some e → slice_get (xs ++ ys) k ≡ Some e
 get_front [] ys k e h = absurd (none_some e h)
 get_front (x ∷ xs) ys zero e h = h
 get_front (x ∷ xs) ys (suc k) e h = get_front xs ys k e h

@@ -1,13 +1,12 @@
 -- The number of bytes of a row, as code reads it.
 use Rattle.std.proofs.Common.{◌≡◌, ℕ, zero, suc, ◌+◌, ◌<◌, ◌≤◌, ◌⊎◌, Option, None, Some, List, [], ◌∷◌, refl, sym, ap, ◌∙◌, inl, inr, arith, ⊎_elim, leb, false}
-use Rattle.std.specs.Prelude.{length, map, slice_get, Err}
+use Rattle.std.specs.Prelude.{length, map, Err}
 use Rattle.std.specs.Option.{unwrap_or}
 use Rattle.std.proofs.lemmas.Bool.{cases_lt, leb-false}
 use Rattle.std.proofs.lemmas.List.{length-map}
-use Rattle.clmodel.specs.Cells.{Cells, cells_of, byte_count, number, joined, lowest_unset, unset_or}
+use Rattle.clmodel.specs.Cells.{Cells, cells_of, byte_count, number, joined, unset_or}
 use Rattle.clmodel.specs.declared.access.Width.{Width}
-use Rattle.clmodel.specs.declared.access.Width.TheVariants.{One, Two, Four, Eight}
-use Rattle.clmodel.proofs.Steps.{none_some}
+use Rattle.clmodel.proofs.CellLaws.{number_unset, byte_count_some}
 use Rattle.spaces_base.specs.Space.{IsLoaded}
 use Rattle.spaces_base.specs.declared.space.SpaceFault.{SpaceFault}
 use Rattle.spaces_base.specs.declared.space.SpaceFault.TheVariants as fault
@@ -48,17 +47,6 @@ unset_first : (o rest : Option ℕ) (first : ℕ) (lowest : Option ℕ) (byte : 
 unset_first None rest first lowest byte h none = refl
 unset_first (Some x) rest first lowest byte h none = ap (joined (Some x)) (none h)
 
-pub number_unset : (cells : Cells) (first count byte : ℕ) → lowest_unset cells first count ≡ Some byte → number cells first count ≡ None
-number_unset cells first zero byte h = absurd (none_some byte h)
-number_unset cells first (suc count) byte h =
-    unset_first (cells first) (number cells (suc first) count) first (lowest_unset cells (suc first) count) byte h (λ e. number_unset cells (suc first) count byte e)
-
-byte_count_some : (w : Width) → 0 < byte_count w
-byte_count_some One = omega arith
-byte_count_some Two = omega arith
-byte_count_some Four = omega arith
-byte_count_some Eight = omega arith
-
 pub or_0 : (cells : Cells) (first count : ℕ) → number cells first count ≡ None → 0 ≡ number_or_0 cells first count
 or_0 cells first count h = sym (ap (λ o. unwrap_or o 0) h)
 
@@ -77,9 +65,3 @@ not_loaded bytes at width fault.Bounds h = number_past bytes at (byte_count widt
 not_loaded bytes at width (fault.Unset byte) h = number_unset (cells_of bytes) at (byte_count width) byte h.1
 not_loaded bytes at width fault.ReadOnly h = absurd h
 not_loaded bytes at width fault.OutOfMemory h = absurd h
-
--- a buffer's bytes as cells
-pub cells_filled : (xs : List ℕ) (byte : ℕ) → cells_of (map Some xs) byte ≡ slice_get xs byte
-cells_filled [] byte = refl
-cells_filled (x ∷ xs) zero = refl
-cells_filled (x ∷ xs) (suc byte) = cells_filled xs byte

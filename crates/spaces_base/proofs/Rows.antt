@@ -1,8 +1,10 @@
 -- Rows of bytes: numbers that they hold, and numbers that are written into them.
-use Rattle.std.proofs.Common.{◌≡◌, ℕ, zero, suc, ◌+◌, ◌-◌, ◌*◌, ◌/◌, ◌%◌, ◌^◌, ◌<◌, ◌≤◌, Bool, true, false, nat_lt, nat_le, if◌then◌else◌, Option, None, Some, List, [], ◌∷◌, length, map, get_or, set, ◌⊎◌, inl, inr, refl, sym, ap, ◌∙◌, arith, ltb-true, lt-ltb, leb-true, le-leb}
+use Rattle.std.proofs.Common.{◌≡◌, ℕ, zero, suc, ◌+◌, ◌-◌, ◌*◌, ◌/◌, ◌%◌, ◌^◌, ◌<◌, ◌≤◌, true, false, if◌then◌else◌, Option, None, Some, List, [], ◌∷◌, length, map, get_or, set, ◌⊎◌, inl, inr, refl, sym, ap, ◌∙◌, arith}
 use Rattle.std.proofs.Math.Nat.{pow-le-pow_right, pow-suc, pow-succ', div-div-eq-div-mul, div-one}
-use Rattle.std.proofs.lemmas.Bool.{and_parts, and_from, false≢true, cases_eq}
+use Rattle.std.proofs.lemmas.Bool.{false≢true, cases_eq}
 use Rattle.clmodel.specs.Cells.{Cells, cells_of, byte_of, joined, number, unset_or, lowest_unset, covers, written}
+use Rattle.clmodel.proofs.CellLaws.{covers_parts, covers_from}
+use Rattle.clmodel.proofs.Steps.{decided}
 
 -- a byte of a row
 pub row_at : {A : Type 0} (f : A → Option ℕ) (cells : List A) (k : ℕ) (d : A) → k < length cells → cells_of (map f cells) k ≡ f (get_or cells k d)
@@ -66,28 +68,15 @@ unset_later cells first (suc count) low byte h a b =
 
 -- ---- numbers written into a row
 
-covered : (first count byte : ℕ) → covers first count byte ≡ true → (first ≤ byte) × (byte < first + count)
-covered first count byte h =
-    let r : (nat_le first byte ≡ true) × (nat_lt byte (first + count) ≡ true) = and_parts (nat_le first byte) (nat_lt byte (first + count)) h in
-    (leb-true first byte r.0, ltb-true byte (first + count) r.1)
-
-covering : (first count byte : ℕ) → first ≤ byte → byte < first + count → covers first count byte ≡ true
-covering first count byte a b = and_from (nat_le first byte) (nat_lt byte (first + count)) (le-leb first byte a) (lt-ltb byte (first + count) b)
-
 pub written_in : (c : Cells) (first count value byte : ℕ) → first ≤ byte → byte < first + count → written c first count value byte ≡ Some (byte_of (byte - first) value)
 unfolding written
-written_in c first count value byte a b = ap (λ z. if z then Some (byte_of (byte - first) value) else c byte) (covering first count byte a b)
-
--- a truth value, by cases that keep its equation
-decided : {P : Type 0} (b : Bool) → (b ≡ true → P) → (b ≡ false → P) → P
-decided true positive negative = positive refl
-decided false positive negative = negative refl
+written_in c first count value byte a b = ap (λ z. if z then Some (byte_of (byte - first) value) else c byte) (covers_from first count byte a b)
 
 pub written_out : (c : Cells) (first count value byte : ℕ) → (first ≤ byte → byte < first + count → ⊥) → written c first count value byte ≡ c byte
 unfolding written
 written_out c first count value byte h =
     decided (covers first count byte)
-    (λ p. absurd (let r : (first ≤ byte) × (byte < first + count) = covered first count byte p in h r.0 r.1))
+    (λ p. absurd (let r : (first ≤ byte) × (byte < first + count) = covers_parts first count byte p in h r.0 r.1))
     (λ p. ap (λ z. if z then Some (byte_of (byte - first) value) else c byte) p)
 
 -- a byte further up of a number is one of the number without its lowest byte
@@ -125,8 +114,8 @@ written_more c d first count value byte h here there = by_place (trichotomy)
     by_place (inl e) = at_first e
     by_place (inr e) =
         decided (covers first count byte)
-        (λ p. let r : (first ≤ byte) × (byte < first + count) = covered first count byte p in inside (above e r.0) r.1)
-        (λ p. outside e (λ a b. false≢true (sym p ∙ covering first count byte a b)))
+        (λ p. let r : (first ≤ byte) × (byte < first + count) = covers_parts first count byte p in inside (above e r.0) r.1)
+        (λ p. outside e (λ a b. false≢true (sym p ∙ covers_from first count byte a b)))
       where
         above : (byte ≡ first → ⊥) → first ≤ byte → first < byte
         above n a = omega (arith, a, n)

@@ -63,7 +63,3 @@ pub kept : {A : Type 0} (table now : List (List ℕ × A)) (names : List (List �
     → now ≡ with_values table names values → place ≡ min (length values) (length names) → length names ≤ place
     → now ≡ with_values table names (values ++ value ∷ [])
 kept table now names values value place done counted above = done ∙ sym (no_more_values table names values value (omega arith))
-
-pub none_left : {A : Type 0} (values : List A) → length values ≡ 0 → values ≡ []
-none_left [] e = refl
-none_left (v ∷ values) e = absurd (omega arith)

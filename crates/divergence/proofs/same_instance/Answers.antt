@@ -2,7 +2,7 @@ use Rattle.std.proofs.Common.{◌≡◌, List, ℕ, ap, ap₂, sym, ◌∙◌}
 use Rattle.std.proofs.lemmas.Bool.{false≢true}
 use Rattle.clmodel.specs.Run.{same_numbers}
 use Rattle.clmodel.specs.declared.action.Instance.{Instance}
-use Rattle.divergence.proofs.Numbers.{one_list, same_list}
+use Rattle.clmodel.proofs.Faultless.{same_numbers-true, same_numbers_self}
 use Rattle.divergence.proofs.same_instance.Goals as goal
 use Rattle.divergence.proofs.same_instance.Goals.{After-same_numbers}
 
@@ -11,8 +11,8 @@ is c = c.same_numbers.ensures ∙ ap₂ same_numbers c.as_slice.ensures c.as_sli
 
 pub returns-then-a-b-clause-same : goal.returns-then-a-b-clause-same
 returns-then-a-b-clause-same c h =
-    ap₂ (λ (site : ℕ) (turns : List ℕ). record { site = site; turns = turns }) c.if-a-b.true (one_list c.args.a.now.turns c.args.b.now.turns (sym (is c) ∙ h))
+    ap₂ (λ (site : ℕ) (turns : List ℕ). record { site = site; turns = turns }) c.if-a-b.true (same_numbers-true c.args.a.now.turns c.args.b.now.turns (sym (is c) ∙ h))
 
 pub returns-then-a-b-clause-other : goal.returns-then-a-b-clause-other
 returns-then-a-b-clause-other c h e =
-    false≢true (sym h ∙ is c ∙ ap (λ (i : Instance). same_numbers c.args.a.now.turns i.turns) (sym e) ∙ same_list c.args.a.now.turns)
+    false≢true (sym h ∙ is c ∙ ap (λ (i : Instance). same_numbers c.args.a.now.turns i.turns) (sym e) ∙ same_numbers_self c.args.a.now.turns)

@@ -1,15 +1,11 @@
-use Rattle.std.proofs.Common.{◌≡◌, [], ◌∷◌, ◌++◌, refl, ap, sym, ◌∙◌, append_assoc, rules, arith, List, length, subst}
+use Rattle.std.proofs.Common.{◌≡◌, [], ◌∷◌, ◌++◌, ap, sym, ◌∙◌, append_assoc, rules, arith, List, subst}
 use Rattle.std.specs.Vec.Iter.{into_iter_items}
-use Rattle.std.proofs.lemmas.List.{append-nil}
+use Rattle.std.proofs.lemmas.List.{append-nil, nil_from_length}
 use Rattle.device.specs.Machine.{machine_of}
 use Rattle.host_commands.specs.declared.command.Command.{Command}
 use Rattle.cli.specs.Replaying.{Leads}
 use Rattle.cli.proofs.Replays.{leads_none, leads_more}
 use Rattle.cli.proofs.replaying.lead.Goals as goal
-
-nothing_left : {A : Type 0} (xs : List A) → length xs ≡ 0 → xs ≡ []
-nothing_left [] h = refl
-nothing_left (x ∷ xs) h = absurd (omega (arith, h))
 
 pub loop-command-init : goal.loop-command-init
 loop-command-init c = record { split = search rules; led = leads_none _ }
@@ -22,6 +18,6 @@ loop-command-preserved c = record {
 
 pub returns : goal.returns
 returns c =
-    let empty = nothing_left (into_iter_items c.loop-command.command-iterator) (omega (arith, c.in-None.ensures.steps.0, c.loop-command.command-iterator.rest.ok)) in
+    let empty = nil_from_length (into_iter_items c.loop-command.command-iterator) (omega (arith, c.in-None.ensures.steps.0, c.loop-command.command-iterator.rest.ok)) in
     let all : c.args.commands.items ≡ c.loop-command.yielded = c.loop-command.invariant.split ∙ (ap (λ l. c.loop-command.yielded ++ l) empty ∙ append-nil c.loop-command.yielded) in
     subst (λ (l : List Command). Leads (machine_of c.args.device.now) l (machine_of c.loop-command.device)) (sym all) c.loop-command.invariant.led

@@ -1,4 +1,5 @@
 use Rattle.std.proofs.Common.{◌≡◌, ℕ, ◌+◌, ◌<◌, Bool, true, false, ◌||◌, List, [], ◌∷◌, length, map, take, drop, get_or, refl, sym, ap, ◌∙◌}
+use Rattle.std.proofs.lemmas.Bool.{or_right}
 use Rattle.clmodel.specs.Tree as tree
 use Rattle.clmodel.specs.Tree.{Stmts, ThenStmt, NoStmt, then_stmts, stmt}
 use Rattle.clmodel.specs.declared.tree.Statement.{Statement}
@@ -12,10 +13,6 @@ returns_ahead : (ts : Stmts) (ss : List Statement) → row_returns ts ≡ true �
 returns_ahead ts [] h = h
 returns_ahead ts (s ∷ ss) h = returns_ahead (ThenStmt ts (stmt s)) ss (ap (λ b. b || always_returns (stmt s)) h)
 
-or_true : (a b : Bool) → b ≡ true → (a || b) ≡ true
-or_true true b h = refl
-or_true false b h = h
-
 one_more : (ss : List Statement) (i : ℕ) (s : Statement) (b : Bool) → i < length ss → s ≡ get_or ss i s → always_returns (stmt s) ≡ b
     → row_returns (statements (take (i + 1) ss)) ≡ (row_returns (statements (take i ss)) || b)
 one_more ss i s b h g e = ap row_returns (next_statement ss i s h g) ∙ ap (λ x. row_returns (statements (take i ss)) || x) e
@@ -27,7 +24,7 @@ always_returns-returns-then-returns t c =
     let s = c.statement-item.result in
     let e = one_more ss i s true c.loop-statement-test.true c.statement-item.is (sym c.returns.ensures ∙ c.if-returns.true) in
     sym (ap row_returns (then_rest NoStmt ss (i + 1))
-    ∙ returns_ahead (statements (take (i + 1) ss)) (drop (i + 1) ss) (e ∙ or_true (row_returns (statements (take i ss))) true refl))
+    ∙ returns_ahead (statements (take (i + 1) ss)) (drop (i + 1) ss) (e ∙ or_right (row_returns (statements (take i ss))) true refl))
 
 pub always_returns-loop-statement-preserved : goal.always_returns-loop-statement-preserved
 always_returns-loop-statement-preserved t c =

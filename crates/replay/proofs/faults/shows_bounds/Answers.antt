@@ -6,8 +6,9 @@ use Rattle.std.proofs.lemmas.Result.{IfOk-weaker}
 use Rattle.clmodel.specs.Launch.{location_of, region_of}
 use Rattle.clmodel.specs.Run.{byte_at}
 use Rattle.replay.specs.Nexts.{access_of, TellsNext}
-use Rattle.replay.proofs.Showing.{never, none_where, never_bounds, bounds}
+use Rattle.replay.proofs.Showing.{never, never_bounds, bounds}
 use Rattle.replay.proofs.Telling.{tells}
+use Rattle.shadow_list.proofs.Hits.{none_if}
 use Rattle.replay.proofs.faults.shows_bounds.Goals as goal
 
 pub returns-then-next-element : goal.returns-then-next-element
@@ -44,6 +45,6 @@ returns g c =
     (λ answer h. λ s at. bounds l s c.args.item c.args.kind c.args.location.now c.args.element next answer
     (subst (TellsNext access_of l s c.args.item) c.in-Some.is (tells access_of l s c.args.item _ _ c.and_then.ensures (c.in_ok-action.ensures.value l s at))) (sym back ∙ ap (to_z w64) c.if-next-element.false ∙ told) (c.is_of_kind.ensures.0 c.if-not-is_of_kind.false)
     (ap (λ z. byte_at l c.args.item next.object z next.operation) (sym back) ∙ sym (c.first_byte-first.ensures.value l s (c.in_ok-action.ensures.same l s at) c.args.item)
-    ∙ none_where c.first_byte-first.result (sym c.is_some.ensures ∙ c.if-is_some.false))
+    ∙ none_if c.first_byte-first.result (sym c.is_some.ensures ∙ c.if-is_some.false))
     (subst (λ r. Decides answer (location_of l r ≡ c.args.location.now)) (c.region.ensures ∙ ap (λ n. region_of (c.args.item / n) next.object) c.group_size.ensures.value) h))
     c.is_at.ensures

@@ -4,15 +4,16 @@ use Rattle.std.proofs.lemmas.Bool.{false≢true}
 use Rattle.std.proofs.lemmas.Result.{IfOk-weaker}
 use Rattle.clmodel.specs.Launch.{location_of, region_of}
 use Rattle.replay.specs.Nexts.{access_of, TellsNext}
-use Rattle.replay.proofs.Showing.{never, none_else, no_unset, never_unset, unset}
+use Rattle.replay.proofs.Showing.{never, no_unset, never_unset, unset}
 use Rattle.replay.proofs.Telling.{tells}
+use Rattle.replay_play.proofs.Playing.{is_none}
 use Rattle.replay.proofs.faults.shows_unset.Goals as goal
 
 pub returns-in_default : goal.returns-in_default
 returns-in_default g c = λ s at.
     let l = g.D.Described.launch c.args.launch.now in
     never (no_unset l s c.args.item c.args.kind c.args.location.now c.args.byte
-    (subst (TellsNext access_of l s c.args.item) (none_else c.and_then.result c.in_default.not-Some) (tells access_of l s c.args.item _ _ c.and_then.ensures (c.in_ok-action.ensures.value l s at))))
+    (subst (TellsNext access_of l s c.args.item) (is_none c.and_then.result c.in_default.not-Some) (tells access_of l s c.args.item _ _ c.and_then.ensures (c.in_ok-action.ensures.value l s at))))
 
 pub returns-then-not-is_of_kind : goal.returns-then-not-is_of_kind
 returns-then-not-is_of_kind g c = λ s at.

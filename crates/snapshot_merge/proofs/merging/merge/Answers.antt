@@ -11,10 +11,11 @@ use Rattle.spaces_base.specs.Buffers.{bytes_in}
 use Rattle.snapshot_merge.specs.JoinedGroups.{HoldsGroups, IsStopped, CameOfNext, report_of}
 use Rattle.snapshot_merge.specs.declared.joined_groups.JoinEnd.{JoinEnd}
 use Rattle.std.specs.Vec.Iter.{into_iter_items}
+use Rattle.std.proofs.lemmas.List.{nil_from_length}
 use Rattle.spaces.specs.Overlay.{Overlaid}
 use Rattle.joining.specs.Steps.{HasGroup}
 use Rattle.snapshot_merge.specs.Launches.{AreResults, IsShortResult}
-use Rattle.snapshot_merge.proofs.Ending.{grouped_of, next_below, further_there, next_stopped, next_held, concludes_fault, concludes_clean, first_there, first_result, rest_results, none_left}
+use Rattle.snapshot_merge.proofs.Ending.{grouped_of, next_below, further_there, next_stopped, next_held, concludes_fault, concludes_clean, first_there, first_result, rest_results}
 use Rattle.snapshot_merge.proofs.Listed.{short_whole}
 use Rattle.snapshot_merge.proofs.merging.merge.Goals as goal
 
@@ -88,7 +89,7 @@ pub returns : goal.returns
 returns g c =
     let l = launch_of (setup_of c.args.launch.now) (bytes_in c.args.buffers.now) in
     let group = c.loop-result.group in
-    let none : into_iter_items c.loop-result.result-iterator ≡ [] = none_left (into_iter_items c.loop-result.result-iterator) (sym c.loop-result.result-iterator.rest.ok.0 ∙ c.in-None.ensures.steps.0) in
+    let none : into_iter_items c.loop-result.result-iterator ≡ [] = nil_from_length (into_iter_items c.loop-result.result-iterator) (sym c.loop-result.result-iterator.rest.ok.0 ∙ c.in-None.ensures.steps.0) in
     subst (λ (z : Vec (List ℕ) Global). Concludes l (Clean z)) (sym c.into_contents.ensures)
     (concludes_clean l group c.loop-result.so_far c.laws.ensures (grouped_of (setup_of c.args.launch.now) (bytes_in c.args.buffers.now) c.requires.whole c.group_count-groups.ensures.some) c.loop-result.invariant.held
     (subst (AreResults bytes_of g.L.Logged.log l group) none c.loop-result.invariant.rest))

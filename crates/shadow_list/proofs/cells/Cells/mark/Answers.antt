@@ -1,7 +1,8 @@
 use Rattle.std.proofs.Common.{◌+◌, ◌%◌, nat_lt, ltb-true, ltb-false, arith}
 use Rattle.clmodel.specs.Cells.{byte_count}
+use Rattle.clmodel.proofs.CellLaws.{covers_parts}
+use Rattle.clmodel.proofs.Steps.{decided}
 use Rattle.shadow_list.specs.Cells.{cell_key}
-use Rattle.shadow_list.proofs.Hits.{covered, decided}
 use Rattle.shadow_list.proofs.cells.Cells.mark.Goals as goal
 
 pub returns-in_err-mark_part-2-clause-kept : goal.returns-in_err-mark_part-2-clause-kept
@@ -17,7 +18,7 @@ returns-in_ok-mark_part-2-clause-kept c y m byte on =
 pub returns-in_ok-mark_part-2-clause-added : goal.returns-in_ok-mark_part-2-clause-added
 returns-in_ok-mark_part-2-clause-added c byte on =
     let x = c.args.x.now in
-    let r = covered x.first (byte_count x.width) byte on in
+    let r = covers_parts x.first (byte_count x.width) byte on in
     decided (nat_lt byte (x.first + c.min-here.result))
     (λ t.
     c.mark_part-then-here-count.ensures.kept (cell_key x.region byte) (byte % 8) x byte (omega arith)

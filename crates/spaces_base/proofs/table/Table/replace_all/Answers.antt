@@ -1,7 +1,8 @@
 use Rattle.std.proofs.Common.{[], ◌∷◌, ◌++◌, ◌∙◌, ap, sym, append_assoc, append-nil}
 use Rattle.std.specs.Vec.Iter.{into_iter_items}
+use Rattle.std.proofs.lemmas.List.{nil_from_length}
 use Rattle.spaces_base.specs.Tables.{with_values}
-use Rattle.spaces_base.proofs.Tables.{replaced, place_after, place_kept, kept, none_left}
+use Rattle.spaces_base.proofs.Tables.{replaced, place_after, place_kept, kept}
 use Rattle.spaces_base.proofs.table.Table.replace_all.Goals as goal
 
 pub loop-value-preserved-then-place-names : goal.loop-value-preserved-then-place-names
@@ -22,4 +23,4 @@ pub returns : goal.returns
 returns g c =
     c.loop-value.invariant.0
     ∙ ap (λ vs. with_values c.args.self.now c.args.names.now vs)
-    (sym (append-nil c.loop-value.yielded) ∙ ap (λ r. c.loop-value.yielded ++ r) (sym (none_left (into_iter_items c.loop-value.value-iterator) (sym c.loop-value.value-iterator.rest.ok.0 ∙ c.in-None.ensures.steps.0))) ∙ sym c.loop-value.invariant.2)
+    (sym (append-nil c.loop-value.yielded) ∙ ap (λ r. c.loop-value.yielded ++ r) (sym (nil_from_length (into_iter_items c.loop-value.value-iterator) (sym c.loop-value.value-iterator.rest.ok.0 ∙ c.in-None.ensures.steps.0))) ∙ sym c.loop-value.invariant.2)
