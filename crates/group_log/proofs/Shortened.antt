@@ -12,11 +12,12 @@ use Rattle.joining.specs.Memory.{at_byte}
 use Rattle.shadow.specs.Lasting.{AbsorbedAt, Absorbed, StandsFor, EndsWith, StandsWith}
 use Rattle.shadow.specs.Seen.{seen, seen_with, mark_of, Remembers}
 use Rattle.shadow.specs.declared.seen.Seen.{Seen}
-use Rattle.shadow_list.specs.Log.{in_buffer}
+use Rattle.shadow_list.specs.Log.{in_buffer, Log, logged}
 use Rattle.shadow.proofs.Absorbing.{onto}
 use Rattle.shadow.proofs.Listing.{onto_is}
 use Rattle.shadow_list.specs.declared.log.Entry.{Entry}
 use Rattle.group_log.specs.Lasting.{all_of, short_of, last_of, made, Stays, LeavesOut}
+use Rattle.group_log.specs.declared.group.GroupLog.{GroupLog}
 
 -- ---- what stays
 
@@ -148,3 +149,6 @@ local_footprint cells log x h keeps number byte = keeps number byte ∙ sym (loc
 
 pub none_left_out : LeavesOut [] []
 none_left_out k x e = absurd (none_some (x, false) e)
+
+abbrev pub log_of : GroupLog → Log
+log_of l = logged (all_of l.whole.items) l.local.interval l.global.interval l.global.uniform

@@ -26,6 +26,7 @@ use Rattle.snapshot_merge.specs.Launches.{IsShortResult}
 use Rattle.snapshot_merge.specs.Meetings.{AreOthers, MissUpTo, IsFirstMet}
 use Rattle.snapshot_merge.specs.declared.joined_groups.JoinEnd.TheVariants.{Goes}
 use Rattle.snapshot_merge.specs.declared.meetings.Met.{Met}
+use Rattle.spaces.specs.Overlay.{Overlaid}
 
 -- ---- entries of lists
 
@@ -202,3 +203,6 @@ pub back_uniform : {G L : Type 0} (bytes : G → List (Option ℕ)) (log_of : L 
     → (log_of back).uniform ≡ l.uniform
 back_uniform bytes log_of l g (Done number spaces log runs) back is e = ap (λ z. (log_of z).uniform) e ∙ is.2.0.holds.logged.uniform
 back_uniform bytes log_of l g (Stopped number fault log runs) back is e = absurd e
+
+abbrev pub bytes_of : Overlaid → List (Option ℕ)
+bytes_of overlay = overlay.bytes

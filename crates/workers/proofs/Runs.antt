@@ -1,21 +1,20 @@
 -- A group's one run, and its result.
-use Rattle.std.proofs.Common.{◌≡◌, ℕ, suc, ◌+◌, ◌*◌, ◌<◌, ◌≤◌, arith, true, true≢false, Option, None, Some, List, Vec, Global, [], ◌∷◌, refl, sym, ◌∙◌, subst, ⊎_elim}
+use Rattle.std.proofs.Common.{◌≡◌, ℕ, suc, ◌+◌, ◌*◌, ◌<◌, ◌≤◌, arith, true, true≢false, None, Some, List, Vec, Global, [], ◌∷◌, refl, sym, ◌∙◌, subst, ⊎_elim}
 use Rattle.std.proofs.Math.Nat.{suc-mul, mul-le-mul_right}
 use Rattle.clmodel.specs.Launch.{Launch}
 use Rattle.clmodel.specs.Outcome.{events_of}
 use Rattle.clmodel.specs.Run.{start}
 use Rattle.clmodel.specs.declared.fault.Fault.{Fault}
 use Rattle.clmodel.specs.declared.schedule.EventRun.{EventRun}
-use Rattle.group_run.specs.Logs.{IsLogged}
-use Rattle.group_run.specs.Results.{IsResult, Leaves}
+use Rattle.group_run.specs.Results.{IsResult}
 use Rattle.group_run.specs.declared.result.GroupResult.{GroupResult}
 use Rattle.group_run.specs.declared.result.GroupResult.TheVariants.{Done, Stopped}
-use Rattle.joining.specs.Group.{Plan, IsRun, plan_of}
 use Rattle.joining.specs.Parts.{Part, OnePart}
 use Rattle.shadow.specs.Lasting.{StandsWith}
 use Rattle.shadow.specs.declared.group_accesses.LastingList.{LastingList}
 use Rattle.group_log.specs.declared.group.GroupLog.{GroupLog}
-use Rattle.snapshot_merge.specs.Launches.{AreResultsTo, group_log}
+use Rattle.snapshot_merge.specs.Launches.{group_log}
+use Rattle.snapshot_merge.proofs.Listed.{bytes_of}
 use Rattle.spaces.specs.Overlay.{Overlaid}
 use Rattle.workers_draw.specs.Groups.{AreResults}
 use Rattle.workers.specs.Results.{IsListed, AreOfRound, IsOfGroup, IsStopping, number_of, has_stopped}
@@ -48,10 +47,6 @@ stops_stopped launch group (Done number spaces log runs) one is stops =
     let part : Part = record { events = events_of runs; end = run.0.state; stopped = None } in
     let same = one launch group part stops.0 (run.0.runs, run.1) stops.2 in absurd (none_some stops.1 (same.2 ∙ stops.3))
 stops_stopped launch group (Stopped number fault log runs) one is stops = refl
-
--- a result stays that of its group where a list stands for its log
-abbrev bytes_of : Overlaid → List (Option ℕ)
-bytes_of overlay = overlay.bytes
 
 pub done_listed : (launch : Launch) (group number : ℕ) (spaces : Vec Overlaid Global) (log : GroupLog) (list : LastingList) (runs : List EventRun) → StandsWith list.has_last list.entries.items (group_log log).accesses
     → IsResult bytes_of group_log launch group (Done number spaces log runs) → IsListed launch group (Done number spaces list runs)

@@ -1,4 +1,4 @@
-use Rattle.std.proofs.Common.{◌≡◌, true, ℕ, suc, Option, Some, None, List, [], sym, ap₂, ◌∙◌, subst, arith, add-one}
+use Rattle.std.proofs.Common.{◌≡◌, true, ℕ, suc, Some, None, List, [], sym, ap₂, ◌∙◌, subst, arith, add-one}
 use Rattle.std.specs.Prelude.{Vec}
 use Rattle.std.specs.declared.alloc.Global.{Global}
 use Rattle.clmodel.specs.Launch as model
@@ -12,15 +12,11 @@ use Rattle.snapshot_merge.specs.JoinedGroups.{HoldsGroups, IsStopped, CameOfNext
 use Rattle.snapshot_merge.specs.declared.joined_groups.JoinEnd.{JoinEnd}
 use Rattle.std.specs.Vec.Iter.{into_iter_items}
 use Rattle.std.proofs.lemmas.List.{nil_from_length}
-use Rattle.spaces.specs.Overlay.{Overlaid}
 use Rattle.joining.specs.Steps.{HasGroup}
 use Rattle.snapshot_merge.specs.Launches.{AreResults, IsShortResult}
 use Rattle.snapshot_merge.proofs.Ending.{grouped_of, next_below, further_there, next_stopped, next_held, concludes_fault, concludes_clean, first_there, first_result, rest_results}
-use Rattle.snapshot_merge.proofs.Listed.{short_whole}
+use Rattle.snapshot_merge.proofs.Listed.{short_whole, bytes_of}
 use Rattle.snapshot_merge.proofs.merging.merge.Goals as goal
-
-abbrev bytes_of : Overlaid → List (Option ℕ)
-bytes_of overlay = overlay.bytes
 
 pub loop-result-init : goal.loop-result-init
 loop-result-init g c =

@@ -1,19 +1,16 @@
-use Rattle.std.proofs.Common.{suc, Some, None, Option, ℕ, List, sym, ap₂, subst, add-one}
+use Rattle.std.proofs.Common.{suc, Some, None, sym, ap₂, subst, add-one}
 use Rattle.clmodel.specs.Launch as model
 use Rattle.clmodel.specs.Next.{launch_of}
 use Rattle.item_step.specs.Launches.{setup_of}
 use Rattle.joining.specs.Steps.{HasGroup}
-use Rattle.spaces.specs.Overlay.{Overlaid}
 use Rattle.spaces_base.specs.Buffers.{bytes_in}
 use Rattle.std.specs.Vec.Iter.{into_iter_items}
 use Rattle.snapshot_merge.specs.JoinedGroups.{HoldsGroups, IsStopped, CameOfNext, report_of}
 use Rattle.snapshot_merge.specs.Launches.{IsShortResult, AreResultsTo}
 use Rattle.snapshot_merge.specs.declared.joined_groups.JoinEnd.{JoinEnd}
 use Rattle.snapshot_merge.proofs.Ending.{further_there, next_stopped, next_held, concludes_fault, round_result, round_rest}
+use Rattle.snapshot_merge.proofs.Listed.{bytes_of}
 use Rattle.snapshot_merge.proofs.rounds.join_round.Goals as goal
-
-abbrev bytes_of : Overlaid → List (Option ℕ)
-bytes_of overlay = overlay.bytes
 
 pub join-requires-clause-further : goal.join-requires-clause-further
 join-requires-clause-further g c =

@@ -1,17 +1,14 @@
 use Rattle.std.proofs.Common.{◌≡◌, true, false, [], ◌∷◌, refl, sym, ap, ◌∙◌, subst, inr}
 use Rattle.std.proofs.lemmas.Bool.{false≢true}
 use Rattle.clmodel.specs.Launch.{within_group}
-use Rattle.shadow_list.specs.Log.{Log, logged, stamped, in_buffer, hit, IsKept}
+use Rattle.shadow_list.specs.Log.{stamped, in_buffer, hit, IsKept}
 use Rattle.shadow_list.specs.declared.log.Entry.{Entry}
 use Rattle.shadow.specs.Seen.{IsFootprint, buffer_cells}
 use Rattle.group_log.specs.Lasting.{all_of, short_of, last_of, made, LeavesOut}
 use Rattle.group_log.specs.declared.group.GroupLog.{GroupLog}
-use Rattle.group_log.proofs.Shortened.{made_more, short_more, last_more, all_more, left_out_more, local_stays, local_footprint}
+use Rattle.group_log.proofs.Shortened.{made_more, short_more, last_more, all_more, left_out_more, local_stays, local_footprint, log_of}
 use Rattle.group_log.proofs.Telling.{stamped_local, told, noted_tells, other_tells}
 use Rattle.group_log.proofs.group.GroupLog.note_local.Goals as goal
-
-abbrev log_of : GroupLog → Log
-log_of l = logged (all_of l.whole.items) l.local.interval l.global.interval l.global.uniform
 
 pub invariant_of-self-2 : goal.invariant_of-self-2
 invariant_of-self-2 c =
