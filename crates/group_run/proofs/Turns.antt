@@ -20,7 +20,7 @@ use Rattle.clmodel.specs.declared.schedule.Event.TheVariants.{Item, Release}
 use Rattle.clmodel.proofs.Steps.{none_some, some_inj, lowest_is_none, item_inverse, ReleaseStep, release_inverse, answers_other, same_action, found_first}
 use Rattle.clmodel.proofs.Ending.{step_less}
 use Rattle.joining.specs.Group.{Plan, IsGroup, going, turn_of, RunsIn, Reached, Reported, IsRun}
-use Rattle.joining.proofs.GroupTurns.{gathered}
+use Rattle.joining.proofs.GroupTurns as group_turns
 use Rattle.group_run.specs.Loops.{Accesses, Steps, IsMade, AtOneStop, Gathers, IsBrief, IsAdvanced, IsItemRun, IsGathered}
 use Rattle.group_run.specs.declared.loops.ItemRun.{ItemRun}
 use Rattle.group_run.specs.declared.loops.ItemRun.TheVariants as item_step
@@ -74,7 +74,7 @@ keeps_up p whole s k item gathered b l = at_group (group_of p.launch item == p.g
     at_group false q = ap (λ z. z && not (both_stop (first_stop p s) (stop_of (next_action p.launch s item)))) q
     at_group true q =
         let w : (j : ℕ) × (j < p.count) × (p.first + j ≡ item) = whole.listed item b (eqb-true (group_of p.launch item) p.group q) in
-        gathered (group_of p.launch item == p.group) (both_stop (first_stop p s) (stop_of (next_action p.launch s item)))
+        group_turns.gathered (group_of p.launch item == p.group) (both_stop (first_stop p s) (stop_of (next_action p.launch s item)))
         (subst (λ z. both_stop (first_stop p s) (stop_of (next_action p.launch s z)) ≡ true) w.2 (gathered w.0 (omega (arith, w.2, l))))
 
 pub straggler_at :
