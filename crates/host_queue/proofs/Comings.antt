@@ -12,7 +12,7 @@ use Rattle.host_queue.specs.declared.view.Stage.TheVariants.{Idle}
 use Rattle.host_queue.specs.declared.view.Entry.{Entry}
 use Rattle.host_queue.specs.declared.view.View.{View}
 use Rattle.host_queue.specs.Views.{total, credit, share, count, first_view}
-use Rattle.host_queue.specs.Tickets.{word_of, AtStage, SeatOk, Kept}
+use Rattle.host_queue.specs.Tickets.{drawn_of, word_of, AtStage, SeatOk, Kept}
 use Rattle.host_queue.specs.Plays.{looked}
 use Rattle.host_queue.specs.Notes.{host_of, guest_of, note_of, gone, farewell_of, told, spent}
 use Rattle.host_queue.proofs.Basics.{put, put_here, put_else, at_inside, at_end, begins_refl, total_set, total_snoc, total_alone, runs_none, runs_on}
@@ -39,12 +39,12 @@ module _ {D C R B : Type 0} (model : D → C → R → D → Type 0) (content : 
   command_is : (a b : C) → Path (Option C) (Some a) (Some b) → Path C a b
   command_is a b p = cc
 
-  pub looks : (slots id : ℕ) (me : Me (Option B) V) → me.0.stage ≡ Idle → Allows Rule slots id me 0 (λ y. y) (looked model content (step slots 0 0 0 none) me)
-  looks slots id me st s r wide at _ = let v : V = me.0 in let y : ℕ = get_or s.words 0 0 in let k = r.each_seat id v at in let w : V = record v { known = r.log; floor = y } in let fl = k.floor in let hf = k.heard_floor in (
+  pub looks : (slots id : ℕ) (me : Me (Option B) V) → me.0.stage ≡ Idle → Allows Rule slots id me 16 (λ y. y) (looked model content (step slots 16 0 0 none) me)
+  looks slots id me st s r wide at _ = let v : V = me.0 in let y : ℕ = drawn_of s.words in let k = r.each_seat id v at in let w : V = record v { known = r.log; floor = y } in let fl = k.floor in let hf = k.heard_floor in (
     w,
     keeps,
     tt,
-    unmoved model content start s r 0 id v w at (refl, refl, refl) record {
+    unmoved model content start s r 16 id v w at (refl, refl, refl) record {
       begun = k.begun;
       known = begins_refl r.log;
       floor = (let g : y ≤ y = omega arith in g);
@@ -79,7 +79,7 @@ module _ {D C R B : Type 0} (model : D → C → R → D → Type 0) (content : 
   -- only the views change, and who has which name
   reviewed : (s : S) (r : Rule s) (vs : List V) (admitted' : ℕ) (seat_of' : ℕ → ℕ) → r.admitted ≤ admitted' → total credit vs ≤ total credit s.views → total share vs ≡ admitted' → total count vs ≡ total count s.views
       → ((j : ℕ) (u : V) → get_elem? vs j ≡ some u → u.share ≡ 0 → u.count ≡ 0)
-      → ((j : ℕ) (u : V) → get_elem? vs j ≡ some u → SeatOk start (length s.homes) (get_or s.words 0 0) r.driver admitted' r.log r.owner seat_of' r.command (word_of s.words) j u)
+      → ((j : ℕ) (u : V) → get_elem? vs j ≡ some u → SeatOk start (length s.homes) (drawn_of s.words) r.driver admitted' r.log r.owner seat_of' r.command (word_of s.words) j u)
       → Rule record { words = s.words; homes = s.homes; views = vs }
   reviewed s r vs admitted' seat_of' more fewer shares counts lefts seats = let c0 = r.credits.0 in let c1 = r.credits.1 in record {
     log = r.log;
@@ -106,7 +106,7 @@ module _ {D C R B : Type 0} (model : D → C → R → D → Type 0) (content : 
 
   pub admits : (id : ℕ) (v : V) → v.stage ≡ Idle → 0 < v.driving → 0 < v.credit → Splits Rule id v (host_of v) (guest_of v)
   admits id v st drives some_credit s r at = let k = r.each_seat id v at in let d = k.drives drives in let vs : List V = set s.views id (host_of v) in let seat_of' = put r.seat_of r.admitted (length vs) in
-      let word : ℕ → ℕ = word_of s.words in let drawn : ℕ = get_or s.words 0 0 in let n : ℕ = length s.homes in
+      let word : ℕ → ℕ = word_of s.words in let drawn : ℕ = drawn_of s.words in let n : ℕ = length s.homes in
       let c = total_set credit s.views id v (host_of v) at in let c' = total_snoc credit vs (guest_of v) in let h = total_set share s.views id v (host_of v) at in let h' = total_snoc share vs (guest_of v) in
       let t = total_set count s.views id v (host_of v) at in let t' = total_snoc count vs (guest_of v) in let sh = r.shares in
       reviewed s r (vs ++ guest_of v ∷ []) (r.admitted + 1) seat_of' (omega arith) (omega arith) (omega arith) (omega arith)
@@ -145,13 +145,13 @@ module _ {D C R B : Type 0} (model : D → C → R → D → Type 0) (content : 
       })
     where
       no_owner : (s : S) (r : Rule s) (m a : ℕ) → m < length s.homes → r.owner m ≡ a → a ≡ r.admitted → word_of s.words m ≡ 4 → ⊥
-      no_owner s r m a l o e four = dite (dec_le (get_or s.words 0 0) m) (λ h. let z = ((r.each_ticket m l).free h).0 in absurd (omega arith)) (λ h. let z = r.owned m (omega arith) l in absurd (omega arith))
+      no_owner s r m a l o e four = dite (dec_le (drawn_of s.words) m) (λ h. let z = ((r.each_ticket m l).free h).0 in absurd (omega arith)) (λ h. let z = r.owned m (omega arith) l in absurd (omega arith))
 
   -- a seat keeps what it knows, with another share and count, and a note of it goes out
   notes : (id : ℕ) (v : V) (sh ct sh' ct' : ℕ) → v.stage ≡ Idle → sh + sh' ≡ v.share → ct + ct' ≡ v.count → (sh ≡ 0 → ct ≡ 0) → (sh' ≡ 0 → ct' ≡ 0)
       → Splits Rule id v (record v { share = sh; count = ct }) (record (note_of v) { share = sh'; count = ct' })
   notes id v sh ct sh' ct' st shares counts none_left none_given s r at = let k = r.each_seat id v at in let w : V = record v { share = sh; count = ct } in let o : V = record (note_of v) { share = sh'; count = ct' } in let vs : List V = set s.views id w in
-      let word : ℕ → ℕ = word_of s.words in let drawn : ℕ = get_or s.words 0 0 in let n : ℕ = length s.homes in
+      let word : ℕ → ℕ = word_of s.words in let drawn : ℕ = drawn_of s.words in let n : ℕ = length s.homes in
       let c = total_set credit s.views id v w at in let c' = total_snoc credit vs o in let h = total_set share s.views id v w at in let h' = total_snoc share vs o in
       let t = total_set count s.views id v w at in let t' = total_snoc count vs o in let old = r.shares in
       reviewed s r (vs ++ o ∷ []) r.admitted r.seat_of (omega arith) (omega arith) (omega arith) (omega arith)
@@ -196,7 +196,7 @@ module _ {D C R B : Type 0} (model : D → C → R → D → Type 0) (content : 
 
   pub learns : (id : ℕ) (v : V) (other : ℕ) (w : V) → v.stage ≡ Idle → Joins Rule id v other w (told v w) spent
   learns id v other w st s r at ne at' = let k = r.each_seat id v at in let both : V = told v w in let vs : List V = set s.views id both in let at_w : get_elem? s.views other ≡ some w = sym (set_else s.views id other both ne) ∙ at' in let kw = r.each_seat other w at_w in
-      let word : ℕ → ℕ = word_of s.words in let drawn : ℕ = get_or s.words 0 0 in let n : ℕ = length s.homes in
+      let word : ℕ → ℕ = word_of s.words in let drawn : ℕ = drawn_of s.words in let n : ℕ = length s.homes in
       let c = total_set credit s.views id v both at in let c' = total_set credit vs other w spent at' in let h = total_set share s.views id v both at in let h' = total_set share vs other w spent at' in
       let t = total_set count s.views id v both at in let t' = total_set count vs other w spent at' in let old = r.shares in
       reviewed s r (set vs other spent) r.admitted r.seat_of (omega arith) (omega arith) (omega arith) (omega arith)
@@ -237,8 +237,8 @@ module _ {D C R B : Type 0} (model : D → C → R → D → Type 0) (content : 
       none_some : (d : D) → Path (List D) [] (d ∷ []) → ⊥
       none_some d e = cc
 
-  pub starts : (words : List ℕ) (n : ℕ) → length words ≡ n + 1 → n < 4294967296 → ((i : ℕ) → get_or words i 0 ≡ 0) → Rule (opening words (replicate n None) (first_view start))
-  starts words n wide small empty = let hs : ℕ = length (map some (replicate {A = Option B} n None)) in let deep : hs ≡ n = length-map (replicate {A = Option B} n None) (λ (x : Option B). some x) ∙ length-replicate n None in let none_drawn = empty 0 in record {
+  pub starts : (words : List ℕ) (n : ℕ) → length words ≡ n + 32 → n < 4294967296 → ((i : ℕ) → get_or words i 0 ≡ 0) → Rule (opening words (replicate n None) (first_view start))
+  starts words n wide small empty = let hs : ℕ = length (map some (replicate {A = Option B} n None)) in let deep : hs ≡ n = length-map (replicate {A = Option B} n None) (λ (x : Option B). some x) ∙ length-replicate n None in let none_drawn = empty 16 in record {
     log = [];
     driver = 0;
     admitted = 0;
@@ -254,7 +254,7 @@ module _ {D C R B : Type 0} (model : D → C → R → D → Type 0) (content : 
     counts = ((λ _. sym none_drawn), λ h. (let g : 0 ≡ hs = omega arith in g));
     left = λ j v e. ⊎_elim (λ (h : get_elem? [] j ≡ some v). absurd (some-ne-none v (sym h))) (λ (h : (j ≡ 0) × Path V (first_view start) v). λ _. sym (ap count h.1)) (at_end [] (first_view start) v j e);
     owned = λ m a b. absurd (omega arith);
-    each_ticket = λ m l. let z = empty (m + 1) in record {
+    each_ticket = λ m l. let z = empty (m + 32) in record {
       free = λ _. (z, blank n m (omega arith));
       unplaced = λ _. refl;
       placed = λ h. absurd (omega arith);
@@ -264,7 +264,7 @@ module _ {D C R B : Type 0} (model : D → C → R → D → Type 0) (content : 
       last = omega arith;
     };
     each_seat = λ j v e. ⊎_elim (λ (h : get_elem? [] j ≡ some v). absurd (some-ne-none v (sym h)))
-        (λ (h : (j ≡ 0) × Path V (first_view start) v). subst (λ (z : ℕ × V). SeatOk start hs (get_or words 0 0) 0 0 [] (λ _. 0) (λ _. 0) (λ _. None) (word_of words) z.0 z.1) (λ i. (sym h.0 i, h.1 i))
+        (λ (h : (j ≡ 0) × Path V (first_view start) v). subst (λ (z : ℕ × V). SeatOk start hs (drawn_of words) 0 0 [] (λ _. 0) (λ _. 0) (λ _. None) (word_of words) z.0 z.1) (λ i. (sym h.0 i, h.1 i))
         record {
           begun = λ d q. some_is d start q;
           known = begins_refl [];
@@ -277,7 +277,7 @@ module _ {D C R B : Type 0} (model : D → C → R → D → Type 0) (content : 
           heard_known = begins_refl [];
           heard_floor = omega arith;
           heard_tickets = λ i t q. absurd (some-ne-none t (sym q));
-          busy = λ p m two. let z = empty (m + 1) in absurd (omega arith);
+          busy = λ p m two. let z = empty (m + 32) in absurd (omega arith);
         })
         (at_end [] (first_view start) v j e);
   }

@@ -19,7 +19,7 @@ use Rattle.host_queue.specs.declared.view.Entry.{Entry}
 use Rattle.host_queue.specs.declared.view.View.{View}
 use Rattle.host_queue.specs.History.{Begins, Runs}
 use Rattle.host_queue.specs.Views.{total, Has, entry, held, credit, share, count}
-use Rattle.host_queue.specs.Tickets.{word_of, TicketOk, AtStage, SeatOk, Kept}
+use Rattle.host_queue.specs.Tickets.{drawn_of, word_of, TicketOk, AtStage, SeatOk, Kept}
 use Rattle.host_queue.specs.Plays.{drew, placed, took, answered, Fits, gathered}
 use Rattle.host_queue.proofs.Basics.{put, put_here, put_else, at_inside, at_end, begins_refl, begins_trans, begins_more, begins_long, total_set}
 
@@ -94,19 +94,19 @@ module _ {D C R B : Type 0} (model : D → C → R → D → Type 0) (content : 
   -- a step of the seat id on the ticket n, whose word becomes x
   pub moved : (s : S) (r : Rule s) (n x id : ℕ) (log' : List E) (command' : ℕ → Option C) (homes' : List (maybe.Option (Option B))) (v w : V) → n < length s.homes → get_elem? s.views id ≡ some v → length homes' ≡ length s.homes
       → ((m : ℕ) → m ≢ n → get_elem? homes' m ≡ get_elem? s.homes m) → ((m : ℕ) → m ≢ n → command' m ≡ r.command m) → ((c : C) → r.command n ≡ Some c → command' n ≡ Some c)
-      → Runs model start log' → Begins r.log log' → length log' ≤ get_or s.words 0 0 → ((m : ℕ) → m ≢ n → m < length log' → m < length r.log)
-      → TicketOk content (get_or s.words 0 0) log' n (command' n) x (get_elem? homes' n) → (w.credit ≡ v.credit) × (w.share ≡ v.share) × (w.count ≡ v.count) → 0 < x
+      → Runs model start log' → Begins r.log log' → length log' ≤ drawn_of s.words → ((m : ℕ) → m ≢ n → m < length log' → m < length r.log)
+      → TicketOk content (drawn_of s.words) log' n (command' n) x (get_elem? homes' n) → (w.credit ≡ v.credit) × (w.share ≡ v.share) × (w.count ≡ v.count) → 0 < x
       → (x ≡ 4 → (0 < v.part) × (r.owner n ≡ v.name)) → (word_of s.words n ≡ 0 → (0 < v.part) × (r.owner n ≡ v.name))
       → (id ≢ r.driver → Path (List E) log' r.log × (word_of s.words n ≢ 2) × (x ≢ 2))
-      → SeatOk start (length s.homes) (get_or s.words 0 0) r.driver r.admitted log' r.owner r.seat_of command' (put (word_of s.words) n x) id w
-      → Rule record { words = set s.words (n + 1) x; homes = homes'; views = set s.views id w }
+      → SeatOk start (length s.homes) (drawn_of s.words) r.driver r.admitted log' r.owner r.seat_of command' (put (word_of s.words) n x) id w
+      → Rule record { words = set s.words (n + 32) x; homes = homes'; views = set s.views id w }
   moved s r n x id log' command' homes' v w near at deep home cmd cmd_n runs b short grows ticket same_credit pos done unset drive mine =
       let same_c = same_credit.0 in let same_s = same_credit.1 in let same_n = same_credit.2 in let sum_s = total_set share s.views id v w at in let sum_n = total_set count s.views id v w at in let sh = r.shares in let k0 = r.counts.0 in let k1 = r.counts.1 in
-      let word : ℕ → ℕ = word_of s.words in let word' : ℕ → ℕ = word_of (set s.words (n + 1) x) in
-      let wide : length s.words ≡ length s.homes + 1 = r.wide in let drawn : ℕ = get_or s.words 0 0 in
-      let here : word' n ≡ x = get_or-set_same s.words (n + 1) x 0 (omega arith) in
-      let else_ = λ (m : ℕ) (ne : m ≢ n). let e : word' m ≡ word m = get_or-set_other s.words (n + 1) (m + 1) x 0 (λ h. ne (omega arith)) in e in
-      let same0 : get_or (set s.words (n + 1) x) 0 0 ≡ drawn = get_or-set_other s.words (n + 1) 0 x 0 (λ h. omega arith) in
+      let word : ℕ → ℕ = word_of s.words in let word' : ℕ → ℕ = word_of (set s.words (n + 32) x) in
+      let wide : length s.words ≡ length s.homes + 32 = r.wide in let drawn : ℕ = drawn_of s.words in
+      let here : word' n ≡ x = get_or-set_same s.words (n + 32) x 0 (omega arith) in
+      let else_ = λ (m : ℕ) (ne : m ≢ n). let e : word' m ≡ word m = get_or-set_other s.words (n + 32) (m + 32) x 0 (λ h. ne (omega arith)) in e in
+      let same0 : drawn_of (set s.words (n + 32) x) ≡ drawn = get_or-set_other s.words (n + 32) 16 x 0 (λ h. omega arith) in
       let sum = total_set credit s.views id v w at in let c0 = r.credits.0 in let c1 = r.credits.1 in
       let words_are = words_put s.words n x (omega arith) in
       record {
@@ -116,7 +116,7 @@ module _ {D C R B : Type 0} (model : D → C → R → D → Type 0) (content : 
         owner = r.owner;
         seat_of = r.seat_of;
         command = command';
-        wide = length-set s.words (n + 1) x ∙ (wide ∙ ap (λ (z : ℕ). z + 1) (sym deep));
+        wide = length-set s.words (n + 32) x ∙ (wide ∙ ap (λ (z : ℕ). z + 32) (sym deep));
         small = (let l = r.small in omega arith);
         runs = runs;
         short = omega arith;
@@ -126,13 +126,13 @@ module _ {D C R B : Type 0} (model : D → C → R → D → Type 0) (content : 
         left = seats_move (λ j u. u.share ≡ 0 → u.count ≡ 0) s.views id w (λ h. same_n ∙ r.left id v at (sym same_s ∙ h)) (λ j u _ e. r.left j u e);
         owned = λ m a b. r.owned m (omega arith) (omega arith);
         each_ticket = λ m l. dite (ℕ_discrete m n)
-            (λ e. subst (λ (z : ℕ). TicketOk content (get_or (set s.words (n + 1) x) 0 0) log' z (command' z) (word' z) (get_elem? homes' z)) (sym e)
-            (ticket_stays drawn (get_or (set s.words (n + 1) x) 0 0) log' log' n (command' n) (command' n) x (word' n) (get_elem? homes' n) (get_elem? homes' n) (λ h. omega arith) (begins_refl log') (λ h. h) refl here refl ticket))
-            (λ ne. ticket_stays drawn (get_or (set s.words (n + 1) x) 0 0) r.log log' m (r.command m) (command' m) (word m) (word' m) (get_elem? s.homes m) (get_elem? homes' m) (λ h. omega arith) b (grows m ne) (cmd m ne) (else_ m ne) (home m ne) (r.each_ticket m (omega arith)));
-        each_seat = seats_move (SeatOk start (length homes') (get_or (set s.words (n + 1) x) 0 0) r.driver r.admitted log' r.owner r.seat_of command' word') s.views id w
+            (λ e. subst (λ (z : ℕ). TicketOk content (drawn_of (set s.words (n + 32) x)) log' z (command' z) (word' z) (get_elem? homes' z)) (sym e)
+            (ticket_stays drawn (drawn_of (set s.words (n + 32) x)) log' log' n (command' n) (command' n) x (word' n) (get_elem? homes' n) (get_elem? homes' n) (λ h. omega arith) (begins_refl log') (λ h. h) refl here refl ticket))
+            (λ ne. ticket_stays drawn (drawn_of (set s.words (n + 32) x)) r.log log' m (r.command m) (command' m) (word m) (word' m) (get_elem? s.homes m) (get_elem? homes' m) (λ h. omega arith) b (grows m ne) (cmd m ne) (else_ m ne) (home m ne) (r.each_ticket m (omega arith)));
+        each_seat = seats_move (SeatOk start (length homes') (drawn_of (set s.words (n + 32) x)) r.driver r.admitted log' r.owner r.seat_of command' word') s.views id w
             (subst (λ (z : ℕ × ℕ × (ℕ → ℕ)). SeatOk start z.0 z.1 r.driver r.admitted log' r.owner r.seat_of command' z.2 id w) (λ i. (sym deep i, sym same0 i, λ m. sym (words_are m) i)) mine)
-            (λ j u ne e. subst (λ (z : ℕ). SeatOk start z (get_or (set s.words (n + 1) x) 0 0) r.driver r.admitted log' r.owner r.seat_of command' word' j u) (sym deep)
-            (seat_stays (length s.homes) drawn (get_or (set s.words (n + 1) x) 0 0) r.driver r.admitted r.admitted r.log log' r.owner r.owner r.seat_of r.seat_of r.command command' word word' j u (omega arith) b
+            (λ j u ne e. subst (λ (z : ℕ). SeatOk start z (drawn_of (set s.words (n + 32) x)) r.driver r.admitted log' r.owner r.seat_of command' word' j u) (sym deep)
+            (seat_stays (length s.homes) drawn (drawn_of (set s.words (n + 32) x)) r.driver r.admitted r.admitted r.log log' r.owner r.owner r.seat_of r.seat_of r.command command' word word' j u (omega arith) b
             (λ p. let d = drive (λ (h : id ≡ r.driver). ne (((r.each_seat j u e).drives p).0 ∙ sym h)) in (
               d.0,
               refl,
@@ -151,10 +151,10 @@ module _ {D C R B : Type 0} (model : D → C → R → D → Type 0) (content : 
             (r.each_seat j u e)));
       }
     where
-      words_put : (words : List ℕ) (n x : ℕ) → n + 1 < length words → (m : ℕ) → word_of (set words (n + 1) x) m ≡ put (word_of words) n x m
+      words_put : (words : List ℕ) (n x : ℕ) → n + 32 < length words → (m : ℕ) → word_of (set words (n + 32) x) m ≡ put (word_of words) n x m
       words_put words n x l m = dite (ℕ_discrete m n)
-          (λ q. subst (λ (z : ℕ). word_of (set words (n + 1) x) z ≡ put (word_of words) n x z) (sym q) (get_or-set_same words (n + 1) x 0 l ∙ sym (put_here (word_of words) n x)))
-          (λ q. get_or-set_other words (n + 1) (m + 1) x 0 (λ h. q (omega arith)) ∙ sym (put_else (word_of words) n x m q))
+          (λ q. subst (λ (z : ℕ). word_of (set words (n + 32) x) z ≡ put (word_of words) n x z) (sym q) (get_or-set_same words (n + 32) x 0 l ∙ sym (put_here (word_of words) n x)))
+          (λ q. get_or-set_other words (n + 32) (m + 32) x 0 (λ h. q (omega arith)) ∙ sym (put_else (word_of words) n x m q))
 
   abbrev Mine : Type 0
   Mine = Me (Option B) V
@@ -165,7 +165,7 @@ module _ {D C R B : Type 0} (model : D → C → R → D → Type 0) (content : 
 
   -- a step that changes one view alone
   pub unmoved : (s : S) (r : Rule s) (i id : ℕ) (v w : V) → get_elem? s.views id ≡ some v → (w.credit ≡ v.credit) × (w.share ≡ v.share) × (w.count ≡ v.count)
-      → SeatOk start (length s.homes) (get_or s.words 0 0) r.driver r.admitted r.log r.owner r.seat_of r.command (word_of s.words) id w
+      → SeatOk start (length s.homes) (drawn_of s.words) r.driver r.admitted r.log r.owner r.seat_of r.command (word_of s.words) id w
       → Rule record { words = set s.words i (get_or s.words i 0); homes = s.homes; views = set s.views id w }
   unmoved s r i id v w at same mine = let same_c = same.0 in let same_s = same.1 in let same_n = same.2 in let sum_s = total_set share s.views id v w at in let sum_n = total_set count s.views id v w at in let sh = r.shares in let k0 = r.counts.0 in let k1 = r.counts.1 in
       let sum = total_set credit s.views id v w at in let c0 = r.credits.0 in let c1 = r.credits.1 in
@@ -186,12 +186,12 @@ module _ {D C R B : Type 0} (model : D → C → R → D → Type 0) (content : 
         left = seats_move (λ j u. u.share ≡ 0 → u.count ≡ 0) s.views id w (λ h. same_n ∙ r.left id v at (sym same_s ∙ h)) (λ j u _ e. r.left j u e);
         owned = r.owned;
         each_ticket = r.each_ticket;
-        each_seat = seats_move (SeatOk start (length s.homes) (get_or s.words 0 0) r.driver r.admitted r.log r.owner r.seat_of r.command (word_of s.words)) s.views id w mine (λ j u _ e. r.each_seat j u e);
+        each_seat = seats_move (SeatOk start (length s.homes) (drawn_of s.words) r.driver r.admitted r.log r.owner r.seat_of r.command (word_of s.words)) s.views id w mine (λ j u _ e. r.each_seat j u e);
       }
 
   pub at_stage : (s : S) (r : Rule s) (id : ℕ) (v : V) (st : Stage C) → get_elem? s.views id ≡ some v → v.stage ≡ st
-      → AtStage (length s.homes) (get_or s.words 0 0) r.log r.owner r.command (word_of s.words) v st
-  at_stage s r id v st at is = subst (AtStage (length s.homes) (get_or s.words 0 0) r.log r.owner r.command (word_of s.words) v) is (r.each_seat id v at).stage
+      → AtStage (length s.homes) (drawn_of s.words) r.log r.owner r.command (word_of s.words) v st
+  at_stage s r id v st at is = subst (AtStage (length s.homes) (drawn_of s.words) r.log r.owner r.command (word_of s.words) v) is (r.each_seat id v at).stage
 
   some_none : (c : C) → Path (Option C) None (Some c) → ⊥
   some_none c e = cc
@@ -222,12 +222,12 @@ module _ {D C R B : Type 0} (model : D → C → R → D → Type 0) (content : 
   head_or d (x ∷ xs) = x.1
 
   places_in : (slots id : ℕ) (v : V) (n : ℕ) (b : B) (c : C) (more : List (ℕ × Option B)) → v.driving ≡ 0 → v.stage ≡ Drawn n → content b ≡ Asked c
-      → Allows Rule slots id (v, (n, Some b) ∷ more) (n + 1) (λ y. either (eqb y 0) 1 y) (placed content (step slots (n + 1) 0 1 none) (v, (n, Some b) ∷ more))
-  places_in slots id v n b c more idles st asked s r wide at _ = let told = placed content (step slots (n + 1) 0 1 none) (v, (n, Some b) ∷ more) in
+      → Allows Rule slots id (v, (n, Some b) ∷ more) (n + 32) (λ y. either (eqb y 0) 1 y) (placed content (step slots (n + 32) 0 1 none) (v, (n, Some b) ∷ more))
+  places_in slots id v n b c more idles st asked s r wide at _ = let told = placed content (step slots (n + 32) 0 1 none) (v, (n, Some b) ∷ more) in
       let k = r.each_seat id v at in let g = at_stage s r id v (Drawn n) at st in let part : 0 < v.part = g.0 in let near : n < length s.homes = g.3 in let none_yet : word_of s.words n ≡ 0 = g.4 in
-      let below : n < get_or s.words 0 0 = (let a : n < v.floor = g.2 in let f : v.floor ≤ get_or s.words 0 0 = k.floor in omega arith) in
+      let below : n < drawn_of s.words = (let a : n < v.floor = g.2 in let f : v.floor ≤ drawn_of s.words = k.floor in omega arith) in
       let old = r.each_ticket n near in let w : V = record v { stage = Idle; tickets = v.tickets ++ held n c ∷ [] } in let command' = put r.command n (Some c) in let word : ℕ → ℕ = word_of s.words in let word' = put word n 1 in
-      exchanged (get_or s.words (n + 1) 0) 0 1 (Goes s (n + 1) id (v, (n, Some b) ∷ more) (told (get_or s.words (n + 1) 0)))
+      exchanged (word_of s.words n) 0 1 (Goes s (n + 32) id (v, (n, Some b) ∷ more) (told (word_of s.words n)))
       (λ _. (
         w,
         gives,
@@ -271,22 +271,22 @@ module _ {D C R B : Type 0} (model : D → C → R → D → Type 0) (content : 
       (λ miss. absurd (miss none_yet))
 
   pub places : (slots id : ℕ) (me : Mine) (n : ℕ) (b : B) (c : C) (more : List (ℕ × Option B)) → me.0.driving ≡ 0 → me.0.stage ≡ Drawn n → me.1 ≡ (n, Some b) ∷ more → content b ≡ Asked c
-      → Allows Rule slots id me (n + 1) (λ y. either (eqb y 0) 1 y) (placed content (step slots (n + 1) 0 1 none) me)
-  places slots id me n b c more idles st has asked = subst (λ (cs : List (ℕ × Option B)). Allows Rule slots id (me.0, cs) (n + 1) (λ y. either (eqb y 0) 1 y) (placed content (step slots (n + 1) 0 1 none) (me.0, cs))) (sym has)
+      → Allows Rule slots id me (n + 32) (λ y. either (eqb y 0) 1 y) (placed content (step slots (n + 32) 0 1 none) me)
+  places slots id me n b c more idles st has asked = subst (λ (cs : List (ℕ × Option B)). Allows Rule slots id (me.0, cs) (n + 32) (λ y. either (eqb y 0) 1 y) (placed content (step slots (n + 32) 0 1 none) (me.0, cs))) (sym has)
       (places_in slots id me.0 n b c more idles st asked)
 
   -- a step on the count of draws, which goes up by one
   counted : (s : S) (r : Rule s) (id : ℕ) (owner' : ℕ → ℕ) (homes' : List (maybe.Option (Option B))) (v w : V) → get_elem? s.views id ≡ some v → length homes' ≡ length s.homes
-      → ((m : ℕ) → m ≢ get_or s.words 0 0 → get_elem? homes' m ≡ get_elem? s.homes m) → ((m : ℕ) → m < get_or s.words 0 0 → owner' m ≡ r.owner m)
-      → (get_or s.words 0 0 + 1 + total credit (set s.views id w) ≤ length s.homes + 16) → total credit (set s.views id w) ≤ 16
-      → ((m : ℕ) → m < get_or s.words 0 0 + 1 → m < length s.homes → owner' m < r.admitted) → w.share ≡ v.share → (get_or s.words 0 0 < length s.homes → (0 < v.share) × (w.count ≡ v.count + 1)) → (length s.homes ≤ get_or s.words 0 0 → w.count ≡ v.count)
-      → SeatOk start (length s.homes) (get_or s.words 0 0 + 1) r.driver r.admitted r.log owner' r.seat_of r.command (word_of s.words) id w
-      → Rule record { words = set s.words 0 (get_or s.words 0 0 + 1); homes = homes'; views = set s.views id w }
+      → ((m : ℕ) → m ≢ drawn_of s.words → get_elem? homes' m ≡ get_elem? s.homes m) → ((m : ℕ) → m < drawn_of s.words → owner' m ≡ r.owner m)
+      → (drawn_of s.words + 1 + total credit (set s.views id w) ≤ length s.homes + 16) → total credit (set s.views id w) ≤ 16
+      → ((m : ℕ) → m < drawn_of s.words + 1 → m < length s.homes → owner' m < r.admitted) → w.share ≡ v.share → (drawn_of s.words < length s.homes → (0 < v.share) × (w.count ≡ v.count + 1)) → (length s.homes ≤ drawn_of s.words → w.count ≡ v.count)
+      → SeatOk start (length s.homes) (drawn_of s.words + 1) r.driver r.admitted r.log owner' r.seat_of r.command (word_of s.words) id w
+      → Rule record { words = set s.words 16 (drawn_of s.words + 1); homes = homes'; views = set s.views id w }
   counted s r id owner' homes' v w at deep home own credits fewer names same_s low high mine =
       let sum_s = total_set share s.views id v w at in let sum_n = total_set count s.views id v w at in let sh = r.shares in let k0 = r.counts.0 in let k1 = r.counts.1 in
-      let y : ℕ = get_or s.words 0 0 in let x : ℕ = get_or (set s.words 0 (y + 1)) 0 0 in let word : ℕ → ℕ = word_of s.words in let word' : ℕ → ℕ = word_of (set s.words 0 (y + 1)) in
-      let wide : length s.words ≡ length s.homes + 1 = r.wide in let is : x ≡ y + 1 = get_or-set_same s.words 0 (y + 1) 0 (omega arith) in
-      let else_ = λ (m : ℕ). let e : word' m ≡ word m = get_or-set_other s.words 0 (m + 1) (y + 1) 0 (λ h. omega arith) in e in
+      let y : ℕ = drawn_of s.words in let x : ℕ = drawn_of (set s.words 16 (y + 1)) in let word : ℕ → ℕ = word_of s.words in let word' : ℕ → ℕ = word_of (set s.words 16 (y + 1)) in
+      let wide : length s.words ≡ length s.homes + 32 = r.wide in let is : x ≡ y + 1 = get_or-set_same s.words 16 (y + 1) 0 (omega arith) in
+      let else_ = λ (m : ℕ). let e : word' m ≡ word m = get_or-set_other s.words 16 (m + 32) (y + 1) 0 (λ h. omega arith) in e in
       let empty = λ (m : ℕ) (l : m < length s.homes) (h : y ≤ m). ((r.each_ticket m l).free h).0 in record {
         log = r.log;
         driver = r.driver;
@@ -294,7 +294,7 @@ module _ {D C R B : Type 0} (model : D → C → R → D → Type 0) (content : 
         owner = owner';
         seat_of = r.seat_of;
         command = r.command;
-        wide = length-set s.words 0 (y + 1) ∙ (wide ∙ ap (λ (z : ℕ). z + 1) (sym deep));
+        wide = length-set s.words 16 (y + 1) ∙ (wide ∙ ap (λ (z : ℕ). z + 32) (sym deep));
         small = (let l = r.small in omega arith);
         runs = r.runs;
         short = (let l = r.short in omega arith);
@@ -329,12 +329,12 @@ module _ {D C R B : Type 0} (model : D → C → R → D → Type 0) (content : 
       lower w m y four z = dite (dec_le y m) (λ h. let e : w ≡ 0 = z h in absurd (omega arith)) (λ h. omega arith)
 
   pub draws : (slots id : ℕ) (me : Mine) → me.0.stage ≡ Idle → 0 < me.0.part → 0 < me.0.credit → 0 < me.0.share
-      → Allows Rule slots id me 0 (λ y. (y + 1) % 2 ^ 64) (drew content (step slots 0 1 0 none) me)
+      → Allows Rule slots id me 16 (λ y. (y + 1) % 2 ^ 64) (drew content (step slots 16 1 0 none) me)
   draws slots id me st part some_credit shared s r wide at _ =
-      let y : ℕ = get_or s.words 0 0 in let v : V = me.0 in let k = r.each_seat id v at in let told = drew content (step slots 0 1 0 none) me in
+      let y : ℕ = drawn_of s.words in let v : V = me.0 in let k = r.each_seat id v at in let told = drew content (step slots 16 1 0 none) me in
       let c0 = r.credits.0 in let c1 = r.credits.1 in let tiny = r.small in
       let next : (y + 1) % 2 ^ 64 ≡ y + 1 = omega arith in
-      subst (Goes s 0 id me (told y)) (sym next)
+      subst (Goes s 16 id me (told y)) (sym next)
       (dite (dec_le slots y)
       (λ full. let w : V = record v { credit = 0; floor = y + 1 } in let sum = total_set credit s.views id v w at in let fl = k.floor in (
         w,
@@ -383,11 +383,11 @@ module _ {D C R B : Type 0} (model : D → C → R → D → Type 0) (content : 
       )))
 
   pub takes_next : (slots id : ℕ) (me : Mine) → me.0.stage ≡ Idle → 0 < me.0.driving → length me.0.known < slots
-      → Allows Rule slots id me (length me.0.known + 1) (λ y. either (eqb y 1) 2 y) (took content (step slots (length me.0.known + 1) 1 2 none) me)
+      → Allows Rule slots id me (length me.0.known + 32) (λ y. either (eqb y 1) 2 y) (took content (step slots (length me.0.known + 32) 1 2 none) me)
   takes_next slots id me st drives below s r wide at _ =
-      let v : V = me.0 in let n : ℕ = length v.known in let k = r.each_seat id v at in let told = took content (step slots (n + 1) 1 2 none) me in let d = k.drives drives in
+      let v : V = me.0 in let n : ℕ = length v.known in let k = r.each_seat id v at in let told = took content (step slots (n + 32) 1 2 none) me in let d = k.drives drives in
       let nl : n ≡ length r.log = ap length d.1 in let near : n < length s.homes = omega arith in let old = r.each_ticket n near in let word : ℕ → ℕ = word_of s.words in
-      exchanged (get_or s.words (n + 1) 0) 1 2 (Goes s (n + 1) id me (told (get_or s.words (n + 1) 0)))
+      exchanged (word_of s.words n) 1 2 (Goes s (n + 32) id me (told (word_of s.words n)))
       (λ hit. let p = old.placed hit in let b = p.0 in let c = p.1 in let w : V = record v { stage = Taken (c ∷ []) } in let word' = put word n 2 in (
         w,
         takes n (Some b),
@@ -423,7 +423,7 @@ module _ {D C R B : Type 0} (model : D → C → R → D → Type 0) (content : 
         v,
         keeps,
         tt,
-        unmoved s r (n + 1) id v v at (refl, refl, refl) k,
+        unmoved s r (n + 32) id v v at (refl, refl, refl) k,
         (
           (λ hit. absurd (miss hit)),
           λ _. (
@@ -438,14 +438,14 @@ module _ {D C R B : Type 0} (model : D → C → R → D → Type 0) (content : 
       raised word n x m pos h = dite (ℕ_discrete m n) (λ q. subst (λ (z : ℕ). 0 < put word n x z) (sym q) (subst (λ (z : ℕ). 0 < z) (sym (put_here word n x)) pos)) (λ q. subst (λ (z : ℕ). 0 < z) (sym (put_else word n x m q)) h)
 
   answers_in : (slots id : ℕ) (v : V) (b : B) (c : C) (a : R) (more : List (ℕ × Option B)) → 0 < v.driving → ((d : D) → v.start ≡ d ∷ [] → Runs model d (v.known ++ entry c a ∷ [])) → v.stage ≡ Taken (c ∷ []) → content b ≡ Answered a
-      → Allows Rule slots id (v, (length v.known, Some b) ∷ more) (length v.known + 1) (λ y. either (eqb y 2) 3 y) (answered content (step slots (length v.known + 1) 2 3 none) (v, (length v.known, Some b) ∷ more))
-  answers_in slots id v b c a more drives runs st answer s r wide at _ = let n : ℕ = length v.known in let told = answered content (step slots (n + 1) 2 3 none) (v, (n, Some b) ∷ more) in
+      → Allows Rule slots id (v, (length v.known, Some b) ∷ more) (length v.known + 32) (λ y. either (eqb y 2) 3 y) (answered content (step slots (length v.known + 32) 2 3 none) (v, (length v.known, Some b) ∷ more))
+  answers_in slots id v b c a more drives runs st answer s r wide at _ = let n : ℕ = length v.known in let told = answered content (step slots (n + 32) 2 3 none) (v, (n, Some b) ∷ more) in
       let k = r.each_seat id v at in let d = k.drives drives in let g = at_stage s r id v (Taken (c ∷ [])) at st in let nl : n ≡ length r.log = ap length d.1 in let near : n < length s.homes = (let h = g.1 in omega arith) in
-      let word : ℕ → ℕ = word_of s.words in let two : word n ≡ 2 = ap word nl ∙ g.2 in let cmd : r.command n ≡ Some c = ap r.command nl ∙ g.3 in let old = r.each_ticket n near in let drawn : ℕ = get_or s.words 0 0 in
+      let word : ℕ → ℕ = word_of s.words in let two : word n ≡ 2 = ap word nl ∙ g.2 in let cmd : r.command n ≡ Some c = ap r.command nl ∙ g.3 in let old = r.each_ticket n near in let drawn : ℕ = drawn_of s.words in
       let below : n < drawn = dite (dec_le drawn n) (λ h. let z = (old.free h).0 in absurd (omega arith)) (λ h. omega arith) in
       let log' : List E = v.known ++ entry c a ∷ [] in let long : length log' ≡ n + 1 = length-append v.known (entry c a ∷ []) in let w : V = record v { stage = Idle; known = log' } in let word' = put word n 3 in
       let grown : Begins r.log log' = subst (λ (l : List E). Begins l log') d.1 (begins_more v.known (entry c a ∷ [])) in
-      exchanged (get_or s.words (n + 1) 0) 2 3 (Goes s (n + 1) id (v, (n, Some b) ∷ more) (told (get_or s.words (n + 1) 0)))
+      exchanged (word_of s.words n) 2 3 (Goes s (n + 32) id (v, (n, Some b) ∷ more) (told (word_of s.words n)))
       (λ _. (
         w,
         gives,
@@ -486,9 +486,9 @@ module _ {D C R B : Type 0} (model : D → C → R → D → Type 0) (content : 
 
   pub answers : (slots id : ℕ) (me : Mine) (b : B) (c : C) (a : R) (more : List (ℕ × Option B)) → 0 < me.0.driving → ((d : D) → me.0.start ≡ d ∷ [] → Runs model d (me.0.known ++ entry c a ∷ [])) → me.0.stage ≡ Taken (c ∷ [])
       → content b ≡ Answered a → me.1 ≡ (length me.0.known, Some b) ∷ more
-      → Allows Rule slots id me (length me.0.known + 1) (λ y. either (eqb y 2) 3 y) (answered content (step slots (length me.0.known + 1) 2 3 none) me)
+      → Allows Rule slots id me (length me.0.known + 32) (λ y. either (eqb y 2) 3 y) (answered content (step slots (length me.0.known + 32) 2 3 none) me)
   answers slots id me b c a more drives runs st answer has =
-      subst (λ (cs : List (ℕ × Option B)). Allows Rule slots id (me.0, cs) (length me.0.known + 1) (λ y. either (eqb y 2) 3 y) (answered content (step slots (length me.0.known + 1) 2 3 none) (me.0, cs))) (sym has)
+      subst (λ (cs : List (ℕ × Option B)). Allows Rule slots id (me.0, cs) (length me.0.known + 32) (λ y. either (eqb y 2) 3 y) (answered content (step slots (length me.0.known + 32) 2 3 none) (me.0, cs))) (sym has)
       (answers_in slots id me.0 b c a more drives runs st answer)
 
   -- the driver's list goes on from what a seat knows, and has the seat's commands
@@ -501,12 +501,12 @@ module _ {D C R B : Type 0} (model : D → C → R → D → Type 0) (content : 
   }
 
   pub collects : (slots id : ℕ) (me : Mine) (n i : ℕ) (t : Held C) → me.0.stage ≡ Idle → get_elem? me.0.tickets i ≡ some t → t.number ≡ n → (Has me.0.collected n → ⊥)
-      → Allows Rule slots id me (n + 1) (λ y. either (eqb y 3) 4 y) (gathered model content (step slots (n + 1) 3 4 none) me)
-  collects slots id me n i t st has is fresh s r wide at _ = let v : V = me.0 in let k = r.each_seat id v at in let told = gathered model content (step slots (n + 1) 3 4 none) me in let word : ℕ → ℕ = word_of s.words in
+      → Allows Rule slots id me (n + 32) (λ y. either (eqb y 3) 4 y) (gathered model content (step slots (n + 32) 3 4 none) me)
+  collects slots id me n i t st has is fresh s r wide at _ = let v : V = me.0 in let k = r.each_seat id v at in let told = gathered model content (step slots (n + 32) 3 4 none) me in let word : ℕ → ℕ = word_of s.words in
       let mine = subst (λ (z : ℕ). (0 < v.part) × (r.owner z ≡ v.name) × (z < v.floor) × (z < length s.homes) × (r.command z ≡ Some t.command) × (0 < word z)) is (k.tickets i t has) in
       let part : 0 < v.part = mine.0 in let near : n < length s.homes = mine.3 in let old = r.each_ticket n near in let fits = fits_now s r id v at in let word' = put word n 4 in
-      let below : n < get_or s.words 0 0 = (let f : v.floor ≤ get_or s.words 0 0 = k.floor in let l : n < v.floor = mine.2 in omega arith) in
-      exchanged (get_or s.words (n + 1) 0) 3 4 (Goes s (n + 1) id me (told (get_or s.words (n + 1) 0)))
+      let below : n < drawn_of s.words = (let f : v.floor ≤ drawn_of s.words = k.floor in let l : n < v.floor = mine.2 in omega arith) in
+      exchanged (word_of s.words n) 3 4 (Goes s (n + 32) id me (told (word_of s.words n)))
       (λ hit. let p = old.answered hit in let b = p.0 in let w : V = record v { collected = n ∷ v.collected; known = r.log } in (
         w,
         takes n (Some b),
@@ -530,7 +530,7 @@ module _ {D C R B : Type 0} (model : D → C → R → D → Type 0) (content : 
               drives = λ p'. let d = k.drives p' in (d.0, refl, d.2, d.3);
               tickets = λ j u e. let z = k.tickets j u e in (z.0, z.1, z.2, z.3, z.4, raised word n 4 u.number (omega arith) z.5);
               collected = λ m l p' o four. dite (ℕ_discrete m n) (λ q. (0, ap some (sym q))) (λ q. let h = k.collected m l p' o (sym (put_else word n 4 m q) ∙ four) in (suc h.0, h.1));
-              stage = subst (AtStage (length s.homes) (get_or s.words 0 0) r.log r.owner r.command word' w) (sym st) tt;
+              stage = subst (AtStage (length s.homes) (drawn_of s.words) r.log r.owner r.command word' w) (sym st) tt;
               heard_known = k.heard_known;
               heard_floor = k.heard_floor;
               heard_tickets = λ j u e. let z = k.heard_tickets j u e in (z.0, z.1, z.2, z.3, raised word n 4 u.number (omega arith) z.4);
@@ -542,7 +542,7 @@ module _ {D C R B : Type 0} (model : D → C → R → D → Type 0) (content : 
         w,
         keeps,
         tt,
-        unmoved s r (n + 1) id v w at (refl, refl, refl) (looks_on s r id v at st (get_or s.words 0 0) k.floor (omega arith)),
+        unmoved s r (n + 32) id v w at (refl, refl, refl) (looks_on s r id v at st (drawn_of s.words) k.floor (omega arith)),
         λ n' is'. let nn : n ≡ n' = omega arith in (
           fits,
           k.heard_known,
@@ -559,8 +559,8 @@ module _ {D C R B : Type 0} (model : D → C → R → D → Type 0) (content : 
       raised : (word : ℕ → ℕ) (n x m : ℕ) → 0 < x → 0 < word m → 0 < put word n x m
       raised word n x m pos h = dite (ℕ_discrete m n) (λ q. subst (λ (z : ℕ). 0 < put word n x z) (sym q) (subst (λ (z : ℕ). 0 < z) (sym (put_here word n x)) pos)) (λ q. subst (λ (z : ℕ). 0 < z) (sym (put_else word n x m q)) h)
 
-      looks_on : (s : S) (r : Rule s) (id : ℕ) (v : V) → get_elem? s.views id ≡ some v → v.stage ≡ Idle → (f : ℕ) → v.floor ≤ f → f ≤ get_or s.words 0 0
-          → SeatOk start (length s.homes) (get_or s.words 0 0) r.driver r.admitted r.log r.owner r.seat_of r.command (word_of s.words) id (record v { known = r.log })
+      looks_on : (s : S) (r : Rule s) (id : ℕ) (v : V) → get_elem? s.views id ≡ some v → v.stage ≡ Idle → (f : ℕ) → v.floor ≤ f → f ≤ drawn_of s.words
+          → SeatOk start (length s.homes) (drawn_of s.words) r.driver r.admitted r.log r.owner r.seat_of r.command (word_of s.words) id (record v { known = r.log })
       looks_on s r id v at st f a b = let k = r.each_seat id v at in record {
         begun = k.begun;
         known = begins_refl r.log;
@@ -569,7 +569,7 @@ module _ {D C R B : Type 0} (model : D → C → R → D → Type 0) (content : 
         drives = λ p'. let d = k.drives p' in (d.0, refl, d.2, d.3);
         tickets = k.tickets;
         collected = k.collected;
-        stage = subst (AtStage (length s.homes) (get_or s.words 0 0) r.log r.owner r.command (word_of s.words) (record v { known = r.log })) (sym st) tt;
+        stage = subst (AtStage (length s.homes) (drawn_of s.words) r.log r.owner r.command (word_of s.words) (record v { known = r.log })) (sym st) tt;
         heard_known = k.heard_known;
         heard_floor = k.heard_floor;
         heard_tickets = k.heard_tickets;
@@ -578,11 +578,11 @@ module _ {D C R B : Type 0} (model : D → C → R → D → Type 0) (content : 
 
   -- the same, where the number is known by another name
   pub takes_at : (slots id : ℕ) (me : Mine) (n : ℕ) → n ≡ length me.0.known → me.0.stage ≡ Idle → 0 < me.0.driving → n < slots
-      → Allows Rule slots id me (n + 1) (λ y. either (eqb y 1) 2 y) (took content (step slots (n + 1) 1 2 none) me)
-  takes_at slots id me n is st drives below = subst (λ (k : ℕ). Allows Rule slots id me (k + 1) (λ y. either (eqb y 1) 2 y) (took content (step slots (k + 1) 1 2 none) me)) (sym is) (takes_next slots id me st drives (omega arith))
+      → Allows Rule slots id me (n + 32) (λ y. either (eqb y 1) 2 y) (took content (step slots (n + 32) 1 2 none) me)
+  takes_at slots id me n is st drives below = subst (λ (k : ℕ). Allows Rule slots id me (k + 32) (λ y. either (eqb y 1) 2 y) (took content (step slots (k + 32) 1 2 none) me)) (sym is) (takes_next slots id me st drives (omega arith))
 
   pub answers_at : (slots id : ℕ) (me : Mine) (n : ℕ) (b : B) (c : C) (a : R) (more : List (ℕ × Option B)) → n ≡ length me.0.known → 0 < me.0.driving → ((d : D) → me.0.start ≡ d ∷ [] → Runs model d (me.0.known ++ entry c a ∷ []))
       → me.0.stage ≡ Taken (c ∷ []) → content b ≡ Answered a → me.1 ≡ (n, Some b) ∷ more
-      → Allows Rule slots id me (n + 1) (λ y. either (eqb y 2) 3 y) (answered content (step slots (n + 1) 2 3 none) me)
-  answers_at slots id me n b c a more is drives runs st answer has = subst (λ (k : ℕ). Allows Rule slots id me (k + 1) (λ y. either (eqb y 2) 3 y) (answered content (step slots (k + 1) 2 3 none) me)) (sym is)
+      → Allows Rule slots id me (n + 32) (λ y. either (eqb y 2) 3 y) (answered content (step slots (n + 32) 2 3 none) me)
+  answers_at slots id me n b c a more is drives runs st answer has = subst (λ (k : ℕ). Allows Rule slots id me (k + 32) (λ y. either (eqb y 2) 3 y) (answered content (step slots (k + 32) 2 3 none) me)) (sym is)
       (answers slots id me b c a more drives runs st answer (has ∙ ap (λ (k : ℕ). (k, Some b) ∷ more) is))
