@@ -8,7 +8,8 @@ use Rattle.host_queue.specs.Views.{Has}
 use Rattle.host_queue.specs.Clients.{AllBelow}
 use Rattle.host_queue.proofs.Keeps.{collects}
 use Rattle.host_queue.proofs.Comings.{tells, learns}
-use Rattle.host_queue.proofs.Clients.{client_knows, had_more, stay_open_but, gathered_is, fits_is, same_head, some_same, note_is, told_hit, ready_told, fits_told}
+use Rattle.host_queue.proofs.Basics.{some_same}
+use Rattle.host_queue.proofs.Clients.{client_knows, had_more, stay_open_but, gathered_is, fits_is, same_head, note_is, told_hit, ready_told, fits_told}
 use Rattle.host_queue.proofs.queue.Client.poll_known.Goals as goal
 
 pub split_seat-note-requires : goal.split_seat-note-requires
