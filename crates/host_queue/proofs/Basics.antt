@@ -114,6 +114,10 @@ module _ {A : Type 0} where
 pub put_set : (word : ℕ → ℕ) (n x m : ℕ) → 0 < x → 0 < word m → 0 < put word n x m
 put_set word n x m pos h = dite (ℕ_discrete m n) (λ q. subst (λ (z : ℕ). 0 < put word n x z) (sym q) (subst (λ (z : ℕ). 0 < z) (sym (put_here word n x)) pos)) (λ q. subst (λ (z : ℕ). 0 < z) (sym (put_else word n x m q)) h)
 
+-- a word that is not the one that was set was so before
+pub put_not : (word : ℕ → ℕ) (n x y m : ℕ) → x ≢ y → put word n x m ≡ y → word m ≡ y
+put_not word n x y m ne is = dite (ℕ_discrete m n) (λ q. absurd (ne (sym (put_here word n x) ∙ (ap (put word n x) (sym q) ∙ is)))) (λ q. sym (put_else word n x m q) ∙ is)
+
 pub asked_same : {C R : Type 0} (a b : C) → Path (Request C R) (Asked a) (Asked b) → Path C a b
 asked_same a b e = cc
 

@@ -21,7 +21,7 @@ use Rattle.host_queue.specs.History.{Begins, Runs}
 use Rattle.host_queue.specs.Views.{total, Has, entry, held, credit, share, count}
 use Rattle.host_queue.specs.Tickets.{drawn_of, word_of, TicketOk, AtStage, SeatOk, Kept}
 use Rattle.host_queue.specs.Plays.{drew, placed, took, answered, Fits, gathered}
-use Rattle.host_queue.proofs.Basics.{put, put_here, put_else, put_set, head_or, some_same, asked_same, at_inside, at_end, begins_refl, begins_trans, begins_more, begins_long, total_set}
+use Rattle.host_queue.proofs.Basics.{put, put_here, put_else, put_set, put_not, head_or, some_same, asked_same, at_inside, at_end, begins_refl, begins_trans, begins_more, begins_long, total_set}
 
 -- the seat j may know v, as the table stands
 abbrev pub Knows : {D C R B : Type 0} {model : D → C → R → D → Type 0} {content : B → Request C R} {start : D} (s : State (Option B) (View D C R)) → Kept model content start s → (j : ℕ) → (v : View D C R) → Type 0
@@ -264,7 +264,7 @@ module _ {D C R B : Type 0} (model : D → C → R → D → Type 0) (content : 
                   (λ (h : (i ≡ length v.tickets) × Path (Held C) (held n c) t). subst (λ (z : Held C). (0 < v.part) × (r.owner z.number ≡ v.name) × (z.number < v.floor) × (z.number < length s.homes) × (command' z.number ≡ Some z.command) × (0 < word' z.number)) h.1
                   (part, g.1, g.2, near, put_here r.command n (Some c), subst (λ (z : ℕ). 0 < z) (sym (put_here word n 1)) (omega arith)))
                   (at_end v.tickets (held n c) t i e);
-              collected = λ m l p o four. let ne : m ≢ n = (λ q. let z : word' m ≡ 1 = ap word' q ∙ put_here word n 1 in omega arith) in k.collected m l p o (sym (put_else word n 1 m ne) ∙ four);
+              collected = λ m l p o four. k.collected m l p o (put_not word n 1 4 m (omega arith) four);
               stage = tt;
               heard_known = k.heard_known;
               heard_floor = k.heard_floor;
@@ -381,6 +381,28 @@ module _ {D C R B : Type 0} (model : D → C → R → D → Type 0) (content : 
         ((λ _. (refl, refl, fl, (let g : length v.known ≤ y = omega arith in g))), λ l. absurd (omega arith)),
       )))
 
+  -- a seat after its own step on the ticket n, whose word becomes x: it is then at the stage st
+  stepped_on : (s : S) (r : Rule s) (id n x : ℕ) (v : V) (log' known' : List E) (had : List ℕ) (st : Stage C) → get_elem? s.views id ≡ some v → 0 < x → Begins r.log log' → Begins known' log'
+      → (0 < v.driving → (id ≡ r.driver) × (known' ≡ log') × (v.admitted ≡ r.admitted) × (v.start ≡ start ∷ []))
+      → ((m : ℕ) → m < length s.homes → 0 < v.part → r.owner m ≡ v.name → put (word_of s.words) n x m ≡ 4 → Has had m)
+      → AtStage (length s.homes) (drawn_of s.words) log' r.owner r.command (put (word_of s.words) n x) (record v { stage = st; collected = had; known = known' }) st
+      → (0 < v.driving → (m : ℕ) → put (word_of s.words) n x m ≡ 2 → (st ≢ Idle) × (m ≡ length log'))
+      → SeatOk start (length s.homes) (drawn_of s.words) r.driver r.admitted log' r.owner r.seat_of r.command (put (word_of s.words) n x) id (record v { stage = st; collected = had; known = known' })
+  stepped_on s r id n x v log' known' had st at set grown begins drives all_had stage busy = let k = r.each_seat id v at in let word : ℕ → ℕ = word_of s.words in record {
+    begun = k.begun;
+    known = begins;
+    floor = k.floor;
+    mine = k.mine;
+    drives = drives;
+    tickets = λ i t e. let a = k.tickets i t e in (a.0, a.1, a.2, a.3, a.4, put_set word n x t.number set a.5);
+    collected = all_had;
+    stage = stage;
+    heard_known = begins_trans v.heard_known r.log log' k.heard_known grown;
+    heard_floor = k.heard_floor;
+    heard_tickets = λ i t e. let a = k.heard_tickets i t e in (a.0, a.1, a.2, a.3, put_set word n x t.number set a.4);
+    busy = busy;
+  }
+
   pub takes_next : (slots id : ℕ) (me : Mine) → me.0.stage ≡ Idle → 0 < me.0.driving → length me.0.known < slots
       → Allows Rule slots id me (length me.0.known + 32) (λ y. either (eqb y 1) 2 y) (took content (step slots (length me.0.known + 32) 1 2 none) me)
   takes_next slots id me st drives below s r wide at _ =
@@ -402,20 +424,9 @@ module _ {D C R B : Type 0} (model : D → C → R → D → Type 0) (content : 
               last = omega arith;
             }
             (refl, refl, refl) (omega arith) (λ h. absurd (omega arith)) (λ h. absurd (omega arith)) (λ ne. absurd (ne d.0))
-            record {
-              begun = k.begun;
-              known = k.known;
-              floor = k.floor;
-              mine = k.mine;
-              drives = k.drives;
-              tickets = λ i t e. let a = k.tickets i t e in (a.0, a.1, a.2, a.3, a.4, put_set word n 2 t.number (omega arith) a.5);
-              collected = λ m l p' o four. let ne : m ≢ n = (λ q. let z : word' m ≡ 2 = ap word' q ∙ put_here word n 2 in omega arith) in k.collected m l p' o (sym (put_else word n 2 m ne) ∙ four);
-              stage = (drives, (let g : length r.log < length s.homes = omega arith in g), ap word' (sym nl) ∙ put_here word n 2, ap r.command (sym nl) ∙ p.2);
-              heard_known = k.heard_known;
-              heard_floor = k.heard_floor;
-              heard_tickets = λ i t e. let a = k.heard_tickets i t e in (a.0, a.1, a.2, a.3, put_set word n 2 t.number (omega arith) a.4);
-              busy = λ p' m two. dite (ℕ_discrete m n) (λ q. ((λ z. idle_taken c (sym z)), q ∙ nl)) (λ q. absurd ((k.busy p' m (sym (put_else word n 2 m q) ∙ two)).0 st));
-            },
+            (stepped_on s r id n 2 v r.log v.known v.collected (Taken (c ∷ [])) at (omega arith) (begins_refl r.log) k.known k.drives (λ m l p' o four. k.collected m l p' o (put_not word n 2 4 m (omega arith) four))
+            (drives, (let g : length r.log < length s.homes = omega arith in g), ap word' (sym nl) ∙ put_here word n 2, ap r.command (sym nl) ∙ p.2)
+            (λ p' m two. dite (ℕ_discrete m n) (λ q. ((λ z. idle_taken c (sym z)), q ∙ nl)) (λ q. absurd ((k.busy p' m (sym (put_else word n 2 m q) ∙ two)).0 st)))),
         ((λ _. (b, c, p.3, refl, refl)), λ ne. absurd (ne hit)),
       ))
       (λ miss. (
@@ -458,20 +469,8 @@ module _ {D C R B : Type 0} (model : D → C → R → D → Type 0) (content : 
               last = omega arith;
             }
             (refl, refl, refl) (omega arith) (λ h. absurd (omega arith)) (λ h. absurd (omega arith)) (λ ne. absurd (ne d.0))
-            record {
-              begun = k.begun;
-              known = begins_refl log';
-              floor = k.floor;
-              mine = k.mine;
-              drives = λ _. (d.0, refl, d.2, d.3);
-              tickets = λ i t e. let z = k.tickets i t e in (z.0, z.1, z.2, z.3, z.4, put_set word n 3 t.number (omega arith) z.5);
-              collected = λ m l p' o four. let ne : m ≢ n = (λ q. let z : word' m ≡ 3 = ap word' q ∙ put_here word n 3 in omega arith) in k.collected m l p' o (sym (put_else word n 3 m ne) ∙ four);
-              stage = tt;
-              heard_known = begins_trans v.heard_known r.log log' k.heard_known grown;
-              heard_floor = k.heard_floor;
-              heard_tickets = λ i t e. let z = k.heard_tickets i t e in (z.0, z.1, z.2, z.3, put_set word n 3 t.number (omega arith) z.4);
-              busy = λ p m two'. dite (ℕ_discrete m n) (λ q. let z : word' m ≡ 3 = ap word' q ∙ put_here word n 3 in absurd (omega arith)) (λ q. absurd (q ((k.busy p m (sym (put_else word n 3 m q) ∙ two')).1 ∙ sym nl)));
-            },
+            (stepped_on s r id n 3 v log' log' v.collected Idle at (omega arith) grown (begins_refl log') (λ _. (d.0, refl, d.2, d.3)) (λ m l p o four. k.collected m l p o (put_not word n 3 4 m (omega arith) four)) tt
+            (λ p m two'. let was = put_not word n 3 2 m (omega arith) two' in let z : m ≡ n = (k.busy p m was).1 ∙ sym nl in let three : word' m ≡ 3 = ap word' z ∙ put_here word n 3 in absurd (omega arith))),
         (λ b' c' a' more' is has answer'. let bb = some_same b b' (ap (head_or None) has) in let cc' = taken_is c c' (sym st ∙ is) in let aa = answered_is a a' (sym answer ∙ (ap content bb ∙ answer')) in
             (λ i. record v { stage = Idle; known = v.known ++ entry (cc' i) (aa i) ∷ [] }, ap rest has)),
       ))
@@ -536,20 +535,9 @@ module _ {D C R B : Type 0} (model : D → C → R → D → Type 0) (content : 
               last = omega arith;
             }
             (refl, refl, refl) (omega arith) (λ _. (part, mine.1)) (λ h. absurd (omega arith)) (λ _. (refl, (λ h. omega arith), λ h. omega arith))
-            record {
-              begun = k.begun;
-              known = begins_refl r.log;
-              floor = k.floor;
-              mine = k.mine;
-              drives = λ p'. let d = k.drives p' in (d.0, refl, d.2, d.3);
-              tickets = λ j u e. let z = k.tickets j u e in (z.0, z.1, z.2, z.3, z.4, put_set word n 4 u.number (omega arith) z.5);
-              collected = λ m l p' o four. dite (ℕ_discrete m n) (λ q. (0, ap some (sym q))) (λ q. let h = k.collected m l p' o (sym (put_else word n 4 m q) ∙ four) in (suc h.0, h.1));
-              stage = subst (AtStage (length s.homes) (drawn_of s.words) r.log r.owner r.command word' w) (sym st) tt;
-              heard_known = k.heard_known;
-              heard_floor = k.heard_floor;
-              heard_tickets = λ j u e. let z = k.heard_tickets j u e in (z.0, z.1, z.2, z.3, put_set word n 4 u.number (omega arith) z.4);
-              busy = λ p' m two. dite (ℕ_discrete m n) (λ q. let z : word' m ≡ 4 = ap word' q ∙ put_here word n 4 in absurd (omega arith)) (λ q. absurd ((k.busy p' m (sym (put_else word n 4 m q) ∙ two)).0 st));
-            },
+            (stepped_on s r id n 4 v r.log r.log (n ∷ v.collected) v.stage at (omega arith) (begins_refl r.log) (begins_refl r.log) (λ p'. let d = k.drives p' in (d.0, refl, d.2, d.3))
+            (λ m l p' o four. dite (ℕ_discrete m n) (λ q. (0, ap some (sym q))) (λ q. let h = k.collected m l p' o (sym (put_else word n 4 m q) ∙ four) in (suc h.0, h.1)))
+            (subst (AtStage (length s.homes) (drawn_of s.words) r.log r.owner r.command word' w) (sym st) tt) (λ p' m two. absurd ((k.busy p' m (put_not word n 4 2 m (omega arith) two)).0 st))),
         λ n' is'. let nn : n ≡ n' = omega arith in (fits, k.heard_known, (λ _. (b, p.1, (λ z. record v { collected = nn z ∷ v.collected; known = r.log }), (λ z. (nn z, Some b) ∷ me.1), subst (λ (z : ℕ). get_elem? r.log z ≡ some p.1) nn p.2, p.3)), λ miss. absurd (miss hit)),
       ))
       (λ miss. let w : V = record v { known = r.log } in (
