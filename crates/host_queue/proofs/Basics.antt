@@ -1,10 +1,12 @@
 -- Lists read by `get_elem?`, functions changed at one number, sums over a list, and runs of the machine.
-use Rattle.std.proofs.Common.{◌≡◌, ◌≢◌, ℕ, zero, suc, ◌+◌, ◌<◌, ◌≤◌, ◌⊎◌, inl, inr, List, [], ◌∷◌, ◌++◌, length, set, sym, refl, ap, ◌∙◌, subst, ⊎_elim, arith, length-append}
+use Rattle.std.proofs.Common.{◌≡◌, ◌≢◌, ℕ, zero, suc, ◌+◌, ◌<◌, ◌≤◌, ◌⊎◌, inl, inr, List, [], ◌∷◌, ◌++◌, length, set, sym, refl, ap, ◌∙◌, subst, ⊎_elim, arith, length-append, Option, Some}
 use mathlib.Core.Option.{some, some-ne-none, some-injective}
 use mathlib.Core.Path.{Path}
-use mathlib.Core.Logic.{∥∥₁_map}
+use mathlib.Core.Logic.{dite, ∥∥₁_map}
 use native.Mathlib.Decide.{ℕ_discrete}
 use lib.ListN.{get_elem?}
+use Rattle.host_queue.specs.declared.view.Request.{Request}
+use Rattle.host_queue.specs.declared.view.Request.TheVariants.{Asked}
 use Rattle.host_queue.specs.declared.view.Entry.{Entry}
 use Rattle.host_queue.specs.History.{Begins, Runs, RunsTo}
 use Rattle.host_queue.specs.Views.{total, entry}
@@ -33,6 +35,17 @@ module _ {A : Type 0} where
       go : (d : Dec (j ≡ i)) → Path A (pick d c (f j)) (f j)
       go (yes e) = absurd (other e)
       go (no _) = refl
+
+  -- the value in hand
+  abbrev pub head_or : Option A → List (ℕ × Option A) → Option A
+  head_or d [] = d
+  head_or d (x ∷ xs) = x.1
+
+  pub some_same : (a b : A) → Path (Option A) (Some a) (Some b) → Path A a b
+  some_same a b e = cc
+
+  pub one_same : (a b : A) → Path (List A) (a ∷ []) (b ∷ []) → Path A a b
+  one_same a b e = cc
 
   pub at_inside : (xs : List A) (i : ℕ) (x : A) → get_elem? xs i ≡ some x → i < length xs
   at_inside [] i x e = absurd (some-ne-none x (sym e))
@@ -96,6 +109,17 @@ module _ {A : Type 0} where
   total_alone f g (x ∷ xs) zero v at e h = let a : f x ≡ f v = ap f (some-injective x v at) in let b : g x ≡ g v = ap g (some-injective x v at) in
       let c = total_none f g xs (omega arith) (λ j u z. h (suc j) u z) in omega arith
   total_alone f g (x ∷ xs) (suc i) v at e h = let some_f = total_has f xs i v at in let a : f x ≡ 0 = omega arith in let b = h 0 x refl a in let c = total_alone f g xs i v at (omega arith) (λ j u z. h (suc j) u z) in omega arith
+
+-- a word that was set stays set where another, or the same, is set
+pub put_set : (word : ℕ → ℕ) (n x m : ℕ) → 0 < x → 0 < word m → 0 < put word n x m
+put_set word n x m pos h = dite (ℕ_discrete m n) (λ q. subst (λ (z : ℕ). 0 < put word n x z) (sym q) (subst (λ (z : ℕ). 0 < z) (sym (put_here word n x)) pos)) (λ q. subst (λ (z : ℕ). 0 < z) (sym (put_else word n x m q)) h)
+
+-- a word that is not the one that was set was so before
+pub put_not : (word : ℕ → ℕ) (n x y m : ℕ) → x ≢ y → put word n x m ≡ y → word m ≡ y
+put_not word n x y m ne is = dite (ℕ_discrete m n) (λ q. absurd (ne (sym (put_here word n x) ∙ (ap (put word n x) (sym q) ∙ is)))) (λ q. sym (put_else word n x m q) ∙ is)
+
+pub asked_same : {C R : Type 0} (a b : C) → Path (Request C R) (Asked a) (Asked b) → Path C a b
+asked_same a b e = cc
 
 module _ {D C R : Type 0} (step : D → C → R → D → Type 0) where
   pub runs_begins : (start : D) (known log : List (Entry C R)) → Begins known log → Runs step start log → Runs step start known

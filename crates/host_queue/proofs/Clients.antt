@@ -8,8 +8,6 @@ use native.Mathlib.Decide.{ℕ_discrete, dec_le}
 use lib.ListN.{get_elem?}
 use Rattle.atomic_table.proofs.Lists.{at_last, at_longer}
 use Rattle.host_queue.specs.declared.view.Stage.TheVariants.{Idle, Drawn, Taken}
-use Rattle.host_queue.specs.declared.view.Request.{Request}
-use Rattle.host_queue.specs.declared.view.Request.TheVariants.{Asked}
 use Rattle.host_queue.specs.declared.view.Held.{Held}
 use Rattle.host_queue.specs.declared.view.Entry.{Entry}
 use Rattle.host_queue.specs.declared.view.View.{View}
@@ -18,7 +16,7 @@ use Rattle.host_queue.specs.Views.{held, entry, Has, first_view}
 use Rattle.host_queue.specs.Plays.{Fits}
 use Rattle.host_queue.specs.Clients.{IsReady, IsClient, IsDriver, IsNote, IsOpen, StaysOpen, StaysOpenBut, AllBelow, AgreeAt, Serves}
 use Rattle.host_queue.specs.Notes.{told, gone, note_of, host_of, guest_of}
-use Rattle.host_queue.proofs.Basics.{at_inside, there, at_end, begins_refl, begins_long, begins_both, runs_on, runs_none, runs_more}
+use Rattle.host_queue.proofs.Basics.{head_or, one_same, at_inside, there, at_end, begins_refl, begins_long, begins_both, runs_on, runs_none, runs_more}
 
 module _ {D C R : Type 0} (model : D → C → R → D → Type 0) where
   abbrev V : Type 0
@@ -95,11 +93,8 @@ module _ {D C R : Type 0} (model : D → C → R → D → Type 0) where
     idle = refl;
     driving = refl;
     left = λ _. refl;
-    runs = λ x st. let is = head_is d x st in subst (λ (z : D). RunsTo model z [] machine) is (subst (λ (z : D). RunsTo model d [] z) same (runs_none model d));
+    runs = λ x st. let is = one_same d x st in subst (λ (z : D). RunsTo model z [] machine) is (subst (λ (z : D). RunsTo model d [] z) same (runs_none model d));
   }
-    where
-      head_is : (a b : D) → Path (List D) (a ∷ []) (b ∷ []) → Path D a b
-      head_is a b p = cc
 
   pub driver_looked : (v o z w : V) (machine : D) (known : List (Entry C R)) (f : ℕ) → IsDriver model v machine → (o.share ≡ 0 → o.count ≡ 0) → z ≡ told v o → known ≡ z.known → w ≡ record z { known = known; floor = f } → IsDriver model w machine
   driver_looked v o z w machine known f k none e same is = let n : known ≡ v.known = same ∙ ap (λ (y : V). y.known) e in
@@ -152,15 +147,8 @@ module _ {D C R : Type 0} (model : D → C → R → D → Type 0) where
   pub answered_view : (v a w z : V) (c : C) (r : R) → a ≡ record v { stage = Taken (c ∷ []) } → w ≡ record a { stage = Idle; known = a.known ++ entry c r ∷ [] } → z ≡ w → z ≡ record v { stage = Idle; known = v.known ++ entry c r ∷ [] }
   answered_view v a w z c r e f h = h ∙ (f ∙ ap (λ (x : V). let y : V = record x { stage = Idle; known = x.known ++ entry c r ∷ [] } in y) e)
 
-abbrev head_or : {A : Type 0} → Option A → List (ℕ × Option A) → Option A
-head_or d [] = d
-head_or d (x ∷ xs) = x.1
-
 pub same_head : {A : Type 0} (cs xs ys : List (ℕ × Option A)) (j k : ℕ) (a b : Option A) → cs ≡ (j, a) ∷ xs → cs ≡ (k, b) ∷ ys → a ≡ b
 same_head cs xs ys j k a b e f = ap (head_or None) (sym e ∙ f)
-
-pub some_same : {A : Type 0} (a b : A) → Path (Option A) (Some a) (Some b) → Path A a b
-some_same a b e = cc
 
 module _ {D C R : Type 0} where
   -- tickets stay open where none is added to what was collected
@@ -200,9 +188,6 @@ module _ {C R : Type 0} where
   pub told_hit : (heard answered known : List (Entry C R)) (n count e : ℕ) → heard ≡ answered → count ≡ length answered → n < count → Begins heard known → (e ≢ 3 → length known ≤ n) → e ≡ 3
   told_hit heard answered known n count e same counted l b miss = dite (ℕ_discrete e 3) (λ h. h) (λ h. let m = miss h in let long = begins_long heard known b in
       let q : length heard ≡ length answered = ap length same in absurd (omega arith))
-
-  pub asked_same : (a b : C) → Path (Request C R) (Asked a) (Asked b) → Path C a b
-  asked_same a b e = cc
 
   pub one_history : (xs ys zs : List (Entry C R)) → Begins xs zs → Begins ys zs → (length xs ≤ length ys → Begins xs ys) × (length ys ≤ length xs → Begins ys xs)
   one_history xs ys zs a b = (begins_both xs ys zs a b, begins_both ys xs zs b a)

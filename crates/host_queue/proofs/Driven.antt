@@ -6,7 +6,8 @@ use Rattle.host_queue.specs.declared.view.Request.{Request}
 use Rattle.host_queue.specs.declared.view.Request.TheVariants.{Asked, Answered}
 use Rattle.host_queue.specs.declared.view.View.{View}
 use Rattle.host_queue.specs.Views.{entry}
-use Rattle.host_queue.proofs.Clients.{same_head, some_same, asked_same, taken_view}
+use Rattle.host_queue.proofs.Basics.{some_same, asked_same}
+use Rattle.host_queue.proofs.Clients.{same_head, taken_view}
 
 module _ {D C R B : Type 0} (model : D → C → R → D → Type 0) (content : B → Request C R) where
   abbrev V : Type 0

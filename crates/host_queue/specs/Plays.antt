@@ -46,7 +46,7 @@ module _ {D C R : Type 0} (step : D → C → R → D → Type 0) where
 module _ {D C R B : Type 0} (step : D → C → R → D → Type 0) (content : B → Request C R) where
   -- the answer of the ticket was collected, or is not there
   abbrev pub gathered : Step (Option B) → Me (Option B) (View D C R) → ℕ → Me (Option B) (View D C R) → Type 0
-  gathered st m e m' = (n : ℕ) → st.word ≡ n + 1 → Fits step m.0 m'.0.known × Begins m.0.heard_known m'.0.known
+  gathered st m e m' = (n : ℕ) → st.word ≡ n + 32 → Fits step m.0 m'.0.known × Begins m.0.heard_known m'.0.known
       × (e ≡ 3 → (b : B) × (x : Entry C R) × (m'.0 ≡ record m.0 { collected = n ∷ m.0.collected; known = m'.0.known }) × (m'.1 ≡ (n, Some b) ∷ m.1)
       × (get_elem? m'.0.known n ≡ some x) × (content b ≡ Answered x.reply))
       × (e ≢ 3 → (m'.0 ≡ record m.0 { known = m'.0.known }) × (m'.1 ≡ m.1) × (length m'.0.known ≤ n))

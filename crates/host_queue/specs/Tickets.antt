@@ -1,5 +1,6 @@
 -- The rule of the table. All of it is own: the standard says that a queue's commands are done in order (3.2.1, 5.11 of OpenCL 1.2), and not how it is kept.
--- Word 0 counts the draws. Word n + 1 is that of the ticket n: 0 empty, 1 placed, 2 taken, 3 answered, 4 collected. The slot n is the ticket's.
+-- Word 16 counts the draws. Word n + 32 is that of the ticket n: 0 empty, 1 placed, 2 taken, 3 answered, 4 collected. The slot n is the ticket's.
+-- Nobody changes another word: these keep the count of draws out of the cache lines of the tickets' words, and of word 0, which is loaded where a seat is cut or joined.
 use Rattle.std.specs.Prelude.{◌≡◌, ◌≢◌, ℕ, ◌+◌, ◌<◌, ◌≤◌, List, [], ◌∷◌, length, slice_index_or, Option, Some, None}
 use mathlib.Core.Option.{some}
 use mathlib.Core.Option as maybe
@@ -15,8 +16,13 @@ use Rattle.host_queue.specs.declared.view.View.{View}
 use Rattle.host_queue.specs.History.{Begins, Runs}
 use Rattle.host_queue.specs.Views.{total, Has, credit, share, count}
 
+-- how often a number was drawn
+abbrev pub drawn_of : List ℕ → ℕ
+drawn_of words = slice_index_or words 16 0
+
+-- the word of the ticket n
 abbrev pub word_of : List ℕ → ℕ → ℕ
-word_of words n = slice_index_or words (n + 1) 0
+word_of words n = slice_index_or words (n + 32) 0
 
 -- B is a boxed request, and content what it holds
 -- one ticket: its command, its word and what is at home in its slot
@@ -57,14 +63,14 @@ pub record Kept {D C R B : Type 0} (step : D → C → R → D → Type 0) (cont
   pub owner : ℕ → ℕ
   pub seat_of : ℕ → ℕ
   pub command : ℕ → Option C
-  pub wide : length s.words ≡ length s.homes + 1
+  pub wide : length s.words ≡ length s.homes + 32
   pub small : length s.homes < 4294967296
   pub runs : Runs step start log
-  pub short : length log ≤ slice_index_or s.words 0 0
-  pub credits : (total credit s.views ≤ 16) × (slice_index_or s.words 0 0 + total credit s.views ≤ length s.homes + 16)
+  pub short : length log ≤ drawn_of s.words
+  pub credits : (total credit s.views ≤ 16) × (drawn_of s.words + total credit s.views ≤ length s.homes + 16)
   pub shares : total share s.views ≡ admitted
-  pub counts : (slice_index_or s.words 0 0 ≤ length s.homes → total count s.views ≡ slice_index_or s.words 0 0) × (length s.homes ≤ slice_index_or s.words 0 0 → total count s.views ≡ length s.homes)
+  pub counts : (drawn_of s.words ≤ length s.homes → total count s.views ≡ drawn_of s.words) × (length s.homes ≤ drawn_of s.words → total count s.views ≡ length s.homes)
   pub left : (j : ℕ) (v : View D C R) → get_elem? s.views j ≡ some v → v.share ≡ 0 → v.count ≡ 0
-  pub owned : (n : ℕ) → n < slice_index_or s.words 0 0 → n < length s.homes → owner n < admitted
-  pub each_ticket : (n : ℕ) → n < length s.homes → TicketOk content (slice_index_or s.words 0 0) log n (command n) (word_of s.words n) (get_elem? s.homes n)
-  pub each_seat : (j : ℕ) (v : View D C R) → get_elem? s.views j ≡ some v → SeatOk start (length s.homes) (slice_index_or s.words 0 0) driver admitted log owner seat_of command (word_of s.words) j v
+  pub owned : (n : ℕ) → n < drawn_of s.words → n < length s.homes → owner n < admitted
+  pub each_ticket : (n : ℕ) → n < length s.homes → TicketOk content (drawn_of s.words) log n (command n) (word_of s.words n) (get_elem? s.homes n)
+  pub each_seat : (j : ℕ) (v : View D C R) → get_elem? s.views j ≡ some v → SeatOk start (length s.homes) (drawn_of s.words) driver admitted log owner seat_of command (word_of s.words) j v

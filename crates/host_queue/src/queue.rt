@@ -25,11 +25,18 @@ use std::sync::Wait;
 /// How many tickets a queue gives, from 0 to 4,095.
 pub const TICKETS: usize = 4096;
 
+// The word that counts the draws, which each submit of any client writes. It isn't word 0, which each split and each join of a seat loads: a word that
+// all of them load must not be one that others write. It begins 128 bytes after word 0, so the two are never in one cache line, nor in one pair of lines.
+const DRAWS: usize = 16;
+
+// The word of ticket 0. The tickets' words come one after the other, and none is in the cache lines of the count of draws.
+const FIRST: usize = 32;
+
 /// What the threads share: a place for each ticket's request. It is an in-order command queue (OpenCL 1.2, sections 3.2.1 and 5.1).
 #[derive(Drop)]
 pub struct Queue<D: Machine<C, R>, C: Drop, R: Drop> {
     pub table: Rows<D, C, R>,
-    ghost sized: { (table.shared.table_id.slots ≡ 4096) × (table.shared.table_id.words ≡ 4097) },
+    ghost sized: { (table.shared.table_id.slots ≡ 4096) × (table.shared.table_id.words ≡ 4128) },
 }
 
 /// Who submits requests and collects their replies. It may go to a thread of its own.
@@ -93,7 +100,7 @@ impl<D: Machine<C, R>, C: Drop, R: Drop> Client<D, C, R> {
             return Err(Full { request });
         }
         let shared = &queue.table.shared;
-        let drawn = shared.fetch_add::<Draw>(&mut self.seat, 0, 1);
+        let drawn = shared.fetch_add::<Draw>(&mut self.seat, DRAWS, 1);
         if drawn >= TICKETS as u64 {
             self.full = true;
             return Err(Full { request });
@@ -103,7 +110,7 @@ impl<D: Machine<C, R>, C: Drop, R: Drop> Client<D, C, R> {
             None => {}
             Some(_) => unreachable!(),
         }
-        shared.compare_exchange::<Put>(&mut self.seat, number + 1, 0, 1);
+        shared.compare_exchange::<Put>(&mut self.seat, number + FIRST, 0, 1);
         self.next = drawn + 1;
         Ok(Ticket { number: drawn })
     }
@@ -128,7 +135,7 @@ impl<D: Machine<C, R>, C: Drop, R: Drop> Client<D, C, R> {
     {
         let shared = &queue.table.shared;
         let number = ticket.number as usize;
-        if shared.compare_exchange::<Gather<D>>(&mut self.seat, number + 1, 3, 4) != 3 {
+        if shared.compare_exchange::<Gather<D>>(&mut self.seat, number + FIRST, 3, 4) != 3 {
             return Err(ticket);
         }
         Ok(shared.exchange(&mut self.seat, number, None).unwrap())
@@ -188,7 +195,7 @@ impl<D: Machine<C, R>, C: Drop, R: Drop> Client<D, C, R> {
         let note = shared.split_seat::<Tell>(&mut answered.seat);
         shared.join_seat::<Learn>(&mut self.seat, note);
         let number = ticket.number as usize;
-        shared.compare_exchange::<Gather<D>>(&mut self.seat, number + 1, 3, 4);
+        shared.compare_exchange::<Gather<D>>(&mut self.seat, number + FIRST, 3, 4);
         shared.exchange(&mut self.seat, number, None).unwrap()
     }
 }
@@ -249,13 +256,13 @@ impl<D: Machine<C, R>, C: Drop, R: Drop> Driver<D, C, R> {
         }
         let shared = &queue.table.shared;
         let number = self.count as usize;
-        if shared.compare_exchange::<Take>(&mut self.seat, number + 1, 1, 2) != 1 {
+        if shared.compare_exchange::<Take>(&mut self.seat, number + FIRST, 1, 2) != 1 {
             return None;
         }
         let mut request = shared.exchange(&mut self.seat, number, None).unwrap();
         serve(&mut self.machine, &mut *request, how);
         shared.exchange(&mut self.seat, number, Some(request));
-        shared.compare_exchange::<Answer>(&mut self.seat, number + 1, 2, 3);
+        shared.compare_exchange::<Answer>(&mut self.seat, number + FIRST, 2, 3);
         self.count += 1;
         let seat = shared.split_seat::<Tell>(&mut self.seat);
         Some(Answered {
@@ -298,7 +305,7 @@ impl<D: Machine<C, R>, C: Drop, R: Drop> Driver<D, C, R> {
         let shared = &queue.table.shared;
         let note = shared.split_seat::<Leave>(&mut client.seat);
         shared.join_seat::<Learn>(&mut self.seat, note);
-        shared.load::<Look<D>>(&mut self.seat, 0);
+        shared.load::<Look<D>>(&mut self.seat, DRAWS);
         let back = shared.split_seat::<Leave>(&mut self.seat);
         shared.join_seat::<Learn>(&mut client.seat, back);
     }
@@ -383,7 +390,7 @@ impl<D: Machine<C, R>, C: Drop, R: Drop> Client<D, C, R> {
         let shared = &queue.table.shared;
         let note = shared.split_seat::<Tell>(&mut other.seat);
         shared.join_seat::<Learn>(&mut self.seat, note);
-        shared.load::<Look<D>>(&mut self.seat, 0);
+        shared.load::<Look<D>>(&mut self.seat, DRAWS);
     }
 
     /// Two different clients tell each other what they know: both then know the longer of their two histories, and each draws above what the
@@ -454,7 +461,7 @@ pub fn open<D: Machine<C, R>, C: Drop, R: Drop>(
     ensures driver { IfOk result (λ r. (r.2.seat.table_id ≡ r.0.table.shared.table_id) × (r.2.machine ≡ machine) × (r.2.seat.me.0.start ≡ machine ∷ []) × (r.2.seat.me.0.known ≡ []) × (r.2.seat.me.0.admitted ≡ clients) × (r.2.seat.me.0.share ≡ 0)) }
     ensures clients { IfOk result (λ r. (vec_len r.1 ≡ clients) × Each r.1.items (λ k c. (c.seat.table_id ≡ r.0.table.shared.table_id) × IsGuest (machine ∷ []) k c.seat.me.0)) }
 {
-    let words = Vec::from_elem(alloc, 0u64, TICKETS + 1)?;
+    let words = Vec::from_elem(alloc, 0u64, FIRST + TICKETS)?;
     let about = Snapshot::of(&machine);
     let (table, seat): (Rows<D, C, R>, Place<D, C, R>) = Table::vacant(
         alloc,
@@ -507,7 +514,7 @@ impl<D: Machine<C, R>, C: Drop, R: Drop> Driver<D, C, R> {
         ensures same { self.new.seat.me.0.start ≡ self.old.seat.me.0.start }
         ensures all { self.old.seat.me.0.share ≡ self.old.seat.me.0.admitted → length self.new.seat.me.0.known ≡ self.old.seat.me.0.count }
     {
-        let drawn = queue.table.shared.load::<Look<D>>(&mut self.seat, 0);
+        let drawn = queue.table.shared.load::<Look<D>>(&mut self.seat, DRAWS);
         let count = tickets_of(drawn);
         self.drive_to(rt, queue, count);
     }
@@ -530,7 +537,7 @@ impl<D: Machine<C, R>, C: Drop, R: Drop> Driver<D, C, R> {
             full: _,
             next: _,
         } = client;
-        shared.load::<Look<D>>(&mut self.seat, 0)
+        shared.load::<Look<D>>(&mut self.seat, DRAWS)
     }
 
     // Answers a client's tickets, and lets it leave.

@@ -5,7 +5,7 @@ use Rattle.host_queue.proofs.Clients.{driver_first, zeros}
 use Rattle.host_queue.proofs.queue.open.Goals as goal
 
 pub vacant-requires : goal.vacant-requires
-vacant-requires g c = let w = c.as_slice.ensures in let f = c.in_ok-words.ensures in starts g.D.Machine.step box_value c.of-about.result.value c.as_slice.result.now 4096 (w.len ∙ f.len) (omega arith) (λ i. ap (λ l. get_or l i 0) (w.value ∙ f.items_if_clones_equal (λ y e. e)) ∙ zeros 4097 i)
+vacant-requires g c = let w = c.as_slice.ensures in let f = c.in_ok-words.ensures in starts g.D.Machine.step box_value c.of-about.result.value c.as_slice.result.now 4096 (w.len ∙ f.len) (omega arith) (λ i. ap (λ l. get_or l i 0) (w.value ∙ f.items_if_clones_equal (λ y e. e)) ∙ zeros 4128 i)
 
 pub invariant_of-driver : goal.invariant_of-driver
 invariant_of-driver g c = let e = ap (λ m. m.0) c.in_ok-table.ensures.4 in record {

@@ -17,16 +17,13 @@ pub load-requires : goal.load-requires
 load-requires g c = let words = c.args.queue.now.sized.1 in (search rules, omega arith, looks g.D.Machine.step box_value _ _ _ _ (ap (λ m. m.0.stage) c.join_seat.ensures.2 ∙ c.args.self.now.client.ready.idle))
 
 pub invariant_of-self : goal.invariant_of-self
-invariant_of-self g c = let j = ap (λ m. m.0) c.join_seat.ensures.2 in let o = ap (λ m. m.0) c.split_seat-note.ensures.4 in let look = c.load.ensures.2 in record {
-  client = client_knows g.D.Machine.step c.join_seat.new.seat.me.0 c.load.new.seat.me.0 c.join_seat.new.seat.me.0.collected c.load.result
-      (ready_told g.D.Machine.step c.args.self.now.seat.me.0 c.split_seat-note.result.me.0 c.join_seat.new.seat.me.0 c.args.self.now.client.ready (note_is c.args.other.now.seat.me.0 c.split_seat-note.result.me.0 o) j)
-      look.2.fits look.2.floors.0
-      (ready_told g.D.Machine.step c.args.self.now.seat.me.0 c.split_seat-note.result.me.0 c.join_seat.new.seat.me.0 c.args.self.now.client.ready (note_is c.args.other.now.seat.me.0 c.split_seat-note.result.me.0 o) j).collected
-      look.0;
-  past = λ h. let past = c.args.self.now.past h in let f : c.load.new.seat.me.0.floor ≡ c.load.result = ap (λ z. z.floor) look.0 in let a : c.join_seat.new.seat.me.0.floor ≡ c.args.self.now.seat.me.0.floor = ap (λ z. z.floor) j in let fl = look.2.floors.0 in omega arith;
-  room = λ h. let room = c.args.self.now.room h in let same : c.load.new.seat.me.0.credit ≡ c.args.self.now.seat.me.0.credit = ap (λ z. z.credit) look.0 ∙ ap (λ z. z.credit) j in omega arith;
-  above = subst (λ l. AllBelow l c.args.self.now.next) (sym (ap (λ z. z.tickets) look.0 ∙ ap (λ z. z.tickets) j)) c.args.self.now.above;
-}
+invariant_of-self g c = let j = ap (λ m. m.0) c.join_seat.ensures.2 in let o = ap (λ m. m.0) c.split_seat-note.ensures.4 in let look = c.load.ensures.2 in
+    let ready = ready_told g.D.Machine.step c.args.self.now.seat.me.0 c.split_seat-note.result.me.0 c.join_seat.new.seat.me.0 c.args.self.now.client.ready (note_is c.args.other.now.seat.me.0 c.split_seat-note.result.me.0 o) j in record {
+      client = client_knows g.D.Machine.step c.join_seat.new.seat.me.0 c.load.new.seat.me.0 c.join_seat.new.seat.me.0.collected c.load.result ready look.2.fits look.2.floors.0 ready.collected look.0;
+      past = λ h. let past = c.args.self.now.past h in let f : c.load.new.seat.me.0.floor ≡ c.load.result = ap (λ z. z.floor) look.0 in let a : c.join_seat.new.seat.me.0.floor ≡ c.args.self.now.seat.me.0.floor = ap (λ z. z.floor) j in let fl = look.2.floors.0 in omega arith;
+      room = λ h. let room = c.args.self.now.room h in let same : c.load.new.seat.me.0.credit ≡ c.args.self.now.seat.me.0.credit = ap (λ z. z.credit) look.0 ∙ ap (λ z. z.credit) j in omega arith;
+      above = subst (λ l. AllBelow l c.args.self.now.next) (sym (ap (λ z. z.tickets) look.0 ∙ ap (λ z. z.tickets) j)) c.args.self.now.above;
+    }
 
 pub returns-clause-known : goal.returns-clause-known
 returns-clause-known g c = let j = ap (λ m. m.0) c.join_seat.ensures.2 in let o = ap (λ m. m.0) c.split_seat-note.ensures.4 in let look = c.load.ensures.2 in (

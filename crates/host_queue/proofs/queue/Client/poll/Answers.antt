@@ -5,7 +5,8 @@ use lib.ListN.{get_elem?}
 use Rattle.atomic_table.specs.Table.{rest}
 use Rattle.host_queue.specs.Clients.{AllBelow}
 use Rattle.host_queue.proofs.Keeps.{collects}
-use Rattle.host_queue.proofs.Clients.{client_knows, had_more, gathered_is, fits_is, same_head, some_same, stay_open, stay_open_but}
+use Rattle.host_queue.proofs.Basics.{some_same}
+use Rattle.host_queue.proofs.Clients.{client_knows, had_more, gathered_is, fits_is, same_head, stay_open, stay_open_but}
 use Rattle.host_queue.proofs.queue.Client.poll.Goals as goal
 
 pub compare_exchange-requires : goal.compare_exchange-requires

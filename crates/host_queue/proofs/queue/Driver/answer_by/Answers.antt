@@ -7,40 +7,44 @@ use Rattle.host_queue.specs.History.{Begins}
 use Rattle.host_queue.specs.Views.{held, entry}
 use Rattle.host_queue.proofs.Basics.{begins_long}
 use Rattle.host_queue.proofs.Clients.{stay_open, some_of, some_gives}
+use Rattle.host_queue.proofs.queue.Driver.answer_by.Given.{Over}
 use Rattle.host_queue.proofs.queue.Driver.answer_by.Goals as goal
+use Rattle.host_queue.proofs.queue.Driver.answer_by.Goals.{In-Ok}
+
+-- the client has one ticket more
+one_more : (g : Over) (c : In-Ok g) → length c.submit-submitted.new.self.seat.me.0.tickets ≡ length c.args.client.now.seat.me.0.tickets + 1
+one_more g c = ap length c.in-Ok.ensures.ticket.2 ∙ length-append c.args.client.now.seat.me.0.tickets (held c.in-Ok.ticket.number c.in-Ok.ensures.ticket.0 ∷ [])
+
+-- its ticket is the next that the driver answers
+is_next : (g : Over) (c : In-Ok g) → c.in-Ok.ticket.number ≡ length c.hear.new.self.seat.me.0.known
+is_next g c = let sent = c.in-Ok.ensures in let only = c.requires.only in let f = sent.next in let below = sent.ok.0 in let most = c.hear.ensures.drawn.0 (omega arith) in let least = sent.ok.2 in let many = one_more g c in
+    let answered = only.answered in let long = begins_long c.args.self.now.seat.me.0.known c.args.client.now.seat.me.0.known only.known in
+    let same : length c.hear.new.self.seat.me.0.known ≡ length c.args.self.now.seat.me.0.known = ap length c.hear.ensures.same.1 in omega arith
 
 pub unwrap-answered-requires : goal.unwrap-answered-requires
-unwrap-answered-requires g c = let sent = c.in-Ok.ensures in let n : ℕ = c.in-Ok.ticket.number in let only = c.requires.only in let old = c.args.client.now.seat.me.0.tickets in
-    let heard = c.hear.ensures.heard ∙ sent.ticket.2 in let f = sent.next in let below = sent.ok.0 in let most = c.hear.ensures.drawn.0 (omega arith) in let least = sent.ok.2 in
-    let many : length c.submit-submitted.new.self.seat.me.0.tickets ≡ length old + 1 = ap length sent.ticket.2 ∙ length-append old (held n sent.ticket.0 ∷ []) in
-    let answered = only.answered in let long = begins_long c.args.self.now.seat.me.0.known c.args.client.now.seat.me.0.known only.known in let same : length c.hear.new.self.seat.me.0.known ≡ length c.args.self.now.seat.me.0.known = ap length c.hear.ensures.same.1 in
-    let is : n ≡ length c.hear.new.self.seat.me.0.known = omega arith in
+unwrap-answered-requires g c = let sent = c.in-Ok.ensures in let old = c.args.client.now.seat.me.0.tickets in let one = held c.in-Ok.ticket.number sent.ticket.0 in
+    let is = is_next g (goal.at.unwrap-answered-requires g c).In-Ok in let below = sent.ok.0 in
     some_of c.drive_by.result c.drive_by.ensures.waits
-    (λ waits. waits (omega arith) (length old) (held n sent.ticket.0) (ap (λ l. get_elem? l (length old)) heard ∙ at_last old (held n sent.ticket.0) (length old) refl) is)
+    (λ waits. waits (omega arith) (length old) one (ap (λ l. get_elem? l (length old)) (c.hear.ensures.heard ∙ sent.ticket.2) ∙ at_last old one (length old) refl) is)
 
 pub poll_known-requires-clause-own : goal.poll_known-requires-clause-own
 poll_known-requires-clause-own g c = let e = c.hear.ensures.client in stay_open c.submit-submitted.new.self.seat.me.0 c.hear.new.client.seat.me.0 e.0 e.1 c.in-Ok.ticket.number c.in-Ok.ensures.open
 
 pub returns-clause-only : goal.returns-clause-only
-returns-clause-only g c = let sent = c.in-Ok.ensures in let n : ℕ = c.in-Ok.ticket.number in let only = c.requires.only in let old = c.args.client.now.seat.me.0.tickets in
-    let heard = c.hear.ensures.heard ∙ sent.ticket.2 in let f = sent.next in let below = sent.ok.0 in let most = c.hear.ensures.drawn.0 (omega arith) in let least = sent.ok.2 in
-    let many : length c.submit-submitted.new.self.seat.me.0.tickets ≡ length old + 1 = ap length sent.ticket.2 ∙ length-append old (held n sent.ticket.0 ∷ []) in
-    let answered = only.answered in let long = begins_long c.args.self.now.seat.me.0.known c.args.client.now.seat.me.0.known only.known in let same : length c.hear.new.self.seat.me.0.known ≡ length c.args.self.now.seat.me.0.known = ap length c.hear.ensures.same.1 in
-    let is : n ≡ length c.hear.new.self.seat.me.0.known = omega arith in let told = some_gives c.drive_by.result c.unwrap-answered.result _ c.unwrap-answered.ensures c.drive_by.ensures.some in let d = c.drive_by.ensures.same in let h = c.hear.ensures.same in let x = told.3 in
+returns-clause-only g c = let h = (goal.at.returns-clause-only g c).In-Ok in let many = one_more g h in let is = is_next g h in let only = c.requires.only in let d = c.drive_by.ensures.same in let same = c.hear.ensures.same in
+    let told = some_gives c.drive_by.result c.unwrap-answered.result _ c.unwrap-answered.ensures c.drive_by.ensures.some in let x = told.3 in let answered = only.answered in
+    let long : length c.hear.new.self.seat.me.0.known ≡ length c.args.self.now.seat.me.0.known = ap length same.1 in
     let more : length c.drive_by.new.self.seat.me.0.known ≡ length c.hear.new.self.seat.me.0.known + 1 = ap length x.1 ∙ length-append c.hear.new.self.seat.me.0.known (x.0 ∷ []) in
     let kept : length c.poll_known.new.self.seat.me.0.tickets ≡ length c.submit-submitted.new.self.seat.me.0.tickets = ap length (c.poll_known.ensures.same.0 ∙ c.hear.ensures.client.0) in record {
-      admitted = d.1 ∙ (h.3 ∙ only.admitted);
-      share = d.2 ∙ (h.4 ∙ only.share);
+      admitted = d.1 ∙ (same.3 ∙ only.admitted);
+      share = d.2 ∙ (same.4 ∙ only.share);
       answered = omega arith;
       known = subst (λ l. Begins l c.poll_known.new.self.seat.me.0.known) told.2 c.poll_known.ensures.known.1;
     }
 
 pub returns-clause-ok : goal.returns-clause-ok
-returns-clause-ok g c = let sent = c.in-Ok.ensures in let n : ℕ = c.in-Ok.ticket.number in let only = c.requires.only in let old = c.args.client.now.seat.me.0.tickets in
-    let heard = c.hear.ensures.heard ∙ sent.ticket.2 in let f = sent.next in let below = sent.ok.0 in let most = c.hear.ensures.drawn.0 (omega arith) in let least = sent.ok.2 in
-    let many : length c.submit-submitted.new.self.seat.me.0.tickets ≡ length old + 1 = ap length sent.ticket.2 ∙ length-append old (held n sent.ticket.0 ∷ []) in
-    let answered = only.answered in let long = begins_long c.args.self.now.seat.me.0.known c.args.client.now.seat.me.0.known only.known in let same : length c.hear.new.self.seat.me.0.known ≡ length c.args.self.now.seat.me.0.known = ap length c.hear.ensures.same.1 in
-    let is : n ≡ length c.hear.new.self.seat.me.0.known = omega arith in let told = some_gives c.drive_by.result c.unwrap-answered.result _ c.unwrap-answered.ensures c.drive_by.ensures.some in let x = told.3.0 in let c0 = sent.ticket.0 in let known = c.hear.new.self.seat.me.0.known in
+returns-clause-ok g c = let sent = c.in-Ok.ensures in let n : ℕ = c.in-Ok.ticket.number in let old = c.args.client.now.seat.me.0.tickets in let is = is_next g (goal.at.returns-clause-ok g c).In-Ok in
+    let told = some_gives c.drive_by.result c.unwrap-answered.result _ c.unwrap-answered.ensures c.drive_by.ensures.some in let x = told.3.0 in let c0 = sent.ticket.0 in let known = c.hear.new.self.seat.me.0.known in
     let at_x = subst (λ l. Begins l c.poll_known.new.self.seat.me.0.known) told.2 c.poll_known.ensures.known.1 n x (ap (λ l. get_elem? l n) told.3.1 ∙ at_last known x n (sym is)) in
     let got = c.poll_known.ensures.ok in let same_x = some-injective got.0 x (sym got.1 ∙ at_x) in
     let asked = c.poll_known.ensures.known.0.own (length old) (held n c0) (ap (λ l. get_elem? l (length old)) (c.hear.ensures.client.0 ∙ sent.ticket.2) ∙ at_last old (held n c0) (length old) refl) x at_x in (
