@@ -1,5 +1,5 @@
 -- A group's one run, and its result.
-use Rattle.std.proofs.Common.{◌≡◌, ℕ, suc, ◌+◌, ◌*◌, ◌<◌, ◌≤◌, arith, true, true≢false, None, Some, List, Vec, Global, [], ◌∷◌, refl, sym, ◌∙◌, subst, ⊎_elim}
+use Rattle.std.proofs.Common.{◌≡◌, ℕ, suc, ◌+◌, ◌*◌, ◌<◌, ◌≤◌, arith, true, true≢false, Option, None, Some, List, Vec, Global, [], ◌∷◌, refl, sym, ◌∙◌, subst, ⊎_elim}
 use Rattle.std.proofs.Math.Nat.{suc-mul, mul-le-mul_right}
 use Rattle.clmodel.specs.Launch.{Launch}
 use Rattle.clmodel.specs.Outcome.{events_of}
@@ -14,7 +14,6 @@ use Rattle.shadow.specs.Lasting.{StandsWith}
 use Rattle.shadow.specs.declared.group_accesses.LastingList.{LastingList}
 use Rattle.group_log.specs.declared.group.GroupLog.{GroupLog}
 use Rattle.snapshot_merge.specs.Launches.{group_log}
-use Rattle.snapshot_merge.proofs.Listed.{bytes_of}
 use Rattle.spaces.specs.Overlay.{Overlaid}
 use Rattle.workers_draw.specs.Groups.{AreResults}
 use Rattle.workers.specs.Results.{IsListed, AreOfRound, IsOfGroup, IsStopping, number_of, has_stopped}
@@ -48,6 +47,11 @@ stops_stopped launch group (Done number spaces log runs) one is stops =
     let same = one launch group part stops.0 (run.0.runs, run.1) stops.2 in absurd (none_some stops.1 (same.2 ∙ stops.3))
 stops_stopped launch group (Stopped number fault log runs) one is stops = refl
 
+-- what an overlay holds
+abbrev bytes_of : Overlaid → List (Option ℕ)
+bytes_of overlay = overlay.bytes
+
+-- a result stays that of its group where a list stands for its log
 pub done_listed : (launch : Launch) (group number : ℕ) (spaces : Vec Overlaid Global) (log : GroupLog) (list : LastingList) (runs : List EventRun) → StandsWith list.has_last list.entries.items (group_log log).accesses
     → IsResult bytes_of group_log launch group (Done number spaces log runs) → IsListed launch group (Done number spaces list runs)
 done_listed launch group number spaces log list runs stand is = (group_log log, stand, is)
