@@ -10,7 +10,7 @@ use Rattle.clmodel.specs.Typing.{IsTypedProgram}
 use Rattle.clmodel.specs.Typing.Functions.{size_of}
 use Rattle.clmodel.specs.Typing.Rules.{length_limit}
 use Rattle.clmodel.specs.Typing.Sizes.{node_limit, parameter_limit}
-use Rattle.clmodel.proofs.Kernels.{named}
+use Rattle.clmodel.proofs.Kernels as kernels
 use Rattle.regcode.specs.Listing.{Listing}
 use Rattle.regcode.specs.Rules.{IsVerified}
 use Rattle.lower_code.specs.Code.{kernel_code}
@@ -90,7 +90,7 @@ named_found p name number named none = at (position (same_text name) p.names) na
     there : (n : ℕ) (k : Option Func) → kernel_in p.functions n ≡ k → option_map (λ f. f.name) k ≡ Some number → ⊥
     there n None is found = cc
     there n (Some f) is found =
-        let same = named p.functions n f is in
+        let same = kernels.named p.functions n f is in
         let number_is : number ≡ n = cc in
         let gone = ap (kernel_in p.functions) number_is in
         cc
