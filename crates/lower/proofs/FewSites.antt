@@ -1,14 +1,13 @@
 -- A statement has no more barriers than nodes.
-use Rattle.std.proofs.Common.{◌≡◌, ℕ, ◌+◌, ◌≤◌, Bool, true, false, if◌then◌else◌, nat_eq, Option, None, Some, refl, sym, ap, subst, arith, eqb-true}
-use Rattle.std.specs.Map.{lookup}
+use Rattle.std.proofs.Common.{ℕ, ◌+◌, ◌≤◌, Bool, true, false, if◌then◌else◌, Option, None, Some, arith}
 use Rattle.clmodel.specs.Barrier.{is_barrier}
 use Rattle.clmodel.specs.BuiltIns.{built_in}
 use Rattle.clmodel.specs.Next.{HelperCall, helper_or, helper_call, call_sites, statement_sites, sites, part_sites, all_sites, sites_in}
-use Rattle.clmodel.specs.Tree.{Term, Number, Variable, Element, ElementAddress, Dereference, Call, Unary, Cast, Binary, Choice, Stmt, Empty, Block, Declare, DeclareAs, DeclareArray, Assign, Step, CallOnly, If, IfElse, While, DoWhile, For, Break, Continue, Return, ReturnValue, Stmts, NoStmt, ThenStmt, MaybeStmt, Without, With, Func, Funcs, NoFunc, ThenFunc}
-use Rattle.clmodel.specs.Typing.Sizes.{Sizes, size_in, or_nothing, term_size, size, part_size, row_size, sizes_of}
+use Rattle.clmodel.specs.Tree.{Term, Number, Variable, Element, ElementAddress, Dereference, Call, Unary, Cast, Binary, Choice, Stmt, Empty, Block, Declare, DeclareAs, DeclareArray, Assign, Step, CallOnly, If, IfElse, While, DoWhile, For, Break, Continue, Return, ReturnValue, Stmts, NoStmt, ThenStmt, MaybeStmt, Without, With, Funcs, NoFunc, ThenFunc}
+use Rattle.clmodel.specs.Typing.Sizes.{Sizes, size_in, term_size, size, part_size, row_size, sizes_of}
 use Rattle.clmodel.specs.declared.setup.BuiltIn.{BuiltIn}
 use Rattle.lower.specs.Accepted.{Distinct}
-use Rattle.lower_code.proofs.Looking.{look_left, look_last}
+use Rattle.lower.proofs.CallCode.{by_name}
 
 module _ (sizes : Sizes) (inside : ℕ → ℕ) (few : (name : ℕ) → inside name ≤ (size_in sizes name).nodes) where
   called_few : (f : Option BuiltIn) (c : HelperCall) → call_sites inside (helper_or f c) ≤ (size_in sizes c.name).nodes
@@ -60,22 +59,13 @@ module _ (sizes : Sizes) (inside : ℕ → ℕ) (few : (name : ℕ) → inside n
     row_few NoStmt = omega arith
     row_few (ThenStmt ss s) = omega (arith, row_few ss, statement_few s)
 
-found_few : (earlier : Funcs) (f : Func) → lookup (nat_eq f.name) (sizes_of earlier) ≡ None → all_sites (sites_in earlier) f.body ≤ (row_size (sizes_of earlier) f.body).nodes
-    → (name : ℕ) → sites_in earlier name ≤ (size_in (sizes_of earlier) name).nodes → (b : Bool) → nat_eq name f.name ≡ b
-    → (if b then all_sites (sites_in earlier) f.body else sites_in earlier name) ≤ (size_in (sizes_of (ThenFunc earlier f)) name).nodes
-found_few earlier f new body name before true e =
-    let same : name ≡ f.name = eqb-true name f.name e in
-    let none : lookup (nat_eq name) (sizes_of earlier) ≡ None = subst (λ z. lookup (nat_eq z) (sizes_of earlier) ≡ None) (sym same) new in
-    let there = ap (λ o. (or_nothing o).nodes) (look_last (nat_eq name) (sizes_of earlier) f.name (row_size (sizes_of earlier) f.body) e none) in
-    subst (λ n. all_sites (sites_in earlier) f.body ≤ n) (sym there) body
-found_few earlier f new body name before false e =
-    subst (λ n. sites_in earlier name ≤ n) (sym (ap (λ o. (or_nothing o).nodes) (look_left (nat_eq name) (sizes_of earlier) f.name (row_size (sizes_of earlier) f.body) e))) before
-
 -- in each helper
 inside_few : (fs : Funcs) → Distinct fs → (name : ℕ) → sites_in fs name ≤ (size_in (sizes_of fs) name).nodes
 inside_few NoFunc distinct name = omega arith
 inside_few (ThenFunc earlier f) distinct name =
-    found_few earlier f distinct.1 (row_few (sizes_of earlier) (sites_in earlier) (inside_few earlier distinct.0) f.body) name (inside_few earlier distinct.0 name) (nat_eq name f.name) refl
+    let before = inside_few earlier distinct.0 in
+    by_name (λ s b. (if b then all_sites (sites_in earlier) f.body else sites_in earlier name) ≤ s.nodes) earlier f distinct.1 name
+    (λ e. row_few (sizes_of earlier) (sites_in earlier) before f.body) (λ e. before name)
 
 -- in a function's body
 pub body_few : (earlier : Funcs) → Distinct earlier → (body : Stmts) → all_sites (sites_in earlier) body ≤ (row_size (sizes_of earlier) body).nodes

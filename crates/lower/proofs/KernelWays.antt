@@ -1,9 +1,8 @@
 -- The code of calls and of kernels goes where it may.
-use Rattle.std.proofs.Common.{◌≡◌, ℕ, zero, suc, ◌+◌, ◌<◌, ◌≤◌, Bool, true, false, nat_eq, None, Some, List, [], ◌∷◌, ◌++◌, length, slice_get, slice_index, refl, ap, sym, subst, arith, eqb-true}
-use Rattle.std.specs.Map.{lookup}
+use Rattle.std.proofs.Common.{◌≡◌, ℕ, zero, suc, ◌+◌, ◌<◌, ◌≤◌, true, false, None, Some, List, [], ◌∷◌, ◌++◌, length, slice_get, slice_index, refl, sym, subst, arith}
 use Rattle.clmodel.specs.Next.{sites_in}
 use Rattle.clmodel.specs.Tree.{Func, Funcs, NoFunc, ThenFunc}
-use Rattle.clmodel.specs.Typing.Sizes.{size_in, or_nothing, row_size, sizes_of}
+use Rattle.clmodel.specs.Typing.Sizes.{size_in, row_size, sizes_of}
 use Rattle.clmodel.specs.declared.tree.Parameter.{Parameter}
 use Rattle.clmodel.specs.declared.tree.VariableType.{VariableType}
 use Rattle.regcode.specs.Listing.{Listing}
@@ -15,7 +14,7 @@ use Rattle.lower_code.specs.Code.{Exits, parameter_variables, pass_code, result_
 use Rattle.lower.specs.Tables.{depth_after, loops_from, tabled}
 use Rattle.lower.specs.Accepted.{Flat, Standing, Going, Sound, Distinct, KernelsGo}
 use Rattle.lower.proofs.Sound.{leads_at, there, first_leads, standing_left, standing_right, going_both, sound_flat, sound_then, sound_both}
-use Rattle.lower_code.proofs.Looking.{look_left, look_last}
+use Rattle.lower.proofs.CallCode.{by_name}
 use Rattle.lower.proofs.Ways.{stmts_sound, no_value_flat}
 
 pass_flat : (ps : List Parameter) (numbers : List ℕ) (level : ℕ) → Flat (pass_code ps numbers level)
@@ -52,33 +51,12 @@ calls_sound NoFunc distinct name numbers level depth site exits = sound_flat _ d
 calls_sound (ThenFunc earlier f) distinct name numbers level depth site exits =
     let before : (name : ℕ) (numbers : List ℕ) (level depth site : ℕ) (exits : Exits) → Sound (size_in (sizes_of earlier) name).loops depth exits (call_code earlier name numbers level depth site) =
     calls_sound earlier distinct.0 in
-    let s = row_size (sizes_of earlier) f.body in
+    let n = (row_size (sizes_of earlier) f.body).loops in
     let pass = pass_code f.parameters numbers level in
     let body = body_code (call_code earlier) (result_in earlier) (sites_in earlier) f level depth site in
-    call_case earlier f name numbers level depth site exits distinct.1
-    (before name numbers level depth site exits)
-    (sound_both s.loops depth exits pass body (sound_flat s.loops depth _ pass (pass_flat f.parameters numbers level)) (body_sound earlier f level depth site exits before))
-    (nat_eq name f.name) refl
-  where
-    call_case : (earlier : Funcs) (f : Func) (name : ℕ) (numbers : List ℕ) (level depth site : ℕ) (exits : Exits) → lookup (nat_eq f.name) (sizes_of earlier) ≡ None
-        → Sound (size_in (sizes_of earlier) name).loops depth exits (call_code earlier name numbers level depth site)
-        → Sound (row_size (sizes_of earlier) f.body).loops depth exits (pass_code f.parameters numbers level ++ body_code (call_code earlier) (result_in earlier) (sites_in earlier) f level depth site)
-        → (b : Bool) → nat_eq name f.name ≡ b
-        → Sound (size_in (sizes_of (ThenFunc earlier f)) name).loops depth exits
-        (elim b as (λ _. List Instruction) [
-          | true ↦ pass_code f.parameters numbers level ++ body_code (call_code earlier) (result_in earlier) (sites_in earlier) f level depth site
-          | false ↦ call_code earlier name numbers level depth site
-        ])
-    call_case earlier f name numbers level depth site exits new before this true e =
-        let s = row_size (sizes_of earlier) f.body in
-        let same : name ≡ f.name = eqb-true name f.name e in
-        let none : lookup (nat_eq name) (sizes_of earlier) ≡ None = subst (λ x. lookup (nat_eq x) (sizes_of earlier) ≡ None) (sym same) new in
-        subst (λ n. Sound n depth exits (pass_code f.parameters numbers level ++ body_code (call_code earlier) (result_in earlier) (sites_in earlier) f level depth site))
-        (sym (ap (λ o. (or_nothing o).loops) (look_last (nat_eq name) (sizes_of earlier) f.name s e none))) this
-    call_case earlier f name numbers level depth site exits new before this false e =
-        let s = row_size (sizes_of earlier) f.body in
-        subst (λ n. Sound n depth exits (call_code earlier name numbers level depth site))
-        (sym (ap (λ o. (or_nothing o).loops) (look_left (nat_eq name) (sizes_of earlier) f.name s e))) before
+    by_name (λ s b. Sound s.loops depth exits (elim b as (λ _. List Instruction) [ true ↦ pass ++ body | false ↦ call_code earlier name numbers level depth site ])) earlier f distinct.1 name
+    (λ e. sound_both n depth exits pass body (sound_flat n depth _ pass (pass_flat f.parameters numbers level)) (body_sound earlier f level depth site exits before))
+    (λ e. before name numbers level depth site exits)
 
 standing_scan : (L : Listing) (code : List Instruction) (at d : ℕ) → ((k : ℕ) (i : Instruction) → slice_get code k ≡ Some i → slice_get L.instructions (at + k) ≡ Some i)
     → ((k : ℕ) → k < length code → slice_index L.loops (at + k) ≡ slice_index (loops_from d code) k) → Standing L at d code

@@ -16,6 +16,7 @@ pub mod Ways
 pub mod KernelWays
 pub mod Verified
 pub mod Scoped
+pub mod CallCode
 pub mod TypedRights
 pub mod TypedStatements
 pub mod TypedKernels

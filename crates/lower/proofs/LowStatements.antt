@@ -1,39 +1,38 @@
 -- The registers that the code of typed statements names: those of levels below one that is as far above the first free one as they have nodes, with the
 -- nodes of the helpers that are called.
-use Rattle.std.proofs.Common.{◌≡◌, ℕ, ◌+◌, ◌*◌, ◌<◌, ◌≤◌, ◌++◌, Bool, true, false, Option, None, Some, List, length, ap, sym, subst, arith}
+use Rattle.std.proofs.Common.{ℕ, ◌+◌, ◌*◌, ◌<◌, ◌≤◌, ◌++◌, Bool, true, false, Option, None, Some, List, length, sym, subst, arith}
 use Rattle.clnum.specs.declared.int_type.IntType.{IntType}
 use Rattle.clnum.specs.declared.int_type.IntType.TheVariants.{Int}
 use Rattle.clnum.specs.declared.operators.BinaryOperator.{BinaryOperator}
 use Rattle.clmodel.specs.Barrier.{is_barrier, fences}
 use Rattle.clmodel.specs.BuiltIns.{built_in}
-use Rattle.clmodel.specs.Next.{Variables, argument_type, call_type, helper_or, helper_call, step_operator, sites, part_sites}
+use Rattle.clmodel.specs.Next.{Variables, argument_type, call_type, helper_call, step_operator, sites, part_sites}
 use Rattle.clmodel.specs.Tree as tree
 use Rattle.clmodel.specs.Tree.{Term, Terms, Target, MaybeTerm, WithoutTerm, WithTerm, Stmt, Stmts, NoStmt, ThenStmt, MaybeStmt, Without, With, array_length}
-use Rattle.clmodel.specs.Typing.Context.{Context, Signature, signature_of, bind, enter, turning, for_context, after_all}
+use Rattle.clmodel.specs.Typing.Context.{Context, Signature, bind, enter, turning, for_context, after_all}
 use Rattle.clmodel.specs.Typing.Rules as rule
 use Rattle.clmodel.specs.Typing.Rules.{CallsHelper, Gives, IsTyped, IsTypedPart, AreTyped}
-use Rattle.clmodel.specs.Typing.Sizes.{Sizes, size_in, term_size, terms_size, target_size, condition_size, size, part_size, row_size}
+use Rattle.clmodel.specs.Typing.Sizes.{Size, Sizes, size_in, term_size, terms_size, target_size, condition_size, size, part_size, row_size}
 use Rattle.clmodel.specs.declared.action.Fences.{Fences}
 use Rattle.clmodel.specs.declared.declaration.Declaration.TheVariants.{Single}
 use Rattle.clmodel.specs.declared.setup.BuiltIn.{BuiltIn}
 use Rattle.clmodel.specs.declared.tree.VariableType.{VariableType}
 use Rattle.clmodel.specs.declared.tree.VariableType.TheVariants.{Integer}
+use Rattle.regcode.specs.declared.instruction.Instruction.{Instruction}
 use Rattle.lower_expr.specs.Scope.{Scope, free_level, register_at}
 use Rattle.lower_expr.specs.Expressions.{kind_of, register_for, registers_for, expr_code, terms_code, target_code, target_register}
 use Rattle.lower_code.specs.Code.{Exits, past, body_exits, Calls, with_variable, local_pointer, scope_after_part, scope_after_all, array_code, needed_code, no_value_code, value_code, wait_code, condition_code, type_of_target, fetch_code, right_code, right_type, call_only_statement, step_code, stmt_code, part_code, stmts_code}
 use Rattle.lower_code.specs.Variables.{variables_after, variables_after_part, variables_after_all}
 use Rattle.lower.proofs.Low.{Few, Low, at_low, low_both, call_only_low, some_place, expr_low, terms_low, registers_low, target_low, reached_low, fetch_low, put_low, combine_low}
-use Rattle.lower.proofs.Scoped.{callable_is, after_part_before, after_all_before}
+use Rattle.lower.proofs.CallCode.{AreKnown, known_as, helper_of, right_is_call, statement_is_call}
+use Rattle.lower.proofs.Scoped.{after_part_before, after_all_before}
 use Rattle.lower_expr.proofs.Short.{some_node, few_terms}
 use Rattle.lower.proofs.Suited.{built_in_is, barrier_is}
 use Rattle.lower.proofs.TypedRights.{no_helper}
 
--- what is known of a helper
-pub record CallLow (sizes : Sizes) (calls : Calls) (x : ℕ) (s : Signature) : Type 0 where
-  pub is_helper : built_in x ≡ None
-  pub no_barrier : is_barrier x ≡ false
-  pub low : (top : ℕ) (numbers : List ℕ) (level depth site : ℕ) → Few (16 * top) numbers → level + length s.parameters + (size_in sizes x).nodes + 1 ≤ top
-      → Low (16 * top) (calls x numbers level depth site)
+-- what the code of a call owes
+abbrev pub LowCall : Size → List VariableType → List ℕ → ℕ → List Instruction → Type 0
+LowCall size parameters numbers level code = (top : ℕ) → Few (16 * top) numbers → level + length parameters + size.nodes + 1 ≤ top → Low (16 * top) code
 
 needed_low : (n : ℕ) (result : Option IntType) → Low n (needed_code result)
 needed_low n None = (tt, tt)
@@ -87,10 +86,7 @@ after_row sizes vs (ThenStmt ss s) = omega (arith, after_row sizes vs ss, after_
 module _ (sizes : Sizes) (top : ℕ) (calls : Calls) (results : ℕ → Option IntType) (inside : ℕ → ℕ) (result : Option IntType) where
   -- the helpers of a context are known
   abbrev pub Known : Context → Type 0
-  Known c = (x : ℕ) (s : Signature) → signature_of c.before x ≡ Some s → CallLow sizes calls x s
-
-  known_as : (c d : Context) → d.before ≡ c.before → Known c → Known d
-  known_as c d e known x s is = known x s (subst (λ b. signature_of b x ≡ Some s) e is)
+  Known c = AreKnown (λ x. LowCall (size_in sizes x)) calls results c
 
   condition_low : (scope : Scope) (test : MaybeTerm) → free_level scope + (condition_size sizes test).nodes + 1 ≤ top → Low (16 * top) (condition_code scope test)
   condition_low scope WithoutTerm h = tt
@@ -103,15 +99,14 @@ module _ (sizes : Sizes) (top : ℕ) (calls : Calls) (results : ℕ → Option I
   called_low c known scope within x es s call level depth site h =
       let count = few_terms sizes es in
       let same = call.count in
-      (known x s (callable_is c x s call.meaning)).low top (registers_for scope level es) level depth site (registers_low sizes top scope within level es (omega (arith, h))) (omega (arith, h, count, same))
+      (helper_of (λ x. LowCall (size_in sizes x)) calls results c known x es s call).code (registers_for scope level es) level depth site top (registers_low sizes top scope within level es (omega (arith, h))) (omega (arith, h, count, same))
 
   right_low : (c : Context) → Known c → (scope : Scope) → free_level scope ≤ top → (e : Term) (k : VariableType) → Gives c e k → (level depth site : ℕ)
       → level + (term_size sizes e).nodes ≤ top → Low (16 * top) (right_code calls results inside result scope level (helper_call e) e depth site)
   right_low c known scope within e k (rule.expression types) level depth site h =
       subst (λ o. Low (16 * top) (right_code calls results inside result scope level o e depth site)) (sym (no_helper c e k types)) (expr_low sizes top scope within level e h)
   right_low c known scope within _ _ (rule.helper {a = a} {x = x} {es = es} {s = s} {t = t} call gives) level depth site h =
-      let is = ap (λ f. helper_or f (record { name = x; arguments = es })) (known x s (callable_is c x s call.meaning)).is_helper in
-      subst (λ o. Low (16 * top) (right_code calls results inside result scope level o (tree.Call a x es) depth site)) (sym is)
+      subst (Low (16 * top)) (sym (right_is_call (λ x. LowCall (size_in sizes x)) calls results inside result c known scope a x es s call level depth site))
       (low_both (16 * top) (terms_code scope level es) _ (terms_low sizes top scope within level es (omega (arith, h)))
       (low_both (16 * top) (calls x (registers_for scope level es) level depth site) _ (called_low c known scope within x es s call level depth site (omega (arith, h))) (needed_low (16 * top) (results x))))
 
@@ -183,11 +178,9 @@ module _ (sizes : Sizes) (top : ℕ) (calls : Calls) (results : ℕ → Option I
         (wait_low (16 * top) (fences es) site depth)
     stmt_low _ _ (rule.call_helper {c = c} {a = a} {x = x} {es = es} {s = s} call) scope known depth site exits h =
         let level = free_level scope in
-        let helper = known x s (callable_is c x s call.meaning) in
         let within : free_level scope ≤ top = omega (arith, h) in
-        subst (λ b. Low (16 * top) (call_only_statement calls results inside result scope b (built_in x) x es depth site)) (sym helper.no_barrier)
-        (subst (λ g. Low (16 * top) (call_only_statement calls results inside result scope false g x es depth site)) (sym helper.is_helper)
-        (low_both (16 * top) (terms_code scope level es) _ (terms_low sizes top scope within level es (omega (arith, h))) (called_low c known scope within x es s call level depth site (omega (arith, h)))))
+        subst (Low (16 * top)) (sym (statement_is_call (λ x. LowCall (size_in sizes x)) calls results inside result c known scope x es s call depth site))
+        (low_both (16 * top) (terms_code scope level es) _ (terms_low sizes top scope within level es (omega (arith, h))) (called_low c known scope within x es s call level depth site (omega (arith, h))))
     stmt_low _ _ (rule.if {c = c} {e = e} {s = s} {t = t} test chosen) scope known depth site exits h =
         let level = free_level scope in
         low_both (16 * top) (expr_code scope level e) _ (expr_low sizes top scope (omega (arith, h)) level e (omega (arith, h)))
@@ -228,7 +221,7 @@ module _ (sizes : Sizes) (top : ℕ) (calls : Calls) (results : ℕ → Option I
         let around = for_context c first in
         let inner = scope_after_part scope first in
         let more = after_part sizes scope.variables first in
-        let within_known : Known around = known_as c around (after_part_before (enter c) first) known in
+        let within_known : Known around = known_as (λ x. LowCall (size_in sizes x)) calls results c around (after_part_before (enter c) first) known in
         let condition = condition_code inner e in
         let exits3 = body_exits (length condition + 1) exits in
         let last = part_code calls results inside result inner third (depth + 1) (site + part_sites inside first) exits3 in
@@ -266,4 +259,4 @@ module _ (sizes : Sizes) (top : ℕ) (calls : Calls) (results : ℕ → Option I
     stmts_low _ _ (rule.statement {c = c} {ss = ss} {s = s} statements last) scope known depth site exits h =
         let more = after_row sizes scope.variables ss in
         low_both (16 * top) (stmts_code calls results inside result scope ss depth site _) _ (stmts_low c ss statements scope known depth site _ (omega (arith, h)))
-        (stmt_low (after_all c ss) s last (scope_after_all scope ss) (known_as c (after_all c ss) (after_all_before c ss) known) depth _ exits (omega (arith, h, more)))
+        (stmt_low (after_all c ss) s last (scope_after_all scope ss) (known_as (λ x. LowCall (size_in sizes x)) calls results c (after_all c ss) (after_all_before c ss) known) depth _ exits (omega (arith, h, more)))

@@ -19,7 +19,7 @@ use Rattle.lower.specs.Accepted.{Distinct}
 use Rattle.lower_code.proofs.Looking.{look_last}
 use Rattle.lower_code.proofs.Helpers.{function_there}
 use Rattle.lower.proofs.SmallArrays.{row_arrays}
-use Rattle.lower.proofs.TypedKernels.{distinct}
+use Rattle.lower.proofs.CallCode.{distinct}
 
 step_stays : {V : Type 0} (v w : V) (b : Bool) (r other : Option V) → (r ≡ Some w → other ≡ Some w) → cond b (Some v) r ≡ Some w → cond b (Some v) other ≡ Some w
 step_stays v w true r other go e = e

@@ -5,7 +5,7 @@ use Rattle.clmodel.specs.declared.operand.Operand.{Operand}
 use Rattle.clmodel.specs.declared.tree.VariableType.{VariableType}
 use Rattle.regcode.specs.Machine.{State, Registers, entry_at, reg, put, array_of, put_array}
 use Rattle.regcode.proofs.Registers.{reg_put, reg_kept, array_put, array_kept}
-use Rattle.lower_expr.specs.Scope.{Scope, kind_number, register_at, register_in, register_of, level_in, level_of, seen_elements, view, seen, arrays_in, Sees, free_level}
+use Rattle.lower_expr.specs.Scope.{Scope, register_at, register_in, register_of, level_in, level_of, seen_elements, view, seen, arrays_in, Sees, free_level}
 use Rattle.lower_expr.specs.Expressions.{kind_named}
 use Rattle.lower_expr.specs.Agreement.{Reached}
 use Rattle.lower_expr.proofs.Places.{kind_below, view_kept, sees_kept, array_held, array_seen}

@@ -1,42 +1,37 @@
 -- How many instructions the code of typed statements has: seven a node at most, with the nodes of the helpers that are called.
-use Rattle.std.proofs.Common.{◌≡◌, ℕ, ◌+◌, ◌*◌, ◌≤◌, Bool, true, false, Option, None, Some, List, length, ap, sym, subst, arith}
+use Rattle.std.proofs.Common.{ℕ, ◌+◌, ◌*◌, ◌≤◌, Bool, true, false, Option, Some, List, length, sym, subst, arith}
 use Rattle.clnum.specs.declared.int_type.IntType.{IntType}
-use Rattle.clnum.specs.declared.operators.BinaryOperator.{BinaryOperator}
 use Rattle.clmodel.specs.Barrier.{is_barrier, fences}
 use Rattle.clmodel.specs.BuiltIns.{built_in}
-use Rattle.clmodel.specs.Next.{helper_or, helper_call, step_operator}
+use Rattle.clmodel.specs.Next.{helper_call, step_operator}
 use Rattle.clmodel.specs.Tree as tree
 use Rattle.clmodel.specs.Tree.{Term, Terms, Target, MaybeTerm, WithoutTerm, WithTerm, Stmt, Stmts, MaybeStmt, array_length}
-use Rattle.clmodel.specs.Typing.Context.{Context, Signature, signature_of, bind, enter, turning, for_context, after_all}
+use Rattle.clmodel.specs.Typing.Context.{Context, Signature, bind, enter, turning, for_context, after_all}
 use Rattle.clmodel.specs.Typing.Rules as rule
 use Rattle.clmodel.specs.Typing.Rules.{CallsHelper, Gives, IsTyped, IsTypedPart, AreTyped}
-use Rattle.clmodel.specs.Typing.Sizes.{Sizes, size_in, term_size, terms_size, target_size, condition_size, size, part_size, row_size}
-use Rattle.clmodel.specs.declared.action.Fences.{Fences}
+use Rattle.clmodel.specs.Typing.Sizes.{Size, Sizes, size_in, term_size, terms_size, size, part_size, row_size}
 use Rattle.clmodel.specs.declared.declaration.Declaration.TheVariants.{Single}
 use Rattle.clmodel.specs.declared.setup.BuiltIn.{BuiltIn}
 use Rattle.clmodel.specs.declared.tree.VariableType.{VariableType}
+use Rattle.regcode.specs.declared.instruction.Instruction.{Instruction}
 use Rattle.lower_expr.specs.Scope.{Scope, free_level}
 use Rattle.lower_expr.specs.Expressions.{registers_for}
-use Rattle.lower_code.specs.Code.{Exits, Calls, with_variable, scope_after_part, scope_after_all, array_code, needed_code, no_value_code, value_code, wait_code, condition_code, right_code, step_code, call_only_statement, stmt_code, part_code, stmts_code}
-use Rattle.lower.proofs.Scoped.{callable_is, after_part_before, after_all_before}
+use Rattle.lower_code.specs.Code.{Exits, Calls, with_variable, scope_after_part, scope_after_all, right_code, call_only_statement, stmt_code, part_code, stmts_code}
+use Rattle.lower.proofs.CallCode.{AreKnown, known_as, helper_of, right_is_call, statement_is_call}
+use Rattle.lower.proofs.Scoped.{after_part_before, after_all_before}
 use Rattle.lower_expr.proofs.Short.{Short, none, single, more, both, within, expr_short, terms_short, target_short, call_only_short, few_terms, fetch_short, put_short, combine_short}
 use Rattle.lower_code.proofs.Short.{needed_short, no_value_short, value_short, wait_short, array_short, condition_short, step_short}
 use Rattle.lower.proofs.Suited.{built_in_is, barrier_is}
 use Rattle.lower.proofs.TypedRights.{no_helper}
 
--- what is known of a helper
-pub record CallShort (sizes : Sizes) (calls : Calls) (x : ℕ) (s : Signature) : Type 0 where
-  pub is_helper : built_in x ≡ None
-  pub no_barrier : is_barrier x ≡ false
-  pub short : (numbers : List ℕ) (level depth site : ℕ) → Short (7 * (size_in sizes x).nodes + length s.parameters + 1) (calls x numbers level depth site)
+-- what the code of a call owes
+abbrev pub ShortCall : Size → List VariableType → List ℕ → ℕ → List Instruction → Type 0
+ShortCall size parameters numbers level code = Short (7 * size.nodes + length parameters + 1) code
 
 module _ (sizes : Sizes) (calls : Calls) (results : ℕ → Option IntType) (inside : ℕ → ℕ) (result : Option IntType) where
   -- the helpers of a context are known
   abbrev pub Known : Context → Type 0
-  Known c = (x : ℕ) (s : Signature) → signature_of c.before x ≡ Some s → CallShort sizes calls x s
-
-  known_as : (c d : Context) → d.before ≡ c.before → Known c → Known d
-  known_as c d e known x s is = known x s (subst (λ b. signature_of b x ≡ Some s) e is)
+  Known c = AreKnown (λ x. ShortCall (size_in sizes x)) calls results c
 
   -- the arguments of a call, and the helper in its place
   called_short : (c : Context) → Known c → (scope : Scope) (x : ℕ) (es : Terms) (s : Signature) → CallsHelper c x es s → (numbers : List ℕ) (level depth site : ℕ)
@@ -44,7 +39,7 @@ module _ (sizes : Sizes) (calls : Calls) (results : ℕ → Option IntType) (ins
   called_short c known scope x es s call numbers level depth site =
       let count = few_terms sizes es in
       let same = call.count in
-      within ((known x s (callable_is c x s call.meaning)).short numbers level depth site) (omega (arith, count, same))
+      within ((helper_of (λ x. ShortCall (size_in sizes x)) calls results c known x es s call).code numbers level depth site) (omega (arith, count, same))
 
   right_short : (c : Context) → Known c → (scope : Scope) (e : Term) (k : VariableType) → Gives c e k → (level depth site : ℕ)
       → Short (7 * (term_size sizes e).nodes) (right_code calls results inside result scope level (helper_call e) e depth site)
@@ -53,8 +48,7 @@ module _ (sizes : Sizes) (calls : Calls) (results : ℕ → Option IntType) (ins
       (within (expr_short sizes scope level e) (omega arith))
   right_short c known scope _ _ (rule.helper {a = a} {x = x} {es = es} {s = s} {t = t} call gives) level depth site =
       let numbers = registers_for scope level es in
-      let is = ap (λ f. helper_or f (record { name = x; arguments = es })) (known x s (callable_is c x s call.meaning)).is_helper in
-      subst (λ h. Short (7 * (term_size sizes (tree.Call a x es)).nodes) (right_code calls results inside result scope level h (tree.Call a x es) depth site)) (sym is)
+      subst (Short (7 * (term_size sizes (tree.Call a x es)).nodes)) (sym (right_is_call (λ x. ShortCall (size_in sizes x)) calls results inside result c known scope a x es s call level depth site))
       (within (both (terms_short sizes scope level es) (both (called_short c known scope x es s call numbers level depth site) (needed_short (results x)))) (omega arith))
 
   only_short : (waits : Bool) (f : BuiltIn) (scope : Scope) (x : ℕ) (es : Terms) (depth site : ℕ)
@@ -90,10 +84,8 @@ module _ (sizes : Sizes) (calls : Calls) (results : ℕ → Option IntType) (ins
         (within (wait_short (fences es) site depth) (omega arith))
     stmt_short _ _ (rule.call_helper {c = c} {a = a} {x = x} {es = es} {s = s} call) scope known depth site exits =
         let level = free_level scope in
-        let helper = known x s (callable_is c x s call.meaning) in
-        subst (λ b. Short (7 * (size sizes (tree.CallOnly a x es)).nodes) (call_only_statement calls results inside result scope b (built_in x) x es depth site)) (sym helper.no_barrier)
-        (subst (λ g. Short (7 * (size sizes (tree.CallOnly a x es)).nodes) (call_only_statement calls results inside result scope false g x es depth site)) (sym helper.is_helper)
-        (within (both (terms_short sizes scope level es) (called_short c known scope x es s call (registers_for scope level es) level depth site)) (omega arith)))
+        subst (Short (7 * (size sizes (tree.CallOnly a x es)).nodes)) (sym (statement_is_call (λ x. ShortCall (size_in sizes x)) calls results inside result c known scope x es s call depth site))
+        (within (both (terms_short sizes scope level es) (called_short c known scope x es s call (registers_for scope level es) level depth site)) (omega arith))
     stmt_short _ _ (rule.if {c = c} {e = e} {s = s} {t = t} test chosen) scope known depth site exits =
         within (both (expr_short sizes scope (free_level scope) e) (more (stmt_short (enter c) s chosen scope known depth site exits))) (omega arith)
     stmt_short _ _ (rule.if_else {c = c} {e = e} {s = s} {r = r} {t = t} test chosen otherwise) scope known depth site exits =
@@ -105,7 +97,7 @@ module _ (sizes : Sizes) (calls : Calls) (results : ℕ → Option IntType) (ins
     stmt_short _ _ (rule.for {c = c} {first = first} {third = third} {e = e} {s = s} begun test after body) scope known depth site exits =
         let around = for_context c first in
         let inner = scope_after_part scope first in
-        let within_known : Known around = known_as c around (after_part_before (enter c) first) known in
+        let within_known : Known around = known_as (λ x. ShortCall (size_in sizes x)) calls results c around (after_part_before (enter c) first) known in
         within (both (part_short (enter c) first begun scope known depth site _)
         (more (more (more (both (both (stmt_short (turning around) s body inner within_known (depth + 1) _ _) (part_short (enter around) third after inner within_known (depth + 1) _ _))
         (both (condition_short sizes inner e) single)))))) (omega arith)
@@ -125,4 +117,4 @@ module _ (sizes : Sizes) (calls : Calls) (results : ℕ → Option IntType) (ins
     stmts_short _ _ rule.no_statement scope known depth site exits = within none (omega arith)
     stmts_short _ _ (rule.statement {c = c} {ss = ss} {s = s} statements last) scope known depth site exits =
         within (both (stmts_short c ss statements scope known depth site _)
-        (stmt_short (after_all c ss) s last (scope_after_all scope ss) (known_as c (after_all c ss) (after_all_before c ss) known) depth _ exits)) (omega arith)
+        (stmt_short (after_all c ss) s last (scope_after_all scope ss) (known_as (λ x. ShortCall (size_in sizes x)) calls results c (after_all c ss) (after_all_before c ss) known) depth _ exits)) (omega arith)

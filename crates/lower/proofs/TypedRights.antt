@@ -10,7 +10,7 @@ use Rattle.clmodel.specs.BuiltIns.{built_in}
 use Rattle.clmodel.specs.Next.{base_type, infix_type, argument_type, call_type, is_update, step_operator, helper_or, helper_call}
 use Rattle.clmodel.specs.Tree as tree
 use Rattle.clmodel.specs.Tree.{Term, Terms, Target, MaybeTerm}
-use Rattle.clmodel.specs.Typing.Context.{Context, Signature, element_type, Bound, signature_of, meaning, BuiltInFunction, Barrier}
+use Rattle.clmodel.specs.Typing.Context.{Context, Signature, element_type, Bound, meaning, BuiltInFunction, Barrier}
 use Rattle.clmodel.specs.Typing.Rules as rule
 use Rattle.clmodel.specs.Typing.Rules.{Types, TypesAll, TypesTarget, Passes, Operates, AreGiven, CallsHelper, Gives, IsCondition}
 use Rattle.clmodel.specs.declared.action.Fences.{Fences}
@@ -34,7 +34,7 @@ use Rattle.lower_code.specs.Code.{Calls, result_type, needed_code, no_value_code
 use Rattle.lower.specs.Accepted.{declared_kind, is_private, Is, Matches, Suit}
 use Rattle.lower.proofs.Suiting.{is_at, is_as, suit_both, suit_either, constant_suits, hold_suits, binary_suits, store_suits, load_suits, private_load_suits, private_store_suits, update_suits, update_by_one_suits, branch_suits}
 use Rattle.lower.proofs.Suited.{element_is, built_in_is, barrier_is, infix_is, call_is, argument_is, first_of, types_are, type_is, numbered, registers_are, variable_suits, call_suits, expression_suits, terms_suit, target_suits}
-use Rattle.lower.proofs.Scoped.{callable_is}
+use Rattle.lower.proofs.CallCode.{Called, AreKnown, helper_of, right_is_call, statement_is_call}
 
 -- the registers of arguments can be given to parameters of these types, as far as there are both
 abbrev pub Filled : List VariableType → List ℕ → Type 0
@@ -42,7 +42,7 @@ Filled [] numbers = Unit {0}
 Filled (p ∷ ps) [] = Unit {0}
 Filled (p ∷ ps) (number ∷ numbers) = ((k : VariableType) × (Is number k × Passes p k)) × Filled ps numbers
 
-filled_none : (ps : List VariableType) → Filled ps []
+pub filled_none : (ps : List VariableType) → Filled ps []
 filled_none [] = tt
 filled_none (p ∷ ps) = tt
 
@@ -88,12 +88,9 @@ step_operates false (Integer t) = (_, (rule.arithmetic, rule.integers))
 step_operates true (Pointer p) = (Pointer p, (rule.pointer_sum, rule.pointers refl (λ e. e) refl))
 step_operates false (Pointer p) = (Pointer p, (rule.pointer_difference, rule.pointers refl (λ e. e) refl))
 
--- what a helper owes to its callers
-pub record CallSuits (parameters : List VariableType) (calls : Calls) (results : ℕ → Option IntType) (x : ℕ) (s : Signature) : Type 0 where
-  pub result : results x ≡ s.result
-  pub is_helper : built_in x ≡ None
-  pub no_barrier : is_barrier x ≡ false
-  pub suits : (numbers : List ℕ) (level depth site : ℕ) → Filled s.parameters numbers → Suit parameters (calls x numbers level depth site)
+-- what the code of a call owes
+abbrev pub SuitCall : List VariableType → List VariableType → List ℕ → ℕ → List Instruction → Type 0
+SuitCall parameters taken numbers level code = Filled taken numbers → Suit parameters code
 
 module _ (parameters : List VariableType) where
   pub no_value_suits : (result : Option IntType) (level : ℕ) → Suit parameters (no_value_code result level)
@@ -288,35 +285,33 @@ module _ (c : Context) (scope : Scope) (m : Matches c scope) where
           subst (λ b. Suit parameters (call_only_statement calls results inside result scope b (built_in x) x es depth site)) (sym (barrier_is c x is))
           (wait_suits parameters (fences es) site depth)
 
-      module _ (known : (x : ℕ) (s : Signature) → signature_of c.before x ≡ Some s → CallSuits parameters calls results x s) where
+      module _ (known : AreKnown (λ x. SuitCall parameters) calls results c) where
+        helper : (x : ℕ) (es : Terms) (s : Signature) → CallsHelper c x es s → Called (SuitCall parameters) calls results x s
+        helper x es s call = helper_of (λ x. SuitCall parameters) calls results c known x es s call
+
         pub only_helper_suits : (x : ℕ) (es : Terms) (s : Signature) → CallsHelper c x es s → (depth site : ℕ)
             → Suit parameters (call_only_statement calls results inside result scope (is_barrier x) (built_in x) x es depth site)
         only_helper_suits x es s call depth site =
             let level = free_level scope in
-            let helper = known x s (callable_is c x s call.meaning) in
-            subst (λ b. Suit parameters (call_only_statement calls results inside result scope b (built_in x) x es depth site)) (sym helper.no_barrier)
-            (subst (λ g. Suit parameters (call_only_statement calls results inside result scope false g x es depth site)) (sym helper.is_helper)
+            subst (Suit parameters) (sym (statement_is_call (λ x. SuitCall parameters) calls results inside result c known scope x es s call depth site))
             (suit_both parameters (terms_code scope level es) (calls x (registers_for scope level es) level depth site) (terms_given level s.parameters es call.arguments)
-            (helper.suits (registers_for scope level es) level depth site (filled level s.parameters es call.arguments))))
-
-        helper_is : (a x : ℕ) (es : Terms) (s : Signature) → CallsHelper c x es s → helper_call (tree.Call a x es) ≡ Some (record { name = x; arguments = es })
-        helper_is a x es s call = ap (λ f. helper_or f (record { name = x; arguments = es })) (known x s (callable_is c x s call.meaning)).is_helper
+            ((helper x es s call).code (registers_for scope level es) level depth site (filled level s.parameters es call.arguments)))
 
         pub right_is : (e : Term) (k : VariableType) → Gives c e k → right_type calls results inside result scope (helper_call e) e ≡ k
         right_is e k (rule.expression types) = ap (λ h. right_type calls results inside result scope h e) (no_helper c e k types) ∙ type_is c scope m e k types
         right_is _ _ (rule.helper {a = a} {x = x} {es = es} {s = s} {t = t} call gives) =
-            ap (λ h. right_type calls results inside result scope h (tree.Call a x es)) (helper_is a x es s call)
-            ∙ ap result_type ((known x s (callable_is c x s call.meaning)).result ∙ gives)
+            let h = helper x es s call in
+            ap (λ f. right_type calls results inside result scope (helper_or f (record { name = x; arguments = es })) (tree.Call a x es)) h.is_helper ∙ ap result_type (h.result ∙ gives)
 
         pub right_suits : (level : ℕ) (e : Term) (k : VariableType) → Gives c e k → (depth site : ℕ) → Suit parameters (right_code calls results inside result scope level (helper_call e) e depth site)
         right_suits level e k (rule.expression types) depth site =
             subst (λ h. Suit parameters (right_code calls results inside result scope level h e depth site)) (sym (no_helper c e k types)) (expression_suits c scope m parameters level e k types)
         right_suits level _ _ (rule.helper {a = a} {x = x} {es = es} {s = s} {t = t} call gives) depth site =
             let numbers = registers_for scope level es in
-            subst (λ h. Suit parameters (right_code calls results inside result scope level h (tree.Call a x es) depth site)) (sym (helper_is a x es s call))
+            subst (Suit parameters) (sym (right_is_call (λ x. SuitCall parameters) calls results inside result c known scope a x es s call level depth site))
             (suit_both parameters (terms_code scope level es) (calls x numbers level depth site ++ needed_code (results x)) (terms_given level s.parameters es call.arguments)
             (suit_both parameters (calls x numbers level depth site) (needed_code (results x))
-            ((known x s (callable_is c x s call.meaning)).suits numbers level depth site (filled level s.parameters es call.arguments)) (needed_suits parameters (results x))))
+            ((helper x es s call).code numbers level depth site (filled level s.parameters es call.arguments)) (needed_suits parameters (results x))))
 
         pub assign_suits : (level : ℕ) (place : Target) (e : Term) (k j : VariableType) → TypesTarget c place k → Gives c e j → Passes k j → (depth site : ℕ)
             → Suit parameters (assign_code calls results inside result scope level place (helper_call e) e depth site)

@@ -1,9 +1,9 @@
 -- The code of typed statements names registers of the kinds that its instructions want.
-use Rattle.std.proofs.Common.{◌≡◌, ℕ, ◌+◌, ◌++◌, Bool, true, false, Option, Some, List, [], ◌∷◌, length, subst}
+use Rattle.std.proofs.Common.{ℕ, ◌+◌, ◌++◌, Bool, true, false, Option, List, [], ◌∷◌, length}
 use Rattle.clnum.specs.declared.int_type.IntType.{IntType}
 use Rattle.clmodel.specs.Next.{helper_call, sites, part_sites, all_sites}
 use Rattle.clmodel.specs.Tree.{array_length, Stmt, Stmts, MaybeStmt, WithTerm}
-use Rattle.clmodel.specs.Typing.Context.{Context, Signature, signature_of, bind, enter, turning, for_context, after_all}
+use Rattle.clmodel.specs.Typing.Context.{Context, bind, enter, turning, for_context, after_all}
 use Rattle.clmodel.specs.Typing.Rules as rule
 use Rattle.clmodel.specs.Typing.Rules.{IsTyped, IsTypedPart, AreTyped}
 use Rattle.clmodel.specs.declared.declaration.Declaration.TheVariants.{Single}
@@ -17,16 +17,13 @@ use Rattle.lower.specs.Accepted.{Matches, Suit}
 use Rattle.lower.proofs.Suiting.{is_at, is_as, suit_both, unset_suits, hold_suits, local_suits, unset_array_suits, branch_suits}
 use Rattle.lower.proofs.Suited.{type_is, expression_suits}
 use Rattle.lower.proofs.Scoped.{matches_bind, matches_part, matches_all, after_part_before, after_all_before}
-use Rattle.lower.proofs.TypedRights.{CallSuits, no_value_suits, value_suits, turn_suits, condition_suits, step_suits, only_suits, only_barrier_suits, only_helper_suits, right_is, right_suits, assign_suits, compound_suits}
+use Rattle.lower.proofs.CallCode.{AreKnown, known_as}
+use Rattle.lower.proofs.TypedRights.{SuitCall, no_value_suits, value_suits, turn_suits, condition_suits, step_suits, only_suits, only_barrier_suits, only_helper_suits, right_is, right_suits, assign_suits, compound_suits}
 
 module _ (parameters : List VariableType) (calls : Calls) (results : ℕ → Option IntType) (inside : ℕ → ℕ) (result : Option IntType) where
   -- the helpers of a context are known
   abbrev pub Known : Context → Type 0
-  Known c = (x : ℕ) (s : Signature) → signature_of c.before x ≡ Some s → CallSuits parameters calls results x s
-
-  known_as : (before other : List (ℕ × Signature)) → before ≡ other → ((x : ℕ) (s : Signature) → signature_of other x ≡ Some s → CallSuits parameters calls results x s)
-      → (x : ℕ) (s : Signature) → signature_of before x ≡ Some s → CallSuits parameters calls results x s
-  known_as before other e known x s is = known x s (subst (λ b. signature_of b x ≡ Some s) e is)
+  Known c = AreKnown (λ x. SuitCall parameters) calls results c
 
   array_suits : (is_local : Bool) (t : IntType) (count number level : ℕ) → Suit parameters (array_code is_local t count number level)
   array_suits true t count number level = (local_suits parameters (register_at level (local_pointer t)) number t (is_at level (local_pointer t)), tt)
@@ -103,7 +100,7 @@ module _ (parameters : List VariableType) (calls : Calls) (results : ℕ → Opt
         let around = for_context c first in
         let inner = scope_after_part scope first in
         let within = matches_part (enter c) scope first begun m in
-        let known_within : Known around = known_as around.before c.before (after_part_before (enter c) first) known in
+        let known_within : Known around = known_as (λ x. SuitCall parameters) calls results c around (after_part_before (enter c) first) known in
         let condition = condition_code inner e in
         let site3 = site + part_sites inside first in
         let site2 = site + part_sites inside first + part_sites inside third in
@@ -149,4 +146,4 @@ module _ (parameters : List VariableType) (calls : Calls) (results : ℕ → Opt
         let final = stmt_code calls results inside result inner s depth site2 exits in
         suit_both parameters (stmts_code calls results inside result scope ss depth site (past (length final) exits)) final
         (stmts_suit c ss statements scope m known depth site (past (length final) exits))
-        (stmt_suits now s last inner (matches_all c scope ss statements m) (known_as now.before c.before (after_all_before c ss) known) depth site2 exits)
+        (stmt_suits now s last inner (matches_all c scope ss statements m) (known_as (λ x. SuitCall parameters) calls results c now (after_all_before c ss) known) depth site2 exits)

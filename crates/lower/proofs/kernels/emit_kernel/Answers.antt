@@ -1,4 +1,4 @@
-use Rattle.std.proofs.Common.{◌≡◌, ◌<◌, ◌≤◌, ◌^◌, take, length, sym, subst, arith, ap, ◌∙◌}
+use Rattle.std.proofs.Common.{◌<◌, ◌≤◌, ◌^◌, take, length, sym, subst, arith, ap, ◌∙◌}
 use Rattle.std.specs.Option.{option_map}
 use Rattle.clmodel.specs.Next.{all_sites, sites_in}
 use Rattle.clmodel.specs.Tree.{func}

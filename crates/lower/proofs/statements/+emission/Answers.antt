@@ -18,7 +18,7 @@ use Rattle.lower_code.specs.Variables.{elements, scope_after_all, scope_after_pa
 use Rattle.lower_code.specs.Trees.{all_of, part_of}
 use Rattle.lower_code.specs.Code.{Exits, past, stmt_code, stmts_code, condition_code, call_code, result_in}
 use Rattle.lower_code.specs.Emission.{functions_of, inside, sizes_in, statement_code, row_code, test_of, exits_of}
-use Rattle.lower_code.proofs.Growth.{unchanged, before, one_before, both, inner_scope}
+use Rattle.lower_code.proofs.Growth.{before, one_before, both, inner_scope}
 use Rattle.lower_code.proofs.Trees.{row_more, elements_there}
 use Rattle.lower_code.proofs.Rows.{row_laid, longer, choice_placed, begun}
 use Rattle.lower_code.proofs.Lists.{block_is}
