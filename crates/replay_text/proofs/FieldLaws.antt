@@ -1,14 +1,15 @@
 -- Fields of a fault's line: what is read is the text of the field, and that text is read.
-use Rattle.std.proofs.Common.{◌≡◌, ℕ, suc, ◌+◌, ℤ, pos, negsuc, ◌<◌, ◌≤◌, ◌^◌, Bool, true, false, List, [], ◌∷◌, ◌++◌, length, take, drop, Option, None, Some, refl, ap, sym, ◌∙◌, subst, arith, nat_lt, nat_le, if◌then◌else◌, decimal, IsTrue}
+use Rattle.std.proofs.Common.{◌≡◌, ℕ, suc, ◌+◌, ℤ, pos, negsuc, ◌<◌, ◌^◌, Bool, true, false, List, [], ◌∷◌, ◌++◌, length, take, drop, Some, refl, ap, ◌∙◌, subst, arith, nat_lt, decimal, IsTrue, codes}
 use Rattle.std.proofs.lemmas.Bool.Decides.{nat_tests}
 use Rattle.std.proofs.lemmas.Fmt.{digits_decimal, digits_value-decimal}
 use Rattle.std.specs.List.{list_all}
 use Rattle.std.specs.Fmt.{signed_decimal}
 use Rattle.std.specs.Char.{is_ascii_digit}
-use Rattle.simfile_fields.specs.Texts.{is_number, value_of, list_text, IsListBelow, IsValue}
+use Rattle.simfile_fields.specs.Texts.{value_of, list_text, IsListBelow, IsValue}
 use Rattle.simfile_fields.specs.Fronts.{number_at, value_at, front_length, before}
 use Rattle.simfile_fields.proofs.FieldLaws.{bind_some, if_some, and_true, name_to_takes, name_to_again, own, all_digits, is_number_decimal, number_takes, number_again, list_below_takes, list_below_again, list_below_back, value_takes, value_again, before_is, before_again, space_ends, space_ends_list}
 use Rattle.replay_text.specs.Fields.{is_name, turns_of, IsElement, is_element}
+use Rattle.replay_text.proofs.ReaderSteps.{Parted}
 use Rattle.replay_text.specs.Reading.{name_at, number32_at, list_at, signed_at}
 
 -- a number below 2^32
@@ -101,32 +102,32 @@ list_back numbers h = list_below_back 4294967296 (omega arith) numbers h
 
 -- fields in front of a byte
 
-pub name_before : (bytes : List ℕ) (x : List ℕ × List ℕ) → before 32 (name_at bytes) ≡ Some x → (bytes ≡ x.0 ++ 32 ∷ x.1) × IsTrue (is_name x.0)
-name_before bytes x e = name_to_takes 65536 bytes (x.0, 32 ∷ x.1) (before_is 32 (name_at bytes) x e)
+pub name_before : (bytes : List ℕ) (x : List ℕ × List ℕ) → before 32 (name_at bytes) ≡ Some x → Parted bytes (x.0 ∷ codes " " ∷ []) x.1 × IsTrue (is_name x.0)
+name_before bytes x e = let t = name_to_takes 65536 bytes (x.0, 32 ∷ x.1) (before_is 32 (name_at bytes) x e) in (record { split = t.0 }, t.1)
 
 pub name_before_again : (name : List ℕ) → IsTrue (is_name name) → (rest : List ℕ) → before 32 (name_at (name ++ 32 ∷ rest)) ≡ Some (name, rest)
 name_before_again name h rest = rw (name_to_again 65536 name h 32 rest space_ends) (before_again name 32 rest)
 
-pub number_before : (end : ℕ) (bytes : List ℕ) (x : ℕ × List ℕ) → before end (number_at bytes) ≡ Some x → (bytes ≡ decimal x.0 ++ end ∷ x.1) × (x.0 < 2 ^ 64)
-number_before end bytes x e = number_takes bytes (x.0, end ∷ x.1) (before_is end (number_at bytes) x e)
+pub number_before : (end : ℕ) (bytes : List ℕ) (x : ℕ × List ℕ) → before end (number_at bytes) ≡ Some x → Parted bytes (decimal x.0 ∷ (end ∷ []) ∷ []) x.1 × (x.0 < 2 ^ 64)
+number_before end bytes x e = let t = number_takes bytes (x.0, end ∷ x.1) (before_is end (number_at bytes) x e) in (record { split = t.0 }, t.1)
 
 pub number_before_again : (end : ℕ) (n : ℕ) → n < 2 ^ 64 → (rest : List ℕ) → is_ascii_digit end ≡ false → before end (number_at (decimal n ++ end ∷ rest)) ≡ Some (n, rest)
 number_before_again end n h rest e = rw (number_again n h end rest e) (before_again n end rest)
 
-pub number32_before : (end : ℕ) (bytes : List ℕ) (x : ℕ × List ℕ) → before end (number32_at bytes) ≡ Some x → (bytes ≡ decimal x.0 ++ end ∷ x.1) × (x.0 < 2 ^ 32)
-number32_before end bytes x e = number32_takes bytes (x.0, end ∷ x.1) (before_is end (number32_at bytes) x e)
+pub number32_before : (end : ℕ) (bytes : List ℕ) (x : ℕ × List ℕ) → before end (number32_at bytes) ≡ Some x → Parted bytes (decimal x.0 ∷ (end ∷ []) ∷ []) x.1 × (x.0 < 2 ^ 32)
+number32_before end bytes x e = let t = number32_takes bytes (x.0, end ∷ x.1) (before_is end (number32_at bytes) x e) in (record { split = t.0 }, t.1)
 
 pub number32_before_again : (end : ℕ) (n : ℕ) → n < 2 ^ 32 → (rest : List ℕ) → is_ascii_digit end ≡ false → before end (number32_at (decimal n ++ end ∷ rest)) ≡ Some (n, rest)
 number32_before_again end n h rest e = rw (number32_again n h end rest e) (before_again n end rest)
 
-pub signed_before : (bytes : List ℕ) (x : ℤ × List ℕ) → before 32 (signed_at bytes) ≡ Some x → (bytes ≡ signed_decimal x.0 ++ 32 ∷ x.1) × IsElement x.0
-signed_before bytes x e = signed_takes bytes (x.0, 32 ∷ x.1) (before_is 32 (signed_at bytes) x e)
+pub signed_before : (bytes : List ℕ) (x : ℤ × List ℕ) → before 32 (signed_at bytes) ≡ Some x → Parted bytes (signed_decimal x.0 ∷ codes " " ∷ []) x.1 × IsElement x.0
+signed_before bytes x e = let t = signed_takes bytes (x.0, 32 ∷ x.1) (before_is 32 (signed_at bytes) x e) in (record { split = t.0 }, t.1)
 
 pub signed_before_again : (value : ℤ) → IsElement value → (rest : List ℕ) → before 32 (signed_at (signed_decimal value ++ 32 ∷ rest)) ≡ Some (value, rest)
 signed_before_again value h rest = rw (signed_again value h 32 rest refl) (before_again value 32 rest)
 
-pub list_before : (bytes : List ℕ) (x : List ℕ × List ℕ) → before 32 (list_at bytes) ≡ Some x → (bytes ≡ list_text (turns_of (Some x.0)) ++ 32 ∷ x.1) × IsList (turns_of (Some x.0))
-list_before bytes x e = list_below_takes 4294967296 bytes (x.0, 32 ∷ x.1) (before_is 32 (list_at bytes) x e)
+pub list_before : (bytes : List ℕ) (x : List ℕ × List ℕ) → before 32 (list_at bytes) ≡ Some x → Parted bytes (list_text (turns_of (Some x.0)) ∷ codes " " ∷ []) x.1 × IsList (turns_of (Some x.0))
+list_before bytes x e = let t = list_below_takes 4294967296 bytes (x.0, 32 ∷ x.1) (before_is 32 (list_at bytes) x e) in (record { split = t.0 }, t.1)
 
 pub list_before_again : (numbers : List ℕ) → IsList numbers → (rest : List ℕ) → before 32 (list_at (list_text numbers ++ 32 ∷ rest)) ≡ Some (list_text numbers, rest)
 list_before_again numbers h rest = rw (list_below_again 4294967296 (omega arith) numbers h 32 rest space_ends_list) (before_again (list_text numbers) 32 rest)

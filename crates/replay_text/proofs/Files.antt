@@ -6,7 +6,7 @@ use Rattle.std.specs.Option.{is_some, unwrap_or}
 use Rattle.std.proofs.lemmas.Bool.{eqb-true, ne_eqb, not-true}
 use Rattle.std.proofs.lemmas.Bool.Decides.{nat_tests}
 use Rattle.std.proofs.lemmas.Fmt.{decimal_nonempty}
-use Rattle.std.proofs.lemmas.List.{take-append-drop}
+use Rattle.std.proofs.lemmas.List.{append-nil, take-append-drop}
 use Rattle.std.proofs.lemmas.List.Folds.{list_all-append}
 use Rattle.std.proofs.lemmas.List.Splits.{slice_split_at, slice_split_none, length-slice_split, join_with_byte-slice_split}
 use Rattle.std.proofs.lemmas.List.Sums.{AllPass-from_list_all}
@@ -17,11 +17,12 @@ use Rattle.clmodel.specs.declared.schedule.EventRun.{EventRun}
 use Rattle.clmodel.specs.declared.schedule.EventRun.TheVariants as run
 use Rattle.replay_text.specs.Text.{run_text, schedule_text, fault_text, fault_line}
 use Rattle.replay_text.specs.ScheduleFile.{IsRun, AreRuns, ticket_line, IsScheduleFile}
-use Rattle.simfile_fields.specs.Fronts.{after, before, number_at, front_length, or_else}
+use Rattle.simfile_fields.specs.Fronts.{front_length}
 use Rattle.replay_text.specs.Reading.{same, is_inner, line_of, item_run_at, release_at, run_at, run_of, run_named, is_run, words_of, is_schedule, schedule_of, schedule_at, fault_at, file_of}
-use Rattle.simfile_fields.proofs.FieldLaws.{bind_some, read_then, if_some, and_true, front_of, after_takes, after_again, number_takes, not_behind, decimal_digits}
+use Rattle.simfile_fields.proofs.FieldLaws.{read_then, if_some, and_true, front_of, after_takes, after_again, number_takes, not_behind, decimal_digits}
 use Rattle.replay_text.proofs.FieldLaws.{number32_takes, number_last, number32_last, number_before, number_before_again, number32_before, number32_before_again}
-use Rattle.replay_text.proofs.Grammar.{append_none, fault_takes}
+use Rattle.replay_text.proofs.ReaderSteps.{read_is, by_word}
+use Rattle.replay_text.proofs.Grammar.{fault_takes}
 use Rattle.replay_text.proofs.Again.{fault_again}
 
 -- the text of a run without the space in front
@@ -30,11 +31,11 @@ run_word (run.Item item count) = decimal item ++ 42 ∷ decimal count
 run_word (run.Release group) = 114 ∷ decimal group
 
 run_text_is : (r : EventRun) → run_text r ≡ 32 ∷ run_word r
-run_text_is (run.Item item count) = ap (λ l. 32 ∷ (decimal item ++ 42 ∷ l)) (append_none (decimal count))
-run_text_is (run.Release group) = ap (λ l. 32 ∷ 114 ∷ l) (append_none (decimal group))
+run_text_is (run.Item item count) = ap (λ l. 32 ∷ (decimal item ++ 42 ∷ l)) (append-nil (decimal count))
+run_text_is (run.Release group) = ap (λ l. 32 ∷ 114 ∷ l) (append-nil (decimal group))
 
 runs_join : (r : EventRun) (rs : List EventRun) → flat_map run_text (r ∷ rs) ≡ 32 ∷ join_with_byte 32 (map run_word (r ∷ rs))
-runs_join r [] = append_none (run_text r) ∙ run_text_is r
+runs_join r [] = append-nil (run_text r) ∙ run_text_is r
 runs_join r (s ∷ rs) = ap (λ l. l ++ flat_map run_text (s ∷ rs)) (run_text_is r) ∙ ap (λ l. 32 ∷ (run_word r ++ l)) (runs_join s rs)
 
 some_text : (r : EventRun) (rs : List EventRun) → schedule_text (r ∷ rs) ≡ 32 ∷ join_with_byte 32 (map run_word (r ∷ rs))
@@ -51,13 +52,11 @@ runs_text (r ∷ rs) h = some_text r rs
 abbrev RunBehind : List ℕ → EventRun → List ℕ → Type 0
 RunBehind bytes r rest = (bytes ≡ run_word r ++ rest) × IsRun r
 
-release_takes : (bytes onto : List ℕ) (x : EventRun × List ℕ) → bytes ≡ 114 ∷ onto → release_at onto ≡ Some x → RunBehind bytes x.0 x.1
+release_takes : (bytes : List ℕ) (x : EventRun × List ℕ) → release_at bytes ≡ Some x → RunBehind (codes "r" ++ bytes) x.0 x.1
 unfolding release_at
-release_takes bytes onto x is e =
-    let s1 = read_then _ (number32_takes onto) e in
-    let one : (run.Release s1.0.0, s1.0.1) ≡ x = let f = s1.2 in cc in
-    let P : EventRun × List ℕ → Type 0 = λ y. RunBehind bytes y.0 y.1 in
-    subst P one (is ∙ ap (λ l. 114 ∷ l) s1.1.0, s1.1.1)
+release_takes bytes x e =
+    let s1 = read_then _ (number32_takes bytes) e in
+    read_is (λ y. RunBehind (codes "r" ++ bytes) y.0 y.1) s1.2 (ap (λ l. codes "r" ++ l) s1.1.0, s1.1.1)
 
 item_run_takes : (bytes : List ℕ) (x : EventRun × List ℕ) → item_run_at bytes ≡ Some x → RunBehind bytes x.0 x.1
 unfolding item_run_at
@@ -67,17 +66,13 @@ item_run_takes bytes x e =
     let p = if_some (nat_lt 0 s2.0.0) (run.Item s1.0.0 s2.0.0, s2.0.1) x s2.2 in
     let some : 0 < s2.0.0 = above s2.0.0 p.0 in
     let P : EventRun × List ℕ → Type 0 = λ y. RunBehind bytes y.0 y.1 in
-    subst P p.1 (s1.1.0 ∙ (ap (λ l. decimal s1.0.0 ++ 42 ∷ l) s2.1.0 ∙ sym (append_assoc (decimal s1.0.0) (42 ∷ decimal s2.0.0) s2.0.1)), (s1.1.1, some, s2.1.1)) where
+    subst P p.1 (s1.1.0.split ∙ (ap (λ l. decimal s1.0.0 ++ 42 ∷ l) s2.1.0 ∙ sym (append_assoc (decimal s1.0.0) (42 ∷ decimal s2.0.0) s2.0.1)), (s1.1.1, some, s2.1.1)) where
       above : (n : ℕ) → nat_lt 0 n ≡ true → 0 < n
       above n h = grind (arith, nat_tests)
 
-run_by : (bytes : List ℕ) (x : EventRun × List ℕ) (o : Option (List ℕ)) → after (codes "r") bytes ≡ o → or_else o release_at (item_run_at bytes) ≡ Some x → RunBehind bytes x.0 x.1
-run_by bytes x None is e = item_run_takes bytes x e
-run_by bytes x (Some onto) is e = release_takes bytes onto x (after_takes (codes "r") bytes onto is) e
-
 run_at_takes : (bytes : List ℕ) (x : EventRun × List ℕ) → run_at bytes ≡ Some x → RunBehind bytes x.0 x.1
 unfolding run_at
-run_at_takes bytes x e = run_by bytes x (after (codes "r") bytes) refl e
+run_at_takes bytes x e = by_word (λ l. RunBehind l x.0 x.1) (codes "r") bytes (λ onto. release_takes onto x) (item_run_takes bytes x) e
 
 empty_of : (xs : List ℕ) → (length xs == 0) ≡ true → xs ≡ []
 empty_of [] h = refl
@@ -90,7 +85,7 @@ run_takes word r e =
     let p = if_some (length s1.0.1 == 0) s1.0.0 r s1.2 in
     let nothing = empty_of s1.0.1 p.0 in
     let P : EventRun → Type 0 = λ y. (word ≡ run_word y) × IsRun y in
-    subst P p.1 (s1.1.0 ∙ (ap (λ l. run_word s1.0.0 ++ l) nothing ∙ append_none (run_word s1.0.0)), s1.1.1)
+    subst P p.1 (s1.1.0 ∙ (ap (λ l. run_word s1.0.0 ++ l) nothing ∙ append-nil (run_word s1.0.0)), s1.1.1)
 
 run_back : (r : EventRun) → IsRun r → run_of (run_word r) ≡ Some r
 unfolding run_of run_at release_at item_run_at
@@ -231,7 +226,7 @@ word_no_dash (run.Item item count) h rest =
     rw (append_assoc (decimal item) (42 ∷ decimal count) rest) (no_dash (decimal item) (42 ∷ (decimal count ++ rest)) (decimal_nonempty item wide) (decimal_digits item wide))
 
 joined_no_dash : (r : EventRun) (rs : List EventRun) → AreRuns (r ∷ rs) → same (words_joined (r ∷ rs)) (codes "-") ≡ false
-joined_no_dash r [] h = ap (λ l. same l (codes "-")) (sym (append_none (run_word r))) ∙ word_no_dash r h.0 []
+joined_no_dash r [] h = ap (λ l. same l (codes "-")) (sym (append-nil (run_word r))) ∙ word_no_dash r h.0 []
 joined_no_dash r (s ∷ rs) h = word_no_dash r h.0 (32 ∷ words_joined (s ∷ rs))
 
 -- what is read of a schedule
@@ -266,18 +261,12 @@ file_text ticket f runs = ap (λ l. codes "ticket " ++ l) (append_assoc (decimal
 pub file_takes : (bytes : List ℕ) (ticket : ℕ) (f : Fault) (text : List ℕ) → file_of bytes ≡ Some (ticket, f, text) → IsScheduleFile bytes ticket f (schedule_of text)
 unfolding file_of
 file_takes bytes ticket f text e =
-    let s1 = bind_some (after (codes "ticket ") bytes) _ (ticket, f, text) e in
-    let t1 = after_takes (codes "ticket ") bytes s1.0 s1.1 in
-    let s2 = bind_some (before 10 (number_at s1.0)) _ (ticket, f, text) s1.2 in
-    let t2 = number_before 10 s1.0 s2.0 s2.1 in
-    let s3 = bind_some (fault_at s2.0.1) _ (ticket, f, text) s2.2 in
-    let t3 = fault_takes s2.0.1 s3.0 s3.1 in
-    let s4 = bind_some (schedule_at s3.0.1) _ (ticket, f, text) s3.2 in
-    let t4 = schedule_takes s3.0.1 s4.0 s4.1 in
-    let one : (s2.0.0, s3.0.0, s4.0) ≡ (ticket, f, text) = let g = s4.2 in cc in
-    let split = t1 ∙ ap (λ l. codes "ticket " ++ l) (t2.0 ∙ ap (λ l. decimal s2.0.0 ++ 10 ∷ l) (t3.0 ∙ ap (λ l. fault_text s3.0.0 ++ 32 ∷ l) t4.0)) in
-    let P : ℕ × Fault × List ℕ → Type 0 = λ y. IsScheduleFile bytes y.0 y.1 (schedule_of y.2) in
-    subst P one (t2.1, t3.1, t4.1, split ∙ sym (file_text s2.0.0 s3.0.0 (schedule_of s4.0)))
+    let s1 = read_then _ (after_takes (codes "ticket ") bytes) e in
+    let s2 = read_then _ (number_before 10 s1.0) s1.2 in
+    let s3 = read_then _ (fault_takes s2.0.1) s2.2 in
+    let s4 = read_then _ (schedule_takes s3.0.1) s3.2 in
+    let split = s1.1 ∙ ap (λ l. codes "ticket " ++ l) (s2.1.0.split ∙ ap (λ l. decimal s2.0.0 ++ 10 ∷ l) (s3.1.0.split ∙ ap (λ l. fault_text s3.0.0 ++ 32 ∷ l) s4.1.0)) in
+    read_is (λ y. IsScheduleFile bytes y.0 y.1 (schedule_of y.2)) s4.2 (s2.1.1, s3.1.1, s4.1.1, split ∙ sym (file_text s2.0.0 s3.0.0 (schedule_of s4.0)))
 
 -- what is read of a file
 pub record FileRead (bytes : List ℕ) (ticket : ℕ) (f : Fault) (runs : List EventRun) : Type 0 where

@@ -1,5 +1,5 @@
+pub mod ReaderSteps
 pub mod FieldLaws
-mod Fronts
 pub mod Grammar
 pub mod Again
 pub mod Files

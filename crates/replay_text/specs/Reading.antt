@@ -1,8 +1,7 @@
 -- Reading a schedule file from the front of the bytes, as functions: what each gives is a value and the bytes after it.
-use Rattle.std.specs.Prelude.{ℕ, ◌+◌, ◌-◌, ◌==◌, ℤ, pos, negsuc, Bool, not, ◌&&◌, ◌||◌, nat_lt, nat_le, nat_eq, Option, None, Some, List, [], ◌∷◌, length, take, drop, map, codes, if◌then◌else◌}
+use Rattle.std.specs.Prelude.{ℕ, ◌==◌, ℤ, Bool, not, ◌||◌, nat_lt, nat_eq, Option, None, Some, List, [], ◌∷◌, length, take, drop, map, codes, if◌then◌else◌}
 use Rattle.std.specs.List.{list_all, slice_split}
 use Rattle.std.specs.Option.{is_some, unwrap_or}
-use Rattle.std.specs.Char.{is_ascii_digit}
 use lib.Pointwise.{pointwise}
 use Rattle.clmodel.specs.declared.access.AccessKind.{AccessKind}
 use Rattle.clmodel.specs.declared.access.AccessKind.TheVariants as kind
@@ -141,17 +140,12 @@ element_at bytes = do
   rest ← after (codes "element ") bytes
   before 32 (signed_at rest)
 
--- an array with an element
-unfoldable pub private_at : List ℕ → Option ((List ℕ × ℤ) × List ℕ)
-private_at bytes = do
+-- a fault that tells an array with an element
+unfoldable pub private_fault_at : (List ℕ → ℤ → Fault) → List ℕ → Option (Fault × List ℕ)
+private_fault_at form bytes = do
   array ← before 32 (name_at bytes)
   element ← element_at array.1
-  Some ((array.0, element.0), element.1)
-
-unfoldable pub private_bounds_at : ℕ → List ℕ → Option (Fault × List ℕ)
-private_bounds_at item bytes = do
-  array ← private_at bytes
-  Some (fault.PrivateBounds item array.0.0 array.0.1, array.1)
+  Some (form array.0 element.0, element.1)
 
 unfoldable pub access_bounds_at : ℕ → List ℕ → Option (Fault × List ℕ)
 access_bounds_at item bytes = do
@@ -163,17 +157,12 @@ access_bounds_at item bytes = do
 unfoldable pub bounds_at : List ℕ → Option (Fault × List ℕ)
 bounds_at bytes = do
   item ← before 32 (number32_at bytes)
-  or_else (after (codes "private ") item.1) (private_bounds_at item.0) (access_bounds_at item.0 item.1)
+  or_else (after (codes "private ") item.1) (private_fault_at (fault.PrivateBounds item.0)) (access_bounds_at item.0 item.1)
 
 unfoldable pub variable_at : ℕ → List ℕ → Option (Fault × List ℕ)
 variable_at item bytes = do
   variable ← before 32 (name_at bytes)
   Some (fault.UnsetVariable item variable.0, variable.1)
-
-unfoldable pub private_unset_at : ℕ → List ℕ → Option (Fault × List ℕ)
-private_unset_at item bytes = do
-  array ← private_at bytes
-  Some (fault.UnsetElement item array.0.0 array.0.1, array.1)
 
 unfoldable pub access_unset_at : ℕ → List ℕ → Option (Fault × List ℕ)
 access_unset_at item bytes = do
@@ -186,30 +175,21 @@ access_unset_at item bytes = do
 unfoldable pub unset_at : List ℕ → Option (Fault × List ℕ)
 unset_at bytes = do
   item ← before 32 (number32_at bytes)
-  or_else (after (codes "variable ") item.1) (variable_at item.0) (or_else (after (codes "private ") item.1) (private_unset_at item.0) (access_unset_at item.0 item.1))
+  or_else (after (codes "variable ") item.1) (variable_at item.0) (or_else (after (codes "private ") item.1) (private_fault_at (fault.UnsetElement item.0)) (access_unset_at item.0 item.1))
 
-unfoldable pub divide_by_zero_at : List ℕ → Option (Fault × List ℕ)
-divide_by_zero_at bytes = do
+-- a fault that tells its item alone
+unfoldable pub item_fault_at : (ℕ → Fault) → List ℕ → Option (Fault × List ℕ)
+item_fault_at form bytes = do
   item ← before 32 (number32_at bytes)
-  Some (fault.DivideByZero item.0, item.1)
-
-unfoldable pub divide_overflow_at : List ℕ → Option (Fault × List ℕ)
-divide_overflow_at bytes = do
-  item ← before 32 (number32_at bytes)
-  Some (fault.DivideOverflow item.0, item.1)
-
-unfoldable pub budget_at : List ℕ → Option (Fault × List ℕ)
-budget_at bytes = do
-  item ← before 32 (number32_at bytes)
-  Some (fault.Budget item.0, item.1)
+  Some (form item.0, item.1)
 
 -- a fault behind its number, by its words
 
 unfoldable pub alone_fault_at : List ℕ → Option (Fault × List ℕ)
 alone_fault_at bytes =
-    or_else (after (codes "6 divide_by_zero item ") bytes) divide_by_zero_at
-    (or_else (after (codes "7 divide_overflow item ") bytes) divide_overflow_at
-    (or_else (after (codes "8 budget item ") bytes) budget_at None))
+    or_else (after (codes "6 divide_by_zero item ") bytes) (item_fault_at fault.DivideByZero)
+    (or_else (after (codes "7 divide_overflow item ") bytes) (item_fault_at fault.DivideOverflow)
+    (or_else (after (codes "8 budget item ") bytes) (item_fault_at fault.Budget) None))
 
 unfoldable pub memory_fault_at : List ℕ → Option (Fault × List ℕ)
 memory_fault_at bytes =

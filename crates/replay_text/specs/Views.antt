@@ -14,7 +14,6 @@ use Rattle.replay_text.specs.declared.told.Conflict.{Conflict}
 use Rattle.replay_text.specs.declared.told.Divergence.{Divergence}
 use Rattle.replay_text.specs.declared.told.Bounds.{Bounds}
 use Rattle.replay_text.specs.declared.told.Unset.{Unset}
-use Rattle.replay_text.specs.declared.told.Private.{Private}
 use Rattle.replay_text.specs.declared.told.Told.{Told}
 use Rattle.replay_text.specs.declared.told.Told.TheVariants as told
 use Rattle.replay_text.specs.Fields.{turns_of}

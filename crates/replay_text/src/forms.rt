@@ -4,8 +4,10 @@
 ghost use Rattle.std.specs.Prelude.{◌≡◌};
 ghost use Rattle.std.specs.Option.{option_map};
 ghost use Rattle.clmodel.specs.declared.action.Stop.{Stop};
-ghost use Rattle.replay_text.specs.Reading.{kind_of, kind_at, buffer_at, local_at, local_place_at, place_at, listed_at, turns_at, barrier_at, barrier_stop_at, stop_at, conflict_at, divergence_at, element_at, private_at, private_bounds_at, access_bounds_at, bounds_at, variable_at, private_unset_at, access_unset_at, unset_at, divide_by_zero_at, divide_overflow_at, budget_at, alone_fault_at, memory_fault_at, fault_at};
+ghost use Rattle.clmodel.specs.declared.fault.Fault.TheVariants as fault;
+ghost use Rattle.replay_text.specs.Reading.{kind_of, kind_at, buffer_at, local_at, local_place_at, place_at, listed_at, turns_at, barrier_at, barrier_stop_at, stop_at, conflict_at, divergence_at, element_at, private_fault_at, access_bounds_at, bounds_at, variable_at, access_unset_at, unset_at, alone_fault_at, memory_fault_at, fault_at};
 ghost use Rattle.replay_text.specs.Views.{location_of, stop_of, fault_of};
+ghost use Rattle.replay_text.specs.declared.told.Told.TheVariants as told;
 
 use crate::fields::{list_before, name_before, number32_before, signed_before};
 use crate::told::{Bounds, Conflict, Divergence, Halt, Place, Private, Told, Unset};
@@ -187,27 +189,20 @@ fn element_at(bytes: &[u8]) -> Option<(i64, &[u8])>
     signed_before(b' ', rest)
 }
 
-/// An array and an element of it, and the rest.
-#[tactic(auto, unfolding(crate::specs::Reading::private_at))]
-fn private_at(bytes: &[u8]) -> Option<((&[u8], i64), &[u8])>
-    ensures { option_map (λ read. ((read.0.0.now, read.0.1), read.1.now)) result ≡ private_at bytes.now }
+/// An item at an element of one of its private arrays, and the rest.
+#[tactic(auto, unfolding(crate::specs::Reading::private_fault_at))]
+fn private_at(item: u32, bytes: &[u8]) -> Option<(Private<'_>, &[u8])>
+    ensures bounds { option_map (λ read. (fault_of (told.PrivateBounds read.0), read.1.now)) result ≡ private_fault_at (fault.PrivateBounds item) bytes.now }
+    ensures unset { option_map (λ read. (fault_of (told.UnsetElement read.0), read.1.now)) result ≡ private_fault_at (fault.UnsetElement item) bytes.now }
 {
     let (array, rest) = name_before(b' ', bytes)?;
     let (element, rest) = element_at(rest)?;
-    Some(((array, element), rest))
-}
-
-#[tactic(auto, unfolding(crate::specs::Reading::private_bounds_at))]
-fn private_bounds_at(item: u32, bytes: &[u8]) -> Option<(Told<'_>, &[u8])>
-    ensures { option_map (λ read. (fault_of read.0, read.1.now)) result ≡ private_bounds_at item bytes.now }
-{
-    let ((array, element), rest) = private_at(bytes)?;
     let place = Private {
         item,
         array,
         element,
     };
-    Some((Told::PrivateBounds(place), rest))
+    Some((place, rest))
 }
 
 #[tactic(auto, unfolding(crate::specs::Reading::access_bounds_at))]
@@ -231,8 +226,9 @@ fn bounds_at(bytes: &[u8]) -> Option<(Told<'_>, &[u8])>
     ensures { option_map (λ read. (fault_of read.0, read.1.now)) result ≡ bounds_at bytes.now }
 {
     let (item, rest) = number32_before(b' ', bytes)?;
-    if let Some(array) = after(b"private ", rest) {
-        return private_bounds_at(item, array);
+    if let Some(rest) = after(b"private ", rest) {
+        let (place, rest) = private_at(item, rest)?;
+        return Some((Told::PrivateBounds(place), rest));
     }
     access_bounds_at(item, rest)
 }
@@ -243,19 +239,6 @@ fn variable_at(item: u32, bytes: &[u8]) -> Option<(Told<'_>, &[u8])>
 {
     let (variable, rest) = name_before(b' ', bytes)?;
     Some((Told::UnsetVariable { item, variable }, rest))
-}
-
-#[tactic(auto, unfolding(crate::specs::Reading::private_unset_at))]
-fn private_unset_at(item: u32, bytes: &[u8]) -> Option<(Told<'_>, &[u8])>
-    ensures { option_map (λ read. (fault_of read.0, read.1.now)) result ≡ private_unset_at item bytes.now }
-{
-    let ((array, element), rest) = private_at(bytes)?;
-    let place = Private {
-        item,
-        array,
-        element,
-    };
-    Some((Told::UnsetElement(place), rest))
 }
 
 #[tactic(auto, unfolding(crate::specs::Reading::access_unset_at))]
@@ -283,53 +266,33 @@ fn unset_at(bytes: &[u8]) -> Option<(Told<'_>, &[u8])>
     if let Some(variable) = after(b"variable ", rest) {
         return variable_at(item, variable);
     }
-    if let Some(array) = after(b"private ", rest) {
-        return private_unset_at(item, array);
+    if let Some(rest) = after(b"private ", rest) {
+        let (place, rest) = private_at(item, rest)?;
+        return Some((Told::UnsetElement(place), rest));
     }
     access_unset_at(item, rest)
 }
 
-#[tactic(auto, unfolding(crate::specs::Reading::divide_by_zero_at))]
-fn divide_by_zero_at(bytes: &[u8]) -> Option<(Told<'_>, &[u8])>
-    ensures { option_map (λ read. (fault_of read.0, read.1.now)) result ≡ divide_by_zero_at bytes.now }
-{
-    let (item, rest) = number32_before(b' ', bytes)?;
-    Some((Told::DivideByZero { item }, rest))
-}
-
-#[tactic(auto, unfolding(crate::specs::Reading::divide_overflow_at))]
-fn divide_overflow_at(bytes: &[u8]) -> Option<(Told<'_>, &[u8])>
-    ensures { option_map (λ read. (fault_of read.0, read.1.now)) result ≡ divide_overflow_at bytes.now }
-{
-    let (item, rest) = number32_before(b' ', bytes)?;
-    Some((Told::DivideOverflow { item }, rest))
-}
-
-#[tactic(auto, unfolding(crate::specs::Reading::budget_at))]
-fn budget_at(bytes: &[u8]) -> Option<(Told<'_>, &[u8])>
-    ensures { option_map (λ read. (fault_of read.0, read.1.now)) result ≡ budget_at bytes.now }
-{
-    let (item, rest) = number32_before(b' ', bytes)?;
-    Some((Told::Budget { item }, rest))
-}
-
 /// A fault that names an item alone, behind the word `fault`.
-#[tactic(auto, unfolding(crate::specs::Reading::alone_fault_at))]
+#[tactic(auto, unfolding(crate::specs::Reading::alone_fault_at, crate::specs::Reading::item_fault_at, simfile_fields::specs::Fronts::after))]
 fn alone_fault_at(bytes: &[u8]) -> Option<(Told<'_>, &[u8])>
     ensures { option_map (λ read. (fault_of read.0, read.1.now)) result ≡ alone_fault_at bytes.now }
 {
     if let Some(rest) = after(b"6 divide_by_zero item ", bytes) {
-        return divide_by_zero_at(rest);
+        let (item, rest) = number32_before(b' ', rest)?;
+        return Some((Told::DivideByZero { item }, rest));
     }
     if let Some(rest) = after(b"7 divide_overflow item ", bytes) {
-        return divide_overflow_at(rest);
+        let (item, rest) = number32_before(b' ', rest)?;
+        return Some((Told::DivideOverflow { item }, rest));
     }
     let rest = after(b"8 budget item ", bytes)?;
-    budget_at(rest)
+    let (item, rest) = number32_before(b' ', rest)?;
+    Some((Told::Budget { item }, rest))
 }
 
 /// A fault behind the word `fault`.
-#[tactic(auto, unfolding(crate::specs::Reading::memory_fault_at))]
+#[tactic(auto, unfolding(crate::specs::Reading::memory_fault_at, simfile_fields::specs::Fronts::after))]
 fn memory_fault_at(bytes: &[u8]) -> Option<(Told<'_>, &[u8])>
     ensures { option_map (λ read. (fault_of read.0, read.1.now)) result ≡ memory_fault_at bytes.now }
 {

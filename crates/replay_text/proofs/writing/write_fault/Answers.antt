@@ -4,7 +4,7 @@ use Rattle.counted_io.specs.Sink.{Wrote, Stopped, Puts}
 use Rattle.counted_io.proofs.Puts.{stopped_more, puts_then}
 use Rattle.counted_io.specs.Pieces.{joined}
 use Rattle.replay_text.specs.Text.{fault_words, fault_item, fault_details}
-use Rattle.replay_text.proofs.Grammar.{joined-append}
+use Rattle.replay_text.proofs.ReaderSteps.{joined-append}
 use Rattle.replay_text.proofs.writing.write_fault.Goals as goal
 
 pub returns-in_err-write_parts : goal.returns-in_err-write_parts
