@@ -1,22 +1,14 @@
 -- Lines of a source and bytes: what is read is the text of the field, and that text is read.
-use Rattle.std.proofs.Common.{◌≡◌, ℕ, zero, suc, ◌+◌, ◌-◌, ◌*◌, ◌/◌, ◌%◌, ℤ, pos, negsuc, map, length-take-le, ◌<◌, ◌≤◌, ◌^◌, ◌==◌, Bool, true, false, not, ◌&&◌, ◌||◌, List, [], ◌∷◌, ◌++◌, length, take, drop, get_or, slice_index, Option, None, Some, refl, ap, sym, ◌∙◌, subst, arith, rules, nat_lt, nat_le, nat_eq, if◌then◌else◌, decimal, IsTrue, append_assoc, length-append}
+use Rattle.std.proofs.Common.{◌≡◌, ℕ, suc, ◌+◌, ◌-◌, ◌*◌, ◌/◌, ◌%◌, length-take-le, ◌<◌, ◌≤◌, ◌==◌, Bool, true, false, ◌&&◌, List, [], ◌∷◌, ◌++◌, length, take, drop, Option, None, Some, refl, ap, sym, ◌∙◌, subst, arith, nat_lt, nat_le, if◌then◌else◌, IsTrue, append_assoc, length-append}
 use Rattle.std.proofs.lemmas.List.{take-append-drop}
 use Rattle.std.proofs.Math.Seq.{take-append_seam, drop-append_seam}
 use Rattle.std.proofs.lemmas.Bool.Decides.{nat_tests}
 use Rattle.std.proofs.lemmas.Bool.{eqb-true, eqb-false, ne_eqb}
-use Rattle.std.proofs.lemmas.Str.Parse.{IsNumeralModel, numerals_by_fold}
-use Rattle.std.proofs.lemmas.Fmt.{digits_decimal, digits_value-decimal, decimal-digits_value, decimal_nonempty, first_decimal, decimal_digit}
-use Rattle.std.specs.List.{list_all, onto_first, join_with_byte, All}
-use Rattle.std.specs.Fmt.{signed_decimal}
-use Rattle.std.proofs.lemmas.List.Splits.{slice_split_at, slice_split_none, slice_split-cons_yes, slice_split-cons_no, length-slice_split, join_with_byte-slice_split}
-use Rattle.std.proofs.lemmas.List.Folds.{list_all-append}
-use Rattle.std.proofs.lemmas.List.Sums.{AllPass-from_list_all}
+use Rattle.std.specs.List.{list_all}
 use Rattle.simfile_fields.proofs.FieldLemmas.{front_within}
-use Rattle.std.specs.Str.{all_ascii_digits}
-use Rattle.std.specs.Char.{is_ascii_digit}
-use lib.Pointwise.{pointwise, bytes_decides}
-use Rattle.simfile_fields.proofs.FieldLaws.{if_some, and_true, front_passes, front_of, before_is, name_to_takes, name_to_again, list_below_takes, list_below_again, list_below_back}
+use Rattle.simfile_fields.proofs.FieldLaws.{if_some, and_true, front_passes, front_of, before_is, before_again, name_to_takes, name_to_again, list_below_takes, list_below_again, list_below_back}
 use Rattle.simfile_fields.specs.Texts.{is_later, is_listed, list_text}
+use Rattle.replay_text.proofs.ReaderSteps.{Parted}
 use Rattle.simfile.specs.Fields.{is_name, IsList, numbers_of, AreBytes, hex_digit, hex, is_hex_digit, hex_value, bytes_of}
 use Rattle.simfile_fields.specs.Fronts.{before, front_length, ◌>>=◌}
 use Rattle.simfile.specs.Reading.{name_at, list_at, hex_at, lines_end, lines_at, source_at}
@@ -162,10 +154,6 @@ hex_again bytes h b rest e =
 pub hex_back : (bytes : List ℕ) → AreBytes bytes → bytes_of (hex bytes) ≡ bytes
 hex_back bytes h = (hex_made bytes h.2).2
 
-pub feed_ends_hex : is_hex_digit 10 ≡ false
-unfolding is_hex_digit
-feed_ends_hex = refl
-
 -- names and lists, as far as scripts have them
 
 pub name_takes : (bytes : List ℕ) (x : List ℕ × List ℕ) → name_at bytes ≡ Some x → (bytes ≡ x.0 ++ x.1) × IsTrue (is_name x.0)
@@ -185,11 +173,20 @@ list_back numbers h = list_below_back 18446744073709551616 (omega arith) numbers
 
 -- fields in front of a byte
 
-pub name_before : (end : ℕ) (bytes : List ℕ) (x : List ℕ × List ℕ) → before end (name_at bytes) ≡ Some x → (bytes ≡ x.0 ++ end ∷ x.1) × IsTrue (is_name x.0)
-name_before end bytes x e = name_takes bytes (x.0, end ∷ x.1) (before_is end (name_at bytes) x e)
+pub name_before : (end : ℕ) (bytes : List ℕ) (x : List ℕ × List ℕ) → before end (name_at bytes) ≡ Some x → Parted bytes (x.0 ∷ (end ∷ []) ∷ []) x.1 × IsTrue (is_name x.0)
+name_before end bytes x e = let t = name_takes bytes (x.0, end ∷ x.1) (before_is end (name_at bytes) x e) in (record { split = t.0 }, t.1)
 
-pub list_before : (end : ℕ) (bytes : List ℕ) (x : List ℕ × List ℕ) → before end (list_at bytes) ≡ Some x → (bytes ≡ list_text (numbers_of x.0) ++ end ∷ x.1) × IsList (numbers_of x.0)
-list_before end bytes x e = list_takes bytes (x.0, end ∷ x.1) (before_is end (list_at bytes) x e)
+pub name_before_again : (end : ℕ) (name : List ℕ) → IsTrue (is_name name) → (rest : List ℕ) → is_later end ≡ false → before end (name_at (name ++ end ∷ rest)) ≡ Some (name, rest)
+name_before_again end name h rest e = rw (name_again name h end rest e) (before_again name end rest)
 
-pub hex_before : (end : ℕ) (bytes : List ℕ) (x : List ℕ × List ℕ) → before end (hex_at bytes) ≡ Some x → (bytes ≡ hex (bytes_of x.0) ++ end ∷ x.1) × AreBytes (bytes_of x.0)
-hex_before end bytes x e = hex_takes bytes (x.0, end ∷ x.1) (before_is end (hex_at bytes) x e)
+pub list_before : (end : ℕ) (bytes : List ℕ) (x : List ℕ × List ℕ) → before end (list_at bytes) ≡ Some x → Parted bytes (list_text (numbers_of x.0) ∷ (end ∷ []) ∷ []) x.1 × IsList (numbers_of x.0)
+list_before end bytes x e = let t = list_takes bytes (x.0, end ∷ x.1) (before_is end (list_at bytes) x e) in (record { split = t.0 }, t.1)
+
+pub list_before_again : (end : ℕ) (numbers : List ℕ) → IsList numbers → (rest : List ℕ) → is_listed end ≡ false → before end (list_at (list_text numbers ++ end ∷ rest)) ≡ Some (list_text numbers, rest)
+list_before_again end numbers h rest e = rw (list_again numbers h end rest e) (before_again (list_text numbers) end rest)
+
+pub hex_before : (end : ℕ) (bytes : List ℕ) (x : List ℕ × List ℕ) → before end (hex_at bytes) ≡ Some x → Parted bytes (hex (bytes_of x.0) ∷ (end ∷ []) ∷ []) x.1 × AreBytes (bytes_of x.0)
+hex_before end bytes x e = let t = hex_takes bytes (x.0, end ∷ x.1) (before_is end (hex_at bytes) x e) in (record { split = t.0 }, t.1)
+
+pub hex_before_again : (end : ℕ) (bytes : List ℕ) → AreBytes bytes → (rest : List ℕ) → is_hex_digit end ≡ false → before end (hex_at (hex bytes ++ end ∷ rest)) ≡ Some (hex bytes, rest)
+hex_before_again end bytes h rest e = rw (hex_again bytes h end rest e) (before_again (hex bytes) end rest)
