@@ -1,31 +1,16 @@
--- What is kept of places once one more access is kept.
-use Rattle.std.proofs.Common.{◌≡◌, ℕ, Bool, false, nat_eq, Some, List, [], ◌∷◌, ◌++◌, sym, ap, ◌∙◌, subst, eqb-true}
-use Rattle.std.specs.HashMap.{HashMap, get, IsUnchanged, Updates}
-use Rattle.std.specs.Map.{lookup}
-use Rattle.std.specs.Prelude.{Option, Result, Ok, Err, OnOk, OnErr}
-use Rattle.std.proofs.lemmas.Option.{same_Some}
-use Rattle.shadow_list.specs.declared.log.Entry.{Entry}
-use Rattle.group_log.specs.Place.{IsFaithful}
-use Rattle.group_log.specs.declared.place.Place.{Place}
-use Rattle.group_log.proofs.Faithful.{faithful_still}
-use Rattle.clmodel.proofs.Steps.{decided}
+-- What is kept of bytes once one value is replaced or added.
+use Rattle.std.proofs.Common.{◌≡◌, ℕ, ◌<◌, List, [], ◌∷◌, ◌++◌, subst, sym, length}
+use Rattle.std.specs.Prelude.{All, slice_index_or, slice_set, Result, Ok, Err, OnOk, OnErr}
+use Rattle.std.specs.declared.alloc.AllocError.{AllocError}
+use Rattle.std.proofs.lemmas.List.Elements.{All-set, All-push, All-same, All-weaker, All-get_or}
 
-abbrev pub AreFaithful : {S : Type 0} → Bool → ℕ → List Entry → HashMap ℕ Place S → Type 0
-AreFaithful u n kept m = (key : ℕ) (p : Place) → get nat_eq m key ≡ Some p → IsFaithful u n kept p
+-- what holds of all values holds with one replaced, if each that was there gains what all are to have
+pub all_replaced : {T : Type 0} (P Q : T → Type 0) (xs : List T) (i : ℕ) (old new : T) → ((v : T) → P v → Q v) → (P old → Q new) → i < length xs → old ≡ slice_index_or xs i old → All P xs
+    → All Q (slice_set xs i new)
+all_replaced P Q xs i old new each own inside is h =
+    All-set Q xs i new (own (subst P (sym is) (All-get_or P xs i old inside h))) (All-weaker P Q each xs h)
 
-pub faithful_put :
-    {S : Type 0} (u : Bool) (n : ℕ) (kept : List Entry) (e : Entry) (m m2 : HashMap ℕ Place S) (key : ℕ) (place : Place) → AreFaithful u n kept m
-    → get nat_eq m2 key ≡ Some place → ((q : ℕ) → nat_eq key q ≡ false → get nat_eq m2 q ≡ get nat_eq m q) → IsFaithful u n (kept ++ e ∷ []) place → AreFaithful u n (kept ++ e ∷ []) m2
-faithful_put u n kept e m m2 key place f own others new q p h =
-    decided (nat_eq key q)
-    (λ t. subst (IsFaithful u n (kept ++ e ∷ [])) (same_Some place p (sym own ∙ ap (get nat_eq m2) (eqb-true key q t) ∙ h)) new)
-    (λ t. faithful_still u n kept e p (f q p (sym (others q t) ∙ h)))
-
-pub faithful_left_out : {S : Type 0} (u : Bool) (n : ℕ) (kept : List Entry) (e : Entry) (m m2 : HashMap ℕ Place S) → AreFaithful u n kept m → IsUnchanged m m2 → AreFaithful u n (kept ++ e ∷ []) m2
-faithful_left_out u n kept e m m2 f same q p h = faithful_still u n kept e p (f q p (sym (ap (λ es. lookup (nat_eq q) es) same) ∙ h))
-
-pub faithful_inserted :
-    {S E : Type 0} (u : Bool) (n : ℕ) (kept : List Entry) (e : Entry) (m m2 : HashMap ℕ Place S) (key : ℕ) (place : Place) (r : Result (Option Place) E) → AreFaithful u n kept m
-    → OnOk r (Updates nat_eq m m2 key (Some place)) → OnErr r (IsUnchanged m m2) → IsFaithful u n (kept ++ e ∷ []) place → AreFaithful u n (kept ++ e ∷ []) m2
-faithful_inserted u n kept e m m2 key place (Ok o) f done failed new = faithful_put u n kept e m m2 key place f done.1 done.2 new
-faithful_inserted u n kept e m m2 key place (Err o) f done failed new = faithful_left_out u n kept e m m2 f failed
+-- the same with one added, or with none where memory is refused
+pub all_added : {T : Type 0} (P Q : T → Type 0) (xs ys : List T) (new : T) (r : Result (Unit {0}) AllocError) → ((v : T) → P v → Q v) → Q new → OnOk r (ys ≡ xs ++ new ∷ []) → OnErr r (ys ≡ xs) → All P xs → All Q ys
+all_added P Q xs ys new (Ok o) each own done failed h = All-same Q ys (xs ++ new ∷ []) done (All-push Q xs new (All-weaker P Q each xs h) own)
+all_added P Q xs ys new (Err e) each own done failed h = All-same Q ys xs failed (All-weaker P Q each xs h)

@@ -10,8 +10,7 @@ use Rattle.clmodel.specs.declared.access.Region.{Region}
 use Rattle.clmodel.specs.declared.access.Region.TheVariants as region
 use Rattle.joining.specs.Memory.{at_byte}
 use Rattle.shadow.specs.Lasting.{AbsorbedAt, Absorbed, StandsFor, EndsWith, StandsWith}
-use Rattle.shadow.specs.Seen.{seen, seen_with, mark_of, Remembers}
-use Rattle.shadow.specs.declared.seen.Seen.{Seen}
+use Rattle.shadow.specs.Seen.{seen, seen_with, mark_of}
 use Rattle.shadow_list.specs.Log.{in_buffer, Log, logged}
 use Rattle.shadow.proofs.Absorbing.{onto}
 use Rattle.shadow.proofs.Listing.{onto_is}
@@ -143,9 +142,6 @@ local_stays earlier x h = absorbed_stays earlier x (go x.region h)
     go : (r : Region) → in_buffer r ≡ false → AbsorbedAt r earlier x
     go (region.Buffer n) e = absurd (false≢true (sym e))
     go (region.Local g n) e = tt
-
-pub local_footprint : (cells : List (ℕ → Seen)) (log : List Access) (x : Access) → in_buffer x.region ≡ false → Remembers cells log → Remembers cells (x ∷ log)
-local_footprint cells log x h keeps number byte = keeps number byte ∙ sym (local_stays log x h number byte)
 
 pub none_left_out : LeavesOut [] []
 none_left_out k x e = absurd (none_some (x, false) e)

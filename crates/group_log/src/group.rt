@@ -1,8 +1,7 @@
 //! The log of a group that is running.
 
-ghost use Rattle.std.specs.Prelude.{◌≡◌, ◌<◌, ◌-◌, ◌^◌, [], false, true};
-ghost use Rattle.shadow.specs.Lasting.{StandsWith};
-ghost use Rattle.shadow.specs.Seen.{IsFootprint};
+ghost use Rattle.std.specs.Prelude.{◌≡◌, ◌<◌, ◌-◌, ◌^◌, [], All, false, true};
+ghost use Rattle.shadow.specs.Lasting.{StandsWith, IsTold};
 ghost use Rattle.shadow_list.specs.Log.{IsPlaced, IsNoted, logged, fresh_log, in_buffer};
 ghost use Rattle.group_log.specs.Lasting.{all_of, short_of, last_of, made, LeavesOut};
 ghost use Rattle.group_log.specs.Tells.{Tells};
@@ -33,7 +32,7 @@ pub struct GroupLog {
     ghost one_launch: { local.uniform ≡ global.uniform },
     ghost local_tells: { Tells local.uniform false local.interval local.kept.items (all_of whole.items) },
     ghost global_tells: { Tells global.uniform true global.interval global.kept.items (all_of whole.items) },
-    ghost footprint: { IsFootprint lasting.footprint (made [] whole.items) },
+    ghost told: { All (IsTold (made [] whole.items)) lasting.told.values.items },
     ghost entries: { lasting.entries.items ≡ short_of whole.items },
     ghost has_last: { lasting.has_last ≡ last_of false whole.items },
     ghost left_out: { LeavesOut [] whole.items },
@@ -73,7 +72,7 @@ impl GroupLog {
         GroupLog {
             local: self.local.cleared(alloc),
             global: self.global.cleared(alloc),
-            lasting: Lasting::new(alloc),
+            lasting: self.lasting.cleared(alloc),
             whole: Whole::new(),
         }
     }
@@ -98,10 +97,11 @@ impl GroupLog {
         ensures { IsNoted (logged (all_of self.old.whole.items) self.old.local.interval self.old.global.interval self.old.global.uniform) entry (logged (all_of self.new.whole.items) self.new.local.interval self.new.global.interval self.new.global.uniform) result }
     {
         let entry = stamped(entry, self.local.interval);
-        let found = self.local.judge(&entry);
-        let needed = self.local.make_room(&entry.access)?;
+        let cell = self.local.cell(&entry.access);
+        let found = self.local.judge(cell, &entry);
+        let seat = self.local.make_room(cell, &entry.access)?;
         self.lasting.pass();
-        self.local.put(needed, entry);
+        self.local.put(seat, entry);
         self.whole = self.whole.with(&entry, &false);
         Ok(found)
     }
@@ -113,10 +113,11 @@ impl GroupLog {
         ensures { IsNoted (logged (all_of self.old.whole.items) self.old.local.interval self.old.global.interval self.old.global.uniform) entry (logged (all_of self.new.whole.items) self.new.local.interval self.new.global.interval self.new.global.uniform) result }
     {
         let entry = stamped(entry, self.global.interval);
-        let found = self.global.judge(&entry);
-        let needed = self.global.make_room(&entry.access)?;
-        let lasts = self.lasting.note(&entry)?;
-        self.global.put(needed, entry);
+        let cell = self.global.cell(&entry.access);
+        let found = self.global.judge(cell, &entry);
+        let seat = self.global.make_room(cell, &entry.access)?;
+        let lasts = self.lasting.note(seat.slot, &entry)?;
+        self.global.put(seat, entry);
         self.whole = self.whole.with(&entry, &lasts);
         Ok(found)
     }

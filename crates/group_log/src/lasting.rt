@@ -1,61 +1,124 @@
 //! The accesses of a group that are kept for other groups.
 
-ghost use Rattle.std.specs.Prelude.{◌≡◌, ◌<◌, ◌++◌, ◌∷◌, [], All, List, IfOk, OnErr, false, vec_len, vec_capacity, if◌then◌else◌};
-ghost use Rattle.shadow.specs.Seen.{IsFootprint};
+ghost use Rattle.std.specs.Prelude.{◌≡◌, ◌<◌, ◌++◌, ◌∷◌, [], ◌+◌, ◌^◌, All, List, IsTrue, IfOk, OnErr, false, if◌then◌else◌};
+ghost use Rattle.clmodel.specs.Cells.{byte_count};
 ghost use Rattle.clmodel.specs.declared.access.Access.{Access as TheAccess};
+ghost use Rattle.shadow.specs.Lasting.{Absorbed, IsTold};
 ghost use Rattle.shadow_list.specs.Log.{IsPlaced};
 ghost use Rattle.group_log.specs.Lasting.{Stays};
 
-use shadow::{Footprint, LastingList};
+use crate::chains::{Chains, OfBytes};
+use clmodel::access::Access;
+use shadow::{LastingList, Told};
 use shadow_list::Entry;
 use std::alloc::{AllocError, Global};
 
-/// The accesses to buffers that tell other groups something that none before tells: at most two for each byte.
+impl OfBytes for Told {
+    fn is_of(&self, x: &Access) -> bool {
+        self.is_as_wide(x)
+    }
+}
+
+/// The accesses to buffers that tell other groups something that none before, of those that begin at the same byte and are as wide, tells: at
+/// most two for each byte of these.
 #[derive(Drop)]
 pub(crate) struct Lasting {
-    pub(crate) alloc: Global,
-    pub(crate) footprint: Footprint,
     pub(crate) entries: Vec<Entry>,
+    /// What they tell of the same bytes, by the slot of the first one.
+    pub(crate) told: Chains<Told>,
     /// Whether the newest access of the group is one of them.
     pub(crate) has_last: bool,
     ghost placed: { All IsPlaced entries.items },
 }
 
+/// Keeps of an access what it tells other groups.
+fn keep_told(told: &mut Chains<Told>, slot: usize, x: &Access)
+    requires { x.now.first + byte_count x.now.width < 2 ^ 64 }
+    ensures { (log : List TheAccess) → All (IsTold log) told.old.values.items → All (IsTold (x.now ∷ log)) told.new.values.items }
+{
+    match told.find(slot, x) {
+        Some(i) => told.values[i] = told.values[i].with(x),
+        None => {
+            // Where memory is refused here, a later access that tells the same is kept too.
+            let _ = told.add(slot, Told::of(x));
+        }
+    }
+}
+
 impl Lasting {
     /// No accesses. It takes no memory.
     pub(crate) fn new(alloc: Global) -> Self
-        ensures footprint { IsFootprint result.footprint [] }
+        ensures told { result.told.values.items ≡ [] }
         ensures entries { result.entries.items ≡ [] }
         ensures has_last { result.has_last ≡ false }
     {
         Lasting {
-            alloc,
-            footprint: Footprint::new(alloc),
             entries: Vec::new(alloc),
+            told: Chains::new(alloc),
             has_last: false,
         }
     }
 
-    /// Keeps an access where it tells something new, and answers whether it does. Where memory is refused the accesses stay.
-    pub(crate) fn note(&mut self, entry: &Entry) -> Result<bool, AllocError>
+    /// Forgets all accesses, and keeps the memory.
+    fn clear(&mut self)
+        ensures told { self.new.told.values.items ≡ [] }
+        ensures entries { self.new.entries.items ≡ [] }
+        ensures has_last { self.new.has_last ≡ false }
+    {
+        self.entries.clear();
+        self.told.clear();
+        self.has_last = false;
+    }
+
+    /// No accesses, in the memory of these. The memory is given back where less than an eighth of it was in use.
+    pub(crate) fn cleared(self, alloc: Global) -> Self
+        ensures told { result.told.values.items ≡ [] }
+        ensures entries { result.entries.items ≡ [] }
+        ensures has_last { result.has_last ≡ false }
+    {
+        if self.entries.len() < self.entries.capacity() / 8 {
+            return Lasting::new(alloc);
+        }
+        let mut lasting = self;
+        lasting.clear();
+        lasting
+    }
+
+    /// Whether an access is seen to tell other groups nothing new, by the slot of its first byte.
+    fn has(&self, slot: usize, x: &Access) -> bool
+        requires { x.now.first + byte_count x.now.width < 2 ^ 64 }
+        ensures { IsTrue result → (log : List TheAccess) → All (IsTold log) self.now.told.values.items → Absorbed log x.now }
+    {
+        match self.told.find(slot, x) {
+            None => false,
+            Some(i) => self.told.values[i].has(x),
+        }
+    }
+
+    /// Keeps an access where it may tell something new, and answers whether it is kept. Where memory is refused the accesses stay.
+    pub(crate) fn note(&mut self, slot: usize, entry: &Entry) -> Result<bool, AllocError>
         requires { IsPlaced entry.now }
-        ensures footprint { IfOk result (λ news. (log : List TheAccess) → IsFootprint self.old.footprint log → IsFootprint self.new.footprint (entry.now.access ∷ log)) }
+        ensures told { IfOk result (λ news. (log : List TheAccess) → All (IsTold log) self.old.told.values.items → All (IsTold (entry.now.access ∷ log)) self.new.told.values.items) }
         ensures entries { IfOk result (λ news. self.new.entries.items ≡ (if news then self.old.entries.items ++ entry.now ∷ [] else self.old.entries.items)) }
         ensures has_last { IfOk result (λ news. self.new.has_last ≡ news) }
-        ensures left_out { IfOk result (λ news. news ≡ false → (log : List TheAccess) → IsFootprint self.old.footprint log → Stays log entry.now.access) }
-        ensures footprint_stays { OnErr result ((log : List TheAccess) → IsFootprint self.old.footprint log → IsFootprint self.new.footprint log) }
+        ensures left_out { IfOk result (λ news. news ≡ false → (log : List TheAccess) → All (IsTold log) self.old.told.values.items → Stays log entry.now.access) }
+        ensures told_stays { OnErr result (self.new.told ≡ self.old.told) }
         ensures entries_stay { OnErr result (self.new.entries.items ≡ self.old.entries.items) }
         ensures last_stays { OnErr result (self.new.has_last ≡ self.old.has_last) }
     {
-        self.entries.reserve(1)?;
-        let news = self.footprint.add(self.alloc, &entry.access)?;
-        self.put(news, *entry);
-        Ok(news)
+        if self.has(slot, &entry.access) {
+            self.has_last = false;
+            return Ok(false);
+        }
+        self.entries.push(*entry)?;
+        keep_told(&mut self.told, slot, &entry.access);
+        self.has_last = true;
+        Ok(true)
     }
 
     /// Passes over an access of local memory, of which other groups know nothing.
     pub(crate) fn pass(&mut self)
-        ensures footprint { self.new.footprint ≡ self.old.footprint }
+        ensures told { self.new.told ≡ self.old.told }
         ensures entries { self.new.entries.items ≡ self.old.entries.items }
         ensures has_last { self.new.has_last ≡ false }
     {
@@ -68,20 +131,5 @@ impl Lasting {
         ensures has_last { result.has_last ≡ self.has_last }
     {
         LastingList::from_entries(self.entries, self.has_last)
-    }
-
-    /// Keeps an access for which there is room, where it tells something new.
-    fn put(&mut self, news: bool, entry: Entry)
-        requires placed { IsPlaced entry }
-        requires room { vec_len self.old.entries < vec_capacity self.old.entries }
-        ensures footprint { self.new.footprint ≡ self.old.footprint }
-        ensures entries { self.new.entries.items ≡ (if news then self.old.entries.items ++ entry ∷ [] else self.old.entries.items) }
-        ensures has_last { self.new.has_last ≡ news }
-        ensures capacity { self.new.alloc ≡ self.old.alloc }
-    {
-        self.has_last = news;
-        if news {
-            self.entries.push_reserved(entry);
-        }
     }
 }

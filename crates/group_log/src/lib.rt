@@ -2,6 +2,7 @@
 //! touched, however many accesses there are.
 #![tactic(auto)]
 
+mod chains;
 mod group;
 mod lasting;
 mod place;

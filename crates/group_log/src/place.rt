@@ -1,11 +1,12 @@
 //! What is kept of the accesses to one place.
 
-ghost use Rattle.std.specs.Prelude.{◌≡◌, ◌⊎◌, ◌<◌, ◌+◌, ◌^◌, ◌++◌, ◌∷◌, [], ℕ, true, Bool, List, IsTrue, slice_index_or, false, Some};
+ghost use Rattle.std.specs.Prelude.{◌≡◌, ◌⊎◌, ◌<◌, ◌+◌, ◌^◌, ◌++◌, ◌∷◌, [], ℕ, true, Bool, List, IsTrue, slice_index_or, false};
 ghost use Rattle.clmodel.specs.Cells.{byte_count};
 ghost use Rattle.clmodel.specs.Launch.{left_at};
 ghost use Rattle.group_log.specs.Covers.{Covers};
 ghost use Rattle.shadow_list.specs.declared.log.Entry.{Entry as TheEntry};
 
+use crate::chains::OfBytes;
 use clmodel::access::Access;
 use shadow_list::left_at;
 
@@ -18,6 +19,12 @@ pub(crate) struct Place {
     pub(crate) other: u32,
     /// At which of its bytes the first one's item left another byte later.
     pub(crate) differs: [bool; 8],
+}
+
+impl OfBytes for Place {
+    fn is_of(&self, x: &Access) -> bool {
+        self.first.width == x.width && self.first.kind == x.kind
+    }
 }
 
 /// Whether two accesses are the same but for the item and the value.
@@ -112,16 +119,5 @@ impl Place {
             };
         }
         self
-    }
-
-    /// What is kept of a place once an access of the running interval is kept, if something was.
-    pub(crate) fn after(old: Option<Place>, x: &Access) -> Self
-        requires { x.now.first + byte_count x.now.width < 2 ^ 64 }
-        ensures { (uniform : Bool) (kept : List TheEntry) (e : TheEntry) → e.access ≡ x.now → ((p : ThePlace) → old ≡ Some p → IsFaithful uniform x.now.interval kept p) → IsFaithful uniform x.now.interval (kept ++ e ∷ []) result }
-    {
-        match old {
-            None => Place::of(x),
-            Some(place) => place.with(x),
-        }
     }
 }

@@ -1,21 +1,20 @@
 //! The accesses of the running interval of one address space.
 
-ghost use Rattle.std.specs.Prelude.{◌≡◌, ◌+◌, ◌-◌, ◌<◌, ◌^◌, ◌++◌, ◌∷◌, [], ℕ, Bool, List, Some, nat_eq, All, IsTrue, IfOk};
+ghost use Rattle.std.specs.Prelude.{◌≡◌, ◌+◌, ◌-◌, ◌<◌, ◌^◌, ◌++◌, ◌∷◌, [], Bool, List, nat_eq, All, IsTrue, IfOk};
 ghost use Rattle.std.specs.HashMap.{get};
 ghost use Rattle.clmodel.specs.Cells.{byte_count};
 ghost use Rattle.clmodel.specs.Launch.{within_group};
-ghost use Rattle.shadow_list.specs.Cells.{IsMarked};
+ghost use Rattle.shadow_list.specs.Cells.{IsMarked, cell_key};
 ghost use Rattle.shadow_list.specs.Log.{IsPlaced, hit};
 ghost use Rattle.shadow_list.specs.declared.log.Entry.{Entry as TheEntry};
 ghost use Rattle.group_log.specs.Covers.{Covers};
 ghost use Rattle.group_log.specs.Place.{IsFaithful};
-ghost use Rattle.group_log.specs.declared.place.Place.{Place as ThePlace};
 
+use crate::chains::Chains;
 use crate::place::Place;
 use clmodel::access::{Access, Rule};
-use shadow_list::{Cells, Entry, Hit, hit, kind_number, object};
+use shadow_list::{Cells, Entry, Hit, hit};
 use std::alloc::{AllocError, Global};
-use std::collections::HashMap;
 
 /// What is kept of the accesses of the running interval of local or of global memory: those that tell a conflict that none before tells.
 /// There are ten at most for each first byte, width and kind of operation.
@@ -27,18 +26,39 @@ pub(crate) struct Side {
     pub(crate) kept: Vec<Entry>,
     /// What is kept of each byte, by which most accesses are found to have no conflict.
     pub(crate) cells: Cells,
-    /// What is kept of each place, by the key of its accesses.
-    pub(crate) places: HashMap<u64, Place>,
+    /// What is kept of each place, by the slot of its first byte in `cells`.
+    pub(crate) places: Chains<Place>,
     ghost placed: { All IsPlaced kept.items },
     ghost marked: { All (λ (y : TheEntry). IsMarked cells y.access) kept.items },
-    ghost faithful: { (key : ℕ) (p : ThePlace) → get nat_eq places key ≡ Some p → IsFaithful uniform interval kept.items p },
+    ghost faithful: { All (IsFaithful uniform interval kept.items) places.values.items },
 }
 
-/// The key of an access's place. Two places have two keys as long as buffers have at most 2^40 bytes, and a launch has at most 2^15 buffers
-/// and 2^15 local objects.
-fn place_key(x: &Access) -> u64 {
-    let kind = kind_number(x.kind) as u64 * 16 + x.width.bytes();
-    x.first % 1099511627776 * 16777216 + object(x.region) * 256 + kind
+/// Where what is kept of the first byte of an access stands, by where the cell of that byte starts.
+fn slot_in(cell: usize, x: &Access) -> usize {
+    cell.wrapping_add((x.first % 8) as usize)
+}
+
+/// What is known of an access before it is kept.
+#[derive(Clone, Copy)]
+pub(crate) struct Seat {
+    /// Where what is kept of its first byte stands.
+    pub(crate) slot: usize,
+    /// Whether it is to be kept.
+    pub(crate) needed: bool,
+}
+
+/// Keeps in the places of accesses what a kept one tells of later ones.
+fn keep_place(places: &mut Chains<Place>, slot: usize, x: &Access)
+    requires { x.now.first + byte_count x.now.width < 2 ^ 64 }
+    ensures { (uniform : Bool) (kept : List TheEntry) (e : TheEntry) → e.access ≡ x.now → All (IsFaithful uniform x.now.interval kept) places.old.values.items → All (IsFaithful uniform x.now.interval (kept ++ e ∷ [])) places.new.values.items }
+{
+    match places.find(slot, x) {
+        Some(i) => places.values[i] = places.values[i].with(x),
+        None => {
+            // Where memory is refused here, a later equal access is kept once more.
+            let _ = places.add(slot, Place::of(x));
+        }
+    }
 }
 
 impl Side {
@@ -56,7 +76,7 @@ impl Side {
             interval: 0,
             kept: Vec::new(alloc),
             cells: Cells::new(alloc),
-            places: HashMap::new(alloc),
+            places: Chains::new(alloc),
         }
     }
 
@@ -78,7 +98,7 @@ impl Side {
         ensures interval { result.interval ≡ 0 }
         ensures uniform { result.uniform ≡ self.uniform }
     {
-        if self.places.len() < self.places.capacity() / 8 {
+        if self.places.values.len() < self.places.values.capacity() / 8 {
             return Side::new(alloc, self.uniform);
         }
         let mut side = self;
@@ -97,12 +117,20 @@ impl Side {
         self.interval += 1;
     }
 
-    /// The conflict of an access with those that are kept. Only where there may be one are all of them walked.
-    pub(crate) fn judge(&self, x: &Entry) -> Option<Hit>
-        requires { IsPlaced x.now }
+    /// Where the cell of an access's first byte starts, if it is there.
+    pub(crate) fn cell(&self, x: &Access) -> Option<usize>
+        ensures { result ≡ get nat_eq self.now.cells.starts (cell_key x.now.region x.now.first) }
+    {
+        self.cells.found(x.region, x.first)
+    }
+
+    /// The conflict of an access with those that are kept, by where the cell of its first byte starts. Only where there may be one are all of
+    /// them walked.
+    pub(crate) fn judge(&self, cell: Option<usize>, x: &Entry) -> Option<Hit>
+        requires placed { IsPlaced x.now }
+        requires found { cell ≡ get nat_eq self.now.cells.starts (cell_key x.now.access.region x.now.access.first) }
         ensures { result ≡ hit (within_group self.now.uniform) x.now self.now.kept.items }
     {
-        let cell = self.cells.found(x.access.region, x.access.first);
         if self.cells.is_clear(cell, self.uniform, &x.access) {
             None
         } else {
@@ -110,57 +138,58 @@ impl Side {
         }
     }
 
-    /// What is kept of the place of a key, if something is.
-    fn found(&self, key: u64) -> Option<Place>
-        ensures { result ≡ get nat_eq self.now.places key }
-    {
-        self.places.get(&key).copied()
-    }
-
-    /// Whether whatever conflicts with an access of the running interval conflicts with a kept one as well.
-    pub(crate) fn covers(&self, x: &Access) -> bool
+    /// Whether whatever conflicts with an access of the running interval conflicts with a kept one as well, by the slot of its first byte.
+    fn covers(&self, slot: usize, x: &Access) -> bool
         requires placed { x.now.first + byte_count x.now.width < 2 ^ 64 }
         requires interval { x.now.interval ≡ self.now.interval }
         ensures { IsTrue result → Covers self.now.uniform self.now.kept.items x.now }
     {
-        match self.places.get(&place_key(x)) {
+        match self.places.find(slot, x) {
             None => false,
-            Some(place) => place.covers(x),
+            Some(i) => self.places.values[i].covers(x),
         }
     }
 
-    /// Whether an access of the running interval is to be kept, with room for it where it is. Where memory is refused the accesses stay.
-    pub(crate) fn make_room(&mut self, x: &Access) -> Result<bool, AllocError>
+    /// Whether an access of the running interval is to be kept, with room for it where it is, by where the cell of its first byte starts. Where
+    /// memory is refused the accesses stay.
+    pub(crate) fn make_room(&mut self, cell: Option<usize>, x: &Access) -> Result<Seat, AllocError>
         requires placed { x.now.first + byte_count x.now.width < 2 ^ 64 }
         requires interval { x.now.interval ≡ self.old.interval }
+        requires found { cell ≡ get nat_eq self.old.cells.starts (cell_key x.now.region x.now.first) }
         ensures kept { self.new.kept.items ≡ self.old.kept.items }
         ensures interval { self.new.interval ≡ self.old.interval }
         ensures uniform { self.new.uniform ≡ self.old.uniform }
-        ensures there { IfOk result (λ needed. IsReady needed self.new x.now) }
+        ensures there { IfOk result (λ seat. IsReady seat.needed self.new x.now) }
     {
-        if self.covers(x) {
-            return Ok(false);
+        if let Some(start) = cell {
+            let slot = slot_in(start, x);
+            if self.covers(slot, x) {
+                return Ok(Seat {
+                    slot,
+                    needed: false,
+                });
+            }
         }
-        let cell = self.cells.found(x.region, x.first);
         self.cells.mark(cell, x)?;
         self.kept.reserve(1)?;
-        Ok(true)
+        let start = cell.or_else(|| self.cells.found(x.region, x.first));
+        Ok(Seat {
+            slot: slot_in(start.unwrap_or(0), x),
+            needed: true,
+        })
     }
 
     /// Keeps an access of the running interval for which there is room, where it is to be kept.
-    pub(crate) fn put(&mut self, needed: bool, entry: Entry)
+    pub(crate) fn put(&mut self, seat: Seat, entry: Entry)
         requires placed { IsPlaced entry }
         requires interval { entry.access.interval ≡ self.old.interval }
-        requires there { IsReady needed self.old entry.access }
+        requires there { IsReady seat.needed self.old entry.access }
         ensures kept { IsTaken self.old.uniform self.old.kept.items entry self.new.kept.items }
         ensures interval { self.new.interval ≡ self.old.interval }
         ensures uniform { self.new.uniform ≡ self.old.uniform }
     {
-        if needed {
-            let key = place_key(&entry.access);
-            let place = Place::after(self.found(key), &entry.access);
-            // Where memory is refused here, a later equal access is kept once more.
-            let _ = self.places.insert(key, place);
+        if seat.needed {
+            keep_place(&mut self.places, seat.slot, &entry.access);
             self.kept.push_reserved(entry);
         }
     }

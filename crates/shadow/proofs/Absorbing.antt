@@ -36,7 +36,7 @@ sort_parts a b e =
     let p = and_parts (kind_number a.kind == kind_number b.kind) (a.left == b.left) e in
     (eqb-true (kind_number a.kind) (kind_number b.kind) p.0, eqb-true a.left b.left p.1)
 
-sort_self : (a : Mark) → one_sort a a ≡ true
+pub sort_self : (a : Mark) → one_sort a a ≡ true
 sort_self a = sort_from a a refl refl
 
 -- two of one sort with a third
@@ -57,6 +57,12 @@ sort_taken a m h = go (one_sort a m) h
     go true e = refl
     go false e = absurd (cc)
 
+-- a byte that takes a mark takes those of its sort
+pub takes_like : (s : Seen) (a m : Mark) → one_sort a m ≡ true → Takes s a → Takes s m
+takes_like Untouched a m e h = absurd (cc)
+takes_like (Touched z) a m e h = takes_sort z m (sort_chain a z m (sort_back z a (sort_taken z a h)) e)
+takes_like (Mixed z w) a m e h = refl
+
 -- what is new to a byte changes what is kept of it
 pub new_changes : (s : Seen) (m : Mark) → is_new s m ≡ true → Takes s m → ⊥
 new_changes Untouched m h t = cc
@@ -64,7 +70,7 @@ new_changes (Touched a) m h t = false≢true (sym (ap not (sort_taken a m t)) �
 new_changes (Mixed a b) m h t = false≢true h
 
 -- what a byte takes it takes with one mark more
-takes_more : (s : Seen) (e m : Mark) → Takes s m → Takes (seen_with s e) m
+pub takes_more : (s : Seen) (e m : Mark) → Takes s m → Takes (seen_with s e) m
 takes_more Untouched e m h = absurd (cc)
 takes_more (Touched a) e m h = go (one_sort a e)
   where
@@ -74,7 +80,7 @@ takes_more (Touched a) e m h = go (one_sort a e)
 takes_more (Mixed a b) e m h = refl
 
 -- a byte that is marked takes the marks of that sort
-takes_marked : (s : Seen) (e m : Mark) → one_sort e m ≡ true → Takes (seen_with s e) m
+pub takes_marked : (s : Seen) (e m : Mark) → one_sort e m ≡ true → Takes (seen_with s e) m
 takes_marked Untouched e m h = takes_sort e m h
 takes_marked (Touched a) e m h = go (one_sort a e) refl
   where
@@ -84,7 +90,7 @@ takes_marked (Touched a) e m h = go (one_sort a e) refl
 takes_marked (Mixed a b) e m h = refl
 
 -- a byte that takes one sort takes all with a mark of another
-takes_apart : (s : Seen) (a e m : Mark) → Takes s a → one_sort a e ≡ false → Takes (seen_with s e) m
+pub takes_apart : (s : Seen) (a e m : Mark) → Takes s a → one_sort a e ≡ false → Takes (seen_with s e) m
 takes_apart Untouched a e m h apart = absurd (cc)
 takes_apart (Touched z) a e m h apart = go (one_sort z e) refl
   where
@@ -106,7 +112,7 @@ takes_with (Mixed a b) t e m more h = takes_more t e m (more m refl)
 -- ---- accesses that tell nothing new
 
 -- an access is of the buffer at whose byte it is
-here_at : (n byte : ℕ) (x : Access) → at_byte (region.Buffer n) byte x ≡ true → x.region ≡ region.Buffer n
+pub here_at : (n byte : ℕ) (x : Access) → at_byte (region.Buffer n) byte x ≡ true → x.region ≡ region.Buffer n
 here_at n byte x h =
     sym (same_region-true (region.Buffer n) x.region (and_parts (same_region (region.Buffer n) x.region) (covers x.first (byte_count x.width) byte) h).0)
 

@@ -3,3 +3,4 @@ pub mod Meetings
 pub mod Absorbing
 pub mod Missing
 pub mod Listing
+pub mod Telling

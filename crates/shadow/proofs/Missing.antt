@@ -6,7 +6,6 @@ use Rattle.clmodel.specs.Cells.{byte_count, covers}
 use Rattle.clmodel.specs.Launch.{same_region, clash}
 use Rattle.clmodel.specs.Run.{or_else}
 use Rattle.clmodel.specs.declared.access.Access.{Access}
-use Rattle.clmodel.specs.declared.access.AccessKind.TheVariants as kind
 use Rattle.clmodel.specs.declared.access.Clash.{Clash}
 use Rattle.clmodel.specs.declared.access.Region.{Region}
 use Rattle.clmodel.specs.declared.access.Region.TheVariants as region

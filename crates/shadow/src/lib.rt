@@ -6,7 +6,9 @@ mod footprint;
 mod group_accesses;
 mod pages;
 mod seen;
+mod told;
 
 pub use footprint::Footprint;
 pub use group_accesses::{GroupAccesses, LastingList};
 pub use seen::{Mark, Meeting};
+pub use told::Told;

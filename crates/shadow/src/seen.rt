@@ -68,7 +68,7 @@ pub(crate) fn mark_of(x: &Access, byte: u64) -> Mark
 }
 
 /// Whether two accesses to a byte are of one sort.
-fn one_sort(a: Mark, b: Mark) -> bool
+pub(crate) fn one_sort(a: Mark, b: Mark) -> bool
     ensures { result ≡ one_sort a b }
 {
     kind_number(a.kind) == kind_number(b.kind) && a.left == b.left

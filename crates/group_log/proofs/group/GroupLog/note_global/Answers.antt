@@ -2,7 +2,8 @@ use Rattle.std.proofs.Common.{◌≡◌, true, false, [], ◌∷◌, ◌++◌, i
 use Rattle.std.proofs.lemmas.Bool.{false≢true}
 use Rattle.shadow_list.specs.Log.{stamped, in_buffer, IsKept}
 use Rattle.shadow_list.specs.declared.log.Entry.{Entry}
-use Rattle.shadow.specs.Seen.{IsFootprint}
+use Rattle.std.specs.Prelude.{All}
+use Rattle.shadow.specs.Lasting.{IsTold}
 use Rattle.group_log.specs.Lasting.{all_of, short_of, last_of, made, LeavesOut}
 use Rattle.group_log.specs.declared.group.GroupLog.{GroupLog}
 use Rattle.group_log.proofs.Shortened.{made_more, short_more, last_more, all_more, left_out_more, log_of}
@@ -21,10 +22,10 @@ invariant_of-self-2 c =
       global_tells = noted_tells l.global.uniform true l.global.interval l.global.kept.items (all_of l.whole.items) x c.make_room.new.self.uniform c.put.new.self.uniform c.make_room.new.self.interval c.put.new.self.interval
           c.make_room.new.self.kept.items c.put.new.self.kept.items (all_of c.with-self.result.items) l.global_tells (ap (λ (z : Entry). z.access.interval) c.stamped-entry.ensures)
           c.make_room.ensures.uniform c.make_room.ensures.interval c.make_room.ensures.kept c.put.ensures.uniform c.put.ensures.interval c.put.ensures.kept kept;
-      footprint = subst (IsFootprint c.note.new.self.footprint) (sym (ap (made []) c.with-self.ensures ∙ made_more [] l.whole.items (x, c.in_ok-lasts.lasts))) (c.in_ok-lasts.ensures.footprint (made [] l.whole.items) l.footprint);
+      told = subst (λ log. All (IsTold log) c.note.new.self.told.values.items) (sym (ap (made []) c.with-self.ensures ∙ made_more [] l.whole.items (x, c.in_ok-lasts.lasts))) (c.in_ok-lasts.ensures.told (made [] l.whole.items) l.told);
       entries = c.in_ok-lasts.ensures.entries ∙ ap (λ z. if c.in_ok-lasts.lasts then z ++ x ∷ [] else z) l.entries ∙ sym (ap short_of c.with-self.ensures ∙ short_more l.whole.items x c.in_ok-lasts.lasts);
       has_last = c.in_ok-lasts.ensures.has_last ∙ sym (ap (last_of false) c.with-self.ensures ∙ last_more false l.whole.items x c.in_ok-lasts.lasts);
-      left_out = subst (LeavesOut []) (sym c.with-self.ensures) (left_out_more [] l.whole.items x c.in_ok-lasts.lasts l.left_out (λ f. c.in_ok-lasts.ensures.left_out f (made [] l.whole.items) l.footprint));
+      left_out = subst (LeavesOut []) (sym c.with-self.ensures) (left_out_more [] l.whole.items x c.in_ok-lasts.lasts l.left_out (λ f. c.in_ok-lasts.ensures.left_out f (made [] l.whole.items) l.told));
     }
 
 pub returns : goal.returns

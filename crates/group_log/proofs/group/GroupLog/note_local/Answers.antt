@@ -3,10 +3,14 @@ use Rattle.std.proofs.lemmas.Bool.{false≢true}
 use Rattle.clmodel.specs.Launch.{within_group}
 use Rattle.shadow_list.specs.Log.{stamped, in_buffer, hit, IsKept}
 use Rattle.shadow_list.specs.declared.log.Entry.{Entry}
-use Rattle.shadow.specs.Seen.{IsFootprint, buffer_cells}
+use Rattle.std.specs.Prelude.{All}
+use Rattle.shadow.specs.Lasting.{IsTold}
+use Rattle.shadow.specs.declared.told.Told.{Told}
+use Rattle.shadow.proofs.Telling.{told_more}
+use Rattle.std.proofs.lemmas.List.Elements.{All-weaker}
 use Rattle.group_log.specs.Lasting.{all_of, short_of, last_of, made, LeavesOut}
 use Rattle.group_log.specs.declared.group.GroupLog.{GroupLog}
-use Rattle.group_log.proofs.Shortened.{made_more, short_more, last_more, all_more, left_out_more, local_stays, local_footprint, log_of}
+use Rattle.group_log.proofs.Shortened.{made_more, short_more, last_more, all_more, left_out_more, local_stays, log_of}
 use Rattle.group_log.proofs.Telling.{stamped_local, told, noted_tells, other_tells}
 use Rattle.group_log.proofs.group.GroupLog.note_local.Goals as goal
 
@@ -22,8 +26,9 @@ invariant_of-self-2 c =
           c.make_room.new.self.kept.items c.put.new.self.kept.items (all_of c.with-self.result.items) l.local_tells (ap (λ (z : Entry). z.access.interval) c.stamped-entry.ensures)
           c.make_room.ensures.uniform c.make_room.ensures.interval c.make_room.ensures.kept c.put.ensures.uniform c.put.ensures.interval c.put.ensures.kept kept;
       global_tells = other_tells l.global.uniform true l.global.interval l.global.kept.items (all_of l.whole.items) (all_of c.with-self.result.items) x l.global_tells (λ e. false≢true (sym space ∙ e)) kept;
-      footprint = subst (IsFootprint c.pass.new.self.footprint) (sym (ap (made []) c.with-self.ensures ∙ made_more [] l.whole.items (x, false)))
-          (subst (λ f. IsFootprint f (x.access ∷ made [] l.whole.items)) (sym c.pass.ensures.footprint) (local_footprint (buffer_cells l.lasting.footprint.buffers.items) (made [] l.whole.items) x.access space l.footprint));
+      told = subst (λ log. All (IsTold log) c.pass.new.self.told.values.items) (sym (ap (made []) c.with-self.ensures ∙ made_more [] l.whole.items (x, false)))
+          (subst (λ t. All (IsTold (x.access ∷ made [] l.whole.items)) t.values.items) (sym c.pass.ensures.told)
+          (All-weaker (IsTold (made [] l.whole.items)) (IsTold (x.access ∷ made [] l.whole.items)) (told_more (made [] l.whole.items) x.access) l.lasting.told.values.items l.told));
       entries = c.pass.ensures.entries ∙ l.entries ∙ sym (ap short_of c.with-self.ensures ∙ short_more l.whole.items x false);
       has_last = c.pass.ensures.has_last ∙ sym (ap (last_of false) c.with-self.ensures ∙ last_more false l.whole.items x false);
       left_out = subst (LeavesOut []) (sym c.with-self.ensures) (left_out_more [] l.whole.items x false l.left_out (λ f. local_stays (made [] l.whole.items) x.access space));
