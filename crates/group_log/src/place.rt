@@ -61,6 +61,9 @@ impl Place {
         requires { x.now.first + byte_count x.now.width < 2 ^ 64 }
         ensures { IsTrue result → (k : ℕ) → k < byte_count x.now.width → (slice_index_or self.now.differs k false ≡ true) ⊎ (left_at x.now (x.now.first + k) ≡ left_at self.now.first (x.now.first + k)) }
     {
+        if x.value == self.first.value && x.first == self.first.first {
+            return true;
+        }
         for k in 0..x.width.bytes() {
             let byte = x.first + k;
             if !self.differs[k as usize] && left_at(x, byte) != left_at(&self.first, byte) {

@@ -3,19 +3,21 @@ use Rattle.std.proofs.Common.{◌≡◌, ◌⊎◌, ℕ, ◌+◌, ◌-◌, ◌<�
 use Rattle.std.specs.Prelude.{slice_index_or, slice_set}
 use Rattle.std.proofs.lemmas.List.{get_or-set_other}
 use Rattle.std.proofs.lemmas.Bool.{and_parts, and_from, cases_eq, false≢true}
-use Rattle.clmodel.specs.Cells.{byte_count, covers}
-use Rattle.clmodel.specs.Launch.{same_region}
+use Rattle.clmodel.specs.Cells.{byte_count, byte_of, covers}
+use Rattle.clmodel.specs.Launch.{same_region, left_at}
 use Rattle.clmodel.specs.declared.access.Access.{Access}
 use Rattle.clmodel.specs.declared.access.Region.{Region}
 use Rattle.clmodel.specs.declared.access.Region.TheVariants as region
 use Rattle.clmodel.proofs.CellLaws.{covers_parts, covers_from}
 use Rattle.clmodel.proofs.Swaps.{same_region_self}
 use Rattle.joining.specs.Memory.{at_byte}
-use Rattle.shadow.specs.Seen.{one_sort, seen_with, mark_of, seen}
+use Rattle.shadow.specs.Seen.{left_by, one_sort, seen_with, mark_of, seen}
 use Rattle.shadow.specs.Lasting.{AbsorbedAt, Absorbed, IsTold}
 use Rattle.shadow.specs.declared.seen.Mark.{Mark}
 use Rattle.shadow.specs.declared.seen.Seen.{Seen}
 use Rattle.shadow.specs.declared.told.Told.{Told}
+use Rattle.shadow_list.specs.Kinds.{kind_number}
+use Rattle.shadow.proofs.Meetings.{sort_from}
 use Rattle.shadow.proofs.Absorbing.{Takes, takes_more, takes_marked, takes_apart, sort_self, takes_like, here_at}
 
 -- ---- what a byte takes with one access more
@@ -73,6 +75,12 @@ same_at x y r byte s h =
     and_from (same_region r y.region) (covers y.first (byte_count y.width) byte)
     (subst (λ z. same_region r z ≡ true) s.0 p.0)
     (subst (λ w. covers y.first (byte_count w) byte ≡ true) s.2 (subst (λ f. covers f (byte_count x.width) byte ≡ true) s.1 p.1))
+
+-- accesses of one kind and value that begin at one byte are of one sort at each
+pub alike_sorts : (x y : Access) (byte : ℕ) → y.first ≡ x.first → x.value ≡ y.value → x.kind ≡ y.kind → one_sort (mark_of y byte) (mark_of x byte) ≡ true
+alike_sorts x y byte f v k =
+    sort_from (mark_of y byte) (mark_of x byte) (ap kind_number (sym k))
+    (ap (λ b. left_by y.kind (left_at (record y { first = b }) byte)) f ∙ ap (λ w. left_by y.kind (byte_of (byte - x.first) w)) (sym v) ∙ ap (λ c. left_by c (left_at x byte)) (sym k))
 
 pub told_absorbs :
     (log : List Access) (x : Access) (t : Told) → SameBytes x t.first

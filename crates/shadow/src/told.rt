@@ -51,6 +51,15 @@ impl Told {
         one_sort(mark_of(&self.first, byte), mark_of(x, byte))
     }
 
+    /// Whether an access is of the kind of the first one and has its value, so that at each of their bytes it is of its sort.
+    #[tactic(auto, using(crate::proofs::Telling::alike_sorts))]
+    fn is_alike(&self, x: &Access) -> bool
+        requires { self.now.first.first ≡ x.now.first }
+        ensures { IsTrue result → (byte : ℕ) → one_sort (mark_of self.now.first byte) (mark_of x.now byte) ≡ true }
+    {
+        x.value == self.first.value && x.kind == self.first.kind
+    }
+
     /// Whether at each of its bytes an access is of the sort of the first one, or two sorts were told.
     fn has_sorts(&self, x: &Access) -> bool
         requires { x.now.first + byte_count x.now.width < 2 ^ 64 }
@@ -71,7 +80,7 @@ impl Told {
         requires { x.now.first + byte_count x.now.width < 2 ^ 64 }
         ensures { IsTrue result → (log : List TheAccess) → IsTold log self.now → Absorbed log x.now }
     {
-        same_bytes(x, &self.first) && self.has_sorts(x)
+        same_bytes(x, &self.first) && (self.is_alike(x) || self.has_sorts(x))
     }
 
     /// The same with an access of these bytes more.

@@ -1,5 +1,4 @@
 use Rattle.std.proofs.Common.{true, false, [], sym, ap, ◌∙◌, subst}
-use Rattle.std.specs.Prelude.{All}
 use Rattle.shadow.specs.Lasting.{IsTold}
 use Rattle.std.proofs.lemmas.List.Elements.{All-same, All-nil}
 use Rattle.group_log.specs.Lasting.{all_of, short_of, last_of, made, LeavesOut}

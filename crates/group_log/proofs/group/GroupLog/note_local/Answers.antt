@@ -5,7 +5,6 @@ use Rattle.shadow_list.specs.Log.{stamped, in_buffer, hit, IsKept}
 use Rattle.shadow_list.specs.declared.log.Entry.{Entry}
 use Rattle.std.specs.Prelude.{All}
 use Rattle.shadow.specs.Lasting.{IsTold}
-use Rattle.shadow.specs.declared.told.Told.{Told}
 use Rattle.shadow.proofs.Telling.{told_more}
 use Rattle.std.proofs.lemmas.List.Elements.{All-weaker}
 use Rattle.group_log.specs.Lasting.{all_of, short_of, last_of, made, LeavesOut}

@@ -1,4 +1,4 @@
-use Rattle.std.proofs.Common.{true, refl, sym, ◌∙◌, subst, ◌∷◌, [], ◌++◌}
+use Rattle.std.proofs.Common.{true, refl, sym, subst, ◌∷◌, [], ◌++◌}
 use Rattle.std.specs.Prelude.{All}
 use Rattle.std.proofs.lemmas.List.Elements.{All-same, All-push}
 use Rattle.shadow_list.specs.Cells.{IsMarked}
