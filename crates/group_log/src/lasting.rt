@@ -67,7 +67,7 @@ impl Lasting {
     {
         self.entries.clear();
         self.told.clear();
-        self.has_last = false;
+        self.pass();
     }
 
     /// No accesses, in the memory of these. The memory is given back where less than an eighth of it was in use.
@@ -107,7 +107,7 @@ impl Lasting {
         ensures last_stays { OnErr result (self.new.has_last ≡ self.old.has_last) }
     {
         if self.has(slot, &entry.access) {
-            self.has_last = false;
+            self.pass();
             return Ok(false);
         }
         self.entries.push(*entry)?;
@@ -116,7 +116,7 @@ impl Lasting {
         Ok(true)
     }
 
-    /// Passes over an access of local memory, of which other groups know nothing.
+    /// Passes over an access of which other groups aren't told.
     pub(crate) fn pass(&mut self)
         ensures told { self.new.told ≡ self.old.told }
         ensures entries { self.new.entries.items ≡ self.old.entries.items }
