@@ -66,7 +66,8 @@ impl<T: OfBytes + Copy> Chains<T> {
         ensures same { OnErr result (self.new.values.items ≡ self.old.values.items) }
     {
         if self.newest.len() <= slot {
-            self.newest.resize(slot.checked_add(1).ok_or(AllocError)?, 0)?;
+            self.newest
+                .resize(slot.checked_add(1).ok_or(AllocError)?, 0)?;
         }
         self.values.reserve(1)?;
         self.older.push(self.newest[slot])?;

@@ -11,14 +11,14 @@ loop-k-preserved c =
     let told = c.loop-k.told in
     let Other : ℕ → Type 0 = λ k. one_sort (mark_of c.args.self.first (x.first + k)) (mark_of x (x.first + k)) ≡ false in
     elim c.if-not-is_of_sort.branch [
-      then-not-is_of_sort w ↦ (
+      | then-not-is_of_sort w ↦ (
         ap (λ (t : Told). t.first) w.told-is ∙ c.loop-k.invariant.0,
         subst (λ (t : Told). AreMarked c.args.self.mixed t.mixed Other (c.loop-k.k + 1)) (sym w.told-is)
-        (marked_next c.args.self.mixed told.mixed Other c.loop-k.k c.loop-k.invariant.1 (sym c.is_of_sort.ensures ∙ w.if-not-is_of_sort.true)),
+            (marked_next c.args.self.mixed told.mixed Other c.loop-k.k c.loop-k.invariant.1 (sym c.is_of_sort.ensures ∙ w.if-not-is_of_sort.true)),
       )
-    | else-not-is_of_sort w ↦ (
+      | else-not-is_of_sort w ↦ (
         ap (λ (t : Told). t.first) w.told-is ∙ c.loop-k.invariant.0,
         subst (λ (t : Told). AreMarked c.args.self.mixed t.mixed Other (c.loop-k.k + 1)) (sym w.told-is)
-        (marked_below c.args.self.mixed told.mixed Other c.loop-k.k c.loop-k.invariant.1),
+            (marked_below c.args.self.mixed told.mixed Other c.loop-k.k c.loop-k.invariant.1),
       )
     ]
