@@ -1,7 +1,6 @@
 //! The run of a launch by several workers.
 #![tactic(auto)]
 
-mod beside;
 mod overlap;
 mod round;
 mod round_gate;

@@ -10,7 +10,6 @@ ghost use Rattle.snapshot_merge.specs.Rounds.{CameOfRound};
 ghost use Rattle.spaces_base.specs.Buffers.{bytes_in};
 ghost use Rattle.workers.specs.Results.{AreOfRound};
 
-use crate::beside::run_beside;
 use crate::round::Round;
 use crate::round_gate::RoundGate;
 use crate::shares::rounds_are_shared;
@@ -24,7 +23,7 @@ use std::alloc::{AllocError, Global};
 use std::sync::Wait;
 use std::thread::Threads;
 use workers_draw::gate::Gate;
-use workers_draw::run::run_groups;
+use workers_draw::run::{run_groups, run_groups_after};
 
 /// The results of the groups of a round, in their order.
 pub(crate) type Results<'a> = Vec<GroupResult<Overlay<'a>, LastingList>>;
@@ -54,8 +53,8 @@ pub(crate) fn run_round<'a, G: Gate, R: Threads + Wait + Sync>(
     Ok(results)
 }
 
-/// Joins a round, whose groups are those from `first` up to `last`, to what is joined so far, while the workers run the next, whose groups
-/// are those from `last` up to `end`. The calling thread joins; where no thread can be started, it runs the next round after that.
+/// Joins a round, whose groups are those from `first` up to `last`, to what is joined so far, while the other workers run the next, whose
+/// groups are those from `last` up to `end`. The calling thread joins, and then runs groups of the next round with the others.
 pub(crate) fn join_and_run<'a, 'b, G: Gate, R: Threads + Wait + Sync>(
     rt: &R,
     alloc: Global,
@@ -85,7 +84,7 @@ pub(crate) fn join_and_run<'a, 'b, G: Gate, R: Threads + Wait + Sync>(
     rounds_are_shared();
     let round = Round::new(launch, buffers, last, end);
     let gate = RoundGate { gate, first: last };
-    run_beside(
+    run_groups_after(
         rt,
         alloc,
         &round,

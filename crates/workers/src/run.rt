@@ -38,8 +38,8 @@ fn outcome_of(launch: &Launch<'_>, buffers: &Buffers, end: RoundEnd<'_>, groups:
     }
 }
 
-/// The canonical run of a launch by some workers, in rounds. The calling thread joins the groups of a round in their order while the workers
-/// run the next.
+/// The canonical run of a launch by some workers, in rounds. The calling thread joins the groups of a round in their order while the others
+/// run the next, and then works with them.
 fn run_rounds<G: Gate, R: Threads + Wait + Sync>(
     rt: &R,
     alloc: Global,
@@ -77,7 +77,7 @@ fn run_rounds<G: Gate, R: Threads + Wait + Sync>(
 
 /// The canonical run of a launch, by 1 to 16 workers (OpenCL 1.2, sections 3.2 and 5.8). Each worker draws groups and runs them on the
 /// buffers as they are, between two calls of the gate with the group's number; a thread that can't be started is done without. Several
-/// workers run the groups in rounds, and the calling thread joins each round while they run the next. One worker is the calling thread: it
+/// workers run the groups in rounds, and the calling thread joins each round before it runs groups of the next. One worker is the calling thread: it
 /// runs and joins group after group, as `run_launch` does. What the launch comes to is what `run_launch` answers, however many workers there
 /// are and whatever the gate does. The buffers stay as they are. An error is out of memory.
 pub fn run_parallel<G: Gate, R: Threads + Wait + Sync>(

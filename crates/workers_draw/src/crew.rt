@@ -94,3 +94,53 @@ pub(crate) fn crew<W: Work, G: Gate, R: Threads + Wait + Sync>(
     );
     together(work, board, one?, other?)
 }
+
+/// Lets this many workers work while the calling thread makes a call: it is one of them, and works once the call is made. Where no thread can
+/// be started it does all the work.
+#[cycle(crew_after)]
+pub(crate) fn crew_after<W: Work, G: Gate, R: Threads + Wait + Sync, F: FnOnce() -> T, T>(
+    rt: &R,
+    alloc: Global,
+    work: &W,
+    gate: &G,
+    board: &Board,
+    mut seat: Place,
+    workers: usize,
+    call: F,
+) -> (Result<Worker<W::Output>, AllocError>, T)
+    requires board { (board.now.key ≡ W.count work.now) × (board.now.table_id.words ≡ 2) }
+    requires small { W.count work.now < 2 ^ 32 }
+    requires seat { IsFresh board.now.table_id seat.me.0.parts seat }
+    requires workers { (0 < workers) × (workers ≤ seat.me.0.parts) }
+    requires call { F.pre call }
+    ensures worked { IfOk result.0 (DidWork (W.count work.now) (W.gives work.now) (W.stops work.now) board.now.table_id seat.me.0.parts) }
+    ensures call { F.post call result.1 }
+{
+    if workers == 1 {
+        let made = call();
+        return (work_at(rt, alloc, work, gate, board, seat), made);
+    }
+    let low = workers / 2;
+    let high = workers - low;
+    let theirs = deal(board, &mut seat);
+    let (other, ours) = thread::join(
+        rt,
+        move || -> Result<Worker<W::Output>, AllocError>
+            requires { IsSync R.row × IsSync W.row × IsSync G.row × IsSend W.Output.row × (board.now.key ≡ W.count work.now) × (board.now.table_id.words ≡ 2) × (W.count work.now < 2 ^ 32) × IsFresh board.now.table_id theirs.me.0.parts theirs × (0 < low) × (low ≤ theirs.me.0.parts) }
+            ensures { IfOk result (DidWork (W.count work.entry.now) (W.gives work.entry.now) (W.stops work.entry.now) board.entry.now.table_id theirs.me.0.parts) }
+        { crew(rt, alloc, work, gate, board, theirs, low) },
+        move || -> (Result<Worker<W::Output>, AllocError>, T)
+            requires { IsSync R.row × IsSync W.row × IsSync G.row × IsSend W.Output.row × (board.now.key ≡ W.count work.now) × (board.now.table_id.words ≡ 2) × (W.count work.now < 2 ^ 32) × IsFresh board.now.table_id seat.me.0.parts seat × (0 < high) × (high ≤ seat.me.0.parts) × F.pre call }
+            ensures { IfOk result.0 (DidWork (W.count work.entry.now) (W.gives work.entry.now) (W.stops work.entry.now) board.entry.now.table_id seat.me.0.parts) × F.post call result.1 }
+        { crew_after(rt, alloc, work, gate, board, seat, high, call) },
+    );
+    let (one, made) = ours;
+    let worker = match one {
+        Ok(one) => match other {
+            Ok(other) => together(work, board, one, other),
+            Err(error) => Err(error),
+        },
+        Err(error) => Err(error),
+    };
+    (worker, made)
+}

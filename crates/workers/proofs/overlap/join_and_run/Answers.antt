@@ -10,8 +10,8 @@ use Rattle.spaces_base.specs.Buffers.{bytes_in}
 use Rattle.workers.proofs.Runs.{are_of_round}
 use Rattle.workers.proofs.overlap.join_and_run.Goals as goal
 
-pub run_beside-requires-sync-W : goal.run_beside-requires-sync-W
-run_beside-requires-sync-W g c κs = search (sendable, c.rounds_are_shared.ensures)
+pub run_groups_after-requires-sync-W : goal.run_groups_after-requires-sync-W
+run_groups_after-requires-sync-W g c κs = search (sendable, c.rounds_are_shared.ensures)
 
 pub returns-clause-next : goal.returns-clause-next
 returns-clause-next g c =
@@ -19,4 +19,4 @@ returns-clause-next g c =
     let same = ap₂ (λ x y. launch_of (setup_of x) (bytes_in y)) new.launch new.buffers in
     IfOk-weaker _ _ _
     (λ (v : Vec (GroupResult Overlaid LastingList) Global) each. are_of_round (launch_of (setup_of round.launch.now) (bytes_in round.buffers.now)) (launch_of (setup_of c.args.launch.now) (bytes_in c.args.buffers.now)) round.first round.count c.args.last c.args.end same new.first new.count v.items each)
-    c.run_beside.ensures.results
+    c.run_groups_after.ensures.results
