@@ -1,9 +1,9 @@
 //! What comes of groups that workers draw.
-use crate::gates::{Counting, HighFirst, Meeting};
+use crate::gates::{Coming, Counting, HighFirst, Meeting};
 use crate::numbers::{Ended, Numbers};
 use std::test::Fail;
 use workers_draw::gather::accept;
-use workers_draw::run::run_groups;
+use workers_draw::run::{run_groups, run_groups_after};
 
 /// The number of no group.
 const NONE: u32 = 4_000_000_000;
@@ -42,6 +42,30 @@ fn two_workers_meet(rt: HostRuntime) -> Result<(), Fail> {
     let results = run_groups(&rt, rt.alloc(), &groups, 2, &gate)?;
     assert_eq!(rt; results.len(), 2);
     assert_eq!(rt; gate.met(), 2);
+    Ok(())
+}
+
+/// A call by the calling thread waits until the other worker runs a group.
+#[test]
+fn a_group_runs_beside_a_call(rt: HostRuntime) -> Result<(), Fail> {
+    let groups = Numbers {
+        count: 4,
+        low: NONE,
+        high: NONE,
+    };
+    let gate = Coming::new();
+    let (results, has_come) = run_groups_after(
+        &rt,
+        rt.alloc(),
+        &groups,
+        2,
+        &gate,
+        || gate.has_come(),
+    );
+    assert!(rt; has_come);
+    let results = results?;
+    assert_eq!(rt; results.len(), 4);
+    assert!(rt; are_in_order(results.as_slice()));
     Ok(())
 }
 

@@ -53,6 +53,34 @@ impl Gate for Meeting {
     fn leave(&self, _group: u32) {}
 }
 
+/// Tells when a group has entered.
+#[derive(Drop)]
+pub struct Coming {
+    entered: AtomicU64,
+}
+
+impl Coming {
+    /// A gate that no group has entered.
+    pub fn new() -> Self {
+        Coming {
+            entered: AtomicU64::new(0),
+        }
+    }
+
+    /// Waits until a group has entered, and answers whether one has.
+    pub fn has_come(&self) -> bool {
+        comes_to(&self.entered, 1)
+    }
+}
+
+impl Gate for Coming {
+    fn enter(&self, _group: u32) {
+        self.entered.fetch_add(1, Ordering::SeqCst);
+    }
+
+    fn leave(&self, _group: u32) {}
+}
+
 /// Holds one group until another has left.
 #[derive(Drop)]
 pub struct HighFirst {
