@@ -1,11 +1,9 @@
 -- What is kept of accesses at each byte tells whether one conflicts, and the places of their keys whether it is there.
-use Rattle.std.proofs.Common.{◌≡◌, ℕ, zero, suc, ◌+◌, ◌-◌, ◌*◌, ◌/◌, ◌%◌, ◌<◌, ◌≤◌, ◌⊎◌, Bool, true, false, nat_eq, not, ◌&&◌, ◌||◌, ◌==◌, ◌^◌, Option, None, Some, List, [], ◌∷◌, ◌++◌, length, drop, set, refl, sym, ap, ap₂, ◌∙◌, subst, inl, inr, arith, eqb-true, eq-eqb}
-use Rattle.std.specs.Prelude.{All, slice_get, slice_index_or}
-use Rattle.std.proofs.lemmas.List.{get_or_past, get_or-set_same, get_or-set_other}
+use Rattle.std.proofs.Common.{◌≡◌, ℕ, zero, suc, ◌+◌, ◌*◌, ◌/◌, ◌%◌, ◌<◌, ◌≤◌, ◌⊎◌, Bool, true, false, nat_eq, not, ◌&&◌, ◌||◌, ◌==◌, ◌^◌, Option, None, Some, List, [], ◌∷◌, ◌++◌, length, drop, refl, sym, ap, ap₂, ◌∙◌, subst, inl, inr, arith, eqb-true, eq-eqb}
+use Rattle.std.specs.Prelude.{All, slice_get}
 use Rattle.std.specs.Option.{unwrap_or}
-use Rattle.std.specs.HashMap.{HashMap, get, IsUnchanged}
-use Rattle.std.specs.Map.{lookup}
-use Rattle.std.proofs.lemmas.Bool.{false≢true, and_parts, and_from, cases_eq, cases_lt, and_left}
+use Rattle.std.specs.HashMap.{HashMap, get}
+use Rattle.std.proofs.lemmas.Bool.{false≢true, and_parts, and_from, cases_eq, and_left}
 use Rattle.std.proofs.lemmas.List.Elements.{All-head, All-tail}
 use Rattle.std.proofs.lemmas.Option.{none-some, same_Some, slice_get_within}
 use Rattle.clmodel.specs.Cells.{byte_count, covers}
@@ -141,15 +139,6 @@ pub words_kept : {old new : Cells} → KeepsWords old new → KeepsAll old new
 words_kept {old = old} {new = new} w =
     cells_kept old.starts new.starts old.words.items new.words.items old.apart.items new.apart.items
     (λ q start e. ap (λ m. get nat_eq m q) w.starts ∙ e) w.kept
-
--- a cell that is added leaves the others where they were
-pub start_added : {S : Type 0} (m n : HashMap ℕ ℕ S) (key : ℕ) → get nat_eq m key ≡ None → ((q : ℕ) → nat_eq key q ≡ false → get nat_eq n q ≡ get nat_eq m q)
-    → (q start : ℕ) → get nat_eq m q ≡ Some start → get nat_eq n q ≡ Some start
-start_added m n key none others q start e =
-    decided (nat_eq key q) (λ t. absurd (none-some start (sym none ∙ ap (get nat_eq m) (eqb-true key q t) ∙ e))) (λ t. others q t ∙ e)
-
-pub starts_same : {S : Type 0} (m n : HashMap ℕ ℕ S) → IsUnchanged m n → (q start : ℕ) → get nat_eq m q ≡ Some start → get nat_eq n q ≡ Some start
-starts_same m n same q start e = ap (λ es. lookup (nat_eq q) es) same ∙ e
 
 -- ---- whether an access is there
 

@@ -93,17 +93,7 @@ pub parts_kept :
 parts_kept old new f (word.Whole all) k y byte d = d
 parts_kept old new f (word.Apart at) k y byte d = f (at + k) y byte d
 
--- what is kept of the bytes of each word stays, where each word is as it was
-pub words_same :
-    (old new : List Word) (apart : List Recent) → ((p : ℕ) → p < length old → slice_index_or new p no_word ≡ slice_index_or old p no_word)
-    → (p k : ℕ) (y : Access) (byte : ℕ) → k < 4 → Describes (at_place old apart p k) y byte → Describes (at_place new apart p k) y byte
-words_same old new apart same p k y byte b d = go (cases_lt p (length old))
-  where
-    go : (p < length old) ⊎ (length old ≤ p) → Describes (at_place new apart p k) y byte
-    go (inl l) = subst (λ w. Describes (in_word apart w k) y byte) (sym (same p l)) d
-    go (inr l) = absurd (nothing_described y byte (subst (λ w. Describes (in_word apart w k) y byte) (get_or_past old p no_word l) d))
-
--- the same where one word is written
+-- what is kept of the bytes of each word stays, where one word is written
 pub word_kept :
     (words : List Word) (old new : List Recent) (place : ℕ) (w : Word) → place < length words
     → ((p : ℕ) (y : Access) (byte : ℕ) → Describes (slice_index_or old p nothing) y byte → Describes (slice_index_or new p nothing) y byte)
@@ -117,23 +107,6 @@ word_kept words old new place w l same f p k y byte b d = go (cases_eq p place)
         (subst (λ v. Describes (in_word new v k) y byte) (sym (get_or-set_same words place w no_word l)) (f k y byte b (subst (λ q. Describes (at_place words old q k) y byte) e d)))
     go (inr ne) =
         subst (λ v. Describes (in_word new v k) y byte) (sym (get_or-set_other words place p w no_word ne)) (parts_kept old new same (slice_index_or words p no_word) k y byte d)
-
--- ---- what stands apart is there
-
-pub inside_longer : (old new : List Recent) (w : Word) → length old ≤ length new → IsInside old w → IsInside new w
-inside_longer old new w l f at e = omega (arith, l, f at e)
-
-pub inside_set :
-    (words : List Word) (apart : List Recent) (place : ℕ) (w : Word) → place < length words → IsInside apart w → ((p : ℕ) → IsInside apart (slice_index_or words p no_word))
-    → (p : ℕ) → IsInside apart (slice_index_or (set words place w) p no_word)
-inside_set words apart place w l here there p = go (cases_eq p place)
-  where
-    go : (p ≡ place) ⊎ (p ≡ place → ⊥) → IsInside apart (slice_index_or (set words place w) p no_word)
-    go (inl e) = subst (λ q. IsInside apart (slice_index_or (set words place w) q no_word)) (sym e) (subst (IsInside apart) (sym (get_or-set_same words place w no_word l)) here)
-    go (inr ne) = subst (IsInside apart) (sym (get_or-set_other words place p w no_word ne)) (there p)
-
-pub whole_inside : (apart : List Recent) (all : Recent) → IsInside apart (word.Whole all)
-whole_inside apart all at e = absurd cc
 
 -- ---- a word that is read
 

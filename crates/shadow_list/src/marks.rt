@@ -85,12 +85,7 @@ impl Cells {
     }
 
     /// Where the words of the cell of a byte start, which is made if it isn't there.
-    fn start(
-        &mut self,
-        cell: Option<usize>,
-        region: Region,
-        byte: u64,
-    ) -> Result<usize, AllocError>
+    fn start(&mut self, cell: Option<usize>, region: Region, byte: u64) -> Result<usize, AllocError>
         requires { cell ≡ get nat_eq self.old.starts (cell_key region byte) }
         ensures same { KeepsAll self.old self.new }
         ensures there { IfOk result (λ start. get nat_eq self.new.starts (cell_key region byte) ≡ Some start) }

@@ -50,14 +50,7 @@ impl Word {
     }
 
     /// Whether an access passes at each of so many bytes of the word, from the first on.
-    fn bytes_pass(
-        self,
-        apart: &[Recent],
-        uniform: bool,
-        x: &Access,
-        first: u64,
-        count: u64,
-    ) -> bool
+    fn bytes_pass(self, apart: &[Recent], uniform: bool, x: &Access, first: u64, count: u64) -> bool
         requires inside { IsInside apart.now self }
         requires one_word { first % 4 + count ≤ 4 }
         requires short { first + count < 2 ^ 64 }

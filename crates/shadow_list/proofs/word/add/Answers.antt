@@ -30,21 +30,21 @@ loop-byte-preserved c =
     elim c.if-not-has.branch [
       | then-not-has w ↦
           let stays = place_kept now p w.with.result inside
-              (λ z e f. subst (λ r. Describes r z e) (same_part w.with.result) (w.with.ensures.kept (λ n. n) z e (subst (λ r. Describes r z e) (sym (same_part c.index-kept.result.now ∙ was)) f))) in
+          (λ z e f. subst (λ r. Describes r z e) (same_part w.with.result) (w.with.ensures.kept (λ n. n) z e (subst (λ r. Describes r z e) (sym (same_part c.index-kept.result.now ∙ was)) f))) in
           subst (λ (v : Vec Recent Global). Added old at first (byte + 1) x v.items) (sym w.apart-is) (
             length-set now p w.with.result ∙ kept.0,
             λ k y b d. stays k y b (kept.1 k y b d),
             one_more (λ (b : ℕ). Describes (slice_index_or _ (at + b % 4) nothing) x b) first byte
-            (subst (λ r. Describes r x byte) (sym (get_or-set_same now p w.with.result nothing inside))
-            (subst (λ r. Describes r x byte) (same_part w.with.result) (w.with.ensures.added (λ n. n) byte (sym c.left_at-left.ensures))))
-            (λ b lo hi. stays (at + b % 4) x b (kept.2 b lo hi)),
+                (subst (λ r. Describes r x byte) (sym (get_or-set_same now p w.with.result nothing inside))
+                (subst (λ r. Describes r x byte) (same_part w.with.result) (w.with.ensures.added (λ n. n) byte (sym c.left_at-left.ensures))))
+                (λ b lo hi. stays (at + b % 4) x b (kept.2 b lo hi)),
           )
       | else-not-has w ↦
           subst (λ (v : Vec Recent Global). Added old at first (byte + 1) x v.items) (sym w.apart-is) (
             kept.0,
             kept.1,
             one_more (λ (b : ℕ). Describes (slice_index_or now (at + b % 4) nothing) x b) first byte
-            (subst (λ r. Describes r x byte) (same_part c.index-kept.result.now ∙ was) (c.has.ensures w.if-not-has.false (λ n. n) byte (sym c.left_at-left.ensures)))
-            kept.2,
+                (subst (λ r. Describes r x byte) (same_part c.index-kept.result.now ∙ was) (c.has.ensures w.if-not-has.false (λ n. n) byte (sym c.left_at-left.ensures)))
+                kept.2,
           )
     ]

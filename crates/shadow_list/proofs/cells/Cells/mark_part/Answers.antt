@@ -1,4 +1,4 @@
-use Rattle.std.proofs.Common.{◌≡◌, ℕ, ◌+◌, ◌/◌, ◌%◌, ◌<◌, ◌≤◌, nat_eq, nat_lt, Some, ap, ◌∙◌, arith, ltb-true, ltb-false}
+use Rattle.std.proofs.Common.{◌≡◌, ◌+◌, ◌/◌, ◌%◌, ◌<◌, ◌≤◌, nat_eq, nat_lt, Some, ap, ◌∙◌, arith, ltb-true, ltb-false}
 use Rattle.std.specs.HashMap.{get}
 use Rattle.std.proofs.lemmas.Result.{on_ok_weaker}
 use Rattle.clmodel.proofs.Steps.{decided}

@@ -1,7 +1,6 @@
-use Rattle.std.proofs.Common.{◌≡◌, ℕ, ◌+◌, ◌%◌, ◌<◌, ◌≤◌, refl, sym, ap, ◌∙◌, subst}
+use Rattle.std.proofs.Common.{◌%◌, refl, sym, ap, ◌∙◌, subst}
 use Rattle.std.proofs.lemmas.List.{length-set, get_or-set_same}
 use Rattle.clmodel.specs.Cells.{byte_of}
-use Rattle.clmodel.specs.Launch.{left_at}
 use Rattle.shadow_list.specs.Recent.{Describes, in_word, no_word}
 use Rattle.shadow_list.specs.declared.word.Word.{Word}
 use Rattle.shadow_list.specs.declared.word.Word.TheVariants as word

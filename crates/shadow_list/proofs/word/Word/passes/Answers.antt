@@ -1,4 +1,4 @@
-use Rattle.std.proofs.Common.{ℕ, ◌+◌, ◌%◌, sym, ap, ◌∙◌, subst, arith}
+use Rattle.std.proofs.Common.{◌%◌, sym, ap, ◌∙◌, subst, arith}
 use Rattle.clmodel.specs.Cells.{byte_of}
 use Rattle.shadow_list.specs.Cells.{Passes}
 use Rattle.shadow_list.specs.Recent.{in_word}
