@@ -15,5 +15,11 @@ pub shifted : (k value : ℕ) → value / 2 ^ (8 * k) ≡ value / 256 ^ k
 shifted k value = ap (λ n. value / n) (two_power k)
 
 -- a number of 64 bits has eight bytes
+none_above : (k value : ℕ) → 8 ≤ k → value < 2 ^ 64 → value / 256 ^ k ≡ 0
+none_above k value h v = div-eq_of_lt {n = value} {m = 256 ^ k} (omega (arith, v, pow-le-pow_right {n = 256} (omega arith) {i = 8} {j = k} h))
+
 pub above : (k value : ℕ) → 8 ≤ k → value < 2 ^ 64 → byte_of k value ≡ 0
-above k value h v = ap (λ n. n % 256) (div-eq_of_lt {n = value} {m = 256 ^ k} (omega (arith, v, pow-le-pow_right {n = 256} (omega arith) {i = 8} {j = k} h)))
+above k value h v = ap (λ n. n % 256) (none_above k value h v)
+
+pub above_word : (k value : ℕ) → 8 ≤ k → value < 2 ^ 64 → value / 256 ^ k % 2 ^ 32 ≡ 0
+above_word k value h v = ap (λ n. n % 2 ^ 32) (none_above k value h v)

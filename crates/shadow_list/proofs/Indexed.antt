@@ -1,11 +1,9 @@
 -- What is kept of accesses at each byte tells whether one conflicts, and the places of their keys whether it is there.
-use Rattle.std.proofs.Common.{◌≡◌, ℕ, zero, suc, ◌+◌, ◌-◌, ◌*◌, ◌/◌, ◌%◌, ◌<◌, ◌≤◌, ◌⊎◌, Bool, true, false, nat_eq, not, ◌&&◌, ◌||◌, ◌==◌, ◌^◌, Option, None, Some, List, [], ◌∷◌, ◌++◌, length, drop, set, refl, sym, ap, ap₂, ◌∙◌, subst, inl, inr, arith, eqb-true, eq-eqb}
-use Rattle.std.specs.Prelude.{All, slice_get, slice_index_or}
-use Rattle.std.proofs.lemmas.List.{get_or_past, get_or-set_same, get_or-set_other}
+use Rattle.std.proofs.Common.{◌≡◌, ℕ, zero, suc, ◌+◌, ◌*◌, ◌/◌, ◌%◌, ◌<◌, ◌≤◌, ◌⊎◌, Bool, true, false, nat_eq, not, ◌&&◌, ◌||◌, ◌==◌, ◌^◌, Option, None, Some, List, [], ◌∷◌, ◌++◌, length, drop, refl, sym, ap, ap₂, ◌∙◌, subst, inl, inr, arith, eqb-true, eq-eqb}
+use Rattle.std.specs.Prelude.{All, slice_get}
 use Rattle.std.specs.Option.{unwrap_or}
-use Rattle.std.specs.HashMap.{HashMap, get, IsUnchanged}
-use Rattle.std.specs.Map.{lookup}
-use Rattle.std.proofs.lemmas.Bool.{false≢true, and_parts, and_from, cases_eq, cases_lt, and_left}
+use Rattle.std.specs.HashMap.{HashMap, get}
+use Rattle.std.proofs.lemmas.Bool.{false≢true, and_parts, and_from, cases_eq, and_left}
 use Rattle.std.proofs.lemmas.List.Elements.{All-head, All-tail}
 use Rattle.std.proofs.lemmas.Option.{none-some, same_Some, slice_get_within}
 use Rattle.clmodel.specs.Cells.{byte_count, covers}
@@ -15,15 +13,17 @@ use Rattle.clmodel.specs.declared.access.AccessKind.{AccessKind}
 use Rattle.clmodel.specs.declared.access.Region.{Region}
 use Rattle.clmodel.specs.declared.access.Region.TheVariants as region
 use Rattle.clmodel.proofs.Steps.{decided}
-use Rattle.shadow_list.specs.Cells.{object, cell_key, in_cell, Passes}
+use Rattle.shadow_list.specs.Cells.{object, cell_key, in_cell, Passes, KeepsAll, KeepsWords}
 use Rattle.shadow_list.specs.Index.{access_key, same_key, newest_of}
 use Rattle.shadow_list.specs.Kinds.{kind_number}
 use Rattle.shadow_list.specs.Log.{hit_on, hit, IsThere}
-use Rattle.shadow_list.specs.Recent.{is_item, is_how, nothing, Describes}
+use Rattle.shadow_list.specs.Recent.{is_item, is_how, nothing, Describes, at_place}
+use Rattle.shadow_list.specs.declared.cells.Cells.{Cells}
 use Rattle.shadow_list.specs.declared.index.AccessKey.{AccessKey}
 use Rattle.shadow_list.specs.declared.log.Entry.{Entry}
 use Rattle.shadow_list.specs.declared.recent.How.TheVariants as how
 use Rattle.shadow_list.specs.declared.recent.Recent.{Recent}
+use Rattle.shadow_list.specs.declared.word.Word.{Word}
 use Rattle.shadow_list.proofs.Agreeing.{agree_number, number_agrees, stores_by_number}
 use Rattle.shadow_list.proofs.Hits.{ordered, not_shared, no_clash, kinds_agree, stores_agree, past_over, clear}
 use Rattle.shadow_list.proofs.Past.{other_interval}
@@ -122,34 +122,23 @@ none_hit u x log n h = clear (within_group u) x (drop n log) (λ byte. all_clear
 pub nothing_described : (y : Access) (byte : ℕ) → Describes nothing y byte → ⊥
 nothing_described y byte d = false≢true (d.1 (omega (arith, d.0))).0
 
--- what is kept at each place stays, where each place is as it was
-pub places_kept : (old new : List Recent) → ((p : ℕ) → p < length old → slice_index_or new p nothing ≡ slice_index_or old p nothing)
-    → (p : ℕ) (y : Access) (byte : ℕ) → Describes (slice_index_or old p nothing) y byte → Describes (slice_index_or new p nothing) y byte
-places_kept old new same p y byte d = go (cases_lt p (length old))
+-- what is kept at each key stays, where each byte of each word keeps what it had, and each cell is where it was
+pub cells_kept : {S : Type 0} (m n : HashMap ℕ ℕ S) (old new : List Word) (apart parts : List Recent) → ((q start : ℕ) → get nat_eq m q ≡ Some start → get nat_eq n q ≡ Some start)
+    → ((p k : ℕ) (y : Access) (byte : ℕ) → k < 4 → Describes (at_place old apart p k) y byte → Describes (at_place new parts p k) y byte)
+    → (key k : ℕ) (y : Access) (byte : ℕ) → k < 8 → Describes (in_cell old apart k (get nat_eq m key)) y byte → Describes (in_cell new parts k (get nat_eq n key)) y byte
+cells_kept m n old new apart parts there same key k y byte b d = go (get nat_eq m key) refl
   where
-    go : (p < length old) ⊎ (length old ≤ p) → Describes (slice_index_or new p nothing) y byte
-    go (inl b) = subst (λ r. Describes r y byte) (sym (same p b)) d
-    go (inr b) = absurd (nothing_described y byte (subst (λ r. Describes r y byte) (get_or_past old p nothing b) d))
-
--- what is kept at each key stays, where each place keeps what it had, and each cell is where it was
-pub cells_kept : {S : Type 0} (m n : HashMap ℕ ℕ S) (old new : List Recent) → ((q start : ℕ) → get nat_eq m q ≡ Some start → get nat_eq n q ≡ Some start)
-    → ((p : ℕ) (y : Access) (byte : ℕ) → Describes (slice_index_or old p nothing) y byte → Describes (slice_index_or new p nothing) y byte)
-    → (key k : ℕ) (y : Access) (byte : ℕ) → k < 8 → Describes (in_cell old k (get nat_eq m key)) y byte → Describes (in_cell new k (get nat_eq n key)) y byte
-cells_kept m n old new there same key k y byte b d = go (get nat_eq m key) refl
-  where
-    go : (o : Option ℕ) → get nat_eq m key ≡ o → Describes (in_cell new k (get nat_eq n key)) y byte
-    go None e = absurd (nothing_described y byte (subst (λ o. Describes (in_cell old k o) y byte) e d))
+    go : (o : Option ℕ) → get nat_eq m key ≡ o → Describes (in_cell new parts k (get nat_eq n key)) y byte
+    go None e = absurd (nothing_described y byte (subst (λ o. Describes (in_cell old apart k o) y byte) e d))
     go (Some start) e =
-        subst (λ o. Describes (in_cell new k o) y byte) (sym (there key start e)) (same (start + k) y byte (subst (λ o. Describes (in_cell old k o) y byte) e d))
+        subst (λ o. Describes (in_cell new parts k o) y byte) (sym (there key start e))
+        (same (start + k / 4) (k % 4) y byte (omega arith) (subst (λ o. Describes (in_cell old apart k o) y byte) e d))
 
--- a cell that is added leaves the others where they were
-pub start_added : {S : Type 0} (m n : HashMap ℕ ℕ S) (key : ℕ) → get nat_eq m key ≡ None → ((q : ℕ) → nat_eq key q ≡ false → get nat_eq n q ≡ get nat_eq m q)
-    → (q start : ℕ) → get nat_eq m q ≡ Some start → get nat_eq n q ≡ Some start
-start_added m n key none others q start e =
-    decided (nat_eq key q) (λ t. absurd (none-some start (sym none ∙ ap (get nat_eq m) (eqb-true key q t) ∙ e))) (λ t. others q t ∙ e)
-
-pub starts_same : {S : Type 0} (m n : HashMap ℕ ℕ S) → IsUnchanged m n → (q start : ℕ) → get nat_eq m q ≡ Some start → get nat_eq n q ≡ Some start
-starts_same m n same q start e = ap (λ es. lookup (nat_eq q) es) same ∙ e
+-- the same where the cells are the same
+pub words_kept : {old new : Cells} → KeepsWords old new → KeepsAll old new
+words_kept {old = old} {new = new} w =
+    cells_kept old.starts new.starts old.words.items new.words.items old.apart.items new.apart.items
+    (λ q start e. ap (λ m. get nat_eq m q) w.starts ∙ e) w.kept
 
 -- ---- whether an access is there
 
@@ -171,56 +160,12 @@ cell_once : (first count byte : ℕ) → first % 8 + count ≤ 8 → first ≤ b
 cell_once first count byte a b d = omega (arith, a, b, d)
 
 -- where a byte is kept, in the cell of the first of some
-pub at_start : {S : Type 0} (m : HashMap ℕ ℕ S) (bytes : List Recent) (r : Region) (first count byte start : ℕ) → first % 8 + count ≤ 8 → first ≤ byte → byte < first + count
-    → get nat_eq m (cell_key r first) ≡ Some start → in_cell bytes (byte % 8) (get nat_eq m (cell_key r byte)) ≡ slice_index_or bytes (start + byte % 8) nothing
-at_start m bytes r first count byte start a b d e =
-    ap (λ q. in_cell bytes (byte % 8) (get nat_eq m (q % 2 ^ 48 * 2 ^ 16 + object r))) (cell_once first count byte a b d) ∙ ap (in_cell bytes (byte % 8)) e
-
--- that place, counted from that of the first of them
-pub start_on : (first count byte start : ℕ) → first % 8 + count ≤ 8 → first ≤ byte → byte < first + count → start + first % 8 + (byte - first) ≡ start + byte % 8
-start_on first count byte start a b d = omega (arith, a, b, d)
-
--- ---- an access more at a place
-
-pub other_place : (old : List Recent) (p k : ℕ) (w : Recent) → (k ≡ p → ⊥) → slice_index_or (set old p w) k nothing ≡ slice_index_or old k nothing
-other_place old p k w ne = get_or-set_other old p k w nothing ne
-
-pub this_place : (old : List Recent) (p : ℕ) (w : Recent) → p < length old → slice_index_or (set old p w) p nothing ≡ w
-this_place old p w b = get_or-set_same old p w nothing b
-
-pub place_kept :
-    (old : List Recent) (p : ℕ) (w : Recent) → p < length old → ((y : Access) (byte : ℕ) → Describes (slice_index_or old p nothing) y byte → Describes w y byte)
-    → (k : ℕ) (y : Access) (byte : ℕ) → Describes (slice_index_or old k nothing) y byte → Describes (slice_index_or (set old p w) k nothing) y byte
-place_kept old p w b f k y byte d = go (cases_eq k p)
-  where
-    go : (k ≡ p) ⊎ (k ≡ p → ⊥) → Describes (slice_index_or (set old p w) k nothing) y byte
-    go (inl e) =
-        subst (λ j. Describes (slice_index_or (set old p w) j nothing) y byte) (sym e)
-        (subst (λ r. Describes r y byte) (sym (this_place old p w b)) (f y byte (subst (λ j. Describes (slice_index_or old j nothing) y byte) e d)))
-    go (inr ne) = subst (λ r. Describes r y byte) (sym (other_place old p k w ne)) d
-
-pub place_added :
-    (old : List Recent) (from n first : ℕ) (w : Recent) (x : Access) → from + n < length old → Describes w x (first + n)
-    → ((k : ℕ) → k < n → Describes (slice_index_or old (from + k) nothing) x (first + k))
-    → (k : ℕ) → k < n + 1 → Describes (slice_index_or (set old (from + n) w) (from + k) nothing) x (first + k)
-place_added old from n first w x b d h k hi = go (cases_eq k n)
-  where
-    go : (k ≡ n) ⊎ (k ≡ n → ⊥) → Describes (slice_index_or (set old (from + n) w) (from + k) nothing) x (first + k)
-    go (inl e) =
-        subst (λ j. Describes (slice_index_or (set old (from + n) w) (from + j) nothing) x (first + j)) (sym e)
-        (subst (λ r. Describes r x (first + n)) (sym (this_place old (from + n) w b)) d)
-    go (inr ne) = subst (λ r. Describes r x (first + k)) (sym (other_place old (from + n) (from + k) w (λ e. ne (omega (arith, e))))) (h k (omega (arith, hi, ne)))
-
--- an access that is kept at a place already
-pub place_had :
-    (now : List Recent) (from n first : ℕ) (x : Access) → Describes (slice_index_or now (from + n) nothing) x (first + n)
-    → ((k : ℕ) → k < n → Describes (slice_index_or now (from + k) nothing) x (first + k))
-    → (k : ℕ) → k < n + 1 → Describes (slice_index_or now (from + k) nothing) x (first + k)
-place_had now from n first x d h k hi = go (cases_eq k n)
-  where
-    go : (k ≡ n) ⊎ (k ≡ n → ⊥) → Describes (slice_index_or now (from + k) nothing) x (first + k)
-    go (inl e) = subst (λ j. Describes (slice_index_or now (from + j) nothing) x (first + j)) (sym e) d
-    go (inr ne) = h k (omega (arith, hi, ne))
+pub at_start :
+    {S : Type 0} (m : HashMap ℕ ℕ S) (words : List Word) (apart : List Recent) (r : Region) (first count byte start : ℕ) → first % 8 + count ≤ 8 → first ≤ byte → byte < first + count
+    → get nat_eq m (cell_key r first) ≡ Some start → in_cell words apart (byte % 8) (get nat_eq m (cell_key r byte)) ≡ at_place words apart (start + byte % 8 / 4) (byte % 4)
+at_start m words apart r first count byte start a b d e =
+    ap (λ q. in_cell words apart (byte % 8) (get nat_eq m (q % 2 ^ 48 * 2 ^ 16 + object r))) (cell_once first count byte a b d) ∙ ap (in_cell words apart (byte % 8)) e
+    ∙ ap (at_place words apart (start + byte % 8 / 4)) {x = byte % 8 % 4} {y = byte % 4} (omega arith)
 
 -- ---- a log with one more
 

@@ -3,3 +3,4 @@ pub mod Bytes
 pub mod Hits
 pub mod Indexed
 pub mod Past
+pub mod Words

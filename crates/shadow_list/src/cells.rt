@@ -1,38 +1,48 @@
 //! Cells of eight bytes.
 
-ghost use Rattle.std.specs.Prelude.{◌≡◌, ◌+◌, ◌≤◌, ℕ, [], length, Some, nat_eq};
+ghost use Rattle.std.specs.Prelude.{◌≡◌, ◌+◌, ◌≤◌, ℕ, [], length, Some, nat_eq, slice_index_or};
 ghost use Rattle.std.specs.HashMap.{get, IsEmpty};
+ghost use Rattle.shadow_list.specs.Recent.{no_word, IsInside};
 
 use crate::recent::Recent;
+use crate::word::Word;
 use std::alloc::Global;
 use std::collections::HashMap;
 
-/// What is kept of the accesses to each byte, in cells of eight bytes: where the eight of a cell start, for those that were accessed.
+/// What is kept of the accesses to each byte, in cells of eight bytes, which are two words of four: where the two words of a cell start, for
+/// those that were accessed.
 #[derive(Drop)]
 pub struct Cells {
     pub(crate) starts: HashMap<u64, usize>,
-    pub(crate) bytes: Vec<Recent>,
-    ghost inside: { (key start : ℕ) → get nat_eq starts key ≡ Some start → start + 8 ≤ length bytes.items },
+    pub(crate) words: Vec<Word>,
+    /// What is kept of the bytes of those words that were not only accessed as a whole, four for each
+    pub(crate) apart: Vec<Recent>,
+    ghost inside: { (key start : ℕ) → get nat_eq starts key ≡ Some start → start + 2 ≤ length words.items },
+    ghost bytes_inside: { (place : ℕ) → IsInside apart.items (slice_index_or words.items place no_word) },
 }
 
 impl Cells {
     /// No cells. It takes no memory.
     pub fn new(alloc: Global) -> Self
         ensures starts { IsEmpty result.starts }
-        ensures bytes { result.bytes.items ≡ [] }
+        ensures words { result.words.items ≡ [] }
+        ensures apart { result.apart.items ≡ [] }
     {
         Cells {
             starts: HashMap::new(alloc),
-            bytes: Vec::new(alloc),
+            words: Vec::new(alloc),
+            apart: Vec::new(alloc),
         }
     }
 
     /// Forgets all accesses, and keeps the memory.
     pub fn clear(&mut self)
         ensures starts { IsEmpty self.new.starts }
-        ensures bytes { self.new.bytes.items ≡ [] }
+        ensures words { self.new.words.items ≡ [] }
+        ensures apart { self.new.apart.items ≡ [] }
     {
         self.starts.clear();
-        self.bytes.clear();
+        self.words.clear();
+        self.apart.clear();
     }
 }

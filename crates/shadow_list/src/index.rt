@@ -52,7 +52,8 @@ impl Index {
         ensures indexed { IsIndexed [] result }
         ensures newest { IsEmpty result.newest }
         ensures starts { IsEmpty result.cells.starts }
-        ensures bytes { result.cells.bytes.items ≡ [] }
+        ensures words { result.cells.words.items ≡ [] }
+        ensures apart { result.cells.apart.items ≡ [] }
     {
         Index {
             newest: HashMap::new(alloc),
@@ -65,7 +66,8 @@ impl Index {
         ensures indexed { IsIndexed [] self.new }
         ensures newest { IsEmpty self.new.newest }
         ensures starts { IsEmpty self.new.cells.starts }
-        ensures bytes { self.new.cells.bytes.items ≡ [] }
+        ensures words { self.new.cells.words.items ≡ [] }
+        ensures apart { self.new.cells.apart.items ≡ [] }
     {
         self.newest.clear();
         self.cells.clear();

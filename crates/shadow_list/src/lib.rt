@@ -11,6 +11,7 @@ pub mod log;
 mod marks;
 mod recent;
 mod search;
+mod word;
 
 pub use access_list::AccessList;
 pub use cells::Cells;

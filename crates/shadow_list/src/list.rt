@@ -13,12 +13,13 @@ use crate::search::hit;
 use clmodel::access::{Access, Region, Rule};
 use std::alloc::{AllocError, Global};
 
-/// A log with an index: for each byte, whose its accesses were in its newest interval and of which kind, and for each access where the
-/// newest equal one stands. So a new access costs three look-ups in hash tables, or two where an equal one is there, up to four more where
-/// it lies in two cells of eight bytes or is the first of one, and a step or two for each of its bytes, however many items access the same
-/// bytes: where nothing has conflicted yet, all accesses of a byte in an interval are of one item or of one kind. Nothing is written where
-/// an equal access is there, nor at a byte that was accessed by several items in the same way. The index takes some 150 bytes for each cell
-/// that was accessed, and some 30 for each entry.
+/// A log with an index: for each word of four bytes, or for each byte of a word that was accessed in part, whose its accesses were in its
+/// newest interval and of which kind, and for each access where the newest equal one stands. So a new access costs three look-ups in hash
+/// tables, or two where an equal one is there, up to four more where it lies in two cells of eight bytes or is the first of one, and a step
+/// or two for each of its words, or of its bytes in a word that was accessed in part, however many items access the same bytes: where nothing
+/// has conflicted yet, all accesses of a byte in an interval are of one item or of one kind. Nothing is written where an equal access is
+/// there, nor at a word that was accessed by several items in the same way. The index takes some 80 bytes for each cell that was accessed,
+/// some 80 more for each word that was accessed in part, and some 30 for each entry.
 ///
 /// A launch that runs keeps its groups' accesses in logs without a list of them, and joins the groups by those accesses alone that tell other
 /// groups something new. This list, of all of them, is for results that are merged whole: `get`, `len` and `conflicts_with` ask it. `note`

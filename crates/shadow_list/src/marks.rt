@@ -5,11 +5,12 @@ ghost use Rattle.std.specs.HashMap.{get};
 ghost use Rattle.clmodel.specs.Cells.{byte_count};
 ghost use Rattle.clmodel.specs.Launch.{within_group, conflict_between};
 ghost use Rattle.clmodel.specs.declared.access.Access.{Access as TheAccess};
-ghost use Rattle.shadow_list.specs.Recent.{Describes, nothing};
-ghost use Rattle.shadow_list.specs.Cells.{object, cell_key, cell_of, IsMarked, Passes, KeepsAll};
+ghost use Rattle.shadow_list.specs.Recent.{Describes, at_place, no_word};
+ghost use Rattle.shadow_list.specs.Cells.{object, cell_key, cell_of, IsMarked, Passes, KeepsAll, KeepsWords};
 
 use crate::cells::Cells;
 use crate::recent::Recent;
+use crate::word::{Word, add, word_left};
 use clmodel::access::{Access, Region};
 use std::alloc::AllocError;
 
@@ -31,39 +32,8 @@ fn cell_key(region: Region, byte: u64) -> u64
     byte / 8 % 281474976710656 * 65536 + object(region)
 }
 
-/// Whether an access passes at so many bytes from the first on, of which is kept what stands from a place on.
-fn pass(bytes: &[Recent], from: usize, uniform: bool, x: &Access, first: u64, count: u64) -> bool
-    requires there { from + count ≤ length bytes.now }
-    requires short { first + count < 2 ^ 64 }
-    ensures { IsTrue result → (k : ℕ) → k < count → Passes uniform (slice_index_or bytes.now (from + k) nothing) x.now (first + k) }
-{
-    for k in 0..count {
-        if !bytes[from + k as usize].passes(uniform, x, first + k) {
-            return false;
-        }
-    }
-    true
-}
-
-/// Adds an access to those of so many bytes from the first on, of which is kept what stands from a place on.
-fn add(bytes: &mut Vec<Recent>, from: usize, x: &Access, first: u64, count: u64)
-    requires there { from + count ≤ length bytes.old.items }
-    requires short { first + count < 2 ^ 64 }
-    ensures long { length bytes.new.items ≡ length bytes.old.items }
-    ensures kept { (k : ℕ) (y : TheAccess) (byte : ℕ) → Describes (slice_index_or bytes.old.items k nothing) y byte → Describes (slice_index_or bytes.new.items k nothing) y byte }
-    ensures added { (k : ℕ) → k < count → Describes (slice_index_or bytes.new.items (from + k) nothing) x.now (first + k) }
-{
-    for k in 0..count {
-        let place = from + k as usize;
-        let kept = bytes[place];
-        if !kept.has(x, first + k) {
-            bytes[place] = kept.with(x, first + k);
-        }
-    }
-}
-
 impl Cells {
-    /// Where the bytes of the cell of a byte start, if it is there.
+    /// Where the words of the cell of a byte start, if it is there.
     pub fn found(&self, region: Region, byte: u64) -> Option<usize>
         ensures { result ≡ get nat_eq self.now.starts (cell_key region byte) }
     {
@@ -75,13 +45,18 @@ impl Cells {
         requires found { cell ≡ get nat_eq self.now.starts (cell_key x.now.region first) }
         requires one_cell { first % 8 + count ≤ 8 }
         requires short { first + count < 2 ^ 64 }
+        requires after { x.now.first ≤ first }
         ensures { IsTrue result → (byte : ℕ) → first ≤ byte → byte < first + count → Passes uniform (cell_of self.now x.now.region byte) x.now byte }
     {
         match cell {
             None => true,
             Some(start) => {
-                let from = start + (first % 8) as usize;
-                pass(&self.bytes, from, uniform, x, first, count)
+                let here = count.min(4 - first % 4);
+                let word = self.words[start + (first % 8 / 4) as usize];
+                let next = self.words[start + 1];
+                word.passes(&self.apart, uniform, x, first, here)
+                    && (here == count
+                        || next.passes(&self.apart, uniform, x, first + here, count - here))
             }
         }
     }
@@ -109,19 +84,85 @@ impl Cells {
             && (here == count || self.next_passes(uniform, x, here, count - here))
     }
 
-    /// Where the bytes of a cell start, which is made if it isn't there.
-    fn start(&mut self, cell: Option<usize>, key: u64) -> Result<usize, AllocError>
-        requires { cell ≡ get nat_eq self.old.starts key }
+    /// Where the words of the cell of a byte start, which is made if it isn't there.
+    fn start(&mut self, cell: Option<usize>, region: Region, byte: u64) -> Result<usize, AllocError>
+        requires { cell ≡ get nat_eq self.old.starts (cell_key region byte) }
         ensures same { KeepsAll self.old self.new }
-        ensures there { IfOk result (λ start. get nat_eq self.new.starts key ≡ Some start) }
+        ensures there { IfOk result (λ start. get nat_eq self.new.starts (cell_key region byte) ≡ Some start) }
     {
         if let Some(start) = cell {
             return Ok(start);
         }
-        let start = self.bytes.len();
-        self.bytes.resize(start + 8, Recent::nothing())?;
-        self.starts.insert(key, start)?;
+        let start = self.words.len();
+        self.words
+            .resize(start + 2, Word::Whole(Recent::nothing()))?;
+        self.starts.insert(cell_key(region, byte), start)?;
         Ok(start)
+    }
+
+    /// Where what is kept of the bytes of the word at a place stands apart. Until it does, it is what is kept of all of them. Where memory is
+    /// refused all stays.
+    fn split(&mut self, place: usize, word: Word) -> Result<usize, AllocError>
+        requires there { place < length self.old.words.items }
+        requires word { slice_index_or self.old.words.items place no_word ≡ word }
+        ensures kept { KeepsWords self.old self.new }
+        ensures apart { IfOk result (λ at. slice_index_or self.new.words.items place no_word ≡ Word.Apart at) }
+    {
+        match word {
+            Word::Apart(at) => Ok(at),
+            Word::Whole(all) => {
+                let at = self.apart.len();
+                let bytes = [all.byte(0), all.byte(1), all.byte(2), all.byte(3)];
+                self.apart.extend_from_slice(&bytes)?;
+                self.words[place] = Word::Apart(at);
+                Ok(at)
+            }
+        }
+    }
+
+    /// Adds an access to those of all bytes of the word at a place, of which this is kept.
+    fn mark_whole(&mut self, place: usize, all: Recent, x: &Access, first: u64)
+        requires there { place < length self.old.words.items }
+        requires word { slice_index_or self.old.words.items place no_word ≡ Word.Whole all }
+        requires even { first % 4 ≡ 0 }
+        requires after { x.now.first ≤ first }
+        ensures kept { KeepsWords self.old self.new }
+        ensures added { (byte : ℕ) → first ≤ byte → byte < first + 4 → Describes (at_place self.new.words.items self.new.apart.items place (byte % 4)) x.now byte }
+    {
+        let left = word_left(x, first);
+        if all.has(x, left) {
+            return;
+        }
+        self.words[place] = Word::Whole(all.with(x, left));
+    }
+
+    /// Adds an access to those of so many bytes of the word at a place, from the first on.
+    fn mark_word(
+        &mut self,
+        place: usize,
+        x: &Access,
+        first: u64,
+        count: u64,
+    ) -> Result<(), AllocError>
+        requires there { place < length self.old.words.items }
+        requires one_word { first % 4 + count ≤ 4 }
+        requires short { first + count < 2 ^ 64 }
+        requires after { x.now.first ≤ first }
+        ensures kept { KeepsWords self.old self.new }
+        ensures added { OnOk result ((byte : ℕ) → first ≤ byte → byte < first + count → Describes (at_place self.new.words.items self.new.apart.items place (byte % 4)) x.now byte) }
+    {
+        let word = self.words[place];
+        match word {
+            Word::Whole(all) if count == 4 => {
+                self.mark_whole(place, all, x, first);
+                Ok(())
+            }
+            _ => {
+                let at = self.split(place, word)?;
+                add(&mut self.apart, at, x, first, count);
+                Ok(())
+            }
+        }
     }
 
     /// Adds an access to those of some bytes of one cell, by where that starts.
@@ -135,12 +176,17 @@ impl Cells {
         requires found { cell ≡ get nat_eq self.old.starts (cell_key x.now.region first) }
         requires one_cell { first % 8 + count ≤ 8 }
         requires short { first + count < 2 ^ 64 }
+        requires after { x.now.first ≤ first }
         ensures kept { KeepsAll self.old self.new }
         ensures added { OnOk result ((byte : ℕ) → first ≤ byte → byte < first + count → Describes (cell_of self.new x.now.region byte) x.now byte) }
     {
-        let from = self.start(cell, cell_key(x.region, first))? + (first % 8) as usize;
-        add(&mut self.bytes, from, x, first, count);
-        Ok(())
+        let start = self.start(cell, x.region, first)?;
+        let here = count.min(4 - first % 4);
+        self.mark_word(start + (first % 8 / 4) as usize, x, first, here)?;
+        if here == count {
+            return Ok(());
+        }
+        self.mark_word(start + 1, x, first + here, count - here)
     }
 
     /// Keeps an access, by where the cell of its first byte starts. Where memory is refused a part of it may be kept.

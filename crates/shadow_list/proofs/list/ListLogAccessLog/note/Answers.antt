@@ -1,4 +1,4 @@
-use Rattle.std.proofs.Common.{◌+◌, true, false, List, [], ◌∷◌, ◌++◌, refl, sym, ap, ◌∙◌, subst, inl, inr}
+use Rattle.std.proofs.Common.{◌+◌, true, false, [], ◌∷◌, ◌++◌, refl, sym, ap, ◌∙◌, subst, inl, inr}
 use Rattle.std.specs.Prelude.{is_ok}
 use Rattle.shadow_list.specs.Past.{IsBefore}
 use Rattle.shadow_list.specs.declared.list.ListLog.{ListLog}
