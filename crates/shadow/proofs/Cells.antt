@@ -1,19 +1,20 @@
--- What is kept of bytes, where pages and buffers get cells and bytes are marked.
-use Rattle.std.proofs.Common.{◌≡◌, ℕ, zero, suc, ◌+◌, ◌-◌, ◌/◌, ◌%◌, ◌<◌, ◌≤◌, ◌==◌, Bool, true, false, ◌&&◌, if◌then◌else◌, List, [], ◌∷◌, ◌++◌, length, map, get_or, set, ◌⊎◌, inl, inr, refl, sym, ap, ap₂, ◌∙◌, subst, Result, Ok, Err, OnOk, OnErr, eq-eqb, arith}
+-- What is kept of words and bytes, where pages and buffers get words and words are put.
+use Rattle.std.proofs.Common.{◌≡◌, ℕ, zero, suc, ◌+◌, ◌-◌, ◌/◌, ◌%◌, ◌<◌, ◌≤◌, ◌==◌, Bool, true, ◌&&◌, if◌then◌else◌, List, [], ◌∷◌, ◌++◌, length, map, get_or, set, ◌⊎◌, inl, inr, refl, sym, ap, ap₂, ◌∙◌, subst, Result, Ok, Err, OnOk, OnErr, IfOk, eq-eqb, arith}
 use Rattle.std.specs.Prelude.{Vec}
 use Rattle.std.specs.declared.alloc.Global.{Global}
 use Rattle.std.proofs.lemmas.Bool.{cases_eq, cases_lt, ne_eqb, false≢true}
-use Rattle.std.proofs.lemmas.List.{map-set, get_or-set_same, get_or-set_other, get_or-map, get_or_past, length-map}
+use Rattle.std.proofs.lemmas.List.{map-set, get_or-set_same, get_or-set_other, get_or-map, get_or_past, get_or_default, length-map}
 use Rattle.clmodel.specs.Cells.{covers}
-use Rattle.clmodel.proofs.CellLaws.{covers_parts, covers_from}
-use Rattle.shadow.specs.Seen.{seen_with, row_of, cell_in, IsPage, cell, buffer_cells}
+use Rattle.shadow.specs.Seen.{seen_with, byte_seen, is_apart, row_of, word_in, cell_in, IsPage, cell, buffer_cells}
 use Rattle.shadow.specs.declared.pages.Pages.{Pages}
 use Rattle.shadow.specs.declared.seen.Mark.{Mark}
 use Rattle.shadow.specs.declared.seen.Seen.{Seen}
 use Rattle.shadow.specs.declared.seen.Seen.TheVariants.{Untouched}
+use Rattle.shadow.specs.declared.words.Word.{Word}
+use Rattle.shadow.specs.declared.words.Word.TheVariants as word
 
 abbrev Row : Type 0
-Row = Vec Seen Global
+Row = Vec Word Global
 
 -- ---- pages of one buffer
 
@@ -23,6 +24,13 @@ pushed [] v e zero = e
 pushed [] v e (suc page) = refl
 pushed (x ∷ pages) v e zero = refl
 pushed (x ∷ pages) v e (suc page) = pushed pages v e page
+
+-- an untouched word more
+pub word_more : (row : List Word) (k : ℕ) → get_or (row ++ word.Untouched ∷ []) k word.Untouched ≡ get_or row k word.Untouched
+word_more [] zero = refl
+word_more [] (suc k) = refl
+word_more (x ∷ row) zero = refl
+word_more (x ∷ row) (suc k) = word_more row k
 
 row_set_same : (pages : List Row) (page : ℕ) (v : Row) → page < length pages → row_of (set pages page v) page ≡ v.items
 row_set_same pages page v b =
@@ -36,8 +44,8 @@ row_set_other pages page v other ne =
 pub was_row : (pages : List Row) (page : ℕ) (w : Row) → page < length pages → w ≡ get_or pages page w → row_of pages page ≡ w.items
 was_row pages page w b e = get_or-map (λ (r : Row). r.items) pages page w [] b ∙ sym (ap (λ (r : Row). r.items) e)
 
--- a page with cells is one of the pages
-pub page_from : (pages : List Row) (page : ℕ) → 256 ≤ length (row_of pages page) → IsPage pages page
+-- a page with words is one of the pages
+pub page_from : (pages : List Row) (page : ℕ) → 64 ≤ length (row_of pages page) → IsPage pages page
 page_from pages page h = go (cases_lt page (length pages))
   where
     go : (page < length pages) ⊎ (length pages ≤ page) → IsPage pages page
@@ -48,23 +56,27 @@ page_from pages page h = go (cases_lt page (length pages))
         absurd (omega (arith, h, count))
 
 pub same_page : (pages other : List Row) (page : ℕ) → row_of other page ≡ row_of pages page → IsPage pages page → IsPage other page
-same_page pages other page e h = page_from other page (subst (λ z. 256 ≤ length z) (sym e) h.1)
+same_page pages other page e h = page_from other page (subst (λ z. 64 ≤ length z) (sym e) h.1)
 
--- a page that gets its cells
+-- the words are the same where the pages are
+pub same_rows : (pages other : List Row) → ((page : ℕ) → row_of other page ≡ row_of pages page) → (byte : ℕ) → cell_in other byte ≡ cell_in pages byte
+same_rows pages other same byte = ap (λ z. byte_seen (get_or z (byte / 4 % 64) word.Untouched) (byte % 4)) (same (byte / 4 / 64))
+
+-- a page that gets its words
 pub filled_cell :
-    (pages : List Row) (page : ℕ) (v w : Row) → page < length pages → w ≡ get_or pages page w → ((k : ℕ) → get_or v.items k Untouched ≡ get_or w.items k Untouched)
+    (pages : List Row) (page : ℕ) (v w : Row) → page < length pages → w ≡ get_or pages page w → ((k : ℕ) → get_or v.items k word.Untouched ≡ get_or w.items k word.Untouched)
     → (byte : ℕ) → cell_in (set pages page v) byte ≡ cell_in pages byte
-filled_cell pages page v w b e same byte = go (cases_eq (byte / 256) page)
+filled_cell pages page v w b e same byte = ap (λ z. byte_seen z (byte % 4)) (go (cases_eq (byte / 4 / 64) page))
   where
-    go : (byte / 256 ≡ page) ⊎ (byte / 256 ≡ page → ⊥) → cell_in (set pages page v) byte ≡ cell_in pages byte
+    go : (byte / 4 / 64 ≡ page) ⊎ (byte / 4 / 64 ≡ page → ⊥) → word_in (set pages page v) (byte / 4) ≡ word_in pages (byte / 4)
     go (inl h) =
-        ap (λ z. get_or z (byte % 256) Untouched) (ap (row_of (set pages page v)) h ∙ row_set_same pages page v b)
-        ∙ same (byte % 256)
-        ∙ sym (ap (λ z. get_or z (byte % 256) Untouched) (ap (row_of pages) h ∙ was_row pages page w b e))
-    go (inr h) = ap (λ z. get_or z (byte % 256) Untouched) (row_set_other pages page v (byte / 256) h)
+        ap (λ z. get_or z (byte / 4 % 64) word.Untouched) (ap (row_of (set pages page v)) h ∙ row_set_same pages page v b)
+        ∙ same (byte / 4 % 64)
+        ∙ sym (ap (λ z. get_or z (byte / 4 % 64) word.Untouched) (ap (row_of pages) h ∙ was_row pages page w b e))
+    go (inr h) = ap (λ z. get_or z (byte / 4 % 64) word.Untouched) (row_set_other pages page v (byte / 4 / 64) h)
 
-pub filled_page : (pages : List Row) (page : ℕ) (v : Row) → page < length pages → 256 ≤ length v.items → IsPage (set pages page v) page
-filled_page pages page v b long = page_from (set pages page v) page (subst (λ z. 256 ≤ length z) (sym (row_set_same pages page v b)) long)
+pub filled_page : (pages : List Row) (page : ℕ) (v : Row) → page < length pages → 64 ≤ length v.items → IsPage (set pages page v) page
+filled_page pages page v b long = page_from (set pages page v) page (subst (λ z. 64 ≤ length z) (sym (row_set_same pages page v b)) long)
 
 pub filled_kept : (pages : List Row) (page : ℕ) (v w : Row) → page < length pages → w ≡ get_or pages page w → length w.items ≤ length v.items
     → (other : ℕ) → IsPage pages other → IsPage (set pages page v) other
@@ -73,122 +85,120 @@ filled_kept pages page v w b e longer other h = go (cases_eq other page)
     go : (other ≡ page) ⊎ (other ≡ page → ⊥) → IsPage (set pages page v) other
     go (inl k) =
         let row : row_of pages other ≡ w.items = ap (row_of pages) k ∙ was_row pages page w b e in
-        let long : 256 ≤ length w.items = subst (λ z. 256 ≤ length z) row h.1 in
+        let long : 64 ≤ length w.items = subst (λ z. 64 ≤ length z) row h.1 in
         subst (IsPage (set pages page v)) (sym k) (filled_page pages page v b (omega (arith, long, longer)))
     go (inr k) = same_page pages (set pages page v) other (row_set_other pages page v other k) h
 
--- ---- marks
+-- ---- words that are put
 
-one_byte : (x y : ℕ) → x / 256 ≡ y / 256 → x % 256 ≡ y % 256 → x ≡ y
-one_byte x y h k = omega (arith, h, k)
+one_word : (m n : ℕ) → m / 64 ≡ n / 64 → m % 64 ≡ n % 64 → m ≡ n
+one_word m n h k = omega (arith, h, k)
 
--- a byte that is marked
-pub marked_byte :
-    (pages : List Row) (v w : Row) (s : Seen) (mark : Mark) (byte : ℕ) → byte / 256 < length pages → w ≡ get_or pages (byte / 256) w → v.items ≡ set w.items (byte % 256) s
-    → byte % 256 < length w.items → s ≡ seen_with (get_or w.items (byte % 256) Untouched) mark
-    → (other : ℕ) → cell_in (set pages (byte / 256) v) other ≡ (if byte == other then seen_with (cell_in pages other) mark else cell_in pages other)
-marked_byte pages v w s mark byte b e is inside told other = go (cases_eq other byte)
+-- a word apart has its place
+pub apart_placed : (pages : List Row) (n : ℕ) → is_apart (word_in pages n) ≡ true → (n / 64 < length pages) × (n % 64 < length (row_of pages (n / 64)))
+apart_placed pages n h = (go (cases_lt (n / 64) (length pages)), inside (cases_lt (n % 64) (length (row_of pages (n / 64)))))
+  where
+    inside : (n % 64 < length (row_of pages (n / 64))) ⊎ (length (row_of pages (n / 64)) ≤ n % 64) → n % 64 < length (row_of pages (n / 64))
+    inside (inl b) = b
+    inside (inr b) = absurd (false≢true (sym (ap is_apart (get_or_past (row_of pages (n / 64)) (n % 64) word.Untouched b)) ∙ h))
+
+    go : (n / 64 < length pages) ⊎ (length pages ≤ n / 64) → n / 64 < length pages
+    go (inl b) = b
+    go (inr b) =
+        let none : row_of pages (n / 64) ≡ [] = get_or_past (map (λ (r : Row). r.items) pages) (n / 64) [] (subst (λ z. z ≤ n / 64) (sym (length-map pages (λ (r : Row). r.items))) b) in
+        let count : length (row_of pages (n / 64)) ≡ 0 = ap length none in
+        let some : n % 64 < length (row_of pages (n / 64)) = inside (cases_lt (n % 64) (length (row_of pages (n / 64)))) in
+        absurd (omega (arith, some, count))
+
+-- the word that was there
+pub was_word :
+    (pages : List Row) (n : ℕ) (w : Row) (old : Word) → n / 64 < length pages → w ≡ get_or pages (n / 64) w → n % 64 < length w.items → old ≡ get_or w.items (n % 64) old
+    → word_in pages n ≡ old
+was_word pages n w old b e inside is =
+    ap (λ z. get_or z (n % 64) word.Untouched) (was_row pages (n / 64) w b e) ∙ get_or_default w.items (n % 64) word.Untouched old inside ∙ sym is
+
+-- one word is put, and the others stay
+pub record IsPut (pages after : List Row) (n : ℕ) (s : Word) : Type 0 where
+  pub here : word_in after n ≡ s
+  pub others : (m : ℕ) → (m ≡ n → ⊥) → word_in after m ≡ word_in pages m
+  pub kept : (page : ℕ) → IsPage pages page → IsPage after page
+
+pub put :
+    (pages : List Row) (n : ℕ) (v w : Row) (s : Word) → n / 64 < length pages → w ≡ get_or pages (n / 64) w → n % 64 < length w.items → v.items ≡ set w.items (n % 64) s
+    → length v.items ≡ length w.items → IsPut pages (set pages (n / 64) v) n s
+put pages n v w s b e inside is long = record {
+  here =
+      ap (λ z. get_or z (n % 64) word.Untouched) (row_set_same pages (n / 64) v b ∙ is)
+      ∙ get_or-set_same w.items (n % 64) s word.Untouched inside;
+  others = λ m ne. there m ne (cases_eq (m / 64) (n / 64));
+  kept = filled_kept pages (n / 64) v w b e (omega (arith, long));
+}
   where
     after : List Row
-    after = set pages (byte / 256) v
+    after = set pages (n / 64) v
 
-    row : row_of pages (byte / 256) ≡ w.items
-    row = was_row pages (byte / 256) w b e
+    there : (m : ℕ) → (m ≡ n → ⊥) → (m / 64 ≡ n / 64) ⊎ (m / 64 ≡ n / 64 → ⊥) → word_in after m ≡ word_in pages m
+    there m ne (inl h) =
+        ap (λ z. get_or z (m % 64) word.Untouched) (ap (row_of after) h ∙ row_set_same pages (n / 64) v b ∙ is)
+        ∙ get_or-set_other w.items (n % 64) (m % 64) s word.Untouched (λ k. ne (one_word m n h k))
+        ∙ sym (ap (λ z. get_or z (m % 64) word.Untouched) (ap (row_of pages) h ∙ was_row pages (n / 64) w b e))
+    there m ne (inr h) = ap (λ z. get_or z (m % 64) word.Untouched) (row_set_other pages (n / 64) v (m / 64) h)
 
-    here : cell_in after byte ≡ seen_with (cell_in pages byte) mark
-    here =
-        ap (λ z. get_or z (byte % 256) Untouched) (row_set_same pages (byte / 256) v b ∙ is)
-        ∙ get_or-set_same w.items (byte % 256) s Untouched inside
-        ∙ told
-        ∙ sym (ap (λ z. seen_with (get_or z (byte % 256) Untouched) mark) row)
-
-    there : (other ≡ byte → ⊥) → cell_in after other ≡ cell_in pages other
-    there ne = by_page (cases_eq (other / 256) (byte / 256))
-      where
-        by_page : (other / 256 ≡ byte / 256) ⊎ (other / 256 ≡ byte / 256 → ⊥) → cell_in after other ≡ cell_in pages other
-        by_page (inl h) =
-            ap (λ z. get_or z (other % 256) Untouched) (ap (row_of after) h ∙ row_set_same pages (byte / 256) v b ∙ is)
-            ∙ get_or-set_other w.items (byte % 256) (other % 256) s Untouched (λ k. ne (one_byte other byte h k))
-            ∙ sym (ap (λ z. get_or z (other % 256) Untouched) (ap (row_of pages) h ∙ row))
-        by_page (inr h) = ap (λ z. get_or z (other % 256) Untouched) (row_set_other pages (byte / 256) v (other / 256) h)
-
-    go : (other ≡ byte) ⊎ (other ≡ byte → ⊥) → cell_in after other ≡ (if byte == other then seen_with (cell_in pages other) mark else cell_in pages other)
-    go (inl h) =
-        subst (λ z. cell_in after z ≡ (if byte == z then seen_with (cell_in pages z) mark else cell_in pages z)) (sym h)
-        (here ∙ sym (ap (λ (z : Bool). if z then seen_with (cell_in pages byte) mark else cell_in pages byte) (eq-eqb byte byte refl)))
-    go (inr h) = there h ∙ sym (ap (λ (z : Bool). if z then seen_with (cell_in pages other) mark else cell_in pages other) (ne_eqb byte other (λ k. h (sym k))))
-
--- many bytes are marked as the first and the others
-pub marked_more :
-    (f : ℕ → Seen → Seen) (new mid old : Seen) (first count byte : ℕ) → 0 < count → new ≡ (if covers (first + 1) (count - 1) byte then f byte mid else mid)
-    → mid ≡ (if first == byte then f first old else old) → new ≡ (if covers first count byte then f byte old else old)
-marked_more f new mid old first count byte some later here = go (cases_eq byte first)
+-- words apart stay so
+pub put_apart : (pages after : List Row) (n : ℕ) (s : Word) → IsPut pages after n s → (is_apart (word_in pages n) ≡ true → is_apart s ≡ true)
+    → (m : ℕ) → is_apart (word_in pages m) ≡ true → is_apart (word_in after m) ≡ true
+put_apart pages after n s p apart m h = go (cases_eq m n)
   where
-    same : (byte ≡ first → ⊥) → (a : Bool) → covers first count byte ≡ a → (b : Bool) → covers (first + 1) (count - 1) byte ≡ b → b ≡ a
-    same ne true h true k = refl
-    same ne false h false k = refl
-    same ne true h false k =
-        let r : (first ≤ byte) × (byte < first + count) = covers_parts first count byte h in
-        absurd (false≢true (sym k ∙ covers_from (first + 1) (count - 1) byte (omega (arith, r.0, ne)) (omega (arith, r.1, some))))
-    same ne false h true k =
-        let r : (first + 1 ≤ byte) × (byte < first + 1 + (count - 1)) = covers_parts (first + 1) (count - 1) byte k in
-        absurd (false≢true (sym h ∙ covers_from first count byte (omega (arith, r.0)) (omega (arith, r.1, some))))
+    go : (m ≡ n) ⊎ (m ≡ n → ⊥) → is_apart (word_in after m) ≡ true
+    go (inl e) = ap (λ z. is_apart (word_in after z)) e ∙ ap is_apart p.here ∙ apart (sym (ap (λ z. is_apart (word_in pages z)) e) ∙ h)
+    go (inr ne) = ap is_apart (p.others m ne) ∙ h
 
-    past : byte ≡ first → (b : Bool) → covers (first + 1) (count - 1) byte ≡ b → b ≡ false
-    past e false k = refl
-    past e true k = let r : (first + 1 ≤ byte) × (byte < first + 1 + (count - 1)) = covers_parts (first + 1) (count - 1) byte k in absurd (omega (arith, r.0, e))
-
-    go : (byte ≡ first) ⊎ (byte ≡ first → ⊥) → new ≡ (if covers first count byte then f byte old else old)
+-- bytes stay where those of the word do
+pub put_same : (pages after : List Row) (n : ℕ) (s old : Word) → IsPut pages after n s → word_in pages n ≡ old → ((k : ℕ) → k < 4 → byte_seen s k ≡ byte_seen old k)
+    → (byte : ℕ) → cell_in after byte ≡ cell_in pages byte
+put_same pages after n s old p was same byte = go (cases_eq (byte / 4) n)
+  where
+    go : (byte / 4 ≡ n) ⊎ (byte / 4 ≡ n → ⊥) → cell_in after byte ≡ cell_in pages byte
     go (inl e) =
-        later
-        ∙ ap (λ (z : Bool). if z then f byte mid else mid) (past e (covers (first + 1) (count - 1) byte) refl)
-        ∙ here
-        ∙ ap (λ (z : Bool). if z then f first old else old) (eq-eqb first byte (sym e))
-        ∙ ap (λ z. f z old) (sym e)
-        ∙ sym (ap (λ (z : Bool). if z then f byte old else old) (covers_from first count byte (omega (arith, e)) (omega (arith, e, some))))
-    go (inr ne) =
-        let is : mid ≡ old = here ∙ ap (λ (z : Bool). if z then f first old else old) (ne_eqb first byte (λ k. ne (sym k))) in
-        later
-        ∙ ap (λ z. if covers (first + 1) (count - 1) byte then f byte z else z) is
-        ∙ ap (λ (z : Bool). if z then f byte old else old) (same ne (covers first count byte) refl (covers (first + 1) (count - 1) byte) refl)
+        ap (λ z. byte_seen z (byte % 4)) (ap (word_in after) e ∙ p.here)
+        ∙ same (byte % 4) (omega arith)
+        ∙ sym (ap (λ z. byte_seen z (byte % 4)) (ap (word_in pages) e ∙ was))
+    go (inr ne) = ap (λ z. byte_seen z (byte % 4)) (p.others (byte / 4) ne)
 
-pub none_marked : (f : Seen → Seen) (old : Seen) (first count byte : ℕ) → count ≡ 0 → old ≡ (if covers first count byte then f old else old)
-none_marked f old first count byte e = sym (ap (λ (z : Bool). if z then f old else old) (none (covers first count byte) refl))
+-- a word of a page between two bytes that are so near
+pub either_page : (P : ℕ → Type 0) (first count n : ℕ) → count ≤ 8 → first / 4 ≤ n → n ≤ (first + count - 1) / 4 → 0 < count → P (first / 256) → P ((first + count - 1) / 256) → P (n / 64)
+either_page P first count n few low high some p q = go (cases_eq (n / 64) (first / 256))
   where
-    none : (b : Bool) → covers first count byte ≡ b → b ≡ false
-    none false k = refl
-    none true k = let r : (first ≤ byte) × (byte < first + count) = covers_parts first count byte k in absurd (omega (arith, r.0, r.1, e))
-
--- bytes of which no mark tells anything new: the first, and the others
-pub none_new :
-    (test : ℕ → Seen → Bool) (old mid put : ℕ → Seen) (first count byte : ℕ) → test first (old first) ≡ false
-    → ((b : ℕ) → covers (first + 1) (count - 1) b ≡ true → test b (mid b) ≡ false) → ((b : ℕ) → mid b ≡ (if first == b then put b else old b))
-    → covers first count byte ≡ true → test byte (old byte) ≡ false
-none_new test old mid put first count byte here rest marked c = go (cases_eq byte first)
-  where
-    go : (byte ≡ first) ⊎ (byte ≡ first → ⊥) → test byte (old byte) ≡ false
-    go (inl e) = ap (λ z. test z (old z)) e ∙ here
-    go (inr ne) =
-        let r : (first ≤ byte) × (byte < first + count) = covers_parts first count byte c in
-        let same : mid byte ≡ old byte = marked byte ∙ ap (λ (z : Bool). if z then put byte else old byte) (ne_eqb first byte (λ k. ne (sym k))) in
-        ap (test byte) (sym same) ∙ rest byte (covers_from (first + 1) (count - 1) byte (omega (arith, r.0, ne)) (omega (arith, r.1, ne, r.0)))
-
--- a byte behind the first at which a mark is new
-pub some_new :
-    (test : ℕ → Seen → Bool) (old mid put : ℕ → Seen) (first count : ℕ) → 0 < count → ((b : ℕ) → mid b ≡ (if first == b then put b else old b))
-    → (b : ℕ) × (covers (first + 1) (count - 1) b ≡ true) × (test b (mid b) ≡ true) → (b : ℕ) × (covers first count b ≡ true) × (test b (old b) ≡ true)
-some_new test old mid put first count some marked (b, c, t) =
-    let r : (first + 1 ≤ b) × (b < first + 1 + (count - 1)) = covers_parts (first + 1) (count - 1) b c in
-    let same : mid b ≡ old b = marked b ∙ ap (λ (z : Bool). if z then put b else old b) (ne_eqb first b (λ k. omega (arith, r.0, k))) in
-    (b, covers_from first count b (omega (arith, r.0)) (omega (arith, r.1, some)), ap (test b) (sym same) ∙ t)
-
--- so few bytes are on two pages
-pub either_page : (P : ℕ → Type 0) (first count byte : ℕ) → count ≤ 8 → first ≤ byte → byte < first + count → P (first / 256) → P ((first + count - 1) / 256) → P (byte / 256)
-either_page P first count byte few low high p q = go (cases_eq (byte / 256) (first / 256))
-  where
-    go : (byte / 256 ≡ first / 256) ⊎ (byte / 256 ≡ first / 256 → ⊥) → P (byte / 256)
+    go : (n / 64 ≡ first / 256) ⊎ (n / 64 ≡ first / 256 → ⊥) → P (n / 64)
     go (inl e) = subst P (sym e) p
-    go (inr ne) = let e : (first + count - 1) / 256 ≡ byte / 256 = omega (arith, few, low, high, ne) in subst P e q
+    go (inr ne) = let e : (first + count - 1) / 256 ≡ n / 64 = omega (arith, few, low, high, some, ne) in subst P e q
+
+-- ---- bytes apart
+
+-- one of them is marked
+pub part_marked : (bytes : List Seen) (k : ℕ) (s : Seen) (mark : Mark) → k < length bytes → s ≡ seen_with (get_or bytes k Untouched) mark
+    → (j : ℕ) → get_or (set bytes k s) j Untouched ≡ (if k == j then seen_with (get_or bytes j Untouched) mark else get_or bytes j Untouched)
+part_marked bytes k s mark inside is j = go (cases_eq k j)
+  where
+    go : (k ≡ j) ⊎ (k ≡ j → ⊥) → get_or (set bytes k s) j Untouched ≡ (if k == j then seen_with (get_or bytes j Untouched) mark else get_or bytes j Untouched)
+    go (inl e) =
+        sym (ap (λ z. get_or (set bytes k s) z Untouched) e)
+        ∙ get_or-set_same bytes k s Untouched inside
+        ∙ is
+        ∙ ap (λ z. seen_with (get_or bytes z Untouched) mark) e
+        ∙ sym (ap (λ (z : Bool). if z then seen_with (get_or bytes j Untouched) mark else get_or bytes j Untouched) (eq-eqb k j e))
+    go (inr ne) =
+        get_or-set_other bytes k j s Untouched (λ e. ne (sym e))
+        ∙ sym (ap (λ (z : Bool). if z then seen_with (get_or bytes j Untouched) mark else get_or bytes j Untouched) (ne_eqb k j ne))
+
+-- the four bytes of a word, listed
+pub four_listed : (bytes : List Seen) (w : Word) (a b c d : Seen) → bytes ≡ a ∷ b ∷ c ∷ d ∷ [] → a ≡ byte_seen w 0 → b ≡ byte_seen w 1 → c ≡ byte_seen w 2 → d ≡ byte_seen w 3
+    → (k : ℕ) → k < 4 → get_or bytes k Untouched ≡ byte_seen w k
+four_listed bytes w a b c d is e f g h zero small = ap (λ z. get_or z 0 Untouched) is ∙ e
+four_listed bytes w a b c d is e f g h (suc zero) small = ap (λ z. get_or z 1 Untouched) is ∙ f
+four_listed bytes w a b c d is e f g h (suc (suc zero)) small = ap (λ z. get_or z 2 Untouched) is ∙ g
+four_listed bytes w a b c d is e f g h (suc (suc (suc zero))) small = ap (λ z. get_or z 3 Untouched) is ∙ h
+four_listed bytes w a b c d is e f g h (suc (suc (suc (suc k)))) small = absurd (omega (arith, small))
 
 -- ---- buffers
 
@@ -197,7 +207,9 @@ pub one_more : (buffers : List Pages) (b : Pages) → b.pages.items ≡ [] → (
 one_more [] b e zero byte = ap (λ z. cell_in z byte) e ∙ nothing_in byte
   where
     nothing_in : (byte : ℕ) → cell_in [] byte ≡ Untouched
-    nothing_in byte = ap (λ z. get_or z (byte % 256) Untouched) (get_or_past {X = List Seen} [] (byte / 256) [] (omega arith)) ∙ get_or_past {X = Seen} [] (byte % 256) Untouched (omega arith)
+    nothing_in byte =
+        ap (λ z. byte_seen z (byte % 4))
+        (ap (λ z. get_or z (byte / 4 % 64) word.Untouched) (get_or_past {X = List Word} [] (byte / 4 / 64) [] (omega arith)) ∙ get_or_past {X = Word} [] (byte / 4 % 64) word.Untouched (omega arith))
 one_more [] b e (suc n) byte = refl
 one_more (x ∷ buffers) b e zero byte = refl
 one_more (x ∷ buffers) b e (suc n) byte = one_more buffers b e n byte
@@ -247,10 +259,18 @@ marked_cells buffers n v w mark first count b e marked m byte = go (cases_eq m n
         unchanged_there buffers n v m byte h
         ∙ sym (ap (λ (z : Bool). if z && covers first count byte then seen_with (cell (buffer_cells buffers) m byte) (mark byte) else cell (buffer_cells buffers) m byte) (ne_eqb m n h))
 
-pub on_err : {T E P : Type 0} (r : Result T E) → P → OnErr r P
-on_err (Ok t) p = tt
-on_err (Err e) p = p
-
 pub ok_then : {T E P Q : Type 0} (r : Result T E) → (P → Q) → OnOk r P → OnOk r Q
 ok_then (Ok t) f p = f p
 ok_then (Err e) f p = tt
+
+pub err_then : {T E P Q : Type 0} (r : Result T E) → (P → Q) → OnErr r P → OnErr r Q
+err_then (Ok t) f p = tt
+err_then (Err e) f p = f p
+
+pub if_then : {T E : Type 0} {P Q : T → Type 0} (r : Result T E) → ((t : T) → P t → Q t) → IfOk r P → IfOk r Q
+if_then (Ok t) f p = f t p
+if_then (Err e) f p = tt
+
+pub if_all : {T E Q : Type 0} {P : T → Type 0} (r : Result T E) → ((t : T) → P t → Q) → IfOk r P → OnOk r Q
+if_all (Ok t) f p = f t p
+if_all (Err e) f p = tt

@@ -2,7 +2,7 @@
 use Rattle.std.specs.Prelude.{◌≡◌, ℕ, zero, suc, ◌/◌, ◌%◌, ◌<◌, ◌≤◌, ◌==◌, Bool, true, false, not, ◌&&◌, ◌||◌, Option, None, List, [], ◌∷◌, if◌then◌else◌, slice_index_or, length, map, Vec}
 use Rattle.std.specs.declared.alloc.Global.{Global}
 use Rattle.std.specs.Option.{option_map}
-use Rattle.clmodel.specs.Cells.{byte_count}
+use Rattle.clmodel.specs.Cells.{byte_count, byte_of, covers}
 use Rattle.clmodel.specs.Launch.{clash, both_store, left_at, across_groups, conflict_between}
 use Rattle.clmodel.specs.Run.{or_else}
 use Rattle.clmodel.specs.Law.{Logged, conflict_from}
@@ -20,6 +20,9 @@ use Rattle.shadow.specs.declared.seen.Meeting.{Meeting}
 use Rattle.shadow.specs.declared.pages.Pages.{Pages}
 use Rattle.shadow.specs.declared.footprint.Footprint.{Footprint}
 use Rattle.shadow.specs.declared.seen.Seen.{Seen}
+use Rattle.shadow.specs.declared.words.Word.{Word}
+use Rattle.shadow.specs.declared.words.Word.TheVariants as word
+use Rattle.shadow.specs.declared.words.WordMark.{WordMark}
 use Rattle.shadow.specs.declared.seen.Seen.TheVariants.{Untouched, Touched, Mixed}
 
 -- two accesses to a byte are of one sort: of one kind, and stores leave the same byte (own)
@@ -84,17 +87,55 @@ against_from uniform x cells byte (suc count) =
 abbrev pub meeting_of : conflict_type.Conflict → Meeting
 meeting_of c = record { clash = c.clash; mark = mark_of c.earlier c.byte; byte = c.byte }
 
--- the cells of a page, none where it has none (own)
-abbrev pub row_of : List (Vec Seen Global) → ℕ → List Seen
+-- what the mark of a word of four bytes says of its byte k (own)
+abbrev pub byte_mark : WordMark → ℕ → Mark
+byte_mark m k = record { item = m.item; kind = m.kind; left = byte_of k m.left }
+
+-- what is kept of byte k of a word (own)
+abbrev pub byte_seen : Word → ℕ → Seen
+byte_seen word.Untouched k = Untouched
+byte_seen (word.Touched a) k = Touched (byte_mark a k)
+byte_seen (word.Mixed a b) k = seen_with (Touched (byte_mark a k)) (byte_mark b k)
+byte_seen (word.Apart bytes) k = slice_index_or bytes.value k Untouched
+
+-- whether a word stays one when an access to all of it is added (own)
+abbrev pub is_ready : Word → Bool
+is_ready word.Untouched = true
+is_ready (word.Touched a) = true
+is_ready (word.Mixed a b) = not (kind_number a.kind == kind_number b.kind)
+is_ready (word.Apart bytes) = false
+
+-- whether each byte of a word is kept apart (own)
+abbrev pub is_apart : Word → Bool
+is_apart (word.Apart bytes) = true
+is_apart _ = false
+
+-- where the low and the high four bytes of an access begin in it (own)
+abbrev pub half_start : Bool → ℕ
+half_start false = 0
+half_start true = 4
+
+-- the words of a page, none where it has none (own)
+abbrev pub row_of : List (Vec Word Global) → ℕ → List Word
 row_of pages page = slice_index_or (map (λ row. row.items) pages) page []
 
--- what is kept of a byte of one buffer: pages have 256 bytes (own)
-abbrev pub cell_in : List (Vec Seen Global) → ℕ → Seen
-cell_in pages byte = slice_index_or (row_of pages (byte / 256)) (byte % 256) Untouched
+-- a word of one buffer: pages have 64 words (own)
+abbrev pub word_in : List (Vec Word Global) → ℕ → Word
+word_in pages number = slice_index_or (row_of pages (number / 64)) (number % 64) word.Untouched
 
--- a page has its cells (own)
-abbrev pub IsPage : List (Vec Seen Global) → ℕ → Type 0
-IsPage pages page = (page < length pages) × (256 ≤ length (row_of pages page))
+-- what is kept of a byte of one buffer (own)
+abbrev pub cell_in : List (Vec Word Global) → ℕ → Seen
+cell_in pages byte = byte_seen (word_in pages (byte / 4)) (byte % 4)
+
+-- a page has its words (own)
+abbrev pub IsPage : List (Vec Word Global) → ℕ → Type 0
+IsPage pages page = (page < length pages) × (64 ≤ length (row_of pages page))
+
+-- each of `count` bytes got its mark, and `news` says whether this changed what is kept of one of them (own)
+pub record IsMarked (old new : ℕ → Seen) (mark : ℕ → Mark) (first count : ℕ) (news : Bool) : Type 0 where
+  pub marked : (byte : ℕ) → new byte ≡ (if covers first count byte then seen_with (old byte) (mark byte) else old byte)
+  pub quiet : news ≡ false → (byte : ℕ) → covers first count byte ≡ true → is_new (old byte) (mark byte) ≡ false
+  pub told : news ≡ true → (byte : ℕ) × (covers first count byte ≡ true) × (is_new (old byte) (mark byte) ≡ true)
 
 -- what is kept of a byte, of buffers by their numbers (own)
 abbrev pub cell : List (ℕ → Seen) → ℕ → ℕ → Seen

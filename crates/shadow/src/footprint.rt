@@ -8,14 +8,15 @@ ghost use Rattle.joining.specs.Memory.{wrote};
 ghost use Rattle.shadow.specs.Lasting.{Absorbed};
 ghost use Rattle.shadow.specs.Seen.{cell, buffer_cells, OfOthers, met_at};
 
-use crate::pages::{Pages, mark_all};
+use crate::pages::Pages;
 use crate::seen::{Meeting, is_written};
 use clmodel::access::{Access, Region};
 use std::alloc::{AllocError, Global};
 
 /// What is kept of the accesses of work-groups so far to each byte of the launch's buffers: the first access, and the first of another kind,
-/// or of a store that left another byte. An access costs some steps for each of its bytes, and memory grows by pages of 256 bytes that were
-/// touched.
+/// or of a store that left another byte. It is kept of words of four bytes, 32 bytes a word, and of the bytes of a word apart, some 100 more,
+/// where accesses to less than the word or a third store told something of them. An access to whole words costs some steps for each word, and
+/// another one for each byte; memory grows by pages of 64 words that were touched.
 #[derive(Drop)]
 pub struct Footprint {
     buffers: Vec<Pages>,
@@ -58,7 +59,7 @@ impl Footprint {
         };
         match self.buffers.get(number as usize) {
             None => None,
-            Some(pages) => { pages.against(uniform, x, x.first as usize, x.width.bytes() as usize) }
+            Some(pages) => pages.meeting(uniform, x),
         }
     }
 
@@ -84,12 +85,7 @@ impl Footprint {
         let Region::Buffer(number) = x.region else {
             return Ok(false);
         };
-        let first = x.first as usize;
-        let count = x.width.bytes() as usize;
         make_room(alloc, &mut self.buffers, number as usize)?;
-        let touched = &mut self.buffers[number as usize];
-        touched.make(alloc, first / 256)?;
-        touched.make(alloc, (first + count - 1) / 256)?;
-        Ok(mark_all(&mut touched.pages, x, first, count))
+        self.buffers[number as usize].add(alloc, x)
     }
 }

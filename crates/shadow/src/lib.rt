@@ -7,6 +7,7 @@ mod group_accesses;
 mod pages;
 mod seen;
 mod told;
+mod words;
 
 pub use footprint::Footprint;
 pub use group_accesses::{GroupAccesses, LastingList};

@@ -1,23 +1,26 @@
 //! What is kept of the accesses to the bytes of one buffer.
 
-ghost use Rattle.std.specs.Prelude.{◌≡◌, ◌+◌, ◌<◌, ◌≤◌, ◌/◌, ◌==◌, ◌^◌, ℕ, [], length, slice_index_or, if◌then◌else◌, true, false, OnOk};
-ghost use Rattle.clmodel.specs.Cells.{covers};
-ghost use Rattle.shadow.specs.Seen.{seen_with, is_new, mark_of, against_from, row_of, cell_in, IsPage};
-ghost use Rattle.shadow.specs.declared.seen.Seen.TheVariants as seen;
+ghost use Rattle.std.specs.Prelude.{◌≡◌, ◌+◌, ◌*◌, ◌<◌, ◌≤◌, ◌/◌, ◌%◌, ◌==◌, ◌^◌, ℕ, [], length, slice_index_or, true, false, MatchOption, OnOk, OnErr, IfOk};
+ghost use Rattle.clmodel.specs.Cells.{byte_count, covers};
+ghost use Rattle.shadow.specs.Seen.{is_new, mark_of, against, against_from, byte_mark, is_ready, is_apart, row_of, word_in, cell_in, IsPage, IsMarked};
+ghost use Rattle.shadow.specs.declared.words.Word.TheVariants as word;
 
-use crate::seen::{Mark, Meeting, Seen, against, is_new, mark_of, seen_with};
+use crate::seen::{Mark, Meeting, Seen, against, is_new, mark_of};
+use crate::words::{
+    Word, WordMark, byte_seen, is_ready, mark_part, mark_whole, passes, split, word_mark,
+};
 use clmodel::access::Access;
 use std::alloc::{AllocError, Global};
 
-/// Cells for the bytes of a buffer, in pages of 256 bytes, of which those have cells that were touched.
+/// The words of a buffer, in pages of 64, of which those have words that were touched.
 #[derive(Drop)]
 pub(crate) struct Pages {
-    pub(crate) pages: Vec<Vec<Seen>>,
+    pub(crate) pages: Vec<Vec<Word>>,
 }
 
 /// Places for `count` pages.
 #[tactic(auto, using(crate::proofs::Cells::pushed))]
-fn grow(alloc: Global, pages: &mut Vec<Vec<Seen>>, count: usize) -> Result<(), AllocError>
+fn grow(alloc: Global, pages: &mut Vec<Vec<Word>>, count: usize) -> Result<(), AllocError>
     ensures long { OnOk result (count ≤ length pages.new.items) }
     ensures same { (page : ℕ) → row_of pages.new.items page ≡ row_of pages.old.items page }
 {
@@ -27,45 +30,108 @@ fn grow(alloc: Global, pages: &mut Vec<Vec<Seen>>, count: usize) -> Result<(), A
     Ok(())
 }
 
-/// Cells for `count` bytes of a page.
-fn fill(row: &mut Vec<Seen>, count: usize) -> Result<(), AllocError>
-    ensures long { OnOk result (count ≤ length row.new.items) }
-    ensures same { (k : ℕ) → slice_index_or row.new.items k seen.Untouched ≡ slice_index_or row.old.items k seen.Untouched }
+/// The words of a page.
+fn fill(row: &mut Vec<Word>) -> Result<(), AllocError>
+    ensures long { OnOk result (64 ≤ length row.new.items) }
+    ensures same { (k : ℕ) → slice_index_or row.new.items k word.Untouched ≡ slice_index_or row.old.items k word.Untouched }
     ensures longer { length row.old.items ≤ length row.new.items }
 {
-    if row.len() < count {
-        row.resize(count, Seen::Untouched)?;
+    let count = row.len();
+    if count >= 64 {
+        return Ok(());
+    }
+    row.reserve_exact(64 - count)?;
+    while row.len() < 64 {
+        row.push(Word::Untouched)?;
     }
     Ok(())
 }
 
-/// Marks a byte. Whether what is kept of it changes.
-fn mark_byte(pages: &mut Vec<Vec<Seen>>, byte: usize, mark: Mark) -> bool
-    requires { IsPage pages.old.items (byte / 256) }
+/// Marks a word by an access to all of it. Whether what is kept of one of its bytes changes.
+fn mark_word(pages: &mut Vec<Vec<Word>>, number: usize, mark: WordMark) -> bool
+    requires page { IsPage pages.old.items (number / 64) }
+    requires ready { is_ready (word_in pages.old.items number) ≡ true }
+    ensures marked { IsMarked (cell_in pages.old.items) (cell_in pages.new.items) (λ byte. byte_mark mark (byte % 4)) (4 * number) 4 result }
     ensures kept { (page : ℕ) → IsPage pages.old.items page → IsPage pages.new.items page }
-    ensures marked { (other : ℕ) → cell_in pages.new.items other ≡ (if byte == other then seen_with (cell_in pages.old.items other) mark else cell_in pages.old.items other) }
-    ensures news { result ≡ is_new (cell_in pages.old.items byte) mark }
+    ensures others { (n : ℕ) → (n ≡ number → ⊥) → word_in pages.new.items n ≡ word_in pages.old.items n }
 {
-    let row = &mut pages[byte / 256];
-    let seen = row[byte % 256];
-    row[byte % 256] = seen_with(seen, mark);
-    is_new(seen, mark)
+    let row = &mut pages[number / 64];
+    mark_whole(&mut row[number % 64], mark)
 }
 
-/// Marks `count` bytes from the first on, which an access is at. Whether what is kept of one of them changes.
-pub(crate) fn mark_all(pages: &mut Vec<Vec<Seen>>, x: &Access, first: usize, count: usize) -> bool
+/// Marks the word that an access is at, or the two of them. Whether what is kept of one of its bytes changes.
+fn mark_words(pages: &mut Vec<Vec<Word>>, x: &Access, number: usize, count: usize) -> bool
+    requires inside { 4 * number + count < 2 ^ 64 }
+    requires first { x.now.first ≡ 4 * number }
+    requires count { count ≡ byte_count x.now.width }
+    requires whole { 4 ≤ count }
+    requires there { IsPage pages.old.items (number / 64) }
+    requires ready { is_ready (word_in pages.old.items number) ≡ true }
+    requires there_two { count ≡ 8 → IsPage pages.old.items ((number + 1) / 64) }
+    requires ready_two { count ≡ 8 → is_ready (word_in pages.old.items (number + 1)) ≡ true }
+    ensures { IsMarked (cell_in pages.old.items) (cell_in pages.new.items) (mark_of x.now) (4 * number) count result }
+{
+    let here = mark_word(pages, number, word_mark(x, false));
+    if count == 4 {
+        return here;
+    }
+    let there = mark_word(pages, number + 1, word_mark(x, true));
+    here || there
+}
+
+/// Marks a byte of a word that is kept apart. Whether what is kept of it changes.
+fn mark_byte(pages: &mut Vec<Vec<Word>>, byte: usize, mark: Mark) -> bool
+    requires { is_apart (word_in pages.old.items (byte / 4)) ≡ true }
+    ensures kept { (n : ℕ) → is_apart (word_in pages.old.items n) ≡ true → is_apart (word_in pages.new.items n) ≡ true }
+    ensures marked { IsMarked (cell_in pages.old.items) (cell_in pages.new.items) (λ _. mark) byte 1 result }
+{
+    let number = byte / 4;
+    let row = &mut pages[number / 64];
+    mark_part(&mut row[number % 64], byte % 4, mark)
+}
+
+/// Marks `count` bytes from the first on, which an access is at, of words that are kept apart. Whether what is kept of one of them changes.
+fn mark_bytes(pages: &mut Vec<Vec<Word>>, x: &Access, first: usize, count: usize) -> bool
     requires inside { first + count < 2 ^ 64 }
-    requires there { (byte : ℕ) → first ≤ byte → byte < first + count → IsPage pages.old.items (byte / 256) }
-    ensures marked { (byte : ℕ) → cell_in pages.new.items byte ≡ (if covers first count byte then seen_with (cell_in pages.old.items byte) (mark_of x.now byte) else cell_in pages.old.items byte) }
-    ensures news { result ≡ false → (byte : ℕ) → covers first count byte ≡ true → is_new (cell_in pages.old.items byte) (mark_of x.now byte) ≡ false }
-    ensures told { result ≡ true → (byte : ℕ) × (covers first count byte ≡ true) × (is_new (cell_in pages.old.items byte) (mark_of x.now byte) ≡ true) }
+    requires there { (byte : ℕ) → first ≤ byte → byte < first + count → is_apart (word_in pages.old.items (byte / 4)) ≡ true }
+    ensures { IsMarked (cell_in pages.old.items) (cell_in pages.new.items) (mark_of x.now) first count result }
 {
     if count == 0 {
         return false;
     }
     let here = mark_byte(pages, first, mark_of(x, first as u64));
-    let there = mark_all(pages, x, first + 1, count - 1);
+    let there = mark_bytes(pages, x, first + 1, count - 1);
     here || there
+}
+
+/// Keeps what is known of the bytes of a word apart.
+fn split_word(alloc: Global, pages: &mut Vec<Vec<Word>>, number: usize) -> Result<(), AllocError>
+    requires { IsPage pages.old.items (number / 64) }
+    ensures apart { OnOk result (is_apart (word_in pages.new.items number) ≡ true) }
+    ensures kept { (page : ℕ) → IsPage pages.old.items page → IsPage pages.new.items page }
+    ensures others { (n : ℕ) → is_apart (word_in pages.old.items n) ≡ true → is_apart (word_in pages.new.items n) ≡ true }
+    ensures same { (byte : ℕ) → cell_in pages.new.items byte ≡ cell_in pages.old.items byte }
+{
+    let row = &mut pages[number / 64];
+    split(alloc, &mut row[number % 64])
+}
+
+/// The same of the words from `start` to `last`.
+fn split_words(
+    alloc: Global,
+    pages: &mut Vec<Vec<Word>>,
+    start: usize,
+    last: usize,
+) -> Result<(), AllocError>
+    requires inside { last < 2 ^ 63 }
+    requires there { (n : ℕ) → start ≤ n → n ≤ last → IsPage pages.old.items (n / 64) }
+    ensures apart { OnOk result ((n : ℕ) → start ≤ n → n ≤ last → is_apart (word_in pages.new.items n) ≡ true) }
+    ensures same { (byte : ℕ) → cell_in pages.new.items byte ≡ cell_in pages.old.items byte }
+{
+    for number in start..last + 1 {
+        split_word(alloc, pages, number)?;
+    }
+    Ok(())
 }
 
 impl Pages {
@@ -78,27 +144,53 @@ impl Pages {
         }
     }
 
+    /// A word that has its place.
+    fn word(&self, number: usize) -> Option<&Word>
+        ensures { MatchOption result (word_in self.now.pages.items number ≡ word.Untouched) (λ w. w.now ≡ word_in self.now.pages.items number) }
+    {
+        match self.pages.get(number / 64) {
+            None => None,
+            Some(row) => row.get(number % 64),
+        }
+    }
+
     /// What is kept of a byte.
     pub(crate) fn cell(&self, byte: usize) -> Seen
         ensures { result ≡ cell_in self.now.pages.items byte }
     {
-        match self.pages.get(byte / 256) {
+        match self.word(byte / 4) {
             None => Seen::Untouched,
-            Some(row) => match row.get(byte % 256) {
-                None => Seen::Untouched,
-                Some(seen) => *seen,
-            },
+            Some(word) => byte_seen(word, byte % 4),
         }
     }
 
+    /// Whether an access to all of a word, with this mark, is seen to conflict with none there.
+    fn passes(&self, uniform: bool, number: usize, mark: WordMark) -> bool
+        ensures { result ≡ true → (byte : ℕ) → byte / 4 ≡ number → against uniform (byte_mark mark (byte % 4)) byte (cell_in self.now.pages.items byte) ≡ None }
+    {
+        match self.word(number) {
+            None => true,
+            Some(word) => passes(uniform, mark, word),
+        }
+    }
+
+    /// Whether an access is to whole words and is seen to conflict with none there.
+    fn passes_whole(&self, uniform: bool, x: &Access, first: usize, count: usize) -> bool
+        requires first { first ≡ x.now.first }
+        requires count { count ≡ byte_count x.now.width }
+        requires inside { first + count < 2 ^ 64 }
+        ensures { result ≡ true → (byte : ℕ) → first ≤ byte → byte < first + count → against uniform (mark_of x.now byte) byte (cell_in self.now.pages.items byte) ≡ None }
+    {
+        if first % 4 != 0 || count < 4 {
+            return false;
+        }
+        let number = first / 4;
+        let low = self.passes(uniform, number, word_mark(x, false));
+        low && (count == 4 || self.passes(uniform, number + 1, word_mark(x, true)))
+    }
+
     /// The conflict of an access on the lowest of n bytes that has one, by whether the launch is uniform.
-    pub(crate) fn against(
-        &self,
-        uniform: bool,
-        x: &Access,
-        first: usize,
-        count: usize,
-    ) -> Option<Meeting>
+    fn against(&self, uniform: bool, x: &Access, first: usize, count: usize) -> Option<Meeting>
         requires { first + count < 2 ^ 64 }
         ensures { result ≡ against_from uniform x.now (cell_in self.now.pages.items) first count }
     {
@@ -112,14 +204,101 @@ impl Pages {
         }
     }
 
-    /// Cells for the bytes of a page.
-    pub(crate) fn make(&mut self, alloc: Global, page: usize) -> Result<(), AllocError>
+    /// The conflict of an access on the lowest of its bytes that has one, by whether the launch is uniform.
+    pub(crate) fn meeting(&self, uniform: bool, x: &Access) -> Option<Meeting>
+        requires { x.now.first + byte_count x.now.width < 2 ^ 64 }
+        ensures { result ≡ against_from uniform x.now (cell_in self.now.pages.items) x.now.first (byte_count x.now.width) }
+    {
+        let first = x.first as usize;
+        let count = x.width.bytes() as usize;
+        if self.passes_whole(uniform, x, first, count) {
+            return None;
+        }
+        self.against(uniform, x, first, count)
+    }
+
+    /// The words of a page.
+    fn make(&mut self, alloc: Global, page: usize) -> Result<(), AllocError>
         requires { page < 2 ^ 63 }
         ensures there { OnOk result (IsPage self.new.pages.items page) }
         ensures kept { (other : ℕ) → IsPage self.old.pages.items other → IsPage self.new.pages.items other }
         ensures same { (byte : ℕ) → cell_in self.new.pages.items byte ≡ cell_in self.old.pages.items byte }
     {
         grow(alloc, &mut self.pages, page + 1)?;
-        fill(&mut self.pages[page], 256)
+        fill(&mut self.pages[page])
+    }
+
+    /// The words of the pages from one byte to another.
+    pub(crate) fn make_both(
+        &mut self,
+        alloc: Global,
+        first: usize,
+        last: usize,
+    ) -> Result<(), AllocError>
+        ensures first { OnOk result (IsPage self.new.pages.items (first / 256)) }
+        ensures last { OnOk result (IsPage self.new.pages.items (last / 256)) }
+        ensures same { (byte : ℕ) → cell_in self.new.pages.items byte ≡ cell_in self.old.pages.items byte }
+    {
+        self.make(alloc, first / 256)?;
+        if last / 256 == first / 256 {
+            return Ok(());
+        }
+        self.make(alloc, last / 256)
+    }
+
+    /// Whether a word that has its place stays one when an access to all of it is added.
+    fn is_ready(&self, number: usize) -> bool
+        ensures { result ≡ is_ready (word_in self.now.pages.items number) }
+    {
+        match self.word(number) {
+            None => true,
+            Some(word) => is_ready(word),
+        }
+    }
+
+    /// Whether bytes are whole words that stay so when an access to them is added.
+    fn is_whole(&self, first: usize, count: usize) -> bool
+        requires { first + count < 2 ^ 64 }
+        ensures aligned { result ≡ true → (4 * (first / 4) ≡ first) × (4 ≤ count) }
+        ensures ready { result ≡ true → is_ready (word_in self.now.pages.items (first / 4)) ≡ true }
+        ensures ready_two { result ≡ true → (count ≡ 8) → is_ready (word_in self.now.pages.items (first / 4 + 1)) ≡ true }
+    {
+        if first % 4 != 0 || count < 4 {
+            return false;
+        }
+        let number = first / 4;
+        self.is_ready(number) && (count != 8 || self.is_ready(number + 1))
+    }
+
+    /// Whether an access is new to what is kept of one of `count` bytes.
+    fn has_news(&self, x: &Access, first: usize, count: usize) -> bool
+        requires { first + count < 2 ^ 64 }
+        ensures { result ≡ false → (byte : ℕ) → first ≤ byte → byte < first + count → is_new (cell_in self.now.pages.items byte) (mark_of x.now byte) ≡ false }
+    {
+        for byte in first..first + count {
+            if is_new(self.cell(byte), mark_of(x, byte as u64)) {
+                return true;
+            }
+        }
+        false
+    }
+
+    /// Adds an access. Whether what is kept of one of its bytes changes. Where memory is refused nothing is added.
+    pub(crate) fn add(&mut self, alloc: Global, x: &Access) -> Result<bool, AllocError>
+        requires { x.now.first + byte_count x.now.width < 2 ^ 64 }
+        ensures marked { IfOk result (λ news. IsMarked (cell_in self.old.pages.items) (cell_in self.new.pages.items) (mark_of x.now) x.now.first (byte_count x.now.width) news) }
+        ensures same { OnErr result ((byte : ℕ) → cell_in self.new.pages.items byte ≡ cell_in self.old.pages.items byte) }
+    {
+        let first = x.first as usize;
+        let count = x.width.bytes() as usize;
+        self.make_both(alloc, first, first + count - 1)?;
+        if self.is_whole(first, count) {
+            return Ok(mark_words(&mut self.pages, x, first / 4, count));
+        }
+        if !self.has_news(x, first, count) {
+            return Ok(false);
+        }
+        split_words(alloc, &mut self.pages, first / 4, (first + count - 1) / 4)?;
+        Ok(mark_bytes(&mut self.pages, x, first, count))
     }
 }

@@ -22,10 +22,10 @@ returns-in-Some c log keeps others =
     let x = c.args.x.now in
     let buffers = c.args.self.now.buffers.items in
     let v = c.in-Some.pages.now in
-    c.against.ensures
-    ∙ met_whole c.args.uniform x log (cell_in v.pages.items) c.bytes.result others
+    c.meeting.ensures
+    ∙ met_whole c.args.uniform x log (cell_in v.pages.items) (byte_count x.width) others
     (keeps_at buffers log c.in-Buffer.number x.region (cell_in v.pages.items) keeps c.in-Buffer.is
     (cells_there buffers c.in-Buffer.number v (subst (λ z. c.in-Buffer.number < length z) c.deref.ensures.value c.in-Some.ensures.lookup.3.0)
     (subst (λ z. v ≡ get_or z c.in-Buffer.number v) c.deref.ensures.value c.in-Some.ensures.lookup.1)))
-    c.bytes.ensures.value
+    refl
     ∙ ap (λ r. met_at c.args.uniform r x log) (sym c.in-Buffer.is)

@@ -1,13 +1,12 @@
-use Rattle.std.proofs.Common.{◌/◌, ◌%◌, ◌<◌, ◌∙◌, ap, length, get_or, arith}
-use Rattle.shadow.specs.declared.seen.Seen.TheVariants.{Untouched}
-use Rattle.shadow.proofs.Cells.{same_page, filled_cell, filled_page, filled_kept, ok_then}
+use Rattle.std.proofs.Common.{◌<◌, ◌∙◌, length, arith}
+use Rattle.shadow.proofs.Cells.{same_page, same_rows, filled_cell, filled_page, filled_kept, ok_then}
 use Rattle.shadow.proofs.pages.Pages.make.Goals as goal
 
 pub returns-in_err-grow-clause-kept : goal.returns-in_err-grow-clause-kept
 returns-in_err-grow-clause-kept c other h = same_page c.args.self.now.pages.items c.grow.new.pages.items other (c.grow.ensures.same other) h
 
 pub returns-in_err-grow-clause-same : goal.returns-in_err-grow-clause-same
-returns-in_err-grow-clause-same c byte = ap (λ z. get_or z (byte % 256) Untouched) (c.grow.ensures.same (byte / 256))
+returns-in_err-grow-clause-same c byte = same_rows c.args.self.now.pages.items c.grow.new.pages.items c.grow.ensures.same byte
 
 pub returns-clause-there : goal.returns-clause-there
 returns-clause-there c =
@@ -19,11 +18,12 @@ pub returns-clause-kept : goal.returns-clause-kept
 returns-clause-kept c other h =
     let grown = c.grow.new.pages.items in
     let inside : c.args.page < length grown = omega (arith, c.in_ok-grow.ensures.long) in
-    filled_kept grown c.args.page c.fill.new.row c.index_mut.result.now inside c.index_mut.ensures.value c.fill.ensures.longer other (same_page c.args.self.now.pages.items grown other (c.grow.ensures.same other) h)
+    filled_kept grown c.args.page c.fill.new.row c.index_mut.result.now inside c.index_mut.ensures.value c.fill.ensures.longer other
+    (same_page c.args.self.now.pages.items grown other (c.grow.ensures.same other) h)
 
 pub returns-clause-same : goal.returns-clause-same
 returns-clause-same c byte =
     let grown = c.grow.new.pages.items in
     let inside : c.args.page < length grown = omega (arith, c.in_ok-grow.ensures.long) in
     filled_cell grown c.args.page c.fill.new.row c.index_mut.result.now inside c.index_mut.ensures.value c.fill.ensures.same byte
-    ∙ ap (λ z. get_or z (byte % 256) Untouched) (c.grow.ensures.same (byte / 256))
+    ∙ same_rows c.args.self.now.pages.items grown c.grow.ensures.same byte

@@ -1,0 +1,205 @@
+//! What is kept of the accesses to a word: to four bytes, of which the first stands at a multiple of 4.
+
+ghost use Rattle.std.specs.Prelude.{◌≡◌, ◌<◌, ◌+◌, ◌==◌, ℕ, true, false, slice_index_or, OnOk, if◌then◌else◌};
+ghost use Rattle.clmodel.specs.Cells.{byte_of};
+ghost use Rattle.clmodel.specs.Launch.{left_at};
+ghost use Rattle.shadow.specs.Seen.{one_sort, left_by, mark_of, seen_with, is_new, mark_clash, against, byte_mark, byte_seen, is_ready, is_apart, half_start};
+ghost use Rattle.shadow.specs.declared.seen.Seen.TheVariants as seen;
+
+use crate::seen::{Mark, Seen, is_new, seen_with};
+use clmodel::access::{Access, AccessKind};
+use shadow_list::{both_store, clash, kind_number};
+use std::alloc::{AllocError, Global};
+
+/// Who accessed all four bytes of a word, and how.
+#[derive(Clone, Copy)]
+pub(crate) struct WordMark {
+    pub(crate) item: u32,
+    pub(crate) kind: AccessKind,
+    /// The number that a store left; 0 of all others
+    pub(crate) left: u32,
+}
+
+/// What is kept of the accesses to a word.
+#[derive(Drop)]
+pub(crate) enum Word {
+    Untouched,
+    /// Each access was to all four bytes, of the sort of the first
+    Touched(WordMark),
+    /// .. or they were of two sorts; at a byte where both left the same they are of one
+    Mixed(WordMark, WordMark),
+    /// What is kept of each byte
+    Apart(Box<[Seen; 4]>),
+}
+
+/// The low or the high four bytes of a value.
+fn half(value: u64, high: bool) -> u32
+    ensures { (k : ℕ) → k < 4 → byte_of k result ≡ byte_of (half_start high + k) value }
+{
+    if high {
+        (value / 0x1_0000_0000) as u32
+    } else {
+        (value % 0x1_0000_0000) as u32
+    }
+}
+
+/// What an access leaves in the first or the second word that it is at.
+fn left_in(x: &Access, high: bool) -> u32
+    ensures { (k : ℕ) → k < 4 → byte_of k result ≡ left_by x.now.kind (left_at x.now (x.now.first + (half_start high + k))) }
+{
+    match x.kind {
+        AccessKind::Store => half(x.value, high),
+        AccessKind::Load | AccessKind::Update(_) | AccessKind::Fetch => 0,
+    }
+}
+
+/// The mark of an access at the first or the second word that it is at.
+pub(crate) fn word_mark(x: &Access, high: bool) -> WordMark
+    ensures { (k : ℕ) → k < 4 → byte_mark result k ≡ mark_of x.now (x.now.first + (half_start high + k)) }
+{
+    WordMark {
+        item: x.item,
+        kind: x.kind,
+        left: left_in(x, high),
+    }
+}
+
+/// What the mark of a word says of its byte k.
+fn byte_mark(mark: WordMark, k: usize) -> Mark
+    requires { k < 4 }
+    ensures { result ≡ byte_mark mark k }
+{
+    Mark {
+        item: mark.item,
+        kind: mark.kind,
+        left: ((mark.left >> (8 * k)) % 256) as u8,
+    }
+}
+
+/// What is kept of byte k of a word.
+pub(crate) fn byte_seen(word: &Word, k: usize) -> Seen
+    requires { k < 4 }
+    ensures { result ≡ byte_seen word.now k }
+{
+    match word {
+        Word::Untouched => Seen::Untouched,
+        Word::Touched(first) => Seen::Touched(byte_mark(*first, k)),
+        Word::Mixed(first, other) => seen_with(
+            Seen::Touched(byte_mark(*first, k)),
+            byte_mark(*other, k),
+        ),
+        Word::Apart(bytes) => bytes[k],
+    }
+}
+
+/// Whether two stores left the same number.
+fn leaves_same(left: u32, other: u32) -> bool
+    ensures same { result ≡ true → left ≡ other }
+    ensures other { result ≡ false → (k : ℕ) × (k < 4) × ((byte_of k left == byte_of k other) ≡ false) }
+{
+    left == other
+}
+
+/// Whether two accesses to a word are of one sort at each byte.
+fn is_one_sort(a: WordMark, b: WordMark) -> bool
+    ensures same { result ≡ true → (k : ℕ) → k < 4 → one_sort (byte_mark a k) (byte_mark b k) ≡ true }
+    ensures other { result ≡ false → (k : ℕ) × (k < 4) × (one_sort (byte_mark a k) (byte_mark b k) ≡ false) }
+{
+    kind_number(a.kind) == kind_number(b.kind) && leaves_same(a.left, b.left)
+}
+
+/// Whether a word stays one when an access to all of it is added.
+pub(crate) fn is_ready(word: &Word) -> bool
+    ensures { result ≡ is_ready word.now }
+{
+    match word {
+        Word::Untouched | Word::Touched(_) => true,
+        Word::Mixed(first, other) => kind_number(first.kind) != kind_number(other.kind),
+        Word::Apart(_) => false,
+    }
+}
+
+/// Marks a word by an access to all of it. Whether what is kept of one of its bytes changes.
+pub(crate) fn mark_whole(word: &mut Word, mark: WordMark) -> bool
+    requires { is_ready word.old ≡ true }
+    ensures marked { (k : ℕ) → k < 4 → byte_seen word.new k ≡ seen_with (byte_seen word.old k) (byte_mark mark k) }
+    ensures quiet { result ≡ false → (k : ℕ) → k < 4 → is_new (byte_seen word.old k) (byte_mark mark k) ≡ false }
+    ensures told { result ≡ true → (k : ℕ) × (k < 4) × (is_new (byte_seen word.old k) (byte_mark mark k) ≡ true) }
+{
+    let first = match word {
+        Word::Untouched => {
+            *word = Word::Touched(mark);
+            return true;
+        }
+        Word::Touched(first) => *first,
+        Word::Mixed(_, _) | Word::Apart(_) => return false,
+    };
+    if is_one_sort(first, mark) {
+        return false;
+    }
+    *word = Word::Mixed(first, mark);
+    true
+}
+
+/// Keeps what is known of each byte of a word apart.
+pub(crate) fn split(alloc: Global, word: &mut Word) -> Result<(), AllocError>
+    ensures apart { OnOk result (is_apart word.new ≡ true) }
+    ensures stays { is_apart word.old ≡ true → is_apart word.new ≡ true }
+    ensures same { (k : ℕ) → k < 4 → byte_seen word.new k ≡ byte_seen word.old k }
+{
+    if let Word::Apart(_) = word {
+        return Ok(());
+    }
+    let bytes = [
+        byte_seen(word, 0),
+        byte_seen(word, 1),
+        byte_seen(word, 2),
+        byte_seen(word, 3),
+    ];
+    *word = Word::Apart(Box::new(alloc, bytes)?);
+    Ok(())
+}
+
+/// Marks byte k of four. Whether what is kept of it changes.
+fn mark_in(bytes: &mut [Seen; 4], k: usize, mark: Mark) -> bool
+    requires { k < 4 }
+    ensures marked { (j : ℕ) → slice_index_or bytes.new j seen.Untouched ≡ (if k == j then seen_with (slice_index_or bytes.old j seen.Untouched) mark else slice_index_or bytes.old j seen.Untouched) }
+    ensures news { result ≡ is_new (slice_index_or bytes.old k seen.Untouched) mark }
+{
+    let seen = bytes[k];
+    bytes[k] = seen_with(seen, mark);
+    is_new(seen, mark)
+}
+
+/// Marks byte k of a word that is kept apart. Whether what is kept of it changes.
+pub(crate) fn mark_part(word: &mut Word, k: usize, mark: Mark) -> bool
+    requires inside { k < 4 }
+    requires apart { is_apart word.old ≡ true }
+    ensures apart { is_apart word.new ≡ true }
+    ensures marked { (j : ℕ) → byte_seen word.new j ≡ (if k == j then seen_with (byte_seen word.old j) mark else byte_seen word.old j) }
+    ensures news { result ≡ is_new (byte_seen word.old k) mark }
+{
+    match word {
+        Word::Apart(bytes) => mark_in(bytes, k, mark),
+        Word::Untouched | Word::Touched(_) | Word::Mixed(_, _) => unreachable!(),
+    }
+}
+
+/// Whether accesses to all of a word with these marks don't conflict.
+fn agrees(uniform: bool, a: WordMark, b: WordMark) -> bool
+    ensures { result ≡ true → (k : ℕ) → mark_clash uniform (byte_mark a k) (byte_mark b k) ≡ None }
+{
+    both_store(a.kind, b.kind) && uniform && a.left == b.left || clash(a.kind, b.kind).is_none()
+}
+
+/// Whether an access to all of a word is seen to conflict with none of those that are kept.
+pub(crate) fn passes(uniform: bool, mark: WordMark, word: &Word) -> bool
+    ensures { result ≡ true → (k byte : ℕ) → k < 4 → against uniform (byte_mark mark k) byte (byte_seen word.now k) ≡ None }
+{
+    match word {
+        Word::Untouched => true,
+        Word::Touched(first) => agrees(uniform, *first, mark),
+        Word::Mixed(first, other) => agrees(uniform, *first, mark) && agrees(uniform, *other, mark),
+        Word::Apart(_) => false,
+    }
+}
