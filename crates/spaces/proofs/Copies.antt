@@ -1,25 +1,29 @@
 -- A buffer's bytes where pages are copied and copies are changed.
-use Rattle.std.proofs.Common.{◌≡◌, ℕ, zero, suc, ◌+◌, ◌-◌, ◌*◌, ◌/◌, ◌%◌, ◌<◌, ◌≤◌, ◌==◌, ◌⊎◌, Bool, true, false, if◌then◌else◌, List, [], ◌∷◌, ◌++◌, Option, None, Some, length, map, get_or, set, take, drop, min, le_trans, refl, sym, ap, ap₂, ◌∙◌, subst, inl, inr, arith, eqb-true}
-use Rattle.std.specs.Prelude.{slice_index}
+use Rattle.std.proofs.Common.{◌≡◌, ℕ, zero, suc, ◌+◌, ◌-◌, ◌*◌, ◌/◌, ◌%◌, ◌<◌, ◌≤◌, ◌==◌, ◌⊎◌, Bool, true, false, if◌then◌else◌, List, [], ◌∷◌, ◌++◌, Option, None, Some, length, map, get_or, set, take, drop, min, le_trans, refl, sym, ap, ap₂, ◌∙◌, subst, inl, inr, arith}
+use Rattle.std.specs.Prelude.{◌≢◌, slice_index}
 use Rattle.std.proofs.lemmas.Bool.{cases_eq, cases_lt, ne_eqb}
-use Rattle.std.proofs.lemmas.List.{get_or-set_same, get_or-set_other, get_or_push, get_or_append_left, get_or-take, get_or-drop, length-take, length-take-le, length-drop}
+use Rattle.std.proofs.lemmas.List.{get_or-set_same, get_or-set_other, get_or_push, get_or_past, get_or_append_left, get_or-take, get_or-drop, take_all, drop_all, append-nil, length_push, length-take, length-take-le, length-drop}
 use Rattle.std.proofs.Math.Nat.{min-le_left}
-use Rattle.spaces.specs.Overlay.{overlaid_byte, IsCopied, AreNumbered}
+use Rattle.clmodel.specs.Cells.{Cells, cells_of, byte_of, joined, number, covers, written}
+use Rattle.clmodel.proofs.CellLaws.{number_frame, covers_parts}
+use Rattle.clmodel.proofs.Steps.{some_inj}
+use Rattle.spaces_base.proofs.Rows.{row_at, written_in, written_out}
+use Rattle.spaces.specs.Overlay.{overlaid_byte, overlaid_cells, row_cells, IsCopied, AreNumbered}
 
 -- a page has no copy, or one
-pub copied_or : (table : List ℕ) (page : ℕ) → (slice_index table page ≡ 0) ⊎ IsCopied table page
-copied_or table page = go (cases_lt 0 (slice_index table page))
+pub copied_or : (copies : ℕ → ℕ) (page : ℕ) → (copies page ≡ 0) ⊎ IsCopied copies page
+copied_or copies page = go (cases_lt 0 (copies page))
   where
-    go : (0 < slice_index table page) ⊎ (slice_index table page ≤ 0) → (slice_index table page ≡ 0) ⊎ IsCopied table page
+    go : (0 < copies page) ⊎ (copies page ≤ 0) → (copies page ≡ 0) ⊎ IsCopied copies page
     go (inl h) = inr h
     go (inr h) = inl (omega (arith, h))
 
 -- a byte of a page without a copy, and of one with this copy
-pub lent : (base table cells : List ℕ) (byte : ℕ) → slice_index table (byte / 256) ≡ 0 → overlaid_byte base table cells byte ≡ slice_index base byte
-lent base table cells byte h = ap (λ z. if z == 0 then slice_index base byte else slice_index cells ((z - 1) * 256 + byte % 256)) h
+pub lent : (base : List ℕ) (copies : ℕ → ℕ) (cells : List ℕ) (byte : ℕ) → copies (byte / 256) ≡ 0 → overlaid_byte base copies cells byte ≡ slice_index base byte
+lent base copies cells byte h = ap (λ z. if z == 0 then slice_index base byte else slice_index cells ((z - 1) * 256 + byte % 256)) h
 
-pub in_copy : (base table cells : List ℕ) (byte copy : ℕ) → slice_index table (byte / 256) ≡ copy → 0 < copy → overlaid_byte base table cells byte ≡ slice_index cells ((copy - 1) * 256 + byte % 256)
-in_copy base table cells byte copy h some =
+pub in_copy : (base : List ℕ) (copies : ℕ → ℕ) (cells : List ℕ) (byte copy : ℕ) → copies (byte / 256) ≡ copy → 0 < copy → overlaid_byte base copies cells byte ≡ slice_index cells ((copy - 1) * 256 + byte % 256)
+in_copy base copies cells byte copy h some =
     ap (λ z. if z == 0 then slice_index base byte else slice_index cells ((z - 1) * 256 + byte % 256)) h
     ∙ ap (λ (z : Bool). if z then slice_index base byte else slice_index cells ((copy - 1) * 256 + byte % 256)) (ne_eqb copy 0 (λ e. absurd (omega (arith, e, some))))
 
@@ -29,91 +33,92 @@ in_place copy count rest a b c = omega (arith, a, b, c)
 rest_small : (byte : ℕ) → byte % 256 < 256
 rest_small byte = omega arith
 
--- bytes stay where the table names the same copies, and the copies that there were are as before
-pub kept_byte :
-    (base table other numbers cells more : List ℕ) → AreNumbered table numbers → ((page : ℕ) → slice_index other page ≡ slice_index table page)
-    → ((k : ℕ) → k < length numbers * 256 → slice_index more k ≡ slice_index cells k) → (byte : ℕ) → overlaid_byte base other more byte ≡ overlaid_byte base table cells byte
-kept_byte base table other numbers cells more numbered same rows byte = go (copied_or table (byte / 256))
+-- nothing has a copy where there are no numbers of copied pages
+pub none_copied : (copies : ℕ → ℕ) (numbers : List ℕ) → AreNumbered copies numbers → length numbers ≡ 0 → (page : ℕ) → copies page ≡ 0
+none_copied copies numbers numbered none page = go (copied_or copies page)
   where
-    go : (slice_index table (byte / 256) ≡ 0) ⊎ IsCopied table (byte / 256) → overlaid_byte base other more byte ≡ overlaid_byte base table cells byte
-    go (inl h) = lent base other more byte (same (byte / 256) ∙ h) ∙ sym (lent base table cells byte h)
-    go (inr h) =
-        let copy : ℕ = slice_index table (byte / 256) in
-        in_copy base other more byte copy (same (byte / 256)) h
-        ∙ rows ((copy - 1) * 256 + byte % 256) (in_place copy (length numbers) (byte % 256) h (numbered (byte / 256) h).0 (rest_small byte))
-        ∙ sym (in_copy base table cells byte copy refl h)
+    go : (copies page ≡ 0) ⊎ IsCopied copies page → copies page ≡ 0
+    go (inl h) = h
+    go (inr h) = absurd (omega (arith, (numbered page h).0, h, none))
 
--- the numbers of copies where a table has the same entries
-pub still_numbered : (table other numbers : List ℕ) → AreNumbered table numbers → ((page : ℕ) → slice_index other page ≡ slice_index table page) → AreNumbered other numbers
-still_numbered table other numbers numbered same page h =
+-- bytes stay where pages have the same copies, and the copies that there were are as before
+pub kept_byte :
+    (base : List ℕ) (copies others : ℕ → ℕ) (numbers cells more : List ℕ) → AreNumbered copies numbers → ((page : ℕ) → others page ≡ copies page)
+    → ((k : ℕ) → k < length numbers * 256 → slice_index more k ≡ slice_index cells k) → (byte : ℕ) → overlaid_byte base others more byte ≡ overlaid_byte base copies cells byte
+kept_byte base copies others numbers cells more numbered same rows byte = go (copied_or copies (byte / 256))
+  where
+    go : (copies (byte / 256) ≡ 0) ⊎ IsCopied copies (byte / 256) → overlaid_byte base others more byte ≡ overlaid_byte base copies cells byte
+    go (inl h) = lent base others more byte (same (byte / 256) ∙ h) ∙ sym (lent base copies cells byte h)
+    go (inr h) =
+        let copy : ℕ = copies (byte / 256) in
+        in_copy base others more byte copy (same (byte / 256)) h
+        ∙ rows ((copy - 1) * 256 + byte % 256) (in_place copy (length numbers) (byte % 256) h (numbered (byte / 256) h).0 (rest_small byte))
+        ∙ sym (in_copy base copies cells byte copy refl h)
+
+-- the numbers of copies where pages have the same copies
+pub still_numbered : (copies others : ℕ → ℕ) (numbers : List ℕ) → AreNumbered copies numbers → ((page : ℕ) → others page ≡ copies page) → AreNumbered others numbers
+still_numbered copies others numbers numbered same page h =
     subst (λ z. (z ≤ length numbers) × (slice_index numbers (z - 1) ≡ page)) (sym (same page)) (numbered page (subst (λ z. 0 < z) (same page) h))
 
-pub still_copied : (table other : List ℕ) → ((page : ℕ) → slice_index other page ≡ slice_index table page) → (page : ℕ) → IsCopied table page → IsCopied other page
-still_copied table other same page h = subst (λ z. 0 < z) (sym (same page)) h
-
-more_numbers : (numbers : List ℕ) (page : ℕ) → length (numbers ++ page ∷ []) ≡ length numbers + 1
-more_numbers [] page = refl
-more_numbers (n ∷ numbers) page = let r : length (numbers ++ page ∷ []) ≡ length numbers + 1 = more_numbers numbers page in omega (arith, r)
+pub still_copied : (copies others : ℕ → ℕ) → ((page : ℕ) → others page ≡ copies page) → (page : ℕ) → IsCopied copies page → IsCopied others page
+still_copied copies others same page h = subst (λ z. 0 < z) (sym (same page)) h
 
 -- numbers where one more page gets the next copy
 pub one_numbered :
-    (table other numbers : List ℕ) (page : ℕ) → AreNumbered table numbers → ((k : ℕ) → slice_index other k ≡ slice_index table k) → page < length other
-    → AreNumbered (set other page (length numbers + 1)) (numbers ++ page ∷ [])
-one_numbered table other numbers page numbered same long k h = go (cases_eq k page)
+    (copies others : ℕ → ℕ) (numbers : List ℕ) (page count : ℕ) → count ≡ length numbers → AreNumbered copies numbers → others page ≡ count + 1
+    → ((k : ℕ) → k ≢ page → others k ≡ copies k) → AreNumbered others (numbers ++ page ∷ [])
+one_numbered copies others numbers page count many numbered here there k h = go (cases_eq k page)
   where
-    count : ℕ
-    count = length numbers
+    more : length (numbers ++ page ∷ []) ≡ length numbers + 1
+    more = length_push numbers page
 
     last : ℕ → ℕ → Type 0
     last z k = (z ≤ length (numbers ++ page ∷ [])) × (slice_index (numbers ++ page ∷ []) (z - 1) ≡ k)
 
-    here : count + 1 ≤ length (numbers ++ page ∷ [])
-    here = let r : length (numbers ++ page ∷ []) ≡ count + 1 = more_numbers numbers page in omega (arith, r)
-
-    go : (k ≡ page) ⊎ (k ≡ page → ⊥) → last (slice_index (set other page (count + 1)) k) k
+    go : (k ≡ page) ⊎ (k ≡ page → ⊥) → last (others k) k
     go (inl e) =
-        subst (λ z. last (slice_index (set other page (count + 1)) z) z) (sym e)
-        (subst (λ z. last z page) (sym (get_or-set_same other page (count + 1) 0 long)) (here, get_or_push numbers page 0 (count + 1 - 1) (omega arith)))
+        subst (λ z. last (others z) z) (sym e)
+        (subst (λ z. last z page) (sym here) (omega (arith, more, many), get_or_push numbers page 0 (count + 1 - 1) (omega (arith, many))))
     go (inr ne) =
-        let entry : slice_index (set other page (count + 1)) k ≡ slice_index table k = get_or-set_other other page k (count + 1) 0 ne ∙ same k in
-        let some : 0 < slice_index table k = subst (λ z. 0 < z) entry h in
-        let r : (slice_index table k ≤ count) × (slice_index numbers (slice_index table k - 1) ≡ k) = numbered k some in
-        subst (λ z. last z k) (sym entry)
-        (let l : length (numbers ++ page ∷ []) ≡ count + 1 = more_numbers numbers page in
-        (omega (arith, l, r.0), get_or_append_left numbers (page ∷ []) 0 (slice_index table k - 1) (omega (arith, some, r.0)) ∙ r.1))
+        let r : (copies k ≤ length numbers) × (slice_index numbers (copies k - 1) ≡ k) = numbered k (subst (λ z. 0 < z) (there k ne) h) in
+        let some : 0 < copies k = subst (λ z. 0 < z) (there k ne) h in
+        subst (λ z. last z k) (sym (there k ne))
+        (omega (arith, more, r.0), get_or_append_left numbers (page ∷ []) 0 (copies k - 1) (omega (arith, some, r.0)) ∙ r.1)
 
 -- bytes where one more page is copied
 pub one_copied :
-    (base table other numbers cells more row : List ℕ) (page count : ℕ) → count ≡ length numbers → AreNumbered table numbers → ((k : ℕ) → slice_index other k ≡ slice_index table k)
-    → page < length other → slice_index table page ≡ 0 → ((k : ℕ) → k < count * 256 → slice_index more k ≡ slice_index cells k)
+    (base : List ℕ) (copies others : ℕ → ℕ) (numbers cells more row : List ℕ) (page count : ℕ) → count ≡ length numbers → AreNumbered copies numbers → others page ≡ count + 1
+    → ((k : ℕ) → k ≢ page → others k ≡ copies k) → copies page ≡ 0 → ((k : ℕ) → k < count * 256 → slice_index more k ≡ slice_index cells k)
     → ((k : ℕ) → k < length row → slice_index more (count * 256 + k) ≡ slice_index row k)
     → (byte : ℕ) → (byte / 256 ≡ page → (byte % 256 < length row) × (slice_index row (byte % 256) ≡ slice_index base byte))
-    → overlaid_byte base (set other page (count + 1)) more byte ≡ overlaid_byte base table cells byte
-one_copied base table other numbers cells more row page count many numbered same long none rows copy byte told = go (cases_eq (byte / 256) page)
+    → overlaid_byte base others more byte ≡ overlaid_byte base copies cells byte
+one_copied base copies others numbers cells more row page count many numbered here there none rows copy byte told = go (cases_eq (byte / 256) page)
   where
-    after : List ℕ
-    after = set other page (count + 1)
-
-    go : (byte / 256 ≡ page) ⊎ (byte / 256 ≡ page → ⊥) → overlaid_byte base after more byte ≡ overlaid_byte base table cells byte
+    go : (byte / 256 ≡ page) ⊎ (byte / 256 ≡ page → ⊥) → overlaid_byte base others more byte ≡ overlaid_byte base copies cells byte
     go (inl e) =
-        in_copy base after more byte (count + 1) (ap (slice_index after) e ∙ get_or-set_same other page (count + 1) 0 long) (omega arith)
+        in_copy base others more byte (count + 1) (ap others e ∙ here) (omega arith)
         ∙ ap (λ z. slice_index more (z * 256 + byte % 256)) {x = count + 1 - 1} {y = count} (omega arith)
         ∙ copy (byte % 256) (told e).0
         ∙ (told e).1
-        ∙ sym (lent base table cells byte (ap (slice_index table) e ∙ none))
-    go (inr ne) = by_copy (copied_or table (byte / 256))
+        ∙ sym (lent base copies cells byte (ap copies e ∙ none))
+    go (inr ne) = by_copy (copied_or copies (byte / 256))
       where
-        entry : slice_index after (byte / 256) ≡ slice_index table (byte / 256)
-        entry = get_or-set_other other page (byte / 256) (count + 1) 0 ne ∙ same (byte / 256)
-
-        by_copy : (slice_index table (byte / 256) ≡ 0) ⊎ IsCopied table (byte / 256) → overlaid_byte base after more byte ≡ overlaid_byte base table cells byte
-        by_copy (inl h) = lent base after more byte (entry ∙ h) ∙ sym (lent base table cells byte h)
+        by_copy : (copies (byte / 256) ≡ 0) ⊎ IsCopied copies (byte / 256) → overlaid_byte base others more byte ≡ overlaid_byte base copies cells byte
+        by_copy (inl h) = lent base others more byte (there (byte / 256) ne ∙ h) ∙ sym (lent base copies cells byte h)
         by_copy (inr h) =
-            let copied : ℕ = slice_index table (byte / 256) in
+            let copied : ℕ = copies (byte / 256) in
             let few : copied ≤ count = subst (λ z. copied ≤ z) (sym many) (numbered (byte / 256) h).0 in
-            in_copy base after more byte copied entry h
+            in_copy base others more byte copied (there (byte / 256) ne) h
             ∙ rows ((copied - 1) * 256 + byte % 256) (in_place copied count (byte % 256) h few (rest_small byte))
-            ∙ sym (in_copy base table cells byte copied refl h)
+            ∙ sym (in_copy base copies cells byte copied refl h)
+
+-- pages that have copies still have them where one more is copied
+pub more_copied : (copies others : ℕ → ℕ) (page count : ℕ) → others page ≡ count + 1 → ((k : ℕ) → k ≢ page → others k ≡ copies k) → (k : ℕ) → IsCopied copies k → IsCopied others k
+more_copied copies others page count here there k h = go (cases_eq k page)
+  where
+    go : (k ≡ page) ⊎ (k ≡ page → ⊥) → IsCopied others k
+    go (inl e) = subst (λ z. 0 < z) (sym (ap others e ∙ here)) (omega arith)
+    go (inr ne) = subst (λ z. 0 < z) (sym (there k ne)) h
 
 -- the row of a page is short, and holds its bytes
 pub row_short : (base : List ℕ) (page n : ℕ) → n ≤ 256 → length (take n (drop (page * 256) base)) ≤ 256
@@ -132,19 +137,29 @@ row_holds base page n byte inside here short =
 
 -- ---- changes of a copy
 
--- the place of a byte's copy is there
-pub place_there : (table numbers cells : List ℕ) (byte copy : ℕ) → AreNumbered table numbers → 256 * length numbers ≤ length cells → slice_index table (byte / 256) ≡ copy → 0 < copy
-    → (copy - 1) * 256 + byte % 256 < length cells
-place_there table numbers cells byte copy numbered filled is some =
-    let few : copy ≤ length numbers = subst (λ z. z ≤ length numbers) is (numbered (byte / 256) (subst (λ z. 0 < z) (sym is) some)).0 in
-    let place : (copy - 1) * 256 + byte % 256 < length numbers * 256 = in_place copy (length numbers) (byte % 256) some few (rest_small byte) in
-    omega (arith, place, filled)
+-- bytes of a page's copy are there
+pub place_there : (copies : ℕ → ℕ) (numbers cells : List ℕ) (page copy rest count : ℕ) → AreNumbered copies numbers → 256 * length numbers ≤ length cells → copies page ≡ copy → 0 < copy → rest + count ≤ 256
+    → (copy - 1) * 256 + rest + count ≤ length cells
+place_there copies numbers cells page copy rest count numbered filled is some inside =
+    let few : copy ≤ length numbers = subst (λ z. z ≤ length numbers) is (numbered page (subst (λ z. 0 < z) (sym is) some)).0 in
+    omega (arith, few, filled, some, inside)
 
 -- a byte of a copy that is set
-pub put_here : (base table cells : List ℕ) (byte copy value : ℕ) → slice_index table (byte / 256) ≡ copy → 0 < copy → (copy - 1) * 256 + byte % 256 < length cells
-    → overlaid_byte base table (set cells ((copy - 1) * 256 + byte % 256) value) byte ≡ value
-put_here base table cells byte copy value h some inside =
-    in_copy base table (set cells ((copy - 1) * 256 + byte % 256) value) byte copy h some ∙ get_or-set_same cells ((copy - 1) * 256 + byte % 256) value 0 inside
+pub put_here : (base : List ℕ) (copies : ℕ → ℕ) (cells : List ℕ) (byte copy value : ℕ) → copies (byte / 256) ≡ copy → 0 < copy → (copy - 1) * 256 + byte % 256 < length cells
+    → overlaid_byte base copies (set cells ((copy - 1) * 256 + byte % 256) value) byte ≡ value
+put_here base copies cells byte copy value h some inside =
+    in_copy base copies (set cells ((copy - 1) * 256 + byte % 256) value) byte copy h some ∙ get_or-set_same cells ((copy - 1) * 256 + byte % 256) value 0 inside
+
+-- a place among those of an element in a copy is of that copy
+same_copy : (a b r q count : ℕ) → r < 256 → q + count ≤ 256 → 0 < a → 0 < b → (b - 1) * 256 + q ≤ (a - 1) * 256 + r → (a - 1) * 256 + r < (b - 1) * 256 + q + count → a ≡ b
+same_copy a b r q count small inside k s low high = omega (arith, small, inside, k, s, low, high)
+
+-- one copy is of one page
+one_page : (copies : ℕ → ℕ) (numbers : List ℕ) (page other copy : ℕ) → AreNumbered copies numbers → copies page ≡ copy → copies other ≡ copy → 0 < copy → page ≡ other
+one_page copies numbers page other copy numbered is same some =
+    sym (numbered page (subst (λ z. 0 < z) (sym is) some)).1
+    ∙ ap (λ z. slice_index numbers (z - 1)) (is ∙ sym same)
+    ∙ (numbered other (subst (λ z. 0 < z) (sym same) some)).1
 
 -- places in copies are apart where copies or bytes are
 places_apart : (a b r q : ℕ) → r < 256 → q < 256 → 0 < a → 0 < b → (a - 1) * 256 + r ≡ (b - 1) * 256 + q → (a ≡ b) × (r ≡ q)
@@ -154,21 +169,132 @@ one_byte : (x y : ℕ) → x / 256 ≡ y / 256 → x % 256 ≡ y % 256 → x ≡
 one_byte x y h k = omega (arith, h, k)
 
 -- another byte stays
-pub put_there : (base table numbers cells : List ℕ) (byte copy value other : ℕ) → AreNumbered table numbers → slice_index table (byte / 256) ≡ copy → 0 < copy → (other ≡ byte → ⊥)
-    → overlaid_byte base table (set cells ((copy - 1) * 256 + byte % 256) value) other ≡ overlaid_byte base table cells other
-put_there base table numbers cells byte copy value other numbered is some ne = go (copied_or table (other / 256))
+pub put_there : (base : List ℕ) (copies : ℕ → ℕ) (numbers cells : List ℕ) (byte copy value other : ℕ) → AreNumbered copies numbers → copies (byte / 256) ≡ copy → 0 < copy → (other ≡ byte → ⊥)
+    → overlaid_byte base copies (set cells ((copy - 1) * 256 + byte % 256) value) other ≡ overlaid_byte base copies cells other
+put_there base copies numbers cells byte copy value other numbered is some ne = go (copied_or copies (other / 256))
   where
     place : ℕ
     place = (copy - 1) * 256 + byte % 256
 
-    go : (slice_index table (other / 256) ≡ 0) ⊎ IsCopied table (other / 256) → overlaid_byte base table (set cells place value) other ≡ overlaid_byte base table cells other
-    go (inl h) = lent base table (set cells place value) other h ∙ sym (lent base table cells other h)
+    go : (copies (other / 256) ≡ 0) ⊎ IsCopied copies (other / 256) → overlaid_byte base copies (set cells place value) other ≡ overlaid_byte base copies cells other
+    go (inl h) = lent base copies (set cells place value) other h ∙ sym (lent base copies cells other h)
     go (inr h) =
-        let theirs : ℕ = slice_index table (other / 256) in
+        let theirs : ℕ = copies (other / 256) in
         let apart : ((theirs - 1) * 256 + other % 256 ≡ place → ⊥) = λ e. (
         let r : (theirs ≡ copy) × (other % 256 ≡ byte % 256) = places_apart theirs copy (other % 256) (byte % 256) (rest_small other) (rest_small byte) h some e in
-        ne (one_byte other byte
-        (sym (numbered (other / 256) h).1 ∙ ap (λ z. slice_index numbers (z - 1)) (r.0 ∙ sym is) ∙ (numbered (byte / 256) (subst (λ z. 0 < z) (sym is) some)).1) r.1)) in
-        in_copy base table (set cells place value) other theirs refl h
+        ne (one_byte other byte (one_page copies numbers (other / 256) (byte / 256) copy numbered r.0 is some) r.1)) in
+        in_copy base copies (set cells place value) other theirs refl h
         ∙ get_or-set_other cells place ((theirs - 1) * 256 + other % 256) value 0 apart
-        ∙ sym (in_copy base table cells other theirs refl h)
+        ∙ sym (in_copy base copies cells other theirs refl h)
+
+-- ---- elements in one page
+
+-- a byte of an element that lies in one page is of that page
+same_page : (at count byte : ℕ) → at % 256 + count ≤ 256 → at ≤ byte → byte < at + count → byte / 256 ≡ at / 256
+same_page at count byte inside a b = omega (arith, inside, a, b)
+
+same_rest : (at count byte : ℕ) → at % 256 + count ≤ 256 → at ≤ byte → byte < at + count → byte % 256 + at ≡ at % 256 + byte
+same_rest at count byte inside a b = omega (arith, inside, a, b)
+
+-- a number that is read from the lent bytes, where its bytes have no copies
+pub lent_number : (base : List ℕ) (copies : ℕ → ℕ) (cells : List ℕ) (at count : ℕ) → ((byte : ℕ) → at ≤ byte → byte < at + count → copies (byte / 256) ≡ 0)
+    → number (overlaid_cells base copies cells) at count ≡ number (row_cells base) at count
+lent_number base copies cells at count none =
+    number_frame (overlaid_cells base copies cells) (row_cells base) at count
+    (λ byte c. let r : (at ≤ byte) × (byte < at + count) = covers_parts at count byte c in ap Some (lent base copies cells byte (none byte r.0 r.1)))
+
+pub lent_page : (copies : ℕ → ℕ) (at count : ℕ) → at % 256 + count ≤ 256 → copies (at / 256) ≡ 0 → (byte : ℕ) → at ≤ byte → byte < at + count → copies (byte / 256) ≡ 0
+lent_page copies at count inside none byte a b = ap copies (same_page at count byte inside a b) ∙ none
+
+-- a number at another place
+moved_number : (c d : Cells) (a b n : ℕ) → ((k : ℕ) → k < n → c (a + k) ≡ d (b + k)) → number c a n ≡ number d b n
+moved_number c d a b zero h = refl
+moved_number c d a b (suc n) h =
+    ap₂ joined (ap c {x = a} {y = a + 0} (omega arith) ∙ h 0 (omega arith) ∙ ap d {x = b + 0} {y = b} (omega arith))
+    (moved_number c d (suc a) (suc b) n
+    (λ k l. ap c {x = suc a + k} {y = a + suc k} (omega arith) ∙ h (suc k) (omega (arith, l)) ∙ ap d {x = b + suc k} {y = suc b + k} (omega arith)))
+
+-- a number that is read from the copy of its page
+pub copy_number :
+    (base : List ℕ) (copies : ℕ → ℕ) (cells : List ℕ) (at copy count : ℕ) → copies (at / 256) ≡ copy → 0 < copy → at % 256 + count ≤ 256
+    → number (overlaid_cells base copies cells) at count ≡ number (row_cells cells) ((copy - 1) * 256 + at % 256) count
+copy_number base copies cells at copy count is some inside =
+    moved_number (overlaid_cells base copies cells) (row_cells cells) at ((copy - 1) * 256 + at % 256) count
+    (λ k l. ap Some
+    (in_copy base copies cells (at + k) copy (ap copies (same_page at count (at + k) inside (omega arith) (omega (arith, l))) ∙ is) some
+    ∙ ap (slice_index cells) (same_place copy at (at + k) count k inside refl l)))
+  where
+    same_place : (copy at byte count k : ℕ) → at % 256 + count ≤ 256 → byte ≡ at + k → k < count → (copy - 1) * 256 + byte % 256 ≡ (copy - 1) * 256 + at % 256 + k
+    same_place copy at byte count k inside e l = omega (arith, inside, e, l)
+
+-- what is written over other bytes
+pub written_same : (c d : Cells) (first count value byte : ℕ) → c byte ≡ d byte → written c first count value byte ≡ written d first count value byte
+unfolding written
+written_same c d first count value byte h = ap (λ z. if covers first count byte then Some (byte_of (byte - first) value) else z) h
+
+-- a row into which a number is put
+row_put :
+    (cells more : List ℕ) (place count value : ℕ) → place + count ≤ length cells → length more ≡ length cells
+    → ((k : ℕ) → cells_of (map Some more) k ≡ written (cells_of (map Some cells)) place count value k) → (k : ℕ) → row_cells more k ≡ written (row_cells cells) place count value k
+row_put cells more place count value inside same h k = go (cases_lt k (length cells))
+  where
+    go : (k < length cells) ⊎ (length cells ≤ k) → row_cells more k ≡ written (row_cells cells) place count value k
+    go (inl there) =
+        sym (row_at Some more k 0 (omega (arith, there, same)))
+        ∙ h k
+        ∙ written_same (cells_of (map Some cells)) (row_cells cells) place count value k (row_at Some cells k 0 there)
+    go (inr out) =
+        ap Some (get_or_past more k 0 (omega (arith, out, same)) ∙ sym (get_or_past cells k 0 out))
+        ∙ sym (written_out (row_cells cells) place count value k (λ a b. omega (arith, b, out, inside)))
+
+-- what is put into the copy of a page is put into the page
+pub put_in_copy :
+    (base : List ℕ) (copies : ℕ → ℕ) (numbers cells more : List ℕ) (at copy count value : ℕ) → AreNumbered copies numbers → copies (at / 256) ≡ copy → 0 < copy → at % 256 + count ≤ 256
+    → (copy - 1) * 256 + at % 256 + count ≤ length cells → length more ≡ length cells
+    → ((k : ℕ) → cells_of (map Some more) k ≡ written (cells_of (map Some cells)) ((copy - 1) * 256 + at % 256) count value k)
+    → (byte : ℕ) → overlaid_cells base copies more byte ≡ written (overlaid_cells base copies cells) at count value byte
+put_in_copy base copies numbers cells more at copy count value numbered is some inside there same h byte = go (cases_lt byte at) (cases_lt byte (at + count))
+  where
+    place : ℕ
+    place = (copy - 1) * 256 + at % 256
+
+    rows : (k : ℕ) → row_cells more k ≡ written (row_cells cells) place count value k
+    rows = row_put cells more place count value there same h
+
+    within : at ≤ byte → byte < at + count → overlaid_cells base copies more byte ≡ written (overlaid_cells base copies cells) at count value byte
+    within a b =
+        let k : ℕ = (copy - 1) * 256 + byte % 256 in
+        let e : byte % 256 + at ≡ at % 256 + byte = same_rest at count byte inside a b in
+        ap Some (in_copy base copies more byte copy (ap copies (same_page at count byte inside a b) ∙ is) some)
+        ∙ rows k
+        ∙ written_in (row_cells cells) place count value k (omega (arith, e, a)) (omega (arith, e, b))
+        ∙ ap (λ z. Some (byte_of z value)) {x = k - place} {y = byte - at} (omega (arith, e, a))
+        ∙ sym (written_in (overlaid_cells base copies cells) at count value byte a b)
+
+    outside : (at ≤ byte → byte < at + count → ⊥) → overlaid_cells base copies more byte ≡ written (overlaid_cells base copies cells) at count value byte
+    outside out = ap Some (by_copy (copied_or copies (byte / 256))) ∙ sym (written_out (overlaid_cells base copies cells) at count value byte out)
+      where
+        by_copy : (copies (byte / 256) ≡ 0) ⊎ IsCopied copies (byte / 256) → overlaid_byte base copies more byte ≡ overlaid_byte base copies cells byte
+        by_copy (inl none) = lent base copies more byte none ∙ sym (lent base copies cells byte none)
+        by_copy (inr copied) =
+            let theirs : ℕ = copies (byte / 256) in
+            let k : ℕ = (theirs - 1) * 256 + byte % 256 in
+            in_copy base copies more byte theirs refl copied
+            ∙ some_inj (slice_index more k) (slice_index cells k) (rows k ∙ written_out (row_cells cells) place count value k (λ a b. apart theirs refl copied a b))
+            ∙ sym (in_copy base copies cells byte theirs refl copied)
+          where
+            apart : (theirs : ℕ) → copies (byte / 256) ≡ theirs → 0 < theirs → place ≤ (theirs - 1) * 256 + byte % 256 → (theirs - 1) * 256 + byte % 256 < place + count → ⊥
+            apart theirs h copied a b =
+                let r : theirs ≡ copy = same_copy theirs copy (byte % 256) (at % 256) count (rest_small byte) inside copied some a b in
+                let p : byte / 256 ≡ at / 256 = one_page copies numbers (byte / 256) (at / 256) copy numbered (h ∙ r) is some in
+                out (omega (arith, p, r, a, b)) (omega (arith, p, r, a, b))
+
+    go : (byte < at) ⊎ (at ≤ byte) → (byte < at + count) ⊎ (at + count ≤ byte) → overlaid_cells base copies more byte ≡ written (overlaid_cells base copies cells) at count value byte
+    go (inl a) b = outside (λ c d. omega (arith, a, c))
+    go (inr a) (inl b) = within a b
+    go (inr a) (inr b) = outside (λ c d. omega (arith, b, d))
+
+-- a whole row that was lent
+pub put_back : (new old : List ℕ) (n : ℕ) → n ≡ length old → length new ≡ length old → take n (new ++ drop (length new) old) ≡ new
+put_back new old n many long =
+    ap (λ z. take n (new ++ z)) (drop_all (length new) old (omega (arith, long))) ∙ ap (take n) (append-nil new) ∙ take_all n new (omega (arith, many, long))

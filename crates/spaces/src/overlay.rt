@@ -1,7 +1,7 @@
 //! A lent buffer with changes.
 
 ghost use Rattle.std.specs.Prelude.{◌≡◌, ◌≢◌, ◌<◌, ◌≤◌, ◌+◌, ◌/◌, ◌^◌, ℕ, Some, length, map, true, false, All, OnOk, OnErr, slice_get, nat_le};
-ghost use Rattle.clmodel.specs.Cells.{cells_of, number, written};
+ghost use Rattle.clmodel.specs.Cells.{byte_count, cells_of, number, written};
 ghost use Rattle.spaces_base.specs.Space.{Becomes, IsChanged, IsStored, IsUpdated, IsFetched};
 
 use crate::pages::Pages;
@@ -20,11 +20,11 @@ pub struct Overlay<'a> {
 }
 
 impl<'a> Model for Overlay<'a> {
-    ghost use Rattle.spaces.specs.Overlay.{Overlaid, overlaid};
+    ghost use Rattle.spaces.specs.Overlay.{Overlaid, copies, overlaid};
 
     ghost Value = { Overlaid };
 
-    ghost view = { λ o. record { base = o.base.now; bytes = overlaid o.base.now o.pages.table.items o.pages.cells.items } };
+    ghost view = { λ o. record { base = o.base.now; bytes = overlaid o.base.now (copies o.pages.table) o.pages.cells.items } };
 }
 
 impl<'a> Overlay<'a> {
@@ -53,26 +53,23 @@ impl<'a> Overlay<'a> {
         is_inside(self.base.len(), at, count)
     }
 
-    /// The number of n bytes.
-    fn number(&self, at: usize, count: usize) -> u64
-        requires short { count ≤ 8 }
-        requires inside { at + count ≤ length self.now.bytes }
-        ensures value { number (cells_of self.now.bytes) at count ≡ Some result }
-        ensures below { result < 256 ^ count }
+    /// The number of an element's bytes.
+    fn number(&self, at: usize, width: Width) -> u64
+        requires { at + byte_count width ≤ length self.now.bytes }
+        ensures value { number (cells_of self.now.bytes) at (byte_count width) ≡ Some result }
+        ensures below { result < 256 ^ byte_count width }
     {
-        self.pages.number(self.base, at, count)
+        self.pages.number(self.base, at, width)
     }
 
-    /// Puts the low n bytes of a value in place of those that are there.
-    fn put(&mut self, at: usize, count: usize, value: u64) -> Result<(), AllocError>
-        requires some { 0 < count }
-        requires short { count ≤ 8 }
-        requires inside { at + count ≤ length self.old.bytes }
-        ensures changed { OnOk result (Becomes self.old.bytes self.new.bytes (written (cells_of self.old.bytes) at count value)) }
+    /// Puts the low bytes of a value in place of those of an element.
+    fn put(&mut self, at: usize, width: Width, value: u64) -> Result<(), AllocError>
+        requires { at + byte_count width ≤ length self.old.bytes }
+        ensures changed { OnOk result (Becomes self.old.bytes self.new.bytes (written (cells_of self.old.bytes) at (byte_count width) value)) }
         ensures same { OnErr result (self.new.bytes ≡ self.old.bytes) }
         ensures lent { self.new.base ≡ self.old.base }
     {
-        self.pages.change(self.base, at, count, value)
+        self.pages.change(self.base, at, width, value)
     }
 
     /// Puts what a function makes of the number of 4 bytes in its place, and gives the number that was there (OpenCL 1.2, section
@@ -85,9 +82,9 @@ impl<'a> Overlay<'a> {
         if !self.is_inside(at, 4) {
             return Err(SpaceFault::Bounds);
         }
-        let found = self.number(at as usize, 4) as u32;
+        let found = self.number(at as usize, Width::Four) as u32;
         let value = makes(found);
-        self.put(at as usize, 4, value as u64)?;
+        self.put(at as usize, Width::Four, value as u64)?;
         Ok(found)
     }
 }
@@ -104,22 +101,20 @@ impl<'a> Space for Overlay<'a> {
     }
 
     fn load(&self, at: u64, width: Width) -> Result<u64, SpaceFault> {
-        let count = width.bytes();
-        if !self.is_inside(at, count) {
+        if !self.is_inside(at, width.bytes()) {
             return Err(SpaceFault::Bounds);
         }
-        Ok(self.number(at as usize, count as usize))
+        Ok(self.number(at as usize, width))
     }
 
     fn store(&mut self, at: u64, width: Width, value: u64) -> Result<(), SpaceFault>
         ensures stored { IsStored false true self.old.bytes at width value self.new.bytes result }
         ensures lent { self.new.base ≡ self.old.base }
     {
-        let count = width.bytes();
-        if !self.is_inside(at, count) {
+        if !self.is_inside(at, width.bytes()) {
             return Err(SpaceFault::Bounds);
         }
-        self.put(at as usize, count as usize, value)?;
+        self.put(at as usize, width, value)?;
         Ok(())
     }
 

@@ -1,22 +1,26 @@
 //! Copies of a buffer's pages of 256 bytes.
 
-ghost use Rattle.std.specs.Prelude.{◌≡◌, ◌<◌, ◌≤◌, ◌+◌, ◌*◌, ◌/◌, ◌%◌, ◌^◌, ℕ, Some, [], length, slice_index, OnOk, OnErr};
-ghost use Rattle.clmodel.specs.Cells.{cells_of, number, written};
-ghost use Rattle.spaces.specs.Overlay.{overlaid_byte, overlaid_cells, overlaid, IsCopied, AreNumbered};
+ghost use Rattle.std.specs.Prelude.{◌≡◌, ◌<◌, ◌≤◌, ◌+◌, ◌*◌, ◌/◌, ◌%◌, ◌^◌, ℕ, Some, [], length, slice_index, IfOk, OnOk, OnErr};
+ghost use Rattle.clmodel.specs.Cells.{byte_count, cells_of, number, written};
+ghost use Rattle.spaces.specs.Overlay.{copies, overlaid_byte, overlaid_cells, overlaid, IsCopied, AreNumbered};
 ghost use Rattle.spaces_base.specs.Space.{Becomes};
 
+use crate::element::number_in;
+use crate::page_table::PageTable;
+use clmodel::access::Width;
+use spaces_base::cells::put;
 use std::alloc::{AllocError, Global};
 
 /// The copies of pages of 256 bytes, each made before the page's first change.
 #[derive(Drop)]
 pub(crate) struct Pages {
-    /// For each page up to the last that has a copy 0, or the count of its copy.
-    pub(crate) table: Vec<usize>,
+    /// For each page the count of its copy, or 0.
+    pub(crate) table: PageTable,
     /// The numbers of the copied pages, in the order of their copies.
     pub(crate) numbers: Vec<usize>,
     /// The copies, of 256 bytes each.
     pub(crate) cells: Vec<u8>,
-    ghost numbered: { AreNumbered table.items numbers.items },
+    ghost numbered: { AreNumbered (copies table) numbers.items },
     ghost filled: { 256 * length numbers.items ≤ length cells.items },
 }
 
@@ -49,47 +53,25 @@ fn add_row(cells: &mut Vec<u8>, place: usize, row: &[u8]) -> Result<(), AllocErr
     cells.resize(place + 256, 0)
 }
 
-/// Makes room in a table for a page and those before it.
-fn make_room(table: &mut Vec<usize>, page: usize) -> Result<(), AllocError>
-    requires { page + 1 < 2 ^ 64 }
-    ensures long { OnOk result (page < length table.new.items) }
-    ensures same { (other : ℕ) → slice_index table.new.items other ≡ slice_index table.old.items other }
-{
-    if table.len() <= page {
-        table.resize(page + 1, 0)?;
-    }
-    Ok(())
-}
-
 impl Pages {
     /// No copies. It takes no memory.
     pub(crate) fn new(alloc: Global) -> Self
-        ensures table { result.table.items ≡ [] }
+        ensures table { (page : ℕ) → copies result.table page ≡ 0 }
         ensures numbers { result.numbers.items ≡ [] }
     {
         Pages {
-            table: Vec::new(alloc),
+            table: PageTable::new(alloc),
             numbers: Vec::new(alloc),
             cells: Vec::new(alloc),
-        }
-    }
-
-    /// The count of a page's copy, or 0.
-    fn copy_of(&self, page: usize) -> usize
-        ensures value { result ≡ slice_index self.now.table.items page }
-    {
-        match self.table.get(page) {
-            None => 0,
-            Some(copy) => *copy,
         }
     }
 
     /// A byte.
     fn byte(&self, base: &[u8], byte: usize) -> u8
         requires { byte < length base.now }
-        ensures { result ≡ overlaid_byte base.now self.now.table.items self.now.cells.items byte }
+        ensures { result ≡ overlaid_byte base.now (copies self.now.table) self.now.cells.items byte }
     {
-        let copy = self.copy_of(byte / 256);
+        let copy = self.table.copy_of(byte / 256);
         if copy == 0 {
             base[byte]
         } else {
@@ -97,71 +79,97 @@ impl Pages {
         }
     }
 
-    /// The number of n bytes.
-    pub(crate) fn number(&self, base: &[u8], first: usize, count: usize) -> u64
+    /// The number of n bytes, which may be of two pages.
+    fn number_by_bytes(&self, base: &[u8], first: usize, count: usize) -> u64
         requires short { count ≤ 8 }
         requires inside { first + count ≤ length base.now }
-        ensures value { number (overlaid_cells base.now self.now.table.items self.now.cells.items) first count ≡ Some result }
+        ensures value { number (overlaid_cells base.now (copies self.now.table) self.now.cells.items) first count ≡ Some result }
         ensures below { result < 256 ^ count }
     {
         if count == 0 {
             return 0;
         }
         let low = self.byte(base, first);
-        let high = self.number(base, first + 1, count - 1);
+        let high = self.number_by_bytes(base, first + 1, count - 1);
         low as u64 + 256 * high
     }
 
+    /// The number of an element's bytes. Where they are of one page, the table is looked at once, and not at all where nothing has a copy.
+    pub(crate) fn number(&self, base: &[u8], at: usize, width: Width) -> u64
+        requires { at + byte_count width ≤ length base.now }
+        ensures value { number (overlaid_cells base.now (copies self.now.table) self.now.cells.items) at (byte_count width) ≡ Some result }
+        ensures below { result < 256 ^ byte_count width }
+    {
+        if self.numbers.is_empty() {
+            return number_in(base, at, width);
+        }
+        let count = width.bytes() as usize;
+        if at % 256 + count > 256 {
+            return self.number_by_bytes(base, at, count);
+        }
+        let copy = self.table.copy_of(at / 256);
+        if copy == 0 {
+            return number_in(base, at, width);
+        }
+        number_in(self.cells.as_slice(), (copy - 1) * 256 + at % 256, width)
+    }
+
     /// Puts the low n bytes of a value into pages that have copies.
-    fn put(&mut self, base: &[u8], first: usize, count: usize, value: u64)
+    fn put_by_bytes(&mut self, base: &[u8], first: usize, count: usize, value: u64)
         requires short { count ≤ 8 }
         requires inside { first + count ≤ length base.now }
-        requires copied { (byte : ℕ) → first ≤ byte → byte < first + count → IsCopied self.old.table.items (byte / 256) }
-        ensures same_table { self.new.table.items ≡ self.old.table.items }
-        ensures bytes { (byte : ℕ) → overlaid_cells base.now self.new.table.items self.new.cells.items byte ≡ written (overlaid_cells base.now self.old.table.items self.old.cells.items) first count value byte }
+        requires copied { (byte : ℕ) → first ≤ byte → byte < first + count → IsCopied (copies self.old.table) (byte / 256) }
+        ensures bytes { (byte : ℕ) → overlaid_cells base.now (copies self.new.table) self.new.cells.items byte ≡ written (overlaid_cells base.now (copies self.old.table) self.old.cells.items) first count value byte }
+        ensures same_table { self.new.table ≡ self.old.table }
     {
         if count > 0 {
-            let copy = self.copy_of(first / 256);
+            let copy = self.table.copy_of(first / 256);
             self.cells[(copy - 1) * 256 + first % 256] = (value % 256) as u8;
-            self.put(base, first + 1, count - 1, value / 256);
+            self.put_by_bytes(base, first + 1, count - 1, value / 256);
         }
     }
 
-    /// Copies a page that has no copy.
-    fn copy(&mut self, base: &[u8], page: usize) -> Result<(), AllocError>
+    /// Copies a page, if it has no copy, and answers the count of its copy.
+    fn copy(&mut self, base: &[u8], page: usize) -> Result<usize, AllocError>
         requires { page * 256 < length base.now }
-        ensures bytes { (byte : ℕ) → byte < length base.now → overlaid_byte base.now self.new.table.items self.new.cells.items byte ≡ overlaid_byte base.now self.old.table.items self.old.cells.items byte }
-        ensures copied { OnOk result (IsCopied self.new.table.items page) }
-        ensures kept { (other : ℕ) → IsCopied self.old.table.items other → IsCopied self.new.table.items other }
+        ensures bytes { (byte : ℕ) → byte < length base.now → overlaid_byte base.now (copies self.new.table) self.new.cells.items byte ≡ overlaid_byte base.now (copies self.old.table) self.old.cells.items byte }
+        ensures copied { IfOk result (λ copy. (0 < copy) × (copies self.new.table page ≡ copy)) }
+        ensures kept { (other : ℕ) → IsCopied (copies self.old.table) other → IsCopied (copies self.new.table) other }
     {
-        if self.copy_of(page) > 0 {
-            return Ok(());
+        let copy = self.table.copy_of(page);
+        if copy > 0 {
+            return Ok(copy);
         }
         let count = self.numbers.len();
-        make_room(&mut self.table, page)?;
         add_row(&mut self.cells, count * 256, page_row(base, page))?;
+        self.numbers.reserve(1)?;
+        self.table.set(page, count + 1)?;
         self.numbers.push(page)?;
-        self.table[page] = count + 1;
-        Ok(())
+        Ok(count + 1)
     }
 
-    /// Puts the low n bytes of a value in place of those that are there.
+    /// Puts the low bytes of a value in place of those of an element.
     pub(crate) fn change(
         &mut self,
         base: &[u8],
         at: usize,
-        count: usize,
+        width: Width,
         value: u64,
     ) -> Result<(), AllocError>
-        requires some { 0 < count }
-        requires short { count ≤ 8 }
-        requires inside { at + count ≤ length base.now }
-        ensures changed { OnOk result (Becomes (overlaid base.now self.old.table.items self.old.cells.items) (overlaid base.now self.new.table.items self.new.cells.items) (written (cells_of (overlaid base.now self.old.table.items self.old.cells.items)) at count value)) }
-        ensures same { OnErr result (overlaid base.now self.new.table.items self.new.cells.items ≡ overlaid base.now self.old.table.items self.old.cells.items) }
+        requires { at + byte_count width ≤ length base.now }
+        ensures changed { OnOk result (Becomes (overlaid base.now (copies self.old.table) self.old.cells.items) (overlaid base.now (copies self.new.table) self.new.cells.items) (written (cells_of (overlaid base.now (copies self.old.table) self.old.cells.items)) at (byte_count width) value)) }
+        ensures same { OnErr result (overlaid base.now (copies self.new.table) self.new.cells.items ≡ overlaid base.now (copies self.old.table) self.old.cells.items) }
     {
-        self.copy(base, at / 256)?;
-        self.copy(base, (at + count - 1) / 256)?;
-        self.put(base, at, count, value);
+        let count = width.bytes() as usize;
+        let page = at / 256;
+        let copy = self.copy(base, page)?;
+        if at % 256 + count > 256 {
+            self.copy(base, page + 1)?;
+            self.put_by_bytes(base, at, count, value);
+            return Ok(());
+        }
+        let place = (copy - 1) * 256 + at % 256;
+        put(self.cells.as_mut_slice(), place, count, value);
         Ok(())
     }
 }

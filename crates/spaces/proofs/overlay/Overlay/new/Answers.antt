@@ -1,6 +1,7 @@
 use Rattle.std.proofs.Common.{[]}
+use Rattle.spaces.specs.Overlay.{copies}
 use Rattle.spaces.proofs.Rows.{nothing_copied}
 use Rattle.spaces.proofs.overlay.Overlay.new.Goals as goal
 
 pub returns-clause-bytes : goal.returns-clause-bytes
-returns-clause-bytes c = nothing_copied c.args.base.now c.new.result.table.items [] c.new.result.cells.items c.new.ensures.table
+returns-clause-bytes c = nothing_copied c.args.base.now (copies c.new.result.table) c.new.result.cells.items c.new.ensures.table
