@@ -1,5 +1,7 @@
 -- The accesses that are kept for other groups stand for all of them.
 use Rattle.std.proofs.Common.{◌≡◌, ℕ, zero, suc, ◌⊎◌, Bool, true, false, if◌then◌else◌, Some, List, [], ◌∷◌, ◌++◌, map, reverse, refl, sym, ap, ◌∙◌, subst, inl, inr, eqb-true}
+use Rattle.std.specs.Prelude.{Result, Ok, Err, IfOk}
+use Rattle.std.specs.declared.alloc.AllocError.{AllocError}
 use Rattle.std.proofs.lemmas.Bool.{false≢true, and_parts}
 use Rattle.std.proofs.lemmas.List.{append-nil}
 use Rattle.clmodel.specs.Cells.{byte_count, covers}
@@ -14,6 +16,7 @@ use Rattle.shadow.specs.Seen.{seen, seen_with, mark_of}
 use Rattle.shadow_list.specs.Log.{in_buffer, Log, logged}
 use Rattle.shadow.proofs.Absorbing.{onto}
 use Rattle.shadow.proofs.Listing.{onto_is}
+use Rattle.shadow.specs.declared.group_accesses.LastingList.{LastingList}
 use Rattle.shadow_list.specs.declared.log.Entry.{Entry}
 use Rattle.group_log.specs.Lasting.{all_of, short_of, last_of, made, Stays, LeavesOut}
 use Rattle.group_log.specs.declared.group.GroupLog.{GroupLog}
@@ -132,6 +135,19 @@ short_stands items h = go (split items)
           all_more front x f,
           subst (λ b. EndsWith b (short_of (front ++ (x, f) ∷ [])) (all_of front) x) (sym (last_more false front x f)) (ends front x f r.0 r.1),
         ))
+
+-- the same of a log, and of a list that is made of it
+pub log_stands : (l : GroupLog) → StandsWith l.lasting.has_last l.lasting.entries.items (all_of l.whole.items)
+log_stands l =
+    subst (λ b. StandsWith b l.lasting.entries.items (all_of l.whole.items)) (sym l.has_last)
+    (subst (λ s. StandsWith (last_of false l.whole.items) s (all_of l.whole.items)) (sym l.entries) (short_stands l.whole.items l.left_out))
+
+pub list_stands :
+    (l : GroupLog) (r : Result LastingList AllocError) → IfOk r (λ list. list.entries.items ≡ l.lasting.entries.items) → IfOk r (λ list. list.has_last ≡ l.lasting.has_last)
+    → IfOk r (λ list. StandsWith list.has_last list.entries.items (all_of l.whole.items))
+list_stands l (Ok list) entries last =
+    subst (λ b. StandsWith b list.entries.items (all_of l.whole.items)) (sym last) (subst (λ s. StandsWith l.lasting.has_last s (all_of l.whole.items)) (sym entries) (log_stands l))
+list_stands l (Err error) entries last = tt
 
 -- ---- one access more of a log
 

@@ -1,27 +1,37 @@
 //! Values by the byte that an access begins at.
 
-ghost use Rattle.std.specs.Prelude.{◌≡◌, ◌<◌, ◌++◌, ◌∷◌, ◌^◌, [], length, IfSome, OnErr, OnOk, slice_index_or, slice_set};
+ghost use Rattle.std.specs.Prelude.{◌≡◌, ◌<◌, ◌++◌, ◌∷◌, ◌^◌, [], length, IfSome, IsTrue, OnErr, OnOk, slice_index_or, slice_set};
 
 use clmodel::access::Access;
 use std::alloc::{AllocError, Global};
 
 /// What is kept of the accesses to the same bytes.
 pub(crate) trait OfBytes {
-    /// Whether an access is one of those.
+    /// Whether an access that begins at the same byte is one of those.
     fn is_of(&self, x: &Access) -> bool;
 }
 
-/// At most this many values of accesses that begin at one byte are looked at: one for each width and each kind of operation.
-const MOST: u32 = 64;
+/// At most this many values of one slot are looked at. The accesses that begin in a word are of four first bytes at most, and of each there
+/// is one value for each width and each kind of operation.
+const MOST: u32 = 96;
 
-/// Values that each tell of accesses to the same bytes, found by the slot of the first of these bytes. Nothing hangs on which one is found.
+/// Where the accesses begin that a value tells of, and where the next value is.
+#[derive(Clone, Copy)]
+struct Link {
+    first: u64,
+    /// The place of the next older value of the slot, counted up to it and with it; 0 where there is none.
+    older: usize,
+}
+
+/// Values that each tell of accesses to the same bytes, found by the slot of the first of these bytes, which it shares with others. Nothing
+/// hangs on which one is found.
 #[derive(Drop)]
 pub(crate) struct Chains<T> {
     pub(crate) values: Vec<T>,
     /// Of each slot, the place of its newest value, counted up to it and with it; 0 where it has none.
     newest: Vec<usize>,
-    /// Of each value, the place of the next older one of its slot.
-    older: Vec<usize>,
+    /// Of each value.
+    links: Vec<Link>,
 }
 
 impl<T: OfBytes + Copy> Chains<T> {
@@ -32,7 +42,7 @@ impl<T: OfBytes + Copy> Chains<T> {
         Chains {
             values: Vec::new(alloc),
             newest: Vec::new(alloc),
-            older: Vec::new(alloc),
+            links: Vec::new(alloc),
         }
     }
 
@@ -42,26 +52,37 @@ impl<T: OfBytes + Copy> Chains<T> {
     {
         self.values.clear();
         self.newest.clear();
-        self.older.clear();
+        self.links.clear();
     }
 
-    /// The place of the value of an access that begins at a slot, if there is one.
+    /// Whether an access is one of those of the value at a place.
+    fn is_of(&self, i: usize, x: &Access) -> bool
+        ensures { IsTrue result → i < length self.now.values.items }
+    {
+        match self.values.get(i) {
+            None => false,
+            Some(value) => value.is_of(x),
+        }
+    }
+
+    /// The place of the value of an access whose first byte has this slot, if there is one.
     pub(crate) fn find(&self, slot: usize, x: &Access) -> Option<usize>
         ensures { IfSome result (λ i. i < length self.now.values.items) }
     {
         let mut count = self.newest.get(slot).copied().unwrap_or(0);
         for _ in 0..MOST {
             let i = count.checked_sub(1)?;
-            if self.values.get(i)?.is_of(x) {
+            let link = self.links.get(i)?;
+            if link.first == x.first && self.is_of(i, x) {
                 return Some(i);
             }
-            count = *self.older.get(i)?;
+            count = link.older;
         }
         None
     }
 
-    /// Adds a value of accesses that begin at a slot. Where memory is refused the values stay.
-    pub(crate) fn add(&mut self, slot: usize, value: T) -> Result<(), AllocError>
+    /// Adds a value of accesses that begin at a byte, by its slot. Where memory is refused the values stay.
+    pub(crate) fn add(&mut self, slot: usize, first: u64, value: T) -> Result<(), AllocError>
         ensures added { OnOk result (self.new.values.items ≡ self.old.values.items ++ value ∷ []) }
         ensures same { OnErr result (self.new.values.items ≡ self.old.values.items) }
     {
@@ -70,7 +91,8 @@ impl<T: OfBytes + Copy> Chains<T> {
                 .resize(slot.checked_add(1).ok_or(AllocError)?, 0)?;
         }
         self.values.reserve(1)?;
-        self.older.push(self.newest[slot])?;
+        let older = self.newest[slot];
+        self.links.push(Link { first, older })?;
         self.values.push_reserved(value);
         self.newest[slot] = self.values.len();
         Ok(())

@@ -1,6 +1,6 @@
 //! The log of a group that is running.
 
-ghost use Rattle.std.specs.Prelude.{◌≡◌, ◌<◌, ◌-◌, ◌^◌, [], All, false, true};
+ghost use Rattle.std.specs.Prelude.{◌≡◌, ◌<◌, ◌-◌, ◌^◌, [], All, IfOk, false, true};
 ghost use Rattle.shadow.specs.Lasting.{StandsWith, IsTold};
 ghost use Rattle.shadow_list.specs.Log.{IsPlaced, IsNoted, logged, fresh_log, in_buffer};
 ghost use Rattle.group_log.specs.Lasting.{all_of, short_of, last_of, made, LeavesOut};
@@ -18,11 +18,11 @@ use std::alloc::{AllocError, Global};
 /// there for proofs alone.
 ///
 /// A new access costs one look-up in a hash table, a step or two for each of its bytes, and a look at what is kept of the accesses that begin
-/// at its first byte, at most one for each width and kind; and two look-ups more where it is kept. While none conflict, at most ten are kept of
-/// each first byte, width and kind, whatever their number, and those of an address space are let go at a barrier that fences it. What is known
-/// of bytes and places stays then: some 300 bytes for each cell of eight bytes that was touched, and at most 150 for each first byte, width and
-/// kind. Where an access may conflict all kept ones are walked for the exact
-/// answer, which ends a launch where there is a conflict.
+/// in the same word of four bytes, at most one for each first byte, width and kind; and two look-ups more where it is kept. While none
+/// conflict, at most ten are kept of each first byte, width and kind, whatever their number, and those of an address space are let go at a
+/// barrier that fences it. What is known of bytes and places stays then: some 300 bytes for each cell of eight bytes that was touched, and at
+/// most 150 for each first byte, width and kind. Where an access may conflict all kept ones are walked for the exact answer, which ends a
+/// launch where there is a conflict.
 #[derive(Drop)]
 pub struct GroupLog {
     local: Side,
@@ -65,17 +65,31 @@ impl GroupLog {
         }
     }
 
-    /// A log without accesses, in the first interval of both address spaces, of the same launch. The memory that told accesses of the group is
-    /// used again where much of it was in use: to clear it takes time in proportion to all of it.
+    /// Forgets all accesses, in the first interval of both address spaces. The memory that told accesses of the group is used again where much
+    /// of it was in use: to clear it takes time in proportion to all of it.
+    pub fn clear(&mut self, alloc: Global)
+        ensures { logged (all_of self.new.whole.items) self.new.local.interval self.new.global.interval self.new.global.uniform ≡ fresh_log self.old.global.uniform }
+    {
+        self.local.clear(alloc);
+        self.global.clear(alloc);
+        self.lasting.clear(alloc);
+        self.whole = Whole::new();
+    }
+
+    /// A log without accesses, in the first interval of both address spaces, of the same launch: this one, cleared.
     pub fn cleared(self, alloc: Global) -> Self
         ensures { logged (all_of result.whole.items) result.local.interval result.global.interval result.global.uniform ≡ fresh_log self.global.uniform }
     {
-        GroupLog {
-            local: self.local.cleared(alloc),
-            global: self.global.cleared(alloc),
-            lasting: self.lasting.cleared(alloc),
-            whole: Whole::new(),
-        }
+        let mut log = self;
+        log.clear(alloc);
+        log
+    }
+
+    /// Whether the launch is uniform.
+    pub fn is_uniform(&self) -> bool
+        ensures { result ≡ self.now.global.uniform }
+    {
+        self.global.uniform
     }
 
     /// The accesses that are there for other groups stand for all of them. It does nothing when it runs.
@@ -83,12 +97,11 @@ impl GroupLog {
         ensures { StandsWith self.now.lasting.has_last self.now.lasting.entries.items (all_of self.now.whole.items) }
     {}
 
-    /// The accesses that tell other groups something new. All else is given back, and memory to spare too, where the smaller block isn't refused:
-    /// nothing is lost where it is.
-    pub fn into_list(self) -> LastingList
-        ensures { StandsWith result.has_last result.entries.items (all_of self.whole.items) }
+    /// The accesses that tell other groups something new, in a block of their own size. An error is out of memory.
+    pub fn list(&self, alloc: Global) -> Result<LastingList, AllocError>
+        ensures { IfOk result (λ list. StandsWith list.has_last list.entries.items (all_of self.now.whole.items)) }
     {
-        self.lasting.into_list()
+        self.lasting.list(alloc)
     }
 
     /// The same for an access of local memory.

@@ -40,7 +40,7 @@ fn keep_told(told: &mut Chains<Told>, slot: usize, x: &Access)
         Some(i) => told.values[i] = told.values[i].with(x),
         None => {
             // Where memory is refused here, a later access that tells the same is kept too.
-            let _ = told.add(slot, Told::of(x));
+            let _ = told.add(slot, x.first, Told::of(x));
         }
     }
 }
@@ -60,7 +60,7 @@ impl Lasting {
     }
 
     /// Forgets all accesses, and keeps the memory.
-    fn clear(&mut self)
+    fn forget(&mut self)
         ensures told { self.new.told.values.items ≡ [] }
         ensures entries { self.new.entries.items ≡ [] }
         ensures has_last { self.new.has_last ≡ false }
@@ -70,18 +70,17 @@ impl Lasting {
         self.pass();
     }
 
-    /// No accesses, in the memory of these. The memory is given back where less than an eighth of it was in use.
-    pub(crate) fn cleared(self, alloc: Global) -> Self
-        ensures told { result.told.values.items ≡ [] }
-        ensures entries { result.entries.items ≡ [] }
-        ensures has_last { result.has_last ≡ false }
+    /// Forgets all accesses. The memory is kept, or given back where less than an eighth of it was in use.
+    pub(crate) fn clear(&mut self, alloc: Global)
+        ensures told { self.new.told.values.items ≡ [] }
+        ensures entries { self.new.entries.items ≡ [] }
+        ensures has_last { self.new.has_last ≡ false }
     {
         if self.entries.len() < self.entries.capacity() / 8 {
-            return Lasting::new(alloc);
+            *self = Lasting::new(alloc);
+        } else {
+            self.forget();
         }
-        let mut lasting = self;
-        lasting.clear();
-        lasting
     }
 
     /// Whether an access is seen to tell other groups nothing new, by the slot of its first byte.
@@ -125,11 +124,12 @@ impl Lasting {
         self.has_last = false;
     }
 
-    /// The accesses as other groups ask for them.
-    pub(crate) fn into_list(self) -> LastingList
-        ensures entries { result.entries.items ≡ self.entries.items }
-        ensures has_last { result.has_last ≡ self.has_last }
+    /// The accesses as other groups ask for them, copied. An error is out of memory.
+    pub(crate) fn list(&self, alloc: Global) -> Result<LastingList, AllocError>
+        ensures entries { IfOk result (λ list. list.entries.items ≡ self.now.entries.items) }
+        ensures has_last { IfOk result (λ list. list.has_last ≡ self.now.has_last) }
     {
-        LastingList::from_entries(self.entries, self.has_last)
+        let entries = Vec::from_slice(alloc, self.entries.as_slice())?;
+        Ok(LastingList::from_entries(entries, self.has_last))
     }
 }

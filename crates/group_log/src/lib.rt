@@ -6,7 +6,9 @@ mod chains;
 mod group;
 mod lasting;
 mod place;
+mod sent;
 mod side;
 mod whole;
 
 pub use group::GroupLog;
+pub use sent::logs_are_sent;

@@ -33,15 +33,15 @@ pub(crate) struct Side {
     ghost faithful: { All (IsFaithful uniform interval kept.items) places.values.items },
 }
 
-/// Where what is kept of the first byte of an access stands, by where the cell of that byte starts.
+/// The slot of the first byte of an access, which is one for the bytes of a word of four, by where the cell of that byte starts.
 fn slot_in(cell: usize, x: &Access) -> usize {
-    cell.wrapping_add((x.first % 8) as usize)
+    cell.wrapping_add((x.first % 8 / 4) as usize)
 }
 
 /// What is known of an access before it is kept.
 #[derive(Clone, Copy)]
 pub(crate) struct Seat {
-    /// Where what is kept of its first byte stands.
+    /// The slot of its first byte.
     pub(crate) slot: usize,
     /// Whether it is to be kept.
     pub(crate) needed: bool,
@@ -56,7 +56,7 @@ fn keep_place(places: &mut Chains<Place>, slot: usize, x: &Access)
         Some(i) => places.values[i] = places.values[i].with(x),
         None => {
             // Where memory is refused here, a later equal access is kept once more.
-            let _ = places.add(slot, Place::of(x));
+            let _ = places.add(slot, x.first, Place::of(x));
         }
     }
 }
@@ -81,7 +81,7 @@ impl Side {
     }
 
     /// Forgets all accesses, as `new` begins, and keeps the memory.
-    fn clear(&mut self)
+    fn forget(&mut self)
         ensures kept { self.new.kept.items ≡ [] }
         ensures interval { self.new.interval ≡ 0 }
         ensures uniform { self.new.uniform ≡ self.old.uniform }
@@ -92,18 +92,17 @@ impl Side {
         self.places.clear();
     }
 
-    /// No accesses, in the first interval, in the memory of these. The memory is given back where less than an eighth of it was in use.
-    pub(crate) fn cleared(self, alloc: Global) -> Self
-        ensures kept { result.kept.items ≡ [] }
-        ensures interval { result.interval ≡ 0 }
-        ensures uniform { result.uniform ≡ self.uniform }
+    /// Forgets all accesses, as `new` begins. The memory is kept, or given back where less than an eighth of it was in use.
+    pub(crate) fn clear(&mut self, alloc: Global)
+        ensures kept { self.new.kept.items ≡ [] }
+        ensures interval { self.new.interval ≡ 0 }
+        ensures uniform { self.new.uniform ≡ self.old.uniform }
     {
         if self.places.values.len() < self.places.values.capacity() / 8 {
-            return Side::new(alloc, self.uniform);
+            *self = Side::new(alloc, self.uniform);
+        } else {
+            self.forget();
         }
-        let mut side = self;
-        side.clear();
-        side
     }
 
     /// Begins the next interval.

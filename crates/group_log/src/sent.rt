@@ -1,0 +1,44 @@
+//! A log may go from one thread to another.
+
+ghost use denote.Param.Send.{IsSend};
+ghost use Rattle.group_log.specs.contracts.group.GroupLog as GroupLogType;
+ghost use Rattle.group_log.specs.contracts.lasting.Lasting as LastingType;
+ghost use Rattle.group_log.specs.contracts.side.Side as SideType;
+
+use crate::chains::Chains;
+use crate::place::Place;
+use crate::whole::Whole;
+use shadow::Told;
+use shadow_list::{Cells, Entry};
+use std::marker::Send;
+
+/// The type's values may go to another thread.
+fn is_sent<T: Send>()
+    ensures { IsSend T.row }
+{}
+
+/// What is kept of the running intervals may go to another thread.
+fn sides_are_sent()
+    ensures { IsSend SideType.the_row }
+{
+    is_sent::<Vec<Entry>>();
+    is_sent::<Cells>();
+    is_sent::<Chains<Place>>();
+}
+
+/// What is kept for other groups may go to another thread.
+fn lasting_accesses_are_sent()
+    ensures { IsSend LastingType.the_row }
+{
+    is_sent::<Vec<Entry>>();
+    is_sent::<Chains<Told>>();
+}
+
+/// Logs may go from one thread to another. It does nothing when it runs.
+pub fn logs_are_sent()
+    ensures { IsSend GroupLogType.the_row }
+{
+    sides_are_sent();
+    lasting_accesses_are_sent();
+    is_sent::<Whole>();
+}
