@@ -18,7 +18,7 @@ use Rattle.clmodel.specs.declared.fault.Fault.TheVariants as fault
 use Rattle.clmodel.specs.declared.schedule.Event.{Event}
 use Rattle.clmodel.specs.declared.schedule.Event.TheVariants.{Item, Release}
 use Rattle.clmodel.proofs.Steps.{none_some, some_inj, lowest_is_none, item_inverse, ReleaseStep, release_inverse, answers_other, same_action, found_first}
-use Rattle.std.specs.Prelude.{Box}
+use Rattle.std.specs.Prelude.{Result, Ok, IfOk, Box}
 use Rattle.std.specs.declared.alloc.Global.{Global}
 use Rattle.clmodel.proofs.Ending.{step_less}
 use Rattle.joining.specs.Group.{Plan, IsGroup, going, turn_of, RunsIn, Reached, Reported, IsRun}
@@ -324,10 +324,13 @@ pub interval_asks :
 interval_asks p q fits origin events e whole brief r =
     subst (λ z. IsGroup z × (IsBrief z origin × Reached z fits origin events)) (sym e) (whole, (brief, r))
 
--- an item's next action, by the code's plan
+-- an item's next action in a state that fits, as the code was told it by its plan
 pub acting :
-    (p q : Plan) (s : State) (k : ℕ) (a b : Action) → q ≡ p → next_action q.launch s (q.first + k) ≡ a → a ≡ b → next_action p.launch s (p.first + k) ≡ b
-acting p q s k a b e h i = subst (λ z. next_action z.launch s (z.first + k) ≡ a) e h ∙ i
+    {E : Type 0} (p q : Plan) (fits : Events → State → Type 0) {events : Events} (s : State) (k : ℕ) (a : Action) {answer : Result Action E} → q ≡ p → fits events s → answer ≡ Ok a
+    → IfOk answer (λ x. (es : Events) (t : State) → fits es t → next_action q.launch t (q.first + k) ≡ x) → next_action p.launch s (p.first + k) ≡ a
+acting p q fits {events} s k a e holds is value =
+    subst (λ z. next_action z.launch s (z.first + k) ≡ a) e
+    (subst (λ r. IfOk r (λ x. (es : Events) (t : State) → fits es t → next_action q.launch t (q.first + k) ≡ x)) is value events s holds)
 
 -- where all have come to rest after an interval
 pub leader_asks :

@@ -110,25 +110,29 @@ fn run_item<M: Machine>(m: &mut M, k: u32, runs: &mut Runs) -> Result<ItemRun, A
     ensures halted { IfOk result (IsItemRun (M.plan m.old) (M.fits m.new) origin runs.new k) }
 {
     'steps: loop {
-        match m.next(k)? {
-            Action::Access {
-                object,
-                element,
-                operation,
-            } => {
+        // No `?` at `next`: it would move an action, which has room for a barrier's turns, for each access.
+        match m.next(k) {
+            Ok(
+                Action::Access {
+                    object,
+                    element,
+                    operation,
+                },
+            ) => {
                 match advance(m, k, object, element, operation, runs)? {
                     None => {}
                     Some(fault) => return Ok(ItemRun::Reports(fault)),
                 }
             }
-            Action::Barrier { instance, .. } => {
+            Ok(Action::Barrier { instance, .. }) => {
                 return stop_at(m, k, Stop::At(instance), runs);
             }
-            Action::End => return stop_at(m, k, Stop::Ended, runs),
-            Action::Fault(cause) => {
+            Ok(Action::End) => return stop_at(m, k, Stop::Ended, runs),
+            Ok(Action::Fault(cause)) => {
                 let fault = m.fault_of(m.first() + k, cause)?;
                 return Ok(ItemRun::Reports(fault));
             }
+            Err(error) => return Err(error),
         }
     }
 }
