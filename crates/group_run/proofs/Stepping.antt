@@ -1,6 +1,8 @@
 -- What an access and a release leave of what a program holds of a group.
 use Rattle.std.proofs.Common.{◌≡◌, ℕ, ◌+◌, ◌-◌, ◌<◌, ◌≤◌, ◌^◌, ◌⊎◌, ℤ, Bool, true, false, ◌==◌, if◌then◌else◌, Option, None, Some, List, [], ◌∷◌, ◌++◌, length, set, refl, sym, ap, ap₂, ◌∙◌, subst, inl, inr, arith, eq-eqb, ne_eqb, length-append}
-use Rattle.std.specs.Prelude.{reverse, slice_get, Result, Ok, Err, IfOk}
+use Rattle.std.specs.Prelude.{reverse, slice_get, Result, Ok, Err, IfOk, Box}
+use Rattle.std.specs.Box.{box_value}
+use Rattle.std.specs.declared.alloc.Global.{Global}
 use Rattle.std.specs.Option.{option_map}
 use Rattle.std.proofs.lemmas.Bool.{cases_eq}
 use Rattle.std.proofs.lemmas.List.{append_assoc, append-nil, reverse-append, length-reverse}
@@ -349,8 +351,8 @@ module _
 
   -- the element is out of range
   pub bounds_made :
-      (told : Fault) → None ≡ first_byte (length (space_of bytes globals locals o)) element (size_of op)
-      → told ≡ fault.Bounds (p.first + k) (kind_of op) (location_of p.launch (region_of p.group o)) element
+      (told : Box Fault Global) → None ≡ first_byte (length (space_of bytes globals locals o)) element (size_of op)
+      → told.value ≡ fault.Bounds (p.first + k) (kind_of op) (location_of p.launch (region_of p.group o)) element
       → IsMade p before before (p.first + k) (action.Access o element op) (made_as.Refused told)
   bounds_made told place is events s f asked = (
     bounds_turn p.launch s p.first (p.first + k) o element op asked (placed_at events s None f place)
@@ -361,10 +363,10 @@ module _
 
   -- it reads a byte that is unset
   pub unset_made :
-      (globals2 : List G) (locals2 : List (List (Option ℕ))) (first byte : ℕ) (told : Fault) → Some first ≡ first_byte (length (space_of bytes globals locals o)) element (size_of op)
+      (globals2 : List G) (locals2 : List (List (Option ℕ))) (first byte : ℕ) (told : Box Fault Global) → Some first ≡ first_byte (length (space_of bytes globals locals o)) element (size_of op)
       → {outcome : Result Answer SpaceFault} → outcome ≡ Err (space_fault.Unset byte)
       → IsMoved (ObjectsHold bytes p.launch p.group globals locals) (ObjectsHold bytes p.launch p.group globals2 locals2) (region_of p.group o) first op outcome
-      → told ≡ fault.Unset (p.first + k) (kind_of op) (location_of p.launch (region_of p.group o)) byte
+      → told.value ≡ fault.Unset (p.first + k) (kind_of op) (location_of p.launch (region_of p.group o)) byte
       → IsMade p before (Fits acts bytes ro p items number globals2 locals2 log) (p.first + k) (action.Access o element op) (made_as.Refused told)
   unset_made globals2 locals2 first byte told place failed moved is events s f asked =
       let w = subst (IsMoved (ObjectsHold bytes p.launch p.group globals locals) (ObjectsHold bytes p.launch p.group globals2 locals2) (region_of p.group o) first op) failed moved s.memory f.holds in
@@ -386,12 +388,12 @@ module _
 
   -- it is done; `r` is the plan as the code has it once the item is answered
   module _
-      (r : Plan) (globals2 : List G) (locals2 : List (List (Option ℕ))) (log2 : Log) (i j : I) (first : ℕ) (answer : Answer) (told : Option Fault) (last : r ≡ p)
+      (r : Plan) (globals2 : List G) (locals2 : List (List (Option ℕ))) (log2 : Log) (i j : I) (first : ℕ) (answer : Answer) (told : Option (Box Fault Global)) (last : r ≡ p)
       (there : slice_get items k ≡ Some i) (place : Some first ≡ first_byte (length (space_of bytes globals locals o)) element (size_of op))
       {outcome : Result Answer SpaceFault} (done : outcome ≡ Ok answer)
       (moved : IsMoved (ObjectsHold bytes p.launch p.group globals locals) (ObjectsHold bytes p.launch p.group globals2 locals2) (region_of p.group o) first op outcome)
       (answered : (answers : List Answer) → acts j answers ≡ acts i (answer ∷ answers))
-      (judged : IsJudged p.launch log (entry_of (p.first + k) (region_of p.group o) first op number) log2 told) where
+      (judged : IsJudged p.launch log (entry_of (p.first + k) (region_of p.group o) first op number) log2 (option_map box_value told)) where
     after :
         (events : Events) (s : State) → before events s → next_action p.launch s (p.first + k) ≡ action.Access o element op
         → Accessed acts bytes ro p (set items k j) (number + 1) globals2 locals2 log2 events s (p.first + k) judged.0
@@ -406,21 +408,21 @@ module _
         subst (λ z. IsMade p before (Fits acts bytes ro z (set items k j) (number + 1) globals2 locals2 log2) (p.first + k) (action.Access o element op) made_as.Done) (sym last)
         (λ events s f asked.
         let a = after events s f asked in
-        let quiet = map_none (λ hit. conflict_fault p.launch (conflict_of hit)) judged.0 (sym judged.2 ∙ none) in
+        let quiet = map_none (λ hit. conflict_fault p.launch (conflict_of hit)) judged.0 (sym judged.2 ∙ ap (option_map box_value) none) in
         (a.next, a.steps, a.fits, a.conflict ∙ ap (option_map conflict_of) quiet))
 
     conflict_made :
-        (report : Fault) → told ≡ Some report
+        (report : Box Fault Global) → told ≡ Some report
         → IsMade p before (Fits acts bytes ro r (set items k j) (number + 1) globals2 locals2 log2) (p.first + k) (action.Access o element op) (made_as.Conflicts report)
     conflict_made report some =
         subst (λ z. IsMade p before (Fits acts bytes ro z (set items k j) (number + 1) globals2 locals2 log2) (p.first + k) (action.Access o element op) (made_as.Conflicts report)) (sym last)
         (λ events s f asked.
         let a = after events s f asked in
-        let found = map_some (λ hit. conflict_fault p.launch (conflict_of hit)) judged.0 report (sym judged.2 ∙ some) in
+        let found = map_some (λ hit. conflict_fault p.launch (conflict_of hit)) judged.0 report.value (sym judged.2 ∙ ap (option_map box_value) some) in
         (a.next, conflict_of found.0, a.steps, a.fits, a.conflict ∙ ap (option_map conflict_of) found.1, found.2))
 
     by_report :
-        (report : Option Fault) → told ≡ report
+        (report : Option (Box Fault Global)) → told ≡ report
         → IsMade p before (Fits acts bytes ro r (set items k j) (number + 1) globals2 locals2 log2) (p.first + k) (action.Access o element op) (judged_as report)
     by_report None e = done_made e
     by_report (Some report) e = conflict_made report e

@@ -18,6 +18,8 @@ use Rattle.clmodel.specs.declared.fault.Fault.TheVariants as fault
 use Rattle.clmodel.specs.declared.schedule.Event.{Event}
 use Rattle.clmodel.specs.declared.schedule.Event.TheVariants.{Item, Release}
 use Rattle.clmodel.proofs.Steps.{none_some, some_inj, lowest_is_none, item_inverse, ReleaseStep, release_inverse, answers_other, same_action, found_first}
+use Rattle.std.specs.Prelude.{Result, Ok, IfOk, Box}
+use Rattle.std.specs.declared.alloc.Global.{Global}
 use Rattle.clmodel.proofs.Ending.{step_less}
 use Rattle.joining.specs.Group.{Plan, IsGroup, going, turn_of, RunsIn, Reached, Reported, IsRun}
 use Rattle.joining.proofs.GroupTurns as group_turns
@@ -150,7 +152,7 @@ module _
         still p g.0.state w.0 k g.1 w.1.steps,
       )
 
-  pub made_conflict : (f : Fault) → m ≡ made_as.Conflicts f → IsGroup p → k < p.count → Reported p new origin (events ++ Item (p.first + k) ∷ []) f
+  pub made_conflict : (f : Box Fault Global) → m ≡ made_as.Conflicts f → IsGroup p → k < p.count → Reported p new origin (events ++ Item (p.first + k) ∷ []) f.value
   made_conflict f e whole b =
       let w = as_made (made_as.Conflicts f) e events g.0.state g.0.holds asked in
       record {
@@ -160,7 +162,7 @@ module _
         reports = ap (λ c. conflict_turn p.launch c (going p w.0 (straggler p.launch w.0 p.group p.first))) w.4 ∙ ap Reports w.5;
       }
 
-  pub made_refused : (f : Fault) → m ≡ made_as.Refused f → IsGroup p → k < p.count → Reported p new origin events f
+  pub made_refused : (f : Box Fault Global) → m ≡ made_as.Refused f → IsGroup p → k < p.count → Reported p new origin events f.value
   made_refused f e whole b =
       let w = as_made (made_as.Refused f) e events g.0.state g.0.holds asked in
       record {
@@ -176,7 +178,7 @@ module _
       let w = as_made made_as.Done e events g.0.state g.0.holds asked in
       made_room p origin g.0.state w.0 events (p.first + k) brief g.0.runs w.1
 
-  pub room_conflict : (f : Fault) → m ≡ made_as.Conflicts f → IsBrief p origin → length events + 1 < 2 ^ 64
+  pub room_conflict : (f : Box Fault Global) → m ≡ made_as.Conflicts f → IsBrief p origin → length events + 1 < 2 ^ 64
   room_conflict f e brief =
       let w = as_made (made_as.Conflicts f) e events g.0.state g.0.holds asked in
       made_room p origin g.0.state w.0 events (p.first + k) brief g.0.runs w.2
@@ -322,10 +324,13 @@ pub interval_asks :
 interval_asks p q fits origin events e whole brief r =
     subst (λ z. IsGroup z × (IsBrief z origin × Reached z fits origin events)) (sym e) (whole, (brief, r))
 
--- an item's next action, by the code's plan
+-- an item's next action in a state that fits, as the code was told it by its plan
 pub acting :
-    (p q : Plan) (s : State) (k : ℕ) (a b : Action) → q ≡ p → next_action q.launch s (q.first + k) ≡ a → a ≡ b → next_action p.launch s (p.first + k) ≡ b
-acting p q s k a b e h i = subst (λ z. next_action z.launch s (z.first + k) ≡ a) e h ∙ i
+    {E : Type 0} (p q : Plan) (fits : Events → State → Type 0) {events : Events} (s : State) (k : ℕ) (a : Action) {answer : Result Action E} → q ≡ p → fits events s → answer ≡ Ok a
+    → IfOk answer (λ x. (es : Events) (t : State) → fits es t → next_action q.launch t (q.first + k) ≡ x) → next_action p.launch s (p.first + k) ≡ a
+acting p q fits {events} s k a e holds is value =
+    subst (λ z. next_action z.launch s (z.first + k) ≡ a) e
+    (subst (λ r. IfOk r (λ x. (es : Events) (t : State) → fits es t → next_action q.launch t (q.first + k) ≡ x)) is value events s holds)
 
 -- where all have come to rest after an interval
 pub leader_asks :
@@ -356,7 +361,7 @@ told p q n k c h e = ap (λ z. fault_of q.launch (z + k) c) h ∙ ap (λ z. faul
 
 -- what the code's loops have come to, by the first plan
 pub advanced_on :
-    (p q : Plan) (fits : Events → State → Type 0) (origin : State) (events : Events) (k : ℕ) (o : Option Fault) → q ≡ p → o ≡ None → IsAdvanced q fits origin events k o
+    (p q : Plan) (fits : Events → State → Type 0) (origin : State) (events : Events) (k : ℕ) (o : Option (Box Fault Global)) → q ≡ p → o ≡ None → IsAdvanced q fits origin events k o
     → Gathers p fits origin events k
 advanced_on p q fits origin events k o e is h =
     subst (λ z. Gathers z fits origin events k) e (subst (λ z. IsAdvanced q fits origin events k z) is h)
@@ -368,7 +373,7 @@ item_ran_on p q fits origin events k o e is h =
     subst (λ z. Gathers z fits origin events (k + 1)) e (subst (λ z. IsItemRun q fits origin events k z) is h)
 
 gathered_on :
-    (p q : Plan) (fits : Events → State → Type 0) (origin : State) (events : Events) (o : Option Fault) → q ≡ p → o ≡ None → IsGathered q fits origin events o
+    (p q : Plan) (fits : Events → State → Type 0) (origin : State) (events : Events) (o : Option (Box Fault Global)) → q ≡ p → o ≡ None → IsGathered q fits origin events o
     → Gathers p fits origin events p.count
 gathered_on p q fits origin events o e is h =
     subst (λ z. Gathers z fits origin events z.count) e (subst (λ z. IsGathered q fits origin events z) is h)
@@ -395,7 +400,7 @@ pub record AtEnd (p q : Plan) (fits : Events → State → Type 0) (origin : Sta
 
 -- so it is where the code has asked the first item after an interval: it had the plan as `q1` before and as `q2` after the interval
 pub interval_ended :
-    {p q1 q2 q : Plan} {old fits : Events → State → Type 0} {origin : State} {events : Events} {report : Option Fault} {act : Action} → q1 ≡ p → q2 ≡ q1 → q ≡ q2 → report ≡ None
+    {p q1 q2 q : Plan} {old fits : Events → State → Type 0} {origin : State} {events : Events} {report : Option (Box Fault Global)} {act : Action} → q1 ≡ p → q2 ≡ q1 → q ≡ q2 → report ≡ None
     → IsGathered q1 old origin events report → ((es : Events) (s : State) → old es s → fits es s)
     → ((es : Events) (s : State) → old es s → next_action q2.launch s (q2.first + 0) ≡ act) → AtEnd p q fits origin events act
 interval_ended {p} {q1} {q2} {q} {old} {fits} {origin} {events} {report} {act} before ran asked none gathered keeps acts =

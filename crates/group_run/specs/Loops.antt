@@ -1,5 +1,6 @@
 -- What the loops of a group's run know of its items (own).
-use Rattle.std.specs.Prelude.{◌≡◌, ℕ, ◌+◌, ◌<◌, ◌^◌, ℤ, true, None, Some, Option, [], ◌∷◌, ◌++◌}
+use Rattle.std.specs.Prelude.{◌≡◌, ℕ, ◌+◌, ◌<◌, ◌^◌, ℤ, true, None, Some, Option, [], ◌∷◌, ◌++◌, Box}
+use Rattle.std.specs.declared.alloc.Global.{Global}
 use Rattle.clmodel.specs.Run.{State, Events, step, next_action, stop_of, both_stop}
 use Rattle.clmodel.specs.Law.{Makes, Reports, newest_conflict, conflict_fault, item_turn, IsBounded, answers_left}
 use Rattle.clmodel.specs.declared.access.Conflict as conflict_type
@@ -25,7 +26,7 @@ pub record Steps (plan : Plan) (old new : State) (item : ℕ) : Type 0 where
   pub steps : step plan.launch old (Item item) ≡ Some new
 
 -- what became of an access that was done, by the fault that its log reports (own)
-abbrev pub judged_as : Option Fault → Made
+abbrev pub judged_as : Option (Box Fault Global) → Made
 judged_as None = made.Done
 judged_as (Some fault) = made.Conflicts fault
 
@@ -37,10 +38,10 @@ IsMade plan old new item act made.Done =
 IsMade plan old new item act (made.Conflicts fault) =
     (events : Events) (state : State) → old events state → next_action plan.launch state item ≡ act
     → (next : State) × (conflict : conflict_type.Conflict) × Steps plan state next item × new (events ++ Item item ∷ []) next × (newest_conflict plan.launch next.log ≡ Some conflict)
-    × (conflict_fault plan.launch conflict ≡ fault)
+    × (conflict_fault plan.launch conflict ≡ fault.value)
 IsMade plan old new item act (made.Refused fault) =
     (events : Events) (state : State) → old events state → next_action plan.launch state item ≡ act
-    → (item_turn plan.launch state plan.first item (next_action plan.launch state item) ≡ Reports fault) × new events state
+    → (item_turn plan.launch state plan.first item (next_action plan.launch state item) ≡ Reports fault.value) × new events state
 
 -- the first k items of the group are at the first one's stop: the same barrier in the same turns, or the end (OpenCL 1.2, 6.12.8)
 abbrev pub AtOneStop : Plan → State → ℕ → Type 0
@@ -56,16 +57,16 @@ abbrev pub IsBrief : Plan → State → Type 0
 IsBrief plan origin = (bound : ℕ) × IsBounded plan.launch bound × (answers_left plan.launch bound origin < 2 ^ 64)
 
 -- after an access, by the report that it brings
-abbrev pub IsAdvanced : Plan → (Events → State → Type 0) → State → Events → ℕ → Option Fault → Type 0
+abbrev pub IsAdvanced : Plan → (Events → State → Type 0) → State → Events → ℕ → Option (Box Fault Global) → Type 0
 IsAdvanced plan fits origin events k None = Gathers plan fits origin events k
-IsAdvanced plan fits origin events k (Some fault) = Reported plan fits origin events fault
+IsAdvanced plan fits origin events k (Some fault) = Reported plan fits origin events fault.value
 
 -- what the run of an item of the group comes to
 abbrev pub IsItemRun : Plan → (Events → State → Type 0) → State → Events → ℕ → ItemRun → Type 0
 IsItemRun plan fits origin events k item_step.Stops = Gathers plan fits origin events (k + 1)
-IsItemRun plan fits origin events k (item_step.Reports fault) = Reported plan fits origin events fault
+IsItemRun plan fits origin events k (item_step.Reports fault) = Reported plan fits origin events fault.value
 
 -- after an interval, by the report that it brings: all items are at one stop
-abbrev pub IsGathered : Plan → (Events → State → Type 0) → State → Events → Option Fault → Type 0
+abbrev pub IsGathered : Plan → (Events → State → Type 0) → State → Events → Option (Box Fault Global) → Type 0
 IsGathered plan fits origin events None = Gathers plan fits origin events plan.count
-IsGathered plan fits origin events (Some fault) = Reported plan fits origin events fault
+IsGathered plan fits origin events (Some fault) = Reported plan fits origin events fault.value

@@ -9,7 +9,7 @@ use clmodel::access::{Conflict, Operation, Region};
 use clmodel::action::Cause;
 use clmodel::fault::Fault;
 use launches::{Described, location_of};
-use std::alloc::AllocError;
+use std::alloc::{AllocError, Global};
 
 /// The fault of an item that can do nothing more.
 pub fn fault_of<D: Described>(launch: &D, item: u32, cause: Cause) -> Result<Fault, AllocError>
@@ -59,39 +59,45 @@ pub fn conflict_fault<D: Described>(launch: &D, conflict: &Conflict) -> Result<F
 }
 
 /// An item accesses an element out of its object's range.
+#[cold]
 pub fn bounds_fault<D: Described>(
+    alloc: Global,
     launch: &D,
     item: u32,
     region: Region,
     element: i64,
     operation: Operation,
-) -> Result<Fault, AllocError>
-    ensures { IfOk result (λ told. told ≡ fault.Bounds item (kind_of operation) (location_of (D.launch launch.now) region) element) }
+) -> Result<Box<Fault>, AllocError>
+    ensures { IfOk result (λ told. told.value ≡ fault.Bounds item (kind_of operation) (location_of (D.launch launch.now) region) element) }
 {
     let location = location_of(launch, region)?;
-    Ok(Fault::Bounds {
+    let fault = Fault::Bounds {
         item,
         kind: operation.kind(),
         location,
         element,
-    })
+    };
+    Ok(Box::new(alloc, fault)?)
 }
 
 /// An item reads a byte that is unset.
+#[cold]
 pub fn unset_fault<D: Described>(
+    alloc: Global,
     launch: &D,
     item: u32,
     region: Region,
     byte: u64,
     operation: Operation,
-) -> Result<Fault, AllocError>
-    ensures { IfOk result (λ told. told ≡ fault.Unset item (kind_of operation) (location_of (D.launch launch.now) region) byte) }
+) -> Result<Box<Fault>, AllocError>
+    ensures { IfOk result (λ told. told.value ≡ fault.Unset item (kind_of operation) (location_of (D.launch launch.now) region) byte) }
 {
     let location = location_of(launch, region)?;
-    Ok(Fault::Unset {
+    let fault = Fault::Unset {
         item,
         kind: operation.kind(),
         location,
         byte,
-    })
+    };
+    Ok(Box::new(alloc, fault)?)
 }

@@ -1,8 +1,10 @@
 //! The items of a group with their memory and their log.
 
-ghost use Rattle.std.specs.Prelude.{◌≡◌, ◌+◌, ◌-◌, ◌<◌, ◌≤◌, ◌^◌, ℕ, List, Option, None, Some, length, IfOk, IfSome, OnOk};
+ghost use Rattle.std.specs.Prelude.{◌≡◌, ◌+◌, ◌-◌, ◌<◌, ◌≤◌, ◌^◌, ℕ, List, Option, None, Some, length, IfOk, IfSome, OnOk, option_map};
+ghost use Rattle.std.specs.Box.{box_value};
 ghost use Rattle.clmodel.specs.Cells.{size_of};
 ghost use Rattle.clmodel.specs.Launch.{first_byte};
+ghost use Rattle.clmodel.specs.Law as law;
 ghost use Rattle.clmodel.specs.declared.action.Answer.TheVariants.{Done};
 ghost use Rattle.objects.specs.Objects.{space_of};
 ghost use Rattle.shadow_list.specs.Log.{Log, IsPlaced};
@@ -12,7 +14,7 @@ ghost use Rattle.group_run.specs.Logs.{IsJudged, after_fences, conflict_of};
 
 use crate::faults::{self, bounds_fault, unset_fault};
 use crate::item::Slot;
-use crate::machine::{Machine, Made};
+use crate::machine::{Machine, Made, Report};
 use clmodel::access::{Conflict, Object, Operation};
 use clmodel::action::{Action, Answer, Cause, Fences};
 use clmodel::fault::Fault;
@@ -20,12 +22,13 @@ use launches::{Described, Runnable};
 use objects::{perform_on, size_of};
 use shadow_list::{AccessLog, Entry, Fenced, Hit};
 use spaces_base::{LocalMem, Space, SpaceFault, first_byte};
-use std::alloc::AllocError;
+use std::alloc::{AllocError, Global};
 
 /// A work-group that runs: its items, how many events they have made, the launch's buffers and the group's local objects in their
 /// order, and the log of the accesses.
 #[derive(Drop)]
 pub struct Group<'a, D, G, L> {
+    pub(crate) alloc: Global,
     pub(crate) launch: &'a D,
     pub(crate) number: u32,
     pub(crate) first: u32,
@@ -65,18 +68,30 @@ fn conflict_of(hit: Hit) -> Conflict
     }
 }
 
+/// The fault of a conflict that a log finds. An error is out of memory.
+#[cold]
+fn hit_fault<D: Described>(alloc: Global, launch: &D, hit: Hit) -> Result<Box<Fault>, AllocError>
+    ensures { IfOk result (λ fault. fault.value ≡ law.conflict_fault (D.launch launch.now) (conflict_of hit)) }
+{
+    let fault = faults::conflict_fault(launch, &conflict_of(hit))?;
+    Ok(Box::new(alloc, fault)?)
+}
+
 /// Notes an access, and answers the fault that it makes, if it does. An error is out of memory.
 fn judge<D: Described, L: AccessLog>(
+    alloc: Global,
     launch: &D,
     log: &mut L,
     entry: Entry,
-) -> Result<Option<Fault>, AllocError>
+) -> Result<Report, AllocError>
     requires { IsPlaced entry }
-    ensures { IfOk result (IsJudged (D.launch launch.now) (L.Logged.log log.old) entry (L.Logged.log log.new)) }
+    ensures { IfOk result (λ report. IsJudged (D.launch launch.now) (L.Logged.log log.old) entry (L.Logged.log log.new) (option_map box_value report)) }
 {
-    match log.note(entry)? {
-        None => Ok(None),
-        Some(hit) => Ok(Some(faults::conflict_fault(launch, &conflict_of(hit))?)),
+    // No `?` at `note`: it would move a hit for each access, though hardly any makes one.
+    match log.note(entry) {
+        Ok(None) => Ok(None),
+        Ok(Some(hit)) => Ok(Some(hit_fault(alloc, launch, hit)?)),
+        Err(error) => Err(error),
     }
 }
 
@@ -148,7 +163,7 @@ impl<'a, D: Runnable, G: Space, L: AccessLog> Machine for Group<'a, D, G, L> {
             element,
             operation,
         ) else {
-            let fault = bounds_fault(self.launch, item, region, element, operation)?;
+            let fault = bounds_fault(self.alloc, self.launch, item, region, element, operation)?;
             return Ok(Made::Refused(fault));
         };
         let answer = match perform_on(
@@ -160,7 +175,7 @@ impl<'a, D: Runnable, G: Space, L: AccessLog> Machine for Group<'a, D, G, L> {
         ) {
             Ok(answer) => answer,
             Err(SpaceFault::Unset(byte)) => {
-                let fault = unset_fault(self.launch, item, region, byte, operation)?;
+                let fault = unset_fault(self.alloc, self.launch, item, region, byte, operation)?;
                 return Ok(Made::Refused(fault));
             }
             Err(SpaceFault::OutOfMemory) => return Err(AllocError),
@@ -168,10 +183,10 @@ impl<'a, D: Runnable, G: Space, L: AccessLog> Machine for Group<'a, D, G, L> {
             Err(SpaceFault::ReadOnly) => unreachable!(),
         };
         let entry = Entry::of(item, region, first, operation, self.made);
-        let fault = judge(self.launch, &mut self.log, entry)?;
+        let report = judge(self.alloc, self.launch, &mut self.log, entry)?;
         self.items[k as usize].answer(answer)?;
         self.made += 1;
-        Ok(Made::judged(fault))
+        Ok(Made::judged(report))
     }
 
     fn release(&mut self, fences: Fences) -> Result<(), AllocError> {
@@ -181,7 +196,12 @@ impl<'a, D: Runnable, G: Space, L: AccessLog> Machine for Group<'a, D, G, L> {
         Ok(())
     }
 
-    fn fault_of(&self, item: u32, cause: Cause) -> Result<Fault, AllocError> {
-        faults::fault_of(self.launch, item, cause)
+    fn fault_of(&self, item: u32, cause: Cause) -> Result<Box<Fault>, AllocError> {
+        let fault = faults::fault_of(self.launch, item, cause)?;
+        self.boxed(fault)
+    }
+
+    fn boxed(&self, fault: Fault) -> Result<Box<Fault>, AllocError> {
+        Ok(Box::new(self.alloc, fault)?)
     }
 }

@@ -1,11 +1,12 @@
 //! The run of a group: item by item to their stops, and interval by interval to its end.
 
-ghost use Rattle.std.specs.Prelude.{◌≡◌, ◌<◌, ◌≤◌, ◌+◌, ℕ, None, Some, IfOk};
+ghost use Rattle.std.specs.Prelude.{◌≡◌, ◌<◌, ◌≤◌, ◌+◌, ℕ, None, Some, IfOk, option_map};
+ghost use Rattle.std.specs.Box.{box_value};
 ghost use Rattle.clmodel.specs.Run.{State, Events, next_action, stop_of};
 ghost use Rattle.joining.specs.Group.{IsGroup, Reached, IsRun};
 ghost use Rattle.group_run.specs.Loops.{Accesses, AtOneStop, Gathers, IsBrief, IsAdvanced, IsItemRun, IsGathered};
 
-use crate::machine::{Machine, Made};
+use crate::machine::{Machine, Made, Report};
 use crate::runs::Runs;
 use clmodel::access::{Object, Operation};
 use clmodel::action::{Action, Stop};
@@ -20,7 +21,7 @@ pub enum ItemRun {
     /// At the stop of the group's first item.
     Stops,
     /// The run is over with this report.
-    Reports(Fault),
+    Reports(Box<Fault>),
 }
 
 /// The stop of the group's first item, which is at one. An error is out of memory.
@@ -54,12 +55,13 @@ fn stop_at<M: Machine>(m: &mut M, k: u32, stop: Stop, runs: &Runs) -> Result<Ite
     if same_stop(&leading, &stop) {
         Ok(ItemRun::Stops)
     } else {
-        Ok(ItemRun::Reports(Fault::Divergence {
+        let fault = Fault::Divergence {
             item: m.first(),
             stop: leading,
             other_item: item,
             other_stop: stop,
-        }))
+        };
+        Ok(ItemRun::Reports(m.boxed(fault)?))
     }
 }
 
@@ -71,7 +73,7 @@ fn advance<M: Machine>(
     element: i64,
     operation: Operation,
     runs: &mut Runs,
-) -> Result<Option<Fault>, AllocError>
+) -> Result<Report, AllocError>
     ghost origin: { State }
     requires whole { IsGroup (M.plan m.old) }
     requires inside { k < (M.plan m.old).count }
@@ -108,31 +110,35 @@ fn run_item<M: Machine>(m: &mut M, k: u32, runs: &mut Runs) -> Result<ItemRun, A
     ensures halted { IfOk result (IsItemRun (M.plan m.old) (M.fits m.new) origin runs.new k) }
 {
     'steps: loop {
-        match m.next(k)? {
-            Action::Access {
-                object,
-                element,
-                operation,
-            } => {
+        // No `?` at `next`: it would move an action, which has room for a barrier's turns, for each access.
+        match m.next(k) {
+            Ok(
+                Action::Access {
+                    object,
+                    element,
+                    operation,
+                },
+            ) => {
                 match advance(m, k, object, element, operation, runs)? {
                     None => {}
                     Some(fault) => return Ok(ItemRun::Reports(fault)),
                 }
             }
-            Action::Barrier { instance, .. } => {
+            Ok(Action::Barrier { instance, .. }) => {
                 return stop_at(m, k, Stop::At(instance), runs);
             }
-            Action::End => return stop_at(m, k, Stop::Ended, runs),
-            Action::Fault(cause) => {
+            Ok(Action::End) => return stop_at(m, k, Stop::Ended, runs),
+            Ok(Action::Fault(cause)) => {
                 let fault = m.fault_of(m.first() + k, cause)?;
                 return Ok(ItemRun::Reports(fault));
             }
+            Err(error) => return Err(error),
         }
     }
 }
 
 /// Runs all items to their stops, or to a report.
-fn run_interval<M: Machine>(m: &mut M, runs: &mut Runs) -> Result<Option<Fault>, AllocError>
+fn run_interval<M: Machine>(m: &mut M, runs: &mut Runs) -> Result<Report, AllocError>
     ghost origin: { State }
     requires whole { IsGroup (M.plan m.old) }
     requires brief { IsBrief (M.plan m.old) origin }
@@ -151,13 +157,13 @@ fn run_interval<M: Machine>(m: &mut M, runs: &mut Runs) -> Result<Option<Fault>,
 }
 
 /// Runs a group to its end, and answers its report, if it has one. An error is out of memory.
-pub fn run_items<M: Machine>(m: &mut M, runs: &mut Runs) -> Result<Option<Fault>, AllocError>
+pub fn run_items<M: Machine>(m: &mut M, runs: &mut Runs) -> Result<Report, AllocError>
     ghost origin: { State }
     requires whole { IsGroup (M.plan m.old) }
     requires brief { IsBrief (M.plan m.old) origin }
     requires reached { Reached (M.plan m.old) (M.fits m.old) origin runs.old }
     ensures plan_same { M.plan m.new ≡ M.plan m.old }
-    ensures ran { IfOk result (IsRun (M.plan m.old) (M.fits m.new) origin runs.new) }
+    ensures ran { IfOk result (λ report. IsRun (M.plan m.old) (M.fits m.new) origin runs.new (option_map box_value report)) }
 {
     'intervals: loop {
         match run_interval(m, runs)? {

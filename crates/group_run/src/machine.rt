@@ -14,23 +14,26 @@ use clmodel::action::{Action, Cause, Fences};
 use clmodel::fault::Fault;
 use std::alloc::AllocError;
 
+/// The fault that ends the run of a group, if there is one. It lies on the heap: an answer of each access would else be as large as a fault.
+pub(crate) type Report = Option<Box<Fault>>;
+
 /// What became of an access.
 #[derive(Drop)]
 pub enum Made {
     /// It is done.
     Done,
     /// It is done, and conflicts with an earlier one.
-    Conflicts(Fault),
+    Conflicts(Box<Fault>),
     /// It can't be done: it is out of range, or reads an unset byte.
-    Refused(Fault),
+    Refused(Box<Fault>),
 }
 
 impl Made {
     /// What became of an access that was done, by the fault that its log reports.
-    pub(crate) fn judged(fault: Option<Fault>) -> Self
-        ensures { result ≡ judged_as fault }
+    pub(crate) fn judged(report: Report) -> Self
+        ensures { result ≡ judged_as report }
     {
-        match fault {
+        match report {
             None => Made::Done,
             Some(fault) => Made::Conflicts(fault),
         }
@@ -92,6 +95,10 @@ pub trait Machine {
             → (n : State) × (step (plan self.old).launch s (Release (plan self.old).group) ≡ Some n) × (fits self.new (events ++ Release (plan self.old).group ∷ []) n)) };
 
     /// The fault of an item that can do nothing more. An error is out of memory.
-    fn fault_of(&self, item: u32, cause: Cause) -> Result<Fault, AllocError>
-        ensures { IfOk result (λ fault. fault ≡ fault_of (plan self.now).launch item cause) };
+    fn fault_of(&self, item: u32, cause: Cause) -> Result<Box<Fault>, AllocError>
+        ensures { IfOk result (λ fault. fault.value ≡ fault_of (plan self.now).launch item cause) };
+
+    /// A fault, put on the heap. An error is out of memory.
+    fn boxed(&self, fault: Fault) -> Result<Box<Fault>, AllocError>
+        ensures { IfOk result (λ boxed. boxed.value ≡ fault) };
 }

@@ -62,6 +62,7 @@ pub fn run_group<D: Runnable, G: Space + Drop, L: AccessLog + Drop>(
     let locals = local_objects(alloc, launch.local_sizes())?;
     let items = waiting_items(alloc, launch, first, count)?;
     let mut machine = Group {
+        alloc,
         launch,
         number: group,
         first,
@@ -83,7 +84,7 @@ pub fn run_group<D: Runnable, G: Space + Drop, L: AccessLog + Drop>(
         }),
         Some(fault) => Ok(GroupResult::Stopped {
             group,
-            fault,
+            fault: Box::into_inner(fault),
             log: machine.log,
             runs,
         }),

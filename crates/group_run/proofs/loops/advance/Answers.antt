@@ -30,7 +30,7 @@ returns-in_ok-push-in-Conflicts-clause-advanced g c =
     let p = g.M.Machine.plan c.args.m.now in
     let r = c.requires.1.1.1.1 in
     let e = c.in_ok-push-in-Conflicts.ensures.added ∙ ap (λ n. c.args.runs.now ++ Item (n + c.args.k) ∷ []) c.first.ensures.value in
-    subst (λ z. Reported p (g.M.Machine.fits c.access.new.self) g.origin z c.in-Conflicts.fault) (sym e)
+    subst (λ z. Reported p (g.M.Machine.fits c.access.new.self) g.origin z c.in-Conflicts.fault.value) (sym e)
     (made_conflict p (g.M.Machine.fits c.args.m.now) (g.M.Machine.fits c.access.new.self) g.origin c.args.runs.now c.args.k c.args.object c.args.element c.args.operation c.in_ok-access.field-0 r.0 r.1 _ (let back : to_z w64 (of_z w64 c.args.element) ≡ c.args.element = search rules in back) c.in_ok-access.ensures.made c.in-Conflicts.fault c.in-Conflicts.is c.requires.1.0 c.requires.1.1.0)
 
 pub returns-in-Refused-clause-advanced : goal.returns-in-Refused-clause-advanced

@@ -25,8 +25,8 @@ returns-then-same_stop-clause-halted g c =
           (sym c.same_stop.ensures.value ∙ c.if-same_stop.true),
     )
 
-pub returns-else-same_stop-clause-halted : goal.returns-else-same_stop-clause-halted
-returns-else-same_stop-clause-halted g c =
+pub returns-in_ok-boxed-clause-halted : goal.returns-in_ok-boxed-clause-halted
+returns-in_ok-boxed-clause-halted g c =
     let p = g.M.Machine.plan c.args.m.now in
     let r = c.requires.1.1.1 in
     let s = r.0.0.state in
@@ -39,5 +39,6 @@ returns-else-same_stop-clause-halted g c =
           (sym c.same_stop.ensures.value ∙ c.if-same_stop.false)
           ∙ ap₂ (λ a b. Reports (fault.Divergence a c.in_ok-leading.leading (b + c.args.k) c.args.stop))
           (sym (c.first-else-same_stop.ensures.value ∙ ap (λ z. z.first) c.leader.ensures.plan_same))
-          (sym c.first.ensures.value);
+          (sym c.first.ensures.value)
+          ∙ ap Reports (sym c.in_ok-boxed.ensures);
     }

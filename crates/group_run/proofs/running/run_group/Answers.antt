@@ -1,4 +1,5 @@
-use Rattle.std.proofs.Common.{lives, subst, ◌*◌, ◌+◌, ◌<◌, ◌^◌, length, refl, sym, ap, ◌∙◌, map, replicate, None}
+use Rattle.std.proofs.Common.{lives, subst, ◌*◌, ◌+◌, ◌<◌, ◌^◌, length, refl, sym, ap, ◌∙◌, map, replicate, None, Some, option_map}
+use Rattle.std.specs.Box.{box_value}
 use Rattle.group_run.specs.Items.{acts_of}
 use Rattle.clmodel.specs.Run.{State, Events, start}
 use Rattle.group_run.specs.Fits.{Fits}
@@ -27,7 +28,7 @@ returns-in-None g c = let m = c.run_items.new.m in (
   refl,
   c.into_schedule-runs.ensures.merged,
   done_result (acts_of g.D.Described.launch) g.G.Space.bytes g.G.Space.read_only (g.D.Described.launch c.args.launch.now) c.args.group c.group_size-count.result
-      m.items.items m.made m.buffers.items m.locals.items (g.L.Logged.log m.log) c.in_ok-report.report c.group_size-count.ensures.value c.in_ok-items.items.items c.in_ok-items.ensures.many c.in_ok-report.ensures.plan_same c.into_schedule-runs.ensures.events c.in_ok-report.ensures.ran c.in-None.is,
+      m.items.items m.made m.buffers.items m.locals.items (g.L.Logged.log m.log) (option_map box_value c.in_ok-report.report) c.group_size-count.ensures.value c.in_ok-items.items.items c.in_ok-items.ensures.many c.in_ok-report.ensures.plan_same c.into_schedule-runs.ensures.events c.in_ok-report.ensures.ran (ap (option_map box_value) c.in-None.is),
 )
 
 pub returns-in-Some : goal.returns-in-Some
@@ -35,7 +36,7 @@ returns-in-Some g c = let m = c.run_items.new.m in (
   refl,
   c.into_schedule-runs.ensures.merged,
   stopped_result (acts_of g.D.Described.launch) g.G.Space.bytes g.G.Space.read_only (g.D.Described.launch c.args.launch.now) c.args.group c.group_size-count.result
-      m.items.items m.made m.buffers.items m.locals.items (g.L.Logged.log m.log) c.in_ok-report.report c.group_size-count.ensures.value c.in_ok-items.items.items c.in_ok-items.ensures.many c.in_ok-report.ensures.plan_same c.into_schedule-runs.ensures.events c.in_ok-report.ensures.ran c.in-Some.fault c.in-Some.is,
+      m.items.items m.made m.buffers.items m.locals.items (g.L.Logged.log m.log) (option_map box_value c.in_ok-report.report) c.group_size-count.ensures.value c.in_ok-items.items.items c.in_ok-items.ensures.many c.in_ok-report.ensures.plan_same c.into_schedule-runs.ensures.events c.in_ok-report.ensures.ran c.into_inner.result (ap (option_map box_value) c.in-Some.is ∙ ap Some (sym c.into_inner.ensures)),
 )
 
 pub waiting_items-requires : goal.waiting_items-requires

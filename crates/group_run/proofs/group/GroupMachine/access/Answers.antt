@@ -1,6 +1,7 @@
 use Rattle.std.proofs.Math.Facts.{Fits-of_lt}
 use Rattle.std.proofs.Common.{rules, to_z, of_z, w64, ◌≡◌, ◌+◌, length, set, refl, ap, ◌∙◌, subst}
-use Rattle.std.specs.Prelude.{Err}
+use Rattle.std.specs.Prelude.{Err, option_map}
+use Rattle.std.specs.Box.{box_value}
 use Rattle.std.proofs.lemmas.List.{length-set}
 use Rattle.std.proofs.lemmas.Option.{slice_get_read}
 use Rattle.clmodel.specs.Launch.{region_of, location_of, kind_of}
@@ -31,7 +32,7 @@ returns-in-Err-Unset-clause-made g c =
     let p : Plan = record { launch = g.D.Described.launch t.launch.now; group = t.number; first = t.first; count = length t.items.items } in
     let back : to_z w64 (of_z w64 c.args.element) ≡ c.args.element = search rules in
     let place = place_read g.G.Space.bytes c.args.object c.args.operation c.in-Some.ensures.value back c.as_slice.ensures.value c.as_slice-2.ensures.value in
-    let told : c.in_ok-fault-in-Err-Unset.fault ≡ fault.Unset (t.first + c.args.k) (kind_of c.args.operation) (location_of p.launch (region_of t.number c.args.object)) c.in-Err-Unset.byte
+    let told : c.in_ok-fault-in-Err-Unset.fault.value ≡ fault.Unset (t.first + c.args.k) (kind_of c.args.operation) (location_of p.launch (region_of t.number c.args.object)) c.in-Err-Unset.byte
     = cc (c.in_ok-fault-in-Err-Unset.ensures, c.in-Err-Unset.byte-is, c.region-region.ensures) in
     unset_made (acts_of g.D.Described.launch) g.G.Space.bytes g.G.Space.read_only p t.items.items t.made t.buffers.items t.locals.items (g.L.Logged.log t.log) c.args.k c.args.object c.args.element c.args.operation c.requires.inside
     c.perform_on.new.buffers.items c.perform_on.new.locals.items c.in-Some.first c.in-Err-Unset.byte c.in_ok-fault-in-Err-Unset.fault place
@@ -49,8 +50,8 @@ returns-clause-made g c =
     let r : Plan = record { launch = p.launch; group = p.group; first = p.first; count = length (set t.items.items c.args.k j) } in
     let last : r ≡ p = ap (λ n. record { launch = p.launch; group = p.group; first = p.first; count = n }) (length-set t.items.items c.args.k j) in
     let entry = c.of-entry.ensures ∙ ap (λ z. entry_of (t.first + c.args.k) z c.in-Some.first c.args.operation t.made) c.region-region.ensures in
-    let judged = subst (λ z. IsJudged p.launch (g.L.Logged.log t.log) z log2 c.in_ok-fault-2.fault) entry c.in_ok-fault-2.ensures in
+    let judged = subst (λ z. IsJudged p.launch (g.L.Logged.log t.log) z log2 (option_map box_value c.in_ok-report.report)) entry c.in_ok-report.ensures in
     let there = slice_get_read t.items.items (length t.items.items) c.args.k i refl c.requires.inside c.index_mut.ensures.value in
     access_made (acts_of g.D.Described.launch) g.G.Space.bytes g.G.Space.read_only p t.items.items t.made t.buffers.items t.locals.items (g.L.Logged.log t.log) c.args.k c.args.object c.args.element c.args.operation c.requires.inside
-    r c.perform_on.new.buffers.items c.perform_on.new.locals.items log2 i j c.in-Some.first c.in-Ok.answer c.in_ok-fault-2.fault last there place
+    r c.perform_on.new.buffers.items c.perform_on.new.locals.items log2 i j c.in-Some.first c.in-Ok.answer c.in_ok-report.report last there place
     c.in-Ok.is (c.perform_on.ensures p.launch p.group) c.in_ok-answer.ensures judged c.judged.result c.judged.ensures
