@@ -30,7 +30,7 @@ use Rattle.shadow_list.specs.declared.log.Entry.{Entry}
 use Rattle.snapshot_merge.specs.Changes.{buffer_at, number_or_0, joined_value, value_of, changed_byte, changes_of, AreChanged, cells_at, filled_at}
 use Rattle.snapshot_merge.specs.Memory.{HoldsBytes}
 use Rattle.snapshot_merge.proofs.Listed.{among, wrote_listed}
-use Rattle.snapshot_merge.proofs.Numbers.{number_none}
+use Rattle.snapshot_merge.proofs.Numbers.{number_none, one_byte}
 use Rattle.snapshot_merge.proofs.Changing.{wrote_by, entries_put, entries_kept}
 use Rattle.snapshot_merge.proofs.Filled.{own_set}
 
@@ -145,9 +145,6 @@ number_each cells first count x byte h c = go (cells byte) refl
 
 number_as : (c d : Cells) (first count x : ℕ) → ((byte : ℕ) → covers first count byte ≡ true → c byte ≡ d byte) → number d first count ≡ Some x → number_or_0 c first count ≡ x
 number_as c d first count x h e = ap (λ o. unwrap_or o 0) (number_frame c d first count h ∙ e)
-
-one_byte : (cells : Cells) (byte v : ℕ) → cells byte ≡ Some v → number_or_0 cells byte 1 ≡ v
-one_byte cells byte v e = let z : v + 256 * 0 ≡ v = omega arith in ap (λ o. unwrap_or (joined o (Some 0)) 0) e ∙ z
 
 -- what code knows of a further group of which nothing crosses
 pub record IsClear (l : Launch) (g : ℕ) (lower : Joined) (part : Part) (old : List (List ℕ)) (entries : List Entry) (kept : List Access) (first : List (List ℕ)) (spaces : List (List (Option ℕ))) : Type 0 where

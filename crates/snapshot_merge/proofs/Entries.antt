@@ -1,17 +1,15 @@
 -- The entries of a log, one after another.
 use Rattle.std.proofs.Common.{◌≡◌, Bool, ℕ, zero, suc, ◌+◌, ◌-◌, ◌<◌, ◌≤◌, ◌⊎◌, None, Some, List, [], ◌∷◌, ◌++◌, length, take, map, sym, ap, ap₂, ◌∙◌, subst, inl, inr, arith, add-one, get_or}
 use Rattle.std.specs.Prelude.{slice_get}
-use Rattle.std.specs.List.{range_with_len}
 use Rattle.std.proofs.lemmas.Bool.{cases_lt}
 use Rattle.std.proofs.lemmas.Grind.{flat_map-append}
-use Rattle.std.proofs.lemmas.List.{append_assoc, append-nil, map-append, reverse-append, take_all}
+use Rattle.std.proofs.lemmas.List.{append-nil, reverse-append, take_all}
 use Rattle.std.proofs.lemmas.Option.{slice_get-get_or}
 use Rattle.clmodel.specs.declared.access.Access.{Access}
 use Rattle.clmodel.proofs.Steps.{some_inj}
 use Rattle.group_run.specs.Logs.{accesses_of}
 use Rattle.shadow_list.specs.declared.log.Entry.{Entry}
-use Rattle.snapshot_merge.specs.declared.changes.Change.{Change}
-use Rattle.snapshot_merge.specs.Changes.{access_changes, changes_of}
+use Rattle.snapshot_merge.specs.Changes.{ByteChange, access_changes, changes_of}
 use Rattle.shadow.specs.Seen.{met_at}
 use Rattle.shadow.proofs.Listing.{take_next}
 use Rattle.snapshot_merge.specs.Meetings.{MissUpTo}
@@ -36,27 +34,8 @@ miss_more u xs kept i x h n m k e b q = go (cases_lt k i)
 pub accesses_more : (xs : List Entry) (i : ℕ) (x : Entry) → slice_get xs i ≡ Some x → accesses_of (take (i + 1) xs) ≡ x.access ∷ accesses_of (take i xs)
 accesses_more xs i x h = ap accesses_of (take_one xs i x h) ∙ ap (map (λ (y : Entry). y.access)) (reverse-append (take i xs) (x ∷ []))
 
-range_push : (a n : ℕ) → range_with_len a (suc n) ≡ range_with_len a n ++ (a + n) ∷ []
-range_push a zero = let e : a ≡ a + 0 = omega arith in ap (λ z. z ∷ []) e
-range_push a (suc n) = let e : a + 1 + n ≡ a + suc n = omega arith in ap (λ z. a ∷ z) (range_push (a + 1) n ∙ ap (λ z. range_with_len (a + 1) n ++ z ∷ []) e)
-
-pub pushed_change :
-    (f : ℕ → Change) (new old start : List Change) (first byte : ℕ) (x : Change) → first ≤ byte → new ≡ old ++ x ∷ [] → old ≡ start ++ map f (range_with_len first (byte - first)) → x ≡ f byte
-    → new ≡ start ++ map f (range_with_len first (byte + 1 - first))
-pushed_change f new old start first byte x h n o e =
-    let more : byte + 1 - first ≡ suc (byte - first) = omega (arith, h) in
-    let here : byte ≡ first + (byte - first) = omega (arith, h) in
-    n
-    ∙ ap₂ (λ a b. a ++ b ∷ []) o (e ∙ ap f here)
-    ∙ append_assoc start (map f (range_with_len first (byte - first))) (f (first + (byte - first)) ∷ [])
-    ∙ ap (λ z. start ++ z) (sym (map-append f (range_with_len first (byte - first)) ((first + (byte - first)) ∷ [])) ∙ ap (map f) (sym (range_push first (byte - first)) ∙ ap (range_with_len first) (sym more)))
-
-pub range_end :
-    (f : ℕ → Change) (items start : List Change) (first byte count : ℕ) → items ≡ start ++ map f (range_with_len first (byte - first)) → byte - first ≡ count → items ≡ start ++ map f (range_with_len first count)
-range_end f items start first byte count h e = h ∙ ap (λ n. start ++ map f (range_with_len first n)) e
-
 pub changes_push :
-    (value : ℕ → Access → ℕ → ℕ) (new old : List Change) (xs : List Entry) (i : ℕ) (x : Entry) → slice_get xs i ≡ Some x → new ≡ old ++ access_changes value x.access
+    (value : ℕ → Access → ℕ → ℕ) (new old : List ByteChange) (xs : List Entry) (i : ℕ) (x : Entry) → slice_get xs i ≡ Some x → new ≡ old ++ access_changes value x.access
     → old ≡ changes_of value (take i xs) → new ≡ changes_of value (take (i + 1) xs)
 changes_push value new old xs i x h n o =
     n
@@ -65,5 +44,5 @@ changes_push value new old xs i x h n o =
     ∙ sym (flat_map-append (λ (e : Entry). access_changes value e.access) (take i xs) (x ∷ []))
     ∙ ap (changes_of value) (sym (take_one xs i x h))
 
-pub changes_end : (value : ℕ → Access → ℕ → ℕ) (items : List Change) (xs : List Entry) (i : ℕ) → length xs ≤ i → items ≡ changes_of value (take i xs) → items ≡ changes_of value xs
+pub changes_end : (value : ℕ → Access → ℕ → ℕ) (items : List ByteChange) (xs : List Entry) (i : ℕ) → length xs ≤ i → items ≡ changes_of value (take i xs) → items ≡ changes_of value xs
 changes_end value items xs i h e = e ∙ ap (changes_of value) (take_all i xs h)

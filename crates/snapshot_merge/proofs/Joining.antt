@@ -34,11 +34,12 @@ use Rattle.shadow_list.specs.declared.log.Entry.{Entry}
 use Rattle.snapshot_merge.specs.Runs.{Adds, MayFollow}
 use Rattle.snapshot_merge.specs.Laws.{JoiningLaws}
 use Rattle.snapshot_merge.specs.Meetings.{AreOthers, MissUpTo, IsFirstMet, report_at, is_below, meeting_fault}
-use Rattle.snapshot_merge.specs.Changes.{AreChanged, changes_of, value_of}
+use Rattle.snapshot_merge.specs.Changes.{AreChanged, AllWroteBytes, changes_of, value_of}
 use Rattle.snapshot_merge.specs.Memory.{HoldsBytes}
 use Rattle.snapshot_merge.specs.JoinedGroups.{HoldsLog, HoldsGroups, IsStopped}
 use Rattle.snapshot_merge.specs.declared.joined_groups.JoinedGroups.{JoinedGroups}
 use Rattle.snapshot_merge.proofs.Contents.{IsClear, joined_contents}
+use Rattle.snapshot_merge.proofs.Written.{wrote_bytes}
 use Rattle.snapshot_merge.specs.declared.meetings.Met.{Met}
 use Rattle.snapshot_merge.proofs.Crossed.{Laws, IsFurther, Misses, Crosses, not_crossed, crossed, entries_of_others, locals_miss}
 use Rattle.snapshot_merge.proofs.CrossedRuns.{none_from}
@@ -293,7 +294,7 @@ done_meets l g so_far log more new spaces c run met report finds adds told =
 -- what its changes come to, whatever is kept
 abbrev pub Changes : JoinedGroups → List Overlaid → List Entry → List (List ℕ) → Type 0
 Changes so_far spaces listed new =
-    (kept : List Access) → IsFootprint so_far.footprint kept
+    (kept : List Access) → IsFootprint so_far.footprint kept → AllWroteBytes (map (λ (space : Overlaid). space.bytes) spaces) listed
     → AreChanged so_far.contents.items new (changes_of (value_of (map (λ row. row.now) so_far.first.items) so_far.contents.items (λ n b. wrote kept (region.Buffer n) b) (map (λ (space : Overlaid). space.bytes) spaces)) listed)
 
 -- a group that has ended is joined, where a further group may follow
@@ -326,7 +327,7 @@ done_joined l g so_far log more spaces c run finds listed stand new changes firs
       joined = join l lower part;
       is_joined = is_joined l g lower part log so_far.footprint so_far.runs.items more r met refl;
       first = ap (λ (z : Vec (Bor (List ℕ)) Global). map (λ row. row.now) z.items) first ∙ c.holds.first;
-      contents = subst (λ (j : Joined). HoldsBytes l j.memory new.contents.items) (sym (joined_whole l lower part none)) (joined_contents l g lower part so_far.contents.items log.accesses r.held.kept (map (λ row. row.now) so_far.first.items) (map (λ (space : Overlaid). space.bytes) spaces) clear listed stand new.contents.items (changes r.held.kept r.held.remembers));
+      contents = subst (λ (j : Joined). HoldsBytes l j.memory new.contents.items) (sym (joined_whole l lower part none)) (joined_contents l g lower part so_far.contents.items log.accesses r.held.kept (map (λ row. row.now) so_far.first.items) (map (λ (space : Overlaid). space.bytes) spaces) clear listed stand new.contents.items (changes r.held.kept r.held.remembers (wrote_bytes l g lower part so_far.contents.items log.accesses r.held.kept (map (λ row. row.now) so_far.first.items) (map (λ (space : Overlaid). space.bytes) spaces) clear listed stand)));
       log = λ h. let held = further_held h in log_joined l g lower part log so_far.footprint so_far.runs.items more r new.footprint new.runs.items met (held.0 r.held.kept r.held.remembers) held.1;
     }
 
@@ -344,7 +345,7 @@ pub done_added :
     → HoldsGroups l (suc g) new
 done_added l g so_far log more spaces c run finds last listed stand mid new changes first footprint runs first2 contents2 remembers adds =
     done_joined l g so_far log more spaces c run finds listed (stands last listed log.accesses stand) new
-    (λ kept k. subst (λ (z : Vec (List ℕ) Global). AreChanged so_far.contents.items z.items (changes_of (value_of (map (λ row. row.now) so_far.first.items) so_far.contents.items (λ n b. wrote kept (region.Buffer n) b) (map (λ (space : Overlaid). space.bytes) spaces)) listed)) (sym contents2) (changes kept k))
+    (λ kept k w. subst (λ (z : Vec (List ℕ) Global). AreChanged so_far.contents.items z.items (changes_of (value_of (map (λ row. row.now) so_far.first.items) so_far.contents.items (λ n b. wrote kept (region.Buffer n) b) (map (λ (space : Overlaid). space.bytes) spaces)) listed)) (sym contents2) (changes kept k w))
     (first2 ∙ first) (λ h. (
       λ kept k. footprint_whole last listed log.accesses kept new.footprint stand (remembers kept (subst (λ f. IsFootprint f kept) (sym footprint) k)),
       subst (λ (z : Vec EventRun Global). Adds z.items new.runs.items more (events_of more)) runs adds,

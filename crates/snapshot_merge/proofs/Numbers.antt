@@ -1,5 +1,5 @@
 -- The number of bytes of a row, as code reads it.
-use Rattle.std.proofs.Common.{◌≡◌, ℕ, zero, suc, ◌+◌, ◌<◌, ◌≤◌, ◌⊎◌, Option, None, Some, List, [], ◌∷◌, refl, sym, ap, ◌∙◌, inl, inr, arith, ⊎_elim, leb, false}
+use Rattle.std.proofs.Common.{◌≡◌, ℕ, zero, suc, ◌+◌, ◌*◌, ◌<◌, ◌≤◌, ◌⊎◌, Option, None, Some, List, [], ◌∷◌, refl, sym, ap, ◌∙◌, inl, inr, arith, ⊎_elim, leb, false}
 use Rattle.std.specs.Prelude.{length, map, Err}
 use Rattle.std.specs.Option.{unwrap_or}
 use Rattle.std.proofs.lemmas.Bool.{cases_lt, leb-false}
@@ -16,7 +16,7 @@ joined_none : (o : Option ℕ) → joined o None ≡ None
 joined_none None = refl
 joined_none (Some x) = refl
 
-first_or_later : (first byte : ℕ) → first ≤ byte → (first ≡ byte) ⊎ (suc first ≤ byte)
+pub first_or_later : (first byte : ℕ) → first ≤ byte → (first ≡ byte) ⊎ (suc first ≤ byte)
 first_or_later first byte h = go (cases_lt first byte)
   where
     go : (first < byte) ⊎ (byte ≤ first) → (first ≡ byte) ⊎ (suc first ≤ byte)
@@ -65,3 +65,6 @@ not_loaded bytes at width fault.Bounds h = number_past bytes at (byte_count widt
 not_loaded bytes at width (fault.Unset byte) h = number_unset (cells_of bytes) at (byte_count width) byte h.1
 not_loaded bytes at width fault.ReadOnly h = absurd h
 not_loaded bytes at width fault.OutOfMemory h = absurd h
+
+pub one_byte : (cells : Cells) (byte v : ℕ) → cells byte ≡ Some v → number_or_0 cells byte 1 ≡ v
+one_byte cells byte v e = let z : v + 256 * 0 ≡ v = omega arith in ap (λ o. unwrap_or (joined o (Some 0)) 0) e ∙ z

@@ -1,8 +1,8 @@
 -- The bytes that a further group changes in what the lower groups left (OpenCL 1.2, 3.3, 6.12.11; own in the list).
-use Rattle.std.specs.Prelude.{◌≡◌, ℕ, ◌/◌, ◌*◌, ◌%◌, ◌==◌, Bool, true, false, ◌&&◌, if◌then◌else◌, Option, Some, List, [], ◌∷◌, length, map, slice_get, slice_index_or}
+use Rattle.std.specs.Prelude.{◌≡◌, ℕ, ◌-◌, ◌/◌, ◌*◌, ◌%◌, ◌<◌, ◌==◌, Bool, true, false, ◌&&◌, if◌then◌else◌, Option, Some, List, [], ◌∷◌, length, map, slice_get, slice_index_or}
 use Rattle.std.specs.List.{range_with_len, flat_map}
 use Rattle.std.specs.Option.{option_map, unwrap_or}
-use Rattle.clmodel.specs.Cells.{Cells, cells_of, byte_count, byte_of, number}
+use Rattle.clmodel.specs.Cells.{Cells, cells_of, byte_count, byte_of, covers, number}
 use Rattle.clmodel.specs.declared.access.Access.{Access}
 use Rattle.clmodel.specs.declared.access.AccessKind.{AccessKind}
 use Rattle.clmodel.specs.declared.access.AccessKind.TheVariants as kind
@@ -12,12 +12,18 @@ use Rattle.joining.specs.Memory.{joined_number, writes}
 use Rattle.shadow_list.specs.declared.log.Entry.{Entry}
 use Rattle.snapshot_merge.specs.declared.changes.Change.{Change}
 
+-- a byte of a buffer, and what it becomes (own)
+pub record ByteChange : Type 0 where
+  pub buffer : ℕ
+  pub byte : ℕ
+  pub value : ℕ
+
 -- a change is of this byte of this buffer (own)
-abbrev pub is_of : ℕ → ℕ → Change → Bool
+abbrev pub is_of : ℕ → ℕ → ByteChange → Bool
 is_of number byte change = (change.buffer == number) && (change.byte == byte)
 
 -- a byte of a buffer after changes, of which the last counts (own)
-abbrev pub changed_byte : List Change → ℕ → ℕ → ℕ → ℕ
+abbrev pub changed_byte : List ByteChange → ℕ → ℕ → ℕ → ℕ
 changed_byte [] number byte old = old
 changed_byte (change ∷ changes) number byte old = changed_byte changes number byte (if is_of number byte change then change.value else old)
 
@@ -26,7 +32,7 @@ abbrev pub buffer_at : List (List ℕ) → ℕ → List ℕ
 buffer_at buffers number = slice_index_or buffers number []
 
 -- buffers after changes: each as long as before, and each byte by the changes of it (own)
-pub record AreChanged (old new : List (List ℕ)) (changes : List Change) : Type 0 where
+pub record AreChanged (old new : List (List ℕ)) (changes : List ByteChange) : Type 0 where
   pub many : length new ≡ length old
   pub sized : (number : ℕ) → length (buffer_at new number) ≡ length (buffer_at old number)
   pub bytes : (number byte : ℕ) → slice_get (buffer_at new number) byte ≡ option_map (changed_byte changes number byte) (slice_get (buffer_at old number) byte)
@@ -45,18 +51,21 @@ joined_value kind.Fetch true first lower own byte = number_or_0 own byte 1
 joined_value (kind.Update class) true first lower own byte =
     let word = byte / 4 * 4 in byte_of (byte % 4) (joined_number class (number_or_0 first word 4) (number_or_0 lower word 4) (number_or_0 own word 4))
 
+-- the changes of n bytes of a buffer, where `value` says what each becomes (own)
+abbrev pub byte_changes : ℕ → ℕ → ℕ → (ℕ → ℕ) → List ByteChange
+byte_changes number first count value = map (λ byte. record { buffer = number; byte = byte; value = value byte }) (range_with_len first count)
+
 -- the changes of a further group's access to bytes of a buffer, where `value` says what each becomes (own)
-abbrev pub changes_at : (ℕ → Access → ℕ → ℕ) → Access → Region → List Change
-changes_at value x (region.Buffer number) =
-    map (λ byte. record { buffer = number; byte = byte; value = value number x byte }) (range_with_len x.first (byte_count x.width))
+abbrev pub changes_at : (ℕ → Access → ℕ → ℕ) → Access → Region → List ByteChange
+changes_at value x (region.Buffer number) = byte_changes number x.first (byte_count x.width) (value number x)
 changes_at value x (region.Local group number) = []
 
 -- the changes of one access: those of a write (own)
-abbrev pub access_changes : (ℕ → Access → ℕ → ℕ) → Access → List Change
+abbrev pub access_changes : (ℕ → Access → ℕ → ℕ) → Access → List ByteChange
 access_changes value x = if writes x.kind then changes_at value x x.region else []
 
 -- the changes of all accesses, the oldest first (own)
-abbrev pub changes_of : (ℕ → Access → ℕ → ℕ) → List Entry → List Change
+abbrev pub changes_of : (ℕ → Access → ℕ → ℕ) → List Entry → List ByteChange
 changes_of value entries = flat_map (λ e. access_changes value e.access) entries
 
 -- a space's bytes among others, none where there is no such space (own)
@@ -71,3 +80,27 @@ filled_at buffers number = cells_of (map Some (buffer_at buffers number))
 abbrev pub value_of : List (List ℕ) → List (List ℕ) → (ℕ → ℕ → Bool) → List (List (Option ℕ)) → ℕ → Access → ℕ → ℕ
 value_of first lower wrote own number x byte =
     joined_value x.kind (wrote number byte) (filled_at first number) (filled_at lower number) (cells_at own number) byte
+
+-- the bytes of a change: each becomes a byte of its value, the first the lowest (own)
+abbrev pub bytes_of : Change → List ByteChange
+bytes_of change = byte_changes change.buffer change.first (byte_count change.width) (λ byte. byte_of (byte - change.first) change.value)
+
+-- the bytes of changes, one after another (own)
+abbrev pub all_bytes : List Change → List ByteChange
+all_bytes changes = flat_map bytes_of changes
+
+-- the bytes of a number, the lowest first, are what n bytes from one on become (own)
+pub record IsValue (first count : ℕ) (becomes : ℕ → ℕ) (value : ℕ) : Type 0 where
+  pub each : (byte : ℕ) → covers first count byte ≡ true → byte_of (byte - first) value ≡ becomes byte
+
+-- those of n bytes from one on that are set are bytes (C99 6.2.6.1)
+pub record AreBytes (cells : Cells) (first count : ℕ) : Type 0 where
+  pub each : (byte value : ℕ) → covers first count byte ≡ true → cells byte ≡ Some value → value < 256
+
+-- what an access wrote in a buffer are bytes (C99 6.2.6.1)
+pub record WroteBytes (own : List (List (Option ℕ))) (x : Access) : Type 0 where
+  pub each : (number : ℕ) → writes x.kind ≡ true → x.region ≡ region.Buffer number → AreBytes (cells_at own number) x.first (byte_count x.width)
+
+-- what each of the accesses wrote in buffers are bytes (C99 6.2.6.1)
+abbrev pub AllWroteBytes : List (List (Option ℕ)) → List Entry → Type 0
+AllWroteBytes own entries = (k : ℕ) (e : Entry) → slice_get entries k ≡ Some e → WroteBytes own e.access

@@ -17,7 +17,7 @@ ghost use Rattle.shadow.specs.Lasting.{StandsWith};
 ghost use Rattle.shadow.specs.Seen.{IsFootprint};
 ghost use Rattle.shadow_list.specs.Log.{Log};
 ghost use Rattle.spaces_base.specs.Buffers.{bytes_in};
-ghost use Rattle.snapshot_merge.specs.Changes.{AreChanged, changes_of, value_of};
+ghost use Rattle.snapshot_merge.specs.Changes.{AreChanged, AllWroteBytes, changes_of, value_of};
 ghost use Rattle.snapshot_merge.specs.Launches.{IsShortResult};
 ghost use Rattle.snapshot_merge.specs.Meetings.{AreOthers, IsFirstMet, report_at};
 ghost use Rattle.snapshot_merge.specs.Runs.{Adds, MayFollow};
@@ -122,7 +122,7 @@ impl<'a> JoinedGroups<'a> {
         spaces: &[Overlay<'_>],
         log: &L,
     ) -> Result<(), AllocError>
-        ensures changed { OnOk result ((kept : List TheAccess) → IsFootprint self.old.footprint kept → AreChanged self.old.contents.items self.new.contents.items (changes_of (value_of (map (λ row. row.now) self.old.first.items) self.old.contents.items (λ n b. joining.wrote kept (region.Buffer n) b) (map (λ space. space.bytes) spaces.now)) (L.listed log.now))) }
+        ensures changed { OnOk result ((kept : List TheAccess) → IsFootprint self.old.footprint kept → AllWroteBytes (map (λ space. space.bytes) spaces.now) (L.listed log.now) → AreChanged self.old.contents.items self.new.contents.items (changes_of (value_of (map (λ row. row.now) self.old.first.items) self.old.contents.items (λ n b. joining.wrote kept (region.Buffer n) b) (map (λ space. space.bytes) spaces.now)) (L.listed log.now))) }
         ensures first { self.new.first ≡ self.old.first }
         ensures footprint { self.new.footprint ≡ self.old.footprint }
         ensures runs { self.new.runs ≡ self.old.runs }

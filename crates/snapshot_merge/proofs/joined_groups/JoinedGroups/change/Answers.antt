@@ -1,24 +1,23 @@
-use Rattle.std.proofs.Common.{◌≡◌, ℕ, List, length, drop, map, sym, ap₂, ◌∙◌, subst, arith}
+use Rattle.std.proofs.Common.{◌≡◌, ℕ, List, length, drop, map, sym, ap, ap₂, ◌∙◌, subst, arith}
 use denote.Bor.{Bor}
 use Rattle.clmodel.specs.declared.access.Region.TheVariants as region
 use Rattle.joining.specs.Memory.{wrote}
 use Rattle.shadow_list.specs.declared.log.Entry.{Entry}
 use Rattle.spaces.specs.Overlay.{Overlaid}
-use Rattle.snapshot_merge.specs.declared.changes.Change.{Change}
-use Rattle.snapshot_merge.specs.Changes.{AreChanged, changes_of, value_of}
+use Rattle.snapshot_merge.specs.Changes.{ByteChange, AreChanged, all_bytes, changes_of, value_of}
 use Rattle.snapshot_merge.proofs.Joining.{front}
 use Rattle.snapshot_merge.proofs.joined_groups.JoinedGroups.change.Goals as goal
 
 pub returns-clause-changed : goal.returns-clause-changed
-returns-clause-changed g c = λ kept h.
+returns-clause-changed g c = λ kept h w.
     let entries : List Entry = (g.L.GroupAccesses.listed c.args.log.now) in
-    let put : List (Bor (List ℕ)) → List (List ℕ) → List Change
+    let put : List (Bor (List ℕ)) → List (List ℕ) → List ByteChange
     = λ first lower. changes_of (value_of (map (λ (row : Bor (List ℕ)). row.now) first) lower (λ n b. wrote kept (region.Buffer n) b) (map (λ (space : Overlaid). space.bytes) c.args.spaces.now)) entries in
     let new = c.make_changes.new.contents in
     let old = c.args.self.now.contents in
     let long : length new ≡ old.len = omega (arith, c.make_changes.ensures.many, c.as_mut_slice.ensures.len) in
-    let made : c.as_slice-3.result.now ≡ put c.args.self.now.first.items old.items
-    = c.as_slice-3.ensures.value ∙ c.in_ok-changes.ensures kept h ∙ ap₂ put c.as_slice.ensures.value c.as_slice-2.ensures.value in
+    let made : all_bytes c.as_slice-3.result.now ≡ put c.args.self.now.first.items old.items
+    = ap all_bytes c.as_slice-3.ensures.value ∙ c.in_ok-changes.ensures kept h w ∙ ap₂ put c.as_slice.ensures.value c.as_slice-2.ensures.value in
     subst (λ z. AreChanged old.items z (put c.args.self.now.first.items old.items)) (sym (front old.len new (drop (length new) old.items) long))
     (subst (λ z. AreChanged z new (put c.args.self.now.first.items old.items)) c.as_mut_slice.ensures.value
     (subst (AreChanged c.as_mut_slice.result.now new) made c.make_changes.ensures))
