@@ -1,0 +1,3 @@
+pub mod Renamed
+pub mod Numbers
+pub mod Same
