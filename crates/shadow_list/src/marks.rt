@@ -52,8 +52,8 @@ impl Cells {
             None => true,
             Some(start) => {
                 let here = count.min(4 - first % 4);
-                let word = self.words[start + (first % 8 / 4) as usize];
-                let next = self.words[start + 1];
+                let word = &self.words[start + (first % 8 / 4) as usize];
+                let next = &self.words[start + 1];
                 word.passes(&self.apart, uniform, x, first, here)
                     && (here == count
                         || next.passes(&self.apart, uniform, x, first + here, count - here))
@@ -102,12 +102,12 @@ impl Cells {
 
     /// Where what is kept of the bytes of the word at a place stands apart. Until it does, it is what is kept of all of them. Where memory is
     /// refused all stays.
-    fn split(&mut self, place: usize, word: Word) -> Result<usize, AllocError>
-        requires there { place < length self.old.words.items }
-        requires word { slice_index_or self.old.words.items place no_word ≡ word }
+    fn split(&mut self, place: usize) -> Result<usize, AllocError>
+        requires { place < length self.old.words.items }
         ensures kept { KeepsWords self.old self.new }
         ensures apart { IfOk result (λ at. slice_index_or self.new.words.items place no_word ≡ Word.Apart at) }
     {
+        let word = self.words[place];
         match word {
             Word::Apart(at) => Ok(at),
             Word::Whole(all) => {
@@ -136,6 +136,26 @@ impl Cells {
         self.words[place] = Word::Whole(all.with(x, left));
     }
 
+    /// Adds an access to those of so many bytes of the word at a place, from the first on, each of which stands apart from then on.
+    #[inline(never)]
+    fn mark_bytes(
+        &mut self,
+        place: usize,
+        x: &Access,
+        first: u64,
+        count: u64,
+    ) -> Result<(), AllocError>
+        requires there { place < length self.old.words.items }
+        requires one_word { first % 4 + count ≤ 4 }
+        requires short { first + count < 2 ^ 64 }
+        ensures kept { KeepsWords self.old self.new }
+        ensures added { OnOk result ((byte : ℕ) → first ≤ byte → byte < first + count → Describes (at_place self.new.words.items self.new.apart.items place (byte % 4)) x.now byte) }
+    {
+        let at = self.split(place)?;
+        add(&mut self.apart, at, x, first, count);
+        Ok(())
+    }
+
     /// Adds an access to those of so many bytes of the word at a place, from the first on.
     fn mark_word(
         &mut self,
@@ -157,11 +177,7 @@ impl Cells {
                 self.mark_whole(place, all, x, first);
                 Ok(())
             }
-            _ => {
-                let at = self.split(place, word)?;
-                add(&mut self.apart, at, x, first, count);
-                Ok(())
-            }
+            _ => self.mark_bytes(place, x, first, count),
         }
     }
 

@@ -38,23 +38,31 @@ pub(crate) fn word_left(x: &Access, first: u64) -> u32
 
 impl Word {
     /// What is kept of a byte of the word.
-    fn byte(self, apart: &[Recent], k: u64) -> Recent
-        requires inside { IsInside apart.now self }
+    fn byte(&self, apart: &[Recent], k: u64) -> Recent
+        requires inside { IsInside apart.now self.now }
         requires in_word { k < 4 }
-        ensures { result ≡ in_word apart.now self k }
+        ensures { result ≡ in_word apart.now self.now k }
     {
-        match self {
+        match *self {
             Word::Whole(all) => all.byte(k),
             Word::Apart(at) => apart[at + k as usize],
         }
     }
 
     /// Whether an access passes at each of so many bytes of the word, from the first on.
-    fn bytes_pass(self, apart: &[Recent], uniform: bool, x: &Access, first: u64, count: u64) -> bool
-        requires inside { IsInside apart.now self }
+    #[inline(never)]
+    fn bytes_pass(
+        &self,
+        apart: &[Recent],
+        uniform: bool,
+        x: &Access,
+        first: u64,
+        count: u64,
+    ) -> bool
+        requires inside { IsInside apart.now self.now }
         requires one_word { first % 4 + count ≤ 4 }
         requires short { first + count < 2 ^ 64 }
-        ensures { IsTrue result → (byte : ℕ) → first ≤ byte → byte < first + count → Passes uniform (in_word apart.now self (byte % 4)) x.now byte }
+        ensures { IsTrue result → (byte : ℕ) → first ≤ byte → byte < first + count → Passes uniform (in_word apart.now self.now (byte % 4)) x.now byte }
     {
         for byte in first..first + count {
             let left = left_at(x, byte) as u32;
@@ -67,20 +75,20 @@ impl Word {
 
     /// Whether an access passes at so many bytes of the word, from the first on.
     pub(crate) fn passes(
-        self,
+        &self,
         apart: &[Recent],
         uniform: bool,
         x: &Access,
         first: u64,
         count: u64,
     ) -> bool
-        requires inside { IsInside apart.now self }
+        requires inside { IsInside apart.now self.now }
         requires one_word { first % 4 + count ≤ 4 }
         requires short { first + count < 2 ^ 64 }
         requires after { x.now.first ≤ first }
-        ensures { IsTrue result → (byte : ℕ) → first ≤ byte → byte < first + count → Passes uniform (in_word apart.now self (byte % 4)) x.now byte }
+        ensures { IsTrue result → (byte : ℕ) → first ≤ byte → byte < first + count → Passes uniform (in_word apart.now self.now (byte % 4)) x.now byte }
     {
-        match self {
+        match *self {
             Word::Whole(all) if count == 4 => all.passes(uniform, x, word_left(x, first)),
             _ => self.bytes_pass(apart, uniform, x, first, count),
         }

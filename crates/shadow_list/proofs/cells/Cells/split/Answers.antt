@@ -1,7 +1,7 @@
 use Rattle.std.proofs.Common.{◌≡◌, ◌++◌, ◌∷◌, [], length, refl, sym, ap, ◌∙◌, subst}
 use Rattle.std.specs.Prelude.{slice_index_or}
-use Rattle.std.proofs.lemmas.List.{length-set, get_or_append_left}
-use Rattle.shadow_list.specs.Recent.{Describes, in_word, nothing}
+use Rattle.std.proofs.lemmas.List.{length-set, get_or_append_left, get_or_default}
+use Rattle.shadow_list.specs.Recent.{Describes, in_word, nothing, no_word}
 use Rattle.shadow_list.specs.declared.recent.Recent.{Recent}
 use Rattle.shadow_list.specs.declared.word.Word.{Word}
 use Rattle.shadow_list.specs.declared.word.Word.TheVariants as word
@@ -22,10 +22,10 @@ returns-in_ok-extend_from_slice-in-Whole-clause-kept c =
     record {
       starts = refl;
       long = length-set words c.args.place w;
-      kept = word_kept words old new c.args.place w c.requires.there
+      kept = word_kept words old new c.args.place w c.requires
           (places_kept old new (λ p l. ap (λ z. slice_index_or z p nothing) longer ∙ get_or_append_left old bytes nothing p l))
           (λ k y byte b d.
           subst (λ (r : Recent). Describes r y byte)
           (sym (split_apart old new all c.byte.result c.byte-in-Whole.result c.byte-in-Whole-2.result c.byte-in-Whole-3.result at k longer end c.byte.ensures c.byte-in-Whole.ensures c.byte-in-Whole-2.ensures c.byte-in-Whole-3.ensures b))
-          (subst (λ (v : Word). Describes (in_word old v k) y byte) (c.requires.word ∙ c.in-Whole.is) d));
+          (subst (λ (v : Word). Describes (in_word old v k) y byte) (get_or_default words c.args.place no_word c.index-word.result.now c.requires ∙ sym c.index-word.ensures ∙ c.in-Whole.is) d));
     }

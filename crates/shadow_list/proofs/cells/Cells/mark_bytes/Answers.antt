@@ -1,10 +1,10 @@
 use Rattle.std.specs.Prelude.{slice_index_or}
 use Rattle.shadow_list.specs.Recent.{no_word}
 use Rattle.shadow_list.proofs.Words.{parts_kept}
-use Rattle.shadow_list.proofs.cells.Cells.mark_word.Goals as goal
+use Rattle.shadow_list.proofs.cells.Cells.mark_bytes.Goals as goal
 
-pub returns-in_ok-at-in_default-clause-kept : goal.returns-in_ok-at-in_default-clause-kept
-returns-in_ok-at-in_default-clause-kept c =
+pub returns-clause-kept : goal.returns-clause-kept
+returns-clause-kept c =
     record {
       starts = c.split.ensures.kept.starts;
       long = c.split.ensures.kept.long;
