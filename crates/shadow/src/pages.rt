@@ -71,12 +71,12 @@ fn mark_words(pages: &mut Vec<Vec<Word>>, x: &Access, number: usize, count: usiz
     requires ready_two { count ≡ 8 → is_ready (word_in pages.old.items (number + 1)) ≡ true }
     ensures { IsMarked (cell_in pages.old.items) (cell_in pages.new.items) (mark_of x.now) (4 * number) count result }
 {
-    let here = mark_word(pages, number, word_mark(x, false));
+    let low = mark_word(pages, number, word_mark(x, false));
     if count == 4 {
-        return here;
+        return low;
     }
-    let there = mark_word(pages, number + 1, word_mark(x, true));
-    here || there
+    let high = mark_word(pages, number + 1, word_mark(x, true));
+    low || high
 }
 
 /// Marks a byte of a word that is kept apart. Whether what is kept of it changes.

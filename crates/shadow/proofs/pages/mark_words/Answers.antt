@@ -9,39 +9,39 @@ returns-then-count-eq4 c =
     let x = c.args.x.now in
     let n = c.args.number in
     let old = cell_in c.args.pages.now.items in
-    let new = cell_in c.mark_word-here.new.pages.items in
-    subst (λ k. IsMarked old new (mark_of x) (4 * n) k c.mark_word-here.result) (sym c.if-count-eq4.true)
-    (same_marks old new (λ byte. byte_mark c.word_mark.result (byte % 4)) (mark_of x) (4 * n) 4 c.mark_word-here.result
-    (half_covered x c.word_mark.result 0 n (omega (arith, c.requires.first)) c.word_mark.ensures) c.mark_word-here.ensures.marked)
+    let new = cell_in c.mark_word-low.new.pages.items in
+    subst (λ k. IsMarked old new (mark_of x) (4 * n) k c.mark_word-low.result) (sym c.if-count-eq4.true)
+    (same_marks old new (λ byte. byte_mark c.word_mark.result (byte % 4)) (mark_of x) (4 * n) 4 c.mark_word-low.result
+    (half_covered x c.word_mark.result 0 n (omega (arith, c.requires.first)) c.word_mark.ensures) c.mark_word-low.ensures.marked)
 
-pub returns-then-here : goal.returns-then-here
-returns-then-here c =
+pub returns-then-low : goal.returns-then-low
+returns-then-low c =
     let x = c.args.x.now in
     let n = c.args.number in
-    let here = c.mark_word-here.result in
-    let there = c.mark_word-there.result in
+    let here = c.mark_word-low.result in
+    let there = c.mark_word-high.result in
     let old = cell_in c.args.pages.now.items in
-    let mid = cell_in c.mark_word-here.new.pages.items in
-    let new = cell_in c.mark_word-there.new.pages.items in
+    let mid = cell_in c.mark_word-low.new.pages.items in
+    let new = cell_in c.mark_word-high.new.pages.items in
     marked_both old mid new (mark_of x) (4 * n) (4 * (n + 1)) 4 4 c.args.count here there here (omega arith) (eight_bytes x.width c.args.count c.requires.count c.requires.whole c.if-count-eq4.false)
-    (ap (λ (z : Bool). z || there) c.if-here.true ∙ sym c.if-here.true)
+    (ap (λ (z : Bool). z || there) c.if-low.true ∙ sym c.if-low.true)
     (same_marks old mid (λ byte. byte_mark c.word_mark.result (byte % 4)) (mark_of x) (4 * n) 4 here
-    (half_covered x c.word_mark.result 0 n (omega (arith, c.requires.first)) c.word_mark.ensures) c.mark_word-here.ensures.marked)
+    (half_covered x c.word_mark.result 0 n (omega (arith, c.requires.first)) c.word_mark.ensures) c.mark_word-low.ensures.marked)
     (same_marks mid new (λ byte. byte_mark c.word_mark-2.result (byte % 4)) (mark_of x) (4 * (n + 1)) 4 there
-    (half_covered x c.word_mark-2.result 4 (n + 1) (omega (arith, c.requires.first)) c.word_mark-2.ensures) c.mark_word-there.ensures.marked)
+    (half_covered x c.word_mark-2.result 4 (n + 1) (omega (arith, c.requires.first)) c.word_mark-2.ensures) c.mark_word-high.ensures.marked)
 
-pub returns-else-here : goal.returns-else-here
-returns-else-here c =
+pub returns-else-low : goal.returns-else-low
+returns-else-low c =
     let x = c.args.x.now in
     let n = c.args.number in
-    let here = c.mark_word-here.result in
-    let there = c.mark_word-there.result in
+    let here = c.mark_word-low.result in
+    let there = c.mark_word-high.result in
     let old = cell_in c.args.pages.now.items in
-    let mid = cell_in c.mark_word-here.new.pages.items in
-    let new = cell_in c.mark_word-there.new.pages.items in
+    let mid = cell_in c.mark_word-low.new.pages.items in
+    let new = cell_in c.mark_word-high.new.pages.items in
     marked_both old mid new (mark_of x) (4 * n) (4 * (n + 1)) 4 4 c.args.count here there there (omega arith) (eight_bytes x.width c.args.count c.requires.count c.requires.whole c.if-count-eq4.false)
-    (ap (λ (z : Bool). z || there) c.if-here.false)
+    (ap (λ (z : Bool). z || there) c.if-low.false)
     (same_marks old mid (λ byte. byte_mark c.word_mark.result (byte % 4)) (mark_of x) (4 * n) 4 here
-    (half_covered x c.word_mark.result 0 n (omega (arith, c.requires.first)) c.word_mark.ensures) c.mark_word-here.ensures.marked)
+    (half_covered x c.word_mark.result 0 n (omega (arith, c.requires.first)) c.word_mark.ensures) c.mark_word-low.ensures.marked)
     (same_marks mid new (λ byte. byte_mark c.word_mark-2.result (byte % 4)) (mark_of x) (4 * (n + 1)) 4 there
-    (half_covered x c.word_mark-2.result 4 (n + 1) (omega (arith, c.requires.first)) c.word_mark-2.ensures) c.mark_word-there.ensures.marked)
+    (half_covered x c.word_mark-2.result 4 (n + 1) (omega (arith, c.requires.first)) c.word_mark-2.ensures) c.mark_word-high.ensures.marked)
