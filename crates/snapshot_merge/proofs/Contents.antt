@@ -4,7 +4,7 @@ use Rattle.std.specs.Prelude.{slice_get, if◌then◌else◌}
 use Rattle.std.specs.Option.{option_map, unwrap_or}
 use Rattle.std.proofs.lemmas.Bool.{and_parts, and_from, true≢false}
 use Rattle.std.proofs.lemmas.Option.{slice_get-get_or, slice_get_within}
-use Rattle.clmodel.specs.Cells.{Cells, cells_of, covers, byte_count, byte_of, number, joined}
+use Rattle.clmodel.specs.Cells.{Cells, cells_of, covers, byte_count, byte_of, number}
 use Rattle.clmodel.specs.Launch.{Launch, same_region}
 use Rattle.clmodel.specs.Law.{Keeps, Logged}
 use Rattle.clmodel.specs.Run.{Memory, initial, cells_from, contents}

@@ -9,7 +9,6 @@ use Rattle.clmodel.specs.Run.{State, Events, step, or_else}
 use Rattle.clmodel.specs.Law.{Logged, Makes, conflict_on, conflict_from, newest_conflict}
 use Rattle.clmodel.specs.declared.access.Access.{Access}
 use Rattle.clmodel.specs.declared.access.Clash.{Clash}
-use Rattle.clmodel.specs.declared.access.Conflict as conflict_type
 use Rattle.clmodel.specs.declared.schedule.Event.{Event}
 use Rattle.clmodel.specs.declared.schedule.Event.TheVariants.{Item, Release}
 use Rattle.clmodel.proofs.Steps.{item_inverse, release_inverse}

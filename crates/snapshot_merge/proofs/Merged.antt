@@ -1,5 +1,5 @@
 -- Runs with further runs.
-use Rattle.std.proofs.Common.{◌≡◌, ℕ, zero, suc, ◌+◌, ◌-◌, ◌<◌, ◌≤◌, List, [], ◌∷◌, ◌++◌, length, replicate, take, drop, min, refl, sym, ap, ap₂, ◌∙◌, subst, arith, zero-add, suc-add, add-one, Some, ◌⊎◌, inl, inr}
+use Rattle.std.proofs.Common.{◌≡◌, ℕ, zero, suc, ◌+◌, ◌-◌, ◌<◌, ◌≤◌, List, [], ◌∷◌, ◌++◌, length, replicate, take, drop, min, refl, sym, ap, ap₂, ◌∙◌, subst, arith, add-one, Some, ◌⊎◌, inl, inr}
 use Rattle.std.specs.Prelude.{Contains, slice_get, if◌then◌else◌, Result, Ok, Err, OnOk, is_ok}
 use Rattle.clmodel.proofs.Steps.{none_some, some_inj}
 use Rattle.std.proofs.lemmas.List.{append_assoc, append-nil}

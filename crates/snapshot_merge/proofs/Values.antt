@@ -2,7 +2,6 @@
 use Rattle.std.proofs.Common.{◌≡◌, ℕ, zero, suc, ◌+◌, ◌-◌, ◌*◌, ◌/◌, ◌%◌, ◌^◌, ◌<◌, ◌≤◌, ◌⊎◌, Bool, true, false, Option, None, Some, List, [], ◌∷◌, ◌++◌, length, set, take, refl, sym, ap, ap₂, ◌∙◌, subst, inl, inr, arith}
 use Rattle.std.specs.Prelude.{slice_get, IfSome, min}
 use Rattle.std.specs.Int.{to_le_bytes, bytes_low_first, byte_at, w64}
-use Rattle.std.specs.List.{flat_map}
 use Rattle.std.proofs.Math.Nat.{pow-succ', div-div-eq-div-mul, div-one}
 use Rattle.std.proofs.lemmas.Bool.{true≢false}
 use Rattle.std.proofs.lemmas.Grind.{flat_map-append}
@@ -12,11 +11,10 @@ use Rattle.clmodel.specs.declared.access.Access.{Access}
 use Rattle.clmodel.specs.declared.access.AccessKind.{AccessKind}
 use Rattle.clmodel.specs.declared.access.AccessKind.TheVariants as kind
 use Rattle.clmodel.specs.declared.access.Class.{Class}
-use Rattle.clmodel.specs.declared.access.Region.{Region}
 use Rattle.clmodel.specs.declared.access.Region.TheVariants as region
 use Rattle.clmodel.proofs.CellLaws.{covers_parts, covers_from}
 use Rattle.clmodel.proofs.Steps.{none_some, some_inj, if_true}
-use Rattle.joining.specs.Memory.{joined_number, writes}
+use Rattle.joining.specs.Memory.{writes}
 use Rattle.snapshot_merge.specs.declared.changes.Change.{Change}
 use Rattle.snapshot_merge.specs.Changes.{ByteChange, byte_changes, changes_at, access_changes, bytes_of, all_bytes, number_or_0, joined_value, value_of, cells_at, filled_at, buffer_at, AreChanged, IsValue, AreBytes}
 use Rattle.snapshot_merge.proofs.Numbers.{one_byte, first_or_later}

@@ -1,6 +1,5 @@
 -- What a work-group wrote are bytes.
-use Rattle.std.proofs.Common.{◌≡◌, ℕ, zero, suc, ◌+◌, ◌-◌, ◌<◌, ◌&&◌, ◌||◌, Bool, true, false, Option, Some, List, [], ◌∷◌, length, refl, sym, ap, ◌∙◌, subst, arith}
-use Rattle.std.specs.Prelude.{slice_get}
+use Rattle.std.proofs.Common.{◌≡◌, ℕ, zero, suc, ◌-◌, ◌<◌, ◌&&◌, ◌||◌, Bool, true, false, Option, Some, List, [], ◌∷◌, length, refl, sym, ap, ◌∙◌, subst, arith}
 use Rattle.std.proofs.lemmas.Bool.{and_parts, and_from, true≢false}
 use Rattle.clmodel.specs.Cells.{Cells, cells_of, covers, byte_count, byte_of, written, combined, fetched, size_of, effect}
 use Rattle.clmodel.specs.Launch.{Launch, same_region, kind_of, group_of, access_in}
@@ -25,7 +24,7 @@ use Rattle.joining.proofs.Over.{performed, performed_in, unchanged_step, wrote_f
 use Rattle.group_run.specs.Logs.{accesses_of}
 use Rattle.shadow.specs.Lasting.{StandsFor}
 use Rattle.shadow_list.specs.declared.log.Entry.{Entry}
-use Rattle.snapshot_merge.specs.Changes.{buffer_at, cells_at, AreBytes, WroteBytes, AllWroteBytes}
+use Rattle.snapshot_merge.specs.Changes.{buffer_at, cells_at, AllWroteBytes}
 use Rattle.snapshot_merge.proofs.Contents.{IsClear, own_cells, entry_logged}
 use Rattle.snapshot_merge.proofs.Listed.{among}
 

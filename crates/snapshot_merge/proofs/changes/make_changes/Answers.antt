@@ -1,4 +1,4 @@
-use Rattle.std.proofs.Common.{◌∷◌, ◌++◌, [], take, sym, ap, ◌∙◌, subst}
+use Rattle.std.proofs.Common.{take, sym, ap, ◌∙◌, subst}
 use Rattle.std.proofs.lemmas.List.{take_more, take_all}
 use Rattle.snapshot_merge.specs.Changes.{AreChanged, all_bytes}
 use Rattle.snapshot_merge.proofs.Changing.{changed_none, changed_more}

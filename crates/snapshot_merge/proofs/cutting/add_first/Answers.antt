@@ -1,4 +1,4 @@
-use Rattle.std.proofs.Common.{[], ◌∷◌, ◌++◌, ◌+◌, ◌-◌, subst, sym, inl, inr, arith}
+use Rattle.std.proofs.Common.{◌+◌, ◌-◌, subst, sym, inl, inr, arith}
 use Rattle.std.proofs.lemmas.Option.{slice_get-get_or}
 use Rattle.snapshot_merge.proofs.Merged.{AddsPart, part_none, part_step, part_end}
 use Rattle.snapshot_merge.proofs.cutting.add_first.Goals as goal

@@ -1,6 +1,6 @@
 use Rattle.std.proofs.Common.{◌≡◌, ◌+◌, ◌*◌, ◌-◌, ◌<◌, ◌^◌, suc, subst, arith, rules}
 use Rattle.spaces_base.proofs.Rows.{joined_fits, joined_below}
-use Rattle.snapshot_merge.proofs.Values.{value_none, value_more}
+use Rattle.snapshot_merge.proofs.Values.{value_more}
 use Rattle.snapshot_merge.proofs.changes.Before.+value_by_bytes.Goals as goal
 
 pub overflow_mul-result : goal.overflow_mul-result
