@@ -12,6 +12,8 @@ mod overlays;
 #[cfg(test)]
 mod printing;
 #[cfg(test)]
+mod renumbered;
+#[cfg(test)]
 mod running_logs;
 #[cfg(test)]
 mod schedules;
