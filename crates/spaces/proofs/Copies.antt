@@ -1,11 +1,10 @@
 -- A buffer's bytes where pages are copied and copies are changed.
-use Rattle.std.proofs.Common.{◌≡◌, ℕ, zero, suc, ◌+◌, ◌-◌, ◌*◌, ◌/◌, ◌%◌, ◌<◌, ◌≤◌, ◌==◌, ◌⊎◌, Bool, true, false, if◌then◌else◌, List, [], ◌∷◌, ◌++◌, Option, None, Some, length, map, get_or, set, take, drop, min, le_trans, refl, sym, ap, ap₂, ◌∙◌, subst, inl, inr, arith}
+use Rattle.std.proofs.Common.{◌≡◌, ℕ, zero, suc, ◌+◌, ◌-◌, ◌*◌, ◌/◌, ◌%◌, ◌<◌, ◌≤◌, ◌==◌, ◌⊎◌, Bool, if◌then◌else◌, List, ◌++◌, Some, length, map, set, take, drop, min, le_trans, refl, sym, ap, ap₂, ◌∙◌, subst, inl, inr, arith}
 use Rattle.std.specs.Prelude.{◌≢◌, slice_index}
 use Rattle.std.proofs.lemmas.Bool.{cases_eq, cases_lt, ne_eqb}
-use Rattle.std.proofs.lemmas.List.{get_or-set_same, get_or-set_other, get_or_push, get_or_past, get_or_append_left, get_or-take, get_or-drop, take_all, drop_all, append-nil, length_push, length-take, length-take-le, length-drop}
+use Rattle.std.proofs.lemmas.List.{get_or-set_same, get_or-set_other, get_or_past, get_or-take, get_or-drop, take_all, drop_all, append-nil, length-take, length-take-le, length-drop}
 use Rattle.std.proofs.Math.Nat.{min-le_left}
 use Rattle.clmodel.specs.Cells.{Cells, cells_of, byte_of, joined, number, covers, written}
-use Rattle.clmodel.proofs.CellLaws.{number_frame, covers_parts}
 use Rattle.clmodel.proofs.Steps.{some_inj}
 use Rattle.spaces_base.proofs.Rows.{row_at, written_in, written_out}
 use Rattle.spaces.specs.Overlay.{overlaid_byte, overlaid_cells, row_cells, IsCopied, AreNumbered}
@@ -33,58 +32,6 @@ in_place copy count rest a b c = omega (arith, a, b, c)
 rest_small : (byte : ℕ) → byte % 256 < 256
 rest_small byte = omega arith
 
--- nothing has a copy where there are no numbers of copied pages
-pub none_copied : (copies : ℕ → ℕ) (numbers : List ℕ) → AreNumbered copies numbers → length numbers ≡ 0 → (page : ℕ) → copies page ≡ 0
-none_copied copies numbers numbered none page = go (copied_or copies page)
-  where
-    go : (copies page ≡ 0) ⊎ IsCopied copies page → copies page ≡ 0
-    go (inl h) = h
-    go (inr h) = absurd (omega (arith, (numbered page h).0, h, none))
-
--- bytes stay where pages have the same copies, and the copies that there were are as before
-pub kept_byte :
-    (base : List ℕ) (copies others : ℕ → ℕ) (numbers cells more : List ℕ) → AreNumbered copies numbers → ((page : ℕ) → others page ≡ copies page)
-    → ((k : ℕ) → k < length numbers * 256 → slice_index more k ≡ slice_index cells k) → (byte : ℕ) → overlaid_byte base others more byte ≡ overlaid_byte base copies cells byte
-kept_byte base copies others numbers cells more numbered same rows byte = go (copied_or copies (byte / 256))
-  where
-    go : (copies (byte / 256) ≡ 0) ⊎ IsCopied copies (byte / 256) → overlaid_byte base others more byte ≡ overlaid_byte base copies cells byte
-    go (inl h) = lent base others more byte (same (byte / 256) ∙ h) ∙ sym (lent base copies cells byte h)
-    go (inr h) =
-        let copy : ℕ = copies (byte / 256) in
-        in_copy base others more byte copy (same (byte / 256)) h
-        ∙ rows ((copy - 1) * 256 + byte % 256) (in_place copy (length numbers) (byte % 256) h (numbered (byte / 256) h).0 (rest_small byte))
-        ∙ sym (in_copy base copies cells byte copy refl h)
-
--- the numbers of copies where pages have the same copies
-pub still_numbered : (copies others : ℕ → ℕ) (numbers : List ℕ) → AreNumbered copies numbers → ((page : ℕ) → others page ≡ copies page) → AreNumbered others numbers
-still_numbered copies others numbers numbered same page h =
-    subst (λ z. (z ≤ length numbers) × (slice_index numbers (z - 1) ≡ page)) (sym (same page)) (numbered page (subst (λ z. 0 < z) (same page) h))
-
-pub still_copied : (copies others : ℕ → ℕ) → ((page : ℕ) → others page ≡ copies page) → (page : ℕ) → IsCopied copies page → IsCopied others page
-still_copied copies others same page h = subst (λ z. 0 < z) (sym (same page)) h
-
--- numbers where one more page gets the next copy
-pub one_numbered :
-    (copies others : ℕ → ℕ) (numbers : List ℕ) (page count : ℕ) → count ≡ length numbers → AreNumbered copies numbers → others page ≡ count + 1
-    → ((k : ℕ) → k ≢ page → others k ≡ copies k) → AreNumbered others (numbers ++ page ∷ [])
-one_numbered copies others numbers page count many numbered here there k h = go (cases_eq k page)
-  where
-    more : length (numbers ++ page ∷ []) ≡ length numbers + 1
-    more = length_push numbers page
-
-    last : ℕ → ℕ → Type 0
-    last z k = (z ≤ length (numbers ++ page ∷ [])) × (slice_index (numbers ++ page ∷ []) (z - 1) ≡ k)
-
-    go : (k ≡ page) ⊎ (k ≡ page → ⊥) → last (others k) k
-    go (inl e) =
-        subst (λ z. last (others z) z) (sym e)
-        (subst (λ z. last z page) (sym here) (omega (arith, more, many), get_or_push numbers page 0 (count + 1 - 1) (omega (arith, many))))
-    go (inr ne) =
-        let r : (copies k ≤ length numbers) × (slice_index numbers (copies k - 1) ≡ k) = numbered k (subst (λ z. 0 < z) (there k ne) h) in
-        let some : 0 < copies k = subst (λ z. 0 < z) (there k ne) h in
-        subst (λ z. last z k) (sym (there k ne))
-        (omega (arith, more, r.0), get_or_append_left numbers (page ∷ []) 0 (copies k - 1) (omega (arith, some, r.0)) ∙ r.1)
-
 -- bytes where one more page is copied
 pub one_copied :
     (base : List ℕ) (copies others : ℕ → ℕ) (numbers cells more row : List ℕ) (page count : ℕ) → count ≡ length numbers → AreNumbered copies numbers → others page ≡ count + 1
@@ -111,14 +58,6 @@ one_copied base copies others numbers cells more row page count many numbered he
             in_copy base others more byte copied (there (byte / 256) ne) h
             ∙ rows ((copied - 1) * 256 + byte % 256) (in_place copied count (byte % 256) h few (rest_small byte))
             ∙ sym (in_copy base copies cells byte copied refl h)
-
--- pages that have copies still have them where one more is copied
-pub more_copied : (copies others : ℕ → ℕ) (page count : ℕ) → others page ≡ count + 1 → ((k : ℕ) → k ≢ page → others k ≡ copies k) → (k : ℕ) → IsCopied copies k → IsCopied others k
-more_copied copies others page count here there k h = go (cases_eq k page)
-  where
-    go : (k ≡ page) ⊎ (k ≡ page → ⊥) → IsCopied others k
-    go (inl e) = subst (λ z. 0 < z) (sym (ap others e ∙ here)) (omega arith)
-    go (inr ne) = subst (λ z. 0 < z) (sym (there k ne)) h
 
 -- the row of a page is short, and holds its bytes
 pub row_short : (base : List ℕ) (page n : ℕ) → n ≤ 256 → length (take n (drop (page * 256) base)) ≤ 256
@@ -195,16 +134,6 @@ same_page at count byte inside a b = omega (arith, inside, a, b)
 
 same_rest : (at count byte : ℕ) → at % 256 + count ≤ 256 → at ≤ byte → byte < at + count → byte % 256 + at ≡ at % 256 + byte
 same_rest at count byte inside a b = omega (arith, inside, a, b)
-
--- a number that is read from the lent bytes, where its bytes have no copies
-pub lent_number : (base : List ℕ) (copies : ℕ → ℕ) (cells : List ℕ) (at count : ℕ) → ((byte : ℕ) → at ≤ byte → byte < at + count → copies (byte / 256) ≡ 0)
-    → number (overlaid_cells base copies cells) at count ≡ number (row_cells base) at count
-lent_number base copies cells at count none =
-    number_frame (overlaid_cells base copies cells) (row_cells base) at count
-    (λ byte c. let r : (at ≤ byte) × (byte < at + count) = covers_parts at count byte c in ap Some (lent base copies cells byte (none byte r.0 r.1)))
-
-pub lent_page : (copies : ℕ → ℕ) (at count : ℕ) → at % 256 + count ≤ 256 → copies (at / 256) ≡ 0 → (byte : ℕ) → at ≤ byte → byte < at + count → copies (byte / 256) ≡ 0
-lent_page copies at count inside none byte a b = ap copies (same_page at count byte inside a b) ∙ none
 
 -- a number at another place
 moved_number : (c d : Cells) (a b n : ℕ) → ((k : ℕ) → k < n → c (a + k) ≡ d (b + k)) → number c a n ≡ number d b n

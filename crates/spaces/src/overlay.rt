@@ -12,7 +12,8 @@ use std::alloc::{AllocError, Global};
 use std::marker::Model;
 
 /// A lent buffer, seen as its bytes with the changes that were made (OpenCL 1.2, section 5.2.1). Pages of 256 bytes are copied at their
-/// first change; an access costs a look into the table of pages for each of its bytes.
+/// first change, and a table tells of the pages from the lowest that is copied to the highest. An access to bytes of one page costs a look
+/// into the table, and a load costs none while no page is copied; an access to bytes of two pages costs a look for each byte.
 #[derive(Drop)]
 pub struct Overlay<'a> {
     base: &'a [u8],

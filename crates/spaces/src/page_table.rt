@@ -6,8 +6,7 @@ ghost use Rattle.spaces.specs.Overlay.{copies, copy_at};
 use std::alloc::{AllocError, Global};
 use std::marker::Model;
 
-/// For each page the count of its copy, or 0, seen as a function. It takes memory for the pages from the lowest that has a copy to the
-/// highest, or for at most twice as many.
+/// For each page the count of its copy, or 0. It takes memory in proportion to the pages from the lowest that has a copy to the highest.
 #[derive(Drop)]
 pub(crate) struct PageTable {
     /// The first page that the row tells of.
@@ -96,8 +95,8 @@ fn make_room(row: &mut Vec<usize>, place: usize) -> Result<(), AllocError>
     Ok(())
 }
 
-/// Makes a row begin with a lower page, and answers the page that it begins with. It is that page or one that doubles the row, so that
-/// rows that grow page by page are moved seldom.
+/// Makes a row begin with a lower page, and answers the page that it then begins with: that page, or a lower one where the row is not yet
+/// twice as long. So the entries are moved seldom where pages are copied one by one from the last to the first.
 fn move_up(row: &mut Vec<usize>, first: usize, page: usize) -> Result<usize, AllocError>
     requires below { page < first }
     requires inside { first + length row.old.items < 2 ^ 64 }

@@ -94,7 +94,7 @@ impl Pages {
         low as u64 + 256 * high
     }
 
-    /// The number of an element's bytes. Where they are of one page, the table is looked at once, and not at all where nothing has a copy.
+    /// The number of an element's bytes. It looks once at the table where they are of one page, and not at all where no page has a copy.
     pub(crate) fn number(&self, base: &[u8], at: usize, width: Width) -> u64
         requires { at + byte_count width ≤ length base.now }
         ensures value { number (overlaid_cells base.now (copies self.now.table) self.now.cells.items) at (byte_count width) ≡ Some result }
@@ -108,10 +108,10 @@ impl Pages {
             return self.number_by_bytes(base, at, count);
         }
         let copy = self.table.copy_of(at / 256);
-        if copy == 0 {
-            return number_in(base, at, width);
+        if copy > 0 {
+            return number_in(self.cells.as_slice(), (copy - 1) * 256 + at % 256, width);
         }
-        number_in(self.cells.as_slice(), (copy - 1) * 256 + at % 256, width)
+        number_in(base, at, width)
     }
 
     /// Puts the low n bytes of a value into pages that have copies.
@@ -142,6 +142,7 @@ impl Pages {
         }
         let count = self.numbers.len();
         add_row(&mut self.cells, count * 256, page_row(base, page))?;
+        // so that nothing fails once the table is changed
         self.numbers.reserve(1)?;
         self.table.set(page, count + 1)?;
         self.numbers.push(page)?;

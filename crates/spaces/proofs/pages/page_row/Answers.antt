@@ -1,4 +1,4 @@
-use Rattle.std.proofs.Common.{◌≡◌, ◌+◌, ◌-◌, ◌*◌, ◌<◌, ◌≤◌, arith}
+use Rattle.std.proofs.Common.{◌+◌, ◌-◌, ◌*◌, arith}
 use Rattle.std.specs.Prelude.{length}
 use Rattle.spaces.proofs.Copies.{row_short, row_holds}
 use Rattle.spaces.proofs.pages.page_row.Goals as goal

@@ -1,4 +1,4 @@
-use Rattle.std.proofs.Common.{◌≡◌, ◌∙◌, sym, ap, subst}
+use Rattle.std.proofs.Common.{◌∙◌, sym, ap, subst}
 use Rattle.std.specs.Prelude.{slice_get, ◌≢◌, ◌/◌, All}
 use Rattle.clmodel.specs.Cells.{cells_of}
 use Rattle.spaces.specs.Overlay.{copies}

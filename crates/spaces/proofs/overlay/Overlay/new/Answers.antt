@@ -1,4 +1,3 @@
-use Rattle.std.proofs.Common.{[]}
 use Rattle.spaces.specs.Overlay.{copies}
 use Rattle.spaces.proofs.Rows.{nothing_copied}
 use Rattle.spaces.proofs.overlay.Overlay.new.Goals as goal

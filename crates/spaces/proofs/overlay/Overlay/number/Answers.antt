@@ -1,5 +1,4 @@
-use Rattle.std.proofs.Common.{◌≡◌, ◌+◌, ◌≤◌, ◌∙◌, sym, ap, subst}
-use Rattle.std.specs.Prelude.{length}
+use Rattle.std.proofs.Common.{◌+◌, ◌≤◌, ◌∙◌, sym, ap, subst}
 use Rattle.clmodel.specs.Cells.{byte_count, cells_of, number}
 use Rattle.spaces.specs.Overlay.{copies}
 use Rattle.spaces.proofs.Rows.{as_many, number_there}

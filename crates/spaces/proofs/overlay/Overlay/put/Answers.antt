@@ -1,5 +1,5 @@
 use Rattle.std.proofs.Common.{◌≡◌, ◌+◌, ◌≤◌, sym, ap, subst}
-use Rattle.std.specs.Prelude.{length, OnOk, OnErr}
+use Rattle.std.specs.Prelude.{OnOk, OnErr}
 use Rattle.clmodel.specs.Cells.{byte_count, cells_of, written}
 use Rattle.spaces_base.specs.Space.{Becomes}
 use Rattle.spaces.specs.Overlay.{copies, overlaid}

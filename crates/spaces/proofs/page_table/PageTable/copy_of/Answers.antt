@@ -1,4 +1,4 @@
-use Rattle.std.proofs.Common.{◌≡◌, ◌-◌, ◌≤◌, ◌∙◌, sym, ap, arith}
+use Rattle.std.proofs.Common.{◌-◌, ◌∙◌, sym, ap, arith}
 use Rattle.std.specs.Prelude.{slice_index}
 use Rattle.spaces.specs.Overlay.{copies}
 use Rattle.spaces.proofs.Tables.{copy_before, copy_from}

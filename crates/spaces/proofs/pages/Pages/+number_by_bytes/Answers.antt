@@ -1,4 +1,4 @@
-use Rattle.std.proofs.Common.{◌≡◌, ◌+◌, ◌*◌, ◌-◌, ◌<◌, ◌^◌, suc, sym, ap, subst, ◌∙◌, arith, rules}
+use Rattle.std.proofs.Common.{◌≡◌, ◌+◌, ◌*◌, ◌-◌, ◌<◌, ◌^◌, suc, sym, ap, subst, arith, rules}
 use Rattle.std.specs.Prelude.{Some}
 use Rattle.spaces.specs.Overlay.{copies, overlaid_cells}
 use Rattle.spaces_base.proofs.Rows.{joined_fits, joined_below, number_joined}

@@ -1,4 +1,4 @@
-use Rattle.std.proofs.Common.{◌≡◌, ◌+◌, ◌*◌, ◌<◌, arith}
+use Rattle.std.proofs.Common.{◌≡◌, arith}
 use Rattle.std.specs.Prelude.{length}
 use Rattle.spaces.specs.Overlay.{copies}
 use Rattle.spaces.proofs.Copies.{one_copied}
