@@ -71,7 +71,7 @@ fn what_lasts_of_a_running_log(rt: HostRuntime) -> Result<(), Fail> {
         assert_eq!(rt; log.has_last(), lasts, "{event}");
     }
     assert_eq!(rt; events_of(rt.alloc(), &log)?.as_slice(), KEPT.as_slice());
-    let list = log.into_list();
+    let list = log.list(rt.alloc())?;
     assert_eq!(rt; events_of(rt.alloc(), &list)?.as_slice(), KEPT.as_slice());
     assert!(rt; list.has_last());
     Ok(())
