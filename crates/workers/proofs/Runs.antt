@@ -1,15 +1,17 @@
 -- A group's one run, and its result.
 use Rattle.std.proofs.Common.{◌≡◌, ℕ, suc, ◌+◌, ◌*◌, ◌<◌, ◌≤◌, arith, true, true≢false, Option, None, Some, List, Vec, Global, [], ◌∷◌, refl, sym, ◌∙◌, subst, ⊎_elim}
 use Rattle.std.proofs.Math.Nat.{suc-mul, mul-le-mul_right}
+use Rattle.std.specs.Prelude.{Result, Ok, Err, IfOk}
+use Rattle.std.specs.declared.alloc.AllocError.{AllocError}
 use Rattle.clmodel.specs.Launch.{Launch}
 use Rattle.clmodel.specs.Outcome.{events_of}
-use Rattle.clmodel.specs.Run.{start}
 use Rattle.clmodel.specs.declared.fault.Fault.{Fault}
 use Rattle.clmodel.specs.declared.schedule.EventRun.{EventRun}
 use Rattle.group_run.specs.Results.{IsResult}
 use Rattle.group_run.specs.declared.result.GroupResult.{GroupResult}
 use Rattle.group_run.specs.declared.result.GroupResult.TheVariants.{Done, Stopped}
 use Rattle.joining.specs.Parts.{Part, OnePart}
+use Rattle.joining.specs.Steps.{HasGroup}
 use Rattle.shadow.specs.Lasting.{StandsWith}
 use Rattle.shadow.specs.declared.group_accesses.LastingList.{LastingList}
 use Rattle.group_log.specs.declared.group.GroupLog.{GroupLog}
@@ -59,6 +61,11 @@ done_listed launch group number spaces log list runs stand is = (group_log log, 
 pub stopped_listed : (launch : Launch) (group number : ℕ) (fault : Fault) (log : GroupLog) (list : LastingList) (runs : List EventRun) → StandsWith list.has_last list.entries.items (group_log log).accesses
     → IsResult bytes_of group_log launch group (Stopped number fault log runs) → IsListed launch group (Stopped number fault list runs)
 stopped_listed launch group number fault log list runs stand is = (group_log log, stand, is)
+
+-- what a group's run comes to, where memory isn't refused, is of that group
+pub listed_of_group : (launch : Launch) (group : ℕ) (r : Result Came AllocError) → HasGroup launch group → IfOk r (IsListed launch group) → IfOk r (IsOfGroup launch group)
+listed_of_group launch group (Ok came) there is = (there, is)
+listed_of_group launch group (Err error) there is = tt
 
 -- the results of a round in order are those that are joined
 module _ (launch : Launch) (first count : ℕ) where

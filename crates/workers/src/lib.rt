@@ -7,6 +7,7 @@ mod round_gate;
 mod round_size;
 mod run;
 mod shares;
+mod spare;
 
 pub use run::run_parallel;
 pub use workers_draw::gate::{Gate, OpenGate};

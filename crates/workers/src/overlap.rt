@@ -13,6 +13,7 @@ ghost use Rattle.workers.specs.Results.{AreOfRound};
 use crate::round::Round;
 use crate::round_gate::RoundGate;
 use crate::shares::rounds_are_shared;
+use crate::spare::SpareLogs;
 use group_run::GroupResult;
 use item_step::Launch;
 use shadow::LastingList;
@@ -34,6 +35,7 @@ pub(crate) fn run_round<'a, G: Gate, R: Threads + Wait + Sync>(
     alloc: Global,
     launch: &'a Launch<'a>,
     buffers: &'a Buffers,
+    spares: &SpareLogs,
     workers: u32,
     gate: &G,
     first: u32,
@@ -47,7 +49,7 @@ pub(crate) fn run_round<'a, G: Gate, R: Threads + Wait + Sync>(
     ensures { IfOk result (λ v. AreOfRound (launch_of (setup_of launch.now) (bytes_in buffers.now)) last first v.items) }
 {
     rounds_are_shared();
-    let round = Round::new(launch, buffers, first, last);
+    let round = Round::new(launch, buffers, spares, first, last);
     let gate = RoundGate { gate, first };
     let results = run_groups(rt, alloc, &round, workers as usize, &gate)?;
     Ok(results)
@@ -60,6 +62,7 @@ pub(crate) fn join_and_run<'a, 'b, G: Gate, R: Threads + Wait + Sync>(
     alloc: Global,
     launch: &'a Launch<'a>,
     buffers: &'a Buffers,
+    spares: &SpareLogs,
     workers: u32,
     gate: &G,
     so_far: JoinedGroups<'b>,
@@ -82,7 +85,7 @@ pub(crate) fn join_and_run<'a, 'b, G: Gate, R: Threads + Wait + Sync>(
     ensures joined { IfOk result.1 (CameOfRound (launch_of (setup_of launch.now) (bytes_in buffers.now)) last) }
 {
     rounds_are_shared();
-    let round = Round::new(launch, buffers, last, end);
+    let round = Round::new(launch, buffers, spares, last, end);
     let gate = RoundGate { gate, first: last };
     run_groups_after(
         rt,

@@ -12,6 +12,7 @@ ghost use Rattle.snapshot_merge.specs.Launches.{group_log};
 ghost use Rattle.spaces_base.specs.Buffers.{bytes_in};
 ghost use Rattle.workers.specs.Results.{IsListed, IsOfGroup, IsStopping, number_of, has_stopped};
 
+use crate::spare::SpareLogs;
 use group_log::GroupLog;
 use group_run::GroupResult;
 use item_step::Launch;
@@ -25,9 +26,11 @@ use workers_draw::work::Work;
 
 /// Some work-groups of a launch on these buffers, which follow one another (OpenCL 1.2, sections 3.2 and 5.8). A group has one run, whatever other groups do.
 #[derive(Clone, Copy)]
-pub(crate) struct Round<'a> {
+pub(crate) struct Round<'a, 's> {
     launch: &'a Launch<'a>,
     buffers: &'a Buffers,
+    /// Logs for them, and for the groups of further rounds
+    spares: &'s SpareLogs,
     /// The number of the first of them
     first: u32,
     count: u32,
@@ -36,9 +39,15 @@ pub(crate) struct Round<'a> {
     ghost some: { 0 < group_items (setup_of launch.now).range },
 }
 
-impl<'a> Round<'a> {
+impl<'a, 's> Round<'a, 's> {
     /// The groups of a launch from one on up to another, which isn't among them.
-    pub(crate) fn new(launch: &'a Launch<'a>, buffers: &'a Buffers, first: u32, last: u32) -> Self
+    pub(crate) fn new(
+        launch: &'a Launch<'a>,
+        buffers: &'a Buffers,
+        spares: &'s SpareLogs,
+        first: u32,
+        last: u32,
+    ) -> Self
         requires whole { HasGroups (setup_of launch.now) }
         requires some { 0 < group_items (setup_of launch.now).range }
         requires order { first ≤ last }
@@ -51,16 +60,30 @@ impl<'a> Round<'a> {
         Round {
             launch,
             buffers,
+            spares,
             first,
             count: last - first,
         }
     }
 }
 
-/// A result with the accesses of its log that tell other groups something new in place of the log: the join asks for no more. All else of the
-/// log is given back.
-fn shortened<'a>(came: GroupResult<Overlay<'a>, GroupLog>) -> GroupResult<Overlay<'a>, LastingList>
-    ensures { (launch : TheLaunch) (group : ℕ) → IsResult (λ overlay. overlay.bytes) group_log launch group came.entry → IsListed launch group result }
+/// The accesses of a log that tell other groups something new. The log serves a further group. An error is out of memory.
+fn listed(alloc: Global, spares: &SpareLogs, log: GroupLog) -> Result<LastingList, AllocError>
+    ensures { IfOk result (λ list. StandsWith list.has_last list.entries.items (group_log log).accesses) }
+{
+    let list = log.list(alloc)?;
+    spares.give(alloc, log);
+    Ok(list)
+}
+
+/// A result with the accesses of its log that tell other groups something new in place of the log: the join asks for no more. The log serves a
+/// further group. An error is out of memory.
+fn shortened<'a>(
+    alloc: Global,
+    spares: &SpareLogs,
+    came: GroupResult<Overlay<'a>, GroupLog>,
+) -> Result<GroupResult<Overlay<'a>, LastingList>, AllocError>
+    ensures { (launch : TheLaunch) (group : ℕ) → IsResult (λ overlay. overlay.bytes) group_log launch group came.entry → IfOk result (IsListed launch group) }
 {
     match came {
         GroupResult::Done {
@@ -68,27 +91,33 @@ fn shortened<'a>(came: GroupResult<Overlay<'a>, GroupLog>) -> GroupResult<Overla
             spaces,
             log,
             runs,
-        } => GroupResult::Done {
-            group,
-            spaces,
-            log: log.into_list(),
-            runs,
-        },
+        } => {
+            let log = listed(alloc, spares, log)?;
+            Ok(GroupResult::Done {
+                group,
+                spaces,
+                log,
+                runs,
+            })
+        }
         GroupResult::Stopped {
             group,
             fault,
             log,
             runs,
-        } => GroupResult::Stopped {
-            group,
-            fault,
-            log: log.into_list(),
-            runs,
-        },
+        } => {
+            let log = listed(alloc, spares, log)?;
+            Ok(GroupResult::Stopped {
+                group,
+                fault,
+                log,
+                runs,
+            })
+        }
     }
 }
 
-impl<'a> Work for Round<'a> {
+impl<'a> Work for Round<'a, '_> {
     type Output = GroupResult<Overlay<'a>, LastingList>;
 
     ghost count = { λ w. w.count };
@@ -111,9 +140,9 @@ impl<'a> Work for Round<'a> {
         group: u32,
     ) -> Result<GroupResult<Overlay<'a>, LastingList>, AllocError> {
         let number = self.first + group;
-        let log = GroupLog::new(alloc, self.launch.range().uniform);
+        let log = self.spares.take(alloc, self.launch.range().uniform);
         let came = one_group(alloc, self.launch, self.buffers, number, log)?;
-        Ok(shortened(came))
+        shortened(alloc, self.spares, came)
     }
 
     fn number(&self, came: &GroupResult<Overlay<'a>, LastingList>) -> u32 {
@@ -124,7 +153,9 @@ impl<'a> Work for Round<'a> {
         group.saturating_sub(self.first)
     }
 
-    fn stopped(came: &GroupResult<Overlay<'a>, LastingList>) -> bool {
+    fn stopped(came: &GroupResult<Overlay<'a>, LastingList>) -> bool
+        ensures { result ≡ has_stopped came.now }
+    {
         match came {
             GroupResult::Done { .. } => false,
             GroupResult::Stopped { .. } => true,

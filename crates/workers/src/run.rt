@@ -12,6 +12,7 @@ ghost use Rattle.spaces_base.specs.Buffers.{bytes_in};
 use crate::overlap::{join_and_run, run_round};
 use crate::round_gate::GateAround;
 use crate::round_size::{first_round, next_round};
+use crate::spare::SpareLogs;
 use clmodel::outcome::Outcome;
 use item_step::Launch;
 use snapshot_merge::{
@@ -39,7 +40,7 @@ fn outcome_of(launch: &Launch<'_>, buffers: &Buffers, end: RoundEnd<'_>, groups:
 }
 
 /// The canonical run of a launch by some workers, in rounds. The calling thread joins the groups of a round in their order while the others
-/// run the next, and then works with them.
+/// run the next, and then works with them. The logs of groups that are done serve further groups, of all rounds.
 fn run_rounds<G: Gate, R: Threads + Wait + Sync>(
     rt: &R,
     alloc: Global,
@@ -52,16 +53,19 @@ fn run_rounds<G: Gate, R: Threads + Wait + Sync>(
     requires workers { (1 ≤ workers) × (workers ≤ 16) }
     ensures { IfOk result (Concludes (launch_of (setup_of launch.now) (bytes_in buffers.now))) }
 {
+    let spares = SpareLogs::new(alloc)?;
     let groups = group_count(launch);
     let mut so_far = JoinedGroups::new(alloc, launch, buffers)?;
     let mut first = 0;
     let mut last = first_round(workers).min(groups);
-    let mut results = run_round(rt, alloc, launch, buffers, workers, gate, first, last)?;
+    let mut results = run_round(
+        rt, alloc, launch, buffers, &spares, workers, gate, first, last,
+    )?;
     while last < groups {
         let left = groups - last;
         let end = last + next_round(&results, workers, left).min(left);
         let (next, joined) = join_and_run(
-            rt, alloc, launch, buffers, workers, gate, so_far, results, first, last, end,
+            rt, alloc, launch, buffers, &spares, workers, gate, so_far, results, first, last, end,
         );
         match joined? {
             RoundEnd::Goes(joined) => so_far = joined,

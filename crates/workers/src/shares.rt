@@ -5,11 +5,13 @@ ghost use Rattle.clmodel.specs.contracts.tree.Function as FunctionType;
 ghost use Rattle.clmodel.specs.contracts.tree.Tree as TreeType;
 ghost use Rattle.item_step.specs.contracts.launch.Launch as LaunchType;
 ghost use Rattle.workers.specs.contracts.round.Round as RoundType;
+ghost use Rattle.workers.specs.contracts.spare.SpareLogs as SpareLogsType;
 
 use clmodel::setup::{Argument, Range};
 use clmodel::text::Name;
 use clmodel::tree::{Parameter, Statement};
 use clnum::IntType;
+use group_log::logs_are_sent;
 use regcode::Code;
 use spaces_base::Buffers;
 use std::marker::Sync;
@@ -49,10 +51,18 @@ fn launches_are_shared()
     is_shared::<Vec<u32>>();
 }
 
+/// Logs of groups that are done may be shared, behind their lock.
+fn spares_are_shared()
+    ensures { IsSync SpareLogsType.the_row }
+{
+    logs_are_sent();
+}
+
 /// Groups of launches may be shared.
 pub(crate) fn rounds_are_shared()
-    ensures { (ℓ : NamedLft) → IsSync (RoundType.the_row ℓ) }
+    ensures { (ℓ ℓs : NamedLft) → IsSync (RoundType.the_row ℓ ℓs) }
 {
     launches_are_shared();
     is_shared::<Buffers>();
+    spares_are_shared();
 }

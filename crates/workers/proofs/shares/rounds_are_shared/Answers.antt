@@ -6,7 +6,8 @@ use Rattle.workers.specs.contracts.round.Round as Round
 use Rattle.workers.proofs.shares.rounds_are_shared.Goals as goal
 
 pub returns : goal.returns
-returns c ℓ =
+returns c ℓ ℓs =
     let launch = c.launches_are_shared.ensures ℓ in
     let buffers : IsSync (Table.the_row Bytes.the_row) = record { shared = c.is_shared.ensures.shared } in
-    declared_sync (Round.the_type ℓ) (search (sendable, launch), (search (sendable, buffers), (search sendable, (search sendable, tt))))
+    declared_sync (Round.the_type ℓ ℓs)
+    (search (sendable, launch), (search (sendable, buffers), (search (sendable, c.spares_are_shared.ensures), (search sendable, (search sendable, tt)))))

@@ -3,7 +3,7 @@ use Rattle.clmodel.specs.Launch.{Launch}
 use Rattle.clmodel.specs.Next.{launch_of}
 use Rattle.item_step.specs.Launches.{setup_of}
 use Rattle.spaces_base.specs.Buffers.{bytes_in}
-use Rattle.workers.proofs.Runs.{below_there}
+use Rattle.workers.proofs.Runs.{below_there, listed_of_group}
 use Rattle.workers.proofs.round.RoundWork.one_group.Goals as goal
 
 pub returns : goal.returns
@@ -12,4 +12,4 @@ returns c =
     let group = round.first + c.args.group in
     let launch : Launch = launch_of (setup_of round.launch.now) (bytes_in round.buffers.now) in
     let there = below_there group (round.first + round.count) launch.group_size launch.items round.there round.some (omega (arith, c.requires)) in
-    (there, c.shortened.ensures launch group c.in_ok-came.ensures)
+    listed_of_group launch group c.shortened.result there (c.shortened.ensures launch group c.in_ok-came.ensures)

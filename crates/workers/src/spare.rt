@@ -1,0 +1,88 @@
+//! Logs of groups that are done, for groups that are to run.
+
+ghost use Rattle.std.specs.Prelude.{◌≡◌, ◌<◌, IfSome};
+ghost use Rattle.shadow_list.specs.Log.{fresh_log};
+ghost use Rattle.snapshot_merge.specs.Launches.{group_log};
+
+use group_log::GroupLog;
+use std::alloc::{AllocError, Global};
+use std::hint::spin_loop;
+use std::sync::{Mutex, MutexGuard};
+
+/// At most this many logs are kept: one for each worker that there may be.
+const MOST: usize = 16;
+
+/// How often the logs are asked for while other threads are at them.
+const TRIES: u32 = 8;
+
+/// A log without accesses, in the memory of a group that is done.
+#[derive(Drop)]
+pub(crate) struct Spare {
+    log: GroupLog,
+    ghost fresh: { group_log log ≡ fresh_log log.global.uniform },
+}
+
+impl Spare {
+    /// A log that has served a group.
+    fn of(alloc: Global, log: GroupLog) -> Self {
+        Spare {
+            log: log.cleared(alloc),
+        }
+    }
+}
+
+/// Logs of groups of a launch that are done, for further groups of it: the memory of a new log is touched for the first time, which takes long.
+/// No thread waits here for another, and no result depends on which log a group gets.
+#[derive(Drop)]
+pub(crate) struct SpareLogs {
+    logs: Mutex<Vec<Spare>>,
+}
+
+impl SpareLogs {
+    /// No logs yet. An error is out of memory.
+    pub(crate) fn new(alloc: Global) -> Result<Self, AllocError> {
+        let logs = Vec::with_capacity(alloc, MOST)?;
+        Ok(SpareLogs {
+            logs: Mutex::new(logs),
+        })
+    }
+
+    /// The logs, unless other threads are at them each time.
+    fn open(&self) -> Option<MutexGuard<'_, Vec<Spare>>> {
+        for _ in 0..TRIES {
+            if let Some(logs) = self.logs.try_lock() {
+                return Some(logs);
+            }
+            spin_loop();
+        }
+        None
+    }
+
+    /// A log that has served a group, if one is there.
+    fn taken(&self) -> Option<GroupLog>
+        ensures { IfSome result (λ log. group_log log ≡ fresh_log log.global.uniform) }
+    {
+        let spare = self.open()?.pop()?;
+        Some(spare.log)
+    }
+
+    /// A log without accesses, of a launch that is uniform or not: one that has served a group, or a new one.
+    pub(crate) fn take(&self, alloc: Global, uniform: bool) -> GroupLog
+        ensures { group_log result ≡ fresh_log uniform }
+    {
+        match self.taken() {
+            Some(log) if log.is_uniform() == uniform => log,
+            _ => GroupLog::new(alloc, uniform),
+        }
+    }
+
+    /// Keeps the memory of a log for a further group, where there is room.
+    pub(crate) fn give(&self, alloc: Global, log: GroupLog) {
+        let spare = Spare::of(alloc, log);
+        if let Some(mut logs) = self.open() {
+            if logs.len() < logs.capacity() {
+                logs.push_reserved(spare);
+            }
+        }
+    }
+}
