@@ -7,7 +7,7 @@ use Rattle.std.specs.List.{All}
 use Rattle.std.specs.Map.{lookup, set_value, values_of}
 use Rattle.std.specs.Option.{option_map_or}
 use Rattle.clmodel.specs.Setup.{kernel_in}
-use Rattle.clmodel.specs.Tree.{Func, program}
+use Rattle.clmodel.specs.Tree.{Func, Program, program}
 use Rattle.clmodel.specs.Typing.Sizes.{parameter_limit}
 use Rattle.clmodel.specs.declared.setup.Argument.{Argument}
 use Rattle.clmodel.specs.declared.tree.Parameter.{Parameter}
@@ -15,6 +15,8 @@ use Rattle.cltypes.specs.declared.checked.Checked.{Checked}
 use Rattle.host_commands.specs.Kernels.{KernelState, new_kernel, parameters_of}
 use Rattle.lower.proofs.Lowered.{few_arguments}
 use Rattle.lower.specs.Lowers.{IsLowered}
+use Rattle.regcode.specs.Listing.{Listing}
+use Rattle.renumbering.specs.Same.{IsRenumbered}
 use Rattle.spaces_base.specs.Tables.{Table, is, find}
 use Rattle.device.specs.declared.compiled.CompiledKernel.{CompiledKernel}
 use Rattle.device.specs.Kept.{ActsAs, IsCompiled, AllCompiled, with_argument_set}
@@ -90,6 +92,14 @@ made_has_few checked number program_name parameters kernel of_parameters made =
     let given : length kernel.arguments ≡ length parameters = ap (λ k. length k.arguments) made ∙ length-replicate (length parameters) None in
     let same : length parameters ≡ length (parameters_of (program checked.tree) number) = ap length of_parameters in
     omega (arith, given, same, few_parameters checked number)
+
+-- code with other registers that acts alike is a kernel's code too
+pub renumbered_is_lowered : (program : Program) (number : ℕ) (code same : Listing) → IsLowered program number code → IsRenumbered code same → IsLowered program number same
+renumbered_is_lowered program number code same lowered is =
+    record {
+      there = lowered.there;
+      acts_as = λ setup of_program of_kernel item answers. is.acts setup item answers ∙ lowered.acts_as setup of_program of_kernel item answers;
+    }
 
 -- a kernel that was made of a program that is there
 pub made_is_compiled : (programs : Table Checked) (compiled : CompiledKernel) (checked : Checked) → find programs compiled.kernel.program ≡ Some checked

@@ -17,6 +17,7 @@ use cltypes::Checked;
 use host_commands::kernel::Kernel;
 use lower::{LowerFault, lower_kernel};
 use regcode::Code;
+use renumbering::renumber;
 use spaces_base::Table;
 use std::alloc::{AllocError, Global};
 
@@ -27,16 +28,17 @@ pub(crate) struct CompiledKernel {
     pub(crate) code: Code,
 }
 
-/// The code of a program's kernel, by the number of its name. An error is out of memory.
+/// The code of a program's kernel, by the number of its name, with the registers that its instructions name. An error is out of memory.
 pub(crate) fn code_of(alloc: Global, checked: &Checked, number: u32) -> Result<Code, AllocError>
     requires { is_some (kernel_in (program checked.now.tree).functions number) ≡ true }
     ensures { IfOk result (IsLowered (program checked.now.tree) number) }
 {
-    match lower_kernel(alloc, checked, number) {
-        Ok(code) => Ok(code),
-        Err(LowerFault::OutOfMemory) => Err(AllocError),
+    let code = match lower_kernel(alloc, checked, number) {
+        Ok(code) => code,
+        Err(LowerFault::OutOfMemory) => return Err(AllocError),
         Err(LowerFault::NoSuchKernel) => unreachable!(),
-    }
+    };
+    renumber(alloc, code)
 }
 
 /// Whether an argument of a kernel names a buffer.
