@@ -6,21 +6,19 @@ use Rattle.std.proofs.lemmas.Option.{none-some, same_Some, slice_get-map, slice_
 use Rattle.std.specs.Option.{option_map}
 use Rattle.clmodel.specs.Next.{Continuation, finish, walk}
 use Rattle.clmodel.specs.Setup.{Setup}
-use Rattle.clmodel.specs.declared.action.Answer.{Answer}
 use Rattle.clmodel.specs.declared.operand.Operand.{Operand}
 use Rattle.clmodel.specs.declared.operand.Operand.TheVariants.{Pointed}
 use Rattle.regcode.specs.Listing.{Listing}
-use Rattle.regcode.specs.Machine.{State, ItemContext, Registers, entry_at, with_entry, reg, put, onward, with_put, with_array, with_turns, passed, read, act, within, runs_from, acts, at_start, given_of}
+use Rattle.regcode.specs.Machine.{State, ItemContext, entry_at, with_entry, onward, with_put, with_array, with_turns, passed, read, act, within, runs_from, acts, at_start, given_of}
 use Rattle.regcode.specs.Rules.{IsVerified, loops_at}
-use Rattle.regcode.specs.Safety.{Suits, NeverSticks, Below, sources}
+use Rattle.regcode.specs.Safety.{Suits, InTables, Below, sources}
 use Rattle.regcode.specs.declared.instruction.FetchOperands.TheVariants as operands
 use Rattle.regcode.specs.declared.instruction.Instruction.{Instruction}
 use Rattle.regcode.specs.declared.instruction.Instruction.TheVariants as instruction
-use Rattle.regcode.specs.declared.tables.Register.{Register}
 use Rattle.regcode.proofs.Agreement.{Alike, number_alike, pointing_alike, known_alike, test_alike, moved_alike, combined_alike, given_value_alike, read_alike, write_alike, ask_alike, tick_alike, store_alike}
-use Rattle.regcode.proofs.Registers.{item_put, item_kept, reg_put, reg_kept}
+use Rattle.regcode.proofs.Registers.{item_put, item_kept}
 use Rattle.regcode.proofs.SafetyLaws.{never_sticks}
-use Rattle.renumbering.specs.Renamed.{renamed, renamed_operands}
+use Rattle.renumbering.specs.Renamed.{renamed}
 use Rattle.renumbering.specs.Same.{ActsAlike}
 
 -- New code has the old instructions with their registers renamed. The registers that get a place in the new table get places of their own, with their own entries.
@@ -36,11 +34,11 @@ all_alike d zero i = refl
 all_alike d (suc count) zero = refl
 all_alike d (suc count) (suc i) = all_alike d count i
 
--- Each register that an instruction of verified code reads is in its table.
-pub reads_within : (code : Listing) → IsVerified code → ItemContext → (place : ℕ) (i : Instruction) → slice_get code.instructions place ≡ Some i → Below (length code.registers) (sources i)
-reads_within code ok given place i here =
+-- All that an instruction of verified code names is in its tables.
+pub tables_within : (code : Listing) → IsVerified code → ItemContext → (place : ℕ) (i : Instruction) → slice_get code.instructions place ≡ Some i → InTables code i
+tables_within code ok given place i here =
     let step = (never_sticks code ok).next given s suits (λ _. finish) (λ _. finish) in
-    subst (λ (j : Instruction). Below (length code.registers) (sources j)) (same_Some step.0 i (sym step.1 ∙ here)) step.2.reads
+    subst (InTables code) (same_Some step.0 i (sym step.1 ∙ here)) step.2
   where
     s : State
     s =
@@ -182,7 +180,7 @@ module _ (rename : ℕ → ℕ) (old new : Listing) (is : IsRenamed rename old n
             → Alike ticks (act given o (within given old.instructions after count) after s) (does (slice_get new.instructions s.place))
         there again None here = λ answers. sym (ap (λ o. walk (does o) ticks answers) (placed None here))
         there again (Some i) here =
-            λ answers. act_same ticks _ _ after after' again later s others same i (reads_within new ok other s.place (renamed rename i) (placed (Some i) here)) answers
+            λ answers. act_same ticks _ _ after after' again later s others same i (tables_within new ok other s.place (renamed rename i) (placed (Some i) here)).reads answers
             ∙ sym (ap (λ o. walk (does o) ticks answers) (placed (Some i) here))
 
     as_long : length new.instructions ≡ length old.instructions

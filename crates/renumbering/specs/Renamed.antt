@@ -1,6 +1,8 @@
 -- Instructions with other registers (own).
-use Rattle.std.specs.Prelude.{ℕ}
+use Rattle.std.specs.Prelude.{ℕ, List, ◌++◌}
+use Rattle.std.specs.List.{flat_map}
 use Rattle.std.specs.Option.{option_map}
+use Rattle.regcode.specs.Safety.{sources, targets}
 use Rattle.regcode.specs.declared.instruction.FetchOperands.{FetchOperands}
 use Rattle.regcode.specs.declared.instruction.FetchOperands.TheVariants as operands
 use Rattle.regcode.specs.declared.instruction.Instruction.{Instruction}
@@ -43,3 +45,11 @@ renamed name (instruction.Jump by) = instruction.Jump by
 renamed name (instruction.JumpIfZero register by) = instruction.JumpIfZero (name register) by
 renamed name (instruction.Back by) = instruction.Back by
 renamed name instruction.End = instruction.End
+
+-- the registers that an instruction names: the one that it writes, and those that it reads (own)
+abbrev pub registers_named : Instruction → List ℕ
+registers_named i = targets i ++ sources i
+
+-- the registers that instructions name (own)
+abbrev pub all_named : List Instruction → List ℕ
+all_named instructions = flat_map registers_named instructions

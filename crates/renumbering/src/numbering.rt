@@ -1,9 +1,10 @@
 //! The numbers of registers in a table without gaps.
 #![tactic(auto)]
 
-ghost use Rattle.std.specs.Prelude.{◌≡◌, ◌++◌, [], ◌∷◌, map, IfOk};
-ghost use Rattle.regcode.specs.Safety.{sources, targets, operand_sources};
-ghost use Rattle.renumbering.specs.Numbers.{IsNumbering, number_of, no_number, listed};
+ghost use Rattle.std.specs.Prelude.{◌≡◌, [], ◌∷◌, map, IfOk, OnOk};
+ghost use Rattle.regcode.specs.Safety.{operand_sources};
+ghost use Rattle.renumbering.specs.Renamed.{registers_named, all_named};
+ghost use Rattle.renumbering.specs.Numbers.{IsNumbering, Gives, number_of, no_number, listed};
 
 use regcode::{FetchOperands, Instruction, Register};
 use std::alloc::{AllocError, Global};
@@ -33,11 +34,15 @@ impl Numbering {
     /// Gives a register of the old table the next number and the next entry, unless it has a number, or there are no more of them.
     fn give(&mut self, old: &[Register], register: u32) -> Result<(), AllocError>
         requires { IsNumbering old.now self.old.registers.items self.old.numbers.items }
-        ensures { IsNumbering old.now self.new.registers.items self.new.numbers.items }
+        ensures numbering { IsNumbering old.now self.new.registers.items self.new.numbers.items }
+        ensures given { OnOk result (Gives old.now (register ∷ []) self.old.numbers.items self.new.numbers.items) }
     {
         let place = register as usize;
+        if place >= old.len() || self.numbers[place].is_some() {
+            return Ok(());
+        }
         let count = self.registers.len();
-        if place < old.len() && self.numbers[place].is_none() && count < u32::MAX as usize {
+        if count < u32::MAX as usize {
             self.registers.push(old[place])?;
             self.numbers[place] = Some(count as u32);
         }
@@ -47,7 +52,8 @@ impl Numbering {
     /// Gives each of these registers a number.
     fn give_each(&mut self, old: &[Register], registers: &[Option<u32>]) -> Result<(), AllocError>
         requires { IsNumbering old.now self.old.registers.items self.old.numbers.items }
-        ensures { IsNumbering old.now self.new.registers.items self.new.numbers.items }
+        ensures numbering { IsNumbering old.now self.new.registers.items self.new.numbers.items }
+        ensures given { OnOk result (Gives old.now (listed registers.now) self.old.numbers.items self.new.numbers.items) }
     {
         for register in registers {
             if let Some(register) = register {
@@ -71,7 +77,7 @@ fn named_operands(operands: FetchOperands) -> (Option<u32>, Option<u32>)
 
 /// The registers that an instruction names, four at most: first the one that it writes, then its operands.
 fn named(instruction: &Instruction) -> [Option<u32>; 4]
-    ensures { listed result ≡ targets instruction.now ++ sources instruction.now }
+    ensures { listed result ≡ registers_named instruction.now }
 {
     match *instruction {
         Instruction::Constant { to, .. }
@@ -137,7 +143,8 @@ pub(crate) fn numbered(
     instructions: &[Instruction],
     old: &[Register],
 ) -> Result<Numbering, AllocError>
-    ensures { IfOk result (λ numbering. IsNumbering old.now numbering.registers.items numbering.numbers.items) }
+    ensures numbering { IfOk result (λ numbering. IsNumbering old.now numbering.registers.items numbering.numbers.items) }
+    ensures given { IfOk result (λ numbering. Gives old.now (all_named instructions.now) (map no_number old.now) numbering.numbers.items) }
 {
     let mut numbering = Numbering {
         numbers: no_numbers(alloc, old)?,
