@@ -27,6 +27,8 @@ pub enum Slot<'a, D> {
 
 impl<'a, D: Runnable> Slot<'a, D> {
     /// Starts the item where it wasn't asked yet. An error is out of memory.
+    // A call would cost each access more than the look at the slot that it comes to.
+    #[inline(always)]
     fn start(&mut self) -> Result<(), AllocError>
         ensures same { (answers : List Answer) → acts_of D.Described.launch self.new answers ≡ acts_of D.Described.launch self.old answers }
         ensures asked { OnOk result (IsAsked self.new) }
