@@ -15,6 +15,9 @@ pub(crate) trait OfBytes {
 /// is one value for each width and each kind of operation.
 const MOST: u32 = 96;
 
+/// So many slots are made at a time, since most come one after another.
+const SLOTS: usize = 16;
+
 /// Where the accesses begin that a value tells of, and where the next value is.
 #[derive(Clone, Copy)]
 struct Link {
@@ -88,7 +91,7 @@ impl<T: OfBytes + Copy> Chains<T> {
     {
         if self.newest.len() <= slot {
             self.newest
-                .resize(slot.checked_add(1).ok_or(AllocError)?, 0)?;
+                .resize(slot.checked_add(SLOTS).ok_or(AllocError)?, 0)?;
         }
         self.values.reserve(1)?;
         let older = self.newest[slot];

@@ -17,12 +17,12 @@ use std::alloc::{AllocError, Global};
 /// The log of a group that is running, which keeps only accesses that tell a conflict that none before tells. Its list, of all accesses, is
 /// there for proofs alone.
 ///
-/// A new access costs one look-up in a hash table, a step or two for each of its bytes, and a look at what is kept of the accesses that begin
-/// in the same word of four bytes, at most one for each first byte, width and kind; and two look-ups more where it is kept. While none
-/// conflict, at most ten are kept of each first byte, width and kind, whatever their number, and those of an address space are let go at a
-/// barrier that fences it. What is known of bytes and places stays then: some 300 bytes for each cell of eight bytes that was touched, and at
-/// most 150 for each first byte, width and kind. Where an access may conflict all kept ones are walked for the exact answer, which ends a
-/// launch where there is a conflict.
+/// A new access costs one look-up in a hash table, a step or two for each word of four bytes, or for each byte of a word that was accessed in
+/// part, and a look at what is kept of the accesses that begin in the same word, at most one for each first byte, width and kind; and two
+/// look-ups more where it is kept. While none conflict, at most ten are kept of each first byte, width and kind, whatever their number, and
+/// those of an address space are let go at a barrier that fences it. What is known of bytes and places stays then: some 110 bytes for each cell
+/// of eight bytes that was touched, 80 more for each word that was accessed in part, and at most 160 for each first byte, width and kind. Where
+/// an access may conflict all kept ones are walked for the exact answer, which ends a launch where there is a conflict.
 #[derive(Drop)]
 pub struct GroupLog {
     local: Side,
