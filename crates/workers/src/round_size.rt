@@ -14,8 +14,14 @@ const ROUND_ACCESSES: usize = 65_536;
 /// What a result holds beside its accesses takes about as much as this many of them.
 const ACCESSES_BESIDE: usize = 96;
 
-/// How many groups the first round has for each worker, and each other one at least.
-const GROUPS_EACH: u32 = 2;
+/// How many groups the first round has for each worker.
+const FIRST_EACH: u32 = 4;
+
+/// How many groups each other round has for each worker at least, unless fewer are left.
+const LEAST_EACH: u32 = 2;
+
+/// How many groups the last round has for each worker at most, about: no group runs beside its join.
+const LAST_EACH: u32 = 8;
 
 /// How many accesses a result keeps.
 fn kept_by(came: &GroupResult<Overlay<'_>, LastingList>) -> usize {
@@ -39,17 +45,22 @@ pub(crate) fn first_round(workers: u32) -> u32
     requires { (1 ≤ workers) × (workers ≤ 16) }
     ensures { 1 ≤ result }
 {
-    GROUPS_EACH * workers
+    FIRST_EACH * workers
 }
 
 /// How many groups the next round has, of those that are left: as many as may be if each keeps as many accesses as those of the round before,
-/// and no more than half of them, so that the last join, which no group runs beside, is short.
+/// but a quarter of them less where more are left than the last round is to have.
 pub(crate) fn next_round(results: &Results<'_>, workers: u32, left: u32) -> u32
     requires { (1 ≤ workers) × (workers ≤ 16) }
     ensures { 1 ≤ result }
 {
     let kept = kept_by_all(results) / results.len().max(1);
     let most = ROUND_ACCESSES / kept.saturating_add(ACCESSES_BESIDE);
-    let most = (most as u32).min(left / 2);
-    most.max(GROUPS_EACH * workers)
+    let wanted = if left <= LAST_EACH * workers {
+        left
+    } else {
+        left - left / 4
+    };
+    let most = (most as u32).min(wanted);
+    most.max(LEAST_EACH * workers)
 }
