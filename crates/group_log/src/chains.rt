@@ -11,8 +11,8 @@ pub(crate) trait OfBytes {
     fn is_of(&self, x: &Access) -> bool;
 }
 
-/// At most this many values of one slot are looked at. The accesses that begin in a word are of four first bytes at most, and of each there
-/// is one value for each width and each kind of operation.
+/// At most this many values of one slot are looked at. Four first bytes share a slot, and each has 17 values at most: of loads and of stores of
+/// four widths, and of nine kinds of atomic operations of one.
 const MOST: u32 = 96;
 
 /// So many slots are made at a time, since most come one after another.

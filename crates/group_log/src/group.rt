@@ -67,7 +67,7 @@ impl GroupLog {
 
     /// Forgets all accesses, in the first interval of both address spaces. The memory that told accesses of the group is used again where much
     /// of it was in use: to clear it takes time in proportion to all of it.
-    pub fn clear(&mut self, alloc: Global)
+    fn clear(&mut self, alloc: Global)
         ensures { logged (all_of self.new.whole.items) self.new.local.interval self.new.global.interval self.new.global.uniform ≡ fresh_log self.old.global.uniform }
     {
         self.local.clear(alloc);
@@ -104,7 +104,7 @@ impl GroupLog {
         self.lasting.list(alloc)
     }
 
-    /// The same for an access of local memory.
+    /// Notes an access of local memory, as `note` does.
     fn note_local(&mut self, entry: Entry) -> Result<Option<Hit>, AllocError>
         requires placed { IsPlaced entry }
         requires space { in_buffer entry.access.region ≡ false }
@@ -120,7 +120,7 @@ impl GroupLog {
         Ok(found)
     }
 
-    /// The same for an access of a buffer.
+    /// Notes an access of a buffer, as `note` does.
     fn note_global(&mut self, entry: Entry) -> Result<Option<Hit>, AllocError>
         requires placed { IsPlaced entry }
         requires space { in_buffer entry.access.region ≡ true }

@@ -61,6 +61,7 @@ fn registers_of(instruction: &Instruction) -> Option<(u32, Option<u32>)> {
     }
 }
 
+/// Registers are numbered in the order in which instructions name them first, which no clause says.
 #[test]
 fn named_registers_alone(rt: HostRuntime) -> Result<(), Fail> {
     let Some(code) = code(rt.alloc())? else {

@@ -20,7 +20,7 @@ const FIRST_EACH: u32 = 4;
 /// How many groups each other round has for each worker at least, unless fewer are left.
 const LEAST_EACH: u32 = 2;
 
-/// How many groups the last round has for each worker at most, about: no group runs beside its join.
+/// How many groups the last round has for each worker at most: no group runs beside its join.
 const LAST_EACH: u32 = 8;
 
 /// How many accesses a result keeps.
@@ -49,7 +49,7 @@ pub(crate) fn first_round(workers: u32) -> u32
 }
 
 /// How many groups the next round has, of those that are left: as many as may be if each keeps as many accesses as those of the round before,
-/// but a quarter of them less where more are left than the last round is to have.
+/// and at most three quarters of them where more are left than the last round is to have.
 pub(crate) fn next_round(results: &Results<'_>, workers: u32, left: u32) -> u32
     requires { (1 ≤ workers) × (workers ≤ 16) }
     ensures { 1 ≤ result }

@@ -23,7 +23,7 @@ pub(crate) struct Spare {
 }
 
 impl Spare {
-    /// A log that has served a group.
+    /// The log of a group that is done, cleared.
     fn of(alloc: Global, log: GroupLog) -> Self {
         Spare {
             log: log.cleared(alloc),
@@ -58,7 +58,7 @@ impl SpareLogs {
         None
     }
 
-    /// A log that has served a group, if one is there.
+    /// A log that has served a group, if one is there and no other thread is at them each time.
     fn taken(&self) -> Option<GroupLog>
         ensures { IfSome result (λ log. group_log log ≡ fresh_log log.global.uniform) }
     {

@@ -45,7 +45,7 @@ fn two_workers_meet(rt: HostRuntime) -> Result<(), Fail> {
     Ok(())
 }
 
-/// A call by the calling thread waits until the other worker runs a group.
+/// A call by the calling thread waits until the other worker has a group at the gate, which waits there until the call has begun.
 #[test]
 fn a_group_runs_beside_a_call(rt: HostRuntime) -> Result<(), Fail> {
     let groups = Numbers {
@@ -63,6 +63,7 @@ fn a_group_runs_beside_a_call(rt: HostRuntime) -> Result<(), Fail> {
         || gate.has_come(),
     );
     assert!(rt; has_come);
+    assert_eq!(rt; gate.met(), 4);
     let results = results?;
     assert_eq!(rt; results.len(), 4);
     assert!(rt; are_in_order(results.as_slice()));

@@ -53,29 +53,42 @@ impl Gate for Meeting {
     fn leave(&self, _group: u32) {}
 }
 
-/// Tells when a group has entered.
+/// Holds groups until a call has begun, which waits until one has entered.
 #[derive(Drop)]
 pub struct Coming {
+    called: AtomicU64,
     entered: AtomicU64,
+    met: AtomicU64,
 }
 
 impl Coming {
-    /// A gate that no group has entered.
+    /// A gate that no group has entered, before the call.
     pub fn new() -> Self {
         Coming {
+            called: AtomicU64::new(0),
             entered: AtomicU64::new(0),
+            met: AtomicU64::new(0),
         }
     }
 
-    /// Waits until a group has entered, and answers whether one has.
+    /// The call: it waits until a group has entered, and answers whether one has.
     pub fn has_come(&self) -> bool {
+        self.called.fetch_add(1, Ordering::SeqCst);
         comes_to(&self.entered, 1)
+    }
+
+    /// How many groups went on since the call had begun.
+    pub fn met(&self) -> u64 {
+        self.met.load(Ordering::SeqCst)
     }
 }
 
 impl Gate for Coming {
     fn enter(&self, _group: u32) {
         self.entered.fetch_add(1, Ordering::SeqCst);
+        if comes_to(&self.called, 1) {
+            self.met.fetch_add(1, Ordering::SeqCst);
+        }
     }
 
     fn leave(&self, _group: u32) {}
