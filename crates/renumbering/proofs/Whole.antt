@@ -12,7 +12,7 @@ use Rattle.regcode.specs.declared.instruction.Instruction.{Instruction}
 use Rattle.regcode.specs.declared.instruction.Instruction.TheVariants as instruction
 use Rattle.regcode.specs.declared.tables.Register.{Register}
 use Rattle.regcode.specs.declared.tables.Tables.{Tables}
-use Rattle.renumbering.specs.Numbers.{number_or_none, number_of, no_number, IsNumbering, Among, Numbered, Gives}
+use Rattle.renumbering.specs.Numbers.{number_or_greatest, number_of, no_number, IsNumbering, Among, Numbered, Gives}
 use Rattle.renumbering.specs.Renamed.{renamed, renamed_operands, all_named}
 use Rattle.renumbering.specs.Same.{IsRenumbered}
 use Rattle.renumbering.proofs.Numbers.{at_most_all, none_there}
@@ -30,11 +30,11 @@ renames old new numbers is instructions arrays =
       arrays = arrays;
     }
   where
-    entry : (r : ℕ) (o : Option ℕ) → entry_at None numbers r ≡ o → number_or_none o < length new.registers → slice_get new.registers (number_or_none o) ≡ slice_get old.registers r
+    entry : (r : ℕ) (o : Option ℕ) → entry_at None numbers r ≡ o → number_or_greatest o < length new.registers → slice_get new.registers (number_or_greatest o) ≡ slice_get old.registers r
     entry r None e inside = let few = is.few in absurd (omega (arith, few, inside))
     entry r (Some n) e inside = is.entry r n e
 
-    one : (r other : ℕ) (o p : Option ℕ) → entry_at None numbers r ≡ o → entry_at None numbers other ≡ p → number_or_none o < length new.registers → number_or_none o ≡ number_or_none p → r ≡ other
+    one : (r other : ℕ) (o p : Option ℕ) → entry_at None numbers r ≡ o → entry_at None numbers other ≡ p → number_or_greatest o < length new.registers → number_or_greatest o ≡ number_or_greatest p → r ≡ other
     one r other None p e f inside same = let few = is.few in absurd (omega (arith, few, inside))
     one r other (Some n) None e f inside same = let few = is.few in absurd (omega (arith, few, inside, same))
     one r other (Some n) (Some m) e f inside same = is.distinct r other n e (f ∙ ap Some (sym same))
@@ -131,7 +131,7 @@ module _ (code : Listing) (old tables : Tables) (instructions : List Instruction
       go (inl h) = absurd (false≢true (sym (ap is_some (none_there code.registers from.0)) ∙ h))
       go (inr a) =
           subst (λ (rs : List ℕ). Among r rs) (sym (ap all_named is_renamed ∙ all_renamed (number_of numbers) code.instructions))
-          (subst (λ (n : ℕ). Among n (map (number_of numbers) (all_named code.instructions))) (ap number_or_none from.1) (among_map (number_of numbers) from.0 (all_named code.instructions) a))
+          (subst (λ (n : ℕ). Among n (map (number_of numbers) (all_named code.instructions))) (ap number_or_greatest from.1) (among_map (number_of numbers) from.0 (all_named code.instructions) a))
 
   -- Code with the new table and the renamed instructions.
   pub renumbered : IsVerified same → IsRenumbered code same
