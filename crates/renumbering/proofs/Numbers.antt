@@ -7,15 +7,15 @@ use Rattle.std.specs.Option.{unwrap_or}
 use Rattle.regcode.specs.Machine.{entry_at, with_entry}
 use Rattle.regcode.specs.declared.tables.Register.{Register}
 use Rattle.regcode.proofs.Registers.{item_put, item_kept, entry_is, with_entry_is_set, with_entry_length}
-use Rattle.renumbering.specs.Numbers.{number_or_none, number_of, no_number, how_many, IsNumbering}
+use Rattle.renumbering.specs.Numbers.{number_or_greatest, number_of, no_number, how_many, IsNumbering}
 
 -- the number that is read in the list of them
-pub number_is : (numbers : List (Option ℕ)) (r : ℕ) (found : Option ℕ) → r < length numbers → found ≡ slice_index_or numbers r found → number_or_none found ≡ number_of numbers r
+pub number_is : (numbers : List (Option ℕ)) (r : ℕ) (found : Option ℕ) → r < length numbers → found ≡ slice_index_or numbers r found → number_or_greatest found ≡ number_of numbers r
 number_is numbers r found inside read =
-    ap number_or_none (read ∙ get_or_default numbers r found None inside ∙ sym (entry_is None numbers r))
+    ap number_or_greatest (read ∙ get_or_default numbers r found None inside ∙ sym (entry_is None numbers r))
 
 -- what is read of an option
-pub number_read : (found : Option ℕ) → unwrap_or found 4294967295 ≡ number_or_none found
+pub number_read : (found : Option ℕ) → unwrap_or found 4294967295 ≡ number_or_greatest found
 number_read None = refl
 number_read (Some n) = refl
 

@@ -13,7 +13,7 @@ use Rattle.regcode.specs.declared.instruction.FetchOperands.TheVariants as opera
 use Rattle.regcode.specs.declared.instruction.Instruction.{Instruction}
 use Rattle.regcode.specs.declared.instruction.Instruction.TheVariants as instruction
 use Rattle.regcode.specs.declared.tables.Register.{Register}
-use Rattle.renumbering.specs.Numbers.{number_or_none, number_of, IsNumbering, Among, Numbered}
+use Rattle.renumbering.specs.Numbers.{number_or_greatest, number_of, IsNumbering, Among, Numbered}
 use Rattle.renumbering.specs.Renamed.{renamed, registers_named, all_named}
 use Rattle.renumbering.proofs.Coverage.{among_either, among_first, among_second}
 
@@ -69,14 +69,14 @@ module _ (code : Listing) (news : List Register) (numbers : List (Option ℕ)) (
   entry_kept : (r : ℕ) → Numbered numbers r → slice_get news (number_of numbers r) ≡ slice_get code.registers r
   entry_kept r there = go (entry_at None numbers r) refl there
     where
-      go : (o : Option ℕ) → entry_at None numbers r ≡ o → IsTrue (is_some o) → slice_get news (number_or_none o) ≡ slice_get code.registers r
+      go : (o : Option ℕ) → entry_at None numbers r ≡ o → IsTrue (is_some o) → slice_get news (number_or_greatest o) ≡ slice_get code.registers r
       go (Some n) e h = is.entry r n e
       go None e h = absurd (false≢true h)
 
   placed : (r : ℕ) → Numbered numbers r → number_of numbers r < length news
   placed r there = go (entry_at None numbers r) refl there
     where
-      go : (o : Option ℕ) → entry_at None numbers r ≡ o → IsTrue (is_some o) → number_or_none o < length news
+      go : (o : Option ℕ) → entry_at None numbers r ≡ o → IsTrue (is_some o) → number_or_greatest o < length news
       go (Some n) e h = is.below r n e
       go None e h = absurd (false≢true h)
 

@@ -1,16 +1,19 @@
 -- Code with the new table acts as it did, and keeps the rules.
-use Rattle.std.proofs.Common.{◌≡◌, ℕ, ◌^◌, ◌<◌, ◌⊎◌, inl, inr, true, Option, None, Some, is_some, List, [], length, map, slice_get, refl, ap, sym, ◌∙◌, subst, arith}
+use Rattle.std.proofs.Common.{◌≡◌, ℕ, ◌^◌, ◌<◌, ◌⊎◌, inl, inr, true, Option, None, Some, is_some, List, [], ◌∷◌, length, map, slice_get, refl, ap, sym, ◌∙◌, subst, arith}
 use Rattle.std.proofs.lemmas.Bool.{false≢true}
-use Rattle.std.proofs.lemmas.List.{length-map}
+use Rattle.std.specs.Option.{option_map}
 use Rattle.regcode.specs.Listed.{listing}
 use Rattle.regcode.specs.Listing.{Listing}
 use Rattle.regcode.specs.Machine.{ItemContext, entry_at}
 use Rattle.regcode.specs.Rules.{IsVerified}
+use Rattle.regcode.specs.declared.instruction.FetchOperands.{FetchOperands}
+use Rattle.regcode.specs.declared.instruction.FetchOperands.TheVariants as operands
 use Rattle.regcode.specs.declared.instruction.Instruction.{Instruction}
+use Rattle.regcode.specs.declared.instruction.Instruction.TheVariants as instruction
 use Rattle.regcode.specs.declared.tables.Register.{Register}
 use Rattle.regcode.specs.declared.tables.Tables.{Tables}
-use Rattle.renumbering.specs.Numbers.{number_or_none, number_of, no_number, IsNumbering, Among, Numbered, Gives}
-use Rattle.renumbering.specs.Renamed.{renamed, all_named}
+use Rattle.renumbering.specs.Numbers.{number_or_greatest, number_of, no_number, IsNumbering, Among, Numbered, Gives}
+use Rattle.renumbering.specs.Renamed.{renamed, renamed_operands, all_named}
 use Rattle.renumbering.specs.Same.{IsRenumbered}
 use Rattle.renumbering.proofs.Numbers.{at_most_all, none_there}
 use Rattle.renumbering.proofs.Renaming.{IsRenamed, acts_same, tables_within}
@@ -27,21 +30,67 @@ renames old new numbers is instructions arrays =
       arrays = arrays;
     }
   where
-    entry : (r : ℕ) (o : Option ℕ) → entry_at None numbers r ≡ o → number_or_none o < length new.registers → slice_get new.registers (number_or_none o) ≡ slice_get old.registers r
+    entry : (r : ℕ) (o : Option ℕ) → entry_at None numbers r ≡ o → number_or_greatest o < length new.registers → slice_get new.registers (number_or_greatest o) ≡ slice_get old.registers r
     entry r None e inside = let few = is.few in absurd (omega (arith, few, inside))
     entry r (Some n) e inside = is.entry r n e
 
-    one : (r other : ℕ) (o p : Option ℕ) → entry_at None numbers r ≡ o → entry_at None numbers other ≡ p → number_or_none o < length new.registers → number_or_none o ≡ number_or_none p → r ≡ other
+    one : (r other : ℕ) (o p : Option ℕ) → entry_at None numbers r ≡ o → entry_at None numbers other ≡ p → number_or_greatest o < length new.registers → number_or_greatest o ≡ number_or_greatest p → r ≡ other
     one r other None p e f inside same = let few = is.few in absurd (omega (arith, few, inside))
     one r other (Some n) None e f inside same = let few = is.few in absurd (omega (arith, few, inside, same))
     one r other (Some n) (Some m) e f inside same = is.distinct r other n e (f ∙ ap Some (sym same))
+
+-- what an atomic operation is given, each register by its own number
+same_operands : (o : FetchOperands) → renamed_operands (λ r. r) o ≡ o
+same_operands operands.Alone = refl
+same_operands (operands.Number value) = refl
+same_operands (operands.Pair expected value) = refl
+
+same_option : (o : Option ℕ) → option_map (λ r. r) o ≡ o
+same_option None = refl
+same_option (Some r) = refl
+
+-- an instruction with each register by its own number
+same_instruction : (i : Instruction) → renamed (λ r. r) i ≡ i
+same_instruction (instruction.Constant to value) = refl
+same_instruction (instruction.Unset to) = refl
+same_instruction (instruction.Move to from variable) = refl
+same_instruction (instruction.AssignConversion to from kind) = refl
+same_instruction (instruction.Convert to from kind) = refl
+same_instruction (instruction.UsualConversion to from other) = refl
+same_instruction (instruction.Unary to operator operand) = refl
+same_instruction (instruction.Binary to operator left right) = refl
+same_instruction (instruction.Builtin to function first second) = ap (instruction.Builtin to function first) (same_option second)
+same_instruction (instruction.Dimensions to) = refl
+same_instruction (instruction.Query to function dimension) = refl
+same_instruction (instruction.Argument to index kind) = refl
+same_instruction (instruction.Local to number element) = refl
+same_instruction (instruction.UnsetArray array count) = refl
+same_instruction (instruction.PrivateLoad to array index element variable) = refl
+same_instruction (instruction.PrivateStore array index value element variable) = refl
+same_instruction (instruction.MovePointer to from) = refl
+same_instruction (instruction.Offset to pointer index) = refl
+same_instruction (instruction.Load to pointer) = refl
+same_instruction (instruction.Store pointer value) = refl
+same_instruction (instruction.Update function pointer value) = ap (instruction.Update function pointer) (same_option value)
+same_instruction (instruction.Fetch to function pointer given) = ap (instruction.Fetch to function pointer) (same_operands given)
+same_instruction (instruction.Barrier site depth fences) = refl
+same_instruction (instruction.Enter depth) = refl
+same_instruction (instruction.Turn depth) = refl
+same_instruction (instruction.Jump by) = refl
+same_instruction (instruction.JumpIfZero register by) = refl
+same_instruction (instruction.Back by) = refl
+same_instruction instruction.End = refl
+
+none_renamed : (instructions : List Instruction) → map (renamed (λ r. r)) instructions ≡ instructions
+none_renamed [] = refl
+none_renamed (i ∷ instructions) = ap (λ j. j ∷ map (renamed (λ r. r)) instructions) (same_instruction i) ∙ ap (λ rest. i ∷ rest) (none_renamed instructions)
 
 -- code whose table is longer than there are numbers of 32 bits stays
 pub unchanged : (code : Listing) → (length code.registers < 2 ^ 32 → ⊥) → IsRenumbered code code
 unchanged code long =
     record {
       acts = λ setup item answers. refl;
-      as_long = refl;
+      renamed = (λ r. r, sym (none_renamed code.instructions));
       registers = omega arith;
       all_used = λ few. absurd (long few);
       arrays = refl;
@@ -82,14 +131,14 @@ module _ (code : Listing) (old tables : Tables) (instructions : List Instruction
       go (inl h) = absurd (false≢true (sym (ap is_some (none_there code.registers from.0)) ∙ h))
       go (inr a) =
           subst (λ (rs : List ℕ). Among r rs) (sym (ap all_named is_renamed ∙ all_renamed (number_of numbers) code.instructions))
-          (subst (λ (n : ℕ). Among n (map (number_of numbers) (all_named code.instructions))) (ap number_or_none from.1) (among_map (number_of numbers) from.0 (all_named code.instructions) a))
+          (subst (λ (n : ℕ). Among n (map (number_of numbers) (all_named code.instructions))) (ap number_or_greatest from.1) (among_map (number_of numbers) from.0 (all_named code.instructions) a))
 
   -- Code with the new table and the renamed instructions.
   pub renumbered : IsVerified same → IsRenumbered code same
   renumbered ok =
       record {
         acts = acts_same (number_of numbers) code same (renames code same numbers all is_renamed (arrays ∙ ap (λ c. c.arrays) is)) ok;
-        as_long = ap length is_renamed ∙ length-map code.instructions (renamed (number_of numbers));
+        renamed = (number_of numbers, is_renamed);
         registers = let count = all.count in let whole = all.whole in let most = at_most_all numbers in omega (arith, count, whole, most);
         all_used = λ few r inside. used r inside;
         arrays = arrays ∙ ap (λ c. c.arrays) is;

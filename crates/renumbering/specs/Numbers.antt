@@ -3,14 +3,14 @@ use Rattle.std.specs.Prelude.{◌≡◌, ℕ, suc, ◌^◌, ◌<◌, ◌≤◌, 
 use Rattle.regcode.specs.Machine.{entry_at}
 use Rattle.regcode.specs.declared.tables.Register.{Register}
 
--- the greatest number of 32 bits, which no register of a table is given (own)
-abbrev pub number_or_none : Option ℕ → ℕ
-number_or_none None = 4294967295
-number_or_none (Some number) = number
+-- a number, or where there is none the greatest of 32 bits, which no register is given (own)
+abbrev pub number_or_greatest : Option ℕ → ℕ
+number_or_greatest None = 4294967295
+number_or_greatest (Some number) = number
 
 -- the new number of a register, by those that are given (own)
 abbrev pub number_of : List (Option ℕ) → ℕ → ℕ
-number_of numbers register = number_or_none (entry_at None numbers register)
+number_of numbers register = number_or_greatest (entry_at None numbers register)
 
 -- a register of which no number is known (own)
 abbrev pub no_number : Register → Option ℕ

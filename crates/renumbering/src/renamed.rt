@@ -124,7 +124,6 @@ impl Numbering {
                 number,
                 element,
             },
-            Instruction::UnsetArray { array, length } => Instruction::UnsetArray { array, length },
             Instruction::PrivateLoad {
                 to,
                 array,
@@ -188,24 +187,17 @@ impl Numbering {
                 pointer: self.number(pointer),
                 operands: self.operands(operands),
             },
-            Instruction::Barrier {
-                site,
-                depth,
-                fences,
-            } => Instruction::Barrier {
-                site,
-                depth,
-                fences,
-            },
-            Instruction::Enter { depth } => Instruction::Enter { depth },
-            Instruction::Turn { depth } => Instruction::Turn { depth },
-            Instruction::Jump { by } => Instruction::Jump { by },
             Instruction::JumpIfZero { test, by } => Instruction::JumpIfZero {
                 test: self.number(test),
                 by,
             },
-            Instruction::Back { by } => Instruction::Back { by },
-            Instruction::End => Instruction::End,
+            Instruction::UnsetArray { .. }
+            | Instruction::Barrier { .. }
+            | Instruction::Enter { .. }
+            | Instruction::Turn { .. }
+            | Instruction::Jump { .. }
+            | Instruction::Back { .. }
+            | Instruction::End => *instruction,
         }
     }
 }

@@ -1,6 +1,6 @@
 use Rattle.std.proofs.Common.{None, ◌∙◌, sym, ap, arith}
 use Rattle.regcode.proofs.Registers.{entry_past}
-use Rattle.renumbering.specs.Numbers.{number_or_none}
+use Rattle.renumbering.specs.Numbers.{number_or_greatest}
 use Rattle.renumbering.proofs.Numbers.{number_is, number_read}
 use Rattle.renumbering.proofs.numbering.Numbering.number.Goals as goal
 
@@ -11,4 +11,4 @@ returns-then-place-len c =
 
 pub returns-else-place-len : goal.returns-else-place-len
 returns-else-place-len c =
-    sym (ap number_or_none (entry_past None c.args.self.now.numbers.items c.args.register (omega arith)))
+    sym (ap number_or_greatest (entry_past None c.args.self.now.numbers.items c.args.register (omega arith)))
