@@ -30,7 +30,7 @@ fn grow(alloc: Global, pages: &mut Vec<Vec<Word>>, count: usize) -> Result<(), A
     Ok(())
 }
 
-/// The words of a page.
+/// Fills the words of a page up to 64.
 fn fill(row: &mut Vec<Word>) -> Result<(), AllocError>
     ensures long { OnOk result (64 ≤ length row.new.items) }
     ensures same { (k : ℕ) → slice_index_or row.new.items k word.Untouched ≡ slice_index_or row.old.items k word.Untouched }
@@ -228,13 +228,8 @@ impl Pages {
         fill(&mut self.pages[page])
     }
 
-    /// The words of the pages from one byte to another.
-    pub(crate) fn make_both(
-        &mut self,
-        alloc: Global,
-        first: usize,
-        last: usize,
-    ) -> Result<(), AllocError>
+    /// The words of the pages of two bytes, which may be one page.
+    fn make_both(&mut self, alloc: Global, first: usize, last: usize) -> Result<(), AllocError>
         ensures first { OnOk result (IsPage self.new.pages.items (first / 256)) }
         ensures last { OnOk result (IsPage self.new.pages.items (last / 256)) }
         ensures same { (byte : ℕ) → cell_in self.new.pages.items byte ≡ cell_in self.old.pages.items byte }
