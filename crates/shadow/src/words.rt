@@ -24,9 +24,9 @@ pub(crate) struct WordMark {
 #[derive(Drop)]
 pub(crate) enum Word {
     Untouched,
-    /// Each access was to all four bytes, of the sort of the first
+    /// What is kept of each byte is that of one access to all four
     Touched(WordMark),
-    /// .. or they were of two sorts; at a byte where both left the same they are of one
+    /// What is kept of each byte is that of two accesses to all four: of the first alone where they are of one sort at the byte
     Mixed(WordMark, WordMark),
     /// What is kept of each byte
     Apart(Box<[Seen; 4]>),
