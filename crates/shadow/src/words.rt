@@ -36,7 +36,7 @@ pub(crate) enum Word {
     Touched(WordMark),
     /// What is kept of each byte is that of two accesses to all four: of the first alone where they are of one sort at the byte
     Mixed(WordMark, WordMark),
-    /// What is kept of each byte stands at this place in a list
+    /// What is kept of each byte stands at this place in the buffer's list
     Apart(usize),
 }
 
@@ -84,7 +84,7 @@ fn byte_mark(mark: WordMark, k: usize) -> Mark
     }
 }
 
-/// What is kept of byte k of a word, of the bytes that are kept apart at a place.
+/// What is kept of byte k of a word, by the bytes at a place in the list: nothing where they are of another word, which never happens.
 fn own_seen(apart: &[Bytes], number: usize, at: usize, k: usize) -> Seen
     requires { k < 4 }
     ensures { result ≡ own_seen number (bytes_at apart.now at) k }
