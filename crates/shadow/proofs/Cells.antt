@@ -1,15 +1,16 @@
 -- What is kept of words and bytes, where pages and buffers get words and words are put.
-use Rattle.std.proofs.Common.{◌≡◌, ℕ, zero, suc, ◌+◌, ◌-◌, ◌/◌, ◌%◌, ◌<◌, ◌≤◌, ◌==◌, Bool, true, ◌&&◌, if◌then◌else◌, List, [], ◌∷◌, ◌++◌, length, map, get_or, set, ◌⊎◌, inl, inr, refl, sym, ap, ap₂, ◌∙◌, subst, Result, Ok, Err, OnOk, OnErr, IfOk, eq-eqb, arith}
+use Rattle.std.proofs.Common.{◌≡◌, ℕ, zero, suc, ◌+◌, ◌-◌, ◌/◌, ◌%◌, ◌<◌, ◌≤◌, ◌==◌, Bool, ◌&&◌, if◌then◌else◌, List, [], ◌∷◌, ◌++◌, length, map, get_or, set, ◌⊎◌, inl, inr, refl, sym, ap, ap₂, ◌∙◌, subst, Result, Ok, Err, OnOk, OnErr, IfOk, eq-eqb, arith}
 use Rattle.std.specs.Prelude.{Vec}
 use Rattle.std.specs.declared.alloc.Global.{Global}
-use Rattle.std.proofs.lemmas.Bool.{cases_eq, cases_lt, ne_eqb, false≢true}
+use Rattle.std.proofs.lemmas.Bool.{cases_eq, cases_lt, ne_eqb}
 use Rattle.std.proofs.lemmas.List.{map-set, get_or-set_same, get_or-set_other, get_or-map, get_or_past, get_or_default, length-map}
 use Rattle.clmodel.specs.Cells.{covers}
-use Rattle.shadow.specs.Seen.{seen_with, byte_seen, is_apart, row_of, word_in, cell_in, IsPage, cell, buffer_cells}
+use Rattle.shadow.specs.Seen.{seen_with, byte_seen, IsApart, row_of, word_in, cell_in, IsPage, cell, buffer_cells}
 use Rattle.shadow.specs.declared.pages.Pages.{Pages}
 use Rattle.shadow.specs.declared.seen.Mark.{Mark}
 use Rattle.shadow.specs.declared.seen.Seen.{Seen}
 use Rattle.shadow.specs.declared.seen.Seen.TheVariants.{Untouched}
+use Rattle.shadow.specs.declared.words.Bytes.{Bytes}
 use Rattle.shadow.specs.declared.words.Word.{Word}
 use Rattle.shadow.specs.declared.words.Word.TheVariants as word
 
@@ -59,14 +60,14 @@ pub same_page : (pages other : List Row) (page : ℕ) → row_of other page ≡ 
 same_page pages other page e h = page_from other page (subst (λ z. 64 ≤ length z) (sym e) h.1)
 
 -- the words are the same where the pages are
-pub same_rows : (pages other : List Row) → ((page : ℕ) → row_of other page ≡ row_of pages page) → (byte : ℕ) → cell_in other byte ≡ cell_in pages byte
-same_rows pages other same byte = ap (λ z. byte_seen (get_or z (byte / 4 % 64) word.Untouched) (byte % 4)) (same (byte / 4 / 64))
+pub same_rows : (apart : List Bytes) (pages other : List Row) → ((page : ℕ) → row_of other page ≡ row_of pages page) → (byte : ℕ) → cell_in apart other byte ≡ cell_in apart pages byte
+same_rows apart pages other same byte = ap (λ z. byte_seen apart (byte / 4) (get_or z (byte / 4 % 64) word.Untouched) (byte % 4)) (same (byte / 4 / 64))
 
 -- a page that gets its words
 pub filled_cell :
-    (pages : List Row) (page : ℕ) (v w : Row) → page < length pages → w ≡ get_or pages page w → ((k : ℕ) → get_or v.items k word.Untouched ≡ get_or w.items k word.Untouched)
-    → (byte : ℕ) → cell_in (set pages page v) byte ≡ cell_in pages byte
-filled_cell pages page v w b e same byte = ap (λ z. byte_seen z (byte % 4)) (go (cases_eq (byte / 4 / 64) page))
+    (apart : List Bytes) (pages : List Row) (page : ℕ) (v w : Row) → page < length pages → w ≡ get_or pages page w → ((k : ℕ) → get_or v.items k word.Untouched ≡ get_or w.items k word.Untouched)
+    → (byte : ℕ) → cell_in apart (set pages page v) byte ≡ cell_in apart pages byte
+filled_cell apart pages page v w b e same byte = ap (λ z. byte_seen apart (byte / 4) z (byte % 4)) (go (cases_eq (byte / 4 / 64) page))
   where
     go : (byte / 4 / 64 ≡ page) ⊎ (byte / 4 / 64 ≡ page → ⊥) → word_in (set pages page v) (byte / 4) ≡ word_in pages (byte / 4)
     go (inl h) =
@@ -95,12 +96,12 @@ one_word : (m n : ℕ) → m / 64 ≡ n / 64 → m % 64 ≡ n % 64 → m ≡ n
 one_word m n h k = omega (arith, h, k)
 
 -- a word apart has its place
-pub apart_placed : (pages : List Row) (n : ℕ) → is_apart (word_in pages n) ≡ true → (n / 64 < length pages) × (n % 64 < length (row_of pages (n / 64)))
-apart_placed pages n h = (go (cases_lt (n / 64) (length pages)), inside (cases_lt (n % 64) (length (row_of pages (n / 64)))))
+pub apart_placed : (apart : List Bytes) (pages : List Row) (n : ℕ) → IsApart apart n (word_in pages n) → (n / 64 < length pages) × (n % 64 < length (row_of pages (n / 64)))
+apart_placed apart pages n h = (go (cases_lt (n / 64) (length pages)), inside (cases_lt (n % 64) (length (row_of pages (n / 64)))))
   where
     inside : (n % 64 < length (row_of pages (n / 64))) ⊎ (length (row_of pages (n / 64)) ≤ n % 64) → n % 64 < length (row_of pages (n / 64))
     inside (inl b) = b
-    inside (inr b) = absurd (false≢true (sym (ap is_apart (get_or_past (row_of pages (n / 64)) (n % 64) word.Untouched b)) ∙ h))
+    inside (inr b) = absurd (subst (IsApart apart n) (get_or_past (row_of pages (n / 64)) (n % 64) word.Untouched b) h)
 
     go : (n / 64 < length pages) ⊎ (length pages ≤ n / 64) → n / 64 < length pages
     go (inl b) = b
@@ -144,27 +145,6 @@ put pages n v w s b e inside is long = record {
         ∙ sym (ap (λ z. get_or z (m % 64) word.Untouched) (ap (row_of pages) h ∙ was_row pages (n / 64) w b e))
     there m ne (inr h) = ap (λ z. get_or z (m % 64) word.Untouched) (row_set_other pages (n / 64) v (m / 64) h)
 
--- words apart stay so
-pub put_apart : (pages after : List Row) (n : ℕ) (s : Word) → IsPut pages after n s → (is_apart (word_in pages n) ≡ true → is_apart s ≡ true)
-    → (m : ℕ) → is_apart (word_in pages m) ≡ true → is_apart (word_in after m) ≡ true
-put_apart pages after n s p apart m h = go (cases_eq m n)
-  where
-    go : (m ≡ n) ⊎ (m ≡ n → ⊥) → is_apart (word_in after m) ≡ true
-    go (inl e) = ap (λ z. is_apart (word_in after z)) e ∙ ap is_apart p.here ∙ apart (sym (ap (λ z. is_apart (word_in pages z)) e) ∙ h)
-    go (inr ne) = ap is_apart (p.others m ne) ∙ h
-
--- bytes stay where those of the word do
-pub put_same : (pages after : List Row) (n : ℕ) (s old : Word) → IsPut pages after n s → word_in pages n ≡ old → ((k : ℕ) → k < 4 → byte_seen s k ≡ byte_seen old k)
-    → (byte : ℕ) → cell_in after byte ≡ cell_in pages byte
-put_same pages after n s old p was same byte = go (cases_eq (byte / 4) n)
-  where
-    go : (byte / 4 ≡ n) ⊎ (byte / 4 ≡ n → ⊥) → cell_in after byte ≡ cell_in pages byte
-    go (inl e) =
-        ap (λ z. byte_seen z (byte % 4)) (ap (word_in after) e ∙ p.here)
-        ∙ same (byte % 4) (omega arith)
-        ∙ sym (ap (λ z. byte_seen z (byte % 4)) (ap (word_in pages) e ∙ was))
-    go (inr ne) = ap (λ z. byte_seen z (byte % 4)) (p.others (byte / 4) ne)
-
 -- a word of a page between two bytes that are so near
 pub either_page : (P : ℕ → Type 0) (first count n : ℕ) → count ≤ 8 → first / 4 ≤ n → n ≤ (first + count - 1) / 4 → 0 < count → P (first / 256) → P ((first + count - 1) / 256) → P (n / 64)
 either_page P first count n few low high some p q = go (cases_eq (n / 64) (first / 256))
@@ -192,48 +172,48 @@ part_marked bytes k s mark inside is j = go (cases_eq k j)
         ∙ sym (ap (λ (z : Bool). if z then seen_with (get_or bytes j Untouched) mark else get_or bytes j Untouched) (ne_eqb k j ne))
 
 -- the four bytes of a word, listed
-pub four_listed : (bytes : List Seen) (w : Word) (a b c d : Seen) → bytes ≡ a ∷ b ∷ c ∷ d ∷ [] → a ≡ byte_seen w 0 → b ≡ byte_seen w 1 → c ≡ byte_seen w 2 → d ≡ byte_seen w 3
-    → (k : ℕ) → k < 4 → get_or bytes k Untouched ≡ byte_seen w k
-four_listed bytes w a b c d is e f g h zero small = ap (λ z. get_or z 0 Untouched) is ∙ e
-four_listed bytes w a b c d is e f g h (suc zero) small = ap (λ z. get_or z 1 Untouched) is ∙ f
-four_listed bytes w a b c d is e f g h (suc (suc zero)) small = ap (λ z. get_or z 2 Untouched) is ∙ g
-four_listed bytes w a b c d is e f g h (suc (suc (suc zero))) small = ap (λ z. get_or z 3 Untouched) is ∙ h
-four_listed bytes w a b c d is e f g h (suc (suc (suc (suc k)))) small = absurd (omega (arith, small))
+pub four_listed : (apart : List Bytes) (n : ℕ) (bytes : List Seen) (w : Word) (a b c d : Seen) → bytes ≡ a ∷ b ∷ c ∷ d ∷ [] → a ≡ byte_seen apart n w 0 → b ≡ byte_seen apart n w 1 → c ≡ byte_seen apart n w 2 → d ≡ byte_seen apart n w 3
+    → (k : ℕ) → k < 4 → get_or bytes k Untouched ≡ byte_seen apart n w k
+four_listed apart n bytes w a b c d is e f g h zero small = ap (λ z. get_or z 0 Untouched) is ∙ e
+four_listed apart n bytes w a b c d is e f g h (suc zero) small = ap (λ z. get_or z 1 Untouched) is ∙ f
+four_listed apart n bytes w a b c d is e f g h (suc (suc zero)) small = ap (λ z. get_or z 2 Untouched) is ∙ g
+four_listed apart n bytes w a b c d is e f g h (suc (suc (suc zero))) small = ap (λ z. get_or z 3 Untouched) is ∙ h
+four_listed apart n bytes w a b c d is e f g h (suc (suc (suc (suc k)))) small = absurd (omega (arith, small))
 
 -- ---- buffers
 
 -- a buffer more of which nothing is kept
 pub one_more : (buffers : List Pages) (b : Pages) → b.pages.items ≡ [] → (n byte : ℕ) → cell (buffer_cells (buffers ++ b ∷ [])) n byte ≡ cell (buffer_cells buffers) n byte
-one_more [] b e zero byte = ap (λ z. cell_in z byte) e ∙ nothing_in byte
+one_more [] b e zero byte = ap (λ z. cell_in b.apart.items z byte) e ∙ nothing_in byte
   where
-    nothing_in : (byte : ℕ) → cell_in [] byte ≡ Untouched
+    nothing_in : (byte : ℕ) → cell_in b.apart.items [] byte ≡ Untouched
     nothing_in byte =
-        ap (λ z. byte_seen z (byte % 4))
+        ap (λ z. byte_seen b.apart.items (byte / 4) z (byte % 4))
         (ap (λ z. get_or z (byte / 4 % 64) word.Untouched) (get_or_past {X = List Word} [] (byte / 4 / 64) [] (omega arith)) ∙ get_or_past {X = Word} [] (byte / 4 % 64) word.Untouched (omega arith))
 one_more [] b e (suc n) byte = refl
 one_more (x ∷ buffers) b e zero byte = refl
 one_more (x ∷ buffers) b e (suc n) byte = one_more buffers b e n byte
 
 -- the buffer that is changed, and another
-changed_here : (buffers : List Pages) (n : ℕ) (v : Pages) (byte : ℕ) → n < length buffers → cell (buffer_cells (set buffers n v)) n byte ≡ cell_in v.pages.items byte
+changed_here : (buffers : List Pages) (n : ℕ) (v : Pages) (byte : ℕ) → n < length buffers → cell (buffer_cells (set buffers n v)) n byte ≡ cell_in v.apart.items v.pages.items byte
 changed_here buffers n v byte b =
-    ap (λ z. cell z n byte) (map-set (λ (p : Pages). cell_in p.pages.items) buffers n v)
+    ap (λ z. cell z n byte) (map-set (λ (p : Pages). cell_in p.apart.items p.pages.items) buffers n v)
     ∙ ap (λ (f : ℕ → Seen). f byte)
-    (get_or-set_same (buffer_cells buffers) n (cell_in v.pages.items) (λ _. Untouched) (subst (λ z. n < z) (sym (length-map buffers (λ (p : Pages). cell_in p.pages.items))) b))
+    (get_or-set_same (buffer_cells buffers) n (cell_in v.apart.items v.pages.items) (λ _. Untouched) (subst (λ z. n < z) (sym (length-map buffers (λ (p : Pages). cell_in p.apart.items p.pages.items))) b))
 
 unchanged_there : (buffers : List Pages) (n : ℕ) (v : Pages) (m byte : ℕ) → (m ≡ n → ⊥) → cell (buffer_cells (set buffers n v)) m byte ≡ cell (buffer_cells buffers) m byte
 unchanged_there buffers n v m byte ne =
-    ap (λ z. cell z m byte) (map-set (λ (p : Pages). cell_in p.pages.items) buffers n v)
-    ∙ ap (λ (f : ℕ → Seen). f byte) (get_or-set_other (buffer_cells buffers) n m (cell_in v.pages.items) (λ _. Untouched) ne)
+    ap (λ z. cell z m byte) (map-set (λ (p : Pages). cell_in p.apart.items p.pages.items) buffers n v)
+    ∙ ap (λ (f : ℕ → Seen). f byte) (get_or-set_other (buffer_cells buffers) n m (cell_in v.apart.items v.pages.items) (λ _. Untouched) ne)
 
-was_here : (buffers : List Pages) (n : ℕ) (w : Pages) (byte : ℕ) → n < length buffers → w ≡ get_or buffers n w → cell (buffer_cells buffers) n byte ≡ cell_in w.pages.items byte
+was_here : (buffers : List Pages) (n : ℕ) (w : Pages) (byte : ℕ) → n < length buffers → w ≡ get_or buffers n w → cell (buffer_cells buffers) n byte ≡ cell_in w.apart.items w.pages.items byte
 was_here buffers n w byte b e =
-    ap (λ (f : ℕ → Seen). f byte) (get_or-map (λ (p : Pages). cell_in p.pages.items) buffers n w (λ _. Untouched) b ∙ sym (ap (λ (p : Pages). cell_in p.pages.items) e))
+    ap (λ (f : ℕ → Seen). f byte) (get_or-map (λ (p : Pages). cell_in p.apart.items p.pages.items) buffers n w (λ _. Untouched) b ∙ sym (ap (λ (p : Pages). cell_in p.apart.items p.pages.items) e))
 
 -- a change that isn't seen
 pub same_cells :
     (buffers : List Pages) (n : ℕ) (v w : Pages) → n < length buffers → w ≡ get_or buffers n w
-    → ((byte : ℕ) → cell_in v.pages.items byte ≡ cell_in w.pages.items byte) → (m byte : ℕ) → cell (buffer_cells (set buffers n v)) m byte ≡ cell (buffer_cells buffers) m byte
+    → ((byte : ℕ) → cell_in v.apart.items v.pages.items byte ≡ cell_in w.apart.items w.pages.items byte) → (m byte : ℕ) → cell (buffer_cells (set buffers n v)) m byte ≡ cell (buffer_cells buffers) m byte
 same_cells buffers n v w b e same m byte = go (cases_eq m n)
   where
     go : (m ≡ n) ⊎ (m ≡ n → ⊥) → cell (buffer_cells (set buffers n v)) m byte ≡ cell (buffer_cells buffers) m byte
@@ -245,7 +225,7 @@ same_cells buffers n v w b e same m byte = go (cases_eq m n)
 -- bytes of one buffer that are marked
 pub marked_cells :
     (buffers : List Pages) (n : ℕ) (v w : Pages) (mark : ℕ → Mark) (first count : ℕ) → n < length buffers → w ≡ get_or buffers n w
-    → ((byte : ℕ) → cell_in v.pages.items byte ≡ (if covers first count byte then seen_with (cell_in w.pages.items byte) (mark byte) else cell_in w.pages.items byte))
+    → ((byte : ℕ) → cell_in v.apart.items v.pages.items byte ≡ (if covers first count byte then seen_with (cell_in w.apart.items w.pages.items byte) (mark byte) else cell_in w.apart.items w.pages.items byte))
     → (m byte : ℕ) → cell (buffer_cells (set buffers n v)) m byte ≡ (if (m == n) && covers first count byte then seen_with (cell (buffer_cells buffers) m byte) (mark byte) else cell (buffer_cells buffers) m byte)
 marked_cells buffers n v w mark first count b e marked m byte = go (cases_eq m n)
   where

@@ -356,9 +356,9 @@ on_bytes u x log cells others kept first (suc count) a b =
 -- ---- cells in lists
 
 -- a buffer's cells, and a buffer that has none
-pub cells_there : (buffers : List Pages) (n : ℕ) (p : Pages) → n < length buffers → p ≡ get_or buffers n p → cell (buffer_cells buffers) n ≡ cell_in p.pages.items
+pub cells_there : (buffers : List Pages) (n : ℕ) (p : Pages) → n < length buffers → p ≡ get_or buffers n p → cell (buffer_cells buffers) n ≡ cell_in p.apart.items p.pages.items
 cells_there buffers n p b e =
-    get_or-map (λ (q : Pages). cell_in q.pages.items) buffers n p (λ _. Untouched) b ∙ sym (ap (λ (q : Pages). cell_in q.pages.items) e)
+    get_or-map (λ (q : Pages). cell_in q.apart.items q.pages.items) buffers n p (λ _. Untouched) b ∙ sym (ap (λ (q : Pages). cell_in q.apart.items q.pages.items) e)
 
 shorter : (buffers : List Pages) (n : ℕ) → length buffers ≤ n → length (buffer_cells buffers) ≤ n
 shorter [] n b = b

@@ -23,6 +23,7 @@ use Rattle.shadow.specs.declared.seen.Seen.{Seen}
 use Rattle.shadow.specs.declared.words.Word.{Word}
 use Rattle.shadow.specs.declared.words.Word.TheVariants as word
 use Rattle.shadow.specs.declared.words.WordMark.{WordMark}
+use Rattle.shadow.specs.declared.words.Bytes.{Bytes}
 use Rattle.shadow.specs.declared.seen.Seen.TheVariants.{Untouched, Touched, Mixed}
 
 -- two accesses to a byte are of one sort: of one kind, and stores leave the same byte (own)
@@ -91,24 +92,34 @@ meeting_of c = record { clash = c.clash; mark = mark_of c.earlier c.byte; byte =
 abbrev pub byte_mark : WordMark → ℕ → Mark
 byte_mark m k = record { item = m.item; kind = m.kind; left = byte_of k m.left }
 
--- what is kept of byte k of a word (own)
-abbrev pub byte_seen : Word → ℕ → Seen
-byte_seen word.Untouched k = Untouched
-byte_seen (word.Touched a) k = Touched (byte_mark a k)
-byte_seen (word.Mixed a b) k = seen_with (Touched (byte_mark a k)) (byte_mark b k)
-byte_seen (word.Apart bytes) k = slice_index_or bytes.value k Untouched
+-- the bytes at a place of a list of those kept apart (own)
+abbrev pub bytes_at : List Bytes → ℕ → Bytes
+bytes_at apart at = slice_index_or apart at (record { word = 0; bytes = [] })
+
+-- what is kept of byte k of a word, of bytes that are kept apart: nothing where they are of another word (own)
+abbrev pub own_seen : ℕ → Bytes → ℕ → Seen
+own_seen number b k = if b.word == number then slice_index_or b.bytes k Untouched else Untouched
+
+-- what is kept of byte k of a word of this number (own)
+abbrev pub byte_seen : List Bytes → ℕ → Word → ℕ → Seen
+byte_seen apart number word.Untouched k = Untouched
+byte_seen apart number (word.Touched a) k = Touched (byte_mark a k)
+byte_seen apart number (word.Mixed a b) k = seen_with (Touched (byte_mark a k)) (byte_mark b k)
+byte_seen apart number (word.Apart at) k = own_seen number (bytes_at apart at) k
 
 -- whether a word stays one when an access to all of it is added (own)
 abbrev pub is_ready : Word → Bool
 is_ready word.Untouched = true
 is_ready (word.Touched a) = true
 is_ready (word.Mixed a b) = not (kind_number a.kind == kind_number b.kind)
-is_ready (word.Apart bytes) = false
+is_ready (word.Apart at) = false
 
--- whether each byte of a word is kept apart (own)
-abbrev pub is_apart : Word → Bool
-is_apart (word.Apart bytes) = true
-is_apart _ = false
+-- each byte of a word of this number is kept apart (own)
+abbrev pub IsApart : List Bytes → ℕ → Word → Type 0
+IsApart apart number word.Untouched = ⊥
+IsApart apart number (word.Touched a) = ⊥
+IsApart apart number (word.Mixed a b) = ⊥
+IsApart apart number (word.Apart at) = (at < length apart) × ((bytes_at apart at).word ≡ number)
 
 -- where the low and the high four bytes of an access begin in it (own)
 abbrev pub half_start : Bool → ℕ
@@ -124,8 +135,8 @@ abbrev pub word_in : List (Vec Word Global) → ℕ → Word
 word_in pages number = slice_index_or (row_of pages (number / 64)) (number % 64) word.Untouched
 
 -- what is kept of a byte of one buffer (own)
-abbrev pub cell_in : List (Vec Word Global) → ℕ → Seen
-cell_in pages byte = byte_seen (word_in pages (byte / 4)) (byte % 4)
+abbrev pub cell_in : List Bytes → List (Vec Word Global) → ℕ → Seen
+cell_in apart pages byte = byte_seen apart (byte / 4) (word_in pages (byte / 4)) (byte % 4)
 
 -- a page has its words (own)
 abbrev pub IsPage : List (Vec Word Global) → ℕ → Type 0
@@ -143,7 +154,7 @@ cell buffers number = slice_index_or buffers number (λ _. Untouched)
 
 -- buffers as what is kept of each byte (own)
 abbrev pub buffer_cells : List Pages → List (ℕ → Seen)
-buffer_cells buffers = map (λ b. cell_in b.pages.items) buffers
+buffer_cells buffers = map (λ b. cell_in b.apart.items b.pages.items) buffers
 
 -- the cells keep what these accesses did to buffers, the newest first (own)
 abbrev pub Remembers : List (ℕ → Seen) → List Access → Type 0

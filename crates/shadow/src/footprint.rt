@@ -14,9 +14,9 @@ use clmodel::access::{Access, Region};
 use std::alloc::{AllocError, Global};
 
 /// What is kept of the accesses of work-groups so far to each byte of the launch's buffers: the first access, and the first of another kind,
-/// or of a store that left another byte. It is kept of words of four bytes, 32 bytes a word, and of the bytes of a word apart, some 100 more,
-/// where accesses to less than the word or a third store told something of them. An access to whole words costs some steps for each word, and
-/// another one for each byte; memory grows by pages of 64 words that were touched.
+/// or of a store that left another byte. It is kept of whole words of four bytes, 32 bytes a word, and of each byte of a word, some 100 more,
+/// where an access to a part of the word or a third store told something new. An access to whole words that are kept so costs some steps for
+/// each word, and any other some for each byte; memory grows by pages of 64 words that were touched.
 #[derive(Drop)]
 pub struct Footprint {
     buffers: Vec<Pages>,

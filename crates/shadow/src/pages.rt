@@ -1,13 +1,16 @@
 //! What is kept of the accesses to the bytes of one buffer.
 
-ghost use Rattle.std.specs.Prelude.{◌≡◌, ◌+◌, ◌*◌, ◌<◌, ◌≤◌, ◌/◌, ◌%◌, ◌==◌, ◌^◌, ℕ, [], length, slice_index_or, true, false, MatchOption, OnOk, OnErr, IfOk};
+ghost use Rattle.std.specs.Prelude.{◌≡◌, List, ◌+◌, ◌*◌, ◌<◌, ◌≤◌, ◌/◌, ◌%◌, ◌==◌, ◌^◌, ℕ, [], length, slice_index_or, true, false, MatchOption, OnOk, OnErr, IfOk};
 ghost use Rattle.clmodel.specs.Cells.{byte_count, covers};
-ghost use Rattle.shadow.specs.Seen.{is_new, mark_of, against, against_from, byte_mark, is_ready, is_apart, row_of, word_in, cell_in, IsPage, IsMarked};
+ghost use Rattle.shadow.specs.Seen.{is_new, mark_of, against, against_from, byte_mark, is_ready, IsApart, row_of, word_in, cell_in, IsPage, IsMarked};
+ghost use Rattle.shadow.specs.declared.words.Bytes.{Bytes as TheBytes};
+ghost use Rattle.shadow.specs.declared.words.Word.{Word as TheWord};
 ghost use Rattle.shadow.specs.declared.words.Word.TheVariants as word;
 
 use crate::seen::{Mark, Meeting, Seen, against, is_new, mark_of};
 use crate::words::{
-    Word, WordMark, byte_seen, is_ready, mark_part, mark_whole, passes, split, word_mark,
+    Bytes, Word, WordMark, byte_seen, bytes_of, is_apart, is_ready, mark_in, mark_whole, passes,
+    word_mark,
 };
 use clmodel::access::Access;
 use std::alloc::{AllocError, Global};
@@ -16,6 +19,8 @@ use std::alloc::{AllocError, Global};
 #[derive(Drop)]
 pub(crate) struct Pages {
     pub(crate) pages: Vec<Vec<Word>>,
+    /// The bytes of the words whose bytes are kept apart
+    pub(crate) apart: Vec<Bytes>,
 }
 
 /// Places for `count` pages.
@@ -30,17 +35,16 @@ fn grow(alloc: Global, pages: &mut Vec<Vec<Word>>, count: usize) -> Result<(), A
     Ok(())
 }
 
-/// The words of a page.
+/// Fills the words of a page up to 64.
 fn fill(row: &mut Vec<Word>) -> Result<(), AllocError>
     ensures long { OnOk result (64 ≤ length row.new.items) }
     ensures same { (k : ℕ) → slice_index_or row.new.items k word.Untouched ≡ slice_index_or row.old.items k word.Untouched }
     ensures longer { length row.old.items ≤ length row.new.items }
 {
-    let count = row.len();
-    if count >= 64 {
+    if row.len() >= 64 {
         return Ok(());
     }
-    row.reserve_exact(64 - count)?;
+    row.reserve_exact(64 - row.len())?;
     while row.len() < 64 {
         row.push(Word::Untouched)?;
     }
@@ -51,7 +55,7 @@ fn fill(row: &mut Vec<Word>) -> Result<(), AllocError>
 fn mark_word(pages: &mut Vec<Vec<Word>>, number: usize, mark: WordMark) -> bool
     requires page { IsPage pages.old.items (number / 64) }
     requires ready { is_ready (word_in pages.old.items number) ≡ true }
-    ensures marked { IsMarked (cell_in pages.old.items) (cell_in pages.new.items) (λ byte. byte_mark mark (byte % 4)) (4 * number) 4 result }
+    ensures marked { (apart : List TheBytes) → IsMarked (cell_in apart pages.old.items) (cell_in apart pages.new.items) (λ byte. byte_mark mark (byte % 4)) (4 * number) 4 result }
     ensures kept { (page : ℕ) → IsPage pages.old.items page → IsPage pages.new.items page }
     ensures others { (n : ℕ) → (n ≡ number → ⊥) → word_in pages.new.items n ≡ word_in pages.old.items n }
 {
@@ -69,7 +73,7 @@ fn mark_words(pages: &mut Vec<Vec<Word>>, x: &Access, number: usize, count: usiz
     requires ready { is_ready (word_in pages.old.items number) ≡ true }
     requires there_two { count ≡ 8 → IsPage pages.old.items ((number + 1) / 64) }
     requires ready_two { count ≡ 8 → is_ready (word_in pages.old.items (number + 1)) ≡ true }
-    ensures { IsMarked (cell_in pages.old.items) (cell_in pages.new.items) (mark_of x.now) (4 * number) count result }
+    ensures { (apart : List TheBytes) → IsMarked (cell_in apart pages.old.items) (cell_in apart pages.new.items) (mark_of x.now) (4 * number) count result }
 {
     let low = mark_word(pages, number, word_mark(x, false));
     if count == 4 {
@@ -80,56 +84,76 @@ fn mark_words(pages: &mut Vec<Vec<Word>>, x: &Access, number: usize, count: usiz
 }
 
 /// Marks a byte of a word that is kept apart. Whether what is kept of it changes.
-fn mark_byte(pages: &mut Vec<Vec<Word>>, byte: usize, mark: Mark) -> bool
-    requires { is_apart (word_in pages.old.items (byte / 4)) ≡ true }
-    ensures kept { (n : ℕ) → is_apart (word_in pages.old.items n) ≡ true → is_apart (word_in pages.new.items n) ≡ true }
-    ensures marked { IsMarked (cell_in pages.old.items) (cell_in pages.new.items) (λ _. mark) byte 1 result }
+fn mark_byte(pages: &[Vec<Word>], apart: &mut Vec<Bytes>, byte: usize, mark: Mark) -> bool
+    requires { IsApart apart.old.items (byte / 4) (word_in pages.now (byte / 4)) }
+    ensures kept { (n : ℕ) (w : TheWord) → IsApart apart.old.items n w → IsApart apart.new.items n w }
+    ensures marked { IsMarked (cell_in apart.old.items pages.now) (cell_in apart.new.items pages.now) (λ _. mark) byte 1 result }
 {
     let number = byte / 4;
-    let row = &mut pages[number / 64];
-    mark_part(&mut row[number % 64], byte % 4, mark)
+    match pages[number / 64][number % 64] {
+        Word::Apart(at) => mark_in(&mut apart[at].bytes, byte % 4, mark),
+        Word::Untouched | Word::Touched(_) | Word::Mixed(_, _) => unreachable!(),
+    }
 }
 
 /// Marks `count` bytes from the first on, which an access is at, of words that are kept apart. Whether what is kept of one of them changes.
-fn mark_bytes(pages: &mut Vec<Vec<Word>>, x: &Access, first: usize, count: usize) -> bool
+fn mark_bytes(
+    pages: &[Vec<Word>],
+    apart: &mut Vec<Bytes>,
+    x: &Access,
+    first: usize,
+    count: usize,
+) -> bool
     requires inside { first + count < 2 ^ 64 }
-    requires there { (byte : ℕ) → first ≤ byte → byte < first + count → is_apart (word_in pages.old.items (byte / 4)) ≡ true }
-    ensures { IsMarked (cell_in pages.old.items) (cell_in pages.new.items) (mark_of x.now) first count result }
+    requires there { (byte : ℕ) → first ≤ byte → byte < first + count → IsApart apart.old.items (byte / 4) (word_in pages.now (byte / 4)) }
+    ensures { IsMarked (cell_in apart.old.items pages.now) (cell_in apart.new.items pages.now) (mark_of x.now) first count result }
 {
     if count == 0 {
         return false;
     }
-    let here = mark_byte(pages, first, mark_of(x, first as u64));
-    let there = mark_bytes(pages, x, first + 1, count - 1);
+    let here = mark_byte(pages, apart, first, mark_of(x, first as u64));
+    let there = mark_bytes(pages, apart, x, first + 1, count - 1);
     here || there
 }
 
 /// Keeps what is known of the bytes of a word apart.
-fn split_word(alloc: Global, pages: &mut Vec<Vec<Word>>, number: usize) -> Result<(), AllocError>
+fn split_word(
+    pages: &mut Vec<Vec<Word>>,
+    apart: &mut Vec<Bytes>,
+    number: usize,
+) -> Result<(), AllocError>
     requires { IsPage pages.old.items (number / 64) }
-    ensures apart { OnOk result (is_apart (word_in pages.new.items number) ≡ true) }
+    ensures apart { OnOk result (IsApart apart.new.items number (word_in pages.new.items number)) }
     ensures kept { (page : ℕ) → IsPage pages.old.items page → IsPage pages.new.items page }
-    ensures others { (n : ℕ) → is_apart (word_in pages.old.items n) ≡ true → is_apart (word_in pages.new.items n) ≡ true }
-    ensures same { (byte : ℕ) → cell_in pages.new.items byte ≡ cell_in pages.old.items byte }
+    ensures others { (n : ℕ) → IsApart apart.old.items n (word_in pages.old.items n) → IsApart apart.new.items n (word_in pages.new.items n) }
+    ensures same { (byte : ℕ) → cell_in apart.new.items pages.new.items byte ≡ cell_in apart.old.items pages.old.items byte }
 {
     let row = &mut pages[number / 64];
-    split(alloc, &mut row[number % 64])
+    let word = row[number % 64];
+    if is_apart(apart, number, word) {
+        return Ok(());
+    }
+    let place = apart.len();
+    let bytes = bytes_of(apart, number, word);
+    apart.push(bytes)?;
+    row[number % 64] = Word::Apart(place);
+    Ok(())
 }
 
 /// The same of the words from `start` to `last`.
 fn split_words(
-    alloc: Global,
     pages: &mut Vec<Vec<Word>>,
+    apart: &mut Vec<Bytes>,
     start: usize,
     last: usize,
 ) -> Result<(), AllocError>
     requires inside { last < 2 ^ 63 }
     requires there { (n : ℕ) → start ≤ n → n ≤ last → IsPage pages.old.items (n / 64) }
-    ensures apart { OnOk result ((n : ℕ) → start ≤ n → n ≤ last → is_apart (word_in pages.new.items n) ≡ true) }
-    ensures same { (byte : ℕ) → cell_in pages.new.items byte ≡ cell_in pages.old.items byte }
+    ensures apart { OnOk result ((n : ℕ) → start ≤ n → n ≤ last → IsApart apart.new.items n (word_in pages.new.items n)) }
+    ensures same { (byte : ℕ) → cell_in apart.new.items pages.new.items byte ≡ cell_in apart.old.items pages.old.items byte }
 {
     for number in start..last + 1 {
-        split_word(alloc, pages, number)?;
+        split_word(pages, apart, number)?;
     }
     Ok(())
 }
@@ -141,6 +165,7 @@ impl Pages {
     {
         Pages {
             pages: Vec::new(alloc),
+            apart: Vec::new(alloc),
         }
     }
 
@@ -156,17 +181,17 @@ impl Pages {
 
     /// What is kept of a byte.
     pub(crate) fn cell(&self, byte: usize) -> Seen
-        ensures { result ≡ cell_in self.now.pages.items byte }
+        ensures { result ≡ cell_in self.now.apart.items self.now.pages.items byte }
     {
         match self.word(byte / 4) {
             None => Seen::Untouched,
-            Some(word) => byte_seen(word, byte % 4),
+            Some(word) => byte_seen(&self.apart, byte / 4, *word, byte % 4),
         }
     }
 
     /// Whether an access to all of a word, with this mark, is seen to conflict with none there.
     fn passes(&self, uniform: bool, number: usize, mark: WordMark) -> bool
-        ensures { result ≡ true → (byte : ℕ) → byte / 4 ≡ number → against uniform (byte_mark mark (byte % 4)) byte (cell_in self.now.pages.items byte) ≡ None }
+        ensures { result ≡ true → (byte : ℕ) → byte / 4 ≡ number → against uniform (byte_mark mark (byte % 4)) byte (cell_in self.now.apart.items self.now.pages.items byte) ≡ None }
     {
         match self.word(number) {
             None => true,
@@ -179,7 +204,7 @@ impl Pages {
         requires first { first ≡ x.now.first }
         requires count { count ≡ byte_count x.now.width }
         requires inside { first + count < 2 ^ 64 }
-        ensures { result ≡ true → (byte : ℕ) → first ≤ byte → byte < first + count → against uniform (mark_of x.now byte) byte (cell_in self.now.pages.items byte) ≡ None }
+        ensures { result ≡ true → (byte : ℕ) → first ≤ byte → byte < first + count → against uniform (mark_of x.now byte) byte (cell_in self.now.apart.items self.now.pages.items byte) ≡ None }
     {
         if first % 4 != 0 || count < 4 {
             return false;
@@ -192,7 +217,7 @@ impl Pages {
     /// The conflict of an access on the lowest of n bytes that has one, by whether the launch is uniform.
     fn against(&self, uniform: bool, x: &Access, first: usize, count: usize) -> Option<Meeting>
         requires { first + count < 2 ^ 64 }
-        ensures { result ≡ against_from uniform x.now (cell_in self.now.pages.items) first count }
+        ensures { result ≡ against_from uniform x.now (cell_in self.now.apart.items self.now.pages.items) first count }
     {
         if count == 0 {
             return None;
@@ -207,7 +232,7 @@ impl Pages {
     /// The conflict of an access on the lowest of its bytes that has one, by whether the launch is uniform.
     pub(crate) fn meeting(&self, uniform: bool, x: &Access) -> Option<Meeting>
         requires { x.now.first + byte_count x.now.width < 2 ^ 64 }
-        ensures { result ≡ against_from uniform x.now (cell_in self.now.pages.items) x.now.first (byte_count x.now.width) }
+        ensures { result ≡ against_from uniform x.now (cell_in self.now.apart.items self.now.pages.items) x.now.first (byte_count x.now.width) }
     {
         let first = x.first as usize;
         let count = x.width.bytes() as usize;
@@ -222,22 +247,17 @@ impl Pages {
         requires { page < 2 ^ 63 }
         ensures there { OnOk result (IsPage self.new.pages.items page) }
         ensures kept { (other : ℕ) → IsPage self.old.pages.items other → IsPage self.new.pages.items other }
-        ensures same { (byte : ℕ) → cell_in self.new.pages.items byte ≡ cell_in self.old.pages.items byte }
+        ensures same { (byte : ℕ) → cell_in self.new.apart.items self.new.pages.items byte ≡ cell_in self.old.apart.items self.old.pages.items byte }
     {
         grow(alloc, &mut self.pages, page + 1)?;
         fill(&mut self.pages[page])
     }
 
-    /// The words of the pages from one byte to another.
-    pub(crate) fn make_both(
-        &mut self,
-        alloc: Global,
-        first: usize,
-        last: usize,
-    ) -> Result<(), AllocError>
+    /// The words of the pages of two bytes, which may be one page.
+    fn make_both(&mut self, alloc: Global, first: usize, last: usize) -> Result<(), AllocError>
         ensures first { OnOk result (IsPage self.new.pages.items (first / 256)) }
         ensures last { OnOk result (IsPage self.new.pages.items (last / 256)) }
-        ensures same { (byte : ℕ) → cell_in self.new.pages.items byte ≡ cell_in self.old.pages.items byte }
+        ensures same { (byte : ℕ) → cell_in self.new.apart.items self.new.pages.items byte ≡ cell_in self.old.apart.items self.old.pages.items byte }
     {
         self.make(alloc, first / 256)?;
         if last / 256 == first / 256 {
@@ -273,7 +293,7 @@ impl Pages {
     /// Whether an access is new to what is kept of one of `count` bytes.
     fn has_news(&self, x: &Access, first: usize, count: usize) -> bool
         requires { first + count < 2 ^ 64 }
-        ensures { result ≡ false → (byte : ℕ) → first ≤ byte → byte < first + count → is_new (cell_in self.now.pages.items byte) (mark_of x.now byte) ≡ false }
+        ensures { result ≡ false → (byte : ℕ) → first ≤ byte → byte < first + count → is_new (cell_in self.now.apart.items self.now.pages.items byte) (mark_of x.now byte) ≡ false }
     {
         for byte in first..first + count {
             if is_new(self.cell(byte), mark_of(x, byte as u64)) {
@@ -286,8 +306,8 @@ impl Pages {
     /// Adds an access. Whether what is kept of one of its bytes changes. Where memory is refused nothing is added.
     pub(crate) fn add(&mut self, alloc: Global, x: &Access) -> Result<bool, AllocError>
         requires { x.now.first + byte_count x.now.width < 2 ^ 64 }
-        ensures marked { IfOk result (λ news. IsMarked (cell_in self.old.pages.items) (cell_in self.new.pages.items) (mark_of x.now) x.now.first (byte_count x.now.width) news) }
-        ensures same { OnErr result ((byte : ℕ) → cell_in self.new.pages.items byte ≡ cell_in self.old.pages.items byte) }
+        ensures marked { IfOk result (λ news. IsMarked (cell_in self.old.apart.items self.old.pages.items) (cell_in self.new.apart.items self.new.pages.items) (mark_of x.now) x.now.first (byte_count x.now.width) news) }
+        ensures same { OnErr result ((byte : ℕ) → cell_in self.new.apart.items self.new.pages.items byte ≡ cell_in self.old.apart.items self.old.pages.items byte) }
     {
         let first = x.first as usize;
         let count = x.width.bytes() as usize;
@@ -298,7 +318,12 @@ impl Pages {
         if !self.has_news(x, first, count) {
             return Ok(false);
         }
-        split_words(alloc, &mut self.pages, first / 4, (first + count - 1) / 4)?;
-        Ok(mark_bytes(&mut self.pages, x, first, count))
+        split_words(
+            &mut self.pages,
+            &mut self.apart,
+            first / 4,
+            (first + count - 1) / 4,
+        )?;
+        Ok(mark_bytes(&self.pages, &mut self.apart, x, first, count))
     }
 }

@@ -1,15 +1,15 @@
 //! What is kept of the accesses to a word: to four bytes, of which the first stands at a multiple of 4.
 
-ghost use Rattle.std.specs.Prelude.{◌≡◌, ◌<◌, ◌+◌, ◌==◌, ℕ, true, false, slice_index_or, OnOk, if◌then◌else◌};
+ghost use Rattle.std.specs.Prelude.{◌≡◌, List, ◌<◌, ◌+◌, ◌==◌, ℕ, true, false, slice_index_or, if◌then◌else◌};
 ghost use Rattle.clmodel.specs.Cells.{byte_of};
 ghost use Rattle.clmodel.specs.Launch.{left_at};
-ghost use Rattle.shadow.specs.Seen.{one_sort, left_by, mark_of, seen_with, is_new, mark_clash, against, byte_mark, byte_seen, is_ready, is_apart, half_start};
+ghost use Rattle.shadow.specs.Seen.{one_sort, left_by, mark_of, seen_with, is_new, mark_clash, against, byte_mark, bytes_at, own_seen, byte_seen, is_ready, IsApart, half_start};
 ghost use Rattle.shadow.specs.declared.seen.Seen.TheVariants as seen;
+ghost use Rattle.shadow.specs.declared.words.Bytes.{Bytes as TheBytes};
 
 use crate::seen::{Mark, Seen, is_new, seen_with};
 use clmodel::access::{Access, AccessKind};
 use shadow_list::{both_store, clash, kind_number};
-use std::alloc::{AllocError, Global};
 
 /// Who accessed all four bytes of a word, and how.
 #[derive(Clone, Copy)]
@@ -20,16 +20,24 @@ pub(crate) struct WordMark {
     pub(crate) left: u32,
 }
 
+/// What is kept of each byte of a word.
+#[derive(Clone, Copy)]
+pub(crate) struct Bytes {
+    /// The number of the word
+    pub(crate) word: usize,
+    pub(crate) bytes: [Seen; 4],
+}
+
 /// What is kept of the accesses to a word.
-#[derive(Drop)]
+#[derive(Clone, Copy)]
 pub(crate) enum Word {
     Untouched,
-    /// Each access was to all four bytes, of the sort of the first
+    /// What is kept of each byte is that of one access to all four
     Touched(WordMark),
-    /// .. or they were of two sorts; at a byte where both left the same they are of one
+    /// What is kept of each byte is that of two accesses to all four: of the first alone where they are of one sort at the byte
     Mixed(WordMark, WordMark),
-    /// What is kept of each byte
-    Apart(Box<[Seen; 4]>),
+    /// What is kept of each byte stands at this place in the buffer's list
+    Apart(usize),
 }
 
 /// The low or the high four bytes of a value.
@@ -76,19 +84,30 @@ fn byte_mark(mark: WordMark, k: usize) -> Mark
     }
 }
 
-/// What is kept of byte k of a word.
-pub(crate) fn byte_seen(word: &Word, k: usize) -> Seen
+/// What is kept of byte k of a word, by the bytes at a place in the list: nothing where they are of another word, which never happens.
+fn own_seen(apart: &[Bytes], number: usize, at: usize, k: usize) -> Seen
     requires { k < 4 }
-    ensures { result ≡ byte_seen word.now k }
+    ensures { result ≡ own_seen number (bytes_at apart.now at) k }
+{
+    match apart.get(at) {
+        Some(own) if own.word == number => own.bytes[k],
+        _ => Seen::Untouched,
+    }
+}
+
+/// What is kept of byte k of a word of this number.
+pub(crate) fn byte_seen(apart: &[Bytes], number: usize, word: Word, k: usize) -> Seen
+    requires { k < 4 }
+    ensures { result ≡ byte_seen apart.now number word k }
 {
     match word {
         Word::Untouched => Seen::Untouched,
-        Word::Touched(first) => Seen::Touched(byte_mark(*first, k)),
+        Word::Touched(first) => Seen::Touched(byte_mark(first, k)),
         Word::Mixed(first, other) => seen_with(
-            Seen::Touched(byte_mark(*first, k)),
-            byte_mark(*other, k),
+            Seen::Touched(byte_mark(first, k)),
+            byte_mark(other, k),
         ),
-        Word::Apart(bytes) => bytes[k],
+        Word::Apart(at) => own_seen(apart, number, at, k),
     }
 }
 
@@ -122,9 +141,9 @@ pub(crate) fn is_ready(word: &Word) -> bool
 /// Marks a word by an access to all of it. Whether what is kept of one of its bytes changes.
 pub(crate) fn mark_whole(word: &mut Word, mark: WordMark) -> bool
     requires { is_ready word.old ≡ true }
-    ensures marked { (k : ℕ) → k < 4 → byte_seen word.new k ≡ seen_with (byte_seen word.old k) (byte_mark mark k) }
-    ensures quiet { result ≡ false → (k : ℕ) → k < 4 → is_new (byte_seen word.old k) (byte_mark mark k) ≡ false }
-    ensures told { result ≡ true → (k : ℕ) × (k < 4) × (is_new (byte_seen word.old k) (byte_mark mark k) ≡ true) }
+    ensures marked { (apart : List TheBytes) (n k : ℕ) → k < 4 → byte_seen apart n word.new k ≡ seen_with (byte_seen apart n word.old k) (byte_mark mark k) }
+    ensures quiet { result ≡ false → (apart : List TheBytes) (n k : ℕ) → k < 4 → is_new (byte_seen apart n word.old k) (byte_mark mark k) ≡ false }
+    ensures told { result ≡ true → (apart : List TheBytes) (n : ℕ) → (k : ℕ) × (k < 4) × (is_new (byte_seen apart n word.old k) (byte_mark mark k) ≡ true) }
 {
     let first = match word {
         Word::Untouched => {
@@ -141,27 +160,38 @@ pub(crate) fn mark_whole(word: &mut Word, mark: WordMark) -> bool
     true
 }
 
-/// Keeps what is known of each byte of a word apart.
-pub(crate) fn split(alloc: Global, word: &mut Word) -> Result<(), AllocError>
-    ensures apart { OnOk result (is_apart word.new ≡ true) }
-    ensures stays { is_apart word.old ≡ true → is_apart word.new ≡ true }
-    ensures same { (k : ℕ) → k < 4 → byte_seen word.new k ≡ byte_seen word.old k }
+/// Whether each byte of a word of this number is kept apart.
+pub(crate) fn is_apart(apart: &[Bytes], number: usize, word: Word) -> bool
+    ensures { result ≡ true → IsApart apart.now number word }
 {
-    if let Word::Apart(_) = word {
-        return Ok(());
+    match word {
+        Word::Untouched | Word::Touched(_) | Word::Mixed(_, _) => false,
+        Word::Apart(at) => match apart.get(at) {
+            None => false,
+            Some(own) => own.word == number,
+        },
     }
+}
+
+/// What is kept of each byte of a word of this number.
+pub(crate) fn bytes_of(apart: &[Bytes], number: usize, word: Word) -> Bytes
+    ensures word { result.word ≡ number }
+    ensures bytes { (k : ℕ) → k < 4 → slice_index_or result.bytes k seen.Untouched ≡ byte_seen apart.now number word k }
+{
     let bytes = [
-        byte_seen(word, 0),
-        byte_seen(word, 1),
-        byte_seen(word, 2),
-        byte_seen(word, 3),
+        byte_seen(apart, number, word, 0),
+        byte_seen(apart, number, word, 1),
+        byte_seen(apart, number, word, 2),
+        byte_seen(apart, number, word, 3),
     ];
-    *word = Word::Apart(Box::new(alloc, bytes)?);
-    Ok(())
+    Bytes {
+        word: number,
+        bytes,
+    }
 }
 
 /// Marks byte k of four. Whether what is kept of it changes.
-fn mark_in(bytes: &mut [Seen; 4], k: usize, mark: Mark) -> bool
+pub(crate) fn mark_in(bytes: &mut [Seen; 4], k: usize, mark: Mark) -> bool
     requires { k < 4 }
     ensures marked { (j : ℕ) → slice_index_or bytes.new j seen.Untouched ≡ (if k == j then seen_with (slice_index_or bytes.old j seen.Untouched) mark else slice_index_or bytes.old j seen.Untouched) }
     ensures news { result ≡ is_new (slice_index_or bytes.old k seen.Untouched) mark }
@@ -169,20 +199,6 @@ fn mark_in(bytes: &mut [Seen; 4], k: usize, mark: Mark) -> bool
     let seen = bytes[k];
     bytes[k] = seen_with(seen, mark);
     is_new(seen, mark)
-}
-
-/// Marks byte k of a word that is kept apart. Whether what is kept of it changes.
-pub(crate) fn mark_part(word: &mut Word, k: usize, mark: Mark) -> bool
-    requires inside { k < 4 }
-    requires apart { is_apart word.old ≡ true }
-    ensures apart { is_apart word.new ≡ true }
-    ensures marked { (j : ℕ) → byte_seen word.new j ≡ (if k == j then seen_with (byte_seen word.old j) mark else byte_seen word.old j) }
-    ensures news { result ≡ is_new (byte_seen word.old k) mark }
-{
-    match word {
-        Word::Apart(bytes) => mark_in(bytes, k, mark),
-        Word::Untouched | Word::Touched(_) | Word::Mixed(_, _) => unreachable!(),
-    }
 }
 
 /// Whether accesses to all of a word with these marks don't conflict.
@@ -194,7 +210,7 @@ fn agrees(uniform: bool, a: WordMark, b: WordMark) -> bool
 
 /// Whether an access to all of a word is seen to conflict with none of those that are kept.
 pub(crate) fn passes(uniform: bool, mark: WordMark, word: &Word) -> bool
-    ensures { result ≡ true → (k byte : ℕ) → k < 4 → against uniform (byte_mark mark k) byte (byte_seen word.now k) ≡ None }
+    ensures { result ≡ true → (apart : List TheBytes) (n k byte : ℕ) → k < 4 → against uniform (byte_mark mark k) byte (byte_seen apart n word.now k) ≡ None }
 {
     match word {
         Word::Untouched => true,

@@ -1,34 +1,24 @@
-use Rattle.std.proofs.Common.{◌≡◌, ◌/◌, ◌%◌, ◌<◌, refl, subst, length, set}
-use Rattle.std.specs.Vec.{with_item}
-use Rattle.std.proofs.lemmas.List.{length-set}
-use Rattle.shadow.specs.Seen.{row_of}
-use Rattle.shadow.proofs.Cells.{was_row, was_word, apart_placed, put, put_apart}
-use Rattle.shadow.proofs.Marking.{byte_marked}
+use Rattle.std.proofs.Common.{◌≡◌, ◌/◌, ◌%◌, ◌<◌, ◌∙◌, sym, ap, subst, length, []}
+use Rattle.std.proofs.lemmas.List.{get_or_default}
+use Rattle.shadow.specs.Seen.{row_of, word_in, IsApart}
+use Rattle.shadow.specs.declared.words.Bytes.{Bytes}
+use Rattle.shadow.specs.declared.words.Word.TheVariants as word
+use Rattle.shadow.proofs.Cells.{was_row, was_word, apart_placed}
+use Rattle.shadow.proofs.Marking.{part_put}
 use Rattle.shadow.proofs.pages.mark_byte.Goals as goal
-
-pub returns-clause-kept : goal.returns-clause-kept
-returns-clause-kept c =
-    let pages = c.args.pages.now.items in
-    let n = c.args.byte / 4 in
-    let w = c.index_mut-row.result.now in
-    let s = c.mark_part.new.word in
-    let v = with_item w (n % 64) s in
-    let at = apart_placed pages n c.requires in
-    let row : row_of pages (n / 64) ≡ w.items = was_row pages (n / 64) w at.0 c.index_mut-row.ensures.value in
-    let inside : n % 64 < length w.items = subst (λ z. n % 64 < length z) row at.1 in
-    put_apart pages (set pages (n / 64) v) n s (put pages n v w s at.0 c.index_mut-row.ensures.value inside refl (length-set w.items (n % 64) s)) (λ _. c.mark_part.ensures.apart)
 
 pub returns-clause-marked : goal.returns-clause-marked
 returns-clause-marked c =
-    let pages = c.args.pages.now.items in
+    let pages = c.args.pages.now in
+    let apart = c.args.apart.now.items in
     let n = c.args.byte / 4 in
-    let w = c.index_mut-row.result.now in
-    let s = c.mark_part.new.word in
-    let v = with_item w (n % 64) s in
-    let at = apart_placed pages n c.requires in
-    let row : row_of pages (n / 64) ≡ w.items = was_row pages (n / 64) w at.0 c.index_mut-row.ensures.value in
+    let w = c.index-pages-number.result in
+    let b = c.index_mut.result.now in
+    let at = apart_placed apart pages n c.requires in
+    let row : row_of pages (n / 64) ≡ w.items = was_row pages (n / 64) w at.0 c.index-pages-number.is in
     let inside : n % 64 < length w.items = subst (λ z. n % 64 < length z) row at.1 in
-    byte_marked pages (set pages (n / 64) v) c.args.byte s c.index_mut.result.now c.args.mark c.mark_part.result
-    (put pages n v w s at.0 c.index_mut-row.ensures.value inside refl (length-set w.items (n % 64) s))
-    (was_word pages n w c.index_mut.result.now at.0 c.index_mut-row.ensures.value inside c.index_mut.ensures.value)
-    c.mark_part.ensures.marked c.mark_part.ensures.news
+    let here : word_in pages n ≡ word.Apart c.in-Apart.at = was_word pages n w c.index.result.now at.0 c.index-pages-number.is inside c.index.ensures ∙ c.in-Apart.is in
+    let is : IsApart apart n (word.Apart c.in-Apart.at) = subst (IsApart apart n) here c.requires in
+    let own : b.word ≡ n = ap (λ (z : Bytes). z.word) (c.index_mut.ensures.value ∙ sym (get_or_default apart c.in-Apart.at (record { word = 0; bytes = [] }) b is.0)) ∙ is.1 in
+    part_put pages apart c.args.byte c.in-Apart.at (record { word = b.word; bytes = c.mark_in.new.bytes }) b c.args.mark c.mark_in.result
+    here is.0 c.index_mut.ensures.value own own c.mark_in.ensures.marked c.mark_in.ensures.news

@@ -40,9 +40,9 @@ returns-clause-news c =
     if_then c.add.result
     (λ news h none log keeps.
     subst (λ r. AbsorbedAt r log x) (sym c.in-Buffer.is) (λ byte at.
-    let told : is_new (cell_in w.pages.items byte) (mark_of x byte) ≡ false
+    let told : is_new (cell_in w.apart.items w.pages.items byte) (mark_of x byte) ≡ false
     = h.quiet none byte (and_parts (same_region (region.Buffer n) x.region) (covers x.first (byte_count x.width) byte) at).1 in
-    let same : cell_in w.pages.items byte ≡ seen (region.Buffer n) byte log
+    let same : cell_in w.apart.items w.pages.items byte ≡ seen (region.Buffer n) byte log
     = sym (ap (λ f. f byte) (cells_there old n w c.in_ok-make_room.ensures.long c.index_mut.ensures.value)) ∙ c.make_room.ensures.same n byte ∙ keeps n byte in
     not_new (seen (region.Buffer n) byte log) (mark_of x byte) (sym (ap (λ z. is_new z (mark_of x byte)) same) ∙ told))) c.add.ensures.marked
 
@@ -59,7 +59,7 @@ returns-clause-told c =
     let at : at_byte (region.Buffer n) byte x ≡ true
     = ap (λ a. same_region (region.Buffer n) a && covers x.first (byte_count x.width) byte) c.in-Buffer.is
     ∙ ap₂ (λ a b. a && b) (eq-eqb n n refl) there.1 in
-    let same : cell_in w.pages.items byte ≡ seen (region.Buffer n) byte log
+    let same : cell_in w.apart.items w.pages.items byte ≡ seen (region.Buffer n) byte log
     = sym (ap (λ f. f byte) (cells_there old n w c.in_ok-make_room.ensures.long c.index_mut.ensures.value)) ∙ c.make_room.ensures.same n byte ∙ keeps n byte in
     let takes = subst (λ r. AbsorbedAt r log x) c.in-Buffer.is absorbed byte at in
     new_changes (seen (region.Buffer n) byte log) (mark_of x byte) (sym (ap (λ z. is_new z (mark_of x byte)) same) ∙ there.2) takes) c.add.ensures.marked

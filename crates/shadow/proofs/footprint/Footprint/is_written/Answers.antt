@@ -23,7 +23,7 @@ returns-in-Some c log keeps =
     c.is_written.ensures
     ∙ ap is_written c.cell.ensures
     ∙ ap is_written
-    (keeps_at buffers log c.args.number at (cell_in v.pages.items) keeps refl
+    (keeps_at buffers log c.args.number at (cell_in v.apart.items v.pages.items) keeps refl
     (cells_there buffers c.args.number v (subst (λ z. c.args.number < length z) c.deref.ensures.value c.in-Some.ensures.lookup.3.0)
     (subst (λ z. v ≡ get_or z c.args.number v) c.deref.ensures.value c.in-Some.ensures.lookup.1)) c.args.byte)
     ∙ written at c.args.byte log

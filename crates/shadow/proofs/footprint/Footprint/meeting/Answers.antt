@@ -23,8 +23,8 @@ returns-in-Some c log keeps others =
     let buffers = c.args.self.now.buffers.items in
     let v = c.in-Some.pages.now in
     c.meeting.ensures
-    ∙ met_whole c.args.uniform x log (cell_in v.pages.items) (byte_count x.width) others
-    (keeps_at buffers log c.in-Buffer.number x.region (cell_in v.pages.items) keeps c.in-Buffer.is
+    ∙ met_whole c.args.uniform x log (cell_in v.apart.items v.pages.items) (byte_count x.width) others
+    (keeps_at buffers log c.in-Buffer.number x.region (cell_in v.apart.items v.pages.items) keeps c.in-Buffer.is
     (cells_there buffers c.in-Buffer.number v (subst (λ z. c.in-Buffer.number < length z) c.deref.ensures.value c.in-Some.ensures.lookup.3.0)
     (subst (λ z. v ≡ get_or z c.in-Buffer.number v) c.deref.ensures.value c.in-Some.ensures.lookup.1)))
     refl

@@ -6,7 +6,7 @@ pub returns-in_err-grow-clause-kept : goal.returns-in_err-grow-clause-kept
 returns-in_err-grow-clause-kept c other h = same_page c.args.self.now.pages.items c.grow.new.pages.items other (c.grow.ensures.same other) h
 
 pub returns-in_err-grow-clause-same : goal.returns-in_err-grow-clause-same
-returns-in_err-grow-clause-same c byte = same_rows c.args.self.now.pages.items c.grow.new.pages.items c.grow.ensures.same byte
+returns-in_err-grow-clause-same c byte = same_rows c.args.self.now.apart.items c.args.self.now.pages.items c.grow.new.pages.items c.grow.ensures.same byte
 
 pub returns-clause-there : goal.returns-clause-there
 returns-clause-there c =
@@ -25,5 +25,5 @@ pub returns-clause-same : goal.returns-clause-same
 returns-clause-same c byte =
     let grown = c.grow.new.pages.items in
     let inside : c.args.page < length grown = omega (arith, c.in_ok-grow.ensures.long) in
-    filled_cell grown c.args.page c.fill.new.row c.index_mut.result.now inside c.index_mut.ensures.value c.fill.ensures.same byte
-    ∙ same_rows c.args.self.now.pages.items grown c.grow.ensures.same byte
+    filled_cell c.args.self.now.apart.items grown c.args.page c.fill.new.row c.index_mut.result.now inside c.index_mut.ensures.value c.fill.ensures.same byte
+    ∙ same_rows c.args.self.now.apart.items c.args.self.now.pages.items grown c.grow.ensures.same byte
