@@ -4,15 +4,25 @@
 ghost use Rattle.std.specs.Prelude.{◌≤◌};
 
 use crate::overlap::Results;
+use clmodel::schedule::{EventRun, Schedule};
 use group_run::GroupResult;
 use shadow::{GroupAccesses, LastingList};
 use spaces::Overlay;
 
-/// How many accesses the results of a round are to keep, about: those of two rounds take some 7 MB.
-const ROUND_ACCESSES: usize = 65_536;
+/// How many bytes the results of a round are to take, about; those of two rounds wait at a time.
+const ROUND_BYTES: usize = 7_340_032;
 
-/// What a result holds beside its accesses takes about as much as this many of them.
-const ACCESSES_BESIDE: usize = 96;
+/// How many bytes an access takes that a result keeps.
+const ACCESS_BYTES: usize = 56;
+
+/// How many bytes a page of a buffer takes that a group changed: 256, and what tells which of them it changed.
+const PAGE_BYTES: usize = 272;
+
+/// How many bytes a page takes in the table of the pages from the lowest to the highest that a group changed.
+const ENTRY_BYTES: usize = 8;
+
+/// How many bytes a result takes beside these, about.
+const BYTES_BESIDE: usize = 3_072;
 
 /// How many groups the first round has for each worker.
 const FIRST_EACH: u32 = 4;
@@ -21,23 +31,72 @@ const FIRST_EACH: u32 = 4;
 const LEAST_EACH: u32 = 2;
 
 /// How many groups the last round has for each worker at most: no group runs beside its join.
-const LAST_EACH: u32 = 8;
+const LAST_EACH: u32 = 4;
 
-/// How many accesses a result keeps.
-fn kept_by(came: &GroupResult<Overlay<'_>, LastingList>) -> usize {
-    match came {
-        GroupResult::Done { log, .. } => log.len(),
-        GroupResult::Stopped { log, .. } => log.len(),
+/// How many bytes the changes of a buffer take. One step for each page that changed.
+fn changed_bytes(buffer: &Overlay<'_>) -> usize {
+    let pages = buffer.changed();
+    let mut lowest = usize::MAX;
+    let mut highest = 0;
+    for page in pages {
+        lowest = lowest.min(*page);
+        highest = highest.max(*page);
     }
+    let between = highest.saturating_sub(lowest);
+    pages
+        .len()
+        .saturating_mul(PAGE_BYTES)
+        .saturating_add(between.saturating_mul(ENTRY_BYTES))
 }
 
-/// How many accesses results keep.
-fn kept_by_all(results: &Results<'_>) -> usize {
-    let mut kept: usize = 0;
-    for i in 0..results.len() {
-        kept = kept.saturating_add(kept_by(&results[i]));
+/// How many bytes the changes of all buffers take.
+fn changed_bytes_of(buffers: &Vec<Overlay<'_>>) -> usize {
+    let mut bytes: usize = 0;
+    for buffer in buffers {
+        bytes = bytes.saturating_add(changed_bytes(buffer));
     }
-    kept
+    bytes
+}
+
+/// How many bytes a result takes, about.
+fn bytes_of(came: &GroupResult<Overlay<'_>, LastingList>) -> usize {
+    let (accesses, changes) = match came {
+        GroupResult::Done { log, spaces, .. } => (log.len(), changed_bytes_of(spaces)),
+        GroupResult::Stopped { log, .. } => (log.len(), 0),
+    };
+    accesses
+        .saturating_mul(ACCESS_BYTES)
+        .saturating_add(changes)
+        .saturating_add(BYTES_BESIDE)
+}
+
+/// How many bytes results take, about.
+fn bytes_of_all(results: &Results<'_>) -> usize {
+    let mut bytes: usize = 0;
+    for came in results {
+        bytes = bytes.saturating_add(bytes_of(came));
+    }
+    bytes
+}
+
+/// How many events a group had.
+fn event_count(runs: &Schedule) -> u64 {
+    let mut events: u64 = 0;
+    for run in runs.as_slice() {
+        if let EventRun::Item { count, .. } = run {
+            events = events.saturating_add(*count);
+        }
+    }
+    events
+}
+
+/// Whether the join of such a group takes long beside its run: it keeps more accesses than half of its events.
+fn joins_slowly(came: &GroupResult<Overlay<'_>, LastingList>) -> bool {
+    let (kept, runs) = match came {
+        GroupResult::Done { log, runs, .. } => (log.len(), runs),
+        GroupResult::Stopped { log, runs, .. } => (log.len(), runs),
+    };
+    kept as u64 > event_count(runs) / 2
 }
 
 /// How many groups the first round has, which tells how much the others will keep.
@@ -48,19 +107,21 @@ pub(crate) fn first_round(workers: u32) -> u32
     FIRST_EACH * workers
 }
 
-/// How many groups the next round has, of those that are left: as many as may be if each keeps as many accesses as those of the round before,
-/// and at most three quarters of them where more are left than the last round is to have.
+/// How many groups the next round has, of those that are left: as many as may be if each result takes as many bytes as those of the round
+/// before. Where more are left than the last round is to have, a quarter of them stay for the round that runs beside its join, and half of
+/// them where a join takes long.
 pub(crate) fn next_round(results: &Results<'_>, workers: u32, left: u32) -> u32
     requires { (1 ≤ workers) × (workers ≤ 16) }
     ensures { 1 ≤ result }
 {
-    let kept = kept_by_all(results) / results.len().max(1);
-    let most = ROUND_ACCESSES / kept.saturating_add(ACCESSES_BESIDE);
+    let bytes = bytes_of_all(results) / results.len().max(1);
+    let most = (ROUND_BYTES / bytes.max(1)) as u32;
     let wanted = if left <= LAST_EACH * workers {
         left
+    } else if results.last().is_some_and(joins_slowly) {
+        left - left / 2
     } else {
         left - left / 4
     };
-    let most = (most as u32).min(wanted);
-    most.max(LEAST_EACH * workers)
+    most.min(wanted).max(LEAST_EACH * workers)
 }

@@ -7,7 +7,7 @@ use lib.ListN.{get_elem?}
 use Rattle.atomic_table.proofs.Lists.{at_set, at_snoc}
 use Rattle.atomic_table.specs.Table.{State, Me, step, keeps, Allows, Splits, Joins}
 use Rattle.workers_draw.specs.declared.board.Hand.{Hand}
-use Rattle.workers_draw.specs.Board.{total, total_below, is_it, is_past, Has, hand, IsStop, IsLeast, Kept, Holds, drew, looked, lowered, half, dealer, worker, both, nobody}
+use Rattle.workers_draw.specs.Board.{total, total_below, is_it, is_past, Has, hand, IsStop, IsLeast, Kept, Holds, drew, looked, lowered, dealer, worker, both, nobody}
 use Rattle.workers_draw.proofs.Totals.{total_set, total-append, total_le, total_alone, is_it-same, is_it-else, is_past-most, below_past, below_has, below_not}
 
 -- a fact about each view, after one of them changed
@@ -100,29 +100,29 @@ module _ (count : ℕ) where
       }
   lowers_on (a ∷ b ∷ c ∷ ws) views id v n h at some_part = absurd h
 
-  deals_on : (words : List ℕ) (views : List Hand) (id : ℕ) (v : Hand) → Holds count words views → get_elem? views id ≡ some v → v.drawn ≡ [] → v.stopped ≡ []
+  deals_on : (words : List ℕ) (views : List Hand) (id : ℕ) (v : Hand) → Holds count words views → get_elem? views id ≡ some v → 0 < v.parts → v.drawn ≡ [] → v.stopped ≡ []
       → Holds count words (set views id (dealer v) ++ worker v ∷ [])
-  deals_on [] views id v h at nil calm = absurd h
-  deals_on (a ∷ []) views id v h at nil calm = absurd h
-  deals_on (a ∷ b ∷ []) views id v k at nil calm =
+  deals_on [] views id v h at part nil calm = absurd h
+  deals_on (a ∷ []) views id v h at part nil calm = absurd h
+  deals_on (a ∷ b ∷ []) views id v k at part nil calm =
       let l : Hand = dealer v in let r : Hand = worker v in let vs = set views id l in
       let more : (e : ℕ) → IsStop views e → IsStop (vs ++ r ∷ []) e = λ e h.
       let s = total_set (λ (u : Hand). total (is_it e) u.stopped) views id v l at in
       let t = total-append (λ (u : Hand). total (is_it e) u.stopped) vs (r ∷ []) in omega (arith, s, t, h) in
       record {
-        parts = (let s = total_set (λ (u : Hand). u.parts) views id v l at in let t = total-append (λ (u : Hand). u.parts) vs (r ∷ []) in let p = k.parts in omega (arith, s, t, p));
+        parts = (let s = total_set (λ (u : Hand). u.parts) views id v l at in let t = total-append (λ (u : Hand). u.parts) vs (r ∷ []) in let p = k.parts in omega (arith, s, t, p, part));
         drawn = λ h.
             let s = total_set (λ (u : Hand). total h u.drawn) views id v l at in
             let t = total-append (λ (u : Hand). total h u.drawn) vs (r ∷ []) in
             let p = k.drawn h in omega (arith, s, t, p);
-        past = each_more (λ u. total (is_past count) u.drawn ≤ u.parts) vs r (each_set (λ u. total (is_past count) u.drawn ≤ u.parts) views id l k.past (subst (λ ds. total (is_past count) ds ≤ v.parts - half v.parts) (sym nil) (omega arith))) (omega arith);
+        past = each_more (λ u. total (is_past count) u.drawn ≤ u.parts) vs r (each_set (λ u. total (is_past count) u.drawn ≤ u.parts) views id l k.past (subst (λ ds. total (is_past count) ds ≤ v.parts - 1) (sym nil) (omega arith))) (omega arith);
         idle = each_more (λ u. u.parts ≡ 0 → (u.drawn ≡ []) × (u.stopped ≡ [])) vs r (each_set (λ u. u.parts ≡ 0 → (u.drawn ≡ []) × (u.stopped ≡ [])) views id l k.idle (λ _. (nil, calm))) (λ _. (refl, refl));
         least = still_least views (vs ++ r ∷ []) b (more b) k.least;
         seen = each_more (λ u. (e : ℕ) → Has u.seen e → IsLeast count (vs ++ r ∷ []) e) vs r
             (each_set (λ u. (e : ℕ) → Has u.seen e → IsLeast count (vs ++ r ∷ []) e) views id l (λ j u there e h. still_least views (vs ++ r ∷ []) e (more e) (k.seen j u there e h)) (λ e h. still_least views (vs ++ r ∷ []) e (more e) (k.seen id v at e h)))
             (λ e h. absurd (omega (arith, h)));
       }
-  deals_on (a ∷ b ∷ c ∷ ws) views id v h at nil calm = absurd h
+  deals_on (a ∷ b ∷ c ∷ ws) views id v h at part nil calm = absurd h
 
   joins_on : (words : List ℕ) (views : List Hand) (id : ℕ) (v : Hand) (other : ℕ) (w : Hand) → Holds count words views → get_elem? views id ≡ some v → ¬ (other ≡ id)
       → get_elem? (set views id (both v w)) other ≡ some w → Holds count words (set (set views id (both v w)) other nobody)
@@ -175,8 +175,8 @@ module _ (count : ℕ) where
     lowers slots id me n some_part s h homes at fits =
         (hand me.0.parts me.0.drawn me.0.seen (me.0.stopped ++ n ∷ []), keeps, tt, lowers_on s.words s.views id me.0 n h at some_part, refl)
 
-    pub deals : (id : ℕ) (v : Hand) → v.drawn ≡ [] → v.stopped ≡ [] → Splits (λ (s : State S Hand). Holds count s.words s.views) id v (dealer v) (worker v)
-    deals id v nil calm s h at = deals_on s.words s.views id v h at nil calm
+    pub deals : (id : ℕ) (v : Hand) → 0 < v.parts → v.drawn ≡ [] → v.stopped ≡ [] → Splits (λ (s : State S Hand). Holds count s.words s.views) id v (dealer v) (worker v)
+    deals id v part nil calm s h at = deals_on s.words s.views id v h at part nil calm
 
     pub joins : (id : ℕ) (v : Hand) (other : ℕ) (w : Hand) → Joins (λ (s : State S Hand). Holds count s.words s.views) id v other w (both v w) nobody
     joins id v other w s h at apart there = joins_on s.words s.views id v other w h at apart there

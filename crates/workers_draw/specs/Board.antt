@@ -1,6 +1,6 @@
 -- The rule of the two words that workers share, and what each step tells. All of it is own: the standard doesn't say who runs which group.
 -- Word 0 is the number of draws. Word 1 is the count of groups, or a group whose run stops.
-use Rattle.std.specs.Prelude.{◌≡◌, ◌⊎◌, ℕ, suc, zero, ◌+◌, ◌-◌, ◌/◌, ◌<◌, ◌≤◌, ◌==◌, if◌then◌else◌, List, [], ◌∷◌, ◌++◌, nat_le}
+use Rattle.std.specs.Prelude.{◌≡◌, ◌⊎◌, ℕ, suc, zero, ◌+◌, ◌-◌, ◌<◌, ◌≤◌, ◌==◌, if◌then◌else◌, List, [], ◌∷◌, ◌++◌, nat_le}
 use mathlib.Core.Option.{some}
 use lib.ListN.{get_elem?}
 use Rattle.atomic_table.specs.Table.{Me, Step}
@@ -66,15 +66,12 @@ module _ {S : Type 0} where
   abbrev pub lowered : Step S → Me S Hand → ℕ → Me S Hand → Type 0
   lowered s me n after = after ≡ (hand me.0.parts me.0.drawn me.0.seen (me.0.stopped ++ s.first ∷ []), me.1)
 
-abbrev pub half : ℕ → ℕ
-half n = n / 2
-
--- half of the parts, and the other half for a seat that has drawn nothing
+-- all parts but one, and that one for a seat that has drawn nothing
 abbrev pub dealer : Hand → Hand
-dealer v = hand (v.parts - half v.parts) v.drawn v.seen v.stopped
+dealer v = hand (v.parts - 1) v.drawn v.seen v.stopped
 
 abbrev pub worker : Hand → Hand
-worker v = hand (half v.parts) [] [] []
+worker v = hand 1 [] [] []
 
 abbrev pub both : Hand → Hand → Hand
 both v w = hand (v.parts + w.parts) (v.drawn ++ w.drawn) (v.seen ++ w.seen) (v.stopped ++ w.stopped)

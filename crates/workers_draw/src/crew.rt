@@ -1,8 +1,8 @@
 //! Workers in threads of their own.
-ghost use Rattle.std.specs.Prelude.{◌≡◌, ℕ, ◌<◌, ◌≤◌, ◌-◌, ◌+◌, ◌^◌, [], IfOk, OnOk, All, vec_len};
+ghost use Rattle.std.specs.Prelude.{◌≡◌, ◌<◌, ◌≤◌, ◌-◌, ◌+◌, ◌^◌, [], IfOk};
 ghost use Rattle.std.specs.Thread.{IsSync};
 ghost use denote.Param.Send.{IsSend};
-ghost use Rattle.workers_draw.specs.Board.{hand, half, dealer, both};
+ghost use Rattle.workers_draw.specs.Board.{both};
 ghost use Rattle.workers_draw.specs.Groups.{IsFresh, DidWork};
 
 use crate::board::{Board, Deal, Place, Together};
@@ -14,12 +14,13 @@ use std::sync::Wait;
 use std::thread;
 use std::thread::Threads;
 
-/// A seat with half of the parts.
+/// A seat with one of the parts.
 fn deal(board: &Board, seat: &mut Place) -> Place
     requires board { board.now.table_id.words ≡ 2 }
     requires fresh { IsFresh board.now.table_id seat.old.me.0.parts seat.old }
-    ensures left { IsFresh board.now.table_id (seat.old.me.0.parts - half seat.old.me.0.parts) seat.new }
-    ensures right { IsFresh board.now.table_id (half seat.old.me.0.parts) result }
+    requires some { 0 < seat.old.me.0.parts }
+    ensures left { IsFresh board.now.table_id (seat.old.me.0.parts - 1) seat.new }
+    ensures right { IsFresh board.now.table_id 1 result }
 {
     board.split_seat::<Deal>(seat)
 }
@@ -58,47 +59,10 @@ fn together<W: Work>(
     Ok(Worker { seat, outputs })
 }
 
-/// Lets this many workers work, each in a thread of its own where one can be made, and one in this thread.
+/// Lets this many workers work. The calling thread makes a call, and is then one of them; it starts all others itself, since a thread's first
+/// threads may be left on its own processor while others idle. A thread that can't be started is done without.
 #[cycle(crew)]
-pub(crate) fn crew<W: Work, G: Gate, R: Threads + Wait + Sync>(
-    rt: &R,
-    alloc: Global,
-    work: &W,
-    gate: &G,
-    board: &Board,
-    mut seat: Place,
-    workers: usize,
-) -> Result<Worker<W::Output>, AllocError>
-    requires board { (board.now.key ≡ W.count work.now) × (board.now.table_id.words ≡ 2) }
-    requires small { W.count work.now < 2 ^ 32 }
-    requires seat { IsFresh board.now.table_id seat.me.0.parts seat }
-    requires workers { (0 < workers) × (workers ≤ seat.me.0.parts) }
-    ensures { IfOk result (DidWork (W.count work.now) (W.gives work.now) (W.stops work.now) board.now.table_id seat.me.0.parts) }
-{
-    if workers == 1 {
-        return work_at(rt, alloc, work, gate, board, seat);
-    }
-    let low = workers / 2;
-    let high = workers - low;
-    let theirs = deal(board, &mut seat);
-    let (other, one) = thread::join(
-        rt,
-        move || -> Result<Worker<W::Output>, AllocError>
-            requires { IsSync R.row × IsSync W.row × IsSync G.row × IsSend W.Output.row × (board.now.key ≡ W.count work.now) × (board.now.table_id.words ≡ 2) × (W.count work.now < 2 ^ 32) × IsFresh board.now.table_id theirs.me.0.parts theirs × (0 < low) × (low ≤ theirs.me.0.parts) }
-            ensures { IfOk result (DidWork (W.count work.entry.now) (W.gives work.entry.now) (W.stops work.entry.now) board.entry.now.table_id theirs.me.0.parts) }
-        { crew(rt, alloc, work, gate, board, theirs, low) },
-        move || -> Result<Worker<W::Output>, AllocError>
-            requires { IsSync R.row × IsSync W.row × IsSync G.row × IsSend W.Output.row × (board.now.key ≡ W.count work.now) × (board.now.table_id.words ≡ 2) × (W.count work.now < 2 ^ 32) × IsFresh board.now.table_id seat.me.0.parts seat × (0 < high) × (high ≤ seat.me.0.parts) }
-            ensures { IfOk result (DidWork (W.count work.entry.now) (W.gives work.entry.now) (W.stops work.entry.now) board.entry.now.table_id seat.me.0.parts) }
-        { crew(rt, alloc, work, gate, board, seat, high) },
-    );
-    together(work, board, one?, other?)
-}
-
-/// Lets this many workers work while the calling thread makes a call: it is one of them, and works once the call is made. Where no thread can
-/// be started it does all the work.
-#[cycle(crew_after)]
-pub(crate) fn crew_after<W: Work, G: Gate, R: Threads + Wait + Sync, F: FnOnce() -> T, T>(
+pub(crate) fn crew<W: Work, G: Gate, R: Threads + Wait + Sync, F: FnOnce() -> T, T>(
     rt: &R,
     alloc: Global,
     work: &W,
@@ -120,19 +84,18 @@ pub(crate) fn crew_after<W: Work, G: Gate, R: Threads + Wait + Sync, F: FnOnce()
         let made = call();
         return (work_at(rt, alloc, work, gate, board, seat), made);
     }
-    let low = workers / 2;
-    let high = workers - low;
+    let rest = workers - 1;
     let theirs = deal(board, &mut seat);
     let (other, ours) = thread::join(
         rt,
         move || -> Result<Worker<W::Output>, AllocError>
-            requires { IsSync R.row × IsSync W.row × IsSync G.row × IsSend W.Output.row × (board.now.key ≡ W.count work.now) × (board.now.table_id.words ≡ 2) × (W.count work.now < 2 ^ 32) × IsFresh board.now.table_id theirs.me.0.parts theirs × (0 < low) × (low ≤ theirs.me.0.parts) }
+            requires { IsSync R.row × IsSync W.row × IsSync G.row × IsSend W.Output.row × (board.now.key ≡ W.count work.now) × (board.now.table_id.words ≡ 2) × (W.count work.now < 2 ^ 32) × IsFresh board.now.table_id theirs.me.0.parts theirs × (0 < theirs.me.0.parts) }
             ensures { IfOk result (DidWork (W.count work.entry.now) (W.gives work.entry.now) (W.stops work.entry.now) board.entry.now.table_id theirs.me.0.parts) }
-        { crew(rt, alloc, work, gate, board, theirs, low) },
+        { work_at(rt, alloc, work, gate, board, theirs) },
         move || -> (Result<Worker<W::Output>, AllocError>, T)
-            requires { IsSync R.row × IsSync W.row × IsSync G.row × IsSend W.Output.row × (board.now.key ≡ W.count work.now) × (board.now.table_id.words ≡ 2) × (W.count work.now < 2 ^ 32) × IsFresh board.now.table_id seat.me.0.parts seat × (0 < high) × (high ≤ seat.me.0.parts) × F.pre call }
+            requires { IsSync R.row × IsSync W.row × IsSync G.row × IsSend W.Output.row × (board.now.key ≡ W.count work.now) × (board.now.table_id.words ≡ 2) × (W.count work.now < 2 ^ 32) × IsFresh board.now.table_id seat.me.0.parts seat × (0 < rest) × (rest ≤ seat.me.0.parts) × F.pre call }
             ensures { IfOk result.0 (DidWork (W.count work.entry.now) (W.gives work.entry.now) (W.stops work.entry.now) board.entry.now.table_id seat.me.0.parts) × F.post call result.1 }
-        { crew_after(rt, alloc, work, gate, board, seat, high, call) },
+        { crew(rt, alloc, work, gate, board, seat, rest, call) },
     );
     let (one, made) = ours;
     let worker = match one {

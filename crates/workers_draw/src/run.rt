@@ -4,7 +4,7 @@ ghost use Rattle.workers_draw.specs.Board.{Has};
 ghost use Rattle.workers_draw.specs.Groups.{IsDone, IsFresh, DidWork, AreResults};
 
 use crate::board::{Drawing, Hand, Place};
-use crate::crew::{crew, crew_after};
+use crate::crew::crew;
 use crate::gate::Gate;
 use crate::gather::{accept_all, in_order, places};
 use crate::work::Work;
@@ -67,9 +67,7 @@ pub fn run_groups<W: Work, G: Gate, R: Threads + Wait + Sync>(
     requires { (0 < workers) × (workers ≤ 16) }
     ensures { IfOk result (λ v. AreResults (W.count work.now) (W.gives work.now) W.is_stopped 0 v.items) }
 {
-    let (table, seat) = open(alloc, work.group_count())?;
-    let worker = crew(rt, alloc, work, gate, &table.shared, seat, workers);
-    gathered(alloc, work, table, worker)
+    run_groups_after(rt, alloc, work, workers, gate, || {}).0
 }
 
 /// The same where the calling thread makes a call first, and then works with the others.
@@ -89,16 +87,8 @@ pub fn run_groups_after<W: Work, G: Gate, R: Threads + Wait + Sync, F: FnOnce() 
     match open(alloc, work.group_count()) {
         Err(error) => (Err(error), call()),
         Ok((table, seat)) => {
-            let (worker, made) = crew_after(
-                rt,
-                alloc,
-                work,
-                gate,
-                &table.shared,
-                seat,
-                workers,
-                call,
-            );
+            let (worker, made) =
+                crew(rt, alloc, work, gate, &table.shared, seat, workers, call);
             (gathered(alloc, work, table, worker), made)
         }
     }

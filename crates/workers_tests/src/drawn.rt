@@ -31,17 +31,20 @@ fn all_groups_in_their_order(rt: HostRuntime) -> Result<(), Fail> {
     Ok(())
 }
 
+/// As many workers as are asked for take part: each has to draw a group, since none goes on before all groups have entered.
 #[test]
-fn two_workers_meet(rt: HostRuntime) -> Result<(), Fail> {
-    let groups = Numbers {
-        count: 2,
-        low: NONE,
-        high: NONE,
-    };
-    let gate = Meeting::new();
-    let results = run_groups(&rt, rt.alloc(), &groups, 2, &gate)?;
-    assert_eq!(rt; results.len(), 2);
-    assert_eq!(rt; gate.met(), 2);
+fn all_workers_meet(rt: HostRuntime) -> Result<(), Fail> {
+    for workers in [2, 3, 16] {
+        let groups = Numbers {
+            count: workers,
+            low: NONE,
+            high: NONE,
+        };
+        let gate = Meeting::new(workers);
+        let results = run_groups(&rt, rt.alloc(), &groups, workers as usize, &gate)?;
+        assert_eq!(rt; results.len(), workers as usize);
+        assert_eq!(rt; gate.met(), u64::from(workers));
+    }
     Ok(())
 }
 

@@ -18,23 +18,25 @@ pub fn comes_to(count: &AtomicU64, number: u64) -> bool {
     false
 }
 
-/// Holds groups 0 and 1 until both have entered.
+/// Holds the first groups, so many of them, until all of these have entered.
 #[derive(Drop)]
 pub struct Meeting {
+    count: u32,
     entered: AtomicU64,
     met: AtomicU64,
 }
 
 impl Meeting {
-    /// A gate that no group has entered.
-    pub fn new() -> Self {
+    /// A gate that no group has entered. It holds the groups below `count`.
+    pub fn new(count: u32) -> Self {
         Meeting {
+            count,
             entered: AtomicU64::new(0),
             met: AtomicU64::new(0),
         }
     }
 
-    /// How many of the two went on since both had entered.
+    /// How many of the groups went on since all of them had entered.
     pub fn met(&self) -> u64 {
         self.met.load(Ordering::SeqCst)
     }
@@ -42,9 +44,9 @@ impl Meeting {
 
 impl Gate for Meeting {
     fn enter(&self, group: u32) {
-        if group < 2 {
+        if group < self.count {
             self.entered.fetch_add(1, Ordering::SeqCst);
-            if comes_to(&self.entered, 2) {
+            if comes_to(&self.entered, u64::from(self.count)) {
                 self.met.fetch_add(1, Ordering::SeqCst);
             }
         }

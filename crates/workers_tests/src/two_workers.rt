@@ -63,7 +63,7 @@ fn they_meet_in_run_parallel(rt: HostRuntime) -> Result<(), Fail> {
     let Some((device, command)) = all_but_the_last(rt.alloc(), SUM) else {
         panic!(rt; "no script")
     };
-    let gate = Meeting::new();
+    let gate = Meeting::new(2);
     let outcome = launched(&rt, rt.alloc(), &device, &command, 2, &gate)?;
     assert!(rt; outcome.is_some_and(|outcome| has_sums(&outcome)));
     assert_eq!(rt; gate.met(), 2);
@@ -88,7 +88,7 @@ fn they_meet_in_apply_with(rt: HostRuntime) -> Result<(), Fail> {
     let Some((device, command)) = all_but_the_last(rt.alloc(), SUM) else {
         panic!(rt; "no script")
     };
-    let gate = Meeting::new();
+    let gate = Meeting::new(2);
     assert!(rt; is_applied(&rt, rt.alloc(), device, command, &gate)?);
     assert_eq!(rt; gate.met(), 2);
     Ok(())
@@ -142,7 +142,7 @@ fn they_meet_in_drive_with(rt: HostRuntime) -> Result<(), Fail> {
     let Some((device, command)) = all_but_the_last(rt.alloc(), SUM) else {
         panic!(rt; "no script")
     };
-    let gate = Meeting::new();
+    let gate = Meeting::new(2);
     let Some((reply, device)) = driven(&rt, rt.alloc(), device, command, &gate)? else {
         panic!(rt; "no reply")
     };

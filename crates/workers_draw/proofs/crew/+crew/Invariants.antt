@@ -3,8 +3,5 @@ use Rattle.workers_draw.proofs.crew.+crew.Given as goal
 abbrev pub decreases-crew : goal.decreases-crew
 decreases-crew g l = l.workers
 
-abbrev pub decreases-join+arg2 : goal.decreases-join+arg2
-decreases-join+arg2 g l = l.low
-
 abbrev pub decreases-join+arg3 : goal.decreases-join+arg3
-decreases-join+arg3 g l = l.high
+decreases-join+arg3 g l = l.rest
