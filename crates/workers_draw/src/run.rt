@@ -87,8 +87,7 @@ pub fn run_groups_after<W: Work, G: Gate, R: Threads + Wait + Sync, F: FnOnce() 
     match open(alloc, work.group_count()) {
         Err(error) => (Err(error), call()),
         Ok((table, seat)) => {
-            let (worker, made) =
-                crew(rt, alloc, work, gate, &table.shared, seat, workers, call);
+            let (worker, made) = crew(rt, alloc, work, gate, &table.shared, seat, workers, call);
             (gathered(alloc, work, table, worker), made)
         }
     }
