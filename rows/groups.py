@@ -1,6 +1,6 @@
 """Launches of two to four work-groups whose items do what chance says, with the reply that the canonical run on one memory comes to.
 
-The run is worked out here, from docs/definitions.md alone: the groups in their order, in a group the lowest item that isn't at the stop of the first,
+The run is worked out here, from docs/promises/definitions.md alone: the groups in their order, in a group the lowest item that isn't at the stop of the first,
 each access done on one memory and compared with all accesses before it. `rows` gives the rows of the first 300 seeds to tools/rows, or of as many as
 the environment's SEEDS says, and half as many of uniform launches."""
 import os

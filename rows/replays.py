@@ -1,7 +1,7 @@
 """The fault replies of all other rows, replayed: each leads to its fault, and with one word changed to what the definition says. Schedule files cut at
 each byte are bad. `rows` gives the rows to tools/rows.
 
-What a changed line comes to is worked out from docs/definitions.md alone. For the launches of groups.py, whose items' actions are known, any schedule is
+What a changed line comes to is worked out from docs/promises/definitions.md alone. For the launches of groups.py, whose items' actions are known, any schedule is
 played here by single events, and whether the state that it leads to shows the fault is read off the log. For all other scripts only changes are made
 that no kernel lets through: a fault names the one next action of an item, or two accesses of kinds that conflict in one way only."""
 
