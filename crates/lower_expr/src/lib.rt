@@ -14,4 +14,3 @@ pub mod expression_laws;
 pub mod instructions;
 mod jumps;
 pub mod scope;
-pub mod types;

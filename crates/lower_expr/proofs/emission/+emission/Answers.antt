@@ -45,10 +45,13 @@ emit_arguments-loop-i-preserved t c =
         | emit_arguments-else-i-eq0 w ↦ w.kind-is ∙ c.loop-i.invariant.2 ∙ sym (type_stays scope.variables before (term e) (λ none. absurd (omega (arith, counted, none))))
       ]
           ∙ ap (λ (ts : Terms). argument_type scope.variables ts) more,
+      c.in_ok-push-2.ensures.ok
+          ∙ ap₂ (λ (xs : List (Option numbers_of.Integer)) (x : Option numbers_of.Integer). xs ++ x ∷ []) c.loop-i.invariant.3 c.in_ok-found.ensures.constant
+          ∙ ap (λ (ts : Terms). constants_of scope.variables ts) more,
     )
 
-pub emit_expression-returns-in_ok-kind-in-Call-clause-code : goal.emit_expression-returns-in_ok-kind-in-Call-clause-code
-emit_expression-returns-in_ok-kind-in-Call-clause-code t c =
+pub emit-returns-in_ok-kind-in-Call-clause-code : goal.emit-returns-in_ok-kind-in-Call-clause-code
+emit-returns-in_ok-kind-in-Call-clause-code t c =
     let old = c.args.code.now.items in
     let scope = c.args.scope.now in
     let level = c.args.level.0 in
@@ -65,8 +68,8 @@ emit_expression-returns-in_ok-kind-in-Call-clause-code t c =
     ∙ ap (λ (f : Option BuiltIn). c.emit_arguments.new.code.items ++ call_code f (register_at level (Integer (call_type f found.arguments.kind))) (numbers found.arguments.registers.items)) c.built_in_named.ensures)
     ∙ sym (ap (λ (x : Term). old ++ expr_code scope level x) whole)
 
-pub emit_expression-returns-in_ok-kind-in-Call-clause-kind : goal.emit_expression-returns-in_ok-kind-in-Call-clause-kind
-emit_expression-returns-in_ok-kind-in-Call-clause-kind t c =
+pub emit-returns-in_ok-kind-in-Call-clause-kind : goal.emit-returns-in_ok-kind-in-Call-clause-kind
+emit-returns-in_ok-kind-in-Call-clause-kind t c =
     let scope = c.args.scope.now in
     let called = c.in-Call in
     let found = c.in_ok-arguments-in-Call in
@@ -74,8 +77,8 @@ emit_expression-returns-in_ok-kind-in-Call-clause-kind t c =
     let kind = found.ensures.kind ∙ ap (λ (xs : List Expression). argument_type scope.variables (terms xs)) c.as_slice-given.ensures.value in
     c.in_ok-kind-in-Call.ensures.kind ∙ ap₂ (λ (f : Option BuiltIn) (k : IntType). Integer (call_type f k)) c.built_in_named.ensures kind ∙ sym (ap (λ (x : Term). kind_of scope x) whole)
 
-pub emit_expression-returns-in_ok-kind-in-Binary-clause-code : goal.emit_expression-returns-in_ok-kind-in-Binary-clause-code
-emit_expression-returns-in_ok-kind-in-Binary-clause-code t c =
+pub emit-returns-in_ok-kind-in-Binary-clause-code : goal.emit-returns-in_ok-kind-in-Binary-clause-code
+emit-returns-in_ok-kind-in-Binary-clause-code t c =
     let old = c.args.code.now.items in
     let scope = c.args.scope.now in
     let level = c.args.level.0 in
@@ -83,11 +86,11 @@ emit_expression-returns-in_ok-kind-in-Binary-clause-code t c =
     let node = c.in-Binary in
     let left = node.left.value in
     let right = node.right.value in
-    let one = c.emit_expression-in-Binary.new.code.items in
+    let one = c.emit-in-Binary.new.code.items in
     let two = c.begin_infix.new.code.items in
     let first = c.in_ok-first-in-Binary in
     let second = c.in_ok-second-in-Binary in
-    binary_laid scope level node.at node.operator (term left) (term right) old one two c.emit_expression-in-Binary-2.new.code.items c.end_infix.new.code.items first.first second.second above c.in_ok-place-in-Binary.place
+    binary_laid scope level node.at node.operator (term left) (term right) old one two c.emit-in-Binary-2.new.code.items c.end_infix.new.code.items first.first second.second above c.in_ok-place-in-Binary.place
     (first.ensures.code ∙ ap (λ (x : Expression). old ++ expr_code scope level (term x)) c.deref-in-Binary.ensures)
     (first.ensures.kind ∙ ap (λ (x : Expression). kind_of scope (term x)) c.deref-in-Binary.ensures)
     c.in_ok-place-in-Binary.ensures.code c.in_ok-place-in-Binary.ensures.place c.level_at.ensures
@@ -96,16 +99,16 @@ emit_expression-returns-in_ok-kind-in-Binary-clause-code t c =
     c.in_ok-kind-in-Binary.ensures.code
     ∙ sym (ap (λ (x : Expression). old ++ expr_code scope level (term x)) node.is)
 
-pub emit_expression-levels_suffice-requires : goal.emit_expression-levels_suffice-requires
-emit_expression-levels_suffice-requires t c =
+pub emit-levels_suffice-requires : goal.emit-levels_suffice-requires
+emit-levels_suffice-requires t c =
     let called = c.in-Call in
     let whole = ap (λ x. (term_size [] x).nodes) (ap term called.is ∙ calls called.at called.name called.arguments) in
     let inner = ap (λ (xs : List Expression). (terms_size [] (terms xs)).nodes) c.as_slice-given.ensures.value in
     let low = c.requires.low in
     omega (arith, whole, inner, low)
 
-pub emit_expression-end_infix-requires-clause-near : goal.emit_expression-end_infix-requires-clause-near
-emit_expression-end_infix-requires-clause-near t c =
+pub emit-end_infix-requires-clause-near : goal.emit-end_infix-requires-clause-near
+emit-end_infix-requires-clause-near t c =
     let scope = c.args.scope.now in
     let level = c.level_at.result.0 in
     let right = term c.deref-in-Binary-2.result.now in
@@ -131,12 +134,12 @@ emit_arguments-register_at-requires t c =
     let low = c.requires.low in
     omega (arith, room, above, low)
 
-pub emit_expression-end_choice-requires-clause-near : goal.emit_expression-end_choice-requires-clause-near
-emit_expression-end_choice-requires-clause-near t c =
+pub emit-end_choice-requires-clause-near : goal.emit-end_choice-requires-clause-near
+emit-end_choice-requires-clause-near t c =
     let scope = c.args.scope.now in
     let level = c.args.level.0 in
     let begun = c.begin_choice.new.code.items in
-    let one = c.emit_expression-in-Choice-2.new.code.items in
+    let one = c.emit-in-Choice-2.new.code.items in
     let two = c.between_branches.new.code.items in
     let chosen = term c.deref-in-Choice-2.result.now in
     let otherwise = term c.deref-in-Choice-3.result.now in
