@@ -15,7 +15,7 @@ use Rattle.clnum.specs.declared.operators.UnaryOperator.TheVariants as unary_ope
 use Rattle.clnum.specs.declared.operators.Builtin.{Builtin}
 use Rattle.clnum.specs.declared.operators.Builtin.TheVariants as builtin
 use Rattle.clmodel.specs.BuiltIns.{built_in}
-use Rattle.clmodel.specs.Next.{Continuation, ItemPosition, Variables, eval, eval_all, type_of, argument_type, base_type, call_type, infix_type, settle, join, combined, arithmetic, number, test, call, integer_call, given_value, chosen_value}
+use Rattle.clmodel.specs.Next.{Continuation, ItemPosition, Variables, eval, type_of, base_type, call_type, infix_type, settle, join, arithmetic, number, test, call, given_value, chosen_value}
 use Rattle.clmodel.specs.Tree as tree
 use Rattle.clmodel.specs.Tree.{Term, Terms, NoTerm, ThenTerm}
 use Rattle.clmodel.specs.declared.operand.Operand.{Operand}

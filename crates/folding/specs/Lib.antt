@@ -1,1 +1,2 @@
 pub mod Constants
+pub mod Known

@@ -6,6 +6,7 @@ ghost use Rattle.clnum.specs.Operations as operations;
 ghost use Rattle.clmodel.specs.declared.tree.InfixOperator.TheVariants as infix_operator;
 ghost use Rattle.clmodel.specs.Next.{base_type};
 ghost use Rattle.folding.specs.Constants as constants;
+ghost use Rattle.folding.specs.Known.{constants_in};
 
 use crate::known::Known;
 use crate::types::base_type;
@@ -110,15 +111,15 @@ fn in_common(value: Option<Value>, other: IntType) -> Option<Value>
 }
 
 /// A function of integers on its arguments (OpenCL 1.2, section 6.12.3); another function has no value.
-pub fn call(function: Option<BuiltIn>, arguments: &[Option<Value>]) -> Option<Value>
-    ensures { result ≡ constants.call_constant function arguments.now }
+pub fn call(function: Option<BuiltIn>, arguments: &[Known]) -> Option<Value>
+    ensures { result ≡ constants.call_constant function (constants_in arguments.now) }
 {
     let Some(BuiltIn::Integer(function)) = function else {
         return None;
     };
     match arguments {
-        [Some(first)] => builtin(function, &[*first]),
-        [Some(first), Some(second)] => builtin(function, &[*first, *second]),
+        [first] => builtin(function, &[first.constant?]),
+        [first, second] => builtin(function, &[first.constant?, second.constant?]),
         _ => None,
     }
 }

@@ -2,10 +2,11 @@
 #![tactic(auto)]
 
 ghost use Rattle.std.specs.Prelude.{◌≡◌, None, Some};
+ghost use Rattle.clnum.specs.declared.int_type.IntType.TheVariants as integer;
 ghost use Rattle.clmodel.specs.declared.tree.VariableType.TheVariants as kinds;
 
 use clmodel::tree::VariableType;
-use clnum::Value;
+use clnum::{IntType, Value};
 
 /// What is known of an expression before it runs: its type, and its value where it is constant.
 #[derive(Clone, Copy)]
@@ -35,5 +36,15 @@ impl Known {
             kind,
             constant: None,
         }
+    }
+}
+
+/// What stands where nothing is known yet: an int that isn't constant.
+impl Default for Known {
+    fn default() -> Self
+        ensures kind { result.kind ≡ kinds.Integer integer.Int }
+        ensures constant { result.constant ≡ None }
+    {
+        Known::varying(VariableType::Integer(IntType::Int))
     }
 }

@@ -1,22 +1,29 @@
 -- Arguments as lists, and the code of a call and of an operator from what emits it.
-use Rattle.std.proofs.Common.{◌≡◌, ℕ, zero, suc, ◌+◌, ◌<◌, ◌≤◌, List, [], ◌∷◌, ◌++◌, map, length, take, get_or, refl, sym, ap, ap₂, ◌∙◌, Vec, Result, Ok, Err, IfOk, OnErr, arith}
+use Rattle.std.proofs.Common.{◌≡◌, ℕ, zero, suc, ◌+◌, ◌<◌, ◌≤◌, List, [], ◌∷◌, ◌++◌, map, length, take, drop, get_or, Option, refl, sym, ap, ap₂, ◌∙◌, Vec, Result, Ok, Err, IfOk, OnErr, arith}
 use Rattle.std.proofs.lemmas.List.{append_assoc, length-append}
 use Rattle.std.specs.declared.alloc.Global.{Global}
 use mathlib.Core.Former.{Count}
 use Rattle.clnum.specs.Conversions.{common}
+use Rattle.clnum.specs.Integer as integers
+use Rattle.clnum.specs.Operations.{unary_kind}
+use Rattle.clnum.specs.declared.int_type.IntType.{IntType}
 use Rattle.clnum.specs.declared.int_type.IntType.TheVariants.{Int}
+use Rattle.clnum.specs.declared.operators.UnaryOperator.{UnaryOperator}
 use Rattle.clmodel.specs.BuiltIns.{built_in}
 use Rattle.clmodel.specs.Next.{Variables, type_of, base_type, argument_type, infix_type}
-use Rattle.clmodel.specs.Tree.{Term, Terms, NoTerm, ThenTerm, Binary, Call, Choice, term, terms, row_terms, then_all}
+use Rattle.clmodel.specs.Tree.{Term, Terms, NoTerm, ThenTerm, Unary, Binary, Call, Choice, term, terms, row_terms, then_all}
 use Rattle.clmodel.specs.declared.tree.Expression as rust_expression
 use Rattle.clmodel.specs.declared.tree.InfixOperator.{InfixOperator}
 use Rattle.clmodel.specs.declared.tree.InfixOperator.TheVariants.{Arithmetic, LogicalAnd, LogicalOr}
 use Rattle.clmodel.specs.declared.tree.VariableType.{VariableType}
 use Rattle.clmodel.specs.declared.tree.VariableType.TheVariants.{Integer}
+use Rattle.folding.specs.Constants.{constant_of}
+use Rattle.folding.specs.declared.known.Known.{Known}
 use Rattle.regcode.specs.declared.instruction.Instruction.{Instruction}
 use Rattle.regcode.specs.declared.instruction.Instruction.TheVariants as instruction
 use Rattle.lower_expr.specs.Scope.{Scope, register_at}
-use Rattle.lower_expr.specs.Expressions.{kind_of, expr_code, terms_code, register_for, registers_for, call_code, branch_code, choice_code, count, infix_begun, infix_code}
+use Rattle.lower_expr.specs.Expressions.{kind_of, folded, expr_code, terms_code, register_for, registers_for, call_code, branch_code, choice_code, count, infix_begun, infix_code}
+use Rattle.lower_expr.proofs.Growth.{settled}
 
 row_same : (ts : Terms) (n : _) (row : rust_expression.Row_of-Expression n) → row_terms ts row ≡ then_all ts (map term (rust_expression.items-the_row-Expression n row))
 row_same ts n rust_expression.end_of-Expression = refl
@@ -138,3 +145,34 @@ on_value (Err e) f p = tt
 pub on_error : {T E : Type 0} {P Q : Type 0} (r : Result T E) → (P → Q) → OnErr r P → OnErr r Q
 on_error (Ok x) f p = tt
 on_error (Err e) f p = f p
+
+-- an operator on one number, and a cast, behind their operand
+pub unary_emitted : (scope : Scope) (level at : ℕ) (operator : UnaryOperator) (e : Term) (old one two : List Instruction) (k : VariableType) → one ≡ old ++ expr_code scope level e → k ≡ kind_of scope e
+    → two ≡ one ++ instruction.Unary (register_at level (Integer (unary_kind operator (base_type k)))) operator (register_at level k) ∷ []
+    → two ≡ old ++ (expr_code scope level e ++ instruction.Unary (register_for scope level (Unary at operator e)) operator (register_for scope level e) ∷ [])
+unary_emitted scope level at operator e old one two k one_is k_is two_is =
+    let code : VariableType → List Instruction = λ j. instruction.Unary (register_at level (Integer (unary_kind operator (base_type j)))) operator (register_at level j) ∷ [] in
+    two_is ∙ ap (λ xs. xs ++ code k) one_is ∙ append_assoc old (expr_code scope level e) (code k) ∙ ap (λ j. old ++ (expr_code scope level e ++ code j)) k_is
+
+pub cast_emitted : (scope : Scope) (level : ℕ) (target : IntType) (e : Term) (old one two : List Instruction) (k : VariableType) → one ≡ old ++ expr_code scope level e → k ≡ kind_of scope e
+    → two ≡ one ++ instruction.Convert (register_at level (Integer target)) (register_at level k) target ∷ []
+    → two ≡ old ++ (expr_code scope level e ++ instruction.Convert (register_at level (Integer target)) (register_for scope level e) target ∷ [])
+cast_emitted scope level target e old one two k one_is k_is two_is =
+    let code : VariableType → List Instruction = λ j. instruction.Convert (register_at level (Integer target)) (register_at level j) target ∷ [] in
+    two_is ∙ ap (λ xs. xs ++ code k) one_is ∙ append_assoc old (expr_code scope level e) (code k) ∙ ap (λ j. old ++ (expr_code scope level e ++ code j)) k_is
+
+-- an expression's code, where what its form has is settled
+pub emitted : {T E : Type 0} (scope : Scope) (level : ℕ) (x e : Term) (old mid new plain : List Instruction) (start : ℕ) (o : Option integers.Integer) (r : Result T E)
+    → x ≡ e → start ≡ length old → mid ≡ old ++ plain → o ≡ constant_of scope.variables e → folded (constant_of scope.variables e) level plain ≡ expr_code scope level e
+    → IfOk r (λ _. new ≡ take start mid ++ folded o level (drop start mid)) → IfOk r (λ _. new ≡ old ++ expr_code scope level x)
+emitted scope level x e old mid new plain start o r is at mid_is same code h =
+    on_value r (λ found is_new. settled old mid new plain start level o (constant_of scope.variables e) at mid_is same is_new
+    ∙ ap (λ xs. old ++ xs) code ∙ ap (λ y. old ++ expr_code scope level y) (sym is)) h
+
+-- what is known of it
+pub known_kind : {E : Type 0} (r : Result Known E) (known : Known) (kind : VariableType) → known.kind ≡ kind → IfOk r (λ found. found ≡ known) → IfOk r (λ found. found.kind ≡ kind)
+known_kind r known kind is h = on_value r (λ found same. ap (λ (k : Known). k.kind) same ∙ is) h
+
+pub known_constant : {E : Type 0} (r : Result Known E) (known : Known) (constant : Option integers.Integer) → known.constant ≡ constant → IfOk r (λ found. found ≡ known)
+    → IfOk r (λ found. found.constant ≡ constant)
+known_constant r known constant is h = on_value r (λ found same. ap (λ (k : Known). k.constant) same ∙ is) h

@@ -6,6 +6,7 @@ ghost use Rattle.clmodel.specs.Next.{argument_type};
 ghost use Rattle.clmodel.specs.Tree.{term, terms, tree_target};
 ghost use Rattle.clmodel.specs.Typing.Sizes.{term_size, terms_size, target_size};
 ghost use Rattle.folding.specs.Constants.{constant_of, constants_of};
+ghost use Rattle.folding.specs.Known.{constants_in};
 ghost use Rattle.lower_expr.specs.Scope.{free_level};
 ghost use Rattle.lower_expr.specs.Expressions.{kind_of, kind_named, folded, expr_code, address_code, terms_code, registers_for, target_code, target_kind};
 ghost use Rattle.lower_expr.specs.Growth.{IsLonger};
@@ -123,7 +124,7 @@ fn emit(
             let arguments = emit_arguments(scope, level, given, code)?;
             let function = built_in_named(*name);
             let kind = call(level, function, &arguments, code)?;
-            let constant = constants::call(function, arguments.constants.as_slice());
+            let constant = constants::call(function, arguments.known.as_slice());
             settle(level, start, kind, constant, code)
         }
         Expression::Unary {
@@ -185,8 +186,7 @@ fn emit(
     }
 }
 
-/// Adds the code of a pointer variable's value moved by an index, which leaves it at a level, and gives its type. Err if out of
-/// memory.
+/// Adds the code of a pointer variable's value moved by an index, left at a level, and gives its type. Err if out of memory.
 #[cycle(emission)]
 fn emit_address(
     scope: &Scope,
@@ -202,8 +202,10 @@ fn emit_address(
     ensures longer { OnErr result (IsLonger code.old.items code.new.items) }
 {
     let pointer = variable(scope, level, name, code)?;
-    let index = emit(scope, level_at(level, 1), index, code)?;
-    offset(level, pointer, index.kind, code)?;
+    let found = emit(scope, level_at(level, 1), index, code)?;
+    // It is named for the borrow checker, which has to be told of its type here.
+    let _constant: Option<Value> = found.constant;
+    offset(level, pointer, found.kind, code)?;
     Ok(pointer)
 }
 
@@ -221,27 +223,28 @@ pub fn emit_arguments(
     ensures code { IfOk result (λ found. code.new.items ≡ code.old.items ++ terms_code scope.now level.0 (terms arguments.now)) }
     ensures registers { IfOk result (λ found. numbers found.registers.items ≡ registers_for scope.now level.0 (terms arguments.now)) }
     ensures kind { IfOk result (λ found. found.kind ≡ argument_type scope.now.variables (terms arguments.now)) }
-    ensures constants { IfOk result (λ found. found.constants.items ≡ constants_of scope.now.variables (terms arguments.now)) }
+    ensures constants { IfOk result (λ found. constants_in found.known.items ≡ constants_of scope.now.variables (terms arguments.now)) }
     ensures longer { OnErr result (IsLonger code.old.items code.new.items) }
 {
     let mut registers = SmallVec::new(scope.allocator());
-    let mut constants = SmallVec::new(scope.allocator());
+    let mut known = SmallVec::new(scope.allocator());
     let mut kind = IntType::Int;
     for i in 0..arguments.len() {
         let argument = &arguments[i];
         let above = level_at(level, i);
         level_suffices(above, argument);
         let found = emit(scope, above, argument, code)?;
-        registers.push(register_at(above, found.kind))?;
-        constants.push(found.constant)?;
+        let type_found = found.kind;
+        known.push(found)?;
+        registers.push(register_at(above, type_found))?;
         if i == 0 {
-            kind = base_type(found.kind);
+            kind = base_type(type_found);
         }
     }
     Ok(Arguments {
         registers,
         kind,
-        constants,
+        known,
     })
 }
 

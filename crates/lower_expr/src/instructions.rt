@@ -17,7 +17,7 @@ use crate::scope::{Level, Register, Scope, level_at, register_at};
 use clmodel::setup::{AtomicFunction, BuiltIn, WorkItemFunction};
 use clmodel::tree::{InfixOperator, VariableType};
 use clnum::{Builtin, IntType, UnaryOperator, Value, unary_kind};
-use folding::{base_type, call_type};
+use folding::{Known, base_type, call_type};
 use regcode::{FetchOperands, Instruction};
 use smallvec::SmallVec;
 use std::alloc::AllocError;
@@ -285,13 +285,13 @@ pub(crate) fn cast(
     Ok(kind)
 }
 
-/// The registers of arguments from left to right, the integer type of the first, or of what it points to (int where there is none), and the
-/// value of each that is constant.
+/// The registers of arguments from left to right, the integer type of the first, or of what it points to (int where there is none), and what is
+/// known of each.
 #[derive(Drop)]
 pub struct Arguments {
     pub registers: SmallVec<Register, 2>,
     pub kind: IntType,
-    pub(crate) constants: SmallVec<Option<Value>, 2>,
+    pub(crate) known: SmallVec<Known, 2>,
 }
 
 /// Adds the call of a built-in function that gives a value, and gives its type. Where there is no such function with that many
