@@ -203,8 +203,7 @@ fn emit_address(
 {
     let pointer = variable(scope, level, name, code)?;
     let found = emit(scope, level_at(level, 1), index, code)?;
-    // It is named for the borrow checker, which has to be told of its type here.
-    let _constant: Option<Value> = found.constant;
+    let _constant: Option<Value> = found.constant; // tells the borrow checker of this type
     offset(level, pointer, found.kind, code)?;
     Ok(pointer)
 }

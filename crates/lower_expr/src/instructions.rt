@@ -285,8 +285,7 @@ pub(crate) fn cast(
     Ok(kind)
 }
 
-/// The registers of arguments from left to right, the integer type of the first, or of what it points to (int where there is none), and what is
-/// known of each.
+/// The registers of arguments, what is known of each, and the integer type of the first, or of what it points to; int where there is none.
 #[derive(Drop)]
 pub struct Arguments {
     pub registers: SmallVec<Register, 2>,
