@@ -718,7 +718,8 @@ static expression *read_expression(parser *p) {
 // ---- declarations ----
 
 static const char *read_name(parser *p) {
-    if (now(p)->kind != NAME_TOKEN || begins_declaration(p)) complain(p);
+    const symbol *y = find(p, now(p)->text); // a typedef's name may be declared anew
+    if (now(p)->kind != NAME_TOKEN || (begins_declaration(p) && !(y && y->kind == TYPE_NAME))) complain(p);
     return now(p)->text;
 }
 
