@@ -84,7 +84,28 @@ static void tell_buffer(cl_kernel k, const char *reply) {
     }
     for (unsigned i = 0; i < form->table_count; i++) {
         unsigned t = form->tables[i];
-        if (k->program->tables[t] == number) tell_element(number, "the table", k->program->form.tables[t].name, k->program->form.tables[t].size, 1, at);
+        if (k->program->tables[t] == number) tell_element(number, "the table", k->program->form.tables[t].name, k->program->form.tables[t].size, k->program->form.tables[t].width, at);
+    }
+}
+
+// The element of an object in local memory, in the dimensions that the source gives it.
+static void tell_local(cl_kernel k, const char *reply) {
+    unsigned long group, byte;
+    char name[128], place[256];
+    size_t at = 0;
+    const char *local = strstr(reply, " local "), *schedule = strstr(reply, " schedule ");
+    if (!local || (schedule && local > schedule) || sscanf(local, " local %lu %127s byte %lu", &group, name, &byte) != 3) return;
+    for (unsigned i = 0; i < k->form->local_count; i++) {
+        const symbol *y = k->form->locals[i];
+        if (strcmp(y->written, name)) continue;
+        uint64_t element = byte / size_of(y->type.base), part = 1;
+        for (unsigned d = 1; d < y->type.dimensions; d++) part *= y->type.lengths[d];
+        for (unsigned d = 0; !y->is_scalar && d < (y->type.dimensions ? y->type.dimensions : 1); d++) {
+            if (at < sizeof place) at += (size_t)snprintf(place + at, sizeof place - at, "[%llu]", (unsigned long long)(element / part));
+            element %= part;
+            if (d + 1 < y->type.dimensions) part /= y->type.lengths[d + 1];
+        }
+        tell("  %s of group %lu: %s%s%s", y->name, group, y->name, at ? place : "", byte % size_of(y->type.base) ? ", not its first byte" : "");
     }
 }
 
@@ -211,6 +232,7 @@ void report_fault(cl_kernel k, const char *reply, const launch_sizes *s) {
     sizes_text(local, sizeof local, s->dimensions, s->local);
     tell("  kernel %s, launch %u of its context, global size %s, local size %s", k->form->name, k->context->launches, global, local);
     tell_buffer(k, line);
+    tell_local(k, line);
     tell_name(k, line);
     const char *schedule = strstr(line, " schedule ");
     for (const char *at = strstr(line, " item "); at && (!schedule || at < schedule); at = strstr(at + 1, " item ")) {

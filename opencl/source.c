@@ -134,13 +134,19 @@ static void list_kernels(prepared *p, const unit *u) {
         kernel_form *k = &p->kernels[p->kernel_count++];
         *k = (kernel_form){.name = f->symbol->name, .parameters = take(a, (f->parameter_count + 1) * sizeof(parameter)), .count = f->parameter_count,
             .tables = take(a, (u->table_count + 1) * sizeof(unsigned)), .group = {f->group[0], f->group[1], f->group[2]}};
-        unsigned i = 0;
-        for (const declaration *d = f->parameters; d; d = d->next) k->parameters[i++] = (parameter){d->symbol->name, d->symbol->type};
+        unsigned i = 0, locals = f->parameter_count;
+        for (const struct use *l = f->locals; l; l = l->next) locals++;
+        k->locals = take(a, (locals + 1) * sizeof *k->locals);
+        for (const struct use *l = f->locals; l; l = l->next) k->locals[k->local_count++] = l->symbol;
+        for (const declaration *d = f->parameters; d; d = d->next) {
+            k->parameters[i++] = (parameter){d->symbol->name, d->symbol->type};
+            if (d->symbol->type.pointer && d->symbol->type.space == LOCAL_SPACE) k->locals[k->local_count++] = d->symbol;
+        }
         for (unsigned t = 0; t < u->table_count; t++) if (f->tables[t]) k->tables[k->table_count++] = t;
     }
     p->tables = take(a, (u->table_count + 1) * sizeof *p->tables);
     p->table_count = u->table_count;
-    for (unsigned t = 0; t < u->table_count; t++) p->tables[t] = (table){u->tables[t]->name, u->tables[t]->bytes, u->tables[t]->size};
+    for (unsigned t = 0; t < u->table_count; t++) p->tables[t] = (table){u->tables[t]->name, u->tables[t]->bytes, u->tables[t]->size, size_of(u->tables[t]->type.base)};
 }
 
 // Two words that Clsim reads alike.

@@ -14,6 +14,8 @@ typedef struct {
     unsigned count;
     unsigned *tables; // the tables that it is given as arguments `count`, `count + 1` and so on
     unsigned table_count;
+    const symbol **locals; // its objects in local memory
+    unsigned local_count;
     size_t group[3]; // reqd_work_group_size, or zeros
 } kernel_form;
 
@@ -21,6 +23,7 @@ typedef struct {
     const char *name;
     const unsigned char *bytes;
     size_t size;
+    unsigned width; // of an element
 } table;
 
 typedef struct {

@@ -427,11 +427,14 @@ static void read_call(parser *p, expression *e, symbol *callee) {
     }
 }
 
-static void use_table(parser *p, const symbol *table) {
+static void add_use(parser *p, struct use **list, const symbol *y) {
     struct use *u = take(p->unit->arena, sizeof *u);
+    *u = (struct use){*list, y};
+    *list = u;
+}
+static void use_table(parser *p, const symbol *table) {
     if (!p->function) complain(p);
-    *u = (struct use){p->function->uses, table};
-    p->function->uses = u;
+    add_use(p, &p->function->uses, table);
 }
 
 static expression *read_primary(parser *p) {
@@ -818,6 +821,7 @@ static declaration *read_declarator(parser *p, const specifiers *s) {
     if (!t.pointer && t.space == LOCAL_SPACE) {
         if (has_value) complain_at(p, d->token, "a variable in local memory has no initialiser");
         y->is_scalar = !t.dimensions;
+        if (p->function) add_use(p, &p->function->locals, y);
         return d;
     }
     if (has_value) {
@@ -1157,7 +1161,7 @@ static const char *new_mark(unit *u) {
 static void spread_tables(unit *u) {
     for (function *f = u->functions; f; f = f->next) {
         f->tables = take(u->arena, u->table_count + 1);
-        for (struct use *use = f->uses; use; use = use->next) f->tables[use->table->number] = true;
+        for (struct use *use = f->uses; use; use = use->next) f->tables[use->symbol->number] = true;
     }
     for (bool more = true; more;) {
         more = false;

@@ -90,7 +90,8 @@ struct function {
     statement *body;
     uint64_t group[3]; // reqd_work_group_size, or zeros
     struct call { struct call *next; function *callee; } *calls;
-    struct use { struct use *next; const symbol *table; } *uses;
+    struct use { struct use *next; const symbol *symbol; } *uses; // of tables
+    struct use *locals; // what it declares in local memory
     bool *tables;        // which tables it uses, itself or by a call
 };
 
