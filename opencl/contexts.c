@@ -28,6 +28,7 @@ CL_API_ENTRY cl_context CL_API_CALL clCreateContext(const cl_context_properties 
     }
     if (!devices || !n || (!notify && user)) return fail(errcode, CL_INVALID_VALUE);
     for (cl_uint i = 0; i < n; i++) if (devices[i] != &the_device) return fail(errcode, CL_INVALID_DEVICE);
+    check_settings();
     cl_context c = make_object(sizeof *c, CONTEXT);
     if (!c) return fail(errcode, CL_OUT_OF_HOST_MEMORY);
     c->session = session_open();

@@ -10,16 +10,33 @@ enum { MAX_EXPLAINED = 16, MAX_EXPLAINED_BYTES = 8 << 20 };
 
 static unsigned faults;
 
-static int status_setting(int otherwise) {
-    const char *status = setting("CLSIM_STATUS");
-    return status ? (int)strtol(status, NULL, 10) : otherwise;
+// ---- settings ----
+
+// A setting that is a number, or another number where it isn't set or isn't one.
+static long number_setting(const char *name, long low, long high, long otherwise) {
+    const char *given = setting(name);
+    char *end;
+    long n = given ? strtol(given, &end, 10) : otherwise;
+    return given && (*end || n < low || n > high) ? otherwise : n;
+}
+static int status_setting(int otherwise) { return (int)number_setting("CLSIM_STATUS", 0, 255, otherwise); }
+
+void check_settings(void) {
+    static bool checked;
+    const char *then = setting("CLSIM_ON_FAULT");
+    if (checked) return;
+    checked = true;
+    if (then && strcmp(then, "error") && strcmp(then, "go") && strcmp(then, "exit") && strcmp(then, "abort"))
+        tell("CLSIM_ON_FAULT is error, go, exit or abort, and not %s", then);
+    if (setting("CLSIM_STATUS") && status_setting(-1) < 0) tell("CLSIM_STATUS is a number from 0 to 255, and not %s", setting("CLSIM_STATUS"));
+    if (setting("CLSIM_LOCAL") && number_setting("CLSIM_LOCAL", 1, MAX_GROUP, 0) == 0) tell("CLSIM_LOCAL is a number from 1 to 256, and not %s", setting("CLSIM_LOCAL"));
 }
 
 // With CLSIM_STATUS=N the process ends with status N where a launch faulted, whatever it answers itself.
 __attribute__((destructor)) static void end_process(void) {
     if (!faults) return;
     tell("%u launch%s faulted", faults, faults == 1 ? "" : "es");
-    if (!setting("CLSIM_STATUS")) return;
+    if (status_setting(-1) < 0) return;
     fflush(NULL);
     _exit(status_setting(1));
 }
@@ -115,8 +132,8 @@ static void tell_name(cl_kernel k, const char *reply) {
     if (!at || (schedule && at > schedule)) return;
     const char *name = at + strlen(mark);
     int n = (int)strcspn(name, " ");
-    if (*name == 't' && strspn(name + 1, "0123456789") == (size_t)n - 1) tell("  %s%.*s holds a part of an expression", mark, n, name);
-    else tell("  %s%.*s is the client's %.*s", mark, n, name, n, name);
+    if (*name >= '0' && *name <= '9') tell("  %s%.*s holds a part of an expression", mark, n, name);
+    else if (!strncmp(name, "my_", 3)) tell("  %s%.*s is the client's %.*s", mark, n, name, n - 3, name + 3);
 }
 
 // ---- where it stands in the source ----

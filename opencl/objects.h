@@ -142,6 +142,8 @@ cl_int ask_read(cl_context c, unsigned buffer, size_t offset, void *to, size_t n
 typedef struct { cl_uint dimensions; size_t global[3], local[3], offset[3]; bool uniform; } launch_sizes;
 // Sizes as a launch has them, with commas.
 void sizes_text(char *room, size_t n, cl_uint dimensions, const size_t *sizes);
+// Tells each setting whose value isn't known; it is as if it weren't set.
+void check_settings(void);
 // Tells a fault in the client's terms, and does what CLSIM_ON_FAULT asks for.
 void report_fault(cl_kernel k, const char *reply, const launch_sizes *sizes);
 #endif

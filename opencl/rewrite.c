@@ -166,7 +166,7 @@ static void end_statement(writer *w) {
 // A new variable with a value.
 static const char *save_as(writer *w, pieces p, type t) {
     text s = {.arena = w->unit->arena};
-    addf(&s, "%st%u", w->unit->mark, ++w->temporaries);
+    addf(&s, "%s%u", w->unit->mark, ++w->temporaries);
     put_apart(w, w->out, type_text(w, t, true));
     put_apart(w, w->out, s.at);
     put_apart(w, w->out, "=");
@@ -180,7 +180,7 @@ static pieces save(writer *w, pieces p, type t) { return word(w, save_as(w, p, t
 // Whether it is the name of such a variable, which nothing assigns to.
 static bool is_temporary(writer *w, pieces p) {
     size_t n = strlen(w->unit->mark);
-    return p.first && p.first == p.last && !strncmp(p.first->text, w->unit->mark, n) && p.first->text[n] == 't' && p.first->text[n + 1] >= '0' && p.first->text[n + 1] <= '9';
+    return p.first && p.first == p.last && !strncmp(p.first->text, w->unit->mark, n) && p.first->text[n] >= '0' && p.first->text[n] <= '9';
 }
 
 // The values of several expressions, evaluated from left to right: those in front of a hard one are kept.
@@ -484,7 +484,7 @@ static pieces choice(writer *w, const expression *e) {
     if (is_void(e)) refuse(w, e->token, "this gives no value");
     pieces test = value(w, e->a);
     text t = {.arena = w->unit->arena};
-    addf(&t, "%st%u", w->unit->mark, ++w->temporaries);
+    addf(&t, "%s%u", w->unit->mark, ++w->temporaries);
     put_apart(w, w->out, type_text(w, e->type, true));
     put_apart(w, w->out, t.at);
     end_statement(w);

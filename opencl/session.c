@@ -96,6 +96,12 @@ static FILE *open_record(void) {
     return file;
 }
 
+static const char *lose(session *s, const char *why) {
+    if (!s->gone) tell("the simulator is gone: %s", why);
+    s->gone = true;
+    return NULL;
+}
+
 session *session_open(void) {
     static const char version[] = "clsim 2\n";
     char room[COMMAND_ROOM], *words[MAX_WORDS];
@@ -118,7 +124,7 @@ session *session_open(void) {
     s->recording = true;
     s->record = open_record();
     if (s->record) fputs(version, s->record);
-    if (send(s->fd, version, sizeof version - 1, MSG_NOSIGNAL) < 0) s->gone = true;
+    if (send(s->fd, version, sizeof version - 1, MSG_NOSIGNAL) < 0) lose(s, strerror(errno));
     return s;
 }
 
@@ -132,12 +138,6 @@ void session_close(session *s) {
 }
 
 // ---- commands and replies ----
-
-static const char *lose(session *s, const char *why) {
-    if (!s->gone) tell("the simulator is gone: %s", why);
-    s->gone = true;
-    return NULL;
-}
 
 static const char *read_line(session *s) {
     size_t seen = 0;

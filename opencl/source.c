@@ -28,10 +28,21 @@ static char *file_line(arena *a, const char *path, unsigned line) {
 
 static bool is_word_byte(char c) { return c == '_' || (c >= '0' && c <= '9') || (c >= 'a' && c <= 'z') || (c >= 'A' && c <= 'Z'); }
 
-// Where a token's text stands in a line as a whole word; a macro's text may stand nowhere. The preprocessor's own column is tried first.
-static size_t column_in(const char *line, const token *t) {
-    size_t n = strlen(t->text), length = strlen(line);
-    if (t->column <= length && n && !strncmp(line + t->column - 1, t->text, n)) return t->column - 1;
+// Whether a token's text stands in a line where the preprocessor put it.
+static bool stands_at(const char *line, const token *t) {
+    size_t n = strlen(t->text), at = t->column - 1;
+    return n && at + n <= strlen(line) && !strncmp(line + at, t->text, n);
+}
+
+// Where a token's text stands in a line as a whole word. That of a macro stands nowhere: then behind the token in front of it.
+static size_t column_in(const prepared *p, const char *line, const token *t) {
+    size_t n = strlen(t->text);
+    if (stands_at(line, t)) return t->column - 1;
+    const token *before = t > p->tokens.at ? t - 1 : NULL;
+    if (before && before->line == t->line && before->file == t->file && stands_at(line, before)) {
+        size_t at = before->column - 1 + strlen(before->text);
+        return at + strspn(line + at, " \t");
+    }
     for (const char *at = n ? strstr(line, t->text) : NULL; at; at = strstr(at + 1, t->text)) {
         bool starts = at == line || !is_word_byte(at[-1]) || !is_word_byte(*at), ends = !is_word_byte(at[n]) || !is_word_byte(at[n - 1]);
         if (starts && ends) return (size_t)(at - line);
@@ -48,7 +59,7 @@ static const char *line_of(prepared *p, const token *t) {
 
 static void add_message(prepared *p, text *log, const token *t, const char *message) {
     const char *line = line_of(p, t);
-    size_t column = line ? column_in(line, t) : t->column - 1;
+    size_t column = line ? column_in(p, line, t) : t->column - 1;
     addf(log, "%s:%u:%zu: error: %s\n", t->file ? t->file : "source", t->line, column + 1, message);
     if (!line) return;
     addf(log, "%s\n", line);
@@ -78,17 +89,12 @@ bool place_of(const prepared *p, size_t offset, char *room, size_t n) {
         if (copy) {
             memcpy(copy, line, length);
             copy[length] = 0;
-            column = (unsigned)column_in(copy, t) + 1;
+            column = (unsigned)column_in(p, copy, t) + 1;
             free(copy);
         }
     }
     snprintf(room, n, "%s:%u:%u", t->file ? t->file : "source", t->line, column);
     return true;
-}
-
-size_t offset_at(const prepared *p, unsigned line, unsigned column) {
-    const char *at = start_of_line(p->text, line);
-    return at ? (size_t)(at - p->text) + column - 1 : p->length;
 }
 
 // ---- what a refusal means ----
@@ -112,7 +118,7 @@ const char *build_log(prepared *p, const char *reply) {
     if (setjmp(p->arena.failed)) return NULL;
     bool known = sscanf(reply, "refused 10 BuildFailed %*s %*u %63s at %lu", name, &offset) == 2;
     const token *t = known ? token_at(p, offset) : NULL;
-    if (t) add_message(p, &log, t, meaning(name));
+    if (t) add_message(p, &log, t, t->kind == END_TOKEN ? "the source ends too early" : meaning(name));
     if (known && offset <= p->length) {
         size_t begin = offset;
         while (begin && p->text[begin - 1] != '\n') begin--;

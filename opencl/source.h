@@ -51,6 +51,4 @@ void free_prepared(prepared *p);
 const char *build_log(prepared *p, const char *reply);
 // Where a byte of the text that is judged comes from, as FILE:LINE:COLUMN; false where that isn't known.
 bool place_of(const prepared *p, size_t offset, char *room, size_t n);
-// The byte at a line and a column of the text that is judged, both from 1.
-size_t offset_at(const prepared *p, unsigned line, unsigned column);
 #endif

@@ -146,7 +146,8 @@ _Noreturn static void complain_at(parser *p, size_t token, const char *message) 
 static const char *hint(const token *t) {
     static const char *const floats[] = {"float", "double", "half", NULL};
     static const char *const scalars[] = {"char", "uchar", "short", "ushort", "int", "uint", "long", "ulong", "float", "double", "half", NULL};
-    static const char *const images[] = {"image1d_t", "image1d_buffer_t", "image1d_array_t", "image2d_t", "image2d_array_t", "image3d_t", "sampler_t", NULL};
+    static const char *const images[] = {"image1d_t", "image1d_buffer_t", "image1d_array_t", "image2d_t", "image2d_array_t", "image3d_t", "sampler_t", "read_only", "__read_only",
+        "write_only", "__write_only", "read_write", NULL};
     static const char *const aggregates[] = {"struct", "union", "enum", NULL};
     const char *s = t->text;
     if (t->kind == END_TOKEN) return "the source ends too early";
@@ -205,7 +206,7 @@ static void rename_if_taken(parser *p, symbol *y) {
     for (symbol *f = p->top->symbols; f && !taken; f = f->next) taken = f->kind == FUNCTION && !strcmp(f->name, y->name);
     if (!taken) return;
     text t = {.arena = p->unit->arena};
-    addf(&t, "%s%s", p->unit->mark, y->name);
+    addf(&t, "%smy_%s", p->unit->mark, y->name);
     y->written = t.at;
 }
 
@@ -794,8 +795,11 @@ static void read_constant(parser *p, declaration *d) {
     u->tables = more;
     y->number = u->table_count;
     u->tables[u->table_count++] = y;
+    bool again = false; // two functions may each have a table of one name
+    for (unsigned i = 0; i < y->number; i++) again = again || !strcmp(u->tables[i]->name, y->name);
     text t = {.arena = u->arena};
     addf(&t, "%s%s", u->mark, y->name);
+    if (again) addf(&t, "_%u", y->number);
     y->written = t.at;
 }
 
