@@ -34,6 +34,12 @@ EARLY = (b"", b"clsim: out of memory\n", 2)
 # commands that may be answered so (docs/use/script.md, "Replies")
 GROWING = {b"buffer", b"copy", b"program", b"kernel", b"arg", b"launch", b"read"}
 
+# the calls of crates/refused_calls that take memory, and the one that is made while every request is refused
+CALLS = [b"passes lex", b"passes parse", b"passes check", b"passes lower", b"launches prepare", b"launches start", b"launches one_group",
+         b"launches merge", b"launches run_parallel", b"launches run_launch", b"launches replay", b"store", b"update", b"fetch",
+         b"note in a list", b"note of a running group", b"queue open", b"answer open"]
+REFUSABLE = b"queue drive_one of a buffer where memory may be refused"
+
 HEAD = re.compile(rb"run (\d+) status (-?\d+) asked (\d+) refused (\d+) live (-?\d+) output (\d+) error (\d+)\n")
 
 
@@ -227,6 +233,62 @@ def judged_line(command, row, library, folder):
         if run.live > whole.live:
             said.append(f"request {run.number}: {run.live - whole.live} blocks are left, of which the whole run leaves none")
     return counts, said
+
+
+# ---- direct calls
+
+def by_section(lines):
+    """Lines by their first words, in order."""
+    found = {}
+    for line in lines:
+        found.setdefault(line.split(b" ")[0].rstrip(b":"), []).append(line)
+    return found
+
+
+def is_beginning(lines, of):
+    """Whether lines stand among others, in their order."""
+    rest = iter(of)
+    return all(line in rest for line in lines)
+
+
+def wrong_call(whole, run):
+    """What is wrong with the lines of one run of the program of direct calls, or nothing: where a request was refused, one line says of a call that
+    it answered so, or of what it needs that there was no memory for it. The lines of the calls that need that may be missing; all others are the same."""
+    if run.error != whole.error or run.status != whole.status:
+        return repr(run.came())[:600]
+    wanted, came = by_section(whole.output.splitlines()), by_section(run.output.splitlines())
+    for section, lines in came.items():
+        if section not in wanted:
+            return f"no such call: {lines!r}"
+    other = [section for section in wanted if came.get(section) != wanted[section]]
+    if len(other) != 1:
+        return f"calls of {other!r} came to something else"
+    lines = came.get(other[0], [])
+    told = [line for line in lines if line not in wanted[other[0]]]
+    if len(told) != 1 or not told[0].endswith((b": out of memory", b": not called")):
+        return f"{other[0]!r} came to {lines!r}"
+    if not is_beginning([line for line in lines if line != told[0]], wanted[other[0]]):
+        return f"{other[0]!r} came to {lines!r}"
+    return None
+
+
+def judged_calls(command, row, library, folder):
+    """What came of the runs of the program of direct calls, and what is wrong. With no request refused its lines are the row's, but for the buffer that is
+    made while every request is refused. Each call that takes memory has to be met by a refusal in some run."""
+    whole, *runs = each(library, command, folder)
+    wanted = row.output.replace(REFUSABLE + b": done\n", REFUSABLE + b": out of memory\n")
+    if (whole.output, whole.status) != (wanted, row.status):
+        return Counter(), [f"with memory: {whole.came()!r}"]
+    counts, said, met = Counter(), [], set()
+    for run in runs[:-1]:
+        met.update(line.removesuffix(b": out of memory") for line in run.output.splitlines() if line.endswith(b": out of memory"))
+        counts["made good" if run.came() == whole.came() else "answered by a call"] += 1
+        wrong = wrong_call(whole, run) if run.came() != whole.came() else None
+        said += [f"request {run.number}: {wrong}"] if wrong else []
+        if run.live > whole.live:
+            said.append(f"request {run.number}: {run.live - whole.live} blocks are left, of which the whole run leaves none")
+    missing = [call.decode() for call in CALLS if call not in met]
+    return counts, said + ([f"never met want of memory: {', '.join(missing)}"] if missing else [])
 
 
 # ---- all of them

@@ -121,6 +121,7 @@ fn known(
 }
 
 /// What the replies to two clients say, all in one box.
+#[derive(Drop)]
 struct Told {
     write: Came,
     fill: Came,
