@@ -368,7 +368,8 @@ def sources():
 
 def rows():
     for place, source in sources():
-        for cut in range(len(source)):
+        # cuts that leave some of its text away
+        for cut in range(len(source.rstrip())):
             line = fault_of(source[:cut]) or "ok"
             yield dict(title=f"{place}, cut at byte {cut}", text=source[:cut], output=line + "\n", status=0 if line == "ok" else 2,
                        command="clsim check FILE")

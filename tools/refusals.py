@@ -5,7 +5,8 @@ refuse.c is built and preloaded. It runs a program once for each request that it
 A script gives each command twice, with the bytes of all buffers read behind it, so that the second has memory. What may come of a run with one
 request refused is one of these:
   - what comes of the run with none refused: the program does without that memory;
-  - nothing on standard output, and `clsim: out of memory`: the script was being read, or the program was starting;
+  - nothing on standard output, and `clsim: out of memory`, or `error: out of memory` of the option reader: the script was being read, or the
+    program was starting;
   - `refused 16 OutOfMemory` for one command whose row in docs/use/script.md lists it, and for all others what comes of the script without that
     command: so it has changed nothing, and given again it is answered as if for the first time.
 A script's first launch and the commands before it have to be answered as its row says. No run may leave more blocks of memory than the run
@@ -25,12 +26,15 @@ COMPILER = ["cc", "-std=c11", "-O2", "-Wall", "-Wextra", "-Werror", "-shared", "
 # numbers of workers that scripts are tried with
 WORKERS = [1, 2]
 # seconds of one run, and of all runs of one command line
-LIMIT, LIMIT_OF_ALL = 20, 300
+LIMIT, LIMIT_OF_ALL = 60, 600
+# a program that makes more requests is left out: it would run as often
+MOST = 5000
 # what is shown of a failure, at most
 SHOWN = 3
 
 REFUSED = b"refused 16 OutOfMemory"
-EARLY = (b"", b"clsim: out of memory\n", 2)
+# what is told where the script is read, or the program starts, and where its command line is read
+EARLY = [(b"", text, 2) for text in (b"clsim: out of memory\n", b"error: out of memory\n")]
 # commands that may be answered so (docs/use/script.md, "Replies")
 GROWING = {b"buffer", b"copy", b"program", b"kernel", b"arg", b"launch", b"read"}
 
@@ -43,18 +47,26 @@ REFUSABLE = b"queue drive_one of a buffer where memory may be refused"
 HEAD = re.compile(rb"run (\d+) status (-?\d+) asked (\d+) refused (\d+) live (-?\d+) output (\d+) error (\d+)\n")
 
 
-class NotTried(Exception):
-    """Why nothing could be tried."""
+class NoCompiler(Exception):
+    """There is no C compiler, so that nothing can be tried."""
+
+
+class BadReport(Exception):
+    """A program that can't be tried, or of which the library told nothing that can be read."""
+
+
+class TooMany(Exception):
+    """A program makes too many requests."""
 
 
 def library(folder):
     """refuse.c, built."""
     path = os.path.join(folder, "refuse.so")
     if shutil.which(COMPILER[0]) is None:
-        raise NotTried(f"no C compiler: {COMPILER[0]}")
+        raise NoCompiler(f"there is no C compiler named {COMPILER[0]}")
     built = subprocess.run([*COMPILER, "-o", path, os.path.join(HERE, "refuse.c")], capture_output=True, text=True)
     if built.returncode != 0:
-        raise NotTried(f"refuse.c does not build:\n{built.stderr}")
+        raise BadReport(f"refuse.c does not build: {built.stderr[:400]}")
     return path
 
 
@@ -73,10 +85,6 @@ class Run:
         return self.output, self.error, self.status
 
 
-class BadReport(Exception):
-    """What the library told can't be read, or it told nothing."""
-
-
 def runs_of(report):
     """The runs that a report tells."""
     place, found = 0, []
@@ -93,7 +101,7 @@ def runs_of(report):
 def each(library, command, folder):
     """The runs of a command: none refused first, then each request in turn. The last refuses none, since it makes fewer."""
     report = os.path.join(folder, "REPORT")
-    environment = {**os.environ, "LD_PRELOAD": library, "REFUSE": "each", "REPORT": report, "SECONDS": str(LIMIT)}
+    environment = {**os.environ, "LD_PRELOAD": library, "REFUSE": "each", "REPORT": report, "MOST": str(MOST), "SECONDS": str(LIMIT)}
     try:
         came = subprocess.run(command, cwd=folder, env=environment, stdin=subprocess.DEVNULL, capture_output=True, timeout=LIMIT_OF_ALL)
     except subprocess.TimeoutExpired:
@@ -103,6 +111,8 @@ def each(library, command, folder):
     with open(report, "rb") as file:
         runs = runs_of(file.read())
     os.remove(report)
+    if len(runs) == 1 and runs[0].asked > MOST:
+        raise TooMany
     if len(runs) < 2 or runs[0].refused or runs[-1].refused or any(run.refused != 1 for run in runs[1:-1]):
         raise BadReport(f"{len(runs)} runs, of which not each but the first and the last refused one request")
     return runs
@@ -207,7 +217,7 @@ class Script:
             return counts, said
         said, in_commands = [], False
         for run in runs[:-1]:
-            early = run.came() == EARLY
+            early = run.came() in EARLY
             counts["at the start" if early else "made good" if run.came() == whole.came() else "answered 16"] += 1
             if early and in_commands:
                 said.append(f"request {run.number}: out of memory is told, where commands were answered before")
@@ -222,13 +232,17 @@ class Script:
 
 def judged_line(command, row, library, folder):
     """The same of a command that writes one text or none: the row's outcome, or out of memory with nothing written."""
+    for name, text in (("FILE", row.text), ("SCHEDULE", row.schedule)):
+        if text is not None:
+            with open(os.path.join(folder, name), "wb") as file:
+                file.write(text)
     whole, *runs = each(library, command, folder)
     if whole.came() != (row.output, row.error, row.status):
         return Counter(), [f"with memory: {whole.came()!r}"]
     counts, said = Counter(), []
     for run in runs[:-1]:
-        counts["at the start" if run.came() == EARLY else "made good"] += 1
-        if run.came() not in (EARLY, whole.came()):
+        counts["at the start" if run.came() in EARLY else "made good"] += 1
+        if run.came() not in [*EARLY, whole.came()]:
             said.append(f"request {run.number}: {run.came()!r}")
         if run.live > whole.live:
             said.append(f"request {run.number}: {run.live - whole.live} blocks are left, of which the whole run leaves none")
@@ -254,7 +268,7 @@ def is_beginning(lines, of):
 def wrong_call(whole, run):
     """What is wrong with the lines of one run of the program of direct calls, or nothing: where a request was refused, one line says of a call that
     it answered so, or of what it needs that there was no memory for it. The lines of the calls that need that may be missing; all others are the same."""
-    if run.error != whole.error or run.status != whole.status:
+    if run.status != whole.status or not is_beginning(run.error.splitlines(), whole.error.splitlines()):
         return repr(run.came())[:600]
     wanted, came = by_section(whole.output.splitlines()), by_section(run.output.splitlines())
     for section, lines in came.items():
@@ -272,12 +286,12 @@ def wrong_call(whole, run):
     return None
 
 
-def judged_calls(command, row, library, folder):
-    """What came of the runs of the program of direct calls, and what is wrong. With no request refused its lines are the row's, but for the buffer that is
+def judged_calls(command, output, library, folder):
+    """What came of the runs of the program of direct calls, and what is wrong. With no request refused its lines are those of its own crate, but for the buffer that is
     made while every request is refused. Each call that takes memory has to be met by a refusal in some run."""
     whole, *runs = each(library, command, folder)
-    wanted = row.output.replace(REFUSABLE + b": done\n", REFUSABLE + b": out of memory\n")
-    if (whole.output, whole.status) != (wanted, row.status):
+    wanted = output.replace(REFUSABLE + b": done\n", REFUSABLE + b": out of memory\n")
+    if (whole.output, whole.status) != (wanted, 0):
         return Counter(), [f"with memory: {whole.came()!r}"]
     counts, said, met = Counter(), [], set()
     for run in runs[:-1]:
@@ -294,55 +308,80 @@ def judged_calls(command, row, library, folder):
 # ---- all of them
 
 @dataclass
+class Task:
+    """What is tried: a title, and a function that gives what came of it in a folder."""
+    title: str
+    judged: object
+
+
+@dataclass
 class Outcome:
-    """What came of all: how many command lines passed, what is to say of the others, and how many requests were refused."""
+    """What came of all: how many tasks passed, what is to say of the others, how many make too many requests, and how many requests were refused."""
     passed: int
     failed: list
+    left_out: int
     refused: Counter
 
     def line(self):
         parts = ", ".join(f"{count:,} {name}" for name, count in sorted(self.refused.items()))
-        return f"requests for memory refused: {self.refused.total():,} ({parts})"
+        return f"requests for memory refused: {sum(self.refused.values()):,} ({parts}) of {self.passed + len(self.failed)} command lines; " \
+               f"{self.left_out} make more than {MOST:,}, and are left out"
 
 
-def tasks(rows):
-    """What is tried of rows: each with a title and, for scripts with a launch, a number of workers."""
+def tasks(rows, program, library):
+    """What is tried of rows: scripts with a launch with some number of workers each, and texts that are checked, shown or replayed."""
     for row in rows:
-        if "launch " in row.text.decode("latin1") and row.command.startswith("clsim run FILE"):
+        title = f"{row.place}: {row.title}"
+        if re.search(rb"^launch ", row.text, flags=re.M) and row.command.startswith("clsim run FILE"):
             for workers in WORKERS:
-                yield f"{row.place}: {row.title} (workers {workers})", row, workers
+                yield Task(f"{title} (workers {workers})",
+                           lambda folder, row=row, workers=workers: Script(row, workers, program, library, folder).judged())
         elif row.command.startswith(("clsim check", "clsim dump", "clsim replay")):
-            yield f"{row.place}: {row.title}", row, None
+            words = [program, *row.command.split()[1:]]
+            yield Task(title, lambda folder, row=row, words=words: judged_line(words, row, library, folder))
 
 
-def task_tried(task, program, library, place):
-    """What came of one task, in a folder of its own."""
-    title, row, workers = task
+def task_of_calls(crate, library):
+    """The program of direct calls, whose output stands in its crate; nothing where it isn't built."""
+    program, wanted = os.path.join(crate, "out", os.path.basename(crate)), os.path.join(crate, "stdout")
+    if not os.access(program, os.X_OK):
+        raise BadReport(f"no program: {program}")
+    with open(wanted, "rb") as file:
+        lines = [line for line in file.read().splitlines(keepends=True) if not line.startswith(b"ends ")]
+    return Task(os.path.basename(crate), lambda folder: judged_calls([program, "refused"], b"".join(lines), library, folder))
+
+
+def done(task, place):
+    """What came of a task, in a folder of its own: no counts where it makes too many requests."""
     folder = tempfile.mkdtemp(dir=place)
-    for name, text in (("FILE", row.text), ("SCHEDULE", row.schedule)):
-        if text is not None:
-            with open(os.path.join(folder, name), "wb") as file:
-                file.write(text)
     try:
-        if workers is not None:
-            return title, *Script(row, workers, program, library, folder).judged()
-        return title, *judged_line([program, *row.command.split()[1:]], row, library, folder)
+        return task.title, *task.judged(folder)
     except BadReport as fault:
-        return title, Counter(), [str(fault)]
+        return task.title, Counter(), [str(fault)]
+    except TooMany:
+        return task.title, None, []
     finally:
         shutil.rmtree(folder)
 
 
-def tried(rows, program):
-    """Tries all that the rows hold. Raises NotTried."""
+def said_of(title, said):
+    more = [f"  .. and {len(said) - SHOWN} more"] if len(said) > SHOWN else []
+    return "\n".join([f"FAILED with a request refused, {title}", *(f"  {it}" for it in said[:SHOWN]), *more])
+
+
+def tried(rows, program, crate):
+    """Tries the rows and the direct calls. Raises NoCompiler where none can be tried."""
+    outcome = Outcome(0, [], 0, Counter())
     with tempfile.TemporaryDirectory() as place, ThreadPoolExecutor(os.cpu_count()) as pool:
         built = library(place)
-        outcome = Outcome(0, [], Counter())
-        for title, counts, said in pool.map(lambda task: task_tried(task, program, built, place), tasks(rows)):
+        todo = [*([task_of_calls(crate, built)] if os.path.isdir(crate) else []), *tasks(rows, program, built)]
+        for title, counts, said in pool.map(lambda task: done(task, place), todo):
+            if counts is None:
+                outcome.left_out += 1
+                continue
             outcome.refused += counts
             if said:
-                more = [f"  .. and {len(said) - SHOWN} more"] if len(said) > SHOWN else []
-                outcome.failed.append("\n".join([f"FAILED with a request refused, {title}", *(f"  {it}" for it in said[:SHOWN]), *more]))
+                outcome.failed.append(said_of(title, said))
             else:
                 outcome.passed += 1
     return outcome

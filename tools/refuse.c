@@ -4,14 +4,16 @@
    REFUSE=each   the program runs once with no request refused, and then with the Nth refused, for N = 1, 2, .., until a run makes fewer
                  requests. Each run is a process of its own, forked before `main`
    REPORT=PATH   the file at the end of which each run is told (below)
+   MOST=N        with REFUSE=each, no request is refused of a program that makes more than N; without it, all are
    SECONDS=N     a run that takes longer is ended by a signal; without it, 60
 
    While a program is between a line `refuse: all` and a line `refuse: none`, each of them one write to standard error, every request is
-   refused, and every one is counted as refused: see `said`.
+   refused too.
 
    A run is told by a line `run N status S asked A refused R live L output O error E`, and, where REFUSE is `each`, the O bytes of its
-   standard output and the E bytes of its standard error. S is the status, or 128 and the number of the signal that ended it. A is how
-   many requests it made, R how many of them were refused, and L how many blocks it took and didn't give back. */
+   standard output and the E bytes of its standard error. S is the status, or 128 and the number of the signal that ended it; it is -1
+   where REFUSE is a number. A is how many requests it made, R whether the Nth was refused, and L how many blocks it took and didn't give
+   back. */
 #define _GNU_SOURCE
 #include <errno.h>
 #include <fcntl.h>
@@ -48,9 +50,10 @@ static atomic_bool all;
 
 static bool is_refused(void) {
     unsigned long number = atomic_fetch_add(&counts->asked, 1) + 1;
-    if (number != chosen && !atomic_load(&all))
+    if (number == chosen)
+        atomic_store(&counts->refused, 1);
+    else if (!atomic_load(&all))
         return false;
-    atomic_fetch_add(&counts->refused, 1);
     errno = ENOMEM;
     return true;
 }
@@ -243,19 +246,19 @@ static bool is_run(unsigned long number, unsigned seconds, int report, int outpu
 }
 
 static void run_each(unsigned seconds) {
+    unsigned long most = number_in("MOST", ULONG_MAX);
     int report = opened_report(), output = made_file("output"), error = made_file("error");
     bool is_here = false;
     counts = mmap(NULL, sizeof *counts, PROT_READ | PROT_WRITE, MAP_SHARED | MAP_ANONYMOUS, -1, 0);
     if (counts == MAP_FAILED)
         fail("no memory for the counts");
-    for (unsigned long number = 0; number == 0 || number < ULONG_MAX; number++) {
+    for (unsigned long number = 0;; number++) {
         bool is_met = is_run(number, seconds, report, output, error, &is_here);
         if (is_here)
             return;
-        if (number > 0 && !is_met)
-            break;
+        if (number > 0 ? !is_met : atomic_load(&counts->asked) > most)
+            _exit(0);
     }
-    _exit(0);
 }
 
 __attribute__((constructor)) static void start(void) {
