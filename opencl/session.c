@@ -232,7 +232,7 @@ char *explain_script(const char *script, size_t length) {
     int fd = memfd_create("clsim", MFD_CLOEXEC), nothing = open("/dev/null", O_RDONLY | O_CLOEXEC), ends[2] = {-1, -1}, status = -1;
     pid_t child;
     snprintf(path, sizeof path, "/proc/%ld/fd/%d", (long)getpid(), fd);
-    bool ready = fd >= 0 && nothing >= 0 && explain_command(room, sizeof room, path) && write(fd, script, length) == (ssize_t)length && !pipe2(ends, O_CLOEXEC);
+    bool ready = script && fd >= 0 && nothing >= 0 && explain_command(room, sizeof room, path) && write(fd, script, length) == (ssize_t)length && !pipe2(ends, O_CLOEXEC);
     if (ready) {
         split_words(room, words);
         // a program without the command says so on its standard error: that isn't the client's business

@@ -57,11 +57,10 @@ const expression *inner(const expression *e) {
 static bool binary_value(const char *op, base_type t, base_type left, uint64_t l, uint64_t r, uint64_t *value) {
     unsigned width = 8 * size_of(t);
     bool sign = is_signed(t);
-    if (!strcmp(op, "<<")) *value = converted(l << (r % (8 * size_of(left))), left);
-    else if (!strcmp(op, ">>")) {
-        unsigned by = (unsigned)(r % (8 * size_of(left)));
-        *value = is_signed(left) ? (uint64_t)((int64_t)l >> by) : l >> by;
-    } else {
+    unsigned by = (unsigned)r % (8 * size_of(left)); // how far is a shift, by the width of its left part
+    if (!strcmp(op, "<<")) *value = converted(l << by, left);
+    else if (!strcmp(op, ">>")) *value = is_signed(left) ? (uint64_t)((int64_t)l >> by) : l >> by;
+    else {
         l = converted(l, t);
         r = converted(r, t);
         bool least = sign && l == converted((uint64_t)1 << (width - 1), t) && r == UINT64_MAX;
@@ -378,12 +377,13 @@ static void read_character(parser *p, expression *e) {
     static const char escapes[] = "n\nt\tr\r0\0a\ab\bf\fv\v\\\\''\"\"??";
     long value = -1;
     if (s[1] == '\\' && s[2] && s[3] == '\'' && !s[4]) {
-        for (size_t i = 0; i + 1 < sizeof escapes; i += 2) if (escapes[i] == s[2]) value = escapes[i + 1];
+        for (size_t i = 0; i + 1 < sizeof escapes; i += 2) if (escapes[i] == s[2]) value = (unsigned char)escapes[i + 1];
     } else if (s[1] == '\\' && s[2] == 'x') {
         char *end;
-        value = (signed char)strtoul(s + 3, &end, 16);
+        value = (long)strtoul(s + 3, &end, 16);
+        if (value > 127) value -= 256; // a char is signed
         if (strcmp(end, "'") || end == s + 3 || end > s + 5) value = -1000;
-    } else if (s[1] && s[1] != '\\' && s[1] > 0 && s[2] == '\'' && !s[3]) value = s[1];
+    } else if (s[1] && s[1] != '\\' && s[1] > 0 && s[2] == '\'' && !s[3]) value = (unsigned char)s[1];
     else value = -1000;
     if (value == -1000) complain_at(p, p->at, "Clsim has no such character");
     e->type = number_type(INT_TYPE);
