@@ -173,6 +173,7 @@ static const char *save_as(writer *w, pieces p, type t) {
     put_apart(w, w->out, "");
     put_all(w->out, p);
     end_statement(w);
+    w->statements++; // a declaration can't stand alone behind an if: two statements make a block
     return s.at;
 }
 static pieces save(writer *w, pieces p, type t) { return word(w, save_as(w, p, t)); }
