@@ -1,4 +1,4 @@
-"""Each request for memory refused in turn, for tools/rows: what `clsim` and the program of direct calls do then.
+"""Each request for memory refused in turn, and each read and write, for tools/rows: what `clsim` and the program of direct calls do then.
 
 refuse.c is built and preloaded. It runs a program once for each request that it makes, with that one refused, and tells what came of each run.
 
@@ -98,10 +98,10 @@ def runs_of(report):
     return found
 
 
-def each(library, command, folder):
+def each(library, command, folder, what="memory"):
     """The runs of a command: none refused first, then each request in turn. The last refuses none, since it makes fewer."""
     report = os.path.join(folder, "REPORT")
-    environment = {**os.environ, "LD_PRELOAD": library, "REFUSE": "each", "REPORT": report, "MOST": str(MOST), "SECONDS": str(LIMIT)}
+    environment = {**os.environ, "LD_PRELOAD": library, "WHAT": what, "REFUSE": "each", "REPORT": report, "MOST": str(MOST), "SECONDS": str(LIMIT)}
     try:
         came = subprocess.run(command, cwd=folder, env=environment, stdin=subprocess.DEVNULL, capture_output=True, timeout=LIMIT_OF_ALL)
     except subprocess.TimeoutExpired:
@@ -116,6 +116,12 @@ def each(library, command, folder):
     if len(runs) < 2 or runs[0].refused or runs[-1].refused or any(run.refused != 1 for run in runs[1:-1]):
         raise BadReport(f"{len(runs)} runs, of which not each but the first and the last refused one request")
     return runs
+
+
+def left(whole, run, workers=1):
+    """What is to say of blocks of memory that a run leaves and the whole one doesn't: the C library keeps one for each thread that has ended."""
+    more = run.live - max(whole.live, workers - 1)
+    return [f"request {run.number}: {more} blocks are left that the whole run gives back"] if more > 0 else []
 
 
 # ---- scripts
@@ -167,7 +173,7 @@ class Script:
     """A row's script with each command twice, tried with some number of workers."""
 
     def __init__(self, row, workers, program, library, folder):
-        self.head, self.pieces = twice(row)
+        self.head, self.pieces, self.workers = *twice(row), workers
         self.command = [program, *row.command.split()[1:], "--workers", str(workers)]
         self.library, self.folder = library, folder
         self.without = {}
@@ -218,35 +224,65 @@ class Script:
         said, in_commands = [], False
         for run in runs[:-1]:
             early = run.came() in EARLY
-            counts["at the start" if early else "made good" if run.came() == whole.came() else "answered 16"] += 1
+            counts["at the start" if early else "done without" if run.came() == whole.came() else "answered 16"] += 1
             if early and in_commands:
                 said.append(f"request {run.number}: out of memory is told, where commands were answered before")
             elif not early and run.came() != whole.came():
                 in_commands = True
                 wrong = self.wrong(whole, run)
                 said += [f"request {run.number}: {wrong}"] if wrong else []
-            if run.live > whole.live:
-                said.append(f"request {run.number}: {run.live - whole.live} blocks are left, of which the whole run leaves none")
+            said += left(whole, run, self.workers)
         return counts, said
 
 
 def judged_line(command, row, library, folder):
     """The same of a command that writes one text or none: the row's outcome, or out of memory with nothing written."""
-    for name, text in (("FILE", row.text), ("SCHEDULE", row.schedule)):
-        if text is not None:
-            with open(os.path.join(folder, name), "wb") as file:
-                file.write(text)
+    written(row, folder)
     whole, *runs = each(library, command, folder)
     if whole.came() != (row.output, row.error, row.status):
         return Counter(), [f"with memory: {whole.came()!r}"]
     counts, said = Counter(), []
     for run in runs[:-1]:
-        counts["at the start" if run.came() in EARLY else "made good"] += 1
+        counts["at the start" if run.came() in EARLY else "done without"] += 1
         if run.came() not in [*EARLY, whole.came()]:
             said.append(f"request {run.number}: {run.came()!r}")
-        if run.live > whole.live:
-            said.append(f"request {run.number}: {run.live - whole.live} blocks are left, of which the whole run leaves none")
+        said += left(whole, run)
     return counts, said
+
+
+# ---- reads and writes
+
+def written(row, folder):
+    """Writes the files of a row."""
+    for name, text in (("FILE", row.text), ("SCHEDULE", row.schedule)):
+        if text is not None:
+            with open(os.path.join(folder, name), "wb") as file:
+                file.write(text)
+
+
+def judged_reads(command, row, library, folder):
+    """What came of the runs in which a read of a file fails: that it can't be read, with nothing written."""
+    written(row, folder)
+    whole, *runs = each(library, command, folder, "reads")
+    wanted = [(b"", b"clsim: cannot read %b\n" % name, 2) for name in (b"FILE", b"SCHEDULE")]
+    said = [] if whole.came() == (row.output, row.error, row.status) else [f"by pieces: {whole.came()!r}"]
+    said += [f"read {run.number}: {run.came()!r}" for run in runs[:-1] if run.came() not in wanted]
+    return Counter({"reads": len(runs) - 1}), said
+
+
+def is_cut(run, whole):
+    """Whether a run told that it couldn't write, and wrote a beginning of what the whole one writes. (What is held back when the program ends is
+    written then, so that it may be all.)"""
+    return run.error == b"clsim: cannot write\n" and run.status == 2 and whole.output.startswith(run.output)
+
+
+def judged_writes(command, row, library, folder):
+    """What came of the runs in which a write of the replies fails: that they couldn't be written, with a beginning of them written."""
+    written(row, folder)
+    whole, *runs = each(library, command, folder, "writes")
+    said = [] if whole.came() == (row.output, row.error, row.status) else [f"by pieces: {whole.came()!r}"]
+    said += [f"write {run.number}: {run.came()!r}" for run in runs[:-1] if not is_cut(run, whole)]
+    return Counter({"writes": len(runs) - 1}), said
 
 
 # ---- direct calls
@@ -296,11 +332,10 @@ def judged_calls(command, output, library, folder):
     counts, said, met = Counter(), [], set()
     for run in runs[:-1]:
         met.update(line.removesuffix(b": out of memory") for line in run.output.splitlines() if line.endswith(b": out of memory"))
-        counts["made good" if run.came() == whole.came() else "answered by a call"] += 1
+        counts["done without" if run.came() == whole.came() else "answered by a call"] += 1
         wrong = wrong_call(whole, run) if run.came() != whole.came() else None
         said += [f"request {run.number}: {wrong}"] if wrong else []
-        if run.live > whole.live:
-            said.append(f"request {run.number}: {run.live - whole.live} blocks are left, of which the whole run leaves none")
+        said += left(whole, run)
     missing = [call.decode() for call in CALLS if call not in met]
     return counts, said + ([f"never met want of memory: {', '.join(missing)}"] if missing else [])
 
@@ -324,31 +359,34 @@ class Outcome:
 
     def line(self):
         parts = ", ".join(f"{count:,} {name}" for name, count in sorted(self.refused.items()))
-        return f"requests for memory refused: {sum(self.refused.values()):,} ({parts}) of {self.passed + len(self.failed)} command lines; " \
+        return f"requests refused: {sum(self.refused.values()):,} ({parts}) of {self.passed + len(self.failed)} command lines; " \
                f"{self.left_out} make more than {MOST:,}, and are left out"
 
 
 def tasks(rows, program, library):
-    """What is tried of rows: scripts with a launch with some number of workers each, and texts that are checked, shown or replayed."""
+    """What is tried of rows: scripts with a launch with some number of workers each, texts that are checked or replayed, and all of them with reads
+    and writes that fail."""
     for row in rows:
-        title = f"{row.place}: {row.title}"
+        title, words = f"{row.place}: {row.title}", [program, *row.command.split()[1:]]
+        judges = [("a read fails", judged_reads), ("a write fails", judged_writes)]
+        if not row.command.startswith("clsim run FILE"):
+            judges.append(("a request is refused", judged_line))
+        for what, judge in judges:
+            yield Task(f"{title} ({what})", lambda folder, judge=judge, row=row, words=words: judge(words, row, library, folder))
         if re.search(rb"^launch ", row.text, flags=re.M) and row.command.startswith("clsim run FILE"):
             for workers in WORKERS:
-                yield Task(f"{title} (workers {workers})",
+                yield Task(f"{title} (a request is refused, workers {workers})",
                            lambda folder, row=row, workers=workers: Script(row, workers, program, library, folder).judged())
-        elif row.command.startswith(("clsim check", "clsim dump", "clsim replay")):
-            words = [program, *row.command.split()[1:]]
-            yield Task(title, lambda folder, row=row, words=words: judged_line(words, row, library, folder))
 
 
 def task_of_calls(crate, library):
-    """The program of direct calls, whose output stands in its crate; nothing where it isn't built."""
-    program, wanted = os.path.join(crate, "out", os.path.basename(crate)), os.path.join(crate, "stdout")
+    """The program of direct calls, whose output stands in its crate."""
+    program = os.path.join(crate, "out", os.path.basename(crate))
     if not os.access(program, os.X_OK):
         raise BadReport(f"no program: {program}")
-    with open(wanted, "rb") as file:
-        lines = [line for line in file.read().splitlines(keepends=True) if not line.startswith(b"ends ")]
-    return Task(os.path.basename(crate), lambda folder: judged_calls([program, "refused"], b"".join(lines), library, folder))
+    with open(os.path.join(crate, "stdout"), "rb") as file:
+        output = file.read()
+    return Task(os.path.basename(crate), lambda folder: judged_calls([program], output, library, folder))
 
 
 def done(task, place):
@@ -366,7 +404,7 @@ def done(task, place):
 
 def said_of(title, said):
     more = [f"  .. and {len(said) - SHOWN} more"] if len(said) > SHOWN else []
-    return "\n".join([f"FAILED with a request refused, {title}", *(f"  {it}" for it in said[:SHOWN]), *more])
+    return "\n".join([f"FAILED {title}", *(f"  {it}" for it in said[:SHOWN]), *more])
 
 
 def tried(rows, program, crate):

@@ -1,5 +1,9 @@
-/* Preloaded before a program, this refuses requests for memory: malloc, calloc, realloc and the aligned ones answer that none is left.
+/* Preloaded before a program, this refuses requests for memory: malloc, calloc, realloc and the aligned ones answer that none is left. Or
+   it fails calls of read or write. What is said of requests holds of these calls then.
 
+   WHAT=memory   requests for memory; so it is without WHAT
+   WHAT=reads    reads from files other than the standard streams, each of at most 4 bytes
+   WHAT=writes   writes to standard output, each of at most 4 bytes
    REFUSE=N      the program's Nth request is refused; with 0 none is
    REFUSE=each   the program runs once with no request refused, and then with the Nth refused, for N = 1, 2, .., until a run makes fewer
                  requests. Each run is a process of its own, forked before `main`
@@ -43,19 +47,31 @@ struct counts {
     atomic_long live;
 };
 
+enum what { MEMORY, READS, WRITES };
+
+/* The most bytes of a read or a write, where these are refused. */
+enum { PIECE = 4 };
+
 static struct counts unshared;
 static struct counts *counts = &unshared;
+static enum what what = MEMORY;
 static unsigned long chosen;
 static atomic_bool all;
 
-static bool is_refused(void) {
-    unsigned long number = atomic_fetch_add(&counts->asked, 1) + 1;
-    if (number == chosen)
-        atomic_store(&counts->refused, 1);
-    else if (!atomic_load(&all))
+/* Whether a request is the one that is refused. */
+static bool is_chosen(void) {
+    if (atomic_fetch_add(&counts->asked, 1) + 1 != chosen)
         return false;
-    errno = ENOMEM;
+    atomic_store(&counts->refused, 1);
     return true;
+}
+
+static bool is_refused(void) {
+    if ((what == MEMORY && is_chosen()) || atomic_load(&all)) {
+        errno = ENOMEM;
+        return true;
+    }
+    return false;
 }
 
 static void *counted(void *block) {
@@ -116,17 +132,37 @@ static void said(const char *text, size_t length) {
         atomic_store(&all, false);
 }
 
+/* Whether a call on a stream fails; else it moves no more than a piece. */
+static bool is_failed(size_t *length) {
+    if (is_chosen()) {
+        errno = EIO;
+        return true;
+    }
+    if (*length > PIECE)
+        *length = PIECE;
+    return false;
+}
+
+ssize_t read(int file, void *bytes, size_t length) {
+    if (what == READS && file > STDERR_FILENO && is_failed(&length))
+        return -1;
+    struct iovec piece = {bytes, length};
+    return readv(file, &piece, 1);
+}
+
 ssize_t write(int file, const void *bytes, size_t length) {
-    struct iovec piece = {(void *)(uintptr_t)bytes, length};
+    if (what == WRITES && file == STDOUT_FILENO && is_failed(&length))
+        return -1;
     if (file == STDERR_FILENO)
         said(bytes, length);
+    struct iovec piece = {(void *)(uintptr_t)bytes, length};
     return writev(file, &piece, 1);
 }
 
 /* ---- the report ------------------------------------------------------------------------------ */
 
-static void fail(const char *what) {
-    dprintf(STDERR_FILENO, "refuse: %s: %s\n", what, strerror(errno));
+static void fail(const char *why) {
+    dprintf(STDERR_FILENO, "refuse: %s: %s\n", why, strerror(errno));
     _exit(125);
 }
 
@@ -170,6 +206,17 @@ static unsigned long number_in(const char *name, unsigned long otherwise) {
         fail(name);
     }
     return number;
+}
+
+static enum what what_in(const char *name) {
+    static const char *words[] = {"memory", "reads", "writes"};
+    const char *text = getenv(name);
+    for (enum what it = MEMORY; it <= WRITES; it++)
+        if (strcmp(text == NULL ? words[MEMORY] : text, words[it]) == 0)
+            return it;
+    errno = EINVAL;
+    fail(name);
+    return MEMORY;
 }
 
 /* Counts from here on. */
@@ -266,6 +313,7 @@ __attribute__((constructor)) static void start(void) {
     unsigned seconds = (unsigned)number_in("SECONDS", 60);
     if (refuse == NULL)
         return;
+    what = what_in("WHAT");
     if (strcmp(refuse, "each") == 0) {
         run_each(seconds);
     } else {
