@@ -71,7 +71,9 @@ pub fn emit_expression(
     ensures kind { IfOk result (λ kind. kind ≡ kind_of scope.now (term expression.now)) }
     ensures longer { OnErr result (IsLonger code.old.items code.new.items) }
 {
-    Ok(emit(scope, level, expression, code)?.kind)
+    let found = emit(scope, level, expression, code)?;
+    let _constant: Option<Value> = found.constant; // tells the borrow checker of this type
+    Ok(found.kind)
 }
 
 /// The same, which also gives the value of a constant expression. Each node is worked out once, from its parts, whose code it replaces.
