@@ -18,6 +18,8 @@ mod running_logs;
 #[cfg(test)]
 mod schedules;
 #[cfg(test)]
+mod shortened;
+#[cfg(test)]
 mod slow_streams;
 #[cfg(test)]
 mod verifying;
