@@ -67,9 +67,9 @@ both_ways : (p q : ℕ) → (nat_le p q && nat_le q p) ≡ (p == q)
 both_ways p q = decided (p == q)
     (λ t. and_from (nat_le p q) (nat_le q p) (le-leb p q (omega (arith, eqb-true p q t))) (le-leb q p (omega (arith, eqb-true p q t))) ∙ sym t)
     (λ f. decided (nat_le p q && nat_le q p)
-        (λ t. let r : (nat_le p q ≡ true) × (nat_le q p ≡ true) = and_parts (nat_le p q) (nat_le q p) t in
-            absurd (false≢true (sym f ∙ eq-eqb p q (omega (arith, leb-true p q r.0, leb-true q p r.1)))))
-        (λ g. g ∙ sym f))
+    (λ t. let r : (nat_le p q ≡ true) × (nat_le q p ≡ true) = and_parts (nat_le p q) (nat_le q p) t in
+    absurd (false≢true (sym f ∙ eq-eqb p q (omega (arith, leb-true p q r.0, leb-true q p r.1)))))
+    (λ g. g ∙ sym f))
 
 same_number : (e : Bool) (p q : ℕ) → (e && nat_le p q && nat_le q p) ≡ (e && (p == q))
 same_number false p q = refl

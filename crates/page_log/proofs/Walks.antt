@@ -27,11 +27,11 @@ count_more x y log = sum_by-cons (λ (e : Entry). cond (share_page x e.access) 1
 -- one that shares no page is passed over
 passed : (g : Rule) (x y : Entry) (log : List Entry) (t : Tally) → share_page x.access y.access ≡ false → IsTally g x log t → IsTally g x (y ∷ log) t
 passed g x y log t h k = record {
-      found = k.found ∙ sym (headed g x y log ∙ ap (λ o. lower_hit o (hit g x log)) (apart_none g x y h));
-      there = λ e. inr (k.there e);
-      new = λ e w. others e w;
-      compared = k.compared ∙ sym (count_more x.access y log ∙ ap (λ (b : Bool). cond b 1 0 + count_on_page x.access log) h ∙ zero-add (count_on_page x.access log));
-    }
+  found = k.found ∙ sym (headed g x y log ∙ ap (λ o. lower_hit o (hit g x log)) (apart_none g x y h));
+  there = λ e. inr (k.there e);
+  new = λ e w. others e w;
+  compared = k.compared ∙ sym (count_more x.access y log ∙ ap (λ (b : Bool). cond b 1 0 + count_on_page x.access log) h ∙ zero-add (count_on_page x.access log));
+}
   where
     others : t.is_there ≡ false → (y.access ≡ x.access) ⊎ IsThere log x.access → ⊥
     others e (inl s) = false≢true (sym h ∙ ap (share_page x.access) s ∙ own_shares x.access)
@@ -43,13 +43,13 @@ pub counted :
     → (IsTrue n.is_there → (y.access ≡ x.access) ⊎ IsTrue t.is_there) → (n.is_there ≡ false → (y.access ≡ x.access → ⊥) × (t.is_there ≡ false))
     → n.compared ≡ t.compared + 1 → IsTally g x log t → IsTally g x (y ∷ log) n
 counted g x y log t n h found there new compared k = record {
-      found = found ∙ ap (lower_hit (hit_with g x y)) k.found ∙ sym (headed g x y log);
-      there = λ e. those (there e);
-      new = λ e w. others (new e) w;
-      compared =
-          compared ∙ ap (λ m. m + 1) k.compared ∙ add_comm (count_on_page x.access log) 1
-          ∙ sym (count_more x.access y log ∙ ap (λ (b : Bool). cond b 1 0 + count_on_page x.access log) h);
-    }
+  found = found ∙ ap (lower_hit (hit_with g x y)) k.found ∙ sym (headed g x y log);
+  there = λ e. those (there e);
+  new = λ e w. others (new e) w;
+  compared =
+      compared ∙ ap (λ m. m + 1) k.compared ∙ add_comm (count_on_page x.access log) 1
+      ∙ sym (count_more x.access y log ∙ ap (λ (b : Bool). cond b 1 0 + count_on_page x.access log) h);
+}
   where
     those : (y.access ≡ x.access) ⊎ IsTrue t.is_there → (y.access ≡ x.access) ⊎ IsThere log x.access
     those (inl s) = inl s
@@ -102,10 +102,10 @@ stepped g x y log t i place e k w =
 newest_as : (p q : Access → Bool) (log : List Entry) (n place : ℕ) → ((i : ℕ) (y : Entry) → slice_get log i ≡ Some y → q y.access ≡ p y.access)
     → IsNewest p log n place → IsNewest q log n place
 newest_as p q log n place f w = record {
-      within = w.within;
-      such = λ i y a e. f i y e ∙ w.such i y a e;
-      others = λ i y a b e. f i y e ∙ w.others i y a b e;
-    }
+  within = w.within;
+  such = λ i y a e. f i y e ∙ w.such i y a e;
+  others = λ i y a b e. f i y e ∙ w.others i y a b e;
+}
 
 pub all_at : (P : Entry → Type 0) (log : List Entry) (i : ℕ) (y : Entry) → All P log → slice_get log i ≡ Some y → P y
 all_at P log i y h e = subst P (get_or_from_slice_get log i y y e) (h i y (slice_get_within log i y e))
@@ -132,10 +132,10 @@ front_get (z ∷ log) x y (suc i) h e = front_get log x y i (omega (arith, h)) e
 -- what is newest of the first n stays
 kept : (p : Access → Bool) (log : List Entry) (x : Entry) (n place : ℕ) → n ≤ length log → IsNewest p log n place → IsNewest p (log ++ x ∷ []) n place
 kept p log x n place b w = record {
-      within = w.within;
-      such = λ i y a e. w.such i y a (front_get log x y i (omega (arith, a, b, w.within)) e);
-      others = λ i y lo hi e. w.others i y lo hi (front_get log x y i (omega (arith, hi, b)) e);
-    }
+  within = w.within;
+  such = λ i y a e. w.such i y a (front_get log x y i (omega (arith, a, b, w.within)) e);
+  others = λ i y lo hi e. w.others i y lo hi (front_get log x y i (omega (arith, hi, b)) e);
+}
 
 grown : (log : List Entry) (x : Entry) → length (log ++ x ∷ []) ≡ length log + 1
 grown [] x = omega arith
@@ -144,19 +144,19 @@ grown (y ∷ log) x = omega (arith, grown log x)
 -- the added one is the newest that is such
 newest_itself : (p : Access → Bool) (log : List Entry) (x : Entry) → p x.access ≡ true → IsNewest p (log ++ x ∷ []) (length (log ++ x ∷ [])) (length log + 1)
 newest_itself p log x h = record {
-      within = omega (arith, grown log x);
-      such = λ i y a e. subst (λ z. p z.access ≡ true) (last_get log x y (subst (λ j. slice_get (log ++ x ∷ []) j ≡ Some y) {x = i} {y = length log} (omega (arith, a)) e)) h;
-      others = λ i y lo hi e. absurd (omega (arith, lo, hi, grown log x));
-    }
+  within = omega (arith, grown log x);
+  such = λ i y a e. subst (λ z. p z.access ≡ true) (last_get log x y (subst (λ j. slice_get (log ++ x ∷ []) j ≡ Some y) {x = i} {y = length log} (omega (arith, a)) e)) h;
+  others = λ i y lo hi e. absurd (omega (arith, lo, hi, grown log x));
+}
 
 -- the added one is passed over
 newest_before : (p : Access → Bool) (log : List Entry) (x : Entry) (place : ℕ) → p x.access ≡ false → IsNewest p log (length log) place
     → IsNewest p (log ++ x ∷ []) (length (log ++ x ∷ [])) place
 newest_before p log x place h w = record {
-      within = omega (arith, w.within, grown log x);
-      such = λ i y a e. w.such i y a (front_get log x y i (omega (arith, a, w.within)) e);
-      others = λ i y lo hi e. place_of i y lo hi e (cases_lt i (length log));
-    }
+  within = omega (arith, w.within, grown log x);
+  such = λ i y a e. w.such i y a (front_get log x y i (omega (arith, a, w.within)) e);
+  others = λ i y lo hi e. place_of i y lo hi e (cases_lt i (length log));
+}
   where
     place_of : (i : ℕ) (y : Entry) → place ≤ i → i < length (log ++ x ∷ []) → slice_get (log ++ x ∷ []) i ≡ Some y → (i < length log) ⊎ (length log ≤ i) → p y.access ≡ false
     place_of i y lo hi e (inl b) = w.others i y lo b (front_get log x y i b e)
@@ -169,10 +169,10 @@ pub indexed : {S : Type 0} (log : List Entry) (x : Entry) (m n : HashMap Page �
     → get same_page n (page_of x.access) ≡ Some (length log + 1) → ((q : Page) → same_page (page_of x.access) q ≡ false → get same_page n q ≡ get same_page m q)
     → IsIndexed (log ++ x ∷ []) n (older ++ newest_of m (page_of x.access) ∷ [])
 indexed log x m n older k own others = record {
-      long = pushed older (newest_of m (page_of x.access)) ∙ ap (λ l. l + 1) k.long ∙ sym (grown log x);
-      newest_are = λ q. newest q (decided (same_page (page_of x.access) q) inl inr);
-      older_are = λ i y e. link i y e (cases_lt i (length log));
-    }
+  long = pushed older (newest_of m (page_of x.access)) ∙ ap (λ l. l + 1) k.long ∙ sym (grown log x);
+  newest_are = λ q. newest q (decided (same_page (page_of x.access) q) inl inr);
+  older_are = λ i y e. link i y e (cases_lt i (length log));
+}
   where
     pushed : (xs : List ℕ) (z : ℕ) → length (xs ++ z ∷ []) ≡ length xs + 1
     pushed [] z = omega arith

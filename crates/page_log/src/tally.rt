@@ -26,13 +26,7 @@ pub(crate) fn lower_hit(first: Option<Hit>, other: Option<Hit>) -> Option<Hit>
     ensures { result ≡ lower_hit first other }
 {
     match (first, other) {
-        (Some(a), Some(b)) => {
-            if b.byte < a.byte {
-                Some(b)
-            } else {
-                Some(a)
-            }
-        }
+        (Some(a), Some(b)) => { if b.byte < a.byte { Some(b) } else { Some(a) } }
         (Some(a), None) => Some(a),
         (None, other) => other,
     }

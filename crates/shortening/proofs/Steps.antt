@@ -11,8 +11,8 @@ stays leads judged s w h = record { leads_there = h; same = λ es. (λ a. a, λ 
 
 pub then : {S : Type 0} (leads : S → List Event → Type 0) (judged : S → ℕ) (a b c : S) (u v w : Search) → Advances leads judged a b u v → Advances leads judged b c v w → Advances leads judged a c u w
 then leads judged a b c u v w p q = record {
-      leads_there = q.leads_there;
-      same = λ es. (λ h. (q.same es).0 ((p.same es).0 h), λ h. (p.same es).1 ((q.same es).1 h));
-      not_longer = omega (arith, p.not_longer, q.not_longer);
-      counted = omega (arith, p.counted, q.counted);
-    }
+  leads_there = q.leads_there;
+  same = λ es. (λ h. (q.same es).0 ((p.same es).0 h), λ h. (p.same es).1 ((q.same es).1 h));
+  not_longer = omega (arith, p.not_longer, q.not_longer);
+  counted = omega (arith, p.counted, q.counted);
+}

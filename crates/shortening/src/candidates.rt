@@ -26,7 +26,7 @@ pub(crate) trait Candidate {
     fn keeping(&self, kept: &[u32]) -> Result<Vec<EventRun>, AllocError>;
 }
 
-/// The numbers of a list, and those of the groups of named items too where `given` is told.
+/// The numbers of a list.
 fn set_of(alloc: Global, numbers: &[u32]) -> Result<HashSet<u32>, AllocError> {
     let mut set = HashSet::new(alloc);
     for number in numbers {

@@ -10,7 +10,12 @@ use crate::search::{MOST, Search};
 use std::alloc::{AllocError, Global};
 
 /// A list without `size` of its numbers from a place on.
-fn without(alloc: Global, numbers: &[u32], from: usize, size: usize) -> Result<Vec<u32>, AllocError> {
+fn without(
+    alloc: Global,
+    numbers: &[u32],
+    from: usize,
+    size: usize,
+) -> Result<Vec<u32>, AllocError> {
     let mut rest = Vec::new(alloc);
     for (i, number) in numbers.iter().enumerate() {
         if i < from || i - from >= size {
@@ -75,6 +80,7 @@ impl Part {
 
 /// Leaves out parts of a list of groups or items, of all of them first, then of half the size each time (after Zeller's delta debugging), as
 /// long as the schedule without them leads to the fault. What is left of the list.
+#[tactic(auto, using(crate::proofs::Steps::stays, crate::proofs::Steps::then))]
 pub(crate) fn reduce<J: Judge, C: Candidate>(
     alloc: Global,
     judge: &mut J,

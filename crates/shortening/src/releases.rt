@@ -53,6 +53,7 @@ fn try_release<J: Judge>(
 }
 
 /// Leaves out releases of a group: the first without which the rest leads to the fault, and all behind it.
+#[tactic(auto, using(crate::proofs::Steps::stays, crate::proofs::Steps::then))]
 fn drop_releases_of<J: Judge>(
     judge: &mut J,
     search: &mut Search,
@@ -71,6 +72,7 @@ fn drop_releases_of<J: Judge>(
 }
 
 /// Leaves out releases of the named items' groups.
+#[tactic(auto, using(crate::proofs::Steps::stays, crate::proofs::Steps::then))]
 pub(crate) fn drop_releases<J: Judge>(
     judge: &mut J,
     search: &mut Search,

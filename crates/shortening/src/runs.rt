@@ -29,18 +29,16 @@ pub fn event_count(runs: &[EventRun]) -> u64
 }
 
 /// Adds events of an item at the end.
-pub(crate) fn push_item(
-    runs: &mut Vec<EventRun>,
-    item: u32,
-    count: u64,
-) -> Result<(), AllocError> {
+pub(crate) fn push_item(runs: &mut Vec<EventRun>, item: u32, count: u64) -> Result<(), AllocError> {
     if count == 0 {
         return Ok(());
     }
-    if let Some(EventRun::Item {
-        item: last,
-        count: before,
-    }) = runs.last()
+    if let Some(
+        EventRun::Item {
+            item: last,
+            count: before,
+        },
+    ) = runs.last()
     {
         if *last == item {
             let count = before.saturating_add(count);

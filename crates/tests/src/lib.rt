@@ -18,8 +18,6 @@ mod running_logs;
 #[cfg(test)]
 mod schedules;
 #[cfg(test)]
-mod shortened;
-#[cfg(test)]
 mod slow_streams;
 #[cfg(test)]
 mod verifying;

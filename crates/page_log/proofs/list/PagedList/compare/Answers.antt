@@ -40,13 +40,20 @@ loop-place-preserved c =
     let t = c.with-tally.result in
     let at : slice_get log i ≡ Some y = slice_get_read log (length log) i y refl (omega (arith, c.loop-place-test.true, c.loop-place.invariant.within)) c.index.ensures in
     let here : IsTally c.args.rule x (y ∷ drop (i + 1) log) t =
-        c.with-tally.ensures (drop (i + 1) log)
-        (subst (λ n. IsTally c.args.rule x (drop n log) c.loop-place.tally) {x = c.loop-place.place} {y = i + 1} (omega (arith, c.loop-place-test.true)) c.loop-place.invariant.walked) in
+    c.with-tally.ensures (drop (i + 1) log)
+    (subst (λ n. IsTally c.args.rule x (drop n log) c.loop-place.tally) {x = c.loop-place.place} {y = i + 1} (omega (arith, c.loop-place-test.true)) c.loop-place.invariant.walked) in
     record {
       within = omega (arith, c.older-place.ensures.within, c.loop-place.invariant.within);
       shared = c.older-place.ensures.such;
       counted =
-          omega (arith, c.older-place.ensures.within, c.loop-place.invariant.within, c.loop-place-test.true, here.compared, length-drop (i + 1) log,
-          count_by-le-length (λ (e : Entry). share_page x.access e.access) (y ∷ drop (i + 1) log));
+          omega (
+            arith,
+            c.older-place.ensures.within,
+            c.loop-place.invariant.within,
+            c.loop-place-test.true,
+            here.compared,
+            length-drop (i + 1) log,
+            count_by-le-length (λ (e : Entry). share_page x.access e.access) (y ∷ drop (i + 1) log),
+          );
       walked = stepped c.args.rule x y log t i c.older-place.result at here c.older-place.ensures;
     }

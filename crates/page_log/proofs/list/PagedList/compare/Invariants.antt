@@ -10,8 +10,8 @@ decreases-loop-place l = l.place
 
 abbrev pub invariant-loop-place : goal.invariant-loop-place
 invariant-loop-place l = record {
-    within : l.place ≤ length l.self.entries.items;
-    shared : (i : ℕ) (y : Entry) → l.place ≡ i + 1 → slice_get l.self.entries.items i ≡ Some y → share_page l.x.access y.access ≡ true;
-    counted : l.tally.compared + l.place ≤ length l.self.entries.items;
-    walked : IsTally l.rule l.x (drop l.place l.self.entries.items) l.tally;
-  }
+  within : l.place ≤ length l.self.entries.items;
+  shared : (i : ℕ) (y : Entry) → l.place ≡ i + 1 → slice_get l.self.entries.items i ≡ Some y → share_page l.x.access y.access ≡ true;
+  counted : l.tally.compared + l.place ≤ length l.self.entries.items;
+  walked : IsTally l.rule l.x (drop l.place l.self.entries.items) l.tally;
+}

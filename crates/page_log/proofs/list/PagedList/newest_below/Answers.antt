@@ -22,10 +22,10 @@ returns-else-not-share_page c =
 
 pub returns-after-loop-place : goal.returns-after-loop-place
 returns-after-loop-place c = record {
-      within = c.loop-place.invariant.within;
-      such = λ i y a e. absurd (omega (arith, a, c.loop-place-test.false));
-      others = c.loop-place.invariant.others;
-    }
+  within = c.loop-place.invariant.within;
+  such = λ i y a e. absurd (omega (arith, a, c.loop-place-test.false));
+  others = c.loop-place.invariant.others;
+}
 
 pub loop-place-preserved : goal.loop-place-preserved
 loop-place-preserved c =
@@ -37,7 +37,7 @@ loop-place-preserved c =
       within = omega (arith, c.loop-place.invariant.within);
       others = λ i y lo hi e.
           elim (cases_lt i c.loop-place.place) [
-            inl b ↦ subst (λ (w : Entry). share_page c.args.x.now w.access ≡ false) (one_at log k i z y at e (omega (arith, lo, b))) (sym c.share_page.ensures ∙ c.if-not-share_page.true)
-          | inr b ↦ c.loop-place.invariant.others i y b hi e
+            | inl b ↦ subst (λ (w : Entry). share_page c.args.x.now w.access ≡ false) (one_at log k i z y at e (omega (arith, lo, b))) (sym c.share_page.ensures ∙ c.if-not-share_page.true)
+            | inr b ↦ c.loop-place.invariant.others i y b hi e
           ];
     }

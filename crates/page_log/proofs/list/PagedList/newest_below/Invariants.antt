@@ -9,6 +9,6 @@ decreases-loop-place l = l.place
 
 abbrev pub invariant-loop-place : goal.invariant-loop-place
 invariant-loop-place l = record {
-    within : l.place ≤ l.n;
-    others : (i : ℕ) (y : Entry) → l.place ≤ i → i < l.n → slice_get l.self.entries.items i ≡ Some y → share_page l.x y.access ≡ false;
-  }
+  within : l.place ≤ l.n;
+  others : (i : ℕ) (y : Entry) → l.place ≤ i → i < l.n → slice_get l.self.entries.items i ≡ Some y → share_page l.x y.access ≡ false;
+}

@@ -16,11 +16,11 @@ invariant_of-self-2 c =
     let n = c.insert.new.self in
     let made : c.push_reserved-2.new.self.items ≡ log ++ x ∷ [] = c.push_reserved-2.ensures.items ∙ ap (λ xs. xs ++ x ∷ []) c.reserve.ensures.items in
     let links : c.push_reserved.new.self.items ≡ l.older.items ++ newest_of l.newest (page_of x.access) ∷ [] =
-        c.push_reserved.ensures.items
-        ∙ ap₂ (λ xs o. xs ++ o ∷ []) c.reserve-2.ensures.items (c.link-older.ensures ∙ ap (newest_of l.newest) c.page_of-page.ensures) in
+    c.push_reserved.ensures.items
+    ∙ ap₂ (λ xs o. xs ++ o ∷ []) c.reserve-2.ensures.items (c.link-older.ensures ∙ ap (newest_of l.newest) c.page_of-page.ensures) in
     let put : get same_page n c.page_of-page.result ≡ Some (c.len.result + 1) = c.in_ok-insert.ensures.updates.1 in
     let own : get same_page n (page_of x.access) ≡ Some (length log + 1) =
-        ap (get same_page n) (sym c.page_of-page.ensures) ∙ put ∙ ap (λ k. Some (k + 1)) (c.len.ensures ∙ c.reserve.ensures.len ∙ l.entries.ok.0) in
+    ap (get same_page n) (sym c.page_of-page.ensures) ∙ put ∙ ap (λ k. Some (k + 1)) (c.len.ensures ∙ c.reserve.ensures.len ∙ l.entries.ok.0) in
     record {
       placed = subst (All IsPlaced) (sym made) (All-push IsPlaced log x l.placed c.requires);
       indexed = subst (λ xs. IsIndexed xs n c.push_reserved.new.self.items) (sym made)
