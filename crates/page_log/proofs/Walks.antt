@@ -1,5 +1,5 @@
 -- Walks from the newest access of a list to the oldest, past those that share no page with one.
-use Rattle.std.proofs.Common.{◌≡◌, ℕ, zero, suc, ◌+◌, ◌-◌, ◌<◌, ◌≤◌, ◌⊎◌, Bool, true, false, cond, Option, None, Some, List, [], ◌∷◌, ◌++◌, length, drop, refl, sym, ap, ◌∙◌, subst, inl, inr, arith, zero-add, add_comm}
+use Rattle.std.proofs.Common.{◌≡◌, ℕ, zero, suc, ◌+◌, ◌-◌, ◌<◌, ◌≤◌, ◌⊎◌, Bool, true, false, cond, Some, List, [], ◌∷◌, ◌++◌, length, drop, refl, sym, ap, ◌∙◌, subst, inl, inr, arith, zero-add, add_comm}
 use Rattle.std.specs.Prelude.{All, IsTrue, slice_get, slice_index_or}
 use Rattle.std.specs.HashMap.{HashMap, get}
 use Rattle.std.specs.Option.{unwrap_or}

@@ -1,5 +1,5 @@
 -- Pages of 64 bytes: which accesses touch the same one, and where they are in a list (own).
-use Rattle.std.specs.Prelude.{◌≡◌, ℕ, ◌+◌, ◌-◌, ◌/◌, ◌<◌, ◌≤◌, ◌==◌, ◌&&◌, Bool, true, false, Option, Some, List, nat_le, length, slice_get, slice_index_or, count_by, Vec}
+use Rattle.std.specs.Prelude.{◌≡◌, ℕ, ◌+◌, ◌-◌, ◌/◌, ◌<◌, ◌≤◌, ◌==◌, ◌&&◌, Bool, true, false, Some, List, nat_le, length, slice_get, slice_index_or, count_by}
 use Rattle.std.specs.Bool.{beq}
 use Rattle.std.specs.Option.{unwrap_or}
 use Rattle.std.specs.HashMap.{HashMap, get}

@@ -1,5 +1,5 @@
 -- What comparing an access with others finds (own, on OpenCL 1.2, 3.3.1).
-use Rattle.std.specs.Prelude.{◌≡◌, ℕ, Bool, true, false, Option, None, Some, List, [], ◌∷◌, IsTrue, nat_lt, if◌then◌else◌}
+use Rattle.std.specs.Prelude.{◌≡◌, false, Option, None, Some, List, [], ◌∷◌, IsTrue, nat_lt, if◌then◌else◌}
 use Rattle.clmodel.specs.declared.access.Rule.{Rule}
 use Rattle.shadow_list.specs.Log.{hit, IsThere}
 use Rattle.shadow_list.specs.declared.log.Entry.{Entry}

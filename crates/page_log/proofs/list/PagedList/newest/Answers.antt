@@ -1,5 +1,5 @@
 use Rattle.std.proofs.Common.{length, sym, subst}
-use Rattle.page_log.specs.Pages.{page_of, begins_in, IsNewest}
+use Rattle.page_log.specs.Pages.{begins_in, IsNewest}
 use Rattle.page_log.proofs.Walks.{linked}
 use Rattle.page_log.proofs.list.PagedList.newest.Goals as goal
 
