@@ -40,7 +40,7 @@ is_numbered launch group (Stopped number fault log runs) is = is.1.2.0
 pub place_of : (first count n : ℕ) → place_among first count (first + n) ≡ n
 place_of first count n =
     let same : (first + n) - first ≡ n = omega arith in
-    let there : nat_lt (first + n) first ≡ false = le-ltb first (first + n) (omega arith) in
+    let there : nat_lt (first + n) first ≡ false = le-ltb (first + n) first (omega arith) in
     ap (λ b. if b then count else ((first + n) - first)) there ∙ same
 
 pub stopped_stops : (launch : Launch) (group : ℕ) (came : Came) → IsOfGroup launch group came → has_stopped came ≡ true → IsStopping launch group
