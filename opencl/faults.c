@@ -1,0 +1,270 @@
+// Faults in the client's terms.
+#define _GNU_SOURCE
+#include "objects.h"
+#include <stdio.h>
+#include <stdlib.h>
+#include <string.h>
+#include <unistd.h>
+
+enum { MAX_EXPLAINED = 16, MAX_EXPLAINED_BYTES = 8 << 20 };
+
+static unsigned faults;
+
+// ---- settings ----
+
+// A setting that is a number, or another number where it isn't set or isn't one.
+static long number_setting(const char *name, long low, long high, long otherwise) {
+    const char *given = setting(name);
+    char *end;
+    long n = given ? strtol(given, &end, 10) : otherwise;
+    return given && (*end || n < low || n > high) ? otherwise : n;
+}
+static int status_setting(int otherwise) { return (int)number_setting("CLSIM_STATUS", 0, 255, otherwise); }
+
+void check_settings(void) {
+    static bool checked;
+    const char *then = setting("CLSIM_ON_FAULT");
+    if (checked) return;
+    checked = true;
+    if (then && strcmp(then, "error") && strcmp(then, "go") && strcmp(then, "exit") && strcmp(then, "abort"))
+        tell("CLSIM_ON_FAULT is error, go, exit or abort, and not %s", then);
+    if (setting("CLSIM_STATUS") && status_setting(-1) < 0) tell("CLSIM_STATUS is a number from 0 to 255, and not %s", setting("CLSIM_STATUS"));
+    if (setting("CLSIM_LOCAL") && number_setting("CLSIM_LOCAL", 1, MAX_GROUP, 0) == 0) tell("CLSIM_LOCAL is a number from 1 to 256, and not %s", setting("CLSIM_LOCAL"));
+}
+
+// With CLSIM_STATUS=N the process ends with status N where a launch faulted, whatever it answers itself.
+__attribute__((destructor)) static void end_process(void) {
+    if (!faults) return;
+    tell("%u launch%s faulted", faults, faults == 1 ? "" : "es");
+    if (status_setting(-1) < 0) return;
+    fflush(NULL);
+    _exit(status_setting(1));
+}
+
+// ---- ids ----
+
+void sizes_text(char *room, size_t n, cl_uint dimensions, const size_t *sizes) {
+    size_t at = 0;
+    for (cl_uint d = 0; d < dimensions; d++) at += (size_t)snprintf(room + at, n - at, "%s%zu", d ? "," : "", sizes[d]);
+}
+
+static size_t put_id(char *room, size_t n, const char *name, cl_uint dimensions, const size_t *id) {
+    size_t at = (size_t)snprintf(room, n, "%s (", name);
+    for (cl_uint d = 0; d < dimensions; d++) at += (size_t)snprintf(room + at, n - at, "%s%zu", d ? ", " : "", id[d]);
+    return at + (size_t)snprintf(room + at, n - at, ")");
+}
+
+// Where a work-item stands: its group by the group's number, its place in it (OpenCL 1.2, 3.2).
+static void tell_item(unsigned long item, const launch_sizes *s) {
+    size_t per_group = 1, global[3], group[3], local[3], at = 0;
+    char ids[512];
+    for (cl_uint d = 0; d < s->dimensions; d++) per_group *= s->local[d];
+    size_t of_group = item / per_group, in_group = item % per_group;
+    for (cl_uint d = 0; d < s->dimensions; d++) {
+        size_t groups = s->global[d] / s->local[d];
+        group[d] = of_group % groups;
+        of_group /= groups;
+        local[d] = in_group % s->local[d];
+        in_group /= s->local[d];
+        global[d] = s->offset[d] + group[d] * s->local[d] + local[d];
+    }
+    at += put_id(ids + at, sizeof ids - at, "global id", s->dimensions, global);
+    at += put_id(ids + at, sizeof ids - at, ", group", s->dimensions, group);
+    put_id(ids + at, sizeof ids - at, ", local id", s->dimensions, local);
+    tell("  item %lu is %s", item, ids);
+}
+
+// ---- memory ----
+
+static void tell_element(unsigned number, const char *what, const char *name, size_t bytes, size_t width, const char *rest) {
+    const char *b = strstr(rest, " byte ");
+    if (!b || (strstr(rest, " schedule ") && b > strstr(rest, " schedule "))) {
+        tell("  buffer b%u has %zu bytes and is %s %s, %zu elements", number, bytes, what, name, bytes / width);
+        return;
+    }
+    unsigned long byte = strtoul(b + 6, NULL, 10);
+    tell("  buffer b%u has %zu bytes and is %s %s: %s[%lu]%s", number, bytes, what, name, name, byte / width, byte % width ? ", not its first byte" : "");
+}
+
+// The arguments, or the table, that a buffer of the reply is.
+static void tell_buffer(cl_kernel k, const char *reply) {
+    const kernel_form *form = k->form;
+    const char *at = strstr(reply, " buffer b");
+    if (!at) return;
+    unsigned number = (unsigned)strtoul(at + 9, NULL, 10);
+    char what[32];
+    for (unsigned i = 0; i < form->count; i++) {
+        cl_mem m = k->arguments[i].memory;
+        if (!m || m->number != number) continue;
+        snprintf(what, sizeof what, "argument %u,", i);
+        tell_element(number, what, form->parameters[i].name, m->size, size_of(form->parameters[i].type.base), at);
+    }
+    for (unsigned i = 0; i < form->table_count; i++) {
+        unsigned t = form->tables[i];
+        if (k->program->tables[t] == number) tell_element(number, "the table", k->program->form.tables[t].name, k->program->form.tables[t].size, k->program->form.tables[t].width, at);
+    }
+}
+
+// The element of an object in local memory, in the dimensions that the source gives it.
+static void tell_local(cl_kernel k, const char *reply) {
+    unsigned long group, byte;
+    char name[128], place[256];
+    size_t at = 0;
+    const char *local = strstr(reply, " local "), *schedule = strstr(reply, " schedule ");
+    if (!local || (schedule && local > schedule) || sscanf(local, " local %lu %127s byte %lu", &group, name, &byte) != 3) return;
+    for (unsigned i = 0; i < k->form->local_count; i++) {
+        const symbol *y = k->form->locals[i];
+        if (strcmp(y->written, name)) continue;
+        uint64_t element = byte / size_of(y->type.base), part = 1;
+        for (unsigned d = 1; d < y->type.dimensions; d++) part *= y->type.lengths[d];
+        for (unsigned d = 0; !y->is_scalar && d < (y->type.dimensions ? y->type.dimensions : 1); d++) {
+            if (at < sizeof place) at += (size_t)snprintf(place + at, sizeof place - at, "[%llu]", (unsigned long long)(element / part));
+            element %= part;
+            if (d + 1 < y->type.dimensions) part /= y->type.lengths[d + 1];
+        }
+        tell("  %s of group %lu: %s%s%s", y->name, group, y->name, at ? place : "", byte % size_of(y->type.base) ? ", not its first byte" : "");
+    }
+}
+
+// A name that the driver wrote in place of the client's.
+static void tell_name(cl_kernel k, const char *reply) {
+    const char *mark = k->program->form.mark, *at = strstr(reply, mark), *schedule = strstr(reply, " schedule ");
+    if (!at || (schedule && at > schedule)) return;
+    const char *name = at + strlen(mark);
+    int n = (int)strcspn(name, " ");
+    if (*name >= '0' && *name <= '9') tell("  %s%.*s holds a part of an expression", mark, n, name);
+    else if (!strncmp(name, "my_", 3)) tell("  %s%.*s is the client's %.*s", mark, n, name, n - 3, name + 3);
+}
+
+// ---- where it stands in the source ----
+
+static void add_sizes(text *t, const launch_sizes *s) {
+    char room[80];
+    const size_t *lists[] = {s->global, s->local, s->offset};
+    for (int i = 0; i < 3; i++) {
+        sizes_text(room, sizeof room, s->dimensions, lists[i]);
+        addf(t, " %s", room);
+    }
+    addf(t, "%s\n", s->uniform ? " uniform" : "");
+}
+
+// A buffer with what it holds: a launch that faults has changed nothing.
+static bool add_buffer(text *t, cl_context c, unsigned number, size_t size) {
+    char *bytes = take(t->arena, size);
+    if (t->length > MAX_EXPLAINED_BYTES || ask_read(c, number, 0, bytes, size)) return false;
+    char *hex = take(t->arena, 2 * size + 1);
+    static const char digits[] = "0123456789abcdef";
+    for (size_t i = 0; i < size; i++) {
+        hex[2 * i] = digits[(unsigned char)bytes[i] >> 4];
+        hex[2 * i + 1] = digits[bytes[i] & 15];
+    }
+    addf(t, "buffer b%u %zu\nwrite b%u 0 ", number, size, number);
+    add_bytes(t, hex, 2 * size);
+    add(t, "\n");
+    return true;
+}
+
+// A script of the one launch: the buffers that it names, its program, its kernel with the arguments.
+static bool add_script(text *t, cl_kernel k, const launch_sizes *s) {
+    const kernel_form *form = k->form;
+    const prepared *source = &k->program->form;
+    add(t, "clsim 2\n");
+    for (unsigned i = 0; i < form->count; i++) {
+        cl_mem m = k->arguments[i].memory;
+        bool first = true;
+        for (unsigned j = 0; j < i; j++) first = first && k->arguments[j].memory != m;
+        if (m && first && !add_buffer(t, k->context, m->number, m->size)) return false;
+    }
+    for (unsigned i = 0; i < form->table_count; i++)
+        if (!add_buffer(t, k->context, k->program->tables[form->tables[i]], source->tables[form->tables[i]].size)) return false;
+    addf(t, "program p%u %u\n", k->program->number, source->lines);
+    add_bytes(t, source->text, source->length);
+    addf(t, "kernel k%u p%u %s\n", k->number, k->program->number, form->name);
+    for (unsigned i = 0; i < form->count; i++) add(t, k->arguments[i].command);
+    for (unsigned i = 0; i < form->table_count; i++) addf(t, "arg k%u %u buffer b%u\n", k->number, form->count + i, k->program->tables[form->tables[i]]);
+    addf(t, "launch k%u", k->number);
+    add_sizes(t, s);
+    return true;
+}
+
+static bool number_behind(const char *json, const char *key, const char *end, unsigned long *n) {
+    const char *at = strstr(json, key);
+    if (!at || at >= end) return false;
+    *n = strtoul(at + strlen(key), NULL, 10);
+    return true;
+}
+
+// Tells the spots of an explanation, each `"spot":{"offset":N,..,"calls":[{"offset":N,..},..]` behind its item's number and what it does.
+static void tell_spots(cl_kernel k, const char *json) {
+    const prepared *source = &k->program->form;
+    const char *items = strstr(json, "\"items\":["), *end = items ? strstr(items, "\"schedule\":") : NULL;
+    if (!items) return;
+    if (!end) end = items + strlen(items);
+    for (const char *at = strstr(items, "\"item\":"); at && at < end; at = strstr(at + 1, "\"item\":")) {
+        unsigned long item = strtoul(at + 7, NULL, 10), offset;
+        const char *next = strstr(at + 1, "\"item\":"), *spot = strstr(at, "\"spot\":{"), *does = strstr(at, "\"does\":\"");
+        if (!next || next > end) next = end;
+        if (!spot || spot > next || !number_behind(spot, "\"offset\":", next, &offset)) continue;
+        char place[512], what[32] = "is";
+        if (does && does < next) snprintf(what, sizeof what, "%.*s", (int)strcspn(does + 8, "\""), does + 8);
+        if (!place_of(source, offset, place, sizeof place)) continue;
+        tell("  item %lu: %s at %s", item, what, place);
+        const char *calls = strstr(spot, "\"calls\":[");
+        const char *shut = calls ? strchr(calls, ']') : NULL;
+        for (const char *c = calls && shut && calls < next ? strstr(calls, "\"offset\":") : NULL; c && c < shut; c = strstr(c + 1, "\"offset\":"))
+            if (place_of(source, strtoul(c + 9, NULL, 10), place, sizeof place)) tell("    called at %s", place);
+    }
+}
+
+static void explain(cl_kernel k, const launch_sizes *s) {
+    static unsigned explained;
+    arena a = {0};
+    text script = {.arena = &a};
+    const char *command = getenv("CLSIM_EXPLAIN");
+    if ((command && !*command) || explained == MAX_EXPLAINED) return;
+    explained++;
+    if (setjmp(a.failed)) {
+        free_arena(&a);
+        return;
+    }
+    session_record(k->context->session, false); // reading changes nothing
+    bool whole = add_script(&script, k, s);
+    session_record(k->context->session, true);
+    char *json = whole ? explain_script(script.at, script.length) : NULL;
+    if (json) tell_spots(k, json);
+    free(json);
+    free_arena(&a);
+}
+
+// ---- the whole ----
+
+void report_fault(cl_kernel k, const char *reply, const launch_sizes *s) {
+    char global[80], local[80], *line = strdup(reply); // the reply goes with the next command
+    unsigned long last = 0;
+    bool first = true;
+    faults++;
+    tell("%s", reply);
+    if (!line) return;
+    sizes_text(global, sizeof global, s->dimensions, s->global);
+    sizes_text(local, sizeof local, s->dimensions, s->local);
+    tell("  kernel %s, launch %u of its context, global size %s, local size %s", k->form->name, k->context->launches, global, local);
+    tell_buffer(k, line);
+    tell_local(k, line);
+    tell_name(k, line);
+    const char *schedule = strstr(line, " schedule ");
+    for (const char *at = strstr(line, " item "); at && (!schedule || at < schedule); at = strstr(at + 1, " item ")) {
+        unsigned long item = strtoul(at + 6, NULL, 10);
+        if (first || item != last) tell_item(item, s);
+        first = false;
+        last = item;
+    }
+    explain(k, s);
+    if (k->context->notify) k->context->notify(line, NULL, 0, k->context->user);
+    free(line);
+    const char *then = setting("CLSIM_ON_FAULT");
+    if (then && !strcmp(then, "abort")) abort();
+    if (then && !strcmp(then, "exit")) {
+        fflush(NULL);
+        _exit(status_setting(1));
+    }
+}

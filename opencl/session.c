@@ -1,0 +1,260 @@
+#define _GNU_SOURCE
+#include "session.h"
+#include <errno.h>
+#include <fcntl.h>
+#include <spawn.h>
+#include <stdarg.h>
+#include <stdio.h>
+#include <stdlib.h>
+#include <string.h>
+#include <sys/mman.h>
+#include <sys/socket.h>
+#include <sys/wait.h>
+#include <unistd.h>
+
+extern char **environ;
+
+struct session {
+    pid_t owner, child;
+    int fd;
+    bool gone, recording;
+    char *in; // what came of replies
+    size_t begin, end, room;
+    FILE *record;
+};
+
+enum { MAX_WORDS = 32, COMMAND_ROOM = 4096 };
+
+// ---- settings and lines that are told ----
+
+const char *setting(const char *name) {
+    const char *v = getenv(name);
+    return v && *v ? v : NULL;
+}
+
+static FILE *log_file(void) {
+    static FILE *log;
+    if (log) return log;
+    const char *path = setting("CLSIM_LOG");
+    log = path ? fopen(path, "ae") : stderr;
+    if (!log) {
+        fprintf(stderr, "clsim: cannot write %s: %s\n", path, strerror(errno));
+        log = stderr;
+    }
+    return log;
+}
+
+void tell(const char *format, ...) {
+    va_list values;
+    va_start(values, format);
+    FILE *log = log_file();
+    fputs("clsim: ", log);
+    vfprintf(log, format, values);
+    fputc('\n', log);
+    fflush(log);
+    va_end(values);
+}
+
+// ---- child processes ----
+
+// Splits a command at its spaces. The words stand in `room`.
+static void split_words(char *room, char **words) {
+    size_t n = 0;
+    char *rest = NULL;
+    for (char *w = strtok_r(room, " ", &rest); w && n < MAX_WORDS - 1; w = strtok_r(NULL, " ", &rest)) words[n++] = w;
+    words[n] = NULL;
+}
+
+// Starts words[0], found on the path, over two descriptors. An error's number, or 0.
+static int start(char **words, int in, int out, pid_t *child) {
+    posix_spawn_file_actions_t actions;
+    if (!words[0]) return ENOENT;
+    int fault = posix_spawn_file_actions_init(&actions);
+    if (fault) return fault;
+    fault = posix_spawn_file_actions_adddup2(&actions, in, 0);
+    if (!fault) fault = posix_spawn_file_actions_adddup2(&actions, out, 1);
+    if (!fault) fault = posix_spawnp(child, words[0], &actions, NULL, words, environ);
+    posix_spawn_file_actions_destroy(&actions);
+    return fault;
+}
+
+static void serve_command(char *room, size_t n) {
+    const char *command = setting("CLSIM_SERVE"), *budget = setting("CLSIM_BUDGET"), *workers = setting("CLSIM_WORKERS");
+    snprintf(room, n, "%s%s%s%s%s", command ? command : "clsim serve", budget ? " --budget " : "", budget ? budget : "", workers ? " --workers " : "",
+             workers ? workers : "");
+}
+
+static FILE *open_record(void) {
+    static int number;
+    const char *record = setting("CLSIM_SCRIPT");
+    char path[COMMAND_ROOM];
+    if (!record) return NULL;
+    snprintf(path, sizeof path, number ? "%s.%d" : "%s", record, number);
+    number++;
+    FILE *file = fopen(path, "wbe");
+    if (!file) tell("cannot write %s: %s", path, strerror(errno));
+    return file;
+}
+
+static const char *lose(session *s, const char *why) {
+    if (!s->gone) tell("the simulator is gone: %s", why);
+    s->gone = true;
+    return NULL;
+}
+
+session *session_open(void) {
+    static const char version[] = "clsim 2\n";
+    char room[COMMAND_ROOM], *words[MAX_WORDS];
+    int ends[2];
+    session *s = calloc(1, sizeof *s);
+    if (!s) return NULL;
+    if (socketpair(AF_UNIX, SOCK_STREAM | SOCK_CLOEXEC, 0, ends)) { free(s); return NULL; }
+    serve_command(room, sizeof room);
+    split_words(room, words);
+    int fault = start(words, ends[1], ends[1], &s->child);
+    close(ends[1]);
+    if (fault) {
+        tell("cannot start %s: %s", words[0] ? words[0] : "the simulator", strerror(fault));
+        close(ends[0]);
+        free(s);
+        return NULL;
+    }
+    s->fd = ends[0];
+    s->owner = getpid();
+    s->recording = true;
+    s->record = open_record();
+    if (s->record) fputs(version, s->record);
+    if (send(s->fd, version, sizeof version - 1, MSG_NOSIGNAL) < 0) lose(s, strerror(errno));
+    return s;
+}
+
+void session_close(session *s) {
+    int status;
+    close(s->fd);
+    if (getpid() == s->owner) while (waitpid(s->child, &status, 0) < 0 && errno == EINTR) {}
+    if (s->record) fclose(s->record);
+    free(s->in);
+    free(s);
+}
+
+// ---- commands and replies ----
+
+static const char *read_line(session *s) {
+    size_t seen = 0;
+    for (;;) {
+        char *feed = s->end > seen ? memchr(s->in + seen, '\n', s->end - seen) : NULL;
+        if (feed) {
+            *feed = 0;
+            return s->in;
+        }
+        seen = s->end;
+        if (s->room - s->end < COMMAND_ROOM) {
+            char *more = realloc(s->in, s->room * 2 + 65536);
+            if (!more) return lose(s, "out of memory");
+            s->in = more;
+            s->room = s->room * 2 + 65536;
+        }
+        ssize_t got = read(s->fd, s->in + s->end, s->room - s->end);
+        if (got < 0 && errno == EINTR) continue;
+        if (got <= 0) return lose(s, got ? strerror(errno) : "it has ended");
+        s->end += (size_t)got;
+    }
+}
+
+const char *session_ask(session *s, const char *command, size_t length) {
+    if (s->gone) return NULL;
+    if (getpid() != s->owner) return lose(s, "a forked process can't use it");
+    if (s->record && s->recording) {
+        fwrite(command, 1, length, s->record);
+        fflush(s->record);
+    }
+    s->end = 0; // the reply before was one line, and nothing came behind it
+    while (length) {
+        ssize_t sent = send(s->fd, command, length, MSG_NOSIGNAL);
+        if (sent < 0 && errno == EINTR) continue;
+        if (sent < 0) return lose(s, strerror(errno));
+        command += sent;
+        length -= (size_t)sent;
+    }
+    return read_line(s);
+}
+
+const char *session_askf(session *s, const char *format, ...) {
+    char command[COMMAND_ROOM];
+    va_list values;
+    va_start(values, format);
+    int n = vsnprintf(command, sizeof command, format, values);
+    va_end(values);
+    if (n < 0 || (size_t)n >= sizeof command) return NULL;
+    return session_ask(s, command, (size_t)n);
+}
+
+void session_record(session *s, bool on) { s->recording = on; }
+
+// ---- explanations ----
+
+// The command: $CLSIM_EXPLAIN, or that of `serve` with `explain` in place of its last word.
+static bool explain_command(char *room, size_t n, const char *file) {
+    const char *command = getenv("CLSIM_EXPLAIN"), *serve = setting("CLSIM_SERVE"), *budget = setting("CLSIM_BUDGET");
+    char base[COMMAND_ROOM] = "clsim explain";
+    if (command) {
+        if (!*command) return false;
+        snprintf(base, sizeof base, "%s", command);
+    } else if (serve) {
+        size_t length = strlen(serve);
+        if (length < 6 || strcmp(serve + length - 6, " serve") || length + 2 >= sizeof base) return false;
+        snprintf(base, sizeof base, "%.*s explain", (int)(length - 6), serve);
+    }
+    int put = snprintf(room, n, "%s %s --format json%s%s", base, file, budget ? " --budget " : "", budget ? budget : "");
+    return put > 0 && (size_t)put < n;
+}
+
+static char *read_all(int fd) {
+    size_t length = 0, room = 4096;
+    char *s = malloc(room);
+    while (s) {
+        ssize_t got = read(fd, s + length, room - length - 1);
+        if (got < 0 && errno == EINTR) continue;
+        if (got <= 0) { s[length] = 0; return s; }
+        length += (size_t)got;
+        if (room - length < 2) {
+            char *more = realloc(s, room *= 2);
+            if (!more) break;
+            s = more;
+        }
+    }
+    free(s);
+    return NULL;
+}
+
+char *explain_script(const char *script, size_t length) {
+    char path[64], room[COMMAND_ROOM], *words[MAX_WORDS], *read = NULL;
+    int fd = memfd_create("clsim", MFD_CLOEXEC), nothing = open("/dev/null", O_RDONLY | O_CLOEXEC), ends[2] = {-1, -1}, status = -1;
+    pid_t child;
+    snprintf(path, sizeof path, "/proc/%ld/fd/%d", (long)getpid(), fd);
+    bool ready = script && fd >= 0 && nothing >= 0 && explain_command(room, sizeof room, path) && write(fd, script, length) == (ssize_t)length && !pipe2(ends, O_CLOEXEC);
+    if (ready) {
+        split_words(room, words);
+        // a program without the command says so on its standard error: that isn't the client's business
+        posix_spawn_file_actions_t actions;
+        int fault = posix_spawn_file_actions_init(&actions);
+        if (!fault) fault = posix_spawn_file_actions_adddup2(&actions, nothing, 0);
+        if (!fault) fault = posix_spawn_file_actions_adddup2(&actions, ends[1], 1);
+        if (!fault) fault = posix_spawn_file_actions_addopen(&actions, 2, "/dev/null", O_WRONLY, 0);
+        if (!fault) fault = posix_spawnp(&child, words[0], &actions, NULL, words, environ);
+        posix_spawn_file_actions_destroy(&actions);
+        close(ends[1]);
+        if (!fault) {
+            read = read_all(ends[0]);
+            while (waitpid(child, &status, 0) < 0 && errno == EINTR) {}
+        }
+        close(ends[0]);
+    }
+    if (fd >= 0) close(fd);
+    if (nothing >= 0) close(nothing);
+    if (status) {
+        free(read);
+        return NULL;
+    }
+    return read;
+}

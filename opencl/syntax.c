@@ -1,0 +1,1187 @@
+#include "syntax.h"
+#include <ctype.h>
+#include <errno.h>
+#include <stdio.h>
+#include <stdlib.h>
+#include <string.h>
+
+#define MAX_NESTING 256
+
+typedef struct scope {
+    struct scope *outer;
+    symbol *symbols;
+} scope;
+
+typedef struct {
+    unit *unit;
+    complaint *wrong;
+    size_t at;
+    scope *scope;
+    scope *top;
+    function *function;
+    statement *loop;        // the innermost loop
+    statement *breakable;   // the innermost loop or switch
+    symbol *variables;
+    unsigned nesting;
+} parser;
+
+// ---- types ----
+
+bool is_signed(base_type b) { return b == CHAR_TYPE || b == SHORT_TYPE || b == INT_TYPE || b == LONG_TYPE; }
+unsigned size_of(base_type b) {
+    static const unsigned sizes[] = {0, 1, 1, 1, 2, 2, 4, 4, 8, 8};
+    return sizes[b];
+}
+const char *name_of(base_type b) {
+    static const char *const names[] = {"void", "uchar", "char", "uchar", "short", "ushort", "int", "uint", "long", "ulong"};
+    return names[b];
+}
+base_type promoted(base_type b) { return b < INT_TYPE ? INT_TYPE : b; }
+// C99 6.3.1.8; the types stand in the order of their ranks.
+base_type common(base_type a, base_type b) {
+    a = promoted(a);
+    b = promoted(b);
+    return a > b ? a : b;
+}
+uint64_t converted(uint64_t value, base_type to) {
+    if (to == BOOL_TYPE) return value != 0;
+    unsigned shift = 64 - 8 * size_of(to);
+    value = value << shift;
+    return is_signed(to) ? (uint64_t)((int64_t)value >> shift) : value >> shift;
+}
+const expression *inner(const expression *e) {
+    while (e && e->kind == BRACKETS) e = e->a;
+    return e;
+}
+
+static bool binary_value(const char *op, base_type t, base_type left, uint64_t l, uint64_t r, uint64_t *value) {
+    unsigned width = 8 * size_of(t);
+    bool sign = is_signed(t);
+    unsigned by = (unsigned)r % (8 * size_of(left)); // how far is a shift, by the width of its left part
+    if (!strcmp(op, "<<")) *value = converted(l << by, left);
+    else if (!strcmp(op, ">>")) *value = is_signed(left) ? (uint64_t)((int64_t)l >> by) : l >> by;
+    else {
+        l = converted(l, t);
+        r = converted(r, t);
+        bool least = sign && l == converted((uint64_t)1 << (width - 1), t) && r == UINT64_MAX;
+        if ((*op == '/' || *op == '%') && (!r || least)) return false;
+        if (!strcmp(op, "+")) *value = l + r;
+        else if (!strcmp(op, "-")) *value = l - r;
+        else if (!strcmp(op, "*")) *value = l * r;
+        else if (!strcmp(op, "/")) *value = sign ? (uint64_t)((int64_t)l / (int64_t)r) : l / r;
+        else if (!strcmp(op, "%")) *value = sign ? (uint64_t)((int64_t)l % (int64_t)r) : l % r;
+        else if (!strcmp(op, "&")) *value = l & r;
+        else if (!strcmp(op, "|")) *value = l | r;
+        else if (!strcmp(op, "^")) *value = l ^ r;
+        else if (!strcmp(op, "==")) { *value = l == r; return true; }
+        else if (!strcmp(op, "!=")) { *value = l != r; return true; }
+        else {
+            bool less = sign ? (int64_t)l < (int64_t)r : l < r;
+            *value = !strcmp(op, "<") ? less : !strcmp(op, "<=") ? less || l == r : !strcmp(op, ">") ? !less && l != r : !less;
+            return true;
+        }
+        *value = converted(*value, t);
+    }
+    return true;
+}
+
+bool constant_value(const expression *e, uint64_t *value) {
+    uint64_t l, r;
+    const char *op;
+    if (!e || e->type.pointer || e->type.dimensions) return false;
+    switch (e->kind) {
+    case NUMBER: *value = e->value; return true;
+    case NAME: *value = e->symbol->value; return e->symbol->kind == NUMBER_CONSTANT;
+    case BRACKETS: return constant_value(e->a, value);
+    case CAST:
+        if (!constant_value(e->a, &l)) return false;
+        *value = converted(l, e->type.base);
+        return true;
+    case UNARY:
+        op = e->operator;
+        if (!constant_value(e->a, &l)) return false;
+        *value = *op == '!' ? !l : converted(*op == '-' ? 0 - l : *op == '~' ? ~l : l, e->type.base);
+        return true;
+    case CHOICE:
+        if (!constant_value(e->a, &l) || !constant_value(l ? e->b : e->c, &r)) return false;
+        *value = converted(r, e->type.base);
+        return true;
+    case BINARY:
+        op = e->operator;
+        if (!constant_value(e->a, &l)) return false;
+        if (!strcmp(op, "&&") || !strcmp(op, "||")) {
+            bool stops = (*op == '&') == !l;
+            if (!stops && !constant_value(e->b, &r)) return false;
+            *value = stops ? *op == '|' : r != 0;
+            return true;
+        }
+        if (!constant_value(e->b, &r)) return false;
+        return binary_value(op, common(e->a->type.base, e->b->type.base), promoted(e->a->type.base), l, r, value);
+    default: return false;
+    }
+}
+
+// ---- tokens ----
+
+static token *now(parser *p) { return &p->unit->tokens.at[p->at]; }
+static token *ahead(parser *p, size_t n) {
+    size_t last = p->unit->tokens.count - 1;
+    return &p->unit->tokens.at[p->at + n < last ? p->at + n : last];
+}
+static bool is(const token *t, const char *text) { return t->kind != END_TOKEN && !strcmp(t->text, text); }
+static bool sees(parser *p, const char *text) { return is(now(p), text); }
+static bool is_one_of(const char *s, const char *const *words) {
+    for (; *words; words++) if (!strcmp(s, *words)) return true;
+    return false;
+}
+
+_Noreturn static void complain_at(parser *p, size_t token, const char *message) {
+    p->wrong->message = message;
+    p->wrong->token = token;
+    longjmp(p->wrong->stop, 1);
+}
+
+// What a token is that stands nowhere in the language.
+static const char *hint(const token *t) {
+    static const char *const floats[] = {"float", "double", "half", NULL};
+    static const char *const scalars[] = {"char", "uchar", "short", "ushort", "int", "uint", "long", "ulong", "float", "double", "half", NULL};
+    static const char *const images[] = {"image1d_t", "image1d_buffer_t", "image1d_array_t", "image2d_t", "image2d_array_t", "image3d_t", "sampler_t", "read_only", "__read_only",
+        "write_only", "__write_only", "read_write", NULL};
+    static const char *const aggregates[] = {"struct", "union", "enum", NULL};
+    const char *s = t->text;
+    if (t->kind == END_TOKEN) return "the source ends too early";
+    for (int i = 0; scalars[i]; i++) {
+        size_t n = strlen(scalars[i]);
+        if (!strncmp(s, scalars[i], n) && isdigit((unsigned char)s[n])) return "Clsim has no vector types";
+    }
+    if (is_one_of(s, floats)) return "Clsim has no floating point";
+    if (t->kind == NUMBER_TOKEN && (strchr(s, '.') || (s[1] != 'x' && s[1] != 'X' && strpbrk(s, "eEfF")))) return "Clsim has no floating point";
+    if (is_one_of(s, images)) return "Clsim has no images and samplers";
+    if (is_one_of(s, aggregates)) return "Clsim has no structs and unions, and no types of enumerations";
+    if (!strcmp(s, "goto")) return "Clsim has no goto";
+    if (!strcmp(s, ".") || !strcmp(s, "->")) return "Clsim has no structs and vectors";
+    if (t->kind == OTHER_TOKEN && *s == '"') return "Clsim has no texts";
+    return "this can't stand here";
+}
+_Noreturn static void complain(parser *p) { complain_at(p, p->at, hint(now(p))); }
+
+static bool accept(parser *p, const char *text) {
+    if (!sees(p, text)) return false;
+    p->at++;
+    return true;
+}
+static void expect(parser *p, const char *text) { if (!accept(p, text)) complain(p); }
+
+static void deeper(parser *p) { if (++p->nesting > MAX_NESTING) complain_at(p, p->at, "this is nested too deep"); }
+
+// ---- names ----
+
+static const char *const builtins[] = {"get_work_dim", "get_global_id", "get_local_id", "get_group_id", "get_global_offset", "get_global_size",
+    "get_local_size", "get_num_groups", "min", "max", "abs", "clz", "popcount", "rotate", "barrier", "atomic_add", "atomic_sub", "atomic_min", "atomic_max",
+    "atomic_and", "atomic_or", "atomic_xor", "atomic_inc", "atomic_dec", "atomic_xchg", "atomic_cmpxchg", "CLK_LOCAL_MEM_FENCE", "CLK_GLOBAL_MEM_FENCE", NULL};
+
+static symbol *find(parser *p, const char *name) {
+    for (scope *s = p->scope; s; s = s->outer)
+        for (symbol *y = s->symbols; y; y = y->next) if (!strcmp(y->name, name)) return y;
+    return NULL;
+}
+static symbol *declare(parser *p, symbol_kind kind, const char *name, size_t token) {
+    for (symbol *y = p->scope->symbols; y; y = y->next) if (!strcmp(y->name, name)) complain_at(p, token, "this name is declared twice");
+    symbol *y = take(p->unit->arena, sizeof *y);
+    *y = (symbol){.next = p->scope->symbols, .kind = kind, .name = name, .written = name};
+    p->scope->symbols = y;
+    return y;
+}
+static void open_scope(parser *p) {
+    scope *s = take(p->unit->arena, sizeof *s);
+    s->outer = p->scope;
+    p->scope = s;
+}
+static void close_scope(parser *p) { p->scope = p->scope->outer; }
+
+// A name that Clsim keeps for itself, or gives to a function of the source, gets the mark in front.
+static void rename_if_taken(parser *p, symbol *y) {
+    bool taken = is_one_of(y->name, builtins);
+    for (symbol *f = p->top->symbols; f && !taken; f = f->next) taken = f->kind == FUNCTION && !strcmp(f->name, y->name);
+    if (!taken) return;
+    text t = {.arena = p->unit->arena};
+    addf(&t, "%smy_%s", p->unit->mark, y->name);
+    y->written = t.at;
+}
+
+// ---- declaration specifiers ----
+
+typedef struct {
+    type type;
+    bool is_typedef, is_kernel, has_space, has_type;
+    uint64_t group[3];
+} specifiers;
+
+static expression *read_assignment(parser *p);
+static expression *read_expression(parser *p);
+
+static void read_attribute(parser *p, specifiers *s) {
+    expect(p, "(");
+    expect(p, "(");
+    for (unsigned depth = 2; depth; p->at++) {
+        if (now(p)->kind == END_TOKEN) complain(p);
+        if ((sees(p, "reqd_work_group_size") || sees(p, "__reqd_work_group_size__")) && is(ahead(p, 1), "(")) {
+            p->at += 2;
+            depth++;
+            for (int d = 0; d < 3; d++) {
+                if (d) expect(p, ",");
+                if (!constant_value(read_assignment(p), &s->group[d]) || !s->group[d]) complain_at(p, p->at, "a size of a group is a number above 0");
+            }
+        }
+        depth += sees(p, "(");
+        depth -= sees(p, ")");
+    }
+}
+
+static bool read_specifier(parser *p, specifiers *s, unsigned *words) {
+    enum { UNSIGNED = 1, SIGNED = 2, CHAR = 4, SHORT = 8, INT = 16, LONG = 32 };
+    static const struct { const char *name; unsigned word; } parts[] = {{"unsigned", UNSIGNED}, {"signed", SIGNED}, {"char", CHAR}, {"short", SHORT},
+        {"int", INT}, {"long", LONG}};
+    static const struct { const char *name; base_type base; } whole[] = {{"void", VOID_TYPE}, {"bool", BOOL_TYPE}, {"uchar", UCHAR_TYPE},
+        {"ushort", USHORT_TYPE}, {"uint", UINT_TYPE}, {"ulong", ULONG_TYPE}, {"size_t", ULONG_TYPE}, {"ptrdiff_t", LONG_TYPE}};
+    static const struct { const char *name; space space; } spaces[] = {{"global", GLOBAL_SPACE}, {"__global", GLOBAL_SPACE}, {"local", LOCAL_SPACE},
+        {"__local", LOCAL_SPACE}, {"constant", CONSTANT_SPACE}, {"__constant", CONSTANT_SPACE}, {"private", PRIVATE_SPACE}, {"__private", PRIVATE_SPACE}};
+    static const char *const dropped[] = {"volatile", "restrict", "__restrict", "inline", "__inline", "__inline__", "static", "extern", "register", "auto", NULL};
+    const char *w = now(p)->text;
+    if (now(p)->kind != NAME_TOKEN) return false;
+    for (size_t i = 0; i < sizeof parts / sizeof *parts; i++)
+        if (!strcmp(w, parts[i].name)) {
+            if (*words & parts[i].word || (s->has_type && !*words)) complain_at(p, p->at, parts[i].word == LONG ? "Clsim has no long long" : hint(now(p)));
+            *words |= parts[i].word;
+            s->has_type = true;
+            base_type base = *words & CHAR ? CHAR_TYPE : *words & SHORT ? SHORT_TYPE : *words & LONG ? LONG_TYPE : INT_TYPE;
+            s->type.base = *words & UNSIGNED ? base + 1 : base;
+            return true;
+        }
+    for (size_t i = 0; i < sizeof whole / sizeof *whole; i++)
+        if (!strcmp(w, whole[i].name) && !s->has_type) {
+            s->has_type = true;
+            s->type.base = whole[i].base;
+            return true;
+        }
+    for (size_t i = 0; i < sizeof spaces / sizeof *spaces; i++)
+        if (!strcmp(w, spaces[i].name)) {
+            if (s->has_space) complain(p);
+            s->has_space = true;
+            s->type.space = spaces[i].space;
+            return true;
+        }
+    if (!strcmp(w, "const")) { s->type.is_const = true; return true; }
+    if (!strcmp(w, "kernel") || !strcmp(w, "__kernel")) { s->is_kernel = true; return true; }
+    if (!strcmp(w, "typedef")) { s->is_typedef = true; return true; }
+    if (is_one_of(w, dropped)) return true;
+    symbol *y = s->has_type ? NULL : find(p, w);
+    if (!y || y->kind != TYPE_NAME) return false;
+    if (y->type.pointer && (s->has_space || s->type.is_const)) complain_at(p, p->at, "Clsim has no such pointer");
+    if (y->type.is_const) s->type.is_const = true;
+    s->type.base = y->type.base;
+    if (y->type.pointer) s->type = y->type;
+    s->has_type = true;
+    return true;
+}
+
+static bool read_specifiers(parser *p, specifiers *s) {
+    size_t begin = p->at;
+    unsigned words = 0;
+    memset(s, 0, sizeof *s);
+    for (;;) {
+        if (sees(p, "__attribute__")) { p->at++; read_attribute(p, s); continue; }
+        if (!read_specifier(p, s, &words)) break;
+        p->at++;
+    }
+    if (p->at == begin) return false;
+    if (!s->has_type) complain(p);
+    return true;
+}
+
+static bool begins_declaration(parser *p) {
+    size_t begin = p->at;
+    unsigned words = 0;
+    specifiers s = {0};
+    bool found = sees(p, "__attribute__") || read_specifier(p, &s, &words);
+    p->at = begin;
+    return found;
+}
+
+// Stars and qualifiers behind the specifiers.
+static type read_pointer(parser *p, const specifiers *s) {
+    type t = s->type;
+    while (sees(p, "*")) {
+        if (t.pointer) complain_at(p, p->at, "Clsim has no pointers to pointers");
+        if (!s->has_space || t.space == PRIVATE_SPACE) complain_at(p, p->at, "Clsim has no pointers to private memory");
+        if (t.base == VOID_TYPE) complain_at(p, p->at, "Clsim has no pointers to void");
+        t.pointer = true;
+        p->at++;
+        while (sees(p, "const") || sees(p, "restrict") || sees(p, "__restrict") || sees(p, "volatile")) p->at++;
+    }
+    return t;
+}
+
+static void read_lengths(parser *p, type *t) {
+    uint64_t lengths[8];
+    while (accept(p, "[")) {
+        if (t->dimensions == 8) complain_at(p, p->at, "Clsim has no arrays of more than eight dimensions");
+        size_t at = p->at;
+        uint64_t n = 0;
+        if (!sees(p, "]") && (!constant_value(read_assignment(p), &n) || !n || n > 1u << 20)) complain_at(p, at, "the length of an array is a number from 1 on");
+        lengths[t->dimensions++] = n; // 0: told by the initialiser
+        expect(p, "]");
+    }
+    if (!t->dimensions) return;
+    if (t->pointer) complain_at(p, p->at, "Clsim has no arrays of pointers");
+    t->lengths = take(p->unit->arena, t->dimensions * sizeof *t->lengths);
+    memcpy(t->lengths, lengths, t->dimensions * sizeof *lengths);
+}
+
+// ---- expressions ----
+
+static expression *make(parser *p, expression_kind kind, size_t first, size_t token) {
+    expression *e = take(p->unit->arena, sizeof *e);
+    e->kind = kind;
+    e->first = first;
+    e->token = token;
+    return e;
+}
+static type number_type(base_type b) { return (type){.base = b}; }
+
+static void read_number(parser *p, expression *e) {
+    const char *s = now(p)->text;
+    char *end;
+    errno = 0;
+    uint64_t value = strtoull(s, &end, 0);
+    bool is_unsigned = false, is_long = false, decimal = *s != '0' || !s[1];
+    if (*s == '0' && (s[1] == 'b' || s[1] == 'B')) complain(p);
+    for (; *end; end++) {
+        bool u = *end == 'u' || *end == 'U', l = *end == 'l' || *end == 'L';
+        if ((!u && !l) || (u && is_unsigned) || (l && is_long)) complain(p);
+        is_unsigned |= u;
+        is_long |= l;
+    }
+    if (errno) complain_at(p, p->at, "this number is too large");
+    decimal = decimal || strchr("123456789", *s);
+    bool not_int = value > 0x7fffffff, not_uint = value > 0xffffffff, not_long = value > INT64_MAX;
+    if (decimal && !is_unsigned && not_long) complain_at(p, p->at, "this number is too large");
+    base_type t = is_unsigned ? (is_long || not_uint ? ULONG_TYPE : UINT_TYPE)
+        : not_long ? ULONG_TYPE : is_long || not_uint || (decimal && not_int) ? LONG_TYPE : not_int ? UINT_TYPE : INT_TYPE;
+    e->type = number_type(t);
+    e->value = value;
+}
+
+static void read_character(parser *p, expression *e) {
+    const char *s = now(p)->text;
+    static const char escapes[] = "n\nt\tr\r0\0a\ab\bf\fv\v\\\\''\"\"??";
+    long value = -1;
+    if (s[1] == '\\' && s[2] && s[3] == '\'' && !s[4]) {
+        for (size_t i = 0; i + 1 < sizeof escapes; i += 2) if (escapes[i] == s[2]) value = (unsigned char)escapes[i + 1];
+    } else if (s[1] == '\\' && s[2] == 'x') {
+        char *end;
+        value = (long)strtoul(s + 3, &end, 16);
+        if (value > 127) value -= 256; // a char is signed
+        if (strcmp(end, "'") || end == s + 3 || end > s + 5) value = -1000;
+    } else if (s[1] && s[1] != '\\' && s[1] > 0 && s[2] == '\'' && !s[3]) value = (unsigned char)s[1];
+    else value = -1000;
+    if (value == -1000) complain_at(p, p->at, "Clsim has no such character");
+    e->type = number_type(INT_TYPE);
+    e->value = (uint64_t)value;
+}
+
+// The type of a call of a function that the language has. Other names are judged later.
+static base_type builtin_type(const char *name, const expression *first) {
+    static const char *const sizes[] = {"get_global_id", "get_local_id", "get_group_id", "get_global_offset", "get_global_size", "get_local_size", "get_num_groups", NULL};
+    if (is_one_of(name, sizes)) return ULONG_TYPE;
+    if (!strcmp(name, "get_work_dim")) return UINT_TYPE;
+    if (!strcmp(name, "barrier")) return VOID_TYPE;
+    base_type t = first ? first->type.base : INT_TYPE;
+    if (!strcmp(name, "abs")) return is_signed(t) ? t + 1 : t;
+    return t;
+}
+
+static void read_call(parser *p, expression *e, symbol *callee) {
+    const char *name = now(p)->text;
+    p->at += 2;
+    expression **link = &e->a;
+    while (!sees(p, ")")) {
+        if (e->a) expect(p, ",");
+        *link = read_assignment(p);
+        if (p->unit->tokens.at[p->at].kind != END_TOKEN && sees(p, "=")) complain(p);
+        e->hard |= (*link)->hard;
+        link = &(*link)->next;
+    }
+    p->at++;
+    if (!callee) {
+        e->type = number_type(builtin_type(name, e->a));
+        return;
+    }
+    if (callee->kind != FUNCTION) complain_at(p, e->token, "this is no function");
+    e->symbol = callee;
+    e->type = callee->function->result;
+    e->hard = true;
+    struct call *c = take(p->unit->arena, sizeof *c);
+    if (p->function) {
+        *c = (struct call){p->function->calls, callee->function};
+        p->function->calls = c;
+    }
+}
+
+static void add_use(parser *p, struct use **list, const symbol *y) {
+    struct use *u = take(p->unit->arena, sizeof *u);
+    *u = (struct use){*list, y};
+    *list = u;
+}
+static void use_table(parser *p, const symbol *table) {
+    if (!p->function) complain(p);
+    add_use(p, &p->function->uses, table);
+}
+
+static expression *read_primary(parser *p) {
+    token *t = now(p);
+    expression *e;
+    if (t->kind == NUMBER_TOKEN) {
+        e = make(p, NUMBER, p->at, p->at);
+        read_number(p, e);
+        p->at++;
+        return e;
+    }
+    if (t->kind == CHARACTER_TOKEN) {
+        e = make(p, NUMBER, p->at, p->at);
+        read_character(p, e);
+        p->at++;
+        return e;
+    }
+    if (sees(p, "(")) {
+        e = make(p, BRACKETS, p->at, p->at);
+        p->at++;
+        e->a = read_expression(p);
+        expect(p, ")");
+        e->type = e->a->type;
+        e->hard = e->a->hard;
+        return e;
+    }
+    if (t->kind != NAME_TOKEN) complain(p);
+    symbol *y = find(p, t->text);
+    if (y && y->kind == TYPE_NAME) complain(p);
+    if (is(ahead(p, 1), "(") && (!y || y->kind == FUNCTION)) {
+        e = make(p, CALL, p->at, p->at);
+        read_call(p, e, y);
+        return e;
+    }
+    if (!y && (sees(p, "true") || sees(p, "false"))) {
+        e = make(p, NUMBER, p->at, p->at);
+        e->type = number_type(INT_TYPE);
+        e->value = sees(p, "true");
+        p->at++;
+        return e;
+    }
+    if (y && y->kind == FUNCTION) complain_at(p, p->at, "a function's name can only be called");
+    if (!y && !is_one_of(t->text, builtins)) complain_at(p, p->at, strcmp(hint(t), "this can't stand here") ? hint(t) : "this name is unknown");
+    e = make(p, NAME, p->at, p->at);
+    e->symbol = y;
+    e->type = y ? y->type : number_type(UINT_TYPE);
+    if (y && y->kind == TABLE) use_table(p, y);
+    p->at++;
+    return e;
+}
+
+// What an index gives: an element, or of an array of several dimensions an array of fewer.
+static type element_type(parser *p, type t, size_t token) {
+    if (t.dimensions) {
+        type e = t;
+        e.dimensions--;
+        e.lengths = t.lengths + 1;
+        return e.dimensions ? e : (type){.base = t.base, .is_const = t.is_const};
+    }
+    if (!t.pointer) complain_at(p, token, "this is no pointer and no array");
+    return (type){.base = t.base, .is_const = t.is_const};
+}
+
+static expression *read_postfix(parser *p) {
+    size_t first = p->at;
+    expression *e = read_primary(p);
+    for (;;) {
+        expression *whole;
+        if (sees(p, "[")) {
+            whole = make(p, INDEX, first, p->at);
+            p->at++;
+            whole->a = e;
+            whole->b = read_expression(p);
+            expect(p, "]");
+            whole->type = element_type(p, e->type, whole->token);
+            whole->hard = e->hard || whole->b->hard;
+        } else if (sees(p, "++") || sees(p, "--")) {
+            whole = make(p, STEP_BEHIND, first, p->at);
+            whole->operator = now(p)->text;
+            p->at++;
+            whole->a = e;
+            whole->type = e->type;
+            whole->hard = true;
+        } else if (sees(p, ".") || sees(p, "->")) {
+            complain(p);
+        } else return e;
+        e = whole;
+    }
+}
+
+static bool is_type_ahead(parser *p) {
+    size_t begin = p->at;
+    p->at++;
+    bool found = begins_declaration(p);
+    p->at = begin;
+    return found;
+}
+
+static expression *read_unary(parser *p);
+
+static expression *read_cast(parser *p) {
+    specifiers s;
+    expression *e = make(p, CAST, p->at, p->at);
+    p->at++;
+    read_specifiers(p, &s);
+    e->type = read_pointer(p, &s);
+    e->type.is_const = e->type.pointer && e->type.is_const;
+    expect(p, ")");
+    e->a = read_unary(p);
+    e->hard = e->a->hard;
+    if (e->type.pointer) {
+        type from = e->a->type;
+        if (!from.pointer && !from.dimensions) complain_at(p, e->token, "Clsim has no casts to pointers");
+        if (from.base != e->type.base || from.space != e->type.space) complain_at(p, e->token, "Clsim has no casts between pointers of two types");
+    } else if (e->a->type.pointer || e->a->type.dimensions) complain_at(p, e->token, "Clsim has no casts of pointers");
+    return e;
+}
+
+static uint64_t bytes_of(type t) {
+    uint64_t n = t.pointer ? 8 : size_of(t.base);
+    for (unsigned d = 0; d < t.dimensions; d++) n *= t.lengths[d];
+    return n;
+}
+
+// `sizeof` evaluates nothing (C99 6.5.3.4): a number.
+static expression *read_sizeof(parser *p) {
+    expression *e = make(p, NUMBER, p->at, p->at);
+    type t;
+    p->at++;
+    if (sees(p, "(") && is_type_ahead(p)) {
+        specifiers s;
+        p->at++;
+        read_specifiers(p, &s);
+        if (sees(p, "*")) { t = (type){.pointer = true}; p->at++; } else t = s.type;
+        expect(p, ")");
+    } else {
+        struct call *calls = p->function ? p->function->calls : NULL;
+        t = read_unary(p)->type;
+        if (p->function) p->function->calls = calls;
+    }
+    e->type = number_type(ULONG_TYPE);
+    e->value = bytes_of(t);
+    return e;
+}
+
+static expression *read_unary(parser *p) {
+    size_t first = p->at;
+    expression *e;
+    deeper(p);
+    if (sees(p, "sizeof")) e = read_sizeof(p);
+    else if (sees(p, "(") && is_type_ahead(p)) e = read_cast(p);
+    else if (sees(p, "++") || sees(p, "--")) {
+        e = make(p, STEP_BEFORE, first, p->at);
+        e->operator = now(p)->text;
+        p->at++;
+        e->a = read_unary(p);
+        e->type = e->a->type;
+        e->hard = true;
+    } else if (sees(p, "&")) {
+        e = make(p, ADDRESS, first, p->at);
+        p->at++;
+        e->a = read_unary(p);
+        const expression *of = inner(e->a);
+        e->hard = of->hard;
+        bool scalar = of->kind == NAME && of->symbol && of->symbol->is_scalar;
+        if (of->kind != INDEX && of->kind != CONTENT && !scalar) complain_at(p, e->token, "Clsim has no pointers to private memory");
+        e->type = of->kind == CONTENT ? of->a->type : scalar ? of->symbol->type : of->a->type;
+        if (e->type.dimensions > 1) complain_at(p, e->token, "Clsim has no pointers to arrays");
+        if (e->type.dimensions && e->type.space == PRIVATE_SPACE) complain_at(p, e->token, "Clsim has no pointers to private memory");
+        e->type.pointer = true;
+        e->type.dimensions = 0;
+    } else if (sees(p, "*")) {
+        e = make(p, CONTENT, first, p->at);
+        p->at++;
+        e->a = read_unary(p);
+        e->type = element_type(p, e->a->type, e->token);
+        if (e->a->type.dimensions > 1) complain_at(p, e->token, "Clsim has no pointers to arrays");
+        e->hard = e->a->hard;
+    } else if (sees(p, "+") || sees(p, "-") || sees(p, "~") || sees(p, "!")) {
+        e = make(p, UNARY, first, p->at);
+        e->operator = now(p)->text;
+        p->at++;
+        e->a = read_unary(p);
+        e->type = number_type(*e->operator == '!' ? INT_TYPE : promoted(e->a->type.base));
+        e->hard = e->a->hard;
+    } else e = read_postfix(p);
+    p->nesting--;
+    return e;
+}
+
+static const char *const levels[][5] = {{"||", NULL}, {"&&", NULL}, {"|", NULL}, {"^", NULL}, {"&", NULL}, {"==", "!=", NULL}, {"<", ">", "<=", ">=", NULL},
+    {"<<", ">>", NULL}, {"+", "-", NULL}, {"*", "/", "%", NULL}};
+enum { LEVELS = sizeof levels / sizeof *levels, SHIFTS = 7, SUMS = 8 };
+
+static type binary_type(const expression *l, const expression *r, unsigned level) {
+    if (level < 2 || level == 5 || level == 6) return number_type(INT_TYPE);
+    if (level == SHIFTS) return number_type(promoted(l->type.base));
+    type pointer = l->type.pointer || l->type.dimensions ? l->type : r->type;
+    if (level == SUMS && (pointer.pointer || pointer.dimensions)) {
+        pointer.pointer = true;
+        pointer.dimensions = 0;
+        return pointer;
+    }
+    return number_type(common(l->type.base, r->type.base));
+}
+
+static expression *read_binary(parser *p, unsigned level) {
+    if (level == LEVELS) return read_unary(p);
+    size_t first = p->at;
+    expression *e = read_binary(p, level + 1);
+    unsigned opened = 0;
+    while (now(p)->kind == SYMBOL_TOKEN && is_one_of(now(p)->text, levels[level])) {
+        deeper(p);
+        opened++;
+        expression *whole = make(p, BINARY, first, p->at);
+        whole->operator = now(p)->text;
+        p->at++;
+        whole->a = e;
+        whole->b = read_binary(p, level + 1);
+        whole->type = binary_type(whole->a, whole->b, level);
+        whole->hard = whole->a->hard || whole->b->hard;
+        e = whole;
+    }
+    p->nesting -= opened;
+    return e;
+}
+
+static expression *read_conditional(parser *p) {
+    size_t first = p->at;
+    deeper(p);
+    expression *e = read_binary(p, 0);
+    if (sees(p, "?")) {
+        expression *whole = make(p, CHOICE, first, p->at);
+        p->at++;
+        whole->a = e;
+        whole->b = read_expression(p);
+        expect(p, ":");
+        whole->c = read_conditional(p);
+        bool is_void = whole->b->type.base == VOID_TYPE && !whole->b->type.pointer;
+        whole->type = whole->b->type.pointer ? whole->b->type : number_type(is_void ? VOID_TYPE : common(whole->b->type.base, whole->c->type.base));
+        whole->hard = e->hard || whole->b->hard || whole->c->hard;
+        e = whole;
+    }
+    p->nesting--;
+    return e;
+}
+
+// An expression without a comma, which may be an assignment.
+static expression *read_assignment(parser *p) {
+    static const char *const signs[] = {"=", "+=", "-=", "*=", "/=", "%=", "<<=", ">>=", "&=", "^=", "|=", NULL};
+    size_t first = p->at;
+    expression *e = read_conditional(p);
+    if (now(p)->kind != SYMBOL_TOKEN || !is_one_of(now(p)->text, signs)) return e;
+    expression *whole = make(p, ASSIGNMENT, first, p->at);
+    const expression *target = inner(e);
+    whole->operator = now(p)->text;
+    if (target->kind != NAME && target->kind != INDEX && target->kind != CONTENT) complain_at(p, first, "this can't be assigned to");
+    if (target->kind == NAME && target->type.dimensions && !(target->symbol && target->symbol->is_scalar)) complain_at(p, first, "an array can't be assigned to");
+    deeper(p);
+    p->at++;
+    whole->a = e;
+    whole->b = read_assignment(p);
+    whole->type = e->type;
+    whole->hard = true;
+    p->nesting--;
+    return whole;
+}
+
+static expression *read_expression(parser *p) {
+    size_t first = p->at;
+    expression *e = read_assignment(p);
+    while (sees(p, ",")) {
+        expression *whole = make(p, COMMA, first, p->at);
+        p->at++;
+        whole->a = e;
+        whole->b = read_assignment(p);
+        whole->type = whole->b->type;
+        whole->hard = true;
+        e = whole;
+    }
+    return e;
+}
+
+// ---- declarations ----
+
+static const char *read_name(parser *p) {
+    const symbol *y = find(p, now(p)->text); // a typedef's name may be declared anew
+    if (now(p)->kind != NAME_TOKEN || (begins_declaration(p) && !(y && y->kind == TYPE_NAME))) complain(p);
+    return now(p)->text;
+}
+
+// How many elements a part of an array has, from a dimension on.
+static uint64_t elements_from(type t, unsigned dimension) {
+    uint64_t n = 1;
+    for (; dimension < t.dimensions; dimension++) n *= t.lengths[dimension];
+    return n;
+}
+
+enum { MAX_ELEMENTS = 32768 };
+
+// A list in braces, from a place of the array on (C99 6.7.8). Gives how far it goes.
+static size_t read_list(parser *p, declaration *d, unsigned dimension, size_t place) {
+    type t = d->symbol->type;
+    size_t part = (size_t)elements_from(t, dimension + 1), end = t.lengths[dimension] ? place + part * (size_t)t.lengths[dimension] : MAX_ELEMENTS;
+    expect(p, "{");
+    while (!sees(p, "}")) {
+        if (place >= end) complain_at(p, p->at, "these are more elements than the array has");
+        if (sees(p, "{")) {
+            if (dimension + 1 == t.dimensions) complain(p);
+            read_list(p, d, dimension + 1, place);
+            place += part;
+        } else d->elements[place++] = read_assignment(p);
+        if (!accept(p, ",")) break;
+    }
+    expect(p, "}");
+    return place;
+}
+
+static void read_elements(parser *p, declaration *d) {
+    type t = d->symbol->type;
+    uint64_t all = elements_from(t, 0), part = elements_from(t, 1);
+    if (all > MAX_ELEMENTS) complain_at(p, p->at, "an array with an initialiser has at most 32768 elements");
+    d->elements = take(p->unit->arena, (size_t)(all ? all : MAX_ELEMENTS + part) * sizeof *d->elements);
+    size_t end = read_list(p, d, 0, 0);
+    if (!all) {
+        t.lengths[0] = (end + part - 1) / part;
+        if (!end) complain_at(p, d->token, "an array has an element");
+    }
+    d->length = (size_t)(t.lengths[0] * part);
+}
+
+// A number or an array of numbers in constant memory: it is known when the source is built.
+static void read_constant(parser *p, declaration *d) {
+    symbol *y = d->symbol;
+    if (!y->type.dimensions) {
+        uint64_t value;
+        size_t at = p->at;
+        if (!constant_value(read_assignment(p), &value)) complain_at(p, at, "the value of a constant is one that is known when the source is built");
+        y->kind = NUMBER_CONSTANT;
+        y->value = converted(value, y->type.base);
+        return;
+    }
+    unsigned width = size_of(y->type.base);
+    read_elements(p, d);
+    y->kind = TABLE;
+    y->size = d->length * width;
+    y->bytes = take(p->unit->arena, y->size);
+    for (size_t i = 0; i < d->length; i++) {
+        uint64_t value = 0;
+        if (d->elements[i] && !constant_value(d->elements[i], &value)) complain_at(p, d->elements[i]->first, "the value of a constant is one that is known when the source is built");
+        value = converted(value, y->type.base);
+        for (unsigned b = 0; b < width; b++) y->bytes[i * width + b] = (unsigned char)(value >> 8 * b);
+    }
+    unit *u = p->unit;
+    symbol **more = take(u->arena, (u->table_count + 1) * sizeof *more);
+    if (u->table_count) memcpy(more, u->tables, u->table_count * sizeof *more);
+    u->tables = more;
+    y->number = u->table_count;
+    u->tables[u->table_count++] = y;
+    bool again = false; // two functions may each have a table of one name
+    for (unsigned i = 0; i < y->number; i++) again = again || !strcmp(u->tables[i]->name, y->name);
+    text t = {.arena = u->arena};
+    addf(&t, "%s%s", u->mark, y->name);
+    if (again) addf(&t, "_%u", y->number);
+    y->written = t.at;
+}
+
+// One declarator of a variable, behind its specifiers.
+static declaration *read_declarator(parser *p, const specifiers *s) {
+    declaration *d = take(p->unit->arena, sizeof *d);
+    type t = read_pointer(p, s);
+    const char *name = read_name(p);
+    d->token = p->at++;
+    symbol *y = d->symbol = declare(p, VARIABLE, name, d->token);
+    y->other = p->variables;
+    p->variables = y;
+    read_lengths(p, &t);
+    y->type = t;
+    if (!t.pointer && t.base == VOID_TYPE) complain_at(p, d->token, "a variable has a type");
+    if (!t.pointer && t.space == GLOBAL_SPACE) complain_at(p, d->token, "a variable can't stand in global memory");
+    bool has_value = accept(p, "=");
+    if (!t.pointer && t.space == CONSTANT_SPACE) {
+        if (!has_value) complain(p);
+        read_constant(p, d);
+        return d;
+    }
+    if (!t.pointer && t.space == LOCAL_SPACE) {
+        if (has_value) complain_at(p, d->token, "a variable in local memory has no initialiser");
+        y->is_scalar = !t.dimensions;
+        if (p->function) add_use(p, &p->function->locals, y);
+        return d;
+    }
+    if (has_value) {
+        if (t.dimensions) read_elements(p, d);
+        else d->value = read_assignment(p);
+        y->settled = true;
+    }
+    for (unsigned i = 0; i < t.dimensions; i++) if (!y->type.lengths[i]) complain_at(p, d->token, "the length of an array is a number from 1 on");
+    return d;
+}
+
+static declaration *read_declarators(parser *p, const specifiers *s) {
+    declaration *first = NULL, **link = &first;
+    do {
+        *link = read_declarator(p, s);
+        link = &(*link)->next;
+    } while (accept(p, ","));
+    return first;
+}
+
+static void read_typedef(parser *p, const specifiers *s) {
+    do {
+        type t = read_pointer(p, s);
+        const char *name = read_name(p);
+        size_t at = p->at++;
+        if (sees(p, "[") || sees(p, "(")) complain_at(p, p->at, "Clsim has no such typedef");
+        symbol *same = find(p, name);
+        if (same && same->kind == TYPE_NAME && same->type.base == t.base && same->type.pointer == t.pointer) continue;
+        declare(p, TYPE_NAME, name, at)->type = t;
+    } while (accept(p, ","));
+    expect(p, ";");
+}
+
+// Enumeration constants are ints (C99 6.4.4.3).
+static void read_enumeration(parser *p) {
+    uint64_t value = 0;
+    size_t begin = p->at++;
+    if (now(p)->kind == NAME_TOKEN) p->at++;
+    if (!sees(p, "{")) complain_at(p, begin, "Clsim has no structs and unions, and no types of enumerations");
+    p->at++;
+    while (!sees(p, "}")) {
+        symbol *y = declare(p, NUMBER_CONSTANT, read_name(p), p->at);
+        p->at++;
+        if (accept(p, "=") && !constant_value(read_assignment(p), &value)) complain_at(p, p->at - 1, "the value of a constant is one that is known when the source is built");
+        y->type = number_type(INT_TYPE);
+        y->value = value = converted(value, INT_TYPE);
+        value++;
+        if (!accept(p, ",")) break;
+    }
+    expect(p, "}");
+    if (!sees(p, ";")) complain_at(p, begin, "Clsim has no structs and unions, and no types of enumerations");
+    p->at++;
+}
+
+// ---- statements ----
+
+static statement *read_statement(parser *p);
+
+static statement *make_statement(parser *p, statement_kind kind) {
+    statement *s = take(p->unit->arena, sizeof *s);
+    s->kind = kind;
+    s->token = p->at;
+    return s;
+}
+
+static statement *read_declaration(parser *p) {
+    statement *s = make_statement(p, DECLARATIONS);
+    specifiers spec;
+    read_specifiers(p, &spec);
+    if (spec.is_typedef) {
+        read_typedef(p, &spec);
+        s->kind = EMPTY;
+        return s;
+    }
+    if (spec.is_kernel) complain_at(p, s->token, hint(now(p)));
+    if (sees(p, ";")) complain(p);
+    s->declarations = read_declarators(p, &spec);
+    expect(p, ";");
+    return s;
+}
+
+static statement *read_block(parser *p) {
+    statement *block = make_statement(p, BLOCK), **link = &block->first;
+    expect(p, "{");
+    deeper(p);
+    while (!sees(p, "}")) {
+        if (sees(p, "enum")) { read_enumeration(p); continue; }
+        *link = begins_declaration(p) ? read_declaration(p) : read_statement(p);
+        link = &(*link)->next;
+    }
+    p->nesting--;
+    p->at++;
+    return block;
+}
+
+static expression *read_condition(parser *p) {
+    expect(p, "(");
+    expression *e = read_expression(p);
+    expect(p, ")");
+    return e;
+}
+
+// What a loop or a switch controls.
+static statement *read_body(parser *p, statement *whole, bool is_loop) {
+    statement *loop = p->loop, *breakable = p->breakable;
+    if (is_loop) p->loop = whole;
+    p->breakable = whole;
+    open_scope(p);
+    statement *body = read_statement(p);
+    close_scope(p);
+    p->loop = loop;
+    p->breakable = breakable;
+    return body;
+}
+
+static statement *read_controlled(parser *p) {
+    open_scope(p);
+    statement *s = read_statement(p);
+    close_scope(p);
+    return s;
+}
+
+static statement *read_for(parser *p) {
+    statement *s = make_statement(p, FOR);
+    p->at++;
+    expect(p, "(");
+    open_scope(p);
+    if (begins_declaration(p)) s->begin = read_declaration(p);
+    else {
+        s->begin = make_statement(p, sees(p, ";") ? EMPTY : EXPRESSION);
+        if (!sees(p, ";")) s->begin->test = read_expression(p);
+        expect(p, ";");
+    }
+    if (!sees(p, ";")) s->test = read_expression(p);
+    expect(p, ";");
+    if (!sees(p, ")")) s->step = read_expression(p);
+    expect(p, ")");
+    s->first = read_body(p, s, true);
+    close_scope(p);
+    return s;
+}
+
+static statement *read_jump(parser *p) {
+    statement *s;
+    if (sees(p, "return")) {
+        s = make_statement(p, RETURN);
+        p->at++;
+        if (!sees(p, ";")) s->test = read_expression(p);
+    } else if (sees(p, "break")) {
+        s = make_statement(p, BREAK);
+        if (!p->breakable) complain(p);
+        if (p->breakable->kind == SWITCH) p->breakable->has_break = true;
+        p->at++;
+    } else {
+        s = make_statement(p, CONTINUE);
+        if (!p->loop) complain(p);
+        p->loop->has_continue = true;
+        p->at++;
+    }
+    expect(p, ";");
+    return s;
+}
+
+static statement *read_label(parser *p) {
+    statement *s = make_statement(p, sees(p, "case") ? CASE : DEFAULT);
+    p->at++;
+    if (s->kind == CASE) {
+        size_t at = p->at;
+        if (!constant_value(read_conditional(p), &s->value)) complain_at(p, at, "the value of a case is one that is known when the source is built");
+    }
+    expect(p, ":");
+    return s;
+}
+
+static statement *read_statement(parser *p) {
+    statement *s;
+    deeper(p);
+    if (sees(p, "{")) {
+        open_scope(p);
+        s = read_block(p);
+        close_scope(p);
+    } else if (sees(p, "if")) {
+        s = make_statement(p, IF);
+        p->at++;
+        s->test = read_condition(p);
+        s->first = read_controlled(p);
+        if (accept(p, "else")) s->second = read_controlled(p);
+    } else if (sees(p, "while")) {
+        s = make_statement(p, WHILE);
+        p->at++;
+        s->test = read_condition(p);
+        s->first = read_body(p, s, true);
+    } else if (sees(p, "do")) {
+        s = make_statement(p, DO);
+        p->at++;
+        s->first = read_body(p, s, true);
+        expect(p, "while");
+        s->test = read_condition(p);
+        expect(p, ";");
+    } else if (sees(p, "for")) s = read_for(p);
+    else if (sees(p, "switch")) {
+        s = make_statement(p, SWITCH);
+        p->at++;
+        s->test = read_condition(p);
+        s->first = read_body(p, s, false);
+    } else if (sees(p, "case") || sees(p, "default")) s = read_label(p);
+    else if (sees(p, "return") || sees(p, "break") || sees(p, "continue")) s = read_jump(p);
+    else if (sees(p, ";")) {
+        s = make_statement(p, EMPTY);
+        p->at++;
+    } else {
+        s = make_statement(p, EXPRESSION);
+        s->test = read_expression(p);
+        expect(p, ";");
+    }
+    p->nesting--;
+    return s;
+}
+
+// ---- functions ----
+
+static declaration *read_parameter(parser *p, bool of_kernel) {
+    static const char *const inner_types[] = {"size_t", "ptrdiff_t", "bool", NULL};
+    specifiers s;
+    declaration *d = take(p->unit->arena, sizeof *d);
+    size_t begin = p->at;
+    if (!read_specifiers(p, &s)) complain(p);
+    for (size_t i = begin; of_kernel && i < p->at; i++)
+        if (is_one_of(p->unit->tokens.at[i].text, inner_types)) complain_at(p, i, "a parameter of a kernel can't be of this type (OpenCL 1.2, 6.9)");
+    type t = read_pointer(p, &s);
+    d->token = p->at;
+    const char *name = "";
+    if (now(p)->kind == NAME_TOKEN) {
+        name = read_name(p);
+        p->at++;
+    }
+    if (sees(p, "[")) { // a pointer (C99 6.7.5.3)
+        type array = t;
+        read_lengths(p, &array);
+        if (array.dimensions > 1 || !s.has_space || t.space == PRIVATE_SPACE) complain_at(p, d->token, "Clsim has no such parameter");
+        t.pointer = true;
+    }
+    if (!t.pointer && t.base == VOID_TYPE) complain_at(p, d->token, "a parameter has a type");
+    symbol *y = *name ? declare(p, VARIABLE, name, d->token) : take(p->unit->arena, sizeof *y);
+    y->name = y->written = name;
+    y->type = t;
+    y->settled = y->is_parameter = true;
+    y->other = p->variables;
+    p->variables = y;
+    d->symbol = y;
+    return d;
+}
+
+static void read_parameters(parser *p, function *f) {
+    declaration **link = &f->parameters;
+    f->parameters = NULL;
+    f->parameter_count = 0;
+    expect(p, "(");
+    if (sees(p, "void") && is(ahead(p, 1), ")")) p->at++;
+    while (!sees(p, ")")) {
+        if (f->parameters) expect(p, ",");
+        *link = read_parameter(p, f->is_kernel);
+        link = &(*link)->next;
+        f->parameter_count++;
+    }
+    p->at++;
+}
+
+// A function behind its specifiers and its type: a definition, or a prototype.
+static void read_function(parser *p, const specifiers *s, type result) {
+    unit *u = p->unit;
+    size_t name = p->at;
+    const char *word = read_name(p);
+    symbol *y = find(p, word);
+    if (y && y->kind != FUNCTION) complain_at(p, name, "this name is declared twice");
+    if (result.pointer) complain_at(p, name, "Clsim has no functions that give pointers");
+    if (is_one_of(word, builtins)) complain_at(p, name, "a function of the language has this name");
+    if (!y) {
+        y = declare(p, FUNCTION, word, name);
+        y->function = take(u->arena, sizeof *y->function);
+        y->function->symbol = y;
+    }
+    function *f = y->function;
+    if (f->defined) complain_at(p, name, "this name is declared twice");
+    p->at++;
+    f->result = result;
+    f->result.is_const = false;
+    f->is_kernel |= s->is_kernel;
+    if (s->group[0]) memcpy(f->group, s->group, sizeof f->group);
+    if (f->is_kernel && strlen(word) > 63) complain_at(p, name, "the name of a kernel has at most 63 letters");
+    if (f->is_kernel && (result.base != VOID_TYPE)) complain_at(p, name, "a kernel gives no value");
+    open_scope(p);
+    read_parameters(p, f);
+    while (sees(p, "__attribute__")) {
+        specifiers behind = {0};
+        p->at++;
+        read_attribute(p, &behind);
+        if (behind.group[0]) memcpy(f->group, behind.group, sizeof f->group);
+    }
+    if (sees(p, "{")) {
+        function **link = &u->functions;
+        while (*link) link = &(*link)->next;
+        *link = f;
+        f->token = name;
+        f->defined = true;
+        p->function = f;
+        f->body = read_block(p);
+        p->function = NULL;
+    } else expect(p, ";");
+    close_scope(p);
+}
+
+static void read_top(parser *p) {
+    specifiers s;
+    if (accept(p, ";")) return;
+    if (sees(p, "enum")) { read_enumeration(p); return; }
+    if (!read_specifiers(p, &s)) complain(p);
+    if (s.is_typedef) { read_typedef(p, &s); return; }
+    size_t begin = p->at;
+    type t = read_pointer(p, &s);
+    if (now(p)->kind == NAME_TOKEN && is(ahead(p, 1), "(")) { read_function(p, &s, t); return; }
+    p->at = begin;
+    if (s.type.space != CONSTANT_SPACE || t.pointer) complain_at(p, begin, "a variable outside of functions stands in constant memory (OpenCL 1.2, 6.5)");
+    read_declarators(p, &s);
+    expect(p, ";");
+}
+
+// A mark that no name of the source begins with.
+static const char *new_mark(unit *u) {
+    text t = {.arena = u->arena};
+    add(&t, "clsim_");
+    for (size_t i = 0; i < u->tokens.count; i++)
+        if (u->tokens.at[i].kind == NAME_TOKEN && !strncmp(u->tokens.at[i].text, t.at, t.length)) { add(&t, "_"); i = SIZE_MAX; }
+    return t.at;
+}
+
+static void spread_tables(unit *u) {
+    for (function *f = u->functions; f; f = f->next) {
+        f->tables = take(u->arena, u->table_count + 1);
+        for (struct use *use = f->uses; use; use = use->next) f->tables[use->symbol->number] = true;
+    }
+    for (bool more = true; more;) {
+        more = false;
+        for (function *f = u->functions; f; f = f->next)
+            for (struct call *c = f->calls; c; c = c->next)
+                for (unsigned i = 0; c->callee->defined && i < u->table_count; i++)
+                    if (c->callee->tables[i] && !f->tables[i]) f->tables[i] = more = true;
+    }
+}
+
+void parse(unit *u, complaint *wrong) {
+    parser p = {.unit = u, .wrong = wrong};
+    u->mark = new_mark(u);
+    open_scope(&p);
+    p.top = p.scope;
+    while (now(&p)->kind != END_TOKEN) read_top(&p);
+    for (symbol *y = p.variables; y; y = y->other) if (y->kind == VARIABLE) rename_if_taken(&p, y);
+    spread_tables(u);
+}

@@ -1,0 +1,103 @@
+// Eight threads on one context, each with a queue, a kernel and a buffer of its own, by map and unmap; a buffer goes before its kernel.
+#include "host.h"
+#include <pthread.h>
+#include <stdint.h>
+
+enum { THREADS = 8, ITEMS = 64, TURNS = 20 };
+static host h;
+static cl_program program;
+
+static void *work(void *number) {
+    int id = (int)(intptr_t)number;
+    cl_int fault;
+    cl_command_queue q = clCreateCommandQueue(h.context, h.device, CL_QUEUE_PROFILING_ENABLE, &fault);
+    OK(fault);
+    cl_kernel k = clCreateKernel(program, "step", &fault);
+    OK(fault);
+    cl_mem m = clCreateBuffer(h.context, CL_MEM_ALLOC_HOST_PTR, ITEMS * sizeof(cl_int), NULL, &fault);
+    OK(fault);
+    cl_int *p = clEnqueueMapBuffer(q, m, CL_TRUE, CL_MAP_WRITE, 0, ITEMS * sizeof(cl_int), 0, NULL, NULL, &fault);
+    OK(fault);
+    for (int i = 0; i < ITEMS; i++) p[i] = i * id;
+    OK(clEnqueueUnmapMemObject(q, m, p, 0, NULL, NULL));
+    OK(clSetKernelArg(k, 0, sizeof m, &m));
+    for (cl_int turn = 0; turn < TURNS; turn++) {
+        size_t global = ITEMS, local = 16;
+        cl_event event;
+        cl_ulong start, end;
+        OK(clSetKernelArg(k, 1, sizeof turn, &turn));
+        OK(clEnqueueNDRangeKernel(q, k, 1, NULL, &global, &local, 0, NULL, &event));
+        OK(clWaitForEvents(1, &event));
+        OK(clGetEventProfilingInfo(event, CL_PROFILING_COMMAND_START, sizeof start, &start, NULL));
+        OK(clGetEventProfilingInfo(event, CL_PROFILING_COMMAND_END, sizeof end, &end, NULL));
+        if (end < start) exit(4);
+        OK(clReleaseEvent(event));
+    }
+    p = clEnqueueMapBuffer(q, m, CL_TRUE, CL_MAP_READ, 0, ITEMS * sizeof(cl_int), 0, NULL, NULL, &fault);
+    OK(fault);
+    for (int i = 0; i < ITEMS; i++) if (p[i] != i * id + TURNS * (TURNS - 1) / 2) exit(5);
+    OK(clEnqueueUnmapMemObject(q, m, p, 0, NULL, NULL));
+    OK(clReleaseMemObject(m));
+    OK(clReleaseKernel(k));
+    OK(clReleaseCommandQueue(q));
+    return NULL;
+}
+
+static void CL_CALLBACK set_flag(cl_event e, cl_int status, void *flag) { (void)e; *(cl_int *)flag = status + 7; }
+
+// User events and their callbacks.
+static void events(void) {
+    cl_int fault, flag = 0;
+    cl_event e = clCreateUserEvent(h.context, &fault);
+    OK(fault);
+    OK(clSetEventCallback(e, CL_COMPLETE, set_flag, &flag));
+    if (flag || clEnqueueBarrierWithWaitList(h.queue, 1, &e, NULL) != CL_INVALID_OPERATION) exit(6);
+    OK(clSetUserEventStatus(e, CL_COMPLETE));
+    if (flag != 7) exit(7);
+    OK(clEnqueueBarrierWithWaitList(h.queue, 1, &e, NULL));
+    OK(clReleaseEvent(e));
+}
+
+// Objects that are gone, or are of another kind, are told.
+static void dead_objects(void) {
+    cl_int fault;
+    cl_mem m = clCreateBuffer(h.context, CL_MEM_READ_WRITE, 4, NULL, &fault);
+    OK(fault);
+    OK(clReleaseMemObject(m));
+    size_t n;
+    if (getenv("TEST_DIRECT") && clGetMemObjectInfo(m, CL_MEM_SIZE, sizeof n, &n, NULL) != CL_INVALID_MEM_OBJECT) exit(8);
+    if (clRetainMemObject((cl_mem)h.queue) != CL_INVALID_MEM_OBJECT || clRetainContext((cl_context)h.queue) != CL_INVALID_CONTEXT) exit(9);
+    if (clCreateBuffer(h.context, CL_MEM_READ_ONLY | CL_MEM_WRITE_ONLY, 4, NULL, &fault) || fault != CL_INVALID_VALUE) exit(10);
+}
+
+// Rectangles of a buffer, row by row.
+static void rectangles(void) {
+    unsigned char bytes[64], out[16];
+    cl_int fault;
+    for (int i = 0; i < 64; i++) bytes[i] = (unsigned char)i;
+    cl_mem m = clCreateBuffer(h.context, CL_MEM_COPY_HOST_PTR, 64, bytes, &fault);
+    OK(fault);
+    size_t origin[] = {2, 1, 0}, zero[] = {0, 0, 0}, region[] = {4, 4, 1}, outside[] = {6, 5, 0};
+    OK(clEnqueueReadBufferRect(h.queue, m, CL_TRUE, origin, zero, region, 8, 0, 4, 0, out, 0, NULL, NULL));
+    for (int i = 0; i < 16; i++) if (out[i] != (i / 4 + 1) * 8 + 2 + i % 4) exit(11);
+    if (clEnqueueReadBufferRect(h.queue, m, CL_TRUE, outside, zero, region, 8, 0, 4, 0, out, 0, NULL, NULL) != CL_INVALID_VALUE) exit(12);
+    OK(clEnqueueCopyBufferRect(h.queue, m, m, zero, (size_t[]){0, 6, 0}, (size_t[]){8, 2, 1}, 8, 0, 8, 0, 0, NULL, NULL));
+    OK(clEnqueueReadBuffer(h.queue, m, CL_TRUE, 48, 16, out, 0, NULL, NULL));
+    for (int i = 0; i < 16; i++) if (out[i] != i) exit(13);
+    OK(clReleaseMemObject(m));
+}
+
+int main(void) {
+    pthread_t threads[THREADS];
+    h = open_host();
+    program = build_program(&h, "__kernel void step(__global int *a, int t) { a[get_global_id(0)] += t; }", "");
+    for (intptr_t i = 0; i < THREADS; i++) pthread_create(&threads[i], NULL, work, (void *)i);
+    for (int i = 0; i < THREADS; i++) pthread_join(threads[i], NULL);
+    events();
+    dead_objects();
+    rectangles();
+    OK(clReleaseProgram(program));
+    close_host(&h);
+    puts("8 threads are right");
+    return 0;
+}

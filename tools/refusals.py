@@ -1,0 +1,425 @@
+"""Each request for memory refused in turn, and each read and write, for tools/rows: what `clsim` and the program of direct calls do then.
+
+refuse.c is built and preloaded. It runs a program once for each request that it makes, with that one refused, and tells what came of each run.
+
+A script gives each command twice, with the bytes of all buffers read behind it, so that the second has memory. What may come of a run with one
+request refused is one of these:
+  - what comes of the run with none refused: the program does without that memory;
+  - nothing on standard output, and `clsim: out of memory`, or `error: out of memory` of the option reader: the script was being read, or the
+    program was starting;
+  - `refused 16 OutOfMemory` for one command whose row in docs/use/script.md lists it, and for all others what comes of the script without that
+    command: so it has changed nothing, and given again it is answered as if for the first time.
+A script's first launch and the commands before it have to be answered as its row says. No run may leave more blocks of memory than the run
+with none refused."""
+
+import os
+import re
+import shutil
+import subprocess
+import tempfile
+from collections import Counter
+from concurrent.futures import ThreadPoolExecutor
+from dataclasses import dataclass
+
+HERE = os.path.dirname(os.path.abspath(__file__))
+COMPILER = ["cc", "-std=c11", "-O2", "-Wall", "-Wextra", "-Werror", "-shared", "-fPIC"]
+# numbers of workers that scripts are tried with
+WORKERS = [1, 2]
+# seconds of one run, and of all runs of one command line
+LIMIT, LIMIT_OF_ALL = 60, 600
+# a program that makes more requests is left out: it would run as often
+MOST = 5000
+# what is shown of a failure, at most
+SHOWN = 3
+
+REFUSED = b"refused 16 OutOfMemory"
+# what is told where the script is read, or the program starts, and where its command line is read
+EARLY = [(b"", text, 2) for text in (b"clsim: out of memory\n", b"error: out of memory\n")]
+# commands that may be answered so (docs/use/script.md, "Replies")
+GROWING = {b"buffer", b"copy", b"program", b"kernel", b"arg", b"launch", b"read"}
+
+# the calls of crates/refused_calls that take memory, and the one that is made while every request is refused
+CALLS = [b"passes lex", b"passes parse", b"passes check", b"passes lower", b"launches prepare", b"launches start", b"launches one_group",
+         b"launches merge", b"launches run_parallel", b"launches run_launch", b"launches replay", b"store", b"update", b"fetch",
+         b"note in a list", b"note of a running group", b"queue open", b"answer open"]
+REFUSABLE = b"queue drive_one of a buffer where memory may be refused"
+
+HEAD = re.compile(rb"run (\d+) status (-?\d+) asked (\d+) refused (\d+) live (-?\d+) output (\d+) error (\d+)\n")
+
+
+class NoCompiler(Exception):
+    """There is no C compiler, so that nothing can be tried."""
+
+
+class BadReport(Exception):
+    """A program that can't be tried, or of which the library told nothing that can be read."""
+
+
+class TooMany(Exception):
+    """A program makes too many requests."""
+
+
+def library(folder):
+    """refuse.c, built."""
+    path = os.path.join(folder, "refuse.so")
+    if shutil.which(COMPILER[0]) is None:
+        raise NoCompiler(f"there is no C compiler named {COMPILER[0]}")
+    built = subprocess.run([*COMPILER, "-o", path, os.path.join(HERE, "refuse.c")], capture_output=True, text=True)
+    if built.returncode != 0:
+        raise BadReport(f"refuse.c does not build: {built.stderr[:400]}")
+    return path
+
+
+@dataclass
+class Run:
+    """One run: which request was refused (0: none), and what came."""
+    number: int
+    status: int
+    asked: int
+    refused: int
+    live: int
+    output: bytes
+    error: bytes
+
+    def came(self):
+        return self.output, self.error, self.status
+
+
+def runs_of(report):
+    """The runs that a report tells."""
+    place, found = 0, []
+    while place < len(report):
+        head = HEAD.match(report, place)
+        if not head:
+            raise BadReport(f"no run: {report[place:place + 80]!r}")
+        number, status, asked, refused, live, output, error = map(int, head.groups())
+        middle, place = head.end() + output, head.end() + output + error
+        found.append(Run(number, status, asked, refused, live, report[head.end():middle], report[middle:place]))
+    return found
+
+
+def each(library, command, folder, what="memory"):
+    """The runs of a command: none refused first, then each request in turn. The last refuses none, since it makes fewer."""
+    report = os.path.join(folder, "REPORT")
+    environment = {**os.environ, "LD_PRELOAD": library, "WHAT": what, "REFUSE": "each", "REPORT": report, "MOST": str(MOST), "SECONDS": str(LIMIT)}
+    try:
+        came = subprocess.run(command, cwd=folder, env=environment, stdin=subprocess.DEVNULL, capture_output=True, timeout=LIMIT_OF_ALL)
+    except subprocess.TimeoutExpired:
+        raise BadReport(f"still running after {LIMIT_OF_ALL} s") from None
+    if came.returncode != 0 or not os.path.exists(report):
+        raise BadReport(f"status {came.returncode}: {came.stderr[:200]!r}")
+    with open(report, "rb") as file:
+        runs = runs_of(file.read())
+    os.remove(report)
+    if len(runs) == 1 and runs[0].asked > MOST:
+        raise TooMany
+    if len(runs) < 2 or runs[0].refused or runs[-1].refused or any(run.refused != 1 for run in runs[1:-1]):
+        raise BadReport(f"{len(runs)} runs, of which not each but the first and the last refused one request")
+    return runs
+
+
+def left(whole, run, workers=1):
+    """What is to say of blocks of memory that a run leaves and the whole one doesn't: the C library keeps one for each thread that has ended."""
+    more = run.live - max(whole.live, workers - 1)
+    return [f"request {run.number}: {more} blocks are left that the whole run gives back"] if more > 0 else []
+
+
+# ---- scripts
+
+@dataclass
+class Piece:
+    """A command of a script with each command twice: its lines, and the reply that the row gives it, where the row decides it."""
+    text: bytes
+    wanted: bytes = None
+
+    def name(self):
+        return self.text.split(b" ")[0].rstrip(b"\n")
+
+
+def commands_of(script):
+    """The version line of a script, or nothing, and its commands, each with the lines of its source."""
+    lines = script.splitlines(keepends=True)
+    head = lines.pop(0) if lines[:1] == [b"clsim 2\n"] else b""
+    found = []
+    while lines:
+        count = int(lines[0].split(b" ")[2]) if lines[0].startswith(b"program ") else 0
+        found.append(b"".join(lines[:count + 1]))
+        del lines[:count + 1]
+    return head, found
+
+
+def twice(row):
+    """The version line of a row's script, and its commands, each twice, with all buffers read behind."""
+    head, commands = commands_of(row.text)
+    replies = row.output.splitlines()
+    reads, pieces, decided = [], [], True
+    for command, reply in zip(commands, replies):
+        words = command.split()
+        if words[0] == b"buffer" and reply == b"ok":
+            reads.append(Piece(b"read %b 0 %b\n" % (words[1], words[2])))
+        pieces += [Piece(command, reply if decided else None), *reads, Piece(command), *reads]
+        decided = decided and words[0] != b"launch"
+    return head, pieces
+
+
+def status_of(replies):
+    """The status of a run with these replies."""
+    if any(reply.startswith(b"refused") for reply in replies):
+        return 2
+    return 1 if any(reply.startswith(b"fault") for reply in replies) else 0
+
+
+class Script:
+    """A row's script with each command twice, tried with some number of workers."""
+
+    def __init__(self, row, workers, program, library, folder):
+        self.head, self.pieces, self.workers = *twice(row), workers
+        self.command = [program, *row.command.split()[1:], "--workers", str(workers)]
+        self.library, self.folder = library, folder
+        self.without = {}
+
+    def written(self, left_out=None):
+        """Writes the file of the script, without one of its commands."""
+        with open(os.path.join(self.folder, "FILE"), "wb") as file:
+            file.write(self.head + b"".join(piece.text for number, piece in enumerate(self.pieces) if number != left_out))
+
+    def replies_without(self, number):
+        """The replies of a run with memory, of the script without one command."""
+        if number not in self.without:
+            self.written(number)
+            came = subprocess.run(self.command, cwd=self.folder, stdin=subprocess.DEVNULL, capture_output=True, timeout=LIMIT)
+            self.without[number] = came.stdout.splitlines()
+        return self.without[number]
+
+    def wrong_whole(self, whole):
+        """What is wrong with the run with none refused, or nothing."""
+        replies = whole.output.splitlines()
+        if len(replies) != len(self.pieces) or whole.error or whole.status != status_of(replies):
+            return f"with memory: {whole.came()!r}"
+        for piece, reply in zip(self.pieces, replies):
+            if piece.wanted not in (None, reply):
+                return f"with memory: {piece.text!r} is answered {reply!r}, and not {piece.wanted!r}"
+        return None
+
+    def wrong(self, whole, run):
+        """What is wrong with a run of which not all is as in the whole one, and what didn't end early; or nothing."""
+        replies, wanted = run.output.splitlines(), whole.output.splitlines()
+        if run.error or run.status != 2 or len(replies) != len(wanted):
+            return repr(run.came())[:600]
+        number = next(place for place, (reply, other) in enumerate(zip(replies, wanted)) if reply != other)
+        piece = self.pieces[number]
+        if replies[number] != REFUSED or piece.name() not in GROWING:
+            return f"{piece.text!r} is answered {replies[number]!r}, and not {wanted[number]!r}"
+        if replies[:number] + replies[number + 1:] != self.replies_without(number):
+            return f"{piece.text!r} is refused, and behind it come {replies[number + 1:]!r}"
+        return None
+
+    def judged(self):
+        """What came of each run, counted, and what is wrong."""
+        self.written()
+        whole, *runs = each(self.library, self.command, self.folder)
+        counts, said = Counter(), [self.wrong_whole(whole)]
+        if said[0]:
+            return counts, said
+        said, in_commands = [], False
+        for run in runs[:-1]:
+            early = run.came() in EARLY
+            counts["at the start" if early else "done without" if run.came() == whole.came() else "answered 16"] += 1
+            if early and in_commands:
+                said.append(f"request {run.number}: out of memory is told, where commands were answered before")
+            elif not early and run.came() != whole.came():
+                in_commands = True
+                wrong = self.wrong(whole, run)
+                said += [f"request {run.number}: {wrong}"] if wrong else []
+            said += left(whole, run, self.workers)
+        return counts, said
+
+
+def judged_line(command, row, library, folder):
+    """The same of a command that writes one text or none: the row's outcome, or out of memory with nothing written."""
+    written(row, folder)
+    whole, *runs = each(library, command, folder)
+    if whole.came() != (row.output, row.error, row.status):
+        return Counter(), [f"with memory: {whole.came()!r}"]
+    counts, said = Counter(), []
+    for run in runs[:-1]:
+        counts["at the start" if run.came() in EARLY else "done without"] += 1
+        if run.came() not in [*EARLY, whole.came()]:
+            said.append(f"request {run.number}: {run.came()!r}")
+        said += left(whole, run)
+    return counts, said
+
+
+# ---- reads and writes
+
+def written(row, folder):
+    """Writes the files of a row."""
+    for name, text in (("FILE", row.text), ("SCHEDULE", row.schedule)):
+        if text is not None:
+            with open(os.path.join(folder, name), "wb") as file:
+                file.write(text)
+
+
+def judged_reads(command, row, library, folder):
+    """What came of the runs in which a read of a file fails: that it can't be read, with nothing written."""
+    written(row, folder)
+    whole, *runs = each(library, command, folder, "reads")
+    wanted = [(b"", b"clsim: cannot read %b\n" % name, 2) for name in (b"FILE", b"SCHEDULE")]
+    said = [] if whole.came() == (row.output, row.error, row.status) else [f"by pieces: {whole.came()!r}"]
+    said += [f"read {run.number}: {run.came()!r}" for run in runs[:-1] if run.came() not in wanted]
+    return Counter({"reads": len(runs) - 1}), said
+
+
+def is_cut(run, whole):
+    """Whether a run told that it couldn't write, and wrote a beginning of what the whole one writes. (What is held back when the program ends is
+    written then, so that it may be all.)"""
+    return run.error == b"clsim: cannot write\n" and run.status == 2 and whole.output.startswith(run.output)
+
+
+def judged_writes(command, row, library, folder):
+    """What came of the runs in which a write of the replies fails: that they couldn't be written, with a beginning of them written."""
+    written(row, folder)
+    whole, *runs = each(library, command, folder, "writes")
+    said = [] if whole.came() == (row.output, row.error, row.status) else [f"by pieces: {whole.came()!r}"]
+    said += [f"write {run.number}: {run.came()!r}" for run in runs[:-1] if not is_cut(run, whole)]
+    return Counter({"writes": len(runs) - 1}), said
+
+
+# ---- direct calls
+
+def by_section(lines):
+    """Lines by their first words, in order."""
+    found = {}
+    for line in lines:
+        found.setdefault(line.split(b" ")[0].rstrip(b":"), []).append(line)
+    return found
+
+
+def is_beginning(lines, of):
+    """Whether lines stand among others, in their order."""
+    rest = iter(of)
+    return all(line in rest for line in lines)
+
+
+def wrong_call(whole, run):
+    """What is wrong with the lines of one run of the program of direct calls, or nothing: where a request was refused, one line says of a call that
+    it answered so, or of what it needs that there was no memory for it. The lines of the calls that need that may be missing; all others are the same."""
+    if run.status != whole.status or not is_beginning(run.error.splitlines(), whole.error.splitlines()):
+        return repr(run.came())[:600]
+    wanted, came = by_section(whole.output.splitlines()), by_section(run.output.splitlines())
+    for section, lines in came.items():
+        if section not in wanted:
+            return f"no such call: {lines!r}"
+    other = [section for section in wanted if came.get(section) != wanted[section]]
+    if len(other) != 1:
+        return f"calls of {other!r} came to something else"
+    lines = came.get(other[0], [])
+    told = [line for line in lines if line not in wanted[other[0]]]
+    if len(told) != 1 or not told[0].endswith((b": out of memory", b": not called")):
+        return f"{other[0]!r} came to {lines!r}"
+    if not is_beginning([line for line in lines if line != told[0]], wanted[other[0]]):
+        return f"{other[0]!r} came to {lines!r}"
+    return None
+
+
+def judged_calls(command, output, library, folder):
+    """What came of the runs of the program of direct calls, and what is wrong. With no request refused its lines are those of its own crate, but for the buffer that is
+    made while every request is refused. Each call that takes memory has to be met by a refusal in some run."""
+    whole, *runs = each(library, command, folder)
+    wanted = output.replace(REFUSABLE + b": done\n", REFUSABLE + b": out of memory\n")
+    if (whole.output, whole.status) != (wanted, 0):
+        return Counter(), [f"with memory: {whole.came()!r}"]
+    counts, said, met = Counter(), [], set()
+    for run in runs[:-1]:
+        met.update(line.removesuffix(b": out of memory") for line in run.output.splitlines() if line.endswith(b": out of memory"))
+        counts["done without" if run.came() == whole.came() else "answered by a call"] += 1
+        wrong = wrong_call(whole, run) if run.came() != whole.came() else None
+        said += [f"request {run.number}: {wrong}"] if wrong else []
+        said += left(whole, run)
+    missing = [call.decode() for call in CALLS if call not in met]
+    return counts, said + ([f"never met want of memory: {', '.join(missing)}"] if missing else [])
+
+
+# ---- all of them
+
+@dataclass
+class Task:
+    """What is tried: a title, and a function that gives what came of it in a folder."""
+    title: str
+    judged: object
+
+
+@dataclass
+class Outcome:
+    """What came of all: how many tasks passed, what is to say of the others, how many make too many requests, and how many requests were refused."""
+    passed: int
+    failed: list
+    left_out: int
+    refused: Counter
+
+    def line(self):
+        parts = ", ".join(f"{count:,} {name}" for name, count in sorted(self.refused.items()))
+        return f"requests refused: {sum(self.refused.values()):,} ({parts}) of {self.passed + len(self.failed)} command lines; " \
+               f"{self.left_out} make more than {MOST:,}, and are left out"
+
+
+def tasks(rows, program, library):
+    """What is tried of rows: scripts with a launch with some number of workers each, texts that are checked or replayed, and all of them with reads
+    and writes that fail."""
+    for row in rows:
+        title, words = f"{row.place}: {row.title}", [program, *row.command.split()[1:]]
+        judges = [("a read fails", judged_reads), ("a write fails", judged_writes)]
+        if not row.command.startswith("clsim run FILE"):
+            judges.append(("a request is refused", judged_line))
+        for what, judge in judges:
+            yield Task(f"{title} ({what})", lambda folder, judge=judge, row=row, words=words: judge(words, row, library, folder))
+        if re.search(rb"^launch ", row.text, flags=re.M) and row.command.startswith("clsim run FILE"):
+            for workers in WORKERS:
+                yield Task(f"{title} (a request is refused, workers {workers})",
+                           lambda folder, row=row, workers=workers: Script(row, workers, program, library, folder).judged())
+
+
+def task_of_calls(crate, library):
+    """The program of direct calls, whose output stands in its crate."""
+    program = os.path.join(crate, "out", os.path.basename(crate))
+    if not os.access(program, os.X_OK):
+        raise BadReport(f"no program: {program}")
+    with open(os.path.join(crate, "stdout"), "rb") as file:
+        output = file.read()
+    return Task(os.path.basename(crate), lambda folder: judged_calls([program], output, library, folder))
+
+
+def done(task, place):
+    """What came of a task, in a folder of its own: no counts where it makes too many requests."""
+    folder = tempfile.mkdtemp(dir=place)
+    try:
+        return task.title, *task.judged(folder)
+    except BadReport as fault:
+        return task.title, Counter(), [str(fault)]
+    except TooMany:
+        return task.title, None, []
+    finally:
+        shutil.rmtree(folder)
+
+
+def said_of(title, said):
+    more = [f"  .. and {len(said) - SHOWN} more"] if len(said) > SHOWN else []
+    return "\n".join([f"FAILED {title}", *(f"  {it}" for it in said[:SHOWN]), *more])
+
+
+def tried(rows, program, crate):
+    """Tries the rows and the direct calls. Raises NoCompiler where none can be tried."""
+    outcome = Outcome(0, [], 0, Counter())
+    with tempfile.TemporaryDirectory() as place, ThreadPoolExecutor(os.cpu_count()) as pool:
+        built = library(place)
+        todo = [*([task_of_calls(crate, built)] if os.path.isdir(crate) else []), *tasks(rows, program, built)]
+        for title, counts, said in pool.map(lambda task: done(task, place), todo):
+            if counts is None:
+                outcome.left_out += 1
+                continue
+            outcome.refused += counts
+            if said:
+                outcome.failed.append(said_of(title, said))
+            else:
+                outcome.passed += 1
+    return outcome
