@@ -6,7 +6,7 @@ use Rattle.clnum.specs.Conversions.{common, unsigned_of}
 use Rattle.clnum.specs.Integer as integers
 use Rattle.clnum.specs.Operations.{unary_kind, truth}
 use Rattle.clnum.specs.declared.int_type.IntType.{IntType}
-use Rattle.clnum.specs.declared.int_type.IntType.TheVariants.{Int, Uint}
+use Rattle.clnum.specs.declared.int_type.IntType.TheVariants.{Char, Uchar, Short, Ushort, Int, Uint, Long, Ulong}
 use Rattle.clnum.specs.declared.operators.Builtin.TheVariants as integer
 use Rattle.clmodel.specs.Barrier.{is_barrier}
 use Rattle.clmodel.specs.BuiltIns.{built_in}

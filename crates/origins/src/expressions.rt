@@ -75,8 +75,8 @@ pub fn then_expression<'a>(
     }
 }
 
-/// Passes an expression. Whether one is constant is asked at each node down to a constant one, of all nodes below it: the walk of an expression
-/// takes its nodes by its depth.
+/// Passes an expression. Each node down to a constant one asks all nodes below it, so that a walk asks as many as the
+/// expression has, once for each node above them.
 #[cycle(walk)]
 pub fn pass_expression<'a>(
     names: &[Named],

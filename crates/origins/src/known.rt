@@ -91,8 +91,7 @@ pub fn known_of(names: &[Named], expression: &Expression) -> Known
     }
 }
 
-/// The same of the call of a built-in function: the type is that of the first argument or comes from it, and no function of integers has more
-/// than two.
+/// The same of a call: the type comes from that of the first argument, and no function of integers has more than two.
 #[cycle(known)]
 fn known_call(names: &[Named], name: u32, arguments: &[Expression]) -> Known
     ensures kind { result.kind ≡ Integer (call_type (built_in name) (argument_type (variables_of names.now) (terms arguments.now))) }
