@@ -1,5 +1,5 @@
 -- The type of an expression, and its value where it is constant, depend on the types of variables alone.
-use Rattle.std.proofs.Common.{◌≡◌, ℕ, ◌==◌, Bool, true, false, None, List, [], ◌∷◌, ◌++◌, refl, ap, ap₂, ◌∙◌}
+use Rattle.std.proofs.Common.{◌≡◌, ℕ, ◌==◌, true, false, None, List, [], ◌∷◌, ◌++◌, refl, ap, ap₂, ◌∙◌}
 use Rattle.clnum.specs.Conversions.{common}
 use Rattle.clnum.specs.Operations.{unary_kind}
 use Rattle.clmodel.specs.BuiltIns.{built_in}

@@ -24,9 +24,9 @@ pub fn known_of(names: &[Named], expression: &Expression) -> Known
     match expression {
         Expression::Number { value, .. } => Known::number(*value),
         Expression::Variable { name, .. } => Known::varying(kind_of(names, *name)),
-        Expression::Element { name, .. } => Known::varying(VariableType::Integer(base_type(
-            kind_of(names, *name),
-        ))),
+        Expression::Element { name, .. } => Known::varying(VariableType::Integer(base_type(kind_of(
+            names, *name,
+        )))),
         Expression::ElementAddress { name, .. } => Known::varying(kind_of(names, *name)),
         Expression::Dereference { pointer, .. } => {
             let pointer = known_of(names, pointer);
@@ -82,9 +82,9 @@ pub fn known_of(names: &[Named], expression: &Expression) -> Known
             let chosen = known_of(names, chosen);
             let otherwise = known_of(names, otherwise);
             Known {
-                kind: VariableType::Integer(
-                    base_type(chosen.kind).common(base_type(otherwise.kind)),
-                ),
+                kind: VariableType::Integer(base_type(chosen.kind).common(base_type(
+                    otherwise.kind,
+                ))),
                 constant: constants::choice(condition.constant, chosen, otherwise),
             }
         }

@@ -127,7 +127,12 @@ fn pass_statement<'a>(
     match statement {
         Statement::Empty { .. } => Ok(left),
         Statement::Block { body, .. } => pass_statements(setting, names, body.as_slice(), left),
-        Statement::Declare { kind, name, value, .. } => match value {
+        Statement::Declare {
+            kind,
+            name,
+            value,
+            ..
+        } => match value {
             None => pass_own(node, 1, left),
             Some(value) => pass_declaration(setting, names, node, *kind, *name, value, left),
         },

@@ -1,4 +1,4 @@
-use Rattle.std.proofs.Common.{◌≡◌, List, sym, ap, ap₂, ◌∙◌, arith}
+use Rattle.std.proofs.Common.{List, sym, ap, ap₂, ◌∙◌, arith}
 use Rattle.clmodel.specs.BuiltIns.{built_in}
 use Rattle.clmodel.specs.Next.{type_of, argument_type, base_type, call_type}
 use Rattle.clmodel.specs.Tree.{Term, term, terms}
