@@ -354,7 +354,7 @@ def sources():
     """Each source once, with where it stands. Those that don't build stand in check's rows and in files .cl."""
     read_text = runpy.run_path(os.path.join(HERE, "..", "tools", "rows"))["read_text"]
     texts = [(f"rows/worked.txt, {row.title}", row.text, row.command) for row in read_text(os.path.join(HERE, "worked.txt"))]
-    for name in sorted(os.listdir(EXAMPLES)):
+    for name in sorted(it for it in os.listdir(EXAMPLES) if os.path.isfile(os.path.join(EXAMPLES, it))):
         with open(os.path.join(EXAMPLES, name), "rb") as file:
             texts.append((f"examples/{name}", file.read(), "clsim check FILE" if name.endswith(".cl") else "clsim run FILE"))
     seen = set()
