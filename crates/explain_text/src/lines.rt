@@ -1,0 +1,64 @@
+//! Parts of lines whose text is promised.
+#![tactic(auto)]
+
+ghost use Rattle.std.specs.Prelude.{◌≡◌, ◌++◌, [], ◌∷◌, length, codes, decimal, string_bytes, IfOk, OnOk};
+ghost use Rattle.explain_text.specs.Texts.{numbers_text, rest_text, list_text, ids_text, place_text};
+
+use explanation::Ids;
+use std::alloc::{AllocError, Global};
+use std::fmt::Write;
+
+/// Adds the numbers behind the first, each behind a comma.
+fn push_rest(numbers: &[u64], out: &mut String) -> Result<(), AllocError>
+    ensures { OnOk result (string_bytes out.new ≡ string_bytes out.old ++ rest_text numbers.now) }
+{
+    for number in numbers {
+        write!(out, ", {number}")?;
+    }
+    Ok(())
+}
+
+/// Numbers with commas between them.
+fn list_text(alloc: Global, numbers: &[u64]) -> Result<String, AllocError>
+    ensures { IfOk result (λ text. string_bytes text ≡ list_text numbers.now) }
+{
+    let mut out = String::new(alloc);
+    if let Some((first, others)) = numbers.split_first() {
+        write!(out, "{first}")?;
+        push_rest(others, &mut out)?;
+    }
+    Ok(out)
+}
+
+/// One number as it is, several in parentheses with commas between them.
+pub fn numbers_text(alloc: Global, numbers: &[u64]) -> Result<String, AllocError>
+    ensures { IfOk result (λ text. string_bytes text ≡ numbers_text numbers.now) }
+{
+    let list = list_text(alloc, numbers)?;
+    if numbers.len() == 1 {
+        return Ok(list);
+    }
+    format!(in alloc; "({list})")
+}
+
+/// A work-item with its ids.
+pub fn ids_text(alloc: Global, item: u32, ids: &Ids) -> Result<String, AllocError>
+    ensures { IfOk result (λ text. string_bytes text ≡ ids_text item ids.now) }
+{
+    let global = numbers_text(alloc, ids.global.as_slice())?;
+    let local = numbers_text(alloc, ids.local.as_slice())?;
+    let group = numbers_text(alloc, ids.group.as_slice())?;
+    format!(in alloc; "work-item {item}: global id {global}, local id {local}, group {group}")
+}
+
+/// A place in a script.
+pub fn place_text(
+    alloc: Global,
+    script: &str,
+    line: usize,
+    column: usize,
+) -> Result<String, AllocError>
+    ensures { IfOk result (λ text. string_bytes text ≡ place_text script.now line column) }
+{
+    format!(in alloc; "{script}:{line}:{column}")
+}

@@ -1,0 +1,13 @@
+//! What an explanation of a fault tells, as plain data: the launch, the fault, the memory, the items with their ids and places in the source, the
+//! reason, the schedule and its steps. Texts are owned, and are UTF-8. It knows no launch that runs, and neither how an explanation is made nor how it is written.
+#![tactic(auto)]
+
+mod places;
+mod steps;
+mod told;
+
+pub use places::{CallSite, LoopSite, NodeKind, Spot};
+pub use steps::{Code, ScheduleFacts, Step};
+pub use told::{
+    Does, Explanation, FaultFacts, Ids, LaunchFacts, Memory, MemoryKind, NamedItem, ParameterFacts,
+};

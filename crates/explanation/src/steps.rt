@@ -1,0 +1,47 @@
+//! A schedule, and the events of it one after another.
+#![tactic(auto)]
+
+use clmodel::access::AccessKind;
+
+/// The given schedule and the short one, as a schedule file has them.
+#[derive(Drop)]
+pub struct ScheduleFacts {
+    pub given: String,
+    pub short: String,
+    /// The events of the given one and of the short one
+    pub given_events: u64,
+    pub events: u64,
+    /// The work-items that make events of the short one
+    pub items: usize,
+    /// How many schedules were replayed to find the short one
+    pub replays: u32,
+}
+
+/// A place in the source in short: its line in the script, its column, and a beginning of its text.
+#[derive(Drop)]
+pub struct Code {
+    pub script_line: usize,
+    pub column: usize,
+    pub text: String,
+}
+
+/// An event of a schedule: an access of an item, or the release of a group from a barrier.
+#[derive(Drop)]
+pub enum Step {
+    Item {
+        item: u32,
+        does: AccessKind,
+        /// The object, as `buffer a` or `local 0 tile`
+        memory: String,
+        /// Its first byte, and how many it touches
+        byte: u64,
+        bytes: u64,
+        /// What is stored, or what a load gives, where it is known
+        value: Option<u64>,
+        code: Option<Code>,
+    },
+    Release {
+        group: u32,
+        code: Option<Code>,
+    },
+}

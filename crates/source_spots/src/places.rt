@@ -1,0 +1,55 @@
+//! The lines and columns of a byte.
+#![tactic(auto)]
+
+ghost use Rattle.std.specs.Prelude.{◌≡◌, ◌≤◌, ◌<◌, ◌^◌, min, length, IfOk};
+ghost use Rattle.source_lines.specs.Lines.{BeginsLine};
+ghost use Rattle.source_spots.specs.Spots.{IsPlace};
+
+use clmodel::tree::Function;
+use source_lines::{line_text, position_of};
+use std::alloc::{AllocError, Global};
+
+/// A source: its bytes, the line of the script in which it begins, from 1, and the functions of its tree.
+#[derive(Clone, Copy)]
+pub struct Source<'a> {
+    pub text: &'a [u8],
+    pub first_line: usize,
+    pub functions: &'a [Function],
+    pub ghost begins: { 1 ≤ first_line },
+    pub ghost few: { first_line < 2 ^ 32 },
+    pub ghost short: { length text.now < 2 ^ 32 },
+}
+
+/// The lines and the column of a byte, and where its line begins.
+#[derive(Clone, Copy)]
+pub(crate) struct Place {
+    pub at: usize,
+    pub line: usize,
+    pub script_line: usize,
+    pub column: usize,
+    pub begin: usize,
+}
+
+/// Where a byte of a source stands; its end, for a byte that it hasn't.
+pub(crate) fn place_of(source: &Source<'_>, at: u32) -> Place
+    ensures at { result.at ≡ min at (length source.now.text.now) }
+    ensures place { IsPlace source.now.text.now source.now.first_line result.at result.line result.column result.script_line }
+    ensures begin { result.begin ≤ length source.now.text.now }
+{
+    let at = (at as usize).min(source.text.len());
+    let found = position_of(source.text, at);
+    Place {
+        at,
+        line: found.line,
+        script_line: source.first_line + found.line - 1,
+        column: found.column,
+        begin: found.begin,
+    }
+}
+
+/// The text of the line that begins at a byte. What is no UTF-8 is replaced.
+pub(crate) fn line_of(alloc: Global, text: &[u8], begin: usize) -> Result<String, AllocError>
+    requires { begin ≤ length text.now }
+{
+    String::from_utf8_lossy(alloc, line_text(text, begin))
+}
