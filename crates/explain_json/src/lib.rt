@@ -1,13 +1,11 @@
-// A library with one function.
+//! An explanation as JSON, by the kit's `serde_json`. It knows an explanation as data alone. What it writes reads back as the value that was made of the
+//! explanation, whose member `version` is 1.
 #![tactic(auto)]
 
-ghost use Rattle.std.specs.Prelude.{◌≡◌};
-ghost use Rattle.explain_json.specs.Echo.{echo_of};
+mod items;
+mod memory;
+mod places;
+mod steps;
+mod whole;
 
-// The `ensures` clause is the contract: what `echo` returns is `echo_of` of its argument, a definition
-// in `specs/Echo.antt`, which a caller's clause can cite too.
-pub fn echo(x: usize) -> usize
-    ensures { result ≡ echo_of x }
-{
-    x
-}
+pub use whole::{json_of, value_of};

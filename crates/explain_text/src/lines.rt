@@ -41,6 +41,14 @@ pub fn numbers_text(alloc: Global, numbers: &[u64]) -> Result<String, AllocError
     format!(in alloc; "({list})")
 }
 
+/// Adds a word and a text behind it.
+fn push_both(word: &str, text: &str, out: &mut String) -> Result<(), AllocError>
+    ensures { OnOk result (string_bytes out.new ≡ string_bytes out.old ++ (word.now ++ text.now)) }
+{
+    out.push_str(word)?;
+    out.push_str(text)
+}
+
 /// A work-item with its ids.
 pub fn ids_text(alloc: Global, item: u32, ids: &Ids) -> Result<String, AllocError>
     ensures { IfOk result (λ text. string_bytes text ≡ ids_text item ids.now) }
@@ -48,7 +56,18 @@ pub fn ids_text(alloc: Global, item: u32, ids: &Ids) -> Result<String, AllocErro
     let global = numbers_text(alloc, ids.global.as_slice())?;
     let local = numbers_text(alloc, ids.local.as_slice())?;
     let group = numbers_text(alloc, ids.group.as_slice())?;
-    format!(in alloc; "work-item {item}: global id {global}, local id {local}, group {group}")
+    let mut out = format!(in alloc; "work-item {item}")?;
+    push_both(": global id ", global.as_str(), &mut out)?;
+    push_both(", local id ", local.as_str(), &mut out)?;
+    push_both(", group ", group.as_str(), &mut out)?;
+    Ok(out)
+}
+
+/// Adds a number behind a colon.
+fn push_number(number: usize, out: &mut String) -> Result<(), AllocError>
+    ensures { OnOk result (string_bytes out.new ≡ string_bytes out.old ++ (codes ":" ++ decimal number)) }
+{
+    write!(out, ":{number}")
 }
 
 /// A place in a script.
@@ -60,5 +79,8 @@ pub fn place_text(
 ) -> Result<String, AllocError>
     ensures { IfOk result (λ text. string_bytes text ≡ place_text script.now line column) }
 {
-    format!(in alloc; "{script}:{line}:{column}")
+    let mut out = String::from_str(alloc, script)?;
+    push_number(line, &mut out)?;
+    push_number(column, &mut out)?;
+    Ok(out)
 }

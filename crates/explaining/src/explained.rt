@@ -17,6 +17,7 @@ use clmodel::setup::Range;
 use clmodel::text::Name;
 use counted_io::{Write, WriteFailed};
 use device::{Buffers, Command, Device, Launch, Refusal};
+use explain_json::json_of;
 use explain_text::text_of;
 use explanation::{
     Explanation, FaultFacts, LaunchFacts, Memory, ScheduleFacts,
@@ -405,7 +406,7 @@ fn tell_whole<W: Write>(
     };
     let text = match format {
         Format::Text => text_of(alloc, &whole)?,
-        Format::Json => text_of(alloc, &whole)?,
+        Format::Json => json_of(alloc, &whole)?,
     };
     tell(text.as_bytes(), writer)?;
     Ok(true)

@@ -6,23 +6,9 @@ use crate::played::{Played, Standing, event_of, last_of};
 use clmodel::access::AccessKind;
 use clmodel::action::Stop;
 use clmodel::fault::Fault;
-use clmodel::setup::WorkItemFunction;
 use explanation::{Does, Ids, NamedItem};
 use item_value::position::{ItemPosition, group_counts};
 use std::alloc::{AllocError, Global};
-
-/// An id of an item in each dimension of its launch (OpenCL 1.2, section 6.12.1).
-fn ids_in(
-    alloc: Global,
-    position: &ItemPosition<'_>,
-    function: WorkItemFunction,
-) -> Result<Vec<u64>, AllocError> {
-    let mut ids = Vec::new(alloc);
-    for dimension in 0..position.range.global.as_slice().len() {
-        ids.push(position.work_item_value(function, dimension).bits())?;
-    }
-    Ok(ids)
-}
 
 /// The ids of an item of a launch.
 pub(crate) fn ids_of(context: &Context<'_>, item: u32) -> Result<Ids, AllocError> {
@@ -36,11 +22,7 @@ pub(crate) fn ids_of(context: &Context<'_>, item: u32) -> Result<Ids, AllocError
         group_counts: counts.as_slice(),
         group_size: context.launch.group_size(),
     };
-    Ok(Ids {
-        global: ids_in(alloc, &position, WorkItemFunction::GlobalId)?,
-        local: ids_in(alloc, &position, WorkItemFunction::LocalId)?,
-        group: ids_in(alloc, &position, WorkItemFunction::GroupId)?,
-    })
+    item_ids::ids_of(alloc, &position)
 }
 
 /// An item that made an access of a log.

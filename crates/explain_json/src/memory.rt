@@ -1,0 +1,62 @@
+//! The memory that a fault is about.
+#![tactic(auto)]
+
+use explanation::{Memory, MemoryKind, ParameterFacts};
+use serde_json::{Value, json};
+use std::alloc::{AllocError, Global};
+
+fn parameter_value(alloc: Global, parameter: &ParameterFacts) -> Result<Value, AllocError> {
+    let (index, name) = (parameter.index, parameter.name.as_str());
+    let type_name = parameter.type_name.as_str();
+    json!(in alloc; {"index": index, "name": name, "type": type_name})
+}
+
+fn parameters_value(
+    alloc: Global,
+    parameters: &[ParameterFacts],
+) -> Result<Value, AllocError> {
+    let mut values = Vec::new(alloc);
+    for parameter in parameters {
+        values.push(parameter_value(alloc, parameter)?)?;
+    }
+    Ok(Value::Array(values))
+}
+
+fn kind_word(kind: MemoryKind) -> &'static str {
+    match kind {
+        MemoryKind::Buffer => "buffer",
+        MemoryKind::Local(_) => "local",
+        MemoryKind::Private => "private",
+        MemoryKind::Variable => "variable",
+    }
+}
+
+fn group_of(kind: MemoryKind) -> Option<u32> {
+    match kind {
+        MemoryKind::Local(group) => Some(group),
+        MemoryKind::Buffer | MemoryKind::Private | MemoryKind::Variable => None,
+    }
+}
+
+/// An element as text, since readers of JSON may keep 53 bits of a number alone; or null.
+fn element_value(alloc: Global, element: Option<i64>) -> Result<Value, AllocError> {
+    match element {
+        Some(element) => Ok(Value::String(format!(in alloc; "{element}")?)),
+        None => Ok(Value::Null),
+    }
+}
+
+/// Memory, or null.
+pub(crate) fn memory_value(alloc: Global, memory: &Option<Memory>) -> Result<Value, AllocError> {
+    let Some(memory) = memory else {
+        return Ok(Value::Null);
+    };
+    let (kind, name) = (kind_word(memory.kind), memory.name.as_str());
+    let group = Value::from(group_of(memory.kind));
+    let (byte, bytes) = (Value::from(memory.byte), Value::from(memory.size));
+    let element = element_value(alloc, memory.element)?;
+    let parameters = parameters_value(alloc, memory.parameters.as_slice())?;
+    json!(in alloc; {
+        "kind": kind, "name": name, "group": group, "byte": byte, "element": element, "bytes": bytes, "parameters": parameters
+    })
+}

@@ -1,0 +1,7 @@
+use Rattle.clmodel.specs.Launch.{Launch}
+use Rattle.clmodel.specs.Run.{State}
+use Rattle.replay_play.specs.States.{IsAt}
+use Rattle.marked_play.proofs.marks.mark_items.Given as goal
+
+abbrev pub invariant-loop : goal.invariant-loop
+invariant-loop g l = (launch : Launch) × (state : State) × IsAt {D = g.row.D.Denot} g.D.Described.launch launch l.player state
