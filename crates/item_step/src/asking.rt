@@ -13,12 +13,12 @@ ghost use Rattle.item_step.specs.Asking.{asks};
 ghost use Rattle.item_value.specs.Leading.{Leads};
 ghost use Rattle.item_step.specs.Running.{is_asking};
 
-use crate::accesses::{fetch_of, load_of, store_of, update_of};
 use crate::machine::Machine;
 use crate::rest::Wanted;
 use clmodel::operand::Pointer;
 use clmodel::setup::AtomicFunction;
 use clnum::{Value, convert};
+use item_value::accesses::{fetch_of, load_of, store_of, update_of};
 use item_value::pointers::{number, pointing};
 use item_value::termination::Termination;
 use regcode::{FetchOperands, Instruction};

@@ -16,6 +16,7 @@ use crate::local_objects::{LocalObjects, local_objects};
 use crate::setup::Setup;
 use clmodel::setup::{Argument, Range};
 use clmodel::text::Name;
+use clmodel::tree::Tree;
 use item_value::item_context::ItemContext;
 use item_value::position::{ItemPosition, group_counts};
 use regcode::Code;
@@ -63,6 +64,7 @@ fn contains(names: &[Name], name: &Name) -> bool
 
 impl<'a> Launch<'a> {
     ghost use Rattle.clmodel.specs.Setup.{buffer_names};
+    ghost use Rattle.clmodel.specs.Tree.{program};
     ghost use Rattle.item_step.specs.Launches.{setup_of};
 
     /// A launch of code that acts as the setup's program. The group's size is that of the range, and no local size is 0. The buffers
@@ -92,6 +94,36 @@ impl<'a> Launch<'a> {
             group_counts,
             local_objects,
         })
+    }
+
+    /// The launch with other code that acts as its program.
+    pub fn with_code(self, other: &'a Code) -> Launch<'a>
+        requires { ActsAsNext other.now (setup_of self) }
+        ensures setup { setup_of result ≡ setup_of self.entry }
+        ensures code { result.code.now ≡ other.now }
+    {
+        Launch {
+            setup: self.setup,
+            code: other,
+            group_size: self.group_size,
+            buffers: self.buffers,
+            group_counts: self.group_counts,
+            local_objects: self.local_objects,
+        }
+    }
+
+    /// The tree of its program.
+    pub fn tree(&self) -> &'a Tree
+        ensures { program result.now ≡ (setup_of self.now).program }
+    {
+        self.setup.tree
+    }
+
+    /// The number of its kernel's name.
+    pub fn kernel(&self) -> u32
+        ensures { result ≡ (setup_of self.now).kernel }
+    {
+        self.setup.kernel
     }
 
     /// The names of its buffers, in the order of the first arguments that name them.

@@ -1,7 +1,6 @@
 //! A kernel that is ready to run, as verified code, and its work-items, from one action to the next.
 #![tactic(auto)]
 
-mod accesses;
 mod asking;
 mod counters;
 mod item;

@@ -1,6 +1,7 @@
 //! What instructions that touch no memory give: the values of registers and the elements of private arrays, or why there are none.
 #![tactic(auto)]
 
+pub mod accesses;
 pub mod elements;
 pub mod giving;
 pub mod item_context;

@@ -38,21 +38,21 @@ fn number_of(answer: Answer) -> u64
 }
 
 /// A load of an element.
-pub(crate) fn load_of(element: IntType) -> Operation
+pub fn load_of(element: IntType) -> Operation
     ensures { result ≡ operation.Load (element_width element) }
 {
     Operation::Load(width(element))
 }
 
 /// The value of an element that an access was answered.
-pub(crate) fn loaded(element: IntType, answer: Answer) -> Operand
+pub fn loaded(element: IntType, answer: Answer) -> Operand
     ensures { result ≡ operand.Integral (wrapped element (pos (answered answer))) }
 {
     Operand::Integral(Value::from_bits(element, number_of(answer)))
 }
 
 /// A store of an element.
-pub(crate) fn store_of(element: IntType, value: Value) -> Operation
+pub fn store_of(element: IntType, value: Value) -> Operation
     ensures { result ≡ operation.Store (element_width element) (bits_of element value.number) }
 {
     Operation::Store(width(element), value.bits_in(element))
@@ -90,7 +90,7 @@ fn amount(function: AtomicFunction, number: Value) -> Value
 }
 
 /// An atomic update of 32 bits.
-pub(crate) fn update_of(function: AtomicFunction, element: IntType, number: Value) -> Operation
+pub fn update_of(function: AtomicFunction, element: IntType, number: Value) -> Operation
     ensures { result ≡ operation.Update (next.class_of function element) (bits_of int_type.Uint (next.amount function number).number) }
 {
     let bits = amount(function, number).bits_in(IntType::Uint);
@@ -109,7 +109,7 @@ fn fetch_op_of(function: AtomicFunction, kind: IntType, expected: u32) -> FetchO
 }
 
 /// An atomic operation on 32 bits whose old number is used.
-pub(crate) fn fetch_of(
+pub fn fetch_of(
     function: AtomicFunction,
     element: IntType,
     expected: Value,
