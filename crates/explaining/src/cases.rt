@@ -1,12 +1,8 @@
 //! What is to be explained: a launch among commands, with a fault and a schedule.
 #![tactic(auto)]
 
-ghost use Rattle.std.specs.Prelude.{◌≡◌, ◌≤◌};
-
 use clmodel::fault::Fault;
 use clmodel::schedule::Schedule;
-use clmodel::setup::{Range};
-use clmodel::text::{Name, Numbers};
 use counted_io::WriteFailed;
 use device::{BuildFault, Command, Device, Refusal, Reply};
 use replay_text::ReadFault;
@@ -99,108 +95,6 @@ pub(crate) enum Walked {
     Unbuilt(Unbuilt),
 }
 
-/// A copy of numbers.
-fn copied(alloc: Global, numbers: &Numbers) -> Result<Numbers, AllocError> {
-    Ok(Numbers::new(numbers.as_slice().to_vec(alloc)?))
-}
-
-/// A copy of a range.
-fn copied_range(alloc: Global, range: &Range) -> Result<Range, AllocError> {
-    Ok(Range {
-        global: copied(alloc, &range.global)?,
-        local: copied(alloc, &range.local)?,
-        offset: copied(alloc, &range.offset)?,
-        uniform: range.uniform,
-    })
-}
-
-/// A copy of a command that isn't a program's, which `Device` takes by value.
-pub(crate) fn copied_command(alloc: Global, command: &Command) -> Result<Command, AllocError> {
-    use clmodel::setup::Argument;
-    use clmodel::text::Bytes;
-    Ok(match command {
-        Command::Buffer { name, size } => Command::Buffer {
-            name: name.copied(alloc)?,
-            size: *size,
-        },
-        Command::Write {
-            buffer,
-            offset,
-            bytes,
-        } => Command::Write {
-            buffer: buffer.copied(alloc)?,
-            offset: *offset,
-            bytes: Bytes::copy_of(alloc, bytes.as_slice())?,
-        },
-        Command::Read {
-            buffer,
-            offset,
-            count,
-        } => Command::Read {
-            buffer: buffer.copied(alloc)?,
-            offset: *offset,
-            count: *count,
-        },
-        Command::Fill {
-            buffer,
-            offset,
-            count,
-            pattern,
-        } => Command::Fill {
-            buffer: buffer.copied(alloc)?,
-            offset: *offset,
-            count: *count,
-            pattern: Bytes::copy_of(alloc, pattern.as_slice())?,
-        },
-        Command::Copy {
-            source,
-            offset,
-            target,
-            target_offset,
-            count,
-        } => Command::Copy {
-            source: source.copied(alloc)?,
-            offset: *offset,
-            target: target.copied(alloc)?,
-            target_offset: *target_offset,
-            count: *count,
-        },
-        Command::Release { name } => Command::Release {
-            name: name.copied(alloc)?,
-        },
-        Command::Program { name, source } => Command::Program {
-            name: name.copied(alloc)?,
-            source: Bytes::copy_of(alloc, source.as_slice())?,
-        },
-        Command::Kernel {
-            name,
-            program,
-            function,
-        } => Command::Kernel {
-            name: name.copied(alloc)?,
-            program: program.copied(alloc)?,
-            function: function.copied(alloc)?,
-        },
-        Command::Arg {
-            kernel,
-            index,
-            argument,
-        } => Command::Arg {
-            kernel: kernel.copied(alloc)?,
-            index: *index,
-            argument: match argument {
-                Argument::Buffer(name) => Argument::Buffer(name.copied(alloc)?),
-                Argument::Value(value) => Argument::Value(*value),
-                Argument::Local(size) => Argument::Local(*size),
-            },
-        },
-        Command::Launch { kernel, range } => Command::Launch {
-            kernel: kernel.copied(alloc)?,
-            range: copied_range(alloc, range)?,
-        },
-    })
-}
-
 /// Whether a reply isn't a refusal.
 fn is_done(reply: &Reply) -> bool {
     !matches!(reply, Reply::Refused(_))
@@ -208,12 +102,10 @@ fn is_done(reply: &Reply) -> bool {
 
 /// Performs a command, and notes whether it was done.
 fn perform(
-    alloc: Global,
     device: &mut Device,
-    command: &Command,
+    command: Command,
     done: &mut Vec<bool>,
 ) -> Result<Reply, ExplainFault> {
-    let command = copied_command(alloc, command)?;
     let reply = device.apply(command);
     if let Reply::Refused(Refusal::OutOfMemory) = &reply {
         return Err(ExplainFault::OutOfMemory);
@@ -222,16 +114,15 @@ fn perform(
     Ok(reply)
 }
 
-/// Performs the commands before a number, and notes of each whether it was done.
+/// Performs commands, and notes of each whether it was done.
 pub(crate) fn lead(
     alloc: Global,
     device: &mut Device,
-    commands: &[Command],
-    number: usize,
+    commands: Vec<Command>,
 ) -> Result<Vec<bool>, ExplainFault> {
     let mut done = Vec::new(alloc);
-    for command in &commands[..number.min(commands.len())] {
-        perform(alloc, device, command, &mut done)?;
+    for command in commands {
+        perform(device, command, &mut done)?;
     }
     Ok(done)
 }
@@ -251,19 +142,20 @@ fn end_of(ticket: usize, reply: Reply) -> Option<Walked> {
     }
 }
 
-/// Performs commands up to the first launch that has a fault, or to the first build that is refused, and notes of each before it whether it was done. A launch
+/// Performs commands up to the first launch that has a fault, or to the first build that is refused, and notes of each up to there whether it was done. A launch
 /// with a fault changes no buffer, so that the device is then as before it.
 pub(crate) fn walk(
-    alloc: Global,
     device: &mut Device,
-    commands: &[Command],
+    commands: Vec<Command>,
     done: &mut Vec<bool>,
 ) -> Result<Walked, ExplainFault> {
-    for (ticket, command) in commands.iter().enumerate() {
-        let reply = perform(alloc, device, command, done)?;
+    let mut ticket = 0usize;
+    for command in commands {
+        let reply = perform(device, command, done)?;
         if let Some(end) = end_of(ticket, reply) {
             return Ok(end);
         }
+        ticket = ticket.saturating_add(1);
     }
     Ok(Walked::Clean)
 }

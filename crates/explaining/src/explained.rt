@@ -1,7 +1,14 @@
 //! A script, or a script with a schedule, explained.
 #![tactic(auto)]
 
-ghost use Rattle.std.specs.Prelude.{◌≡◌, ◌≤◌, IfOk};
+ghost use Rattle.std.specs.Prelude.{◌≤◌, [], ◌≡◌, IfOk, OnOk};
+ghost use Rattle.std.specs.Option.{OnSome};
+ghost use Rattle.clmodel.specs.Law.{Reaches};
+ghost use Rattle.clmodel.specs.Next.{launch_of};
+ghost use Rattle.clmodel.specs.Outcome.{events_of};
+ghost use Rattle.item_step.specs.Launches.{setup_of};
+ghost use Rattle.launches.specs.Groups.{HasGroups};
+ghost use Rattle.spaces_base.specs.Buffers.{bytes_in};
 
 use crate::building::{explain_source, explain_unbuilt};
 use crate::cases::{Case, ExplainFault, Walked, lead, walk};
@@ -79,7 +86,7 @@ fn script_line(alloc: Global, script: &[u8], number: usize) -> Result<String, Al
 }
 
 /// Events of a schedule, one by one, as they were played.
-fn events_of(alloc: Global, marks: &[Mark]) -> Result<Vec<Event>, AllocError> {
+fn events_in(alloc: Global, marks: &[Mark]) -> Result<Vec<Event>, AllocError> {
     let mut events = Vec::with_capacity(alloc, marks.len())?;
     for mark in marks {
         events.push(mark.event)?;
@@ -288,7 +295,11 @@ fn chosen(
     given: Schedule,
     played: &Played,
     as_given: bool,
-) -> Result<Shorter, AllocError> {
+) -> Result<Shorter, AllocError>
+    requires groups { HasGroups (setup_of context.now.launch.now) }
+    requires leads { Reaches (launch_of (setup_of context.now.launch.now) (bytes_in buffers.now)) (events_of given) fault.now }
+    ensures { IfOk result (λ short. Reaches (launch_of (setup_of context.now.launch.now) (bytes_in buffers.now)) (events_of short.schedule) fault.now) }
+{
     if as_given {
         return Ok(Shorter {
             schedule: given,
@@ -297,7 +308,7 @@ fn chosen(
     }
     let alloc = context.alloc;
     let (first, second) = kept_of(played, items_of(fault));
-    let events = events_of(alloc, played.marks.as_slice())?;
+    let events = events_in(alloc, played.marks.as_slice())?;
     shorter(
         alloc,
         context.launch,
@@ -317,7 +328,10 @@ fn explain_launch(
     place: &Place<'_>,
     case: Case,
     as_given: bool,
-) -> Result<Option<Explanation>, AllocError> {
+) -> Result<Option<Explanation>, AllocError>
+    requires { HasGroups (setup_of context.now.launch.now) }
+    ensures { IfOk result (λ found. OnSome found (Reaches (launch_of (setup_of context.now.launch.now) (bytes_in buffers.now)) (events_of case.schedule) case.fault)) }
+{
     let alloc = context.alloc;
     let Case {
         ticket: _,
@@ -427,7 +441,9 @@ fn explain_schedule<W: Write>(
     }
     let ticket = number as usize;
     let mut device = Device::new(alloc, options.budget);
-    let done = lead(alloc, &mut device, commands.as_slice(), ticket)?;
+    let mut before = read_script(alloc, given.script)?;
+    before.truncate(ticket);
+    let done = lead(alloc, &mut device, before)?;
     let case = Case {
         ticket,
         fault,
@@ -448,7 +464,7 @@ fn explain_script<W: Write>(
     let commands = read_script(alloc, given.script)?;
     let mut device = Device::new(alloc, options.budget);
     let mut done = Vec::new(alloc);
-    let walked = walk(alloc, &mut device, commands.as_slice(), &mut done)?;
+    let walked = walk(&mut device, read_script(alloc, given.script)?, &mut done)?;
     let (commands, done) = (commands.as_slice(), done.as_slice());
     match walked {
         Walked::Clean => tell_whole(alloc, None, options.format, "clean\n", writer),

@@ -174,6 +174,11 @@ fn is_same(location: &Location, other: &Location) -> bool {
     }
 }
 
+/// How far two numbers are apart.
+fn distance_of(one: u64, other: u64) -> u64 {
+    if one < other { other - one } else { one - other }
+}
+
 /// Which bytes beside an unset one were set, and where: those of the nearest store.
 fn say_unset(
     context: &Context<'_>,
@@ -186,7 +191,7 @@ fn say_unset(
     let mut nearest: Option<(u64, usize)> = None;
     for (number, touch) in played.touches.as_slice().iter().enumerate() {
         if touch.kind == AccessKind::Store && is_same(&touch.location, location) {
-            let distance = byte.max(touch.byte) - byte.min(touch.byte);
+            let distance = distance_of(byte, touch.byte);
             let is_nearer = match nearest {
                 Some((least, _)) => distance < least,
                 None => true,

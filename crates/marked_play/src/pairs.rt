@@ -1,11 +1,15 @@
 //! The two accesses of a log that a fault tells as a conflict.
 #![tactic(auto)]
 
-ghost use Rattle.std.specs.Prelude.{◌≡◌, ◌<◌, IfOk, IfSome, length};
+ghost use Rattle.std.specs.Prelude.{◌≡◌, true, IfOk, IfSome};
+ghost use Rattle.std.specs.Bool.{Decides};
+ghost use Rattle.clmodel.specs.Cells.{byte_count, covers};
+ghost use Rattle.marked_play.specs.Pairs.{IsTold, Clashes, IsPair, IsFoundPair};
 
 use clmodel::access::{Access, AccessKind, Region};
 use clmodel::fault::Location;
-use launches::{Described, location_of};
+use clmodel::text::Name;
+use launches::Described;
 use shadow_list::left_at;
 use std::alloc::{AllocError, Global};
 use std::collections::HashMap;
@@ -50,24 +54,79 @@ struct Firsts {
     other: Option<usize>,
 }
 
+/// Whether two names are one.
+fn same_name(name: &Name, other: &Name) -> bool
+    ensures { Decides result (name.now ≡ other.now) }
+{
+    name == other
+}
+
 /// Whether two locations are one.
-fn is_same(location: &Location, other: &Location) -> bool {
+fn is_same(location: &Location, other: &Location) -> bool
+    ensures { result ≡ true → location.now ≡ other.now }
+{
     match (location, other) {
-        (Location::Buffer(name), Location::Buffer(other)) => name == other,
+        (Location::Buffer(name), Location::Buffer(other)) => same_name(name, other),
         (
             Location::Local { group, name },
             Location::Local {
                 group: other_group,
                 name: other,
             },
-        ) => group == other_group && name == other,
+        ) => *group == *other_group && same_name(name, other),
         _ => false,
     }
 }
 
 /// Whether an access is at this byte.
-fn is_on(access: &Access, byte: u64) -> bool {
+fn is_on(access: &Access, byte: u64) -> bool
+    ensures { result ≡ covers access.now.first (byte_count access.now.width) byte }
+{
     access.first <= byte && byte - access.first < access.width.bytes()
+}
+
+/// Whether an access is that of a partner. An error is out of memory.
+fn is_told<D: Described>(
+    launch: &D,
+    told: &Told<'_>,
+    partner: Partner,
+    access: &Access,
+) -> Result<bool, AllocError>
+    ensures { IfOk result (λ yes. yes ≡ true → IsTold (D.launch launch.now) partner.item partner.kind told.now.location.now told.now.byte access.now) }
+{
+    if access.item != partner.item || access.kind != partner.kind || !is_on(access, told.byte) {
+        return Ok(false);
+    }
+    let location = launches::location_of(launch, access.region)?;
+    Ok(is_same(&location, told.location))
+}
+
+/// Whether two accesses clash, where they are those of the partners.
+fn clashes(told: &Told<'_>, one: &Access, other: &Access) -> bool
+    ensures { result ≡ true → Clashes told.now.one_group told.now.by_byte told.now.byte one.now other.now }
+{
+    if told.one_group && one.interval != other.interval {
+        return false;
+    }
+    !told.by_byte || left_at(one, told.byte) != left_at(other, told.byte)
+}
+
+/// Whether two accesses are those that a fault tells. An error is out of memory.
+fn is_pair<D: Described>(
+    launch: &D,
+    told: &Told<'_>,
+    one: &Access,
+    other: &Access,
+) -> Result<bool, AllocError>
+    ensures { IfOk result (λ yes. yes ≡ true → IsPair (D.launch launch.now) told.now.first told.now.second told.now.location.now told.now.byte told.now.one_group told.now.by_byte one.now other.now) }
+{
+    if !clashes(told, one, other) {
+        return Ok(false);
+    }
+    if !is_told(launch, told, told.first, one)? {
+        return Ok(false);
+    }
+    is_told(launch, told, told.second, other)
 }
 
 fn number_of(region: Region) -> u32 {
@@ -83,11 +142,7 @@ fn spot_of<D: Described>(
     partner: Partner,
     access: &Access,
 ) -> Result<Option<Spot>, AllocError> {
-    if access.item != partner.item || access.kind != partner.kind || !is_on(access, told.byte) {
-        return Ok(None);
-    }
-    let location = location_of(launch, access.region)?;
-    if !is_same(&location, told.location) {
+    if !is_told(launch, told, partner, access)? {
         return Ok(None);
     }
     Ok(Some(Spot {
@@ -141,8 +196,8 @@ fn partner_of(firsts: Firsts, byte: u8, by_byte: bool) -> Option<usize> {
     firsts.other
 }
 
-/// The places of two accesses of a log, the oldest first, that conflict as a fault tells, if there are two. It goes over the log twice. An error is out of memory.
-pub fn find_pair<D: Described>(
+/// The places of two accesses of a log, the oldest first, that may conflict as a fault tells.
+fn candidate<D: Described>(
     alloc: Global,
     launch: &D,
     told: &Told<'_>,
@@ -163,4 +218,38 @@ pub fn find_pair<D: Described>(
         }
     }
     Ok(None)
+}
+
+/// A pair, if its accesses are those that a fault tells.
+fn tested<D: Described>(
+    launch: &D,
+    told: &Told<'_>,
+    log: &[Access],
+    pair: Pair,
+) -> Result<Option<Pair>, AllocError>
+    ensures { IfOk result (λ found. IfSome found (IsFoundPair (D.launch launch.now) told.now log.now)) }
+{
+    if pair.first >= log.len() || pair.second >= log.len() {
+        return Ok(None);
+    }
+    if is_pair(launch, told, &log[pair.first], &log[pair.second])? {
+        return Ok(Some(pair));
+    }
+    Ok(None)
+}
+
+/// The places of two accesses of a log, the oldest first, that conflict as a fault tells, if two are found: the first of them at the first access of its partner that
+/// has one. It goes over the log twice. An error is out of memory.
+pub fn find_pair<D: Described>(
+    alloc: Global,
+    launch: &D,
+    told: &Told<'_>,
+    log: &[Access],
+) -> Result<Option<Pair>, AllocError>
+    ensures { IfOk result (λ found. IfSome found (IsFoundPair (D.launch launch.now) told.now log.now)) }
+{
+    match candidate(alloc, launch, told, log)? {
+        Some(pair) => tested(launch, told, log, pair),
+        None => Ok(None),
+    }
 }
