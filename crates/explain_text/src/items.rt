@@ -127,11 +127,7 @@ fn word_of(number: u32, place: usize) -> &'static str {
 }
 
 /// Adds the items.
-pub fn push_items(
-    alloc: Global,
-    whole: &Explanation,
-    out: &mut String,
-) -> Result<(), AllocError> {
+pub fn push_items(alloc: Global, whole: &Explanation, out: &mut String) -> Result<(), AllocError> {
     for (place, item) in whole.items.as_slice().iter().enumerate() {
         push_item(alloc, whole, word_of(whole.fault.number, place), item, out)?;
     }

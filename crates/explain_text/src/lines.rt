@@ -49,6 +49,13 @@ fn push_both(word: &str, text: &str, out: &mut String) -> Result<(), AllocError>
     out.push_str(text)
 }
 
+/// Adds a work-item.
+fn push_item(item: u32, out: &mut String) -> Result<(), AllocError>
+    ensures { OnOk result (string_bytes out.new ≡ string_bytes out.old ++ (codes "work-item " ++ decimal item)) }
+{
+    write!(out, "work-item {item}")
+}
+
 /// A work-item with its ids.
 pub fn ids_text(alloc: Global, item: u32, ids: &Ids) -> Result<String, AllocError>
     ensures { IfOk result (λ text. string_bytes text ≡ ids_text item ids.now) }
@@ -56,7 +63,8 @@ pub fn ids_text(alloc: Global, item: u32, ids: &Ids) -> Result<String, AllocErro
     let global = numbers_text(alloc, ids.global.as_slice())?;
     let local = numbers_text(alloc, ids.local.as_slice())?;
     let group = numbers_text(alloc, ids.group.as_slice())?;
-    let mut out = format!(in alloc; "work-item {item}")?;
+    let mut out = String::new(alloc);
+    push_item(item, &mut out)?;
     push_both(": global id ", global.as_str(), &mut out)?;
     push_both(", local id ", local.as_str(), &mut out)?;
     push_both(", group ", group.as_str(), &mut out)?;

@@ -89,7 +89,11 @@ pub fn write_quote(
     }
     let lead = carets.before.saturating_sub(cut);
     push_many(' ', lead, out)?;
-    push_many('^', carets.count.max(1).min(WIDTH.saturating_sub(lead)), out)?;
+    push_many(
+        '^',
+        carets.count.max(1).min(WIDTH.saturating_sub(lead)),
+        out,
+    )?;
     out.push('\n')
 }
 
@@ -108,7 +112,10 @@ fn push_loops(loops: &[LoopSite], out: &mut String) -> Result<(), AllocError> {
     for site in loops.iter().rev() {
         let (line, column) = (site.script_line, site.column);
         match site.turn {
-            Some(turn) => writeln!(out, "           in turn {turn} of the loop at {line}:{column}")?,
+            Some(turn) => writeln!(
+                out,
+                "           in turn {turn} of the loop at {line}:{column}"
+            )?,
             None => writeln!(out, "           in the loop at {line}:{column}")?,
         }
     }

@@ -29,7 +29,10 @@ fn push_code(code: &Code, out: &mut String) -> Result<(), AllocError> {
 fn push_step(number: usize, step: &Step, out: &mut String) -> Result<(), AllocError> {
     let place = match step {
         Step::Release { group, code } => {
-            write!(out, "  {number:>6}  ---- group {group} passes its barrier ----")?;
+            write!(
+                out,
+                "  {number:>6}  ---- group {group} passes its barrier ----"
+            )?;
             code
         }
         Step::Item {
@@ -42,7 +45,10 @@ fn push_step(number: usize, step: &Step, out: &mut String) -> Result<(), AllocEr
             code,
         } => {
             let (deed, memory) = (deed_word(*does), memory.as_str());
-            write!(out, "  {number:>6}  item {item} {deed} {memory} byte {byte}")?;
+            write!(
+                out,
+                "  {number:>6}  item {item} {deed} {memory} byte {byte}"
+            )?;
             if let Some(value) = value {
                 write!(out, ": {value}")?;
             }
@@ -122,9 +128,16 @@ fn plural(count: u64) -> &'static str {
 
 /// Adds how many events there are.
 fn push_head(schedule: &ScheduleFacts, out: &mut String) -> Result<(), AllocError> {
-    let (events, given, items) = (schedule.events, schedule.given_events, schedule.items as u64);
+    let (events, given, items) = (
+        schedule.events,
+        schedule.given_events,
+        schedule.items as u64,
+    );
     let (event_plural, item_plural) = (plural(events), plural(items));
-    writeln!(out, "  One way there, {events} event{event_plural} of {items} work-item{item_plural} (the given schedule has {given}):")
+    writeln!(
+        out,
+        "  One way there, {events} event{event_plural} of {items} work-item{item_plural} (the given schedule has {given}):"
+    )
 }
 
 /// Adds the steps and the schedule.

@@ -69,7 +69,10 @@ fn push_title(whole: &Explanation, out: &mut String) -> Result<(), AllocError> {
     let launch = &whole.launch;
     let (function, kernel) = (launch.function.as_str(), launch.kernel.as_str());
     let (line, text) = (launch.script_line, launch.text.as_str());
-    writeln!(out, "\n  in kernel {function} ({kernel}), line {line} of the script: {text}")?;
+    writeln!(
+        out,
+        "\n  in kernel {function} ({kernel}), line {line} of the script: {text}"
+    )?;
     if let Some(memory) = &whole.memory {
         push_parameters(memory, out)?;
     }

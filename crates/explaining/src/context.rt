@@ -6,8 +6,7 @@ use clmodel::tree::{Expression, Statement, Target};
 use device::{Command, Launch};
 use explanation::{Code, NodeKind, Spot};
 use launch_facts::ProgramSource;
-use origins::node::Node;
-use origins::origin::origin_of;
+use origins::{Node, origin_of};
 use source_spots::{Source, code_of, spot_of};
 use std::alloc::{AllocError, Global};
 

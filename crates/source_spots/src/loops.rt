@@ -109,7 +109,9 @@ fn inside(statement: &Statement, at: u32) -> Option<&Statement> {
         Statement::Block { body, .. } => last_begun(body.as_slice(), at),
         Statement::If { chosen, .. } => begun(chosen, at),
         Statement::IfElse {
-            chosen, otherwise, ..
+            chosen,
+            otherwise,
+            ..
         } => {
             if statement_at(otherwise) <= at {
                 return Some(otherwise);
@@ -118,7 +120,9 @@ fn inside(statement: &Statement, at: u32) -> Option<&Statement> {
         }
         Statement::While { body, .. } | Statement::For { body, .. } => begun(body, at),
         Statement::DoWhile {
-            body, condition, ..
+            body,
+            condition,
+            ..
         } => {
             if expression_at(condition) <= at {
                 return None;

@@ -14,8 +14,7 @@ use std::alloc::{AllocError, Global};
 const SHORT: usize = 48;
 
 /// What kind of text a node has.
-fn form_of(node: NodeKind) -> Form
-{
+fn form_of(node: NodeKind) -> Form {
     match node {
         NodeKind::Operand | NodeKind::Function => Form::Word,
         NodeKind::Element | NodeKind::Call => Form::Bracketed,
