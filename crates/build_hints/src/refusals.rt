@@ -45,12 +45,15 @@ fn title_of(fault: Refused) -> &'static str {
 /// A hint at a byte that begins no token.
 fn byte_hint(byte: u8) -> &'static str {
     match byte {
-        b'#' => "there is no preprocessor: write the value of a macro in its place, and the text of an include in the source",
-        b'.' => "there are no floating-point numbers, structs and vectors: no token begins with a point",
+        b'#' =>
+            "there is no preprocessor: write the value of a macro in its place, and the text of an include in the source",
+        b'.' =>
+            "there are no floating-point numbers, structs and vectors: no token begins with a point",
         b'"' | b'\'' => "there are no texts and no characters: write the number of a character",
         b'\\' => "there is no preprocessor: lines need no backslash at their end",
         b'/' => "the comment has no end",
-        _ => "remove it: outside of comments a source has letters, digits, blanks and the symbols of C",
+        _ =>
+            "remove it: outside of comments a source has letters, digits, blanks and the symbols of C",
     }
 }
 
@@ -60,9 +63,15 @@ fn declaration_hint(source: &[u8], at: usize, byte: u8) -> Option<&'static str> 
     let is_declared = is_type(first);
     match byte {
         b',' if is_declared => Some("one name a declaration: write int a; int b;"),
-        b'[' if before(source, at).byte == b']' => Some("arrays have one dimension: write a[y * WIDTH + x] for a[y][x]"),
-        b'{' if statement_has(source, at, b'=') => Some("an array has no initialiser: assign its elements one by one"),
-        b'*' if is_declared => Some("there are no pointers to private memory: a pointer begins with __global, __local or __constant"),
+        b'[' if before(source, at).byte == b']' => Some(
+            "arrays have one dimension: write a[y * WIDTH + x] for a[y][x]",
+        ),
+        b'{' if statement_has(source, at, b'=') => Some(
+            "an array has no initialiser: assign its elements one by one",
+        ),
+        b'*' if is_declared => Some(
+            "there are no pointers to private memory: a pointer begins with __global, __local or __constant",
+        ),
         _ => None,
     }
 }
@@ -76,7 +85,9 @@ fn words_hint(source: &[u8], at: usize) -> Option<&'static str>
         return Some(hint);
     }
     if here == b"const" {
-        return Some("const stands behind an address space only, as in __global const int *p: leave it out of values and variables");
+        return Some(
+            "const stands behind an address space only, as in __global const int *p: leave it out of values and variables",
+        );
     }
     let front = before(source, at);
     if let Some(hint) = word_hint(front.word) {
@@ -100,14 +111,27 @@ fn wanted_hint(source: &[u8], at: usize) -> &'static str
         return "a name is wanted behind the type";
     }
     match front.byte {
-        0 => "a function is wanted: __kernel void f(..) { .. }, or a helper such as int f(int x) { .. }",
+        0 =>
+            "a function is wanted: __kernel void f(..) { .. }, or a helper such as int f(int x) { .. }",
         b'}' => "a statement is wanted, or behind the last } of a function another function",
         b'{' | b';' => "a declaration or a statement is wanted",
         b')' | b']' => "an operator or a ; is wanted, or what belongs to the brackets before",
         b'(' | b'[' | b',' => "an expression, a declaration or a closing bracket is wanted",
-        b'=' | b'+' | b'-' | b'*' | b'/' | b'%' | b'<' | b'>' | b'&' | b'|' | b'^' | b'!' | b'~' | b'?' | b':' => {
-            "an operand is wanted: a number, a name, an element, a call or brackets"
-        }
+        b'='
+        | b'+'
+        | b'-'
+        | b'*'
+        | b'/'
+        | b'%'
+        | b'<'
+        | b'>'
+        | b'&'
+        | b'|'
+        | b'^'
+        | b'!'
+        | b'~'
+        | b'?'
+        | b':' => { "an operand is wanted: a number, a name, an element, a call or brackets" }
         _ => "an operator, a bracket or a ; is wanted",
     }
 }
@@ -149,7 +173,13 @@ pub fn refusal_text(
     let text = String::from_utf8_lossy(alloc, line_text(source, place.begin))?;
     let length = word_at(source, at).len().max(1);
     let from = place.column - 1;
-    write_quote(line, text.as_str(), from, from.saturating_add(length), &mut out)?;
+    write_quote(
+        line,
+        text.as_str(),
+        from,
+        from.saturating_add(length),
+        &mut out,
+    )?;
     if let Some(hint) = hint_of(source, fault) {
         writeln!(out, "  hint: {hint}")?;
     }

@@ -3,38 +3,104 @@
 
 /// Words that stand nowhere in the language, by themselves.
 static LACKING: [(&[u8], &str); 44] = [
-    (b"unsigned", "unsigned types have names of one word: uchar, ushort, uint, ulong"),
-    (b"signed", "signed types have names of one word: char, short, int, long"),
-    (b"float", "there are no floating-point numbers: count in fixed point, as int or long of a small unit"),
-    (b"double", "there are no floating-point numbers: count in fixed point, as int or long of a small unit"),
-    (b"half", "there are no floating-point numbers: count in fixed point, as int or long of a small unit"),
+    (
+        b"unsigned",
+        "unsigned types have names of one word: uchar, ushort, uint, ulong",
+    ),
+    (
+        b"signed",
+        "signed types have names of one word: char, short, int, long",
+    ),
+    (
+        b"float",
+        "there are no floating-point numbers: count in fixed point, as int or long of a small unit",
+    ),
+    (
+        b"double",
+        "there are no floating-point numbers: count in fixed point, as int or long of a small unit",
+    ),
+    (
+        b"half",
+        "there are no floating-point numbers: count in fixed point, as int or long of a small unit",
+    ),
     (b"bool", "there is no bool: write int, with 0 and 1"),
     (b"true", "there is no bool: write 1"),
     (b"false", "there is no bool: write 0"),
-    (b"NULL", "there are no null pointers: pass a flag beside the pointer"),
-    (b"struct", "there are no structs: pass the fields as parameters, or as an array each"),
-    (b"union", "there are no unions: write the integer, and shift and mask it"),
+    (
+        b"NULL",
+        "there are no null pointers: pass a flag beside the pointer",
+    ),
+    (
+        b"struct",
+        "there are no structs: pass the fields as parameters, or as an array each",
+    ),
+    (
+        b"union",
+        "there are no unions: write the integer, and shift and mask it",
+    ),
     (b"enum", "there are no enums: write the numbers"),
-    (b"typedef", "there are no typedefs: write the type itself; a struct becomes an array for each field"),
-    (b"switch", "there is no switch: write a chain of if and else if"),
-    (b"case", "there is no switch: write a chain of if and else if"),
-    (b"default", "there is no switch: write a chain of if and else if"),
-    (b"goto", "there is no goto: write a loop with break and continue"),
+    (
+        b"typedef",
+        "there are no typedefs: write the type itself; a struct becomes an array for each field",
+    ),
+    (
+        b"switch",
+        "there is no switch: write a chain of if and else if",
+    ),
+    (
+        b"case",
+        "there is no switch: write a chain of if and else if",
+    ),
+    (
+        b"default",
+        "there is no switch: write a chain of if and else if",
+    ),
+    (
+        b"goto",
+        "there is no goto: write a loop with break and continue",
+    ),
     (b"sizeof", "there is no sizeof: write the number of bytes"),
-    (b"static", "leave static out: functions need no word in front"),
+    (
+        b"static",
+        "leave static out: functions need no word in front",
+    ),
     (b"extern", "leave extern out"),
-    (b"inline", "leave inline out: functions need no word in front"),
-    (b"volatile", "leave volatile out: each access is one step of one interleaving anyway"),
+    (
+        b"inline",
+        "leave inline out: functions need no word in front",
+    ),
+    (
+        b"volatile",
+        "leave volatile out: each access is one step of one interleaving anyway",
+    ),
     (b"restrict", "leave restrict out"),
     (b"register", "leave register out"),
     (b"auto", "leave auto out"),
-    (b"private", "leave private out: a variable without an address space is private; there are no pointers to private memory"),
-    (b"__private", "leave __private out: a variable without an address space is private; there are no pointers to private memory"),
+    (
+        b"private",
+        "leave private out: a variable without an address space is private; there are no pointers to private memory",
+    ),
+    (
+        b"__private",
+        "leave __private out: a variable without an address space is private; there are no pointers to private memory",
+    ),
     (b"__attribute__", "leave __attribute__ out"),
-    (b"printf", "there is no printf: store what you want to see into a buffer, and read it"),
-    (b"mem_fence", "there is no mem_fence: write barrier, or an atomic function"),
-    (b"read_mem_fence", "there is no mem_fence: write barrier, or an atomic function"),
-    (b"write_mem_fence", "there is no mem_fence: write barrier, or an atomic function"),
+    (
+        b"printf",
+        "there is no printf: store what you want to see into a buffer, and read it",
+    ),
+    (
+        b"mem_fence",
+        "there is no mem_fence: write barrier, or an atomic function",
+    ),
+    (
+        b"read_mem_fence",
+        "there is no mem_fence: write barrier, or an atomic function",
+    ),
+    (
+        b"write_mem_fence",
+        "there is no mem_fence: write barrier, or an atomic function",
+    ),
     (b"ptrdiff_t", "write long"),
     (b"intptr_t", "write long; there are no casts of pointers"),
     (b"uintptr_t", "write ulong; there are no casts of pointers"),
@@ -44,9 +110,18 @@ static LACKING: [(&[u8], &str); 44] = [
     (b"uint8_t", "write uchar"),
     (b"int64_t", "write long"),
     (b"uint64_t", "write ulong"),
-    (b"atom_add", "64-bit atomic functions are lacking: write atomic_add on an int or a uint"),
-    (b"async_work_group_copy", "there are no async copies: copy in a loop, and write a barrier behind it"),
-    (b"get_global_linear_id", "it is of OpenCL 2.0: write get_global_id(0), or the sum over the dimensions"),
+    (
+        b"atom_add",
+        "64-bit atomic functions are lacking: write atomic_add on an int or a uint",
+    ),
+    (
+        b"async_work_group_copy",
+        "there are no async copies: copy in a loop, and write a barrier behind it",
+    ),
+    (
+        b"get_global_linear_id",
+        "it is of OpenCL 2.0: write get_global_id(0), or the sum over the dimensions",
+    ),
 ];
 
 /// Names of functions on floating-point numbers.
@@ -89,7 +164,9 @@ pub(crate) fn word_hint(word: &[u8]) -> Option<&'static str> {
         }
     }
     if is_vector(word) {
-        return Some("there are no vectors: write a variable, or an element of an array, for each component");
+        return Some(
+            "there are no vectors: write a variable, or an element of an array, for each component",
+        );
     }
     if is_of_floats(word) {
         return Some("there are no functions on floating-point numbers: count in fixed point");

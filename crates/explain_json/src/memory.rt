@@ -11,10 +11,7 @@ fn parameter_value(alloc: Global, parameter: &ParameterFacts) -> Result<Value, A
     json!(in alloc; {"index": index, "name": name, "type": type_name})
 }
 
-fn parameters_value(
-    alloc: Global,
-    parameters: &[ParameterFacts],
-) -> Result<Value, AllocError> {
+fn parameters_value(alloc: Global, parameters: &[ParameterFacts]) -> Result<Value, AllocError> {
     let mut values = Vec::new(alloc);
     for parameter in parameters {
         values.push(parameter_value(alloc, parameter)?)?;

@@ -28,7 +28,13 @@ pub(crate) fn explain_unbuilt(
         _ => &[],
     };
     let first = line.saturating_add(1);
-    refusal_text(alloc, name.as_str(), source, first, refused_of(unbuilt.fault))
+    refusal_text(
+        alloc,
+        name.as_str(),
+        source,
+        first,
+        refused_of(unbuilt.fault),
+    )
 }
 
 /// The text of a source that doesn't build, and true; or `ok` and false.

@@ -26,9 +26,7 @@ use counted_io::{Write, WriteFailed};
 use device::{Buffers, Command, Device, Launch, Refusal};
 use explain_json::json_of;
 use explain_text::text_of;
-use explanation::{
-    Explanation, FaultFacts, LaunchFacts, Memory, ScheduleFacts,
-};
+use explanation::{Explanation, FaultFacts, LaunchFacts, Memory, ScheduleFacts};
 use fault_facts::{fault_line, fault_name, fault_number, memory_of};
 use host_commands::kernel::parameters_of;
 use launch_facts::{ProgramSource, line_of, parameters_given, parameters_named, source_of};
@@ -68,7 +66,11 @@ pub struct Given<'a> {
 
 /// How many lines stand before the first command of a script: that of its version, if it has one.
 fn lines_before(script: &[u8]) -> usize {
-    if script.starts_with(b"clsim 2\n") { 1 } else { 0 }
+    if script.starts_with(b"clsim 2\n") {
+        1
+    } else {
+        0
+    }
 }
 
 /// The text of a line of a script, by its number from 1.

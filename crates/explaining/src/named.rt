@@ -154,7 +154,9 @@ pub(crate) fn named_items(
             &mut items,
         )?,
         Fault::Divergence {
-            stop, other_stop, ..
+            stop,
+            other_stop,
+            ..
         } => {
             items.push(stopped(context, played, played.first, stop)?)?;
             items.push(stopped(context, played, played.second, other_stop)?)?;

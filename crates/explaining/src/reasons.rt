@@ -3,7 +3,7 @@
 
 use crate::context::Context;
 use crate::played::{Played, event_of};
-use clmodel::access::{AccessKind, Class, Clash};
+use clmodel::access::{AccessKind, Clash, Class};
 use clmodel::fault::{Fault, Location};
 use clmodel::schedule::Event;
 use explanation::Memory;
@@ -60,17 +60,24 @@ fn say_unordered(
         None => None,
     };
     let Some(mark) = between else {
-        let sentence = format!(in alloc; "both work-items are of group {group}, and no barrier of it stands between the two accesses")?;
+        let sentence = format!(in alloc;
+            "both work-items are of group {group}, and no barrier of it stands between the two accesses"
+        )?;
         why.push(sentence)?;
         return Ok(());
     };
     let (space, flag) = fence_of(location);
-    let mut sentence = format!(in alloc; "group {group} passes a barrier between the two accesses")?;
+    let mut sentence = format!(in alloc;
+        "group {group} passes a barrier between the two accesses"
+    )?;
     if let Some(code) = context.code(mark.place)? {
         let (line, column, text) = (code.script_line, code.column, code.text.as_str());
         write!(sentence, ", {text} at {line}:{column}")?;
     }
-    write!(sentence, ", but it does not fence {space} memory: {flag} is missing")?;
+    write!(
+        sentence,
+        ", but it does not fence {space} memory: {flag} is missing"
+    )?;
     why.push(sentence)?;
     Ok(())
 }
@@ -87,7 +94,9 @@ fn say_no_order(
     if group == other {
         return say_unordered(context, played, group, location, why);
     }
-    let sentence = format!(in context.alloc; "the work-items are of groups {group} and {other}, and no barrier orders two work-groups of a launch")?;
+    let sentence = format!(in context.alloc;
+        "the work-items are of groups {group} and {other}, and no barrier orders two work-groups of a launch"
+    )?;
     why.push(sentence)?;
     Ok(())
 }
@@ -115,7 +124,9 @@ fn say_clash(
     match (clash, kind, other) {
         (Clash::Order, AccessKind::Update(one), AccessKind::Update(two)) => {
             let (one, two) = (class_word(one), class_word(two));
-            let sentence = format!(in alloc; "atomic {one} and atomic {two} do not commute: what is left depends on which comes first")?;
+            let sentence = format!(in alloc;
+                "atomic {one} and atomic {two} do not commute: what is left depends on which comes first"
+            )?;
             why.push(sentence)?;
             Ok(())
         }
@@ -154,7 +165,9 @@ fn say_bounds(
         return Ok(());
     }
     let (name, count) = (memory.name.as_str(), size / width);
-    let sentence = format!(in context.alloc; "{name} has {size} bytes, which are {count} elements of {width} bytes, numbered from 0")?;
+    let sentence = format!(in context.alloc;
+        "{name} has {size} bytes, which are {count} elements of {width} bytes, numbered from 0"
+    )?;
     why.push(sentence)?;
     Ok(())
 }
@@ -176,7 +189,11 @@ fn is_same(location: &Location, other: &Location) -> bool {
 
 /// How far two numbers are apart.
 fn distance_of(one: u64, other: u64) -> u64 {
-    if one < other { other - one } else { one - other }
+    if one < other {
+        other - one
+    } else {
+        one - other
+    }
 }
 
 /// Which bytes beside an unset one were set, and where: those of the nearest store.
@@ -202,14 +219,20 @@ fn say_unset(
         }
     }
     let Some((_, number)) = nearest else {
-        return say(alloc, why, "no work-item has stored anything there by then: if another one does so later, a barrier between the two is missing");
+        return say(
+            alloc,
+            why,
+            "no work-item has stored anything there by then: if another one does so later, a barrier between the two is missing",
+        );
     };
     let Some(touch) = played.touches.get(number) else {
         return Ok(());
     };
     let (item, first) = (touch.item, touch.byte);
     let last = first.saturating_add(touch.bytes.saturating_sub(1));
-    let mut sentence = format!(in alloc; "the nearest bytes that were set are {first} to {last}, by work-item {item}")?;
+    let mut sentence = format!(in alloc;
+        "the nearest bytes that were set are {first} to {last}, by work-item {item}"
+    )?;
     let place = match event_of(played.marks.as_slice(), number) {
         Some(event) => match played.marks.get(event) {
             Some(mark) => mark.place,
@@ -221,7 +244,10 @@ fn say_unset(
         let (line, column, text) = (code.script_line, code.column, code.text.as_str());
         write!(sentence, " at {line}:{column} {text}")?;
     }
-    write!(sentence, "; if another work-item sets this byte later, a barrier between the two is missing")?;
+    write!(
+        sentence,
+        "; if another work-item sets this byte later, a barrier between the two is missing"
+    )?;
     why.push(sentence)?;
     Ok(())
 }
@@ -251,7 +277,9 @@ fn say_budget(
     let group = item / context.launch.group_size();
     let (accesses, barriers) = counts_of(played.marks.as_slice(), item, group);
     let turns = u64::from(budget).saturating_sub(accesses.saturating_add(barriers));
-    let sentence = format!(in context.alloc; "the budget of {budget} ticks went to {accesses} accesses, {barriers} barriers and {turns} turns of loops; a loop without end uses up any budget")?;
+    let sentence = format!(in context.alloc;
+        "the budget of {budget} ticks went to {accesses} accesses, {barriers} barriers and {turns} turns of loops; a loop without end uses up any budget"
+    )?;
     why.push(sentence)?;
     Ok(())
 }

@@ -109,7 +109,11 @@ fn cut(
     };
     let second_group = KeptGroup {
         group: second.item / size,
-        end: releases_end(events, second.item / size, second.last.unwrap_or(usize::MAX)),
+        end: releases_end(
+            events,
+            second.item / size,
+            second.last.unwrap_or(usize::MAX),
+        ),
     };
     let mut runs = Vec::new(alloc);
     for (number, event) in events.iter().enumerate() {

@@ -18,11 +18,7 @@ pub struct FaultLine {
 }
 
 /// The line of a fault with its schedule, as a reply has it. An error is out of memory.
-pub fn line_bytes(
-    alloc: Global,
-    fault: &Fault,
-    schedule: &Schedule,
-) -> Result<Vec<u8>, AllocError>
+pub fn line_bytes(alloc: Global, fault: &Fault, schedule: &Schedule) -> Result<Vec<u8>, AllocError>
     ensures { IfOk result (λ bytes. bytes.items ≡ fault_line fault.now schedule.now) }
 {
     let mut line = Gathered::new(alloc);

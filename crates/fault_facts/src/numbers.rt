@@ -17,7 +17,8 @@ pub fn fault_number(fault: &Fault) -> u32
 {
     match fault {
         Fault::Conflict {
-            clash: Clash::Race, ..
+            clash: Clash::Race,
+            ..
         } => 1,
         Fault::Conflict {
             clash: Clash::Order,
@@ -52,10 +53,14 @@ pub fn named_items(fault: &Fault) -> (u32, Option<u32>)
 {
     match fault {
         Fault::Conflict {
-            item, other_item, ..
+            item,
+            other_item,
+            ..
         }
         | Fault::Divergence {
-            item, other_item, ..
+            item,
+            other_item,
+            ..
         } => (*item, Some(*other_item)),
         Fault::Bounds { item, .. }
         | Fault::PrivateBounds { item, .. }
@@ -125,11 +130,12 @@ pub fn memory_of(alloc: Global, fault: &Fault) -> Result<Option<Memory>, AllocEr
             memory_at(alloc, location, Some(*byte), None)
         }
         Fault::Bounds {
-            location, element, ..
+            location,
+            element,
+            ..
         } => memory_at(alloc, location, None, Some(*element)),
-        Fault::PrivateBounds { array, element, .. } | Fault::UnsetElement { array, element, .. } => {
-            private_memory(alloc, MemoryKind::Private, array, Some(*element))
-        }
+        Fault::PrivateBounds { array, element, .. } | Fault::UnsetElement { array, element, .. } =>
+            { private_memory(alloc, MemoryKind::Private, array, Some(*element)) }
         Fault::UnsetVariable { variable, .. } => {
             private_memory(alloc, MemoryKind::Variable, variable, None)
         }
