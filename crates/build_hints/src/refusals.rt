@@ -84,7 +84,7 @@ fn words_hint(source: &[u8], at: usize) -> Option<&'static str>
     if let Some(hint) = word_hint(here) {
         return Some(hint);
     }
-    if here == b"const" {
+    if matches!(here, b"const") {
         return Some(
             "const stands behind an address space only, as in __global const int *p: leave it out of values and variables",
         );

@@ -139,7 +139,7 @@ static ELEMENTS: [&[u8]; 9] = [
 fn is_vector(word: &[u8]) -> bool {
     for element in &ELEMENTS {
         if let Some(rest) = word.strip_prefix(*element) {
-            if rest == b"2" || rest == b"3" || rest == b"4" || rest == b"8" || rest == b"16" {
+            if matches!(rest, b"2" | b"3" | b"4" | b"8" | b"16") {
                 return true;
             }
         }
@@ -181,8 +181,8 @@ pub(crate) fn word_hint(word: &[u8]) -> Option<&'static str> {
 pub(crate) fn is_type(word: &[u8]) -> bool {
     for element in &ELEMENTS {
         if *element == word {
-            return word != b"float";
+            return !matches!(word, b"float");
         }
     }
-    word == b"size_t"
+    matches!(word, b"size_t")
 }

@@ -16,10 +16,10 @@ use crate::context::Context;
 use crate::named::named_items;
 use crate::played::{Played, event_of, play};
 use crate::reasons::reasons_of;
-use crate::shorter::{Kept, Shorter, shorter};
+use crate::shorter::shorter;
 use crate::steps::{MOST_STEPS, items_in, steps_of};
 use clmodel::fault::{Fault, Location};
-use clmodel::schedule::{Event, EventRun, Schedule};
+use clmodel::schedule::Schedule;
 use clmodel::setup::Range;
 use clmodel::text::Name;
 use counted_io::{Write, WriteFailed};
@@ -33,6 +33,7 @@ use launch_facts::{ProgramSource, line_of, parameters_given, parameters_named, s
 use marked_play::Mark;
 use replay::replay;
 use replay_text::read;
+use shortening::{Named, Shortened, event_count};
 use simfile::script::read_script;
 use source_lines::line_text;
 use std::alloc::{AllocError, Global};
@@ -87,50 +88,35 @@ fn script_line(alloc: Global, script: &[u8], number: usize) -> Result<String, Al
     Ok(String::new(alloc))
 }
 
-/// Events of a schedule, one by one, as they were played.
-fn events_in(alloc: Global, marks: &[Mark]) -> Result<Vec<Event>, AllocError> {
-    let mut events = Vec::with_capacity(alloc, marks.len())?;
-    for mark in marks {
-        events.push(mark.event)?;
-    }
-    Ok(events)
-}
-
-/// How many events runs have.
-fn count_of(runs: &[EventRun]) -> u64 {
-    let mut count = 0u64;
-    for run in runs {
-        count = count.saturating_add(match run {
-            EventRun::Item { count, .. } => *count,
-            EventRun::Release { .. } => 1,
-        });
-    }
-    count
-}
-
 /// The two items that a fault names; where it names one, that one twice.
 fn items_of(fault: &Fault) -> (u32, u32) {
     let (item, other) = fault_facts::named_items(fault);
     (item, other.unwrap_or(item))
 }
 
-/// What is kept of a schedule for the named items.
-fn kept_of(played: &Played, items: (u32, u32)) -> (Kept, Kept) {
+/// The items that a fault names, with the events that are their accesses, for a shorter schedule: the earlier access first.
+fn named_of(alloc: Global, played: &Played, fault: &Fault) -> Result<Vec<Named>, AllocError> {
+    let (item, other) = items_of(fault);
     let marks = played.marks.as_slice();
     let (first, second) = match played.pair {
         Some(pair) => (event_of(marks, pair.first), event_of(marks, pair.second)),
         None => (None, None),
     };
-    (
-        Kept {
-            item: items.0,
-            last: first,
-        },
-        Kept {
-            item: items.1,
-            last: second,
-        },
-    )
+    let mut named = Vec::new(alloc);
+    named.push(Named {
+        item,
+        event: first.map(|number| number as u64),
+    })?;
+    if other != item {
+        named.push(Named {
+            item: other,
+            event: second.map(|number| number as u64),
+        })?;
+    }
+    if first > second {
+        named.reverse();
+    }
+    Ok(named)
 }
 
 /// The size of the memory that a fault is about, and the parameters that it is an argument for.
@@ -242,7 +228,7 @@ fn schedule_facts(
     fault: &Fault,
     given: String,
     given_events: u64,
-    short: &Shorter,
+    short: &Shortened,
     marks: &[Mark],
 ) -> Result<ScheduleFacts, AllocError> {
     let line = fault_line(alloc, fault, &short.schedule)?;
@@ -250,9 +236,9 @@ fn schedule_facts(
         given,
         short: line.schedule,
         given_events,
-        events: count_of(short.schedule.as_slice()),
+        events: event_count(short.schedule.as_slice()),
         items: items_in(alloc, marks)?,
-        replays: short.replays,
+        replays: short.judged,
     })
 }
 
@@ -297,29 +283,26 @@ fn chosen(
     given: Schedule,
     played: &Played,
     as_given: bool,
-) -> Result<Shorter, AllocError>
+) -> Result<Shortened, AllocError>
     requires groups { HasGroups (setup_of context.now.launch.now) }
     requires leads { Reaches (launch_of (setup_of context.now.launch.now) (bytes_in buffers.now)) (events_of given) fault.now }
     ensures { IfOk result (λ short. Reaches (launch_of (setup_of context.now.launch.now) (bytes_in buffers.now)) (events_of short.schedule) fault.now) }
 {
     if as_given {
-        return Ok(Shorter {
+        return Ok(Shortened {
             schedule: given,
-            replays: 0,
+            judged: 0,
         });
     }
     let alloc = context.alloc;
-    let (first, second) = kept_of(played, items_of(fault));
-    let events = events_in(alloc, played.marks.as_slice())?;
+    let named = named_of(alloc, played, fault)?;
     shorter(
         alloc,
         context.launch,
         buffers,
         fault,
-        given,
-        events.as_slice(),
-        first,
-        second,
+        &given,
+        named.as_slice(),
     )
 }
 
@@ -346,7 +329,7 @@ fn explain_launch(
     let items = items_of(&fault);
     let (launch, most) = (context.launch, MOST_STEPS);
     let given_line = fault_line(alloc, &fault, &schedule)?;
-    let given_events = count_of(schedule.as_slice());
+    let given_events = event_count(schedule.as_slice());
     let Some(first) = play(alloc, launch, buffers, &fault, &schedule, items, 0)? else {
         return Ok(None);
     };

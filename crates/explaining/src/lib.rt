@@ -7,6 +7,7 @@ mod building;
 mod cases;
 mod context;
 mod explained;
+mod judging;
 mod named;
 mod played;
 mod reasons;
