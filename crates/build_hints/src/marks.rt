@@ -61,7 +61,8 @@ pub(crate) fn byte_at(source: &[u8], at: usize) -> u8 {
     }
 }
 
-/// What stands before a place: the last byte that is no blank, 0 where there is none, and the word that it ends, if it ends one.
+/// What stands before a place: the last byte that is no blank, 0 where there is none, and the word that it ends, if it
+/// ends one.
 #[derive(Clone, Copy)]
 pub(crate) struct Before<'a> {
     pub byte: u8,

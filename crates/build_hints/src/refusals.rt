@@ -136,7 +136,8 @@ fn wanted_hint(source: &[u8], at: usize) -> &'static str
     }
 }
 
-/// What to do about a fault of a source: what is wanted there, or how to write what the language lacks. A place past the end stands for the end.
+/// What to do about a fault of a source: what is wanted there, or how to write what the language lacks. A place past
+/// the end stands for the end.
 pub fn hint_of(source: &[u8], fault: Refused) -> Option<&'static str> {
     let at = (place_of(fault) as usize).min(source.len());
     match fault {
@@ -155,8 +156,8 @@ pub fn hint_of(source: &[u8], fault: Refused) -> Option<&'static str> {
     }
 }
 
-/// A fault of a source as text: where it lies and what it is, the line with a caret, and a hint. The source begins at this line of the file that is named. An error is out
-/// of memory. It takes the time of the source.
+/// A fault of a source as text: where it lies and what it is, the line with a caret, and a hint. The source begins at
+/// this line of the file that is named. An error is out of memory. It takes the time of the source.
 pub fn refusal_text(
     alloc: Global,
     name: &str,

@@ -1,5 +1,5 @@
-//! An explanation as JSON, by the kit's `serde_json`. It knows an explanation as data alone. What it writes reads back as the value that was made of the
-//! explanation, whose member `version` is 1.
+//! An explanation as JSON, by the kit's `serde_json`. It knows an explanation as data alone. What it writes reads back
+//! as the value that was made of the explanation, whose member `version` is 1.
 #![tactic(auto)]
 
 mod items;

@@ -68,7 +68,8 @@ fn push_window(text: &str, from: usize, to: usize, out: &mut String) -> Result<(
     Ok(())
 }
 
-/// Adds a line of source with its number, and under it the carets of its bytes from one number up to another: at least one.
+/// Adds a line of source with its number, and under it the carets of its bytes from one number up to another: at least
+/// one.
 pub fn write_quote(
     number: usize,
     text: &str,

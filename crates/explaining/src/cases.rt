@@ -142,8 +142,8 @@ fn end_of(ticket: usize, reply: Reply) -> Option<Walked> {
     }
 }
 
-/// Performs commands up to the first launch that has a fault, or to the first build that is refused, and notes of each up to there whether it was done. A launch
-/// with a fault changes no buffer, so that the device is then as before it.
+/// Performs commands up to the first launch that has a fault, or to the first build that is refused, and notes of each
+/// up to there whether it was done. A launch with a fault changes no buffer, so that the device is then as before it.
 pub(crate) fn walk(
     device: &mut Device,
     commands: Vec<Command>,

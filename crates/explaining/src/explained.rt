@@ -56,8 +56,8 @@ pub struct ExplainOptions {
     pub ghost limited: { budget ≤ 1000000 },
 }
 
-/// The texts that are given: the name of the script as on the command line and its bytes, and those of a schedule file, if one is named. A name that ends in `.cl`
-/// is that of a source.
+/// The texts that are given: the name of the script as on the command line and its bytes, and those of a schedule file,
+/// if one is named. A name that ends in `.cl` is that of a source.
 #[derive(Clone, Copy)]
 pub struct Given<'a> {
     pub name: &'a [u8],
@@ -94,7 +94,8 @@ fn items_of(fault: &Fault) -> (u32, u32) {
     (item, other.unwrap_or(item))
 }
 
-/// The items that a fault names, with the events that are their accesses, for a shorter schedule: the earlier access first.
+/// The items that a fault names, with the events that are their accesses, for a shorter schedule: the earlier access
+/// first.
 fn named_of(alloc: Global, played: &Played, fault: &Fault) -> Result<Vec<Named>, AllocError> {
     let (item, other) = items_of(fault);
     let marks = played.marks.as_slice();
@@ -467,9 +468,10 @@ fn explain_script<W: Write>(
     }
 }
 
-/// Explains a fault. With a schedule file: that of its line, for which its schedule is replayed. Without one: the first fault of the script, or its first build that
-/// is refused. A source, which is a file whose name ends in `.cl`, is built alone. Writes the explanation and answers true; or writes `no` where the schedule doesn't lead
-/// to the fault, `clean` where no launch has a fault and no build is refused, and `ok` where a source builds, and answers false.
+/// Explains a fault. With a schedule file: that of its line, for which its schedule is replayed. Without one: the first
+/// fault of the script, or its first build that is refused. A source, which is a file whose name ends in `.cl`, is
+/// built alone. Writes the explanation and answers true; or writes `no` where the schedule doesn't lead to the fault,
+/// `clean` where no launch has a fault and no build is refused, and `ok` where a source builds, and answers false.
 pub fn explain<W: Write>(
     alloc: Global,
     given: Given<'_>,

@@ -31,7 +31,8 @@ pub(crate) struct Touch {
     pub value: Option<u64>,
 }
 
-/// Where a named item stands behind a schedule: its place, if it hasn't ended, and the element size of its next access, if it is one.
+/// Where a named item stands behind a schedule: its place, if it hasn't ended, and the element size of its next access,
+/// if it is one.
 #[derive(Clone, Copy)]
 pub(crate) struct Standing {
     pub item: u32,
@@ -39,7 +40,8 @@ pub(crate) struct Standing {
     pub width: Option<u64>,
 }
 
-/// What a schedule came to: its events with their places, its accesses, the conflicting two of these, and where the named items stand.
+/// What a schedule came to: its events with their places, its accesses, the conflicting two of these, and where the
+/// named items stand.
 #[derive(Drop)]
 pub(crate) struct Played {
     pub marks: Vec<Mark>,
@@ -146,7 +148,8 @@ fn standing_of(
     })
 }
 
-/// Plays a schedule that leads to a fault. None where an event isn't possible. Of the accesses at most so many are told.
+/// Plays a schedule that leads to a fault. None where an event isn't possible. Of the accesses at most so many are
+/// told.
 pub(crate) fn play(
     alloc: Global,
     launch: &Launch<'_>,

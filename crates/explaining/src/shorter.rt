@@ -16,7 +16,8 @@ use device::{Buffers, Launch};
 use shortening::{Named, Shortened, shorten};
 use std::alloc::{AllocError, Global};
 
-/// A schedule that leads a launch to a fault and isn't longer than the given one, which leads there. At most 200 are replayed.
+/// A schedule that leads a launch to a fault and isn't longer than the given one, which leads there. At most 200 are
+/// replayed.
 pub(crate) fn shorter(
     alloc: Global,
     launch: &Launch<'_>,

@@ -1,5 +1,6 @@
-//! What an explanation of a fault tells, as plain data: the launch, the fault, the memory, the items with their ids and places in the source, the
-//! reason, the schedule and its steps. Texts are owned, and are UTF-8. It knows no launch that runs, and neither how an explanation is made nor how it is written.
+//! What an explanation of a fault tells, as plain data: the launch, the fault, the memory, the items with their ids and
+//! places in the source, the reason, the schedule and its steps. Texts are owned, and are UTF-8. It knows no launch
+//! that runs, and neither how an explanation is made nor how it is written.
 #![tactic(auto)]
 
 mod places;

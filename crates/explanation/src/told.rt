@@ -5,7 +5,8 @@ use crate::places::Spot;
 use crate::steps::{ScheduleFacts, Step};
 use clmodel::access::AccessKind;
 
-/// The launch of a fault: the number of its command from 0, which is its ticket, its line in the script, and what it runs over which index space.
+/// The launch of a fault: the number of its command from 0, which is its ticket, its line in the script, and what it
+/// runs over which index space.
 #[derive(Drop)]
 pub struct LaunchFacts {
     pub command: u64,
@@ -87,7 +88,8 @@ pub struct NamedItem {
     pub item: u32,
     pub ids: Ids,
     pub does: Does,
-    /// The number of its event from 1, where what it does is an event of the short schedule, and not what it would do next
+    /// The number of its event from 1, where what it does is an event of the short schedule, and not what it would do
+    /// next
     pub event: Option<usize>,
     /// Where it does this
     pub spot: Option<Spot>,

@@ -122,8 +122,8 @@ fn private_memory(
     Ok(Some(memory(alloc, kind, name, None, element)?))
 }
 
-/// The memory that a fault is about, with the byte or the element that it names, if it is about any. Its size and its parameters are for the caller to add.
-/// An error is out of memory.
+/// The memory that a fault is about, with the byte or the element that it names, if it is about any. Its size and its
+/// parameters are for the caller to add. An error is out of memory.
 pub fn memory_of(alloc: Global, fault: &Fault) -> Result<Option<Memory>, AllocError> {
     match fault {
         Fault::Conflict { location, byte, .. } | Fault::Unset { location, byte, .. } => {

@@ -1,5 +1,5 @@
-//! The ids of a work-item as an explanation tells them: what `get_global_id`, `get_local_id` and `get_group_id` give it, in each dimension of its
-//! launch. It knows a position in an index space, and no launch that runs.
+//! The ids of a work-item as an explanation tells them: what `get_global_id`, `get_local_id` and `get_group_id` give
+//! it, in each dimension of its launch. It knows a position in an index space, and no launch that runs.
 #![tactic(auto)]
 
 ghost use Rattle.std.specs.Prelude.{IfOk};

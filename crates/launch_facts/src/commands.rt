@@ -6,7 +6,8 @@ ghost use Rattle.std.specs.Prelude.{◌≤◌};
 use clmodel::text::Name;
 use host_commands::command::Command;
 
-/// The source of a kernel's program: its bytes, the line of the script in which it begins, from 1, and the names of the program and of the function.
+/// The source of a kernel's program: its bytes, the line of the script in which it begins, from 1, and the names of the
+/// program and of the function.
 #[derive(Clone, Copy)]
 pub struct ProgramSource<'a> {
     pub text: &'a [u8],
@@ -28,7 +29,8 @@ fn lines_of(command: &Command) -> usize {
     }
 }
 
-/// The line of a script in which a command stands, from 1, where so many lines stand before the first command. It takes the time of the sources before it.
+/// The line of a script in which a command stands, from 1, where so many lines stand before the first command. It takes
+/// the time of the sources before it.
 pub fn line_of(commands: &[Command], number: usize, before: usize) -> usize
     ensures { 1 ≤ result }
 {
@@ -86,8 +88,8 @@ fn program_command<'a>(
     found
 }
 
-/// The source of the program of a kernel, by the commands before a launch of it, of which each was done or not, where so many lines stand before the
-/// first one.
+/// The source of the program of a kernel, by the commands before a launch of it, of which each was done or not, where
+/// so many lines stand before the first one.
 pub fn source_of<'a>(
     commands: &'a [Command],
     done: &[bool],

@@ -1,5 +1,5 @@
-//! What the commands before a launch tell of it: the source of its program with its line in the script, and the parameters that are given a buffer.
-//! It knows commands as data, with whether each was done, and no device.
+//! What the commands before a launch tell of it: the source of its program with its line in the script, and the
+//! parameters that are given a buffer. It knows commands as data, with whether each was done, and no device.
 #![tactic(auto)]
 
 mod commands;

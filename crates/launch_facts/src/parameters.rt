@@ -43,7 +43,8 @@ fn facts_of(
     })
 }
 
-/// Whether each of so many arguments of a kernel is a buffer, by the commands that set them, of which each was done or not.
+/// Whether each of so many arguments of a kernel is a buffer, by the commands that set them, of which each was done or
+/// not.
 fn arguments_that_name(
     alloc: Global,
     commands: &[Command],
@@ -71,7 +72,8 @@ fn arguments_that_name(
     Ok(named)
 }
 
-/// The parameters of a kernel that are given a buffer, by the commands that set its arguments, of which each was done or not. An error is out of memory.
+/// The parameters of a kernel that are given a buffer, by the commands that set its arguments, of which each was done
+/// or not. An error is out of memory.
 pub fn parameters_given(
     alloc: Global,
     commands: &[Command],

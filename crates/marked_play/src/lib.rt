@@ -1,5 +1,6 @@
-//! A schedule that is played with the place of each event: the instruction at which its item stands. And the two accesses of a log that a fault
-//! tells as a conflict. It knows a launch by what `launches` says of it, and neither a tree nor a source.
+//! A schedule that is played with the place of each event: the instruction at which its item stands. And the two
+//! accesses of a log that a fault tells as a conflict. It knows a launch by what `launches` says of it, and neither a
+//! tree nor a source.
 #![tactic(auto)]
 
 mod marks;

@@ -26,7 +26,8 @@ fn item_of(event: Event, group_size: u32) -> u32 {
     }
 }
 
-/// Plays an event, where it is possible, and adds it with its place. Answers whether it is possible. An error is out of memory.
+/// Plays an event, where it is possible, and adds it with its place. Answers whether it is possible. An error is out of
+/// memory.
 fn mark_event<D: Runnable>(
     player: &mut Player<'_, D>,
     group_size: u32,
@@ -82,8 +83,8 @@ fn mark_run<D: Runnable>(
     }
 }
 
-/// Plays the events of a schedule (OpenCL 1.2, section 3.2), up to one that isn't possible, and adds each with its place. Answers whether all are. An error is
-/// out of memory.
+/// Plays the events of a schedule (OpenCL 1.2, section 3.2), up to one that isn't possible, and adds each with its
+/// place. Answers whether all are. An error is out of memory.
 pub fn mark_schedule<D: Runnable>(
     player: &mut Player<'_, D>,
     group_size: u32,

@@ -21,7 +21,8 @@ pub struct Partner {
     pub kind: AccessKind,
 }
 
-/// A conflict, as a fault tells it; whether both items are of one group, whose barriers can order them; and whether the two have to leave different bytes.
+/// A conflict, as a fault tells it; whether both items are of one group, whose barriers can order them; and whether the
+/// two have to leave different bytes.
 #[derive(Clone, Copy)]
 pub struct Told<'a> {
     pub first: Partner,
@@ -238,8 +239,8 @@ fn tested<D: Described>(
     Ok(None)
 }
 
-/// The places of two accesses of a log, the oldest first, that conflict as a fault tells, if two are found: the first of them at the first access of its partner that
-/// has one. It goes over the log twice. An error is out of memory.
+/// The places of two accesses of a log, the oldest first, that conflict as a fault tells, if two are found: the first
+/// of them at the first access of its partner that has one. It goes over the log twice. An error is out of memory.
 pub fn find_pair<D: Described>(
     alloc: Global,
     launch: &D,

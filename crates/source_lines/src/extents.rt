@@ -126,7 +126,8 @@ fn token_begin(source: &[u8], at: usize) -> usize
     at
 }
 
-/// What is known of the tokens so far: how many brackets are open, whether the last token ends an operand, and whether there is one.
+/// What is known of the tokens so far: how many brackets are open, whether the last token ends an operand, and whether
+/// there is one.
 #[derive(Clone, Copy)]
 struct Walk {
     depth: usize,
@@ -183,7 +184,8 @@ fn walked(walk: Walk, byte: u8) -> Walk {
     }
 }
 
-/// How many bytes what begins at `at` has, without blanks and comments behind it: at least the first one, if there is one. It takes the time of its text.
+/// How many bytes what begins at `at` has, without blanks and comments behind it: at least the first one, if there is
+/// one. It takes the time of its text.
 pub fn extent(source: &[u8], at: usize, form: Form) -> usize
     requires { at ≤ length source.now }
     ensures { at + result ≤ length source.now }

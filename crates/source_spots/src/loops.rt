@@ -144,7 +144,8 @@ fn function_at(functions: &[Function], at: u32) -> Option<&Function> {
     last
 }
 
-/// Adds where the loops of a function begin in whose turns this byte stands, the outermost first. It takes the time of the statements beside those round it.
+/// Adds where the loops of a function begin in whose turns this byte stands, the outermost first. It takes the time of
+/// the statements beside those round it.
 pub(crate) fn push_loops(
     functions: &[Function],
     at: u32,
