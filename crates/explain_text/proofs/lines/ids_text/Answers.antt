@@ -13,9 +13,9 @@ four a b c d = append_assoc (a ++ b) c d ∙ append_assoc a b (c ++ d) ∙ ap (�
 
 pub returns : goal.returns
 returns c =
-    let global = c.as_str.ensures.value ∙ c.in_ok-global.ensures in
-    let local = c.as_str-2.ensures.value ∙ c.in_ok-local.ensures in
-    let group = c.as_str-3.ensures.value ∙ c.in_ok-group.ensures in
+    let global = c.as_str.ensures.value ∙ c.in_ok-global.ensures ∙ ap numbers_text c.as_slice.ensures.value in
+    let local = c.as_str-2.ensures.value ∙ c.in_ok-local.ensures ∙ ap numbers_text c.as_slice-2.ensures.value in
+    let group = c.as_str-3.ensures.value ∙ c.in_ok-group.ensures ∙ ap numbers_text c.as_slice-3.ensures.value in
     let ids = c.args.ids.now in
     let first : string_bytes c.push_item.new.out ≡ codes "work-item " ++ decimal c.args.item = c.in_ok-push_item.ensures ∙ ap (λ x. x ++ (codes "work-item " ++ decimal c.args.item)) c.new-out.ensures.bytes in
     let second = c.in_ok-push_both.ensures ∙ ap (λ x. x ++ (codes ": global id " ++ c.as_str.result.now)) first ∙ ap (λ x. (codes "work-item " ++ decimal c.args.item) ++ (codes ": global id " ++ x)) global in
