@@ -6,6 +6,7 @@ mod fields;
 mod forms;
 pub mod hex;
 pub mod laws;
-mod lines;
+pub mod lines;
 pub mod replies;
 pub mod script;
+pub mod stepwise;
