@@ -82,3 +82,10 @@ Tells old new text (Ok _) =
     (new.talk ≡ old.talk ++ Told text ∷ []) × Wrote old.sink new.sink text × (new.sink.held ≡ [])
     × (new.rest ≡ old.rest) × (new.failures ≡ old.failures)
 Tells old new text (Err _) = (new.talk ≡ old.talk) × Stopped old.sink new.sink text × (new.rest ≡ old.rest) × (new.failures ≡ old.failures)
+
+-- these events were all: what was heard was taken from the rest, what was told was written, and nothing is held back that wasn't before
+pub record Said (old new : Conversation) (events : List Event) : Type 0 where
+  pub talk : new.talk ≡ old.talk ++ events
+  pub heard : Consumes old.rest new.rest (heard events)
+  pub told : Wrote old.sink new.sink (told events)
+  pub released : old.sink.held ≡ [] → new.sink.held ≡ []

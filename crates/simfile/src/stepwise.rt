@@ -4,13 +4,15 @@
 ghost use Rattle.std.specs.Prelude.{◌≡◌, ◌↔◌, IsTrue, IfOk};
 ghost use Rattle.std.specs.Option.{option_map};
 ghost use Rattle.simfile.specs.declared.lines.Version.TheVariants as version;
-ghost use Rattle.simfile.specs.Script.{head};
-ghost use Rattle.simfile.specs.Reading.{command_at, source_lines};
+ghost use Rattle.simfile.specs.Script.{head, line_feeds};
+ghost use Rattle.simfile.specs.Reading.{command_at};
+ghost use Rattle.simfile.specs.Stepwise.{source_lines, WholeRead, WholeNone, NoLine, TooFew};
 
 use crate::commands::command_of;
 use crate::fields::name_before;
 use crate::forms::line_at;
 use crate::lines::Version;
+use crate::script::line_feeds;
 use host_commands::command::Command;
 use simfile_fields::{after, number_before};
 use std::alloc::{AllocError, Global};
@@ -18,7 +20,7 @@ use std::alloc::{AllocError, Global};
 /// The most lines of a source.
 const MAX_SOURCE_LINES: u64 = 65_536;
 
-/// The line of version 2, without its line feed.
+/// The first line of a script of version 2.
 const VERSION_TWO: &[u8] = b"clsim 2\n";
 
 /// Whether a line is the first one of a script of version 2.
@@ -28,8 +30,15 @@ pub fn is_version_line(line: &[u8]) -> bool
     line == VERSION_TWO
 }
 
+/// How many lines the bytes have, counted by their line feeds.
+pub fn count_lines(bytes: &[u8]) -> usize
+    ensures { result ≡ line_feeds bytes.now }
+{
+    line_feeds(bytes)
+}
+
 /// How many source lines follow a line, where it is that of a program: 1 to 65,536.
-#[tactic(auto, unfolding(crate::specs::Reading::source_lines))]
+#[tactic(auto, unfolding(crate::specs::Stepwise::source_lines))]
 pub fn source_lines(line: &[u8]) -> Option<u64>
     ensures { result ≡ source_lines line.now }
 {
@@ -56,3 +65,12 @@ pub fn read_command(
     let command = command_of(alloc, line)?;
     Ok(Some((command, rest)))
 }
+
+/// The laws of scripts that are read line by line: of a line, with its source lines where it is that of a program, a command is read that takes
+/// all of them, or none is read whatever follows; none is read where no line ends, or where source lines are missing.
+pub fn stepwise_laws()
+    ensures whole_read { WholeRead }
+    ensures whole_none { WholeNone }
+    ensures no_line { NoLine }
+    ensures too_few { TooFew }
+{}
