@@ -31,7 +31,7 @@ use Rattle.simfile.specs.declared.lines.Version.{Version}
 use Rattle.simfile.specs.declared.lines.Version.TheVariants as version
 use Rattle.simfile.specs.Lines.{line, lines}
 use Rattle.simfile.specs.Script.{IsText, Begins, IsScript, head, line_feeds}
-use Rattle.simfile.proofs.Stepwise.{feeds_append}
+use Rattle.simfile.proofs.LineLaws.{feeds_append}
 
 -- what a talk's events are, heard and told
 

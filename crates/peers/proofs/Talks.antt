@@ -1,5 +1,5 @@
 -- How the parts of a talk come one after another.
-use Rattle.std.proofs.Common.{◌≡◌, ℕ, Option, None, Some, List, [], ◌∷◌, ◌++◌, Result, Ok, Err, refl, ap, sym, ◌∙◌, subst, append_assoc}
+use Rattle.std.proofs.Common.{◌≡◌, ℕ, Option, None, Some, List, [], ◌∷◌, ◌++◌, Result, refl, ap, sym, ◌∙◌, subst, append_assoc}
 use Rattle.std.proofs.lemmas.List.{append-nil}
 use Rattle.std.proofs.lemmas.Grind.{flat_map-append}
 use Rattle.std.specs.Io.KnownBytes.{Consumes}
@@ -7,7 +7,7 @@ use Rattle.counted_io.specs.declared.ReadFault.{ReadFault}
 use Rattle.counted_io.specs.Pieces.{joined}
 use Rattle.counted_io.specs.Sink.{Sink, Wrote}
 use Rattle.counted_io.proofs.Puts.{wrote_none, wrote_then}
-use Rattle.peers.specs.Talk.{Event, Heard, Told, heard_in, told_in, heard, told, hearing, Conversation, Hears, Tells, Said}
+use Rattle.peers.specs.Talk.{Event, Heard, Told, heard_in, told_in, heard, told, hearing, Conversation, Hears, Said}
 
 consumes_none : (a : Option (List ℕ)) → Consumes a a []
 consumes_none None = tt
@@ -58,10 +58,10 @@ said_heard {old} {new} h = record {
 }
 
 -- what telling says, where it ended well
-pub said_told : {A E : Type 0} {old new : Conversation} {text : List ℕ} {r : A} → Tells {A = A} {E = E} old new text (Ok r) → Said old new (Told text ∷ [])
-said_told {old} {new} {text} h = record {
-  talk = h.0;
-  heard = subst (λ (o : Option (List ℕ)). Consumes old.rest o []) (sym h.3) (consumes_none old.rest);
-  told = rw append-nil h.1;
-  released = λ e. h.2;
+pub said_told : {old new : Conversation} (text : List ℕ) → new.talk ≡ old.talk ++ Told text ∷ [] → Wrote old.sink new.sink text → new.sink.held ≡ [] → new.rest ≡ old.rest → Said old new (Told text ∷ [])
+said_told {old} {new} text talk wrote released rest = record {
+  talk = talk;
+  heard = subst (λ (o : Option (List ℕ)). Consumes old.rest o []) (sym rest) (consumes_none old.rest);
+  told = rw append-nil wrote;
+  released = λ e. released;
 }

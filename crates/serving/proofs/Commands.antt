@@ -23,7 +23,7 @@ use Rattle.simfile.specs.Reading.{command_at}
 use Rattle.simfile.specs.Script.{IsText, AreLines, line_feeds, head}
 use Rattle.simfile.specs.Stepwise.{source_lines, IsWhole}
 use Rattle.simfile.proofs.Grammar.{command_takes, command_again}
-use Rattle.simfile.proofs.Stepwise.{whole_read, whole_none, no_line, too_few, some_lines}
+use Rattle.simfile.proofs.LineLaws.{whole_read, whole_none, no_line, too_few, some_lines}
 
 -- the first line
 

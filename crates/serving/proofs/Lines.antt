@@ -16,7 +16,7 @@ use Rattle.peers.proofs.Talks.{said_heard}
 use Rattle.serving.specs.Faults.{hear_fault}
 use Rattle.serving.specs.Hearing.{IsHeardLine, EndsWith, HeardLine, NotHeard}
 use Rattle.simfile.specs.Script.{line_feeds}
-use Rattle.simfile.proofs.Stepwise.{feeds_append}
+use Rattle.simfile.proofs.LineLaws.{feeds_append}
 
 not_first : (x n : ℕ) (v : Bool) → (x == 10) ≡ v → (x ≡ 10 → ⊥) → n ≡ 0 → (if v then 1 + n else n) ≡ 0
 not_first x n true e other h = absurd (other (eqb-true x 10 e))

@@ -8,7 +8,7 @@ use Rattle.serving.specs.declared.server.ServeFault.{ServeFault}
 use Rattle.serving.specs.declared.server.ServeFault.TheVariants as fault
 use Rattle.serving.specs.Hearing.{HeardLine, HeardSource, HearFails, NotHeard, NotHeardSource}
 use Rattle.simfile.specs.Script.{AreLines, line_feeds}
-use Rattle.simfile.proofs.Stepwise.{feeds_append}
+use Rattle.simfile.proofs.LineLaws.{feeds_append}
 
 pub joined_more : (pieces : List (List ℕ)) (piece : List ℕ) → joined (pieces ++ piece ∷ []) ≡ joined pieces ++ piece
 joined_more [] piece = append-nil piece

@@ -1,4 +1,4 @@
-use Rattle.simfile.proofs.Stepwise.{whole_read, whole_none, no_line, too_few}
+use Rattle.simfile.proofs.LineLaws.{whole_read, whole_none, no_line, too_few}
 use Rattle.simfile.proofs.stepwise.stepwise_laws.Goals as goal
 
 pub returns : goal.returns

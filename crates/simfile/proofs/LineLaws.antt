@@ -1,5 +1,5 @@
 -- Scripts that are read line by line: where the text of a command ends.
-use Rattle.std.proofs.Common.{◌≡◌, ℕ, ◌+◌, ◌<◌, ◌≤◌, ◌==◌, ◌%◌, ◌^◌, suc, pos, negsuc, Bool, true, false, ◌&&◌, nat_lt, nat_le, IsTrue, if◌then◌else◌, List, [], ◌∷◌, ◌++◌, length, take, drop, Option, None, Some, ◌⊎◌, inl, inr, refl, ap, sym, ◌∙◌, subst, arith, codes, decimal, append_assoc}
+use Rattle.std.proofs.Common.{◌≡◌, ℕ, ℤ, ◌+◌, ◌<◌, ◌≤◌, ◌==◌, ◌%◌, ◌^◌, suc, pos, negsuc, Bool, true, false, ◌&&◌, nat_lt, nat_le, IsTrue, if◌then◌else◌, List, [], ◌∷◌, ◌++◌, length, take, drop, Option, None, Some, ◌⊎◌, inl, inr, refl, ap, sym, ◌∙◌, subst, arith, codes, decimal, append_assoc}
 use Rattle.std.proofs.lemmas.List.{append-nil}
 use Rattle.std.proofs.lemmas.Bool.{eqb-true, eqb-false}
 use Rattle.std.proofs.lemmas.Bool.Decides.{nat_tests}
@@ -18,7 +18,7 @@ use Rattle.simfile_fields.specs.Texts.{is_later, is_listed, is_list_below, list_
 use Rattle.simfile_fields.specs.Fronts.{◌>>=◌, after, before, front_length, number_at, list_below}
 use Rattle.simfile_fields.proofs.FieldLaws.{and_true, if_some, read_then, after_takes, front_passes, name_later, feed_ends, feed_ends_list, decimal_digits}
 use Rattle.replay_text.proofs.FieldLaws.{number_before, number_before_again}
-use Rattle.replay_text.proofs.ReaderSteps.{joined_onto, joined-append, Parted, begins, ◌▸◌}
+use Rattle.replay_text.proofs.ReaderSteps.{joined_onto, joined-append, Parted, begins, ◌▸◌, read_is}
 use Rattle.simfile.specs.Fields.{is_name, IsList, AreBytes, hex, is_hex_digit}
 use Rattle.simfile.specs.Script.{IsText, IsSetting, IsOffset, IsUniform, AreLines, line_feeds, space, line_feed}
 use Rattle.simfile.specs.Reading.{name_at, hex_at, source_at, program_at, command_at}
@@ -107,7 +107,7 @@ listed numbers h =
 plain_list : (numbers : List ℕ) → IsList numbers → line_feeds (list_text numbers) ≡ 0
 plain_list numbers h = no_feeds is_listed feed_ends_list (list_text numbers) (listed numbers h)
 
-plain_value : (value : _) → IsValue value → line_feeds (signed_decimal value) ≡ 0
+plain_value : (value : ℤ) → IsValue value → line_feeds (signed_decimal value) ≡ 0
 plain_value (pos n) h = plain_number n h
 plain_value (negsuc n) h = plain_number (suc n) (omega (arith, h))
 
@@ -230,15 +230,19 @@ line_takes line n one e =
     subst (λ (m : ℕ). IsProgramLine line m) p.1 (record { name = s2.0.0; named = s2.1.1; some = within.0; few = within.1; is = is })
 
 -- what is read of a program's line and what follows it
-program_reads : (v : Version) (line : List ℕ) (n : ℕ) (source : List ℕ) → (h : IsProgramLine line n) → command_at v (line ++ source) ≡ (source_at n source >>= (λ y. Some (command.Program h.name y.0, y.1)))
+program_by : (v : Version) (name : List ℕ) (n : ℕ) (source : List ℕ) → IsTrue (is_name name) → n ≤ 65536
+    → command_at v (joined_onto (program_parts name n) (10 ∷ source)) ≡ (source_at n source >>= (λ y. Some (command.Program name y.0, y.1)))
 unfolding command_at after is_later program_at
+program_by v name n source h most =
+    let small : n < 2 ^ 64 = omega (arith, most) in
+    rw (name_before_again, number_before_again) refl
+
+program_reads : (v : Version) (line : List ℕ) (n : ℕ) (source : List ℕ) → (h : IsProgramLine line n) → command_at v (line ++ source) ≡ (source_at n source >>= (λ y. Some (command.Program h.name y.0, y.1)))
 program_reads v line n source h =
-    let small : n < 2 ^ 64 = omega (arith, h.few) in
-    let named = h.named in
     let onto : line ++ source ≡ joined_onto (program_parts h.name n) (10 ∷ source) =
-        ap (λ l. l ++ source) h.is ∙ (ap (λ l. l ++ source) (sym (joined-append (program_parts h.name n) (10 ∷ [])))
-        ∙ (append_assoc (joined (program_parts h.name n)) (10 ∷ []) source ∙ joined-append (program_parts h.name n) (10 ∷ source))) in
-    rw (onto, name_before_again, number_before_again) refl
+    ap (λ l. l ++ source) h.is ∙ (ap (λ l. l ++ source) (sym (joined-append (program_parts h.name n) (10 ∷ [])))
+    ∙ (append_assoc (joined (program_parts h.name n)) (10 ∷ []) source ∙ joined-append (program_parts h.name n) (10 ∷ source))) in
+    ap (command_at v) onto ∙ program_by v h.name n source h.named h.few
 
 -- where the text of a program lies in front, its count is read of its line
 no_program : (line more text rest : List ℕ) → AreLines line 1 → source_lines line ≡ None → line ++ more ≡ text ++ rest → IsProgram text → ⊥
@@ -247,7 +251,7 @@ no_program line more text rest one none e p =
     let some : 0 < p.lines = omega (arith, p.are.count) in
     let left : line ++ more ≡ one.front ++ 10 ∷ more = ap (λ l. l ++ more) one.ends ∙ append_assoc one.front (10 ∷ []) more in
     let right : text ++ rest ≡ joined parts ++ 10 ∷ (p.source ++ rest) =
-        ap (λ l. l ++ rest) p.is ∙ (ap (λ l. l ++ rest) (sym (joined-append parts (10 ∷ p.source))) ∙ append_assoc (joined parts) (10 ∷ p.source) rest) in
+    ap (λ l. l ++ rest) p.is ∙ (ap (λ l. l ++ rest) (sym (joined-append parts (10 ∷ p.source))) ∙ append_assoc (joined parts) (10 ∷ p.source) rest) in
     let same = one_front one.front (joined parts) more (p.source ++ rest) (front_of_line one) (plain_joined parts (plain_program p.name p.lines p.named p.few)) (sym left ∙ (e ∙ right)) in
     let is : line ≡ joined_onto parts (10 ∷ []) = one.ends ∙ (ap (λ l. l ++ 10 ∷ []) same.0 ∙ joined-append parts (10 ∷ [])) in
     let read : source_lines line ≡ Some p.lines = ap source_lines is ∙ line_again p.name p.lines [] p.named some p.few in
@@ -271,8 +275,7 @@ whole_read v line source c rest h e = by_lines (source_lines line) refl h.1 wher
       ]
   by_lines (Some n) some lines =
       let p = line_takes line n h.0 some in
-      let read = program_whole v line source n p lines in
-      cc
+      read_is (λ (x : Command × List ℕ). x.1 ≡ []) (sym (program_whole v line source n p lines) ∙ e) refl
 
 pub whole_none : WholeNone
 whole_none v line source more h e = by_lines (source_lines line) refl h.1 where
@@ -285,11 +288,11 @@ whole_none v line source more h e = by_lines (source_lines line) refl h.1 where
         let split : line ++ (source ++ more) ≡ t.0 ++ x.1 = sym (append_assoc line source more) ∙ t.1 in
         elim (one_line v t.0 x.0 t.2) [
           | inl other ↦ absurd (
-            let same = same_line line (source ++ more) t.0 x.1 h.0 other split in
-            let again : command_at v (t.0 ++ source) ≡ Some (x.0, source) = command_again v t.0 x.0 source t.2 in
-            let read : command_at v (line ++ source) ≡ Some (x.0, source) = subst (λ (l : List ℕ). command_at v (l ++ source) ≡ Some (x.0, source)) (sym same.0) again in
-            cc
-          )
+              let same = same_line line (source ++ more) t.0 x.1 h.0 other split in
+              let again : command_at v (t.0 ++ source) ≡ Some (x.0, source) = command_again v t.0 x.0 source t.2 in
+              let read : command_at v (line ++ source) ≡ Some (x.0, source) = subst (λ (l : List ℕ). command_at v (l ++ source) ≡ Some (x.0, source)) (sym same.0) again in
+              cc
+              )
           | inr p ↦ absurd (no_program line (source ++ more) t.0 x.1 h.0 none split p)
         ]
   by_lines (Some n) some lines =
@@ -301,10 +304,10 @@ has_feed : (v : Version) (text : List ℕ) (c : Command) → IsText v text c →
 has_feed v text c h = elim (one_line v text c h) [
   | inl one ↦ let e : line_feeds text ≡ line_feeds one.front + 1 = ap line_feeds one.ends ∙ feeds_append one.front (10 ∷ []) in omega (arith, e)
   | inr p ↦
-    let parts = program_parts p.name p.lines in
-    let e : line_feeds text ≡ line_feeds (joined parts) + (1 + line_feeds p.source) =
-        ap line_feeds (p.is ∙ sym (joined-append parts (10 ∷ p.source))) ∙ feeds_append (joined parts) (10 ∷ p.source) in
-    omega (arith, e)
+      let parts = program_parts p.name p.lines in
+      let e : line_feeds text ≡ line_feeds (joined parts) + (1 + line_feeds p.source) =
+      ap line_feeds (p.is ∙ sym (joined-append parts (10 ∷ p.source))) ∙ feeds_append (joined parts) (10 ∷ p.source) in
+      omega (arith, e)
 ]
 
 pub no_line : NoLine
