@@ -202,8 +202,8 @@ served_all {old} {now} {new} {budget} {server} {machine} {end} h k = subst (λ (
 
 -- a failure to hear, behind what was heard so far
 fails_hearing : {old now new : Conversation} (budget : ℕ) (why : ServeFault) → now.failures ≡ old.failures → Begun old new budget → HearFails now.failures new.failures why → ServeFailed old new budget (serve_fault why)
-fails_hearing {old} {now} {new} budget serve.Hear e h k = (h, fails_then {c = new.failures} serve.Hear e k)
-fails_hearing {old} {now} {new} budget serve.OutOfMemory e h k = (h, fails_then {c = new.failures} serve.OutOfMemory e k)
+fails_hearing {old} {now} {new} budget serve.Hear e h k = (h, fails_then new.failures serve.Hear e k)
+fails_hearing {old} {now} {new} budget serve.OutOfMemory e h k = (h, fails_then new.failures serve.OutOfMemory e k)
 fails_hearing budget serve.Tell e h k = absurd k
 fails_hearing budget (serve.BadLine n) e h k = absurd k
 
@@ -218,11 +218,11 @@ not_opened {old} {new} budget why h = fails_hearing budget why refl (record {
   are = refl;
   plays = refl;
   said = said_as (ap (λ l. l ++ Heard h.bytes ∷ []) (sym (append-nil (greeting h.version)))) h.said;
-}) h.why
+}) h.fails
 
 pub no_command : {old now new : Conversation} {budget : ℕ} {server : Server} {machine : Machine} {end : RunEnd} (why : ServeFault) → Serves old now budget server machine end → NoCommand now new server why → ServeFailed old new budget (serve_fault why)
-no_command {budget = budget} serve.Hear h k = fails_hearing budget serve.Hear h.failures (begun_by k.pieces h k.said) k.why
-no_command {budget = budget} serve.OutOfMemory h k = fails_hearing budget serve.OutOfMemory h.failures (begun_by k.pieces h k.said) k.why
+no_command {budget = budget} serve.Hear h k = fails_hearing budget serve.Hear h.failures (begun_by k.pieces h k.said) k.fails
+no_command {budget = budget} serve.OutOfMemory h k = fails_hearing budget serve.OutOfMemory h.failures (begun_by k.pieces h k.said) k.fails
 no_command {server = server} (serve.BadLine n) h k = record {
   begun = begun_by k.pieces h k.said;
   bad = k.bad;
@@ -276,7 +276,7 @@ not_heard {budget = budget} {server = server} {after = after} c r why h k s t n 
       are = u.are;
       plays = u.plays;
       said = said_then u.said n.said;
-    }) n.why
+    }) n.fails
 
 -- serving and running
 

@@ -8,8 +8,8 @@ use Rattle.counted_io.specs.Pieces.{joined}
 use Rattle.counted_io.specs.Sink.{Sink, Wrote}
 use Rattle.host_commands.specs.declared.command.Command.{Command}
 use Rattle.host_commands.specs.declared.command.Reply.{Reply}
-use Rattle.peers.specs.Talk.{Event, Heard, Told, Conversation, heard, hearing, Said, Tells}
-use Rattle.peers.proofs.Talks.{said_none, said_then, said_told}
+use Rattle.peers.specs.Talk.{Event, Heard, Told, Conversation, heard, hearing, Said}
+use Rattle.peers.proofs.Talks.{said_none, said_then}
 use Rattle.serving.specs.declared.server.Server.{Server}
 use Rattle.serving.specs.declared.server.ServeFault.{ServeFault}
 use Rattle.serving.specs.declared.server.ServeFault.TheVariants as fault
@@ -56,13 +56,13 @@ opening_two {old} {mid} {new} {before} {first} {cleared} {text} {w} {whole} empt
     }
 
 pub not_opened : {old new : Conversation} (why : ServeFault) → NotHeard old new why → NotOpened old new why
-not_opened why h = record { version = version.One; bytes = h.bytes; said = h.said; why = h.why }
+not_opened why h = record { version = version.One; bytes = h.bytes; said = h.said; fails = h.fails }
 
 pub not_opened_two : {old mid new : Conversation} {before first : List ℕ} {w : Bool} (why : ServeFault) → before ≡ [] → HeardLine old mid before first w → first ≡ head version.Two → NotHeard mid new why → NotOpened old new why
 not_opened_two {old} {mid} {new} {before} {first} {w} why empty h two k =
     let line : h.line ≡ head version.Two = sym (h.added ∙ ap (λ l. l ++ h.line) empty) ∙ two in
     let greeted : Said old mid (greeting version.Two) = subst (λ (l : List ℕ). Said old mid (Heard l ∷ [])) line h.said in
-    record { version = version.Two; bytes = k.bytes; said = said_then greeted k.said; why = fails_then why h.failures k.why }
+    record { version = version.Two; bytes = k.bytes; said = said_then greeted k.said; fails = fails_then new.failures why h.failures k.fails }
 
 -- the rest of a command's text
 
@@ -81,12 +81,14 @@ no_rest old server whole is = record {
 pub open_line : (server : Server) → HasLine server → server.whole ≡ false → IsRest false server.version server.text.items []
 open_line server has e =
     let none : line_feeds server.text.items ≡ 0 = subst (λ (w : Bool). IsHeardLine w server.text.items) e has in
-    (ap (command_at server.version) (append-nil server.text.items) ∙ no_line server.version server.text.items none, record { front = []; last = server.text.items; is = refl; open = none })
+    (ap (command_at server.version) (append-nil server.text.items) ∙ no_line server.version server.text.items none, record { front = []; last = server.text.items; is = refl; unended = none })
 
 pub alone : (server : Server) → HasLine server → server.whole ≡ true → source_lines server.text.items ≡ None → IsRest true server.version server.text.items []
 alone server has e none =
     let one : AreLines server.text.items 1 = subst (λ (w : Bool). IsHeardLine w server.text.items) e has in
-    (one, subst (λ (o : Option ℕ). MatchOption o ([] ≡ []) (λ n. AreLines [] n)) (sym none) refl)
+    let nothing : List ℕ = [] in
+    let P : Option ℕ → Type 0 = λ o. MatchOption o (nothing ≡ []) (λ n. AreLines nothing n) in
+    (one, subst P (sym none) refl)
 
 pub with_source : {old new : Conversation} (server server' : Server) (n : ℕ) (whole : Bool) → HasLine server → server.whole ≡ true → source_lines server.text.items ≡ Some n → server'.version ≡ server.version → server'.lines ≡ server.lines
     → HeardSource old new n server.text.items server'.text.items whole → HeardRest old new server server' whole
@@ -101,19 +103,20 @@ with_source {old} {new} server server' n whole has e some same count h = record 
 } where
   one : AreLines server.text.items 1
   one = subst (λ (w : Bool). IsHeardLine w server.text.items) e has
+
   is : (w : Bool) (pieces : List (List ℕ)) → AreSource w n pieces → IsRest w server.version server.text.items pieces
   is true pieces k = (one, subst (λ (o : Option ℕ). MatchOption o (joined pieces ≡ []) (λ m. AreLines (joined pieces) m)) (sym some) (k.1 (some_lines server.text.items n some)))
-  is false pieces k = (too_few server.version server.text.items (joined pieces) n one some k.0, record { front = server.text.items ∷ k.1.front; last = k.1.last; is = ap (λ ps. server.text.items ∷ ps) k.1.is; open = k.1.open })
+  is false pieces k = (too_few server.version server.text.items (joined pieces) n one some k.0, record { front = server.text.items ∷ k.1.front; last = k.1.last; is = ap (λ ps. server.text.items ∷ ps) k.1.is; unended = k.1.unended })
 
 pub part_of : {old new : Conversation} {why : ServeFault} → NotHeardSource old new why → HeardPart old new why
-part_of h = record { pieces = h.pieces; said = h.said; why = h.why }
+part_of h = record { pieces = h.pieces; said = h.said; fails = h.fails }
 
 -- a failure to hear is no bad line
 pub no_command : {old new : Conversation} (server : Server) (why : ServeFault) → HeardPart old new why → NoCommand old new server why
 no_command server fault.Hear h = h
 no_command server fault.OutOfMemory h = h
-no_command server fault.Tell h = absurd h.why
-no_command server (fault.BadLine n) h = absurd h.why
+no_command server fault.Tell h = absurd h.fails
+no_command server (fault.BadLine n) h = absurd h.fails
 
 begins_none : (v : Version) (bytes : List ℕ) → command_at v bytes ≡ None → BeginsNone v bytes
 begins_none v bytes none c text rest split tells =
@@ -163,7 +166,7 @@ bad_cut {server = server} n h number = record {
 
 -- no memory was left for a command, all of whose text was heard
 pub no_memory : {old new : Conversation} {server server' : Server} → HeardRest old new server server' true → HeardPart old new fault.OutOfMemory
-no_memory h = record { pieces = h.pieces; said = h.said; why = h.failures }
+no_memory h = record { pieces = h.pieces; said = h.said; fails = h.failures }
 
 -- what was written to no bytes is all of them
 pub written_is : (failed failed' : ℕ) (old new text : List ℕ) → old ≡ [] → Wrote (record { written = Some old; held = []; failed = failed }) (record { written = Some new; held = []; failed = failed' }) text → new ≡ text

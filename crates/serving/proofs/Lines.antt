@@ -104,5 +104,5 @@ heard_some {old} {new} {before} {after} n h other b is = record {
 }
 
 pub not_heard : {old new : Conversation} {before after : List ℕ} (e : ReadFault) → Hears old new before after (Err e) → NotHeard old new (hear_fault e)
-not_heard read.Failed h = record { bytes = h.bytes; said = said_heard h; why = h.ends }
-not_heard read.OutOfMemory h = record { bytes = h.bytes; said = said_heard h; why = h.ends }
+not_heard read.Failed h = record { bytes = h.bytes; said = said_heard h; fails = h.ends }
+not_heard read.OutOfMemory h = record { bytes = h.bytes; said = said_heard h; fails = h.ends }

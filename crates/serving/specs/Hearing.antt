@@ -37,14 +37,14 @@ HearFails failures failures' (fault.BadLine n) = ⊥
 pub record NotHeard (old new : Conversation) (why : ServeFault) : Type 0 where
   pub bytes : List ℕ
   pub said : Said old new (Heard bytes ∷ [])
-  pub why : HearFails old.failures new.failures why
+  pub fails : HearFails old.failures new.failures why
 
 -- the last piece has no line feed
 pub record IsCut (pieces : List (List ℕ)) : Type 0 where
   pub front : List (List ℕ)
   pub last : List ℕ
   pub is : pieces ≡ front ++ last ∷ []
-  pub open : line_feeds last ≡ 0
+  pub unended : line_feeds last ≡ 0
 
 -- so many lines, or fewer, of which the last is cut off by the end of the input
 abbrev pub AreSource : Bool → ℕ → List (List ℕ) → Type 0
@@ -63,4 +63,4 @@ pub record HeardSource (old new : Conversation) (count : ℕ) (before after : Li
 pub record NotHeardSource (old new : Conversation) (why : ServeFault) : Type 0 where
   pub pieces : List (List ℕ)
   pub said : Said old new (hearing pieces)
-  pub why : HearFails old.failures new.failures why
+  pub fails : HearFails old.failures new.failures why

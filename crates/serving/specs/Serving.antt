@@ -40,7 +40,7 @@ pub record NotOpened (old new : Conversation) (why : ServeFault) : Type 0 where
   pub version : Version
   pub bytes : List ℕ
   pub said : Said old new (greeting version ++ Heard bytes ∷ [])
-  pub why : HearFails old.failures new.failures why
+  pub fails : HearFails old.failures new.failures why
 
 -- all of the text was heard, or the input ended before
 abbrev pub IsRest : Bool → Version → List ℕ → List (List ℕ) → Type 0
@@ -88,7 +88,7 @@ pub record HeardBad (old new : Conversation) (server : Server) (n : ℕ) : Type 
 pub record HeardPart (old new : Conversation) (why : ServeFault) : Type 0 where
   pub pieces : List (List ℕ)
   pub said : Said old new (hearing pieces)
-  pub why : HearFails old.failures new.failures why
+  pub fails : HearFails old.failures new.failures why
 
 -- why there is no command, and what was heard
 abbrev pub NoCommand : Conversation → Conversation → Server → ServeFault → Type 0
