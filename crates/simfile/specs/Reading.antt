@@ -80,14 +80,6 @@ release_at bytes = do
 unfoldable pub source_at : ℕ → List ℕ → Option (List ℕ × List ℕ)
 source_at n bytes = if nat_lt 0 n && nat_le n 65536 then lines_at n bytes else None
 
--- how many source lines follow the line of a program, 1 to 65,536
-unfoldable pub source_lines : List ℕ → Option ℕ
-source_lines line = do
-  bytes ← after (codes "program ") line
-  name ← before 32 (name_at bytes)
-  count ← before 10 (number_at name.1)
-  if nat_lt 0 count.0 && nat_le count.0 65536 then Some count.0 else None
-
 unfoldable pub program_at : List ℕ → Option (Command × List ℕ)
 program_at bytes = do
   name ← before 32 (name_at bytes)
