@@ -165,6 +165,10 @@ serves_first {old} {new} budget {server} h = record {
   first_lines version.One = refl
   first_lines version.Two = refl
 
+-- the same, on the machine of a new device
+pub serves_new : {old new : Conversation} (budget : ℕ) {server : Server} {machine : Machine} → machine ≡ opening budget → Opened old new server → Serves old new budget server machine (end_of [])
+serves_new {old} {new} budget {server} {machine} e h = subst (λ (m : Machine). Serves old new budget server m (end_of [])) (sym e) (serves_first budget h)
+
 pub serves_more : {old now mid told_at new : Conversation} {budget : ℕ} {server server' server'' last : Server} {machine after : Machine} {end : RunEnd} (c : Command) (r : Reply) → Serves old now budget server machine end → HeardCommand now mid server server' c → Step machine c r after
     → ToldReply mid told_at server' server'' r → HeardNext told_at new server'' last → Serves old new budget last after (one_end r end)
 serves_more {old} {now} {mid} {told_at} {new} {budget} {server} {server'} {server''} {last} {machine} {after} {end} c r h k s t n =
@@ -208,7 +212,7 @@ fails_hearing budget serve.Tell e h k = absurd k
 fails_hearing budget (serve.BadLine n) e h k = absurd k
 
 pub not_opened : {old new : Conversation} (budget : ℕ) (why : ServeFault) → NotOpened old new why → ServeFailed old new budget (serve_fault why)
-not_opened {old} {new} budget why h = fails_hearing budget why refl (record {
+not_opened {old} {new} budget why h = fails_hearing {old} {old} {new} budget why refl (record {
   version = h.version;
   commands = [];
   replies = [];

@@ -55,7 +55,7 @@ fn run_script<R: Files + Print + AllocGlobal + Threads + Wait + Sync>(
 const READ_AHEAD: usize = 65_536;
 
 /// Answers the commands of standard input one by one, with the replies on standard output.
-fn serve_input<R: Input + Print + AllocGlobal + Threads + Wait + Sync>(
+fn serve_input<R: io::Input + Print + AllocGlobal + Threads + Wait + Sync>(
     rt: &R,
     options: Options,
 ) -> Result<RunEnd, RunFault> {
@@ -138,7 +138,7 @@ fn end_replay(rt: &impl Eprint, outcome: Result<bool, RunFault>, script: &str, s
 }
 
 /// Does what the words of the command line ask for, and gives the status.
-fn perform<R: Files + Input + Print + Eprint + AllocGlobal + Threads + Wait + Sync>(
+fn perform<R: Files + io::Input + Print + Eprint + AllocGlobal + Threads + Wait + Sync>(
     rt: &R,
     words: &[&str],
 ) -> u8
@@ -165,7 +165,7 @@ fn perform<R: Files + Input + Print + Eprint + AllocGlobal + Threads + Wait + Sy
 }
 
 /// Does what the command line asks for, and gives the status. No memory may be left for its words.
-fn ask<R: Env + Files + Input + Print + Eprint + AllocGlobal + Threads + Wait + Sync>(
+fn ask<R: Env + Files + io::Input + Print + Eprint + AllocGlobal + Threads + Wait + Sync>(
     rt: &R,
 ) -> io::Result<u8>
     ensures { IfOk result (λ status. status ≤ 2) }
@@ -181,7 +181,7 @@ fn ask<R: Env + Files + Input + Print + Eprint + AllocGlobal + Threads + Wait + 
 
 /// Does what the command line asks for, and gives the status of the process: where anything is told on standard error, it is 2,
 /// whatever that takes.
-fn end<R: Env + Files + Input + Print + Eprint + AllocGlobal + Threads + Wait + Sync>(rt: &R) -> ExitCode
+fn end<R: Env + Files + io::Input + Print + Eprint + AllocGlobal + Threads + Wait + Sync>(rt: &R) -> ExitCode
     ensures { exit_status result ≤ 2 }
 {
     match ask(rt) {

@@ -38,7 +38,7 @@ opening_one {old} {new} {before} {text} {whole} empty h =
     }
 
 -- what ends the rest of a rest ends it
-ends_then : (a b : Option (List ℕ)) (c : Option (List ℕ)) (bytes : List ℕ) → Consumes a b bytes → IfSome b (λ _. IsAtEnd c) → IfSome a (λ _. IsAtEnd c)
+pub ends_then : (a b : Option (List ℕ)) (c : Option (List ℕ)) (bytes : List ℕ) → Consumes a b bytes → IfSome b (λ _. IsAtEnd c) → IfSome a (λ _. IsAtEnd c)
 ends_then None b c bytes h k = tt
 ends_then (Some xs) None c bytes h k = absurd h
 ends_then (Some xs) (Some ys) c bytes h k = k
@@ -163,6 +163,17 @@ bad_cut {server = server} n h number = record {
   bad = record { none = begins_none server.version (server.text.items ++ joined h.pieces) h.is.0; final = inr h.is.1 };
   number = number ∙ ap (λ k. up_to_most (k + 1)) h.lines;
 }
+
+-- the same, where whether all of it was heard is a value
+
+pub heard_command_by : {old new : Conversation} {server server' : Server} (c : Command) (rest : List ℕ) (w : Bool) → w ≡ true → HeardRest old new server server' w → command_at server'.version server'.text.items ≡ Some (c, rest) → HeardCommand old new server server' c
+heard_command_by {old} {new} {server} {server'} c rest w is h e = heard_command c rest (subst (λ (v : Bool). HeardRest old new server server' v) is h) e
+
+pub bad_whole_by : {old new : Conversation} {server server' : Server} (n : ℕ) (w : Bool) → w ≡ true → HeardRest old new server server' w → command_at server'.version server'.text.items ≡ None → n ≡ up_to_most (server'.lines + 1) → HeardBad old new server n
+bad_whole_by {old} {new} {server} {server'} n w is h e number = bad_whole n (subst (λ (v : Bool). HeardRest old new server server' v) is h) e number
+
+pub bad_cut_by : {old new : Conversation} {server server' : Server} (n : ℕ) (w : Bool) → w ≡ false → HeardRest old new server server' w → n ≡ up_to_most (server'.lines + 1) → HeardBad old new server n
+bad_cut_by {old} {new} {server} {server'} n w is h number = bad_cut n (subst (λ (v : Bool). HeardRest old new server server' v) is h) number
 
 -- no memory was left for a command, all of whose text was heard
 pub no_memory : {old new : Conversation} {server server' : Server} → HeardRest old new server server' true → HeardPart old new fault.OutOfMemory
