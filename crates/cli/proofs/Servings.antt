@@ -127,8 +127,8 @@ lines_of_turn : (first turns : List Event) (text : List ℕ) (pieces : List (Lis
 unfolding feeds
 lines_of_turn first turns text pieces told before count h k =
     let all : feeds (first ++ (turns ++ (Heard text ∷ hearing pieces ++ Told told ∷ []))) ≡ feeds (first ++ turns) + line_feeds (text ++ joined pieces) =
-        ap feeds (sym (append_assoc first turns (Heard text ∷ hearing pieces ++ Told told ∷ []))) ∙ (feeds_more (first ++ turns) (Heard text ∷ hearing pieces ++ Told told ∷ [])
-        ∙ ap (λ n. feeds (first ++ turns) + n) (ap line_feeds (ap (λ l. text ++ l) (heard-append (hearing pieces) (Told told ∷ []) ∙ (append-nil (heard (hearing pieces)) ∙ heard-hearing pieces))))) in
+    ap feeds (sym (append_assoc first turns (Heard text ∷ hearing pieces ++ Told told ∷ []))) ∙ (feeds_more (first ++ turns) (Heard text ∷ hearing pieces ++ Told told ∷ [])
+    ∙ ap (λ n. feeds (first ++ turns) + n) (ap line_feeds (ap (λ l. text ++ l) (heard-append (hearing pieces) (Told told ∷ []) ∙ (append-nil (heard (hearing pieces)) ∙ heard-hearing pieces))))) in
     ap up_to_most (k ∙ ap (λ n. n + line_feeds (text ++ joined pieces)) h) ∙ (most_most (feeds (first ++ turns)) (line_feeds (text ++ joined pieces)) ∙ ap up_to_most (sym all))
 
 turned : {old now mid new : Conversation} {budget : ℕ} {server server' server'' : Server} {machine after : Machine} {end : RunEnd} (c : Command) (r : Reply) → Serves old now budget server machine end → HeardCommand now mid server server' c → Step machine c r after → ToldReply mid new server' server'' r
@@ -293,8 +293,8 @@ pub is_ran : (old new : Conversation) (budget : ℕ) (outcome : RunEnd) → (s :
 is_ran old new budget outcome s few held =
     let events : List Event = greeting s.version ++ s.turns ++ Heard [] ∷ [] in
     let bytes : heard events ≡ head s.version ++ heard s.turns =
-        heard-append (greeting s.version ++ s.turns) (Heard [] ∷ []) ∙ (append-nil (heard (greeting s.version ++ s.turns))
-        ∙ (heard-append (greeting s.version) s.turns ∙ ap (λ l. l ++ heard s.turns) (heard_greeting s.version))) in
+    heard-append (greeting s.version ++ s.turns) (Heard [] ∷ []) ∙ (append-nil (heard (greeting s.version ++ s.turns))
+    ∙ (heard-append (greeting s.version) s.turns ∙ ap (λ l. l ++ heard s.turns) (heard_greeting s.version))) in
     record {
       bytes = heard events;
       commands = s.commands;

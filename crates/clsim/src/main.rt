@@ -181,7 +181,9 @@ fn ask<R: Env + Files + io::Input + Print + Eprint + AllocGlobal + Threads + Wai
 
 /// Does what the command line asks for, and gives the status of the process: where anything is told on standard error, it is 2,
 /// whatever that takes.
-fn end<R: Env + Files + io::Input + Print + Eprint + AllocGlobal + Threads + Wait + Sync>(rt: &R) -> ExitCode
+fn end<R: Env + Files + io::Input + Print + Eprint + AllocGlobal + Threads + Wait + Sync>(
+    rt: &R,
+) -> ExitCode
     ensures { exit_status result ≤ 2 }
 {
     match ask(rt) {

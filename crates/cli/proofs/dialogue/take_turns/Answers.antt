@@ -6,16 +6,16 @@ loop-init g c = record { line = c.requires; serves = λ start budget serves. ser
 
 pub loop-preserved : goal.loop-preserved
 loop-preserved g c =
-    let line = c.in_ok-turn.ensures.line in
+    let line = c.in_ok-next.ensures.line in
     record {
       line = rw c.in-Some.is at line;
-      serves = λ start budget serves. let next = c.in_ok-turn.ensures.turned start budget (c.loop.invariant.serves start budget serves) in rw c.in-Some.is at next;
+      serves = λ start budget serves. let next = c.in_ok-next.ensures.turned start budget (c.loop.invariant.serves start budget serves) in rw c.in-Some.is at next;
     }
 
 pub returns-in-None-clause-served : goal.returns-in-None-clause-served
-returns-in-None-clause-served g c start budget serves = let next = c.in_ok-turn.ensures.turned start budget (c.loop.invariant.serves start budget serves) in rw c.in-None.is at next
+returns-in-None-clause-served g c start budget serves = let next = c.in_ok-next.ensures.turned start budget (c.loop.invariant.serves start budget serves) in rw c.in-None.is at next
 
-pub returns-in_err-turn-clause-failed : goal.returns-in_err-turn-clause-failed
-returns-in_err-turn-clause-failed g c start budget serves =
+pub returns-in_err-next-clause-failed : goal.returns-in_err-next-clause-failed
+returns-in_err-next-clause-failed g c start budget serves =
     let p = err_from_is_err_and c.from_residual.result c.from_residual.ensures.1 in
-    rw (p.1, p.2) (c.in_err-turn.ensures.failed start budget (c.loop.invariant.serves start budget serves))
+    rw (p.1, p.2) (c.in_err-next.ensures.failed start budget (c.loop.invariant.serves start budget serves))
