@@ -26,7 +26,8 @@ static unsigned nibble(char c) { return c <= '9' ? (unsigned)(c - '0') : (unsign
 cl_int ask_read(cl_context c, unsigned buffer, size_t offset, void *to, size_t n) {
     const char *reply = session_askf(c->session, "read b%u %zu %zu\n", buffer, offset, n);
     unsigned char *bytes = to;
-    if (!reply || strncmp(reply, "data ", 5) || strlen(reply) != 5 + 2 * n) return error_of(reply) == CL_SUCCESS ? CL_OUT_OF_RESOURCES : error_of(reply);
+    if (!reply || strncmp(reply, "data ", 5) || strlen(reply) != 5 + 2 * n)
+        return error_of(reply) == CL_SUCCESS ? CL_OUT_OF_RESOURCES : error_of(reply);
     for (size_t i = 0; i < n; i++) bytes[i] = (unsigned char)(nibble(reply[5 + 2 * i]) << 4 | nibble(reply[6 + 2 * i]));
     return CL_SUCCESS;
 }
@@ -57,15 +58,21 @@ void drop_memory(cl_mem m) {
 COUNTED(cl_mem, MemObject, MEMORY, CL_INVALID_MEM_OBJECT, drop_memory)
 
 // Of the flags of each of these sets a client gives one at most.
-static bool has_two(cl_mem_flags flags, cl_mem_flags set) { flags &= set; return (flags & (flags - 1)) != 0; }
-CL_API_ENTRY cl_mem CL_API_CALL clCreateBuffer(cl_context c, cl_mem_flags flags, size_t n, void *host, cl_int *errcode) {
+static bool has_two(cl_mem_flags flags, cl_mem_flags set) {
+    flags &= set;
+    return (flags & (flags - 1)) != 0;
+}
+CL_API_ENTRY cl_mem CL_API_CALL clCreateBuffer(cl_context c, cl_mem_flags flags, size_t n, void *host,
+                                               cl_int *errcode) {
     LOCKED;
     if (!is_a(c, CONTEXT)) return fail(errcode, CL_INVALID_CONTEXT);
-    if (has_two(flags, CL_MEM_READ_WRITE | CL_MEM_READ_ONLY | CL_MEM_WRITE_ONLY) || has_two(flags, CL_MEM_HOST_NO_ACCESS | CL_MEM_HOST_READ_ONLY | CL_MEM_HOST_WRITE_ONLY)
-        || flags >> 10) return fail(errcode, CL_INVALID_VALUE);
+    if (has_two(flags, CL_MEM_READ_WRITE | CL_MEM_READ_ONLY | CL_MEM_WRITE_ONLY) ||
+        has_two(flags, CL_MEM_HOST_NO_ACCESS | CL_MEM_HOST_READ_ONLY | CL_MEM_HOST_WRITE_ONLY) || flags >> 10)
+        return fail(errcode, CL_INVALID_VALUE);
     bool wants = flags & (CL_MEM_USE_HOST_PTR | CL_MEM_COPY_HOST_PTR);
     if (wants != !!host) return fail(errcode, CL_INVALID_HOST_PTR);
-    if ((flags & CL_MEM_USE_HOST_PTR) && (flags & (CL_MEM_COPY_HOST_PTR | CL_MEM_ALLOC_HOST_PTR))) return fail(errcode, CL_INVALID_VALUE);
+    if ((flags & CL_MEM_USE_HOST_PTR) && (flags & (CL_MEM_COPY_HOST_PTR | CL_MEM_ALLOC_HOST_PTR)))
+        return fail(errcode, CL_INVALID_VALUE);
     if (!n) return fail(errcode, CL_INVALID_BUFFER_SIZE);
     if (n > MAX_BYTES) {
         refuse(c, "a buffer of %zu bytes is refused: the limit is %d", n, MAX_BYTES);
@@ -95,8 +102,11 @@ CL_API_ENTRY cl_mem CL_API_CALL clCreateBuffer(cl_context c, cl_mem_flags flags,
     done(errcode);
     return m;
 }
-CL_API_ENTRY cl_mem CL_API_CALL clCreateSubBuffer(cl_mem m, cl_mem_flags f, cl_buffer_create_type t, const void *i, cl_int *errcode) {
-    (void)f; (void)t; (void)i;
+CL_API_ENTRY cl_mem CL_API_CALL clCreateSubBuffer(cl_mem m, cl_mem_flags f, cl_buffer_create_type t, const void *i,
+                                                  cl_int *errcode) {
+    (void)f;
+    (void)t;
+    (void)i;
     LOCKED;
     if (!is_a(m, MEMORY)) return fail(errcode, CL_INVALID_MEM_OBJECT);
     refuse(m->context, "a sub-buffer is refused");
@@ -110,7 +120,11 @@ CL_API_ENTRY cl_int CL_API_CALL clGetMemObjectInfo(cl_mem m, cl_mem_info name, s
     case CL_MEM_FLAGS: GIVE(cl_mem_flags, m->flags);
     case CL_MEM_SIZE: GIVE(size_t, m->size);
     case CL_MEM_HOST_PTR: GIVE(void *, m->host);
-    case CL_MEM_MAP_COUNT: { cl_uint n = 0; for (mapping *p = m->mappings; p; p = p->next) n++; GIVE(cl_uint, n); }
+    case CL_MEM_MAP_COUNT: {
+        cl_uint n = 0;
+        for (mapping *p = m->mappings; p; p = p->next) n++;
+        GIVE(cl_uint, n);
+    }
     case CL_MEM_REFERENCE_COUNT: GIVE(cl_uint, m->references);
     case CL_MEM_CONTEXT: GIVE(cl_context, m->context);
     case CL_MEM_ASSOCIATED_MEMOBJECT: GIVE(cl_mem, NULL);
@@ -118,7 +132,8 @@ CL_API_ENTRY cl_int CL_API_CALL clGetMemObjectInfo(cl_mem m, cl_mem_info name, s
     default: return CL_INVALID_VALUE;
     }
 }
-CL_API_ENTRY cl_int CL_API_CALL clSetMemObjectDestructorCallback(cl_mem m, void (CL_CALLBACK *call)(cl_mem, void *), void *user) {
+CL_API_ENTRY cl_int CL_API_CALL clSetMemObjectDestructorCallback(cl_mem m, void(CL_CALLBACK *call)(cl_mem, void *),
+                                                                 void *user) {
     LOCKED;
     if (!is_a(m, MEMORY)) return CL_INVALID_MEM_OBJECT;
     if (!call) return CL_INVALID_VALUE;
@@ -129,8 +144,9 @@ CL_API_ENTRY cl_int CL_API_CALL clSetMemObjectDestructorCallback(cl_mem m, void 
     return CL_SUCCESS;
 }
 
-CL_API_ENTRY cl_int CL_API_CALL clEnqueueReadBuffer(cl_command_queue q, cl_mem m, cl_bool blocking, size_t offset, size_t n, void *to,
-    cl_uint wait_count, const cl_event *wait_list, cl_event *event) {
+CL_API_ENTRY cl_int CL_API_CALL clEnqueueReadBuffer(cl_command_queue q, cl_mem m, cl_bool blocking, size_t offset,
+                                                    size_t n, void *to, cl_uint wait_count, const cl_event *wait_list,
+                                                    cl_event *event) {
     BEGIN;
     (void)blocking;
     MEMBER(m);
@@ -138,48 +154,58 @@ CL_API_ENTRY cl_int CL_API_CALL clEnqueueReadBuffer(cl_command_queue q, cl_mem m
     if (m->flags & (CL_MEM_HOST_NO_ACCESS | CL_MEM_HOST_WRITE_ONLY)) return CL_INVALID_OPERATION;
     return finish(q, CL_COMMAND_READ_BUFFER, ask_read(m->context, m->number, offset, to, n), start, event);
 }
-CL_API_ENTRY cl_int CL_API_CALL clEnqueueWriteBuffer(cl_command_queue q, cl_mem m, cl_bool blocking, size_t offset, size_t n, const void *from,
-    cl_uint wait_count, const cl_event *wait_list, cl_event *event) {
+CL_API_ENTRY cl_int CL_API_CALL clEnqueueWriteBuffer(cl_command_queue q, cl_mem m, cl_bool blocking, size_t offset,
+                                                     size_t n, const void *from, cl_uint wait_count,
+                                                     const cl_event *wait_list, cl_event *event) {
     BEGIN;
     (void)blocking;
     MEMBER(m);
     if (!from || !n || is_outside(m, offset, n)) return CL_INVALID_VALUE;
     if (m->flags & (CL_MEM_HOST_NO_ACCESS | CL_MEM_HOST_READ_ONLY)) return CL_INVALID_OPERATION;
-    return finish(q, CL_COMMAND_WRITE_BUFFER, error_of(ask_write(m->context, m->number, offset, from, n)), start, event);
+    return finish(q, CL_COMMAND_WRITE_BUFFER, error_of(ask_write(m->context, m->number, offset, from, n)), start,
+                  event);
 }
-CL_API_ENTRY cl_int CL_API_CALL clEnqueueFillBuffer(cl_command_queue q, cl_mem m, const void *pattern, size_t length, size_t offset, size_t n,
-    cl_uint wait_count, const cl_event *wait_list, cl_event *event) {
+CL_API_ENTRY cl_int CL_API_CALL clEnqueueFillBuffer(cl_command_queue q, cl_mem m, const void *pattern, size_t length,
+                                                    size_t offset, size_t n, cl_uint wait_count,
+                                                    const cl_event *wait_list, cl_event *event) {
     BEGIN;
     MEMBER(m);
-    if (!pattern || !length || length > 128 || (length & (length - 1)) || offset % length || n % length || !n || is_outside(m, offset, n)) return CL_INVALID_VALUE;
+    if (!pattern || !length || length > 128 || (length & (length - 1)) || offset % length || n % length || !n ||
+        is_outside(m, offset, n))
+        return CL_INVALID_VALUE;
     char hex[2 * 128 + 1];
     for (size_t i = 0; i < length; i++) snprintf(hex + 2 * i, 3, "%02x", ((const unsigned char *)pattern)[i]);
     const char *reply = session_askf(q->context->session, "fill b%u %zu %zu %s\n", m->number, offset, n, hex);
     return finish(q, CL_COMMAND_FILL_BUFFER, error_of(reply), start, event);
 }
-CL_API_ENTRY cl_int CL_API_CALL clEnqueueCopyBuffer(cl_command_queue q, cl_mem m, cl_mem target, size_t offset, size_t to, size_t n,
-    cl_uint wait_count, const cl_event *wait_list, cl_event *event) {
+CL_API_ENTRY cl_int CL_API_CALL clEnqueueCopyBuffer(cl_command_queue q, cl_mem m, cl_mem target, size_t offset,
+                                                    size_t to, size_t n, cl_uint wait_count, const cl_event *wait_list,
+                                                    cl_event *event) {
     BEGIN;
     MEMBER(m);
     MEMBER(target);
     if (!n || is_outside(m, offset, n) || is_outside(target, to, n)) return CL_INVALID_VALUE;
-    const char *reply = session_askf(q->context->session, "copy b%u %zu b%u %zu %zu\n", m->number, offset, target->number, to, n);
+    const char *reply =
+        session_askf(q->context->session, "copy b%u %zu b%u %zu %zu\n", m->number, offset, target->number, to, n);
     return finish(q, CL_COMMAND_COPY_BUFFER, error_of(reply), start, event);
 }
 
 // Rectangles go row by row.
 
-static size_t at_of(const size_t *origin, size_t row, size_t slice) { return origin[2] * slice + origin[1] * row + origin[0]; }
+static size_t at_of(const size_t *origin, size_t row, size_t slice) {
+    return origin[2] * slice + origin[1] * row + origin[0];
+}
 // Reads into `to`, writes `from`, or copies into the buffer `target`. What is outside is found before anything is done.
-static cl_int rect(cl_mem m, cl_mem target, const size_t *o, const size_t *p, const size_t *r, size_t row, size_t slice, size_t row2, size_t slice2, char *to,
-    const char *from) {
+static cl_int rect(cl_mem m, cl_mem target, const size_t *o, const size_t *p, const size_t *r, size_t row, size_t slice,
+                   size_t row2, size_t slice2, char *to, const char *from) {
     if (!o || !p || !r || !r[0] || !r[1] || !r[2]) return CL_INVALID_VALUE;
     if (!row) row = r[0];
     if (!slice) slice = r[1] * row;
     if (!row2) row2 = r[0];
     if (!slice2) slice2 = r[1] * row2;
     if (row < r[0] || row2 < r[0] || slice < r[1] * row || slice2 < r[1] * row2) return CL_INVALID_VALUE;
-    size_t last = at_of(o, row, slice) + (r[2] - 1) * slice + (r[1] - 1) * row, last2 = at_of(p, row2, slice2) + (r[2] - 1) * slice2 + (r[1] - 1) * row2;
+    size_t last = at_of(o, row, slice) + (r[2] - 1) * slice + (r[1] - 1) * row,
+           last2 = at_of(p, row2, slice2) + (r[2] - 1) * slice2 + (r[1] - 1) * row2;
     if (is_outside(m, last, r[0]) || (target && is_outside(target, last2, r[0]))) return CL_INVALID_VALUE;
     for (size_t z = 0; z < r[2]; z++)
         for (size_t y = 0; y < r[1]; y++) {
@@ -187,36 +213,49 @@ static cl_int rect(cl_mem m, cl_mem target, const size_t *o, const size_t *p, co
             cl_int fault;
             if (to) fault = ask_read(m->context, m->number, a, to + b, r[0]);
             else if (from) fault = error_of(ask_write(m->context, m->number, a, from + b, r[0]));
-            else fault = error_of(session_askf(m->context->session, "copy b%u %zu b%u %zu %zu\n", m->number, a, target->number, b, r[0]));
+            else
+                fault = error_of(session_askf(m->context->session, "copy b%u %zu b%u %zu %zu\n", m->number, a,
+                                              target->number, b, r[0]));
             if (fault) return fault;
         }
     return CL_SUCCESS;
 }
-CL_API_ENTRY cl_int CL_API_CALL clEnqueueReadBufferRect(cl_command_queue q, cl_mem m, cl_bool blocking, const size_t *o, const size_t *h, const size_t *r, size_t row, size_t slice,
-    size_t hrow, size_t hslice, void *to, cl_uint wait_count, const cl_event *wait_list, cl_event *event) {
+CL_API_ENTRY cl_int CL_API_CALL clEnqueueReadBufferRect(cl_command_queue q, cl_mem m, cl_bool blocking, const size_t *o,
+                                                        const size_t *h, const size_t *r, size_t row, size_t slice,
+                                                        size_t hrow, size_t hslice, void *to, cl_uint wait_count,
+                                                        const cl_event *wait_list, cl_event *event) {
     BEGIN;
     (void)blocking;
     MEMBER(m);
-    return finish(q, CL_COMMAND_READ_BUFFER_RECT, to ? rect(m, NULL, o, h, r, row, slice, hrow, hslice, to, NULL) : CL_INVALID_VALUE, start, event);
+    return finish(q, CL_COMMAND_READ_BUFFER_RECT,
+                  to ? rect(m, NULL, o, h, r, row, slice, hrow, hslice, to, NULL) : CL_INVALID_VALUE, start, event);
 }
-CL_API_ENTRY cl_int CL_API_CALL clEnqueueWriteBufferRect(cl_command_queue q, cl_mem m, cl_bool blocking, const size_t *o, const size_t *h, const size_t *r, size_t row, size_t slice,
-    size_t hrow, size_t hslice, const void *from, cl_uint wait_count, const cl_event *wait_list, cl_event *event) {
+CL_API_ENTRY cl_int CL_API_CALL clEnqueueWriteBufferRect(cl_command_queue q, cl_mem m, cl_bool blocking,
+                                                         const size_t *o, const size_t *h, const size_t *r, size_t row,
+                                                         size_t slice, size_t hrow, size_t hslice, const void *from,
+                                                         cl_uint wait_count, const cl_event *wait_list,
+                                                         cl_event *event) {
     BEGIN;
     (void)blocking;
     MEMBER(m);
-    return finish(q, CL_COMMAND_WRITE_BUFFER_RECT, from ? rect(m, NULL, o, h, r, row, slice, hrow, hslice, NULL, from) : CL_INVALID_VALUE, start, event);
+    return finish(q, CL_COMMAND_WRITE_BUFFER_RECT,
+                  from ? rect(m, NULL, o, h, r, row, slice, hrow, hslice, NULL, from) : CL_INVALID_VALUE, start, event);
 }
-CL_API_ENTRY cl_int CL_API_CALL clEnqueueCopyBufferRect(cl_command_queue q, cl_mem m, cl_mem target, const size_t *o, const size_t *p, const size_t *r, size_t row, size_t slice,
-    size_t row2, size_t slice2, cl_uint wait_count, const cl_event *wait_list, cl_event *event) {
+CL_API_ENTRY cl_int CL_API_CALL clEnqueueCopyBufferRect(cl_command_queue q, cl_mem m, cl_mem target, const size_t *o,
+                                                        const size_t *p, const size_t *r, size_t row, size_t slice,
+                                                        size_t row2, size_t slice2, cl_uint wait_count,
+                                                        const cl_event *wait_list, cl_event *event) {
     BEGIN;
     MEMBER(m);
     MEMBER(target);
-    return finish(q, CL_COMMAND_COPY_BUFFER_RECT, rect(m, target, o, p, r, row, slice, row2, slice2, NULL, NULL), start, event);
+    return finish(q, CL_COMMAND_COPY_BUFFER_RECT, rect(m, target, o, p, r, row, slice, row2, slice2, NULL, NULL), start,
+                  event);
 }
 
 // A mapped region is a copy: it is filled at the mapping, and written back where it was mapped for writing.
-CL_API_ENTRY void *CL_API_CALL clEnqueueMapBuffer(cl_command_queue q, cl_mem m, cl_bool blocking, cl_map_flags flags, size_t offset, size_t n,
-    cl_uint wait_count, const cl_event *wait_list, cl_event *event, cl_int *errcode) {
+CL_API_ENTRY void *CL_API_CALL clEnqueueMapBuffer(cl_command_queue q, cl_mem m, cl_bool blocking, cl_map_flags flags,
+                                                  size_t offset, size_t n, cl_uint wait_count,
+                                                  const cl_event *wait_list, cl_event *event, cl_int *errcode) {
     LOCKED;
     cl_ulong start = now();
     (void)blocking;
@@ -228,16 +267,24 @@ CL_API_ENTRY void *CL_API_CALL clEnqueueMapBuffer(cl_command_queue q, cl_mem m, 
     if (!n || is_outside(m, offset, n)) return fail(errcode, CL_INVALID_VALUE);
     mapping *map = calloc(1, sizeof *map);
     void *at = m->host ? (char *)m->host + offset : aligned_alloc(128, (n + 127) / 128 * 128);
-    if (!map || !at) { free(map); return fail(errcode, CL_MAP_FAILURE); }
+    if (!map || !at) {
+        free(map);
+        return fail(errcode, CL_MAP_FAILURE);
+    }
     if (!(flags & CL_MAP_WRITE_INVALIDATE_REGION)) fault = ask_read(m->context, m->number, offset, at, n);
-    if (fault) { free(map); if (!m->host) free(at); return fail(errcode, fault); }
+    if (fault) {
+        free(map);
+        if (!m->host) free(at);
+        return fail(errcode, fault);
+    }
     *map = (mapping){m->mappings, at, offset, n, flags};
     m->mappings = map;
     fault = finish(q, CL_COMMAND_MAP_BUFFER, CL_SUCCESS, start, event);
     if (errcode) *errcode = fault;
     return at;
 }
-CL_API_ENTRY cl_int CL_API_CALL clEnqueueUnmapMemObject(cl_command_queue q, cl_mem m, void *at, cl_uint wait_count, const cl_event *wait_list, cl_event *event) {
+CL_API_ENTRY cl_int CL_API_CALL clEnqueueUnmapMemObject(cl_command_queue q, cl_mem m, void *at, cl_uint wait_count,
+                                                        const cl_event *wait_list, cl_event *event) {
     BEGIN;
     MEMBER(m);
     mapping **link = &m->mappings;
@@ -245,28 +292,38 @@ CL_API_ENTRY cl_int CL_API_CALL clEnqueueUnmapMemObject(cl_command_queue q, cl_m
     if (!*link) return CL_INVALID_VALUE;
     mapping *map = *link;
     cl_int fault = CL_SUCCESS;
-    if (map->flags & (CL_MAP_WRITE | CL_MAP_WRITE_INVALIDATE_REGION)) fault = error_of(ask_write(m->context, m->number, map->offset, at, map->size));
+    if (map->flags & (CL_MAP_WRITE | CL_MAP_WRITE_INVALIDATE_REGION))
+        fault = error_of(ask_write(m->context, m->number, map->offset, at, map->size));
     *link = map->next;
     if (!m->host) free(at);
     free(map);
     return finish(q, CL_COMMAND_UNMAP_MEM_OBJECT, fault, start, event);
 }
-CL_API_ENTRY cl_int CL_API_CALL clEnqueueMigrateMemObjects(cl_command_queue q, cl_uint n, const cl_mem *list, cl_mem_migration_flags flags,
-    cl_uint wait_count, const cl_event *wait_list, cl_event *event) {
+CL_API_ENTRY cl_int CL_API_CALL clEnqueueMigrateMemObjects(cl_command_queue q, cl_uint n, const cl_mem *list,
+                                                           cl_mem_migration_flags flags, cl_uint wait_count,
+                                                           const cl_event *wait_list, cl_event *event) {
     BEGIN;
     (void)flags;
     if (!n || !list) return CL_INVALID_VALUE;
     for (cl_uint i = 0; i < n; i++) MEMBER(list[i]);
     return finish(q, CL_COMMAND_MIGRATE_MEM_OBJECTS, CL_SUCCESS, start, event);
 }
-CL_API_ENTRY cl_int CL_API_CALL clEnqueueMarkerWithWaitList(cl_command_queue q, cl_uint wait_count, const cl_event *wait_list, cl_event *event) {
+CL_API_ENTRY cl_int CL_API_CALL clEnqueueMarkerWithWaitList(cl_command_queue q, cl_uint wait_count,
+                                                            const cl_event *wait_list, cl_event *event) {
     BEGIN;
     return finish(q, CL_COMMAND_MARKER, CL_SUCCESS, start, event);
 }
-CL_API_ENTRY cl_int CL_API_CALL clEnqueueBarrierWithWaitList(cl_command_queue q, cl_uint wait_count, const cl_event *wait_list, cl_event *event) {
+CL_API_ENTRY cl_int CL_API_CALL clEnqueueBarrierWithWaitList(cl_command_queue q, cl_uint wait_count,
+                                                             const cl_event *wait_list, cl_event *event) {
     BEGIN;
     return finish(q, CL_COMMAND_BARRIER, CL_SUCCESS, start, event);
 }
-CL_API_ENTRY cl_int CL_API_CALL clEnqueueMarker(cl_command_queue q, cl_event *event) { return event ? clEnqueueMarkerWithWaitList(q, 0, NULL, event) : CL_INVALID_VALUE; }
-CL_API_ENTRY cl_int CL_API_CALL clEnqueueBarrier(cl_command_queue q) { return clEnqueueBarrierWithWaitList(q, 0, NULL, NULL); }
-CL_API_ENTRY cl_int CL_API_CALL clEnqueueWaitForEvents(cl_command_queue q, cl_uint n, const cl_event *list) { return n && list ? clEnqueueBarrierWithWaitList(q, n, list, NULL) : CL_INVALID_VALUE; }
+CL_API_ENTRY cl_int CL_API_CALL clEnqueueMarker(cl_command_queue q, cl_event *event) {
+    return event ? clEnqueueMarkerWithWaitList(q, 0, NULL, event) : CL_INVALID_VALUE;
+}
+CL_API_ENTRY cl_int CL_API_CALL clEnqueueBarrier(cl_command_queue q) {
+    return clEnqueueBarrierWithWaitList(q, 0, NULL, NULL);
+}
+CL_API_ENTRY cl_int CL_API_CALL clEnqueueWaitForEvents(cl_command_queue q, cl_uint n, const cl_event *list) {
+    return n && list ? clEnqueueBarrierWithWaitList(q, n, list, NULL) : CL_INVALID_VALUE;
+}

@@ -17,17 +17,20 @@ void drop_context(cl_context c) {
     free(c->properties);
     free_object(c);
 }
-CL_API_ENTRY cl_context CL_API_CALL clCreateContext(const cl_context_properties *properties, cl_uint n, const cl_device_id *devices,
-    void (CL_CALLBACK *notify)(const char *, const void *, size_t, void *), void *user, cl_int *errcode) {
+CL_API_ENTRY cl_context CL_API_CALL
+clCreateContext(const cl_context_properties *properties, cl_uint n, const cl_device_id *devices,
+                void(CL_CALLBACK *notify)(const char *, const void *, size_t, void *), void *user, cl_int *errcode) {
     LOCKED;
     size_t count = 0;
     if (properties) {
         for (; properties[count]; count += 2)
-            if (properties[count] == CL_CONTEXT_PLATFORM && (cl_platform_id)properties[count + 1] != &the_platform) return fail(errcode, CL_INVALID_PLATFORM);
+            if (properties[count] == CL_CONTEXT_PLATFORM && (cl_platform_id)properties[count + 1] != &the_platform)
+                return fail(errcode, CL_INVALID_PLATFORM);
         count++;
     }
     if (!devices || !n || (!notify && user)) return fail(errcode, CL_INVALID_VALUE);
-    for (cl_uint i = 0; i < n; i++) if (devices[i] != &the_device) return fail(errcode, CL_INVALID_DEVICE);
+    for (cl_uint i = 0; i < n; i++)
+        if (devices[i] != &the_device) return fail(errcode, CL_INVALID_DEVICE);
     check_settings();
     cl_context c = make_object(sizeof *c, CONTEXT);
     if (!c) return fail(errcode, CL_OUT_OF_HOST_MEMORY);
@@ -45,15 +48,17 @@ CL_API_ENTRY cl_context CL_API_CALL clCreateContext(const cl_context_properties 
     done(errcode);
     return c;
 }
-CL_API_ENTRY cl_context CL_API_CALL clCreateContextFromType(const cl_context_properties *properties, cl_device_type type,
-    void (CL_CALLBACK *notify)(const char *, const void *, size_t, void *), void *user, cl_int *errcode) {
+CL_API_ENTRY cl_context CL_API_CALL clCreateContextFromType(
+    const cl_context_properties *properties, cl_device_type type,
+    void(CL_CALLBACK *notify)(const char *, const void *, size_t, void *), void *user, cl_int *errcode) {
     cl_device_id d;
     cl_int fault = clGetDeviceIDs(NULL, type, 1, &d, NULL);
     return fault ? fail(errcode, fault) : clCreateContext(properties, 1, &d, notify, user, errcode);
 }
 COUNTED(cl_context, Context, CONTEXT, CL_INVALID_CONTEXT, drop_context)
 
-CL_API_ENTRY cl_int CL_API_CALL clGetContextInfo(cl_context c, cl_context_info name, size_t room, void *to, size_t *size) {
+CL_API_ENTRY cl_int CL_API_CALL clGetContextInfo(cl_context c, cl_context_info name, size_t room, void *to,
+                                                 size_t *size) {
     LOCKED;
     if (!is_a(c, CONTEXT)) return CL_INVALID_CONTEXT;
     switch (name) {
@@ -75,13 +80,18 @@ void drop_queue(cl_command_queue q) {
 }
 COUNTED(cl_command_queue, CommandQueue, QUEUE, CL_INVALID_COMMAND_QUEUE, drop_queue)
 
-CL_API_ENTRY cl_command_queue CL_API_CALL clCreateCommandQueue(cl_context c, cl_device_id d, cl_command_queue_properties properties, cl_int *errcode) {
+CL_API_ENTRY cl_command_queue CL_API_CALL clCreateCommandQueue(cl_context c, cl_device_id d,
+                                                               cl_command_queue_properties properties,
+                                                               cl_int *errcode) {
     LOCKED;
     if (!is_a(c, CONTEXT)) return fail(errcode, CL_INVALID_CONTEXT);
     if (d != &the_device) return fail(errcode, CL_INVALID_DEVICE);
-    if (properties & ~(cl_command_queue_properties)(CL_QUEUE_OUT_OF_ORDER_EXEC_MODE_ENABLE | CL_QUEUE_PROFILING_ENABLE)) return fail(errcode, CL_INVALID_VALUE);
+    if (properties & ~(cl_command_queue_properties)(CL_QUEUE_OUT_OF_ORDER_EXEC_MODE_ENABLE | CL_QUEUE_PROFILING_ENABLE))
+        return fail(errcode, CL_INVALID_VALUE);
     if ((properties & CL_QUEUE_OUT_OF_ORDER_EXEC_MODE_ENABLE) && !setting("CLSIM_OUT_OF_ORDER")) {
-        refuse(c, "an out-of-order queue is refused; with CLSIM_OUT_OF_ORDER=1 its commands are done in the order of the calls");
+        refuse(
+            c,
+            "an out-of-order queue is refused; with CLSIM_OUT_OF_ORDER=1 its commands are done in the order of the calls");
         return fail(errcode, CL_INVALID_QUEUE_PROPERTIES);
     }
     cl_command_queue q = make_object(sizeof *q, QUEUE);
@@ -92,14 +102,17 @@ CL_API_ENTRY cl_command_queue CL_API_CALL clCreateCommandQueue(cl_context c, cl_
     done(errcode);
     return q;
 }
-CL_API_ENTRY cl_int CL_API_CALL clSetCommandQueueProperty(cl_command_queue q, cl_command_queue_properties p, cl_bool on, cl_command_queue_properties *old) {
-    (void)p; (void)on;
+CL_API_ENTRY cl_int CL_API_CALL clSetCommandQueueProperty(cl_command_queue q, cl_command_queue_properties p, cl_bool on,
+                                                          cl_command_queue_properties *old) {
+    (void)p;
+    (void)on;
     LOCKED;
     if (!is_a(q, QUEUE)) return CL_INVALID_COMMAND_QUEUE;
     if (old) *old = q->properties;
     return CL_INVALID_OPERATION;
 }
-CL_API_ENTRY cl_int CL_API_CALL clGetCommandQueueInfo(cl_command_queue q, cl_command_queue_info name, size_t room, void *to, size_t *size) {
+CL_API_ENTRY cl_int CL_API_CALL clGetCommandQueueInfo(cl_command_queue q, cl_command_queue_info name, size_t room,
+                                                      void *to, size_t *size) {
     LOCKED;
     if (!is_a(q, QUEUE)) return CL_INVALID_COMMAND_QUEUE;
     switch (name) {
@@ -111,8 +124,14 @@ CL_API_ENTRY cl_int CL_API_CALL clGetCommandQueueInfo(cl_command_queue q, cl_com
     }
 }
 // Every command is done when its call returns.
-CL_API_ENTRY cl_int CL_API_CALL clFlush(cl_command_queue q) { LOCKED; return is_a(q, QUEUE) ? CL_SUCCESS : CL_INVALID_COMMAND_QUEUE; }
-CL_API_ENTRY cl_int CL_API_CALL clFinish(cl_command_queue q) { LOCKED; return is_a(q, QUEUE) ? CL_SUCCESS : CL_INVALID_COMMAND_QUEUE; }
+CL_API_ENTRY cl_int CL_API_CALL clFlush(cl_command_queue q) {
+    LOCKED;
+    return is_a(q, QUEUE) ? CL_SUCCESS : CL_INVALID_COMMAND_QUEUE;
+}
+CL_API_ENTRY cl_int CL_API_CALL clFinish(cl_command_queue q) {
+    LOCKED;
+    return is_a(q, QUEUE) ? CL_SUCCESS : CL_INVALID_COMMAND_QUEUE;
+}
 
 // ---- events ----
 
@@ -160,13 +179,15 @@ cl_int waits(cl_context c, cl_uint n, const cl_event *list) {
     return CL_SUCCESS;
 }
 cl_int finish(cl_command_queue q, cl_command_type type, cl_int status, cl_ulong start, cl_event *event) {
-    if (event && !(*event = new_event(q->context, q, type, status ? status : CL_COMPLETE, start))) return CL_OUT_OF_HOST_MEMORY;
+    if (event && !(*event = new_event(q->context, q, type, status ? status : CL_COMPLETE, start)))
+        return CL_OUT_OF_HOST_MEMORY;
     return status;
 }
 CL_API_ENTRY cl_int CL_API_CALL clWaitForEvents(cl_uint n, const cl_event *list) {
     LOCKED;
     if (!n || !list) return CL_INVALID_VALUE;
-    for (cl_uint i = 0; i < n; i++) if (!is_a(list[i], EVENT)) return CL_INVALID_EVENT;
+    for (cl_uint i = 0; i < n; i++)
+        if (!is_a(list[i], EVENT)) return CL_INVALID_EVENT;
     for (cl_uint i = 0; i < n; i++) {
         while (list[i]->status > CL_COMPLETE) { // a user event that another thread sets
             unlock();
@@ -190,18 +211,22 @@ CL_API_ENTRY cl_int CL_API_CALL clGetEventInfo(cl_event e, cl_event_info name, s
     default: return CL_INVALID_VALUE;
     }
 }
-CL_API_ENTRY cl_int CL_API_CALL clGetEventProfilingInfo(cl_event e, cl_profiling_info name, size_t room, void *to, size_t *size) {
+CL_API_ENTRY cl_int CL_API_CALL clGetEventProfilingInfo(cl_event e, cl_profiling_info name, size_t room, void *to,
+                                                        size_t *size) {
     LOCKED;
     if (!is_a(e, EVENT)) return CL_INVALID_EVENT;
     if (!e->queue || !(e->queue->properties & CL_QUEUE_PROFILING_ENABLE)) return CL_PROFILING_INFO_NOT_AVAILABLE;
     switch (name) {
-    case CL_PROFILING_COMMAND_QUEUED: case CL_PROFILING_COMMAND_SUBMIT: case CL_PROFILING_COMMAND_START: GIVE(cl_ulong, e->start);
+    case CL_PROFILING_COMMAND_QUEUED:
+    case CL_PROFILING_COMMAND_SUBMIT:
+    case CL_PROFILING_COMMAND_START: GIVE(cl_ulong, e->start);
     case CL_PROFILING_COMMAND_END: GIVE(cl_ulong, e->end);
     default: return CL_INVALID_VALUE;
     }
 }
 // Callbacks are called without the lock: at once where the event is done, else when the user event is set.
-CL_API_ENTRY cl_int CL_API_CALL clSetEventCallback(cl_event e, cl_int when, void (CL_CALLBACK *call)(cl_event, cl_int, void *), void *user) {
+CL_API_ENTRY cl_int CL_API_CALL clSetEventCallback(cl_event e, cl_int when,
+                                                   void(CL_CALLBACK *call)(cl_event, cl_int, void *), void *user) {
     cl_int status;
     {
         LOCKED;

@@ -28,8 +28,10 @@ void check_settings(void) {
     checked = true;
     if (then && strcmp(then, "error") && strcmp(then, "go") && strcmp(then, "exit") && strcmp(then, "abort"))
         tell("CLSIM_ON_FAULT is error, go, exit or abort, and not %s", then);
-    if (setting("CLSIM_STATUS") && status_setting(-1) < 0) tell("CLSIM_STATUS is a number from 0 to 255, and not %s", setting("CLSIM_STATUS"));
-    if (setting("CLSIM_LOCAL") && number_setting("CLSIM_LOCAL", 1, MAX_GROUP, 0) == 0) tell("CLSIM_LOCAL is a number from 1 to 256, and not %s", setting("CLSIM_LOCAL"));
+    if (setting("CLSIM_STATUS") && status_setting(-1) < 0)
+        tell("CLSIM_STATUS is a number from 0 to 255, and not %s", setting("CLSIM_STATUS"));
+    if (setting("CLSIM_LOCAL") && number_setting("CLSIM_LOCAL", 1, MAX_GROUP, 0) == 0)
+        tell("CLSIM_LOCAL is a number from 1 to 256, and not %s", setting("CLSIM_LOCAL"));
 }
 
 // With CLSIM_STATUS=N the process ends with status N where a launch faulted, whatever it answers itself.
@@ -76,14 +78,16 @@ static void tell_item(unsigned long item, const launch_sizes *s) {
 
 // ---- memory ----
 
-static void tell_element(unsigned number, const char *what, const char *name, size_t bytes, size_t width, const char *rest) {
+static void tell_element(unsigned number, const char *what, const char *name, size_t bytes, size_t width,
+                         const char *rest) {
     const char *b = strstr(rest, " byte ");
     if (!b || (strstr(rest, " schedule ") && b > strstr(rest, " schedule "))) {
         tell("  buffer b%u has %zu bytes and is %s %s, %zu elements", number, bytes, what, name, bytes / width);
         return;
     }
     unsigned long byte = strtoul(b + 6, NULL, 10);
-    tell("  buffer b%u has %zu bytes and is %s %s: %s[%lu]%s", number, bytes, what, name, name, byte / width, byte % width ? ", not its first byte" : "");
+    tell("  buffer b%u has %zu bytes and is %s %s: %s[%lu]%s", number, bytes, what, name, name, byte / width,
+         byte % width ? ", not its first byte" : "");
 }
 
 // The arguments, or the table, that a buffer of the reply is.
@@ -101,7 +105,9 @@ static void tell_buffer(cl_kernel k, const char *reply) {
     }
     for (unsigned i = 0; i < form->table_count; i++) {
         unsigned t = form->tables[i];
-        if (k->program->tables[t] == number) tell_element(number, "the table", k->program->form.tables[t].name, k->program->form.tables[t].size, k->program->form.tables[t].width, at);
+        if (k->program->tables[t] == number)
+            tell_element(number, "the table", k->program->form.tables[t].name, k->program->form.tables[t].size,
+                         k->program->form.tables[t].width, at);
     }
 }
 
@@ -111,18 +117,22 @@ static void tell_local(cl_kernel k, const char *reply) {
     char name[128], place[256];
     size_t at = 0;
     const char *local = strstr(reply, " local "), *schedule = strstr(reply, " schedule ");
-    if (!local || (schedule && local > schedule) || sscanf(local, " local %lu %127s byte %lu", &group, name, &byte) != 3) return;
+    if (!local || (schedule && local > schedule) ||
+        sscanf(local, " local %lu %127s byte %lu", &group, name, &byte) != 3)
+        return;
     for (unsigned i = 0; i < k->form->local_count; i++) {
         const symbol *y = k->form->locals[i];
         if (strcmp(y->written, name)) continue;
         uint64_t element = byte / size_of(y->type.base), part = 1;
         for (unsigned d = 1; d < y->type.dimensions; d++) part *= y->type.lengths[d];
         for (unsigned d = 0; !y->is_scalar && d < (y->type.dimensions ? y->type.dimensions : 1); d++) {
-            if (at < sizeof place) at += (size_t)snprintf(place + at, sizeof place - at, "[%llu]", (unsigned long long)(element / part));
+            if (at < sizeof place)
+                at += (size_t)snprintf(place + at, sizeof place - at, "[%llu]", (unsigned long long)(element / part));
             element %= part;
             if (d + 1 < y->type.dimensions) part /= y->type.lengths[d + 1];
         }
-        tell("  %s of group %lu: %s%s%s", y->name, group, y->name, at ? place : "", byte % size_of(y->type.base) ? ", not its first byte" : "");
+        tell("  %s of group %lu: %s%s%s", y->name, group, y->name, at ? place : "",
+             byte % size_of(y->type.base) ? ", not its first byte" : "");
     }
 }
 
@@ -176,12 +186,14 @@ static bool add_script(text *t, cl_kernel k, const launch_sizes *s) {
         if (m && first && !add_buffer(t, k->context, m->number, m->size)) return false;
     }
     for (unsigned i = 0; i < form->table_count; i++)
-        if (!add_buffer(t, k->context, k->program->tables[form->tables[i]], source->tables[form->tables[i]].size)) return false;
+        if (!add_buffer(t, k->context, k->program->tables[form->tables[i]], source->tables[form->tables[i]].size))
+            return false;
     addf(t, "program p%u %u\n", k->program->number, source->lines);
     add_bytes(t, source->text, source->length);
     addf(t, "kernel k%u p%u %s\n", k->number, k->program->number, form->name);
     for (unsigned i = 0; i < form->count; i++) add(t, k->arguments[i].command);
-    for (unsigned i = 0; i < form->table_count; i++) addf(t, "arg k%u %u buffer b%u\n", k->number, form->count + i, k->program->tables[form->tables[i]]);
+    for (unsigned i = 0; i < form->table_count; i++)
+        addf(t, "arg k%u %u buffer b%u\n", k->number, form->count + i, k->program->tables[form->tables[i]]);
     addf(t, "launch k%u", k->number);
     add_sizes(t, s);
     return true;
@@ -194,7 +206,8 @@ static bool number_behind(const char *json, const char *key, const char *end, un
     return true;
 }
 
-// Tells the spots of an explanation, each `"spot":{"offset":N,..,"calls":[{"offset":N,..},..]` behind its item's number and what it does.
+// Tells the spots of an explanation, each `"spot":{"offset":N,..,"calls":[{"offset":N,..},..]` behind its item's number
+// and what it does.
 static void tell_spots(cl_kernel k, const char *json) {
     const prepared *source = &k->program->form;
     const char *items = strstr(json, "\"items\":["), *end = items ? strstr(items, "\"schedule\":") : NULL;
@@ -202,7 +215,8 @@ static void tell_spots(cl_kernel k, const char *json) {
     if (!end) end = items + strlen(items);
     for (const char *at = strstr(items, "\"item\":"); at && at < end; at = strstr(at + 1, "\"item\":")) {
         unsigned long item = strtoul(at + 7, NULL, 10), offset;
-        const char *next = strstr(at + 1, "\"item\":"), *spot = strstr(at, "\"spot\":{"), *does = strstr(at, "\"does\":\"");
+        const char *next = strstr(at + 1, "\"item\":"), *spot = strstr(at, "\"spot\":{"),
+                   *does = strstr(at, "\"does\":\"");
         if (!next || next > end) next = end;
         if (!spot || spot > next || !number_behind(spot, "\"offset\":", next, &offset)) continue;
         char place[512], what[32] = "is";
@@ -211,7 +225,8 @@ static void tell_spots(cl_kernel k, const char *json) {
         tell("  item %lu: %s at %s", item, what, place);
         const char *calls = strstr(spot, "\"calls\":[");
         const char *shut = calls ? strchr(calls, ']') : NULL;
-        for (const char *c = calls && shut && calls < next ? strstr(calls, "\"offset\":") : NULL; c && c < shut; c = strstr(c + 1, "\"offset\":"))
+        for (const char *c = calls && shut && calls < next ? strstr(calls, "\"offset\":") : NULL; c && c < shut;
+             c = strstr(c + 1, "\"offset\":"))
             if (place_of(source, strtoul(c + 9, NULL, 10), place, sizeof place)) tell("    called at %s", place);
     }
 }
@@ -247,7 +262,8 @@ void report_fault(cl_kernel k, const char *reply, const launch_sizes *s) {
     if (!line) return;
     sizes_text(global, sizeof global, s->dimensions, s->global);
     sizes_text(local, sizeof local, s->dimensions, s->local);
-    tell("  kernel %s, launch %u of its context, global size %s, local size %s", k->form->name, k->context->launches, global, local);
+    tell("  kernel %s, launch %u of its context, global size %s, local size %s", k->form->name, k->context->launches,
+         global, local);
     tell_buffer(k, line);
     tell_local(k, line);
     tell_name(k, line);

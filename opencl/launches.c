@@ -3,20 +3,25 @@
 #include <stdlib.h>
 #include <string.h>
 
-// The local sizes where the client leaves them open: in each dimension, from the first on, the largest divisor of the global size that leaves
-// at most 256 items a group, or as many as CLSIM_LOCAL says.
+// The local sizes where the client leaves them open: in each dimension, from the first on, the largest divisor of the
+// global size that leaves at most 256 items a group, or as many as CLSIM_LOCAL says.
 static void choose_local(cl_uint dimensions, const size_t *global, size_t *local) {
     const char *given = setting("CLSIM_LOCAL");
     size_t room = given ? strtoul(given, NULL, 10) : MAX_GROUP;
     if (!room || room > MAX_GROUP) room = MAX_GROUP;
     for (cl_uint d = 0; d < dimensions; d++) {
         local[d] = 1;
-        for (size_t n = room; n > 1; n--) if (global[d] % n == 0) { local[d] = n; break; }
+        for (size_t n = room; n > 1; n--)
+            if (global[d] % n == 0) {
+                local[d] = n;
+                break;
+            }
         room /= local[d];
     }
 }
 // The sizes of a launch, judged as far as the device doesn't judge them.
-static cl_int take_sizes(cl_kernel k, launch_sizes *s, const size_t *offset, const size_t *global, const size_t *local) {
+static cl_int take_sizes(cl_kernel k, launch_sizes *s, const size_t *offset, const size_t *global,
+                         const size_t *local) {
     const size_t *wanted = k->form->group;
     size_t group = 1, items = 1;
     if (!global) return CL_INVALID_GLOBAL_WORK_SIZE;
@@ -32,7 +37,8 @@ static cl_int take_sizes(cl_kernel k, launch_sizes *s, const size_t *offset, con
         group *= local[d];
         s->local[d] = local[d];
     }
-    for (cl_uint d = 0; wanted[0] && d < 3; d++) if (wanted[d] != (d < s->dimensions ? s->local[d] : 1)) return CL_INVALID_WORK_GROUP_SIZE;
+    for (cl_uint d = 0; wanted[0] && d < 3; d++)
+        if (wanted[d] != (d < s->dimensions ? s->local[d] : 1)) return CL_INVALID_WORK_GROUP_SIZE;
     if (group > MAX_GROUP) return CL_INVALID_WORK_GROUP_SIZE;
     if (!local) choose_local(s->dimensions, global, s->local);
     if (items <= MAX_ITEMS) return CL_SUCCESS;
@@ -46,20 +52,24 @@ static const char *ask_launch(cl_kernel k, const launch_sizes *s) {
     sizes_text(local, sizeof local, s->dimensions, s->local);
     sizes_text(offset, sizeof offset, s->dimensions, s->offset);
     k->context->launches++;
-    return session_askf(k->context->session, "launch k%u %s %s %s%s\n", k->number, global, local, offset, s->uniform ? " uniform" : "");
+    return session_askf(k->context->session, "launch k%u %s %s %s%s\n", k->number, global, local, offset,
+                        s->uniform ? " uniform" : "");
 }
 
-// What a launch that faults answers. It is none of the three errors that stand for want of memory: pyopencl launches again after those.
+// What a launch that faults answers. It is none of the three errors that stand for want of memory: pyopencl launches
+// again after those.
 #define FAULTED CL_INVALID_OPERATION
 
-CL_API_ENTRY cl_int CL_API_CALL clEnqueueNDRangeKernel(cl_command_queue q, cl_kernel k, cl_uint dimensions, const size_t *offset, const size_t *global,
-    const size_t *local, cl_uint wait_count, const cl_event *wait_list, cl_event *event) {
+CL_API_ENTRY cl_int CL_API_CALL clEnqueueNDRangeKernel(cl_command_queue q, cl_kernel k, cl_uint dimensions,
+                                                       const size_t *offset, const size_t *global, const size_t *local,
+                                                       cl_uint wait_count, const cl_event *wait_list, cl_event *event) {
     BEGIN;
     launch_sizes sizes = {.dimensions = dimensions, .uniform = setting("CLSIM_UNIFORM") != NULL};
     if (!is_a(k, KERNEL)) return CL_INVALID_KERNEL;
     if (k->context != q->context) return CL_INVALID_CONTEXT;
     if (dimensions < 1 || dimensions > 3) return CL_INVALID_WORK_DIMENSION;
-    for (unsigned i = 0; i < k->form->count; i++) if (!k->arguments[i].command) return CL_INVALID_KERNEL_ARGS;
+    for (unsigned i = 0; i < k->form->count; i++)
+        if (!k->arguments[i].command) return CL_INVALID_KERNEL_ARGS;
     cl_int fault = take_sizes(k, &sizes, offset, global, local);
     if (fault) return fault;
     const char *reply = ask_launch(k, &sizes);
@@ -75,12 +85,23 @@ CL_API_ENTRY cl_int CL_API_CALL clEnqueueNDRangeKernel(cl_command_queue q, cl_ke
     finish(q, CL_COMMAND_NDRANGE_KERNEL, FAULTED, start, event);
     return CL_SUCCESS;
 }
-CL_API_ENTRY cl_int CL_API_CALL clEnqueueTask(cl_command_queue q, cl_kernel k, cl_uint wait_count, const cl_event *wait_list, cl_event *event) {
+CL_API_ENTRY cl_int CL_API_CALL clEnqueueTask(cl_command_queue q, cl_kernel k, cl_uint wait_count,
+                                              const cl_event *wait_list, cl_event *event) {
     size_t one = 1;
     return clEnqueueNDRangeKernel(q, k, 1, NULL, &one, &one, wait_count, wait_list, event);
 }
-CL_API_ENTRY cl_int CL_API_CALL clEnqueueNativeKernel(cl_command_queue q, void (CL_CALLBACK *f)(void *), void *a, size_t n, cl_uint m, const cl_mem *ms, const void **ps, cl_uint w, const cl_event *ws, cl_event *e) {
-    (void)f; (void)a; (void)n; (void)m; (void)ms; (void)ps; (void)w; (void)ws; (void)e;
+CL_API_ENTRY cl_int CL_API_CALL clEnqueueNativeKernel(cl_command_queue q, void(CL_CALLBACK *f)(void *), void *a,
+                                                      size_t n, cl_uint m, const cl_mem *ms, const void **ps, cl_uint w,
+                                                      const cl_event *ws, cl_event *e) {
+    (void)f;
+    (void)a;
+    (void)n;
+    (void)m;
+    (void)ms;
+    (void)ps;
+    (void)w;
+    (void)ws;
+    (void)e;
     LOCKED;
     return is_a(q, QUEUE) ? CL_INVALID_OPERATION : CL_INVALID_COMMAND_QUEUE;
 }

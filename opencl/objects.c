@@ -32,7 +32,8 @@ static bool add_living(object *o) {
         if (!more) return false;
         living = more;
         living_room = room;
-        for (size_t i = 0; i < old_room; i++) if (old[i]) living[slot_of(old[i])] = old[i];
+        for (size_t i = 0; i < old_room; i++)
+            if (old[i]) living[slot_of(old[i])] = old[i];
         free(old);
     }
     living[slot_of(o)] = o;
@@ -60,7 +61,10 @@ bool is_a(const void *o, object_kind kind) {
 void *make_object(size_t size, object_kind kind) {
     object *o = calloc(1, size);
     if (!o) return NULL;
-    if (!add_living(o)) { free(o); return NULL; }
+    if (!add_living(o)) {
+        free(o);
+        return NULL;
+    }
     o->dispatch = &dispatch_table;
     o->kind = kind;
     o->references = 1;
@@ -78,14 +82,19 @@ void *fail(cl_int *errcode, cl_int fault) {
     if (errcode) *errcode = fault;
     return NULL;
 }
-void done(cl_int *errcode) { if (errcode) *errcode = CL_SUCCESS; }
+void done(cl_int *errcode) {
+    if (errcode) *errcode = CL_SUCCESS;
+}
 bool is_ok(const char *reply) { return reply && !strcmp(reply, "ok"); }
 
 cl_int error_of(const char *reply) {
-    static const cl_int errors[17] = {CL_OUT_OF_RESOURCES, CL_OUT_OF_RESOURCES, CL_INVALID_MEM_OBJECT, CL_INVALID_VALUE, CL_INVALID_VALUE,
-        CL_MEM_OBJECT_ALLOCATION_FAILURE, CL_INVALID_GLOBAL_OFFSET, CL_INVALID_WORK_GROUP_SIZE, CL_INVALID_GLOBAL_WORK_SIZE, CL_MEM_COPY_OVERLAP,
-        CL_BUILD_PROGRAM_FAILURE, CL_INVALID_KERNEL_NAME, CL_INVALID_ARG_VALUE, CL_INVALID_KERNEL_ARGS, CL_OUT_OF_RESOURCES,
-        CL_INVALID_OPERATION, CL_OUT_OF_HOST_MEMORY};
+    static const cl_int errors[17] = {
+        CL_OUT_OF_RESOURCES,      CL_OUT_OF_RESOURCES,        CL_INVALID_MEM_OBJECT,
+        CL_INVALID_VALUE,         CL_INVALID_VALUE,           CL_MEM_OBJECT_ALLOCATION_FAILURE,
+        CL_INVALID_GLOBAL_OFFSET, CL_INVALID_WORK_GROUP_SIZE, CL_INVALID_GLOBAL_WORK_SIZE,
+        CL_MEM_COPY_OVERLAP,      CL_BUILD_PROGRAM_FAILURE,   CL_INVALID_KERNEL_NAME,
+        CL_INVALID_ARG_VALUE,     CL_INVALID_KERNEL_ARGS,     CL_OUT_OF_RESOURCES,
+        CL_INVALID_OPERATION,     CL_OUT_OF_HOST_MEMORY};
     unsigned n = 0;
     if (!reply) return CL_DEVICE_NOT_AVAILABLE;
     if (sscanf(reply, "refused %u", &n) == 1 && n <= 16) return errors[n];
@@ -110,7 +119,9 @@ cl_int give(const void *from, size_t n, size_t room, void *to, size_t *size) {
     if (size) *size = n;
     return CL_SUCCESS;
 }
-cl_int give_text(const char *s, size_t room, void *to, size_t *size) { return give(s ? s : "", strlen(s ? s : "") + 1, room, to, size); }
+cl_int give_text(const char *s, size_t room, void *to, size_t *size) {
+    return give(s ? s : "", strlen(s ? s : "") + 1, room, to, size);
+}
 
 cl_ulong now(void) {
     struct timespec t;

@@ -1,5 +1,6 @@
 // The objects of OpenCL, and what all calls share: the lock, reference counts, errors, infos.
-// Each context is a session with a simulated device of its own. Commands are done as they are enqueued, in the order in which the calls come.
+// Each context is a session with a simulated device of its own. Commands are done as they are enqueued, in the order in
+// which the calls come.
 #ifndef CLSIM_OBJECTS_H
 #define CLSIM_OBJECTS_H
 #define CL_TARGET_OPENCL_VERSION 120
@@ -16,12 +17,21 @@ enum { MAX_BYTES = 1048576, MAX_BUFFERS = 64, MAX_ITEMS = 65536, MAX_GROUP = 256
 typedef enum { CONTEXT = 1, QUEUE, MEMORY, PROGRAM, KERNEL, EVENT } object_kind;
 
 // `references` are those of the client, `uses` those of other objects. An object goes when both are 0.
-#define HEAD struct _cl_icd_dispatch *dispatch; object_kind kind; cl_uint references, uses
+#define HEAD \
+    struct _cl_icd_dispatch *dispatch; \
+    object_kind kind; \
+    cl_uint references, uses
 
-typedef struct object { HEAD; } object;
+typedef struct object {
+    HEAD;
+} object;
 
-struct _cl_platform_id { struct _cl_icd_dispatch *dispatch; };
-struct _cl_device_id { struct _cl_icd_dispatch *dispatch; };
+struct _cl_platform_id {
+    struct _cl_icd_dispatch *dispatch;
+};
+struct _cl_device_id {
+    struct _cl_icd_dispatch *dispatch;
+};
 
 struct _cl_context {
     HEAD;
@@ -29,14 +39,27 @@ struct _cl_context {
     unsigned names, launches; // how many names were given, and how many launches made
     cl_context_properties *properties;
     size_t property_count;
-    void (CL_CALLBACK *notify)(const char *, const void *, size_t, void *);
+    void(CL_CALLBACK *notify)(const char *, const void *, size_t, void *);
     void *user;
 };
 
-struct _cl_command_queue { HEAD; cl_context context; cl_command_queue_properties properties; };
+struct _cl_command_queue {
+    HEAD;
+    cl_context context;
+    cl_command_queue_properties properties;
+};
 
-typedef struct mapping { struct mapping *next; void *at; size_t offset, size; cl_map_flags flags; } mapping;
-typedef struct memory_end { struct memory_end *next; void (CL_CALLBACK *call)(cl_mem, void *); void *user; } memory_end;
+typedef struct mapping {
+    struct mapping *next;
+    void *at;
+    size_t offset, size;
+    cl_map_flags flags;
+} mapping;
+typedef struct memory_end {
+    struct memory_end *next;
+    void(CL_CALLBACK *call)(cl_mem, void *);
+    void *user;
+} memory_end;
 
 struct _cl_mem {
     HEAD;
@@ -59,11 +82,26 @@ struct _cl_program {
     cl_build_status status;
 };
 
-typedef struct { char *command; cl_mem memory; } argument; // the command that gave it, NULL before
+typedef struct {
+    char *command;
+    cl_mem memory;
+} argument; // the command that gave it, NULL before
 
-struct _cl_kernel { HEAD; cl_context context; cl_program program; unsigned number; const kernel_form *form; argument *arguments; };
+struct _cl_kernel {
+    HEAD;
+    cl_context context;
+    cl_program program;
+    unsigned number;
+    const kernel_form *form;
+    argument *arguments;
+};
 
-typedef struct event_end { struct event_end *next; cl_int when; void (CL_CALLBACK *call)(cl_event, cl_int, void *); void *user; } event_end;
+typedef struct event_end {
+    struct event_end *next;
+    cl_int when;
+    void(CL_CALLBACK *call)(cl_event, cl_int, void *);
+    void *user;
+} event_end;
 
 struct _cl_event {
     HEAD;
@@ -82,8 +120,13 @@ extern struct _cl_device_id the_device;
 // ---- the lock: one, held in each call ----
 void lock(void);
 void unlock(void);
-static inline void unlock_at(const int *unused) { (void)unused; unlock(); }
-#define LOCKED __attribute__((cleanup(unlock_at))) int locked_ = (lock(), 0); (void)locked_
+static inline void unlock_at(const int *unused) {
+    (void)unused;
+    unlock();
+}
+#define LOCKED \
+    __attribute__((cleanup(unlock_at))) int locked_ = (lock(), 0); \
+    (void)locked_
 
 // ---- objects ----
 // Whether it is a living object of a kind; it may be any pointer.
@@ -101,8 +144,19 @@ void drop_event(cl_event e);
 void leave_context(cl_context c);
 
 #define COUNTED(T, NAME, KIND, INVALID, DROP) \
-    CL_API_ENTRY cl_int CL_API_CALL clRetain##NAME(T o) { LOCKED; if (!is_a(o, KIND)) return INVALID; o->references++; return CL_SUCCESS; } \
-    CL_API_ENTRY cl_int CL_API_CALL clRelease##NAME(T o) { LOCKED; if (!is_a(o, KIND) || !o->references) return INVALID; o->references--; DROP(o); return CL_SUCCESS; }
+    CL_API_ENTRY cl_int CL_API_CALL clRetain##NAME(T o) { \
+        LOCKED; \
+        if (!is_a(o, KIND)) return INVALID; \
+        o->references++; \
+        return CL_SUCCESS; \
+    } \
+    CL_API_ENTRY cl_int CL_API_CALL clRelease##NAME(T o) { \
+        LOCKED; \
+        if (!is_a(o, KIND) || !o->references) return INVALID; \
+        o->references--; \
+        DROP(o); \
+        return CL_SUCCESS; \
+    }
 
 // ---- errors ----
 void *fail(cl_int *errcode, cl_int fault);
@@ -116,11 +170,16 @@ void refuse(cl_context c, const char *format, ...) __attribute__((format(printf,
 // ---- infos ----
 cl_int give(const void *from, size_t n, size_t room, void *to, size_t *size);
 cl_int give_text(const char *s, size_t room, void *to, size_t *size);
-#define GIVE(T, ...) do { T given_ = __VA_ARGS__; return give(&given_, sizeof given_, room, to, size); } while (0)
+#define GIVE(T, ...) \
+    do { \
+        T given_ = __VA_ARGS__; \
+        return give(&given_, sizeof given_, room, to, size); \
+    } while (0)
 
 // ---- commands ----
 cl_ulong now(void); // nanoseconds
-// What a wait list comes to: every command is done when its call returns, so it holds what is done, or a user event that isn't.
+// What a wait list comes to: every command is done when its call returns, so it holds what is done, or a user event
+// that isn't.
 cl_int waits(cl_context c, cl_uint n, const cl_event *list);
 // The end of a command: its event, if one is wanted, and its status.
 cl_int finish(cl_command_queue q, cl_command_type type, cl_int status, cl_ulong start, cl_event *event);
@@ -131,7 +190,11 @@ cl_int finish(cl_command_queue q, cl_command_type type, cl_int status, cl_ulong 
     if (!is_a(q, QUEUE)) return CL_INVALID_COMMAND_QUEUE; \
     cl_int waited = waits(q->context, wait_count, wait_list); \
     if (waited) return waited
-#define MEMBER(m) do { if (!is_a(m, MEMORY)) return CL_INVALID_MEM_OBJECT; if ((m)->context != q->context) return CL_INVALID_CONTEXT; } while (0)
+#define MEMBER(m) \
+    do { \
+        if (!is_a(m, MEMORY)) return CL_INVALID_MEM_OBJECT; \
+        if ((m)->context != q->context) return CL_INVALID_CONTEXT; \
+    } while (0)
 
 // ---- buffers ----
 // Writes bytes into a buffer of a context by its number; the line of the reply.
@@ -139,7 +202,11 @@ const char *ask_write(cl_context c, unsigned buffer, size_t offset, const void *
 cl_int ask_read(cl_context c, unsigned buffer, size_t offset, void *to, size_t n);
 
 // ---- faults ----
-typedef struct { cl_uint dimensions; size_t global[3], local[3], offset[3]; bool uniform; } launch_sizes;
+typedef struct {
+    cl_uint dimensions;
+    size_t global[3], local[3], offset[3];
+    bool uniform;
+} launch_sizes;
 // Sizes as a launch has them, with commas.
 void sizes_text(char *room, size_t n, cl_uint dimensions, const size_t *sizes);
 // Tells each setting whose value isn't known; it is as if it weren't set.

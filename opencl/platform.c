@@ -7,7 +7,8 @@ struct _cl_device_id the_device = {&dispatch_table};
 
 // All at once, so that any choice of a client finds the device.
 #define DEVICE_TYPES (CL_DEVICE_TYPE_CPU | CL_DEVICE_TYPE_GPU | CL_DEVICE_TYPE_ACCELERATOR | CL_DEVICE_TYPE_DEFAULT)
-#define EXTENSIONS "cl_khr_byte_addressable_store cl_khr_global_int32_base_atomics cl_khr_global_int32_extended_atomics " \
+#define EXTENSIONS \
+    "cl_khr_byte_addressable_store cl_khr_global_int32_base_atomics cl_khr_global_int32_extended_atomics " \
     "cl_khr_local_int32_base_atomics cl_khr_local_int32_extended_atomics"
 
 CL_API_ENTRY cl_int CL_API_CALL clIcdGetPlatformIDsKHR(cl_uint room, cl_platform_id *to, cl_uint *count) {
@@ -16,9 +17,12 @@ CL_API_ENTRY cl_int CL_API_CALL clIcdGetPlatformIDsKHR(cl_uint room, cl_platform
     if (count) *count = 1;
     return CL_SUCCESS;
 }
-CL_API_ENTRY cl_int CL_API_CALL clGetPlatformIDs(cl_uint room, cl_platform_id *to, cl_uint *count) { return clIcdGetPlatformIDsKHR(room, to, count); }
+CL_API_ENTRY cl_int CL_API_CALL clGetPlatformIDs(cl_uint room, cl_platform_id *to, cl_uint *count) {
+    return clIcdGetPlatformIDsKHR(room, to, count);
+}
 
-CL_API_ENTRY cl_int CL_API_CALL clGetPlatformInfo(cl_platform_id p, cl_platform_info name, size_t room, void *to, size_t *size) {
+CL_API_ENTRY cl_int CL_API_CALL clGetPlatformInfo(cl_platform_id p, cl_platform_info name, size_t room, void *to,
+                                                  size_t *size) {
     if (p && p != &the_platform) return CL_INVALID_PLATFORM;
     switch (name) {
     case CL_PLATFORM_PROFILE: return give_text("FULL_PROFILE", room, to, size);
@@ -31,7 +35,8 @@ CL_API_ENTRY cl_int CL_API_CALL clGetPlatformInfo(cl_platform_id p, cl_platform_
     }
 }
 
-CL_API_ENTRY cl_int CL_API_CALL clGetDeviceIDs(cl_platform_id p, cl_device_type type, cl_uint room, cl_device_id *to, cl_uint *count) {
+CL_API_ENTRY cl_int CL_API_CALL clGetDeviceIDs(cl_platform_id p, cl_device_type type, cl_uint room, cl_device_id *to,
+                                               cl_uint *count) {
     if (p && p != &the_platform) return CL_INVALID_PLATFORM;
     if ((!to && !count) || (to && !room)) return CL_INVALID_VALUE;
     if (!(type & DEVICE_TYPES)) return type & CL_DEVICE_TYPE_CUSTOM ? CL_DEVICE_NOT_FOUND : CL_INVALID_DEVICE_TYPE;
@@ -40,7 +45,8 @@ CL_API_ENTRY cl_int CL_API_CALL clGetDeviceIDs(cl_platform_id p, cl_device_type 
     return CL_SUCCESS;
 }
 
-CL_API_ENTRY cl_int CL_API_CALL clGetDeviceInfo(cl_device_id d, cl_device_info name, size_t room, void *to, size_t *size) {
+CL_API_ENTRY cl_int CL_API_CALL clGetDeviceInfo(cl_device_id d, cl_device_info name, size_t room, void *to,
+                                                size_t *size) {
     if (d != &the_device) return CL_INVALID_DEVICE;
     switch (name) {
     case CL_DEVICE_TYPE: GIVE(cl_device_type, DEVICE_TYPES);
@@ -48,23 +54,43 @@ CL_API_ENTRY cl_int CL_API_CALL clGetDeviceInfo(cl_device_id d, cl_device_info n
     case CL_DEVICE_MAX_COMPUTE_UNITS: GIVE(cl_uint, 1);
     case CL_DEVICE_MAX_WORK_ITEM_DIMENSIONS: GIVE(cl_uint, 3);
     case CL_DEVICE_MAX_WORK_GROUP_SIZE: GIVE(size_t, MAX_GROUP);
-    case CL_DEVICE_MAX_WORK_ITEM_SIZES: { size_t sizes[3] = {MAX_GROUP, MAX_GROUP, MAX_GROUP}; return give(sizes, sizeof sizes, room, to, size); }
-    case CL_DEVICE_PREFERRED_VECTOR_WIDTH_CHAR: case CL_DEVICE_PREFERRED_VECTOR_WIDTH_SHORT: case CL_DEVICE_PREFERRED_VECTOR_WIDTH_INT:
-    case CL_DEVICE_PREFERRED_VECTOR_WIDTH_LONG: case CL_DEVICE_NATIVE_VECTOR_WIDTH_CHAR: case CL_DEVICE_NATIVE_VECTOR_WIDTH_SHORT:
-    case CL_DEVICE_NATIVE_VECTOR_WIDTH_INT: case CL_DEVICE_NATIVE_VECTOR_WIDTH_LONG: GIVE(cl_uint, 1);
-    case CL_DEVICE_PREFERRED_VECTOR_WIDTH_FLOAT: case CL_DEVICE_PREFERRED_VECTOR_WIDTH_DOUBLE: case CL_DEVICE_PREFERRED_VECTOR_WIDTH_HALF:
-    case CL_DEVICE_NATIVE_VECTOR_WIDTH_FLOAT: case CL_DEVICE_NATIVE_VECTOR_WIDTH_DOUBLE: case CL_DEVICE_NATIVE_VECTOR_WIDTH_HALF: GIVE(cl_uint, 0);
+    case CL_DEVICE_MAX_WORK_ITEM_SIZES: {
+        size_t sizes[3] = {MAX_GROUP, MAX_GROUP, MAX_GROUP};
+        return give(sizes, sizeof sizes, room, to, size);
+    }
+    case CL_DEVICE_PREFERRED_VECTOR_WIDTH_CHAR:
+    case CL_DEVICE_PREFERRED_VECTOR_WIDTH_SHORT:
+    case CL_DEVICE_PREFERRED_VECTOR_WIDTH_INT:
+    case CL_DEVICE_PREFERRED_VECTOR_WIDTH_LONG:
+    case CL_DEVICE_NATIVE_VECTOR_WIDTH_CHAR:
+    case CL_DEVICE_NATIVE_VECTOR_WIDTH_SHORT:
+    case CL_DEVICE_NATIVE_VECTOR_WIDTH_INT:
+    case CL_DEVICE_NATIVE_VECTOR_WIDTH_LONG: GIVE(cl_uint, 1);
+    case CL_DEVICE_PREFERRED_VECTOR_WIDTH_FLOAT:
+    case CL_DEVICE_PREFERRED_VECTOR_WIDTH_DOUBLE:
+    case CL_DEVICE_PREFERRED_VECTOR_WIDTH_HALF:
+    case CL_DEVICE_NATIVE_VECTOR_WIDTH_FLOAT:
+    case CL_DEVICE_NATIVE_VECTOR_WIDTH_DOUBLE:
+    case CL_DEVICE_NATIVE_VECTOR_WIDTH_HALF: GIVE(cl_uint, 0);
     case CL_DEVICE_MAX_CLOCK_FREQUENCY: GIVE(cl_uint, 1);
     case CL_DEVICE_ADDRESS_BITS: GIVE(cl_uint, 64);
     case CL_DEVICE_MAX_MEM_ALLOC_SIZE: GIVE(cl_ulong, MAX_BYTES);
     case CL_DEVICE_IMAGE_SUPPORT: GIVE(cl_bool, CL_FALSE);
-    case CL_DEVICE_MAX_READ_IMAGE_ARGS: case CL_DEVICE_MAX_WRITE_IMAGE_ARGS: case CL_DEVICE_MAX_SAMPLERS: GIVE(cl_uint, 0);
-    case CL_DEVICE_IMAGE2D_MAX_WIDTH: case CL_DEVICE_IMAGE2D_MAX_HEIGHT: case CL_DEVICE_IMAGE3D_MAX_WIDTH: case CL_DEVICE_IMAGE3D_MAX_HEIGHT:
-    case CL_DEVICE_IMAGE3D_MAX_DEPTH: case CL_DEVICE_IMAGE_MAX_BUFFER_SIZE: case CL_DEVICE_IMAGE_MAX_ARRAY_SIZE: GIVE(size_t, 0);
+    case CL_DEVICE_MAX_READ_IMAGE_ARGS:
+    case CL_DEVICE_MAX_WRITE_IMAGE_ARGS:
+    case CL_DEVICE_MAX_SAMPLERS: GIVE(cl_uint, 0);
+    case CL_DEVICE_IMAGE2D_MAX_WIDTH:
+    case CL_DEVICE_IMAGE2D_MAX_HEIGHT:
+    case CL_DEVICE_IMAGE3D_MAX_WIDTH:
+    case CL_DEVICE_IMAGE3D_MAX_HEIGHT:
+    case CL_DEVICE_IMAGE3D_MAX_DEPTH:
+    case CL_DEVICE_IMAGE_MAX_BUFFER_SIZE:
+    case CL_DEVICE_IMAGE_MAX_ARRAY_SIZE: GIVE(size_t, 0);
     case CL_DEVICE_MAX_PARAMETER_SIZE: GIVE(size_t, 1024);
     case CL_DEVICE_MEM_BASE_ADDR_ALIGN: GIVE(cl_uint, 1024);
     case CL_DEVICE_MIN_DATA_TYPE_ALIGN_SIZE: GIVE(cl_uint, 128);
-    case CL_DEVICE_SINGLE_FP_CONFIG: case CL_DEVICE_DOUBLE_FP_CONFIG: GIVE(cl_device_fp_config, 0);
+    case CL_DEVICE_SINGLE_FP_CONFIG:
+    case CL_DEVICE_DOUBLE_FP_CONFIG: GIVE(cl_device_fp_config, 0);
     case CL_DEVICE_GLOBAL_MEM_CACHE_TYPE: GIVE(cl_device_mem_cache_type, CL_NONE);
     case CL_DEVICE_GLOBAL_MEM_CACHELINE_SIZE: GIVE(cl_uint, 0);
     case CL_DEVICE_GLOBAL_MEM_CACHE_SIZE: GIVE(cl_ulong, 0);
@@ -77,7 +103,8 @@ CL_API_ENTRY cl_int CL_API_CALL clGetDeviceInfo(cl_device_id d, cl_device_info n
     case CL_DEVICE_HOST_UNIFIED_MEMORY: GIVE(cl_bool, CL_FALSE);
     case CL_DEVICE_PROFILING_TIMER_RESOLUTION: GIVE(size_t, 1);
     case CL_DEVICE_ENDIAN_LITTLE: GIVE(cl_bool, CL_TRUE);
-    case CL_DEVICE_AVAILABLE: case CL_DEVICE_COMPILER_AVAILABLE: GIVE(cl_bool, CL_TRUE);
+    case CL_DEVICE_AVAILABLE:
+    case CL_DEVICE_COMPILER_AVAILABLE: GIVE(cl_bool, CL_TRUE);
     case CL_DEVICE_LINKER_AVAILABLE: GIVE(cl_bool, CL_FALSE);
     case CL_DEVICE_EXECUTION_CAPABILITIES: GIVE(cl_device_exec_capabilities, CL_EXEC_KERNEL);
     case CL_DEVICE_QUEUE_PROPERTIES: GIVE(cl_command_queue_properties, CL_QUEUE_PROFILING_ENABLE);
@@ -94,15 +121,24 @@ CL_API_ENTRY cl_int CL_API_CALL clGetDeviceInfo(cl_device_id d, cl_device_info n
     case CL_DEVICE_PREFERRED_INTEROP_USER_SYNC: GIVE(cl_bool, CL_TRUE);
     case CL_DEVICE_PARENT_DEVICE: GIVE(cl_device_id, NULL);
     case CL_DEVICE_PARTITION_MAX_SUB_DEVICES: GIVE(cl_uint, 0);
-    case CL_DEVICE_PARTITION_PROPERTIES: case CL_DEVICE_PARTITION_TYPE: GIVE(cl_device_partition_property, 0);
+    case CL_DEVICE_PARTITION_PROPERTIES:
+    case CL_DEVICE_PARTITION_TYPE: GIVE(cl_device_partition_property, 0);
     case CL_DEVICE_PARTITION_AFFINITY_DOMAIN: GIVE(cl_device_affinity_domain, 0);
     case CL_DEVICE_REFERENCE_COUNT: GIVE(cl_uint, 1);
     default: return CL_INVALID_VALUE;
     }
 }
-CL_API_ENTRY cl_int CL_API_CALL clRetainDevice(cl_device_id d) { return d == &the_device ? CL_SUCCESS : CL_INVALID_DEVICE; }
-CL_API_ENTRY cl_int CL_API_CALL clReleaseDevice(cl_device_id d) { return d == &the_device ? CL_SUCCESS : CL_INVALID_DEVICE; }
-CL_API_ENTRY cl_int CL_API_CALL clCreateSubDevices(cl_device_id d, const cl_device_partition_property *p, cl_uint n, cl_device_id *to, cl_uint *count) {
-    (void)p; (void)n; (void)to; (void)count;
+CL_API_ENTRY cl_int CL_API_CALL clRetainDevice(cl_device_id d) {
+    return d == &the_device ? CL_SUCCESS : CL_INVALID_DEVICE;
+}
+CL_API_ENTRY cl_int CL_API_CALL clReleaseDevice(cl_device_id d) {
+    return d == &the_device ? CL_SUCCESS : CL_INVALID_DEVICE;
+}
+CL_API_ENTRY cl_int CL_API_CALL clCreateSubDevices(cl_device_id d, const cl_device_partition_property *p, cl_uint n,
+                                                   cl_device_id *to, cl_uint *count) {
+    (void)p;
+    (void)n;
+    (void)to;
+    (void)count;
     return d == &the_device ? CL_INVALID_VALUE : CL_INVALID_DEVICE;
 }

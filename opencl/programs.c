@@ -35,14 +35,18 @@ static const char binary_head[] = "CLSIM-SOURCE 1\n";
 
 static cl_program new_program(cl_context c, char *source) {
     cl_program p = source ? make_object(sizeof *p, PROGRAM) : NULL;
-    if (!p) { free(source); return NULL; }
+    if (!p) {
+        free(source);
+        return NULL;
+    }
     p->context = c;
     p->source = source;
     p->status = CL_BUILD_NONE;
     c->uses++;
     return p;
 }
-CL_API_ENTRY cl_program CL_API_CALL clCreateProgramWithSource(cl_context c, cl_uint n, const char **texts, const size_t *lengths, cl_int *errcode) {
+CL_API_ENTRY cl_program CL_API_CALL clCreateProgramWithSource(cl_context c, cl_uint n, const char **texts,
+                                                              const size_t *lengths, cl_int *errcode) {
     LOCKED;
     if (!is_a(c, CONTEXT)) return fail(errcode, CL_INVALID_CONTEXT);
     if (!n || !texts) return fail(errcode, CL_INVALID_VALUE);
@@ -64,7 +68,9 @@ CL_API_ENTRY cl_program CL_API_CALL clCreateProgramWithSource(cl_context c, cl_u
     return p;
 }
 // A binary is the source with a head, so that caches of binaries work.
-CL_API_ENTRY cl_program CL_API_CALL clCreateProgramWithBinary(cl_context c, cl_uint n, const cl_device_id *devices, const size_t *lengths, const unsigned char **binaries, cl_int *states, cl_int *errcode) {
+CL_API_ENTRY cl_program CL_API_CALL clCreateProgramWithBinary(cl_context c, cl_uint n, const cl_device_id *devices,
+                                                              const size_t *lengths, const unsigned char **binaries,
+                                                              cl_int *states, cl_int *errcode) {
     LOCKED;
     if (!is_a(c, CONTEXT)) return fail(errcode, CL_INVALID_CONTEXT);
     if (n != 1 || !devices || !lengths || !binaries || !binaries[0]) return fail(errcode, CL_INVALID_VALUE);
@@ -78,8 +84,12 @@ CL_API_ENTRY cl_program CL_API_CALL clCreateProgramWithBinary(cl_context c, cl_u
     done(errcode);
     return p;
 }
-CL_API_ENTRY cl_program CL_API_CALL clCreateProgramWithBuiltInKernels(cl_context c, cl_uint n, const cl_device_id *d, const char *names, cl_int *errcode) {
-    (void)c; (void)n; (void)d; (void)names;
+CL_API_ENTRY cl_program CL_API_CALL clCreateProgramWithBuiltInKernels(cl_context c, cl_uint n, const cl_device_id *d,
+                                                                      const char *names, cl_int *errcode) {
+    (void)c;
+    (void)n;
+    (void)d;
+    (void)names;
     return fail(errcode, CL_INVALID_VALUE);
 }
 
@@ -113,7 +123,8 @@ static cl_int build_prepared(cl_program p) {
     size_t at = (size_t)snprintf(command, 64, "program p%u %u\n", number, p->form.lines);
     memcpy(command + at, p->form.text, p->form.length);
     // more lines than a script can say are more bytes than a source can have
-    const char *reply = p->form.lines > 65536 ? "refused 10 BuildFailed syntax 5 TooLong at 65536" : session_ask(p->context->session, command, at + p->form.length);
+    const char *reply = p->form.lines > 65536 ? "refused 10 BuildFailed syntax 5 TooLong at 65536"
+                                              : session_ask(p->context->session, command, at + p->form.length);
     free(command);
     if (is_ok(reply)) {
         p->number = number;
@@ -135,32 +146,55 @@ static cl_int build(cl_program p, const char *options) {
     return fault;
 }
 
-CL_API_ENTRY cl_int CL_API_CALL clBuildProgram(cl_program p, cl_uint n, const cl_device_id *devices, const char *options,
-    void (CL_CALLBACK *notify)(cl_program, void *), void *user) {
+CL_API_ENTRY cl_int CL_API_CALL clBuildProgram(cl_program p, cl_uint n, const cl_device_id *devices,
+                                               const char *options, void(CL_CALLBACK *notify)(cl_program, void *),
+                                               void *user) {
     cl_int fault;
     {
         LOCKED;
         if (!is_a(p, PROGRAM)) return CL_INVALID_PROGRAM;
         if ((!n) != (!devices) || (!notify && user)) return CL_INVALID_VALUE;
-        for (cl_uint i = 0; i < n; i++) if (devices[i] != &the_device) return CL_INVALID_DEVICE;
+        for (cl_uint i = 0; i < n; i++)
+            if (devices[i] != &the_device) return CL_INVALID_DEVICE;
         fault = build(p, options);
     }
     if (notify) notify(p, user); // without the lock
     return fault;
 }
-CL_API_ENTRY cl_int CL_API_CALL clCompileProgram(cl_program p, cl_uint n, const cl_device_id *d, const char *o, cl_uint h, const cl_program *hs, const char **ns, void (CL_CALLBACK *f)(cl_program, void *), void *u) {
-    (void)n; (void)d; (void)o; (void)h; (void)hs; (void)ns; (void)f; (void)u;
+CL_API_ENTRY cl_int CL_API_CALL clCompileProgram(cl_program p, cl_uint n, const cl_device_id *d, const char *o,
+                                                 cl_uint h, const cl_program *hs, const char **ns,
+                                                 void(CL_CALLBACK *f)(cl_program, void *), void *u) {
+    (void)n;
+    (void)d;
+    (void)o;
+    (void)h;
+    (void)hs;
+    (void)ns;
+    (void)f;
+    (void)u;
     LOCKED;
     return is_a(p, PROGRAM) ? CL_COMPILER_NOT_AVAILABLE : CL_INVALID_PROGRAM;
 }
-CL_API_ENTRY cl_program CL_API_CALL clLinkProgram(cl_context c, cl_uint n, const cl_device_id *d, const char *o, cl_uint m, const cl_program *ps, void (CL_CALLBACK *f)(cl_program, void *), void *u, cl_int *errcode) {
-    (void)c; (void)n; (void)d; (void)o; (void)m; (void)ps; (void)f; (void)u;
+CL_API_ENTRY cl_program CL_API_CALL clLinkProgram(cl_context c, cl_uint n, const cl_device_id *d, const char *o,
+                                                  cl_uint m, const cl_program *ps,
+                                                  void(CL_CALLBACK *f)(cl_program, void *), void *u, cl_int *errcode) {
+    (void)c;
+    (void)n;
+    (void)d;
+    (void)o;
+    (void)m;
+    (void)ps;
+    (void)f;
+    (void)u;
     return fail(errcode, CL_LINKER_NOT_AVAILABLE);
 }
 CL_API_ENTRY cl_int CL_API_CALL clUnloadCompiler(void) { return CL_SUCCESS; }
-CL_API_ENTRY cl_int CL_API_CALL clUnloadPlatformCompiler(cl_platform_id p) { return p == &the_platform ? CL_SUCCESS : CL_INVALID_PLATFORM; }
+CL_API_ENTRY cl_int CL_API_CALL clUnloadPlatformCompiler(cl_platform_id p) {
+    return p == &the_platform ? CL_SUCCESS : CL_INVALID_PLATFORM;
+}
 
-CL_API_ENTRY cl_int CL_API_CALL clGetProgramInfo(cl_program p, cl_program_info name, size_t room, void *to, size_t *size) {
+CL_API_ENTRY cl_int CL_API_CALL clGetProgramInfo(cl_program p, cl_program_info name, size_t room, void *to,
+                                                 size_t *size) {
     LOCKED;
     if (!is_a(p, PROGRAM)) return CL_INVALID_PROGRAM;
     bool built = p->status == CL_BUILD_SUCCESS;
@@ -181,18 +215,22 @@ CL_API_ENTRY cl_int CL_API_CALL clGetProgramInfo(cl_program p, cl_program_info n
             memcpy(*(unsigned char **)to + sizeof binary_head - 1, p->source, strlen(p->source));
         }
         return CL_SUCCESS;
-    case CL_PROGRAM_NUM_KERNELS: if (!built) return CL_INVALID_PROGRAM_EXECUTABLE; GIVE(size_t, p->form.kernel_count);
+    case CL_PROGRAM_NUM_KERNELS:
+        if (!built) return CL_INVALID_PROGRAM_EXECUTABLE;
+        GIVE(size_t, p->form.kernel_count);
     case CL_PROGRAM_KERNEL_NAMES: {
         if (!built) return CL_INVALID_PROGRAM_EXECUTABLE;
         char names[65536] = ""; // a source has no more bytes
         size_t at = 0;
-        for (unsigned i = 0; i < p->form.kernel_count; i++) at += (size_t)snprintf(names + at, sizeof names - at, "%s%s", i ? ";" : "", p->form.kernels[i].name);
+        for (unsigned i = 0; i < p->form.kernel_count; i++)
+            at += (size_t)snprintf(names + at, sizeof names - at, "%s%s", i ? ";" : "", p->form.kernels[i].name);
         return give_text(names, room, to, size);
     }
     default: return CL_INVALID_VALUE;
     }
 }
-CL_API_ENTRY cl_int CL_API_CALL clGetProgramBuildInfo(cl_program p, cl_device_id d, cl_program_build_info name, size_t room, void *to, size_t *size) {
+CL_API_ENTRY cl_int CL_API_CALL clGetProgramBuildInfo(cl_program p, cl_device_id d, cl_program_build_info name,
+                                                      size_t room, void *to, size_t *size) {
     LOCKED;
     if (!is_a(p, PROGRAM)) return CL_INVALID_PROGRAM;
     if (d != &the_device) return CL_INVALID_DEVICE;
@@ -200,7 +238,9 @@ CL_API_ENTRY cl_int CL_API_CALL clGetProgramBuildInfo(cl_program p, cl_device_id
     case CL_PROGRAM_BUILD_STATUS: GIVE(cl_build_status, p->status);
     case CL_PROGRAM_BUILD_OPTIONS: return give_text(p->options, room, to, size);
     case CL_PROGRAM_BUILD_LOG: return give_text(p->form.log, room, to, size);
-    case CL_PROGRAM_BINARY_TYPE: GIVE(cl_program_binary_type, p->status == CL_BUILD_SUCCESS ? CL_PROGRAM_BINARY_TYPE_EXECUTABLE : CL_PROGRAM_BINARY_TYPE_NONE);
+    case CL_PROGRAM_BINARY_TYPE:
+        GIVE(cl_program_binary_type,
+             p->status == CL_BUILD_SUCCESS ? CL_PROGRAM_BINARY_TYPE_EXECUTABLE : CL_PROGRAM_BINARY_TYPE_NONE);
     default: return CL_INVALID_VALUE;
     }
 }
@@ -239,7 +279,8 @@ static cl_kernel new_kernel(cl_program p, const kernel_form *form, cl_int *errco
     k->number = ++p->context->names;
     cl_int fault = error_of(session_askf(s, "kernel k%u p%u %s\n", k->number, p->number, form->name));
     for (unsigned i = 0; !fault && i < form->table_count; i++)
-        fault = error_of(session_askf(s, "arg k%u %u buffer b%u\n", k->number, form->count + i, p->tables[form->tables[i]]));
+        fault = error_of(
+            session_askf(s, "arg k%u %u buffer b%u\n", k->number, form->count + i, p->tables[form->tables[i]]));
     if (fault) {
         free(arguments);
         free_object(k);
@@ -259,7 +300,8 @@ CL_API_ENTRY cl_kernel CL_API_CALL clCreateKernel(cl_program p, const char *name
     if (!is_a(p, PROGRAM)) return fail(errcode, CL_INVALID_PROGRAM);
     if (p->status != CL_BUILD_SUCCESS) return fail(errcode, CL_INVALID_PROGRAM_EXECUTABLE);
     if (!name) return fail(errcode, CL_INVALID_VALUE);
-    for (unsigned i = 0; i < p->form.kernel_count; i++) if (!strcmp(p->form.kernels[i].name, name)) return new_kernel(p, &p->form.kernels[i], errcode);
+    for (unsigned i = 0; i < p->form.kernel_count; i++)
+        if (!strcmp(p->form.kernels[i].name, name)) return new_kernel(p, &p->form.kernels[i], errcode);
     return fail(errcode, CL_INVALID_KERNEL_NAME);
 }
 CL_API_ENTRY cl_int CL_API_CALL clCreateKernelsInProgram(cl_program p, cl_uint room, cl_kernel *to, cl_uint *count) {
@@ -268,12 +310,14 @@ CL_API_ENTRY cl_int CL_API_CALL clCreateKernelsInProgram(cl_program p, cl_uint r
     if (p->status != CL_BUILD_SUCCESS) return CL_INVALID_PROGRAM_EXECUTABLE;
     if (to && room < p->form.kernel_count) return CL_INVALID_VALUE;
     cl_int fault = CL_SUCCESS;
-    for (unsigned i = 0; to && !fault && i < p->form.kernel_count; i++) to[i] = new_kernel(p, &p->form.kernels[i], &fault);
+    for (unsigned i = 0; to && !fault && i < p->form.kernel_count; i++)
+        to[i] = new_kernel(p, &p->form.kernels[i], &fault);
     if (count) *count = p->form.kernel_count;
     return fault;
 }
 // A value's argument as a script has it, with the sign of its type.
-static cl_int value_command(char *room, size_t size, cl_kernel k, cl_uint index, base_type t, size_t n, const void *value) {
+static cl_int value_command(char *room, size_t size, cl_kernel k, cl_uint index, base_type t, size_t n,
+                            const void *value) {
     uint64_t bits = 0;
     if (n != size_of(t)) return CL_INVALID_ARG_SIZE;
     if (!value) return CL_INVALID_ARG_VALUE;
@@ -283,11 +327,13 @@ static cl_int value_command(char *room, size_t size, cl_kernel k, cl_uint index,
     else snprintf(room, size, "arg k%u %u value %" PRIu64 "\n", k->number, index, bits);
     return CL_SUCCESS;
 }
-static cl_int buffer_command(char *room, size_t size, cl_kernel k, cl_uint index, size_t n, const void *value, cl_mem *m) {
+static cl_int buffer_command(char *room, size_t size, cl_kernel k, cl_uint index, size_t n, const void *value,
+                             cl_mem *m) {
     if (n != sizeof(cl_mem)) return CL_INVALID_ARG_SIZE;
     *m = value ? *(const cl_mem *)value : NULL;
     if (!*m) {
-        refuse(k->context, "argument %u (%s) of %s: a null buffer is refused", index, k->form->parameters[index].name, k->form->name);
+        refuse(k->context, "argument %u (%s) of %s: a null buffer is refused", index, k->form->parameters[index].name,
+               k->form->name);
         return CL_INVALID_ARG_VALUE;
     }
     if (!is_a(*m, MEMORY) || (*m)->context != k->context) return CL_INVALID_MEM_OBJECT;
@@ -317,7 +363,8 @@ CL_API_ENTRY cl_int CL_API_CALL clSetKernelArg(cl_kernel k, cl_uint index, size_
         free(command);
         refuse(k->context, "argument %u (%s) of %s: %s", index, q->name, k->form->name, reply ? reply : "no reply");
         fault = error_of(reply);
-        return fault == CL_INVALID_ARG_VALUE && q->type.pointer && q->type.space == LOCAL_SPACE ? CL_INVALID_ARG_SIZE : fault;
+        return fault == CL_INVALID_ARG_VALUE && q->type.pointer && q->type.space == LOCAL_SPACE ? CL_INVALID_ARG_SIZE
+                                                                                                : fault;
     }
     if (m) m->uses++;
     if (a->memory) {
@@ -343,33 +390,41 @@ CL_API_ENTRY cl_int CL_API_CALL clGetKernelInfo(cl_kernel k, cl_kernel_info name
     default: return CL_INVALID_VALUE;
     }
 }
-CL_API_ENTRY cl_int CL_API_CALL clGetKernelArgInfo(cl_kernel k, cl_uint index, cl_kernel_arg_info name, size_t room, void *to, size_t *size) {
+CL_API_ENTRY cl_int CL_API_CALL clGetKernelArgInfo(cl_kernel k, cl_uint index, cl_kernel_arg_info name, size_t room,
+                                                   void *to, size_t *size) {
     LOCKED;
     if (!is_a(k, KERNEL)) return CL_INVALID_KERNEL;
     const kernel_form *form = k->form;
     if (index >= form->count) return CL_INVALID_ARG_INDEX;
     const parameter *q = &form->parameters[index];
-    static const cl_kernel_arg_address_qualifier spaces[] = {CL_KERNEL_ARG_ADDRESS_PRIVATE, CL_KERNEL_ARG_ADDRESS_GLOBAL, CL_KERNEL_ARG_ADDRESS_CONSTANT,
+    static const cl_kernel_arg_address_qualifier spaces[] = {
+        CL_KERNEL_ARG_ADDRESS_PRIVATE, CL_KERNEL_ARG_ADDRESS_GLOBAL, CL_KERNEL_ARG_ADDRESS_CONSTANT,
         CL_KERNEL_ARG_ADDRESS_LOCAL};
     bool is_const = q->type.pointer && (q->type.is_const || q->type.space == CONSTANT_SPACE);
     char type[32];
     switch (name) {
-    case CL_KERNEL_ARG_ADDRESS_QUALIFIER: GIVE(cl_kernel_arg_address_qualifier, spaces[q->type.pointer ? q->type.space : PRIVATE_SPACE]);
+    case CL_KERNEL_ARG_ADDRESS_QUALIFIER:
+        GIVE(cl_kernel_arg_address_qualifier, spaces[q->type.pointer ? q->type.space : PRIVATE_SPACE]);
     case CL_KERNEL_ARG_ACCESS_QUALIFIER: GIVE(cl_kernel_arg_access_qualifier, CL_KERNEL_ARG_ACCESS_NONE);
-    case CL_KERNEL_ARG_TYPE_NAME: snprintf(type, sizeof type, "%s%s", name_of(q->type.base), q->type.pointer ? "*" : ""); return give_text(type, room, to, size);
-    case CL_KERNEL_ARG_TYPE_QUALIFIER: GIVE(cl_kernel_arg_type_qualifier, is_const ? CL_KERNEL_ARG_TYPE_CONST : CL_KERNEL_ARG_TYPE_NONE);
+    case CL_KERNEL_ARG_TYPE_NAME:
+        snprintf(type, sizeof type, "%s%s", name_of(q->type.base), q->type.pointer ? "*" : "");
+        return give_text(type, room, to, size);
+    case CL_KERNEL_ARG_TYPE_QUALIFIER:
+        GIVE(cl_kernel_arg_type_qualifier, is_const ? CL_KERNEL_ARG_TYPE_CONST : CL_KERNEL_ARG_TYPE_NONE);
     case CL_KERNEL_ARG_NAME: return give_text(q->name, room, to, size);
     default: return CL_INVALID_VALUE;
     }
 }
-CL_API_ENTRY cl_int CL_API_CALL clGetKernelWorkGroupInfo(cl_kernel k, cl_device_id d, cl_kernel_work_group_info name, size_t room, void *to, size_t *size) {
+CL_API_ENTRY cl_int CL_API_CALL clGetKernelWorkGroupInfo(cl_kernel k, cl_device_id d, cl_kernel_work_group_info name,
+                                                         size_t room, void *to, size_t *size) {
     LOCKED;
     if (!is_a(k, KERNEL)) return CL_INVALID_KERNEL;
     if (d && d != &the_device) return CL_INVALID_DEVICE;
     switch (name) {
     case CL_KERNEL_WORK_GROUP_SIZE: GIVE(size_t, MAX_GROUP);
     case CL_KERNEL_COMPILE_WORK_GROUP_SIZE: return give(k->form->group, sizeof k->form->group, room, to, size);
-    case CL_KERNEL_LOCAL_MEM_SIZE: case CL_KERNEL_PRIVATE_MEM_SIZE: GIVE(cl_ulong, 0);
+    case CL_KERNEL_LOCAL_MEM_SIZE:
+    case CL_KERNEL_PRIVATE_MEM_SIZE: GIVE(cl_ulong, 0);
     case CL_KERNEL_PREFERRED_WORK_GROUP_SIZE_MULTIPLE: GIVE(size_t, 1);
     default: return CL_INVALID_VALUE;
     }

@@ -10,7 +10,9 @@ typedef struct piece {
     size_t token;
 } piece;
 
-typedef struct { piece *first, *last; } pieces;
+typedef struct {
+    piece *first, *last;
+} pieces;
 
 typedef struct {
     unit *unit;
@@ -18,7 +20,7 @@ typedef struct {
     pieces *out;         // the statements that are written now
     unsigned statements; // how many of them
     unsigned temporaries;
-    size_t token;        // the one that new words stand for
+    size_t token; // the one that new words stand for
     const function *function;
 } writer;
 
@@ -40,7 +42,9 @@ static void put_all(pieces *to, pieces from) {
 static void put(writer *w, pieces *to, const char *word) { put_piece(w, to, word, "", w->token); }
 static void put_apart(writer *w, pieces *to, const char *word) { put_piece(w, to, word, " ", w->token); }
 // A token of the source in other words, or as it is.
-static void put_as(writer *w, pieces *to, size_t token, const char *word) { put_piece(w, to, word, w->unit->tokens.at[token].space, token); }
+static void put_as(writer *w, pieces *to, size_t token, const char *word) {
+    put_piece(w, to, word, w->unit->tokens.at[token].space, token);
+}
 static void put_token(writer *w, pieces *to, size_t token) { put_as(w, to, token, w->unit->tokens.at[token].text); }
 
 static const char *made(writer *w, const char *format, uint64_t n) {
@@ -78,7 +82,8 @@ _Noreturn static void refuse(writer *w, size_t token, const char *message) {
 static const char *type_text(writer *w, type t, bool with_const) {
     static const char *const spaces[] = {"", "__global ", "__constant ", "__local "};
     text s = {.arena = w->unit->arena};
-    if (t.pointer || t.dimensions) addf(&s, "%s%s%s *", spaces[t.space], with_const && t.is_const ? "const " : "", name_of(t.base));
+    if (t.pointer || t.dimensions)
+        addf(&s, "%s%s%s *", spaces[t.space], with_const && t.is_const ? "const " : "", name_of(t.base));
     else add(&s, name_of(t.base));
     return s.at;
 }
@@ -107,7 +112,9 @@ static const char *as_written(writer *w, const expression *e) {
     if (t->kind != NUMBER_TOKEN) return number_text(w, e->value, e->type.base);
     size_t digits = strcspn(t->text, "uUlL");
     const char *suffix = t->text + digits;
-    if (!*suffix || !strcmp(suffix, "u") || !strcmp(suffix, "U") || !strcmp(suffix, "l") || !strcmp(suffix, "L") || !strcmp(suffix, "ul") || !strcmp(suffix, "UL")) return t->text;
+    if (!*suffix || !strcmp(suffix, "u") || !strcmp(suffix, "U") || !strcmp(suffix, "l") || !strcmp(suffix, "L") ||
+        !strcmp(suffix, "ul") || !strcmp(suffix, "UL"))
+        return t->text;
     text s = {.arena = w->unit->arena};
     add_bytes(&s, t->text, digits);
     add(&s, "ul");
@@ -123,7 +130,9 @@ static bool assigns(const expression *e, const symbol *y) {
         if (target->kind == NAME && target->symbol == y) return true;
     }
     if (assigns(e->a, y) || assigns(e->b, y) || assigns(e->c, y)) return true;
-    if (e->kind == CALL) for (const expression *x = e->a; x; x = x->next) if (assigns(x, y)) return true;
+    if (e->kind == CALL)
+        for (const expression *x = e->a; x; x = x->next)
+            if (assigns(x, y)) return true;
     return false;
 }
 // Whether it comes to the same, and faults in the same way, when it is evaluated behind `later`.
@@ -142,7 +151,8 @@ static const expression *whole_call(const expression *e) {
     return e->kind == CALL && e->symbol ? e : NULL;
 }
 static bool has_hard_part(const expression *call) {
-    for (const expression *x = call->a; x; x = x->next) if (x->hard) return true;
+    for (const expression *x = call->a; x; x = x->next)
+        if (x->hard) return true;
     return false;
 }
 // Whether statements have to be written in front of one in which it is the right side.
@@ -173,6 +183,7 @@ static const char *save_as(writer *w, pieces p, type t) {
     put_apart(w, w->out, "");
     put_all(w->out, p);
     end_statement(w);
+    w->statements++; // a declaration can't stand alone behind an if: two statements make a block
     return s.at;
 }
 static pieces save(writer *w, pieces p, type t) { return word(w, save_as(w, p, t)); }
@@ -180,7 +191,8 @@ static pieces save(writer *w, pieces p, type t) { return word(w, save_as(w, p, t
 // Whether it is the name of such a variable, which nothing assigns to.
 static bool is_temporary(writer *w, pieces p) {
     size_t n = strlen(w->unit->mark);
-    return p.first && p.first == p.last && !strncmp(p.first->text, w->unit->mark, n) && p.first->text[n] >= '0' && p.first->text[n] <= '9';
+    return p.first && p.first == p.last && !strncmp(p.first->text, w->unit->mark, n) && p.first->text[n] >= '0' &&
+           p.first->text[n] <= '9';
 }
 
 // The values of several expressions, evaluated from left to right: those in front of a hard one are kept.
@@ -194,7 +206,11 @@ static void values(writer *w, const expression *const *e, size_t n, pieces *p) {
 }
 
 // Statements of their own, in a block where there are several.
-typedef struct { pieces *out; unsigned statements; pieces inside; } part;
+typedef struct {
+    pieces *out;
+    unsigned statements;
+    pieces inside;
+} part;
 static void begin_part(writer *w, part *p) {
     *p = (part){w->out, w->statements, {0}};
     w->out = &p->inside;
@@ -232,21 +248,23 @@ static pieces flat_index(writer *w, const expression *e, const expression **base
     pieces p[8], whole = {0};
     values(w, indices, n, p);
     if (n == 1) whole = p[0];
-    else for (size_t i = 0; i < n; i++) {
-        uint64_t stride = 1;
-        for (size_t d = i + 1; d < t.dimensions; d++) stride *= t.lengths[d];
-        put(w, &whole, i ? "+(long)(" : "(long)(");
-        put_all(&whole, p[i]);
-        put(w, &whole, ")");
-        if (stride > 1) put(w, &whole, made(w, "*%" PRIu64 "l", stride));
-    }
+    else
+        for (size_t i = 0; i < n; i++) {
+            uint64_t stride = 1;
+            for (size_t d = i + 1; d < t.dimensions; d++) stride *= t.lengths[d];
+            put(w, &whole, i ? "+(long)(" : "(long)(");
+            put_all(&whole, p[i]);
+            put(w, &whole, ")");
+            if (stride > 1) put(w, &whole, made(w, "*%" PRIu64 "l", stride));
+        }
     bool stable = true;
     for (size_t i = 0; keep && i < n; i++) stable = stable && is_stable(indices[i], later);
     if (keep && !stable) whole = save(w, whole, (type){.base = LONG_TYPE});
     return whole;
 }
 
-// An element or the content of a pointer, to be read or to be assigned to. With `keep`, what `later` or what comes behind it could change is kept.
+// An element or the content of a pointer, to be read or to be assigned to. With `keep`, what `later` or what comes
+// behind it could change is kept.
 static pieces element(writer *w, const expression *e, const expression *later, bool keep) {
     pieces p = {0};
     if (e->kind == CONTENT) {
@@ -285,7 +303,9 @@ static pieces element(writer *w, const expression *e, const expression *later, b
 
 // ---- assignments ----
 
-static bool is_name(const expression *e) { return inner(e)->kind == NAME && !(inner(e)->symbol && inner(e)->symbol->is_scalar); }
+static bool is_name(const expression *e) {
+    return inner(e)->kind == NAME && !(inner(e)->symbol && inner(e)->symbol->is_scalar);
+}
 
 static pieces as_bool(writer *w, pieces p) {
     pieces q = {0};
@@ -313,8 +333,10 @@ static pieces right_side(writer *w, const expression *e, type to) {
 
 static pieces target(writer *w, const expression *e, const expression *later, bool keep) {
     e = inner(e);
-    if (e->kind == NAME && e->symbol && e->symbol->kind != VARIABLE) refuse(w, e->token, "a constant can't be assigned to");
-    if (e->kind == NAME && e->symbol && e->symbol->type.is_const && !e->symbol->type.pointer) refuse(w, e->token, "a const variable can't be assigned to");
+    if (e->kind == NAME && e->symbol && e->symbol->kind != VARIABLE)
+        refuse(w, e->token, "a constant can't be assigned to");
+    if (e->kind == NAME && e->symbol && e->symbol->type.is_const && !e->symbol->type.pointer)
+        refuse(w, e->token, "a const variable can't be assigned to");
     if (e->kind == NAME) return value(w, e);
     if (e->type.is_const && inner(e->a)->type.dimensions) refuse(w, e->token, "a const array can't be assigned to");
     return element(w, e, later, keep);
@@ -338,7 +360,8 @@ static pieces applied(writer *w, const expression *e, const char *left, pieces r
 
 // Writes an assignment. Where its value is wanted, gives it.
 static pieces assign(writer *w, const expression *e, bool wanted) {
-    bool plain = !strcmp(e->operator, "="), hard = needs_statements(e->b), variable = is_name(e->a), truth = e->type.base == BOOL_TYPE && !e->type.pointer;
+    bool plain = !strcmp(e->operator, "="), hard = needs_statements(e->b), variable = is_name(e->a),
+         truth = e->type.base == BOOL_TYPE && !e->type.pointer;
     if (truth && whole_call(e->b) && inner(e->b)->type.base != BOOL_TYPE) hard = true;
     bool keep = !variable && (hard || wanted || (truth && !plain));
     pieces to = target(w, e->a, e->b, keep), result = {0};
@@ -424,8 +447,10 @@ static pieces call(writer *w, const expression *e) {
         put(w, &whole, ")");
         return whole;
     }
-    static const char *const atoms[] = {"add", "sub", "xchg", "inc", "dec", "cmpxchg", "min", "max", "and", "or", "xor"};
-    for (size_t i = 0; !f && i < sizeof atoms / sizeof *atoms; i++) // the names of the extensions (OpenCL 1.2 extensions, 9.5)
+    static const char *const atoms[] = {"add", "sub", "xchg", "inc", "dec", "cmpxchg",
+                                        "min", "max", "and",  "or",  "xor"};
+    for (size_t i = 0; !f && i < sizeof atoms / sizeof *atoms;
+         i++) // the names of the extensions (OpenCL 1.2 extensions, 9.5)
         if (!strncmp(name, "atom_", 5) && !strcmp(name + 5, atoms[i])) {
             text t = {.arena = w->unit->arena};
             addf(&t, "atomic_%s", atoms[i]);
@@ -450,7 +475,7 @@ static pieces call(writer *w, const expression *e) {
 
 // && and || whose right part is hard: an if.
 static pieces logical(writer *w, const expression *e) {
-    bool is_and = *e->operator == '&';
+    bool is_and = *e->operator== '&';
     pieces left = value(w, e->a);
     const char *name = save_as(w, word(w, is_and ? "0" : "1"), (type){.base = INT_TYPE});
     put_apart(w, w->out, is_and ? "if (" : "if (!(");
@@ -556,7 +581,8 @@ static pieces index_value(writer *w, const expression *e) {
     const expression *base;
     pieces p = {0};
     for (base = e; base->kind == INDEX; base = inner(base->a)) {}
-    if (base->kind != NAME || base->type.dimensions != e->type.dimensions + 1 || base->type.space == PRIVATE_SPACE) refuse(w, e->token, "Clsim has no pointers to arrays");
+    if (base->kind != NAME || base->type.dimensions != e->type.dimensions + 1 || base->type.space == PRIVATE_SPACE)
+        refuse(w, e->token, "Clsim has no pointers to arrays");
     pieces index = value(w, e->b);
     put(w, &p, "&");
     put_all(&p, name_value(w, base));
@@ -575,9 +601,7 @@ static pieces value(writer *w, const expression *e) {
     case NAME:
         if (e->type.dimensions > 1) refuse(w, e->token, "Clsim has no pointers to arrays");
         return name_value(w, e);
-    case BRACKETS:
-        p = value(w, e->a);
-        return in_brackets(w, p);
+    case BRACKETS: p = value(w, e->a); return in_brackets(w, p);
     case INDEX: return index_value(w, e);
     case CONTENT: return element(w, e, NULL, false);
     case ADDRESS: return address(w, e);
@@ -612,9 +636,7 @@ static pieces value(writer *w, const expression *e) {
         put_all(&p, value(w, e->c));
         return p;
     }
-    case COMMA:
-        effect(w, e->a);
-        return value(w, e->b);
+    case COMMA: effect(w, e->a); return value(w, e->b);
     case ASSIGNMENT: return assign(w, e, true);
     default: return step(w, e, true);
     }
@@ -627,15 +649,17 @@ static void effect(writer *w, const expression *e) {
     bool conditional = e->kind == BINARY && (!strcmp(e->operator, "&&") || !strcmp(e->operator, "||"));
     if (e->kind == ASSIGNMENT) assign(w, e, false);
     else if (e->kind == STEP_BEFORE || e->kind == STEP_BEHIND) step(w, e, false);
-    else if (e->kind == COMMA) { effect(w, e->a); effect(w, e->b); }
-    else if (e->kind == CAST && is_void(e)) effect(w, e->a);
+    else if (e->kind == COMMA) {
+        effect(w, e->a);
+        effect(w, e->b);
+    } else if (e->kind == CAST && is_void(e)) effect(w, e->a);
     else if (e->kind == CALL) {
         pieces p = call(w, e);
         put_all(w->out, p);
         end_statement(w);
     } else if (e->kind == CHOICE || (conditional && e->b->hard)) {
         pieces test = value(w, e->a);
-        put_apart(w, w->out, conditional && *e->operator == '|' ? "if (!(" : "if ((");
+        put_apart(w, w->out, conditional && *e->operator== '|' ? "if (!(" : "if ((");
         put_all(w->out, test);
         put(w, w->out, "))");
         for (int i = 0; i < (conditional ? 1 : 2); i++) {
@@ -762,7 +786,8 @@ static bool is_simple_begin(const statement *s) {
     if (s->kind == EMPTY) return true;
     if (s->kind == EXPRESSION) return is_simple(s->test);
     const declaration *d = s->declarations;
-    return d && !d->next && d->value && d->symbol->kind == VARIABLE && !d->symbol->type.pointer && d->symbol->type.base != BOOL_TYPE && !needs_statements(d->value);
+    return d && !d->next && d->value && d->symbol->kind == VARIABLE && !d->symbol->type.pointer &&
+           d->symbol->type.base != BOOL_TYPE && !needs_statements(d->value);
 }
 
 // A statement's pieces without its last `;`.
@@ -787,7 +812,8 @@ static void write_for(writer *w, const statement *s) {
         begin_part(w, &block);
         write_statement(w, s->begin);
     }
-    // the third part stands behind the body; where a `continue` leads to it, in front of the condition of all turns but the first
+    // the third part stands behind the body; where a `continue` leads to it, in front of the condition of all turns but
+    // the first
     if (!stepping && s->has_continue) {
         if (begin) {
             begin_part(w, &block);
@@ -861,7 +887,8 @@ static bool breaks(const statement *s) {
     if (!s) return false;
     if (s->kind == BREAK) return true;
     if (s->kind == WHILE || s->kind == DO || s->kind == FOR || s->kind == SWITCH) return false;
-    for (const statement *x = s->kind == BLOCK ? s->first : NULL; x; x = x->next) if (breaks(x)) return true;
+    for (const statement *x = s->kind == BLOCK ? s->first : NULL; x; x = x->next)
+        if (breaks(x)) return true;
     return s->kind == IF && (breaks(s->first) || breaks(s->second));
 }
 static bool leaves(const statement *s) {
@@ -955,9 +982,7 @@ static void write_return(writer *w, const statement *s) {
     type t = w->function->result;
     pieces p = {0};
     if (s->test && t.base == VOID_TYPE) refuse(w, s->token, "this function gives no value");
-    if (s->test) {
-        p = given_to(w, t, s->test, value(w, s->test));
-    }
+    if (s->test) { p = given_to(w, t, s->test, value(w, s->test)); }
     put_token(w, w->out, s->token);
     if (s->test) {
         put_apart(w, w->out, "");
@@ -989,7 +1014,8 @@ static void write_statement(writer *w, const statement *s) {
     case FOR: write_for(w, s); return;
     case SWITCH: write_switch(w, s); return;
     case RETURN: write_return(w, s); return;
-    case BREAK: case CONTINUE:
+    case BREAK:
+    case CONTINUE:
         put_token(w, w->out, s->token);
         end_statement(w);
         return;
@@ -1009,7 +1035,8 @@ static void write_parameter(writer *w, type t, const char *name, size_t token, b
 static void write_function(writer *w, function *f) {
     if (f->written || f->busy || !f->defined) return;
     f->busy = true;
-    for (struct call *c = f->calls; c; c = c->next) write_function(w, c->callee); // what is called stands before the call
+    for (struct call *c = f->calls; c; c = c->next)
+        write_function(w, c->callee); // what is called stands before the call
     w->function = f;
     w->temporaries = 0;
     w->token = f->token;
@@ -1018,7 +1045,8 @@ static void write_function(writer *w, function *f) {
     put_piece(w, w->out, f->symbol->written, " ", f->token);
     put(w, w->out, "(");
     bool first = true;
-    for (const declaration *d = f->parameters; d; d = d->next, first = false) write_parameter(w, d->symbol->type, d->symbol->written, d->token, first);
+    for (const declaration *d = f->parameters; d; d = d->next, first = false)
+        write_parameter(w, d->symbol->type, d->symbol->written, d->token, first);
     for (unsigned i = 0; i < w->unit->table_count; i++)
         if (f->tables[i]) {
             type t = {.base = w->unit->tables[i]->type.base, .space = CONSTANT_SPACE, .pointer = true};
@@ -1030,7 +1058,9 @@ static void write_function(writer *w, function *f) {
     f->written = true;
 }
 
-static bool is_word_byte(char c) { return c == '_' || (c >= '0' && c <= '9') || (c >= 'a' && c <= 'z') || (c >= 'A' && c <= 'Z'); }
+static bool is_word_byte(char c) {
+    return c == '_' || (c >= '0' && c <= '9') || (c >= 'a' && c <= 'z') || (c >= 'A' && c <= 'Z');
+}
 
 // Whether two words that begin and end so would be read as one.
 static bool would_join(char before, char next) {

@@ -1,4 +1,5 @@
-// Writes a tree in the form of Clsim's language. Each step keeps what the program means, and the order in which its parts are evaluated.
+// Writes a tree in the form of Clsim's language. Each step keeps what the program means, and the order in which its
+// parts are evaluated.
 #ifndef CLSIM_REWRITE_H
 #define CLSIM_REWRITE_H
 #include "syntax.h"

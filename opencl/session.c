@@ -79,9 +79,10 @@ static int start(char **words, int in, int out, pid_t *child) {
 }
 
 static void serve_command(char *room, size_t n) {
-    const char *command = setting("CLSIM_SERVE"), *budget = setting("CLSIM_BUDGET"), *workers = setting("CLSIM_WORKERS");
-    snprintf(room, n, "%s%s%s%s%s", command ? command : "clsim serve", budget ? " --budget " : "", budget ? budget : "", workers ? " --workers " : "",
-             workers ? workers : "");
+    const char *command = setting("CLSIM_SERVE"), *budget = setting("CLSIM_BUDGET"),
+               *workers = setting("CLSIM_WORKERS");
+    snprintf(room, n, "%s%s%s%s%s", command ? command : "clsim serve", budget ? " --budget " : "", budget ? budget : "",
+             workers ? " --workers " : "", workers ? workers : "");
 }
 
 static FILE *open_record(void) {
@@ -108,7 +109,10 @@ session *session_open(void) {
     int ends[2];
     session *s = calloc(1, sizeof *s);
     if (!s) return NULL;
-    if (socketpair(AF_UNIX, SOCK_STREAM | SOCK_CLOEXEC, 0, ends)) { free(s); return NULL; }
+    if (socketpair(AF_UNIX, SOCK_STREAM | SOCK_CLOEXEC, 0, ends)) {
+        free(s);
+        return NULL;
+    }
     serve_command(room, sizeof room);
     split_words(room, words);
     int fault = start(words, ends[1], ends[1], &s->child);
@@ -131,7 +135,8 @@ session *session_open(void) {
 void session_close(session *s) {
     int status;
     close(s->fd);
-    if (getpid() == s->owner) while (waitpid(s->child, &status, 0) < 0 && errno == EINTR) {}
+    if (getpid() == s->owner)
+        while (waitpid(s->child, &status, 0) < 0 && errno == EINTR) {}
     if (s->record) fclose(s->record);
     free(s->in);
     free(s);
@@ -205,7 +210,8 @@ static bool explain_command(char *room, size_t n, const char *file) {
         if (length < 6 || strcmp(serve + length - 6, " serve") || length + 2 >= sizeof base) return false;
         snprintf(base, sizeof base, "%.*s explain", (int)(length - 6), serve);
     }
-    int put = snprintf(room, n, "%s %s --format json%s%s", base, file, budget ? " --budget " : "", budget ? budget : "");
+    int put =
+        snprintf(room, n, "%s %s --format json%s%s", base, file, budget ? " --budget " : "", budget ? budget : "");
     return put > 0 && (size_t)put < n;
 }
 
@@ -215,7 +221,10 @@ static char *read_all(int fd) {
     while (s) {
         ssize_t got = read(fd, s + length, room - length - 1);
         if (got < 0 && errno == EINTR) continue;
-        if (got <= 0) { s[length] = 0; return s; }
+        if (got <= 0) {
+            s[length] = 0;
+            return s;
+        }
         length += (size_t)got;
         if (room - length < 2) {
             char *more = realloc(s, room *= 2);
@@ -229,10 +238,12 @@ static char *read_all(int fd) {
 
 char *explain_script(const char *script, size_t length) {
     char path[64], room[COMMAND_ROOM], *words[MAX_WORDS], *read = NULL;
-    int fd = memfd_create("clsim", MFD_CLOEXEC), nothing = open("/dev/null", O_RDONLY | O_CLOEXEC), ends[2] = {-1, -1}, status = -1;
+    int fd = memfd_create("clsim", MFD_CLOEXEC), nothing = open("/dev/null", O_RDONLY | O_CLOEXEC), ends[2] = {-1, -1},
+        status = -1;
     pid_t child;
     snprintf(path, sizeof path, "/proc/%ld/fd/%d", (long)getpid(), fd);
-    bool ready = fd >= 0 && nothing >= 0 && explain_command(room, sizeof room, path) && write(fd, script, length) == (ssize_t)length && !pipe2(ends, O_CLOEXEC);
+    bool ready = script && fd >= 0 && nothing >= 0 && explain_command(room, sizeof room, path) &&
+                 write(fd, script, length) == (ssize_t)length && !pipe2(ends, O_CLOEXEC);
     if (ready) {
         split_words(room, words);
         // a program without the command says so on its standard error: that isn't the client's business

@@ -10,15 +10,16 @@ typedef struct session session;
 session *session_open(void);
 // Ends it: the child sees the end of its input, and is waited for.
 void session_close(session *s);
-// Sends a command's text, with its line feeds, and gives the line of its reply, without its line feed. The line lives until the next
-// call. NULL where the child is gone, or in a forked child of the process that opened the session.
+// Sends a command's text, with its line feeds, and gives the line of its reply, without its line feed. The line lives
+// until the next call. NULL where the child is gone, or in a forked child of the process that opened the session.
 const char *session_ask(session *s, const char *command, size_t length);
 // The same for a text made as by printf.
 const char *session_askf(session *s, const char *format, ...) __attribute__((format(printf, 2, 3)));
 // Whether commands go into the recorded script. A command that changes nothing may be left out.
 void session_record(session *s, bool on);
 
-// Runs `clsim explain` on a script. What it wrote on standard output, NULL where it didn't explain; the caller frees it.
+// Runs `clsim explain` on a script. What it wrote on standard output, NULL where it didn't explain; the caller frees
+// it.
 char *explain_script(const char *script, size_t length);
 
 // A variable of the environment, NULL where it isn't set or is empty.

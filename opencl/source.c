@@ -26,7 +26,9 @@ static char *file_line(arena *a, const char *path, unsigned line) {
     return found ? copy_text(a, room, strcspn(room, "\n")) : NULL;
 }
 
-static bool is_word_byte(char c) { return c == '_' || (c >= '0' && c <= '9') || (c >= 'a' && c <= 'z') || (c >= 'A' && c <= 'Z'); }
+static bool is_word_byte(char c) {
+    return c == '_' || (c >= '0' && c <= '9') || (c >= 'a' && c <= 'z') || (c >= 'A' && c <= 'Z');
+}
 
 // Whether a token's text stands in a line where the preprocessor put it.
 static bool stands_at(const char *line, const token *t) {
@@ -34,7 +36,8 @@ static bool stands_at(const char *line, const token *t) {
     return n && at + n <= strlen(line) && !strncmp(line + at, t->text, n);
 }
 
-// Where a token's text stands in a line as a whole word. That of a macro stands nowhere: then behind the token in front of it.
+// Where a token's text stands in a line as a whole word. That of a macro stands nowhere: then behind the token in front
+// of it.
 static size_t column_in(const prepared *p, const char *line, const token *t) {
     size_t n = strlen(t->text);
     if (stands_at(line, t)) return t->column - 1;
@@ -44,7 +47,8 @@ static size_t column_in(const prepared *p, const char *line, const token *t) {
         return at + strspn(line + at, " \t");
     }
     for (const char *at = n ? strstr(line, t->text) : NULL; at; at = strstr(at + 1, t->text)) {
-        bool starts = at == line || !is_word_byte(at[-1]) || !is_word_byte(*at), ends = !is_word_byte(at[n]) || !is_word_byte(at[n - 1]);
+        bool starts = at == line || !is_word_byte(at[-1]) || !is_word_byte(*at),
+             ends = !is_word_byte(at[n]) || !is_word_byte(at[n - 1]);
         if (starts && ends) return (size_t)(at - line);
     }
     return strspn(line, " \t");
@@ -100,14 +104,25 @@ bool place_of(const prepared *p, size_t offset, char *room, size_t n) {
 // ---- what a refusal means ----
 
 static const char *meaning(const char *name) {
-    static const struct { const char *name, *words; } of[] = {{"UnknownName", "this name stands for nothing that Clsim has"},
-        {"Redeclared", "this name is declared twice"}, {"TypeMismatch", "this is of a wrong kind"}, {"NotAssignable", "this can't be stored to"},
-        {"Recursion", "a function calls itself"}, {"WrongArgumentCount", "too few or too many arguments"},
-        {"WrongSpace", "a pointer to another address space, or to private memory"}, {"BadBarrierFlags", "a barrier takes CLK_LOCAL_MEM_FENCE, CLK_GLOBAL_MEM_FENCE or both"},
-        {"TooManyLoops", "loops are nested more than 8 deep"}, {"TooLarge", "an array is too large, or the kernel has too many parts"},
-        {"MissingReturn", "a function with a value doesn't always return"}, {"TooDeep", "this is nested more than 64 deep"},
-        {"TooLong", "the source has more than 65536 bytes"}, {"NumberTooLarge", "this number is too large"}, {"Unexpected", "this can't stand here"}};
-    for (size_t i = 0; i < sizeof of / sizeof *of; i++) if (!strcmp(name, of[i].name)) return of[i].words;
+    static const struct {
+        const char *name, *words;
+    } of[] = {{"UnknownName", "this name stands for nothing that Clsim has"},
+              {"Redeclared", "this name is declared twice"},
+              {"TypeMismatch", "this is of a wrong kind"},
+              {"NotAssignable", "this can't be stored to"},
+              {"Recursion", "a function calls itself"},
+              {"WrongArgumentCount", "too few or too many arguments"},
+              {"WrongSpace", "a pointer to another address space, or to private memory"},
+              {"BadBarrierFlags", "a barrier takes CLK_LOCAL_MEM_FENCE, CLK_GLOBAL_MEM_FENCE or both"},
+              {"TooManyLoops", "loops are nested more than 8 deep"},
+              {"TooLarge", "an array is too large, or the kernel has too many parts"},
+              {"MissingReturn", "a function with a value doesn't always return"},
+              {"TooDeep", "this is nested more than 64 deep"},
+              {"TooLong", "the source has more than 65536 bytes"},
+              {"NumberTooLarge", "this number is too large"},
+              {"Unexpected", "this can't stand here"}};
+    for (size_t i = 0; i < sizeof of / sizeof *of; i++)
+        if (!strcmp(name, of[i].name)) return of[i].words;
     return name;
 }
 
@@ -122,7 +137,8 @@ const char *build_log(prepared *p, const char *reply) {
     if (known && offset <= p->length) {
         size_t begin = offset;
         while (begin && p->text[begin - 1] != '\n') begin--;
-        addf(&log, "as it is judged:\n%.*s\n%*s^\n", (int)strcspn(p->text + begin, "\n"), p->text + begin, (int)(offset - begin), "");
+        addf(&log, "as it is judged:\n%.*s\n%*s^\n", (int)strcspn(p->text + begin, "\n"), p->text + begin,
+             (int)(offset - begin), "");
     }
     addf(&log, "%s\n", reply);
     return p->log = log.at;
@@ -138,29 +154,42 @@ static void list_kernels(prepared *p, const unit *u) {
     for (const function *f = u->functions; f; f = f->next) {
         if (!f->is_kernel) continue;
         kernel_form *k = &p->kernels[p->kernel_count++];
-        *k = (kernel_form){.name = f->symbol->name, .parameters = take(a, (f->parameter_count + 1) * sizeof(parameter)), .count = f->parameter_count,
-            .tables = take(a, (u->table_count + 1) * sizeof(unsigned)), .group = {f->group[0], f->group[1], f->group[2]}};
+        *k = (kernel_form){.name = f->symbol->name,
+                           .parameters = take(a, (f->parameter_count + 1) * sizeof(parameter)),
+                           .count = f->parameter_count,
+                           .tables = take(a, (u->table_count + 1) * sizeof(unsigned)),
+                           .group = {f->group[0], f->group[1], f->group[2]}};
         unsigned i = 0, locals = f->parameter_count;
         for (const struct use *l = f->locals; l; l = l->next) locals++;
         k->locals = take(a, (locals + 1) * sizeof *k->locals);
         for (const struct use *l = f->locals; l; l = l->next) k->locals[k->local_count++] = l->symbol;
         for (const declaration *d = f->parameters; d; d = d->next) {
             k->parameters[i++] = (parameter){d->symbol->name, d->symbol->type};
-            if (d->symbol->type.pointer && d->symbol->type.space == LOCAL_SPACE) k->locals[k->local_count++] = d->symbol;
+            if (d->symbol->type.pointer && d->symbol->type.space == LOCAL_SPACE)
+                k->locals[k->local_count++] = d->symbol;
         }
-        for (unsigned t = 0; t < u->table_count; t++) if (f->tables[t]) k->tables[k->table_count++] = t;
+        for (unsigned t = 0; t < u->table_count; t++)
+            if (f->tables[t]) k->tables[k->table_count++] = t;
     }
     p->tables = take(a, (u->table_count + 1) * sizeof *p->tables);
     p->table_count = u->table_count;
-    for (unsigned t = 0; t < u->table_count; t++) p->tables[t] = (table){u->tables[t]->name, u->tables[t]->bytes, u->tables[t]->size, size_of(u->tables[t]->type.base)};
+    for (unsigned t = 0; t < u->table_count; t++)
+        p->tables[t] =
+            (table){u->tables[t]->name, u->tables[t]->bytes, u->tables[t]->size, size_of(u->tables[t]->type.base)};
 }
 
 // Two words that Clsim reads alike.
 static bool is_same_word(const char *a, const char *b) {
-    static const char *const pairs[][2] = {{"__kernel", "kernel"}, {"__global", "global"}, {"__local", "local"}, {"__constant", "constant"}, {"ulong", "size_t"}};
+    static const char *const pairs[][2] = {{"__kernel", "kernel"},
+                                           {"__global", "global"},
+                                           {"__local", "local"},
+                                           {"__constant", "constant"},
+                                           {"ulong", "size_t"}};
     if (!strcmp(a, b)) return true;
     for (size_t i = 0; i < sizeof pairs / sizeof *pairs; i++)
-        if ((!strcmp(a, pairs[i][0]) && !strcmp(b, pairs[i][1])) || (!strcmp(a, pairs[i][1]) && !strcmp(b, pairs[i][0]))) return true;
+        if ((!strcmp(a, pairs[i][0]) && !strcmp(b, pairs[i][1])) ||
+            (!strcmp(a, pairs[i][1]) && !strcmp(b, pairs[i][0])))
+            return true;
     return false;
 }
 
@@ -177,7 +206,8 @@ static void keep_text(prepared *p, char *judged) {
     p->text = judged;
     p->length = strlen(judged);
     p->places = take(&p->arena, t.count * sizeof *p->places);
-    for (size_t i = 0; i < t.count && i < p->tokens.count; i++) p->places[p->place_count++] = (place){t.at[i].offset, i};
+    for (size_t i = 0; i < t.count && i < p->tokens.count; i++)
+        p->places[p->place_count++] = (place){t.at[i].offset, i};
 }
 
 // ---- the whole ----
@@ -201,11 +231,13 @@ static bool make_ready(prepared *p, const char *options) {
         return false;
     }
     parse(u, &wrong);
-    // CLSIM_REWRITE=0 sends the source as it is, 1 what is written of its tree; without it, what is written where that has other words
+    // CLSIM_REWRITE=0 sends the source as it is, 1 what is written of its tree; without it, what is written where that
+    // has other words
     bool never = rewriting && !strcmp(rewriting, "0"), always = rewriting && !strcmp(rewriting, "1");
     judged_text j = {NULL, 0, NULL, 0};
     if (!never) j = rewrite(u, &wrong);
-    if (never || (!always && is_as_written(&p->arena, &u->tokens, j.text))) keep_text(p, without_markers(&p->arena, read, marked));
+    if (never || (!always && is_as_written(&p->arena, &u->tokens, j.text)))
+        keep_text(p, without_markers(&p->arena, read, marked));
     else {
         p->text = j.text;
         p->length = j.length;

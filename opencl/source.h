@@ -1,4 +1,5 @@
-// A client's source, made ready for the device: preprocessed, in the form of Clsim's language, with its kernels and where each byte comes from.
+// A client's source, made ready for the device: preprocessed, in the form of Clsim's language, with its kernels and
+// where each byte comes from.
 #ifndef CLSIM_SOURCE_H
 #define CLSIM_SOURCE_H
 #include "rewrite.h"

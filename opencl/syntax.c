@@ -19,8 +19,8 @@ typedef struct {
     scope *scope;
     scope *top;
     function *function;
-    statement *loop;        // the innermost loop
-    statement *breakable;   // the innermost loop or switch
+    statement *loop;      // the innermost loop
+    statement *breakable; // the innermost loop or switch
     symbol *variables;
     unsigned nesting;
 } parser;
@@ -33,7 +33,8 @@ unsigned size_of(base_type b) {
     return sizes[b];
 }
 const char *name_of(base_type b) {
-    static const char *const names[] = {"void", "uchar", "char", "uchar", "short", "ushort", "int", "uint", "long", "ulong"};
+    static const char *const names[] = {"void",   "uchar", "char", "uchar", "short",
+                                        "ushort", "int",   "uint", "long",  "ulong"};
     return names[b];
 }
 base_type promoted(base_type b) { return b < INT_TYPE ? INT_TYPE : b; }
@@ -57,11 +58,10 @@ const expression *inner(const expression *e) {
 static bool binary_value(const char *op, base_type t, base_type left, uint64_t l, uint64_t r, uint64_t *value) {
     unsigned width = 8 * size_of(t);
     bool sign = is_signed(t);
-    if (!strcmp(op, "<<")) *value = converted(l << (r % (8 * size_of(left))), left);
-    else if (!strcmp(op, ">>")) {
-        unsigned by = (unsigned)(r % (8 * size_of(left)));
-        *value = is_signed(left) ? (uint64_t)((int64_t)l >> by) : l >> by;
-    } else {
+    unsigned by = (unsigned)r % (8 * size_of(left)); // how far is a shift, by the width of its left part
+    if (!strcmp(op, "<<")) *value = converted(l << by, left);
+    else if (!strcmp(op, ">>")) *value = is_signed(left) ? (uint64_t)((int64_t)l >> by) : l >> by;
+    else {
         l = converted(l, t);
         r = converted(r, t);
         bool least = sign && l == converted((uint64_t)1 << (width - 1), t) && r == UINT64_MAX;
@@ -74,11 +74,18 @@ static bool binary_value(const char *op, base_type t, base_type left, uint64_t l
         else if (!strcmp(op, "&")) *value = l & r;
         else if (!strcmp(op, "|")) *value = l | r;
         else if (!strcmp(op, "^")) *value = l ^ r;
-        else if (!strcmp(op, "==")) { *value = l == r; return true; }
-        else if (!strcmp(op, "!=")) { *value = l != r; return true; }
-        else {
+        else if (!strcmp(op, "==")) {
+            *value = l == r;
+            return true;
+        } else if (!strcmp(op, "!=")) {
+            *value = l != r;
+            return true;
+        } else {
             bool less = sign ? (int64_t)l < (int64_t)r : l < r;
-            *value = !strcmp(op, "<") ? less : !strcmp(op, "<=") ? less || l == r : !strcmp(op, ">") ? !less && l != r : !less;
+            *value = !strcmp(op, "<")    ? less
+                     : !strcmp(op, "<=") ? less || l == r
+                     : !strcmp(op, ">")  ? !less && l != r
+                                         : !less;
             return true;
         }
         *value = converted(*value, t);
@@ -132,7 +139,8 @@ static token *ahead(parser *p, size_t n) {
 static bool is(const token *t, const char *text) { return t->kind != END_TOKEN && !strcmp(t->text, text); }
 static bool sees(parser *p, const char *text) { return is(now(p), text); }
 static bool is_one_of(const char *s, const char *const *words) {
-    for (; *words; words++) if (!strcmp(s, *words)) return true;
+    for (; *words; words++)
+        if (!strcmp(s, *words)) return true;
     return false;
 }
 
@@ -145,9 +153,11 @@ _Noreturn static void complain_at(parser *p, size_t token, const char *message) 
 // What a token is that stands nowhere in the language.
 static const char *hint(const token *t) {
     static const char *const floats[] = {"float", "double", "half", NULL};
-    static const char *const scalars[] = {"char", "uchar", "short", "ushort", "int", "uint", "long", "ulong", "float", "double", "half", NULL};
-    static const char *const images[] = {"image1d_t", "image1d_buffer_t", "image1d_array_t", "image2d_t", "image2d_array_t", "image3d_t", "sampler_t", "read_only", "__read_only",
-        "write_only", "__write_only", "read_write", NULL};
+    static const char *const scalars[] = {"char", "uchar", "short", "ushort", "int",  "uint",
+                                          "long", "ulong", "float", "double", "half", NULL};
+    static const char *const images[] = {
+        "image1d_t", "image1d_buffer_t", "image1d_array_t", "image2d_t",    "image2d_array_t", "image3d_t", "sampler_t",
+        "read_only", "__read_only",      "write_only",      "__write_only", "read_write",      NULL};
     static const char *const aggregates[] = {"struct", "union", "enum", NULL};
     const char *s = t->text;
     if (t->kind == END_TOKEN) return "the source ends too early";
@@ -156,7 +166,8 @@ static const char *hint(const token *t) {
         if (!strncmp(s, scalars[i], n) && isdigit((unsigned char)s[n])) return "Clsim has no vector types";
     }
     if (is_one_of(s, floats)) return "Clsim has no floating point";
-    if (t->kind == NUMBER_TOKEN && (strchr(s, '.') || (s[1] != 'x' && s[1] != 'X' && strpbrk(s, "eEfF")))) return "Clsim has no floating point";
+    if (t->kind == NUMBER_TOKEN && (strchr(s, '.') || (s[1] != 'x' && s[1] != 'X' && strpbrk(s, "eEfF"))))
+        return "Clsim has no floating point";
     if (is_one_of(s, images)) return "Clsim has no images and samplers";
     if (is_one_of(s, aggregates)) return "Clsim has no structs and unions, and no types of enumerations";
     if (!strcmp(s, "goto")) return "Clsim has no goto";
@@ -171,23 +182,55 @@ static bool accept(parser *p, const char *text) {
     p->at++;
     return true;
 }
-static void expect(parser *p, const char *text) { if (!accept(p, text)) complain(p); }
+static void expect(parser *p, const char *text) {
+    if (!accept(p, text)) complain(p);
+}
 
-static void deeper(parser *p) { if (++p->nesting > MAX_NESTING) complain_at(p, p->at, "this is nested too deep"); }
+static void deeper(parser *p) {
+    if (++p->nesting > MAX_NESTING) complain_at(p, p->at, "this is nested too deep");
+}
 
 // ---- names ----
 
-static const char *const builtins[] = {"get_work_dim", "get_global_id", "get_local_id", "get_group_id", "get_global_offset", "get_global_size",
-    "get_local_size", "get_num_groups", "min", "max", "abs", "clz", "popcount", "rotate", "barrier", "atomic_add", "atomic_sub", "atomic_min", "atomic_max",
-    "atomic_and", "atomic_or", "atomic_xor", "atomic_inc", "atomic_dec", "atomic_xchg", "atomic_cmpxchg", "CLK_LOCAL_MEM_FENCE", "CLK_GLOBAL_MEM_FENCE", NULL};
+static const char *const builtins[] = {"get_work_dim",
+                                       "get_global_id",
+                                       "get_local_id",
+                                       "get_group_id",
+                                       "get_global_offset",
+                                       "get_global_size",
+                                       "get_local_size",
+                                       "get_num_groups",
+                                       "min",
+                                       "max",
+                                       "abs",
+                                       "clz",
+                                       "popcount",
+                                       "rotate",
+                                       "barrier",
+                                       "atomic_add",
+                                       "atomic_sub",
+                                       "atomic_min",
+                                       "atomic_max",
+                                       "atomic_and",
+                                       "atomic_or",
+                                       "atomic_xor",
+                                       "atomic_inc",
+                                       "atomic_dec",
+                                       "atomic_xchg",
+                                       "atomic_cmpxchg",
+                                       "CLK_LOCAL_MEM_FENCE",
+                                       "CLK_GLOBAL_MEM_FENCE",
+                                       NULL};
 
 static symbol *find(parser *p, const char *name) {
     for (scope *s = p->scope; s; s = s->outer)
-        for (symbol *y = s->symbols; y; y = y->next) if (!strcmp(y->name, name)) return y;
+        for (symbol *y = s->symbols; y; y = y->next)
+            if (!strcmp(y->name, name)) return y;
     return NULL;
 }
 static symbol *declare(parser *p, symbol_kind kind, const char *name, size_t token) {
-    for (symbol *y = p->scope->symbols; y; y = y->next) if (!strcmp(y->name, name)) complain_at(p, token, "this name is declared twice");
+    for (symbol *y = p->scope->symbols; y; y = y->next)
+        if (!strcmp(y->name, name)) complain_at(p, token, "this name is declared twice");
     symbol *y = take(p->unit->arena, sizeof *y);
     *y = (symbol){.next = p->scope->symbols, .kind = kind, .name = name, .written = name};
     p->scope->symbols = y;
@@ -203,7 +246,8 @@ static void close_scope(parser *p) { p->scope = p->scope->outer; }
 // A name that Clsim keeps for itself, or gives to a function of the source, gets the mark in front.
 static void rename_if_taken(parser *p, symbol *y) {
     bool taken = is_one_of(y->name, builtins);
-    for (symbol *f = p->top->symbols; f && !taken; f = f->next) taken = f->kind == FUNCTION && !strcmp(f->name, y->name);
+    for (symbol *f = p->top->symbols; f && !taken; f = f->next)
+        taken = f->kind == FUNCTION && !strcmp(f->name, y->name);
     if (!taken) return;
     text t = {.arena = p->unit->arena};
     addf(&t, "%smy_%s", p->unit->mark, y->name);
@@ -231,7 +275,8 @@ static void read_attribute(parser *p, specifiers *s) {
             depth++;
             for (int d = 0; d < 3; d++) {
                 if (d) expect(p, ",");
-                if (!constant_value(read_assignment(p), &s->group[d]) || !s->group[d]) complain_at(p, p->at, "a size of a group is a number above 0");
+                if (!constant_value(read_assignment(p), &s->group[d]) || !s->group[d])
+                    complain_at(p, p->at, "a size of a group is a number above 0");
             }
         }
         depth += sees(p, "(");
@@ -241,21 +286,36 @@ static void read_attribute(parser *p, specifiers *s) {
 
 static bool read_specifier(parser *p, specifiers *s, unsigned *words) {
     enum { UNSIGNED = 1, SIGNED = 2, CHAR = 4, SHORT = 8, INT = 16, LONG = 32 };
-    static const struct { const char *name; unsigned word; } parts[] = {{"unsigned", UNSIGNED}, {"signed", SIGNED}, {"char", CHAR}, {"short", SHORT},
-        {"int", INT}, {"long", LONG}};
-    static const struct { const char *name; base_type base; } whole[] = {{"void", VOID_TYPE}, {"bool", BOOL_TYPE}, {"uchar", UCHAR_TYPE},
-        {"ushort", USHORT_TYPE}, {"uint", UINT_TYPE}, {"ulong", ULONG_TYPE}, {"size_t", ULONG_TYPE}, {"ptrdiff_t", LONG_TYPE}};
-    static const struct { const char *name; space space; } spaces[] = {{"global", GLOBAL_SPACE}, {"__global", GLOBAL_SPACE}, {"local", LOCAL_SPACE},
-        {"__local", LOCAL_SPACE}, {"constant", CONSTANT_SPACE}, {"__constant", CONSTANT_SPACE}, {"private", PRIVATE_SPACE}, {"__private", PRIVATE_SPACE}};
-    static const char *const dropped[] = {"volatile", "restrict", "__restrict", "inline", "__inline", "__inline__", "static", "extern", "register", "auto", NULL};
+    static const struct {
+        const char *name;
+        unsigned word;
+    } parts[] = {{"unsigned", UNSIGNED}, {"signed", SIGNED}, {"char", CHAR},
+                 {"short", SHORT},       {"int", INT},       {"long", LONG}};
+    static const struct {
+        const char *name;
+        base_type base;
+    } whole[] = {{"void", VOID_TYPE}, {"bool", BOOL_TYPE},   {"uchar", UCHAR_TYPE},  {"ushort", USHORT_TYPE},
+                 {"uint", UINT_TYPE}, {"ulong", ULONG_TYPE}, {"size_t", ULONG_TYPE}, {"ptrdiff_t", LONG_TYPE}};
+    static const struct {
+        const char *name;
+        space space;
+    } spaces[] = {{"global", GLOBAL_SPACE},   {"__global", GLOBAL_SPACE},   {"local", LOCAL_SPACE},
+                  {"__local", LOCAL_SPACE},   {"constant", CONSTANT_SPACE}, {"__constant", CONSTANT_SPACE},
+                  {"private", PRIVATE_SPACE}, {"__private", PRIVATE_SPACE}};
+    static const char *const dropped[] = {"volatile", "restrict", "__restrict", "inline", "__inline", "__inline__",
+                                          "static",   "extern",   "register",   "auto",   NULL};
     const char *w = now(p)->text;
     if (now(p)->kind != NAME_TOKEN) return false;
     for (size_t i = 0; i < sizeof parts / sizeof *parts; i++)
         if (!strcmp(w, parts[i].name)) {
-            if (*words & parts[i].word || (s->has_type && !*words)) complain_at(p, p->at, parts[i].word == LONG ? "Clsim has no long long" : hint(now(p)));
+            if (*words & parts[i].word || (s->has_type && !*words))
+                complain_at(p, p->at, parts[i].word == LONG ? "Clsim has no long long" : hint(now(p)));
             *words |= parts[i].word;
             s->has_type = true;
-            base_type base = *words & CHAR ? CHAR_TYPE : *words & SHORT ? SHORT_TYPE : *words & LONG ? LONG_TYPE : INT_TYPE;
+            base_type base = *words & CHAR    ? CHAR_TYPE
+                             : *words & SHORT ? SHORT_TYPE
+                             : *words & LONG  ? LONG_TYPE
+                                              : INT_TYPE;
             s->type.base = *words & UNSIGNED ? base + 1 : base;
             return true;
         }
@@ -272,9 +332,18 @@ static bool read_specifier(parser *p, specifiers *s, unsigned *words) {
             s->type.space = spaces[i].space;
             return true;
         }
-    if (!strcmp(w, "const")) { s->type.is_const = true; return true; }
-    if (!strcmp(w, "kernel") || !strcmp(w, "__kernel")) { s->is_kernel = true; return true; }
-    if (!strcmp(w, "typedef")) { s->is_typedef = true; return true; }
+    if (!strcmp(w, "const")) {
+        s->type.is_const = true;
+        return true;
+    }
+    if (!strcmp(w, "kernel") || !strcmp(w, "__kernel")) {
+        s->is_kernel = true;
+        return true;
+    }
+    if (!strcmp(w, "typedef")) {
+        s->is_typedef = true;
+        return true;
+    }
     if (is_one_of(w, dropped)) return true;
     symbol *y = s->has_type ? NULL : find(p, w);
     if (!y || y->kind != TYPE_NAME) return false;
@@ -291,7 +360,11 @@ static bool read_specifiers(parser *p, specifiers *s) {
     unsigned words = 0;
     memset(s, 0, sizeof *s);
     for (;;) {
-        if (sees(p, "__attribute__")) { p->at++; read_attribute(p, s); continue; }
+        if (sees(p, "__attribute__")) {
+            p->at++;
+            read_attribute(p, s);
+            continue;
+        }
         if (!read_specifier(p, s, &words)) break;
         p->at++;
     }
@@ -329,7 +402,8 @@ static void read_lengths(parser *p, type *t) {
         if (t->dimensions == 8) complain_at(p, p->at, "Clsim has no arrays of more than eight dimensions");
         size_t at = p->at;
         uint64_t n = 0;
-        if (!sees(p, "]") && (!constant_value(read_assignment(p), &n) || !n || n > 1u << 20)) complain_at(p, at, "the length of an array is a number from 1 on");
+        if (!sees(p, "]") && (!constant_value(read_assignment(p), &n) || !n || n > 1u << 20))
+            complain_at(p, at, "the length of an array is a number from 1 on");
         lengths[t->dimensions++] = n; // 0: told by the initialiser
         expect(p, "]");
     }
@@ -367,8 +441,11 @@ static void read_number(parser *p, expression *e) {
     decimal = decimal || strchr("123456789", *s);
     bool not_int = value > 0x7fffffff, not_uint = value > 0xffffffff, not_long = value > INT64_MAX;
     if (decimal && !is_unsigned && not_long) complain_at(p, p->at, "this number is too large");
-    base_type t = is_unsigned ? (is_long || not_uint ? ULONG_TYPE : UINT_TYPE)
-        : not_long ? ULONG_TYPE : is_long || not_uint || (decimal && not_int) ? LONG_TYPE : not_int ? UINT_TYPE : INT_TYPE;
+    base_type t = is_unsigned                                   ? (is_long || not_uint ? ULONG_TYPE : UINT_TYPE)
+                  : not_long                                    ? ULONG_TYPE
+                  : is_long || not_uint || (decimal && not_int) ? LONG_TYPE
+                  : not_int                                     ? UINT_TYPE
+                                                                : INT_TYPE;
     e->type = number_type(t);
     e->value = value;
 }
@@ -378,12 +455,14 @@ static void read_character(parser *p, expression *e) {
     static const char escapes[] = "n\nt\tr\r0\0a\ab\bf\fv\v\\\\''\"\"??";
     long value = -1;
     if (s[1] == '\\' && s[2] && s[3] == '\'' && !s[4]) {
-        for (size_t i = 0; i + 1 < sizeof escapes; i += 2) if (escapes[i] == s[2]) value = escapes[i + 1];
+        for (size_t i = 0; i + 1 < sizeof escapes; i += 2)
+            if (escapes[i] == s[2]) value = (unsigned char)escapes[i + 1];
     } else if (s[1] == '\\' && s[2] == 'x') {
         char *end;
-        value = (signed char)strtoul(s + 3, &end, 16);
+        value = (long)strtoul(s + 3, &end, 16);
+        if (value > 127) value -= 256; // a char is signed
         if (strcmp(end, "'") || end == s + 3 || end > s + 5) value = -1000;
-    } else if (s[1] && s[1] != '\\' && s[1] > 0 && s[2] == '\'' && !s[3]) value = s[1];
+    } else if (s[1] && s[1] != '\\' && s[1] > 0 && s[2] == '\'' && !s[3]) value = (unsigned char)s[1];
     else value = -1000;
     if (value == -1000) complain_at(p, p->at, "Clsim has no such character");
     e->type = number_type(INT_TYPE);
@@ -392,7 +471,8 @@ static void read_character(parser *p, expression *e) {
 
 // The type of a call of a function that the language has. Other names are judged later.
 static base_type builtin_type(const char *name, const expression *first) {
-    static const char *const sizes[] = {"get_global_id", "get_local_id", "get_group_id", "get_global_offset", "get_global_size", "get_local_size", "get_num_groups", NULL};
+    static const char *const sizes[] = {"get_global_id",   "get_local_id",   "get_group_id",   "get_global_offset",
+                                        "get_global_size", "get_local_size", "get_num_groups", NULL};
     if (is_one_of(name, sizes)) return ULONG_TYPE;
     if (!strcmp(name, "get_work_dim")) return UINT_TYPE;
     if (!strcmp(name, "barrier")) return VOID_TYPE;
@@ -478,7 +558,8 @@ static expression *read_primary(parser *p) {
         return e;
     }
     if (y && y->kind == FUNCTION) complain_at(p, p->at, "a function's name can only be called");
-    if (!y && !is_one_of(t->text, builtins)) complain_at(p, p->at, strcmp(hint(t), "this can't stand here") ? hint(t) : "this name is unknown");
+    if (!y && !is_one_of(t->text, builtins))
+        complain_at(p, p->at, strcmp(hint(t), "this can't stand here") ? hint(t) : "this name is unknown");
     e = make(p, NAME, p->at, p->at);
     e->symbol = y;
     e->type = y ? y->type : number_type(UINT_TYPE);
@@ -514,7 +595,7 @@ static expression *read_postfix(parser *p) {
             whole->hard = e->hard || whole->b->hard;
         } else if (sees(p, "++") || sees(p, "--")) {
             whole = make(p, STEP_BEHIND, first, p->at);
-            whole->operator = now(p)->text;
+            whole->operator= now(p)->text;
             p->at++;
             whole->a = e;
             whole->type = e->type;
@@ -549,7 +630,8 @@ static expression *read_cast(parser *p) {
     if (e->type.pointer) {
         type from = e->a->type;
         if (!from.pointer && !from.dimensions) complain_at(p, e->token, "Clsim has no casts to pointers");
-        if (from.base != e->type.base || from.space != e->type.space) complain_at(p, e->token, "Clsim has no casts between pointers of two types");
+        if (from.base != e->type.base || from.space != e->type.space)
+            complain_at(p, e->token, "Clsim has no casts between pointers of two types");
     } else if (e->a->type.pointer || e->a->type.dimensions) complain_at(p, e->token, "Clsim has no casts of pointers");
     return e;
 }
@@ -569,7 +651,10 @@ static expression *read_sizeof(parser *p) {
         specifiers s;
         p->at++;
         read_specifiers(p, &s);
-        if (sees(p, "*")) { t = (type){.pointer = true}; p->at++; } else t = s.type;
+        if (sees(p, "*")) {
+            t = (type){.pointer = true};
+            p->at++;
+        } else t = s.type;
         expect(p, ")");
     } else {
         struct call *calls = p->function ? p->function->calls : NULL;
@@ -589,7 +674,7 @@ static expression *read_unary(parser *p) {
     else if (sees(p, "(") && is_type_ahead(p)) e = read_cast(p);
     else if (sees(p, "++") || sees(p, "--")) {
         e = make(p, STEP_BEFORE, first, p->at);
-        e->operator = now(p)->text;
+        e->operator= now(p)->text;
         p->at++;
         e->a = read_unary(p);
         e->type = e->a->type;
@@ -601,10 +686,12 @@ static expression *read_unary(parser *p) {
         const expression *of = inner(e->a);
         e->hard = of->hard;
         bool scalar = of->kind == NAME && of->symbol && of->symbol->is_scalar;
-        if (of->kind != INDEX && of->kind != CONTENT && !scalar) complain_at(p, e->token, "Clsim has no pointers to private memory");
+        if (of->kind != INDEX && of->kind != CONTENT && !scalar)
+            complain_at(p, e->token, "Clsim has no pointers to private memory");
         e->type = of->kind == CONTENT ? of->a->type : scalar ? of->symbol->type : of->a->type;
         if (e->type.dimensions > 1) complain_at(p, e->token, "Clsim has no pointers to arrays");
-        if (e->type.dimensions && e->type.space == PRIVATE_SPACE) complain_at(p, e->token, "Clsim has no pointers to private memory");
+        if (e->type.dimensions && e->type.space == PRIVATE_SPACE)
+            complain_at(p, e->token, "Clsim has no pointers to private memory");
         e->type.pointer = true;
         e->type.dimensions = 0;
     } else if (sees(p, "*")) {
@@ -616,18 +703,26 @@ static expression *read_unary(parser *p) {
         e->hard = e->a->hard;
     } else if (sees(p, "+") || sees(p, "-") || sees(p, "~") || sees(p, "!")) {
         e = make(p, UNARY, first, p->at);
-        e->operator = now(p)->text;
+        e->operator= now(p)->text;
         p->at++;
         e->a = read_unary(p);
-        e->type = number_type(*e->operator == '!' ? INT_TYPE : promoted(e->a->type.base));
+        e->type = number_type(*e->operator== '!' ? INT_TYPE : promoted(e->a->type.base));
         e->hard = e->a->hard;
     } else e = read_postfix(p);
     p->nesting--;
     return e;
 }
 
-static const char *const levels[][5] = {{"||", NULL}, {"&&", NULL}, {"|", NULL}, {"^", NULL}, {"&", NULL}, {"==", "!=", NULL}, {"<", ">", "<=", ">=", NULL},
-    {"<<", ">>", NULL}, {"+", "-", NULL}, {"*", "/", "%", NULL}};
+static const char *const levels[][5] = {{"||", NULL},
+                                        {"&&", NULL},
+                                        {"|", NULL},
+                                        {"^", NULL},
+                                        {"&", NULL},
+                                        {"==", "!=", NULL},
+                                        {"<", ">", "<=", ">=", NULL},
+                                        {"<<", ">>", NULL},
+                                        {"+", "-", NULL},
+                                        {"*", "/", "%", NULL}};
 enum { LEVELS = sizeof levels / sizeof *levels, SHIFTS = 7, SUMS = 8 };
 
 static type binary_type(const expression *l, const expression *r, unsigned level) {
@@ -651,7 +746,7 @@ static expression *read_binary(parser *p, unsigned level) {
         deeper(p);
         opened++;
         expression *whole = make(p, BINARY, first, p->at);
-        whole->operator = now(p)->text;
+        whole->operator= now(p)->text;
         p->at++;
         whole->a = e;
         whole->b = read_binary(p, level + 1);
@@ -675,7 +770,9 @@ static expression *read_conditional(parser *p) {
         expect(p, ":");
         whole->c = read_conditional(p);
         bool is_void = whole->b->type.base == VOID_TYPE && !whole->b->type.pointer;
-        whole->type = whole->b->type.pointer ? whole->b->type : number_type(is_void ? VOID_TYPE : common(whole->b->type.base, whole->c->type.base));
+        whole->type = whole->b->type.pointer
+                          ? whole->b->type
+                          : number_type(is_void ? VOID_TYPE : common(whole->b->type.base, whole->c->type.base));
         whole->hard = e->hard || whole->b->hard || whole->c->hard;
         e = whole;
     }
@@ -691,9 +788,11 @@ static expression *read_assignment(parser *p) {
     if (now(p)->kind != SYMBOL_TOKEN || !is_one_of(now(p)->text, signs)) return e;
     expression *whole = make(p, ASSIGNMENT, first, p->at);
     const expression *target = inner(e);
-    whole->operator = now(p)->text;
-    if (target->kind != NAME && target->kind != INDEX && target->kind != CONTENT) complain_at(p, first, "this can't be assigned to");
-    if (target->kind == NAME && target->type.dimensions && !(target->symbol && target->symbol->is_scalar)) complain_at(p, first, "an array can't be assigned to");
+    whole->operator= now(p)->text;
+    if (target->kind != NAME && target->kind != INDEX && target->kind != CONTENT)
+        complain_at(p, first, "this can't be assigned to");
+    if (target->kind == NAME && target->type.dimensions && !(target->symbol && target->symbol->is_scalar))
+        complain_at(p, first, "an array can't be assigned to");
     deeper(p);
     p->at++;
     whole->a = e;
@@ -739,7 +838,8 @@ enum { MAX_ELEMENTS = 32768 };
 // A list in braces, from a place of the array on (C99 6.7.8). Gives how far it goes.
 static size_t read_list(parser *p, declaration *d, unsigned dimension, size_t place) {
     type t = d->symbol->type;
-    size_t part = (size_t)elements_from(t, dimension + 1), end = t.lengths[dimension] ? place + part * (size_t)t.lengths[dimension] : MAX_ELEMENTS;
+    size_t part = (size_t)elements_from(t, dimension + 1),
+           end = t.lengths[dimension] ? place + part * (size_t)t.lengths[dimension] : MAX_ELEMENTS;
     expect(p, "{");
     while (!sees(p, "}")) {
         if (place >= end) complain_at(p, p->at, "these are more elements than the array has");
@@ -773,7 +873,8 @@ static void read_constant(parser *p, declaration *d) {
     if (!y->type.dimensions) {
         uint64_t value;
         size_t at = p->at;
-        if (!constant_value(read_assignment(p), &value)) complain_at(p, at, "the value of a constant is one that is known when the source is built");
+        if (!constant_value(read_assignment(p), &value))
+            complain_at(p, at, "the value of a constant is one that is known when the source is built");
         y->kind = NUMBER_CONSTANT;
         y->value = converted(value, y->type.base);
         return;
@@ -785,7 +886,9 @@ static void read_constant(parser *p, declaration *d) {
     y->bytes = take(p->unit->arena, y->size);
     for (size_t i = 0; i < d->length; i++) {
         uint64_t value = 0;
-        if (d->elements[i] && !constant_value(d->elements[i], &value)) complain_at(p, d->elements[i]->first, "the value of a constant is one that is known when the source is built");
+        if (d->elements[i] && !constant_value(d->elements[i], &value))
+            complain_at(p, d->elements[i]->first,
+                        "the value of a constant is one that is known when the source is built");
         value = converted(value, y->type.base);
         for (unsigned b = 0; b < width; b++) y->bytes[i * width + b] = (unsigned char)(value >> 8 * b);
     }
@@ -833,7 +936,8 @@ static declaration *read_declarator(parser *p, const specifiers *s) {
         else d->value = read_assignment(p);
         y->settled = true;
     }
-    for (unsigned i = 0; i < t.dimensions; i++) if (!y->type.lengths[i]) complain_at(p, d->token, "the length of an array is a number from 1 on");
+    for (unsigned i = 0; i < t.dimensions; i++)
+        if (!y->type.lengths[i]) complain_at(p, d->token, "the length of an array is a number from 1 on");
     return d;
 }
 
@@ -869,7 +973,8 @@ static void read_enumeration(parser *p) {
     while (!sees(p, "}")) {
         symbol *y = declare(p, NUMBER_CONSTANT, read_name(p), p->at);
         p->at++;
-        if (accept(p, "=") && !constant_value(read_assignment(p), &value)) complain_at(p, p->at - 1, "the value of a constant is one that is known when the source is built");
+        if (accept(p, "=") && !constant_value(read_assignment(p), &value))
+            complain_at(p, p->at - 1, "the value of a constant is one that is known when the source is built");
         y->type = number_type(INT_TYPE);
         y->value = value = converted(value, INT_TYPE);
         value++;
@@ -912,7 +1017,10 @@ static statement *read_block(parser *p) {
     expect(p, "{");
     deeper(p);
     while (!sees(p, "}")) {
-        if (sees(p, "enum")) { read_enumeration(p); continue; }
+        if (sees(p, "enum")) {
+            read_enumeration(p);
+            continue;
+        }
         *link = begins_declaration(p) ? read_declaration(p) : read_statement(p);
         link = &(*link)->next;
     }
@@ -994,7 +1102,8 @@ static statement *read_label(parser *p) {
     p->at++;
     if (s->kind == CASE) {
         size_t at = p->at;
-        if (!constant_value(read_conditional(p), &s->value)) complain_at(p, at, "the value of a case is one that is known when the source is built");
+        if (!constant_value(read_conditional(p), &s->value))
+            complain_at(p, at, "the value of a case is one that is known when the source is built");
     }
     expect(p, ":");
     return s;
@@ -1054,7 +1163,8 @@ static declaration *read_parameter(parser *p, bool of_kernel) {
     size_t begin = p->at;
     if (!read_specifiers(p, &s)) complain(p);
     for (size_t i = begin; of_kernel && i < p->at; i++)
-        if (is_one_of(p->unit->tokens.at[i].text, inner_types)) complain_at(p, i, "a parameter of a kernel can't be of this type (OpenCL 1.2, 6.9)");
+        if (is_one_of(p->unit->tokens.at[i].text, inner_types))
+            complain_at(p, i, "a parameter of a kernel can't be of this type (OpenCL 1.2, 6.9)");
     type t = read_pointer(p, &s);
     d->token = p->at;
     const char *name = "";
@@ -1065,7 +1175,8 @@ static declaration *read_parameter(parser *p, bool of_kernel) {
     if (sees(p, "[")) { // a pointer (C99 6.7.5.3)
         type array = t;
         read_lengths(p, &array);
-        if (array.dimensions > 1 || !s.has_space || t.space == PRIVATE_SPACE) complain_at(p, d->token, "Clsim has no such parameter");
+        if (array.dimensions > 1 || !s.has_space || t.space == PRIVATE_SPACE)
+            complain_at(p, d->token, "Clsim has no such parameter");
         t.pointer = true;
     }
     if (!t.pointer && t.base == VOID_TYPE) complain_at(p, d->token, "a parameter has a type");
@@ -1141,14 +1252,24 @@ static void read_function(parser *p, const specifiers *s, type result) {
 static void read_top(parser *p) {
     specifiers s;
     if (accept(p, ";")) return;
-    if (sees(p, "enum")) { read_enumeration(p); return; }
+    if (sees(p, "enum")) {
+        read_enumeration(p);
+        return;
+    }
     if (!read_specifiers(p, &s)) complain(p);
-    if (s.is_typedef) { read_typedef(p, &s); return; }
+    if (s.is_typedef) {
+        read_typedef(p, &s);
+        return;
+    }
     size_t begin = p->at;
     type t = read_pointer(p, &s);
-    if (now(p)->kind == NAME_TOKEN && is(ahead(p, 1), "(")) { read_function(p, &s, t); return; }
+    if (now(p)->kind == NAME_TOKEN && is(ahead(p, 1), "(")) {
+        read_function(p, &s, t);
+        return;
+    }
     p->at = begin;
-    if (s.type.space != CONSTANT_SPACE || t.pointer) complain_at(p, begin, "a variable outside of functions stands in constant memory (OpenCL 1.2, 6.5)");
+    if (s.type.space != CONSTANT_SPACE || t.pointer)
+        complain_at(p, begin, "a variable outside of functions stands in constant memory (OpenCL 1.2, 6.5)");
     read_declarators(p, &s);
     expect(p, ";");
 }
@@ -1158,7 +1279,10 @@ static const char *new_mark(unit *u) {
     text t = {.arena = u->arena};
     add(&t, "clsim_");
     for (size_t i = 0; i < u->tokens.count; i++)
-        if (u->tokens.at[i].kind == NAME_TOKEN && !strncmp(u->tokens.at[i].text, t.at, t.length)) { add(&t, "_"); i = SIZE_MAX; }
+        if (u->tokens.at[i].kind == NAME_TOKEN && !strncmp(u->tokens.at[i].text, t.at, t.length)) {
+            add(&t, "_");
+            i = SIZE_MAX;
+        }
     return t.at;
 }
 
@@ -1182,6 +1306,7 @@ void parse(unit *u, complaint *wrong) {
     open_scope(&p);
     p.top = p.scope;
     while (now(&p)->kind != END_TOKEN) read_top(&p);
-    for (symbol *y = p.variables; y; y = y->other) if (y->kind == VARIABLE) rename_if_taken(&p, y);
+    for (symbol *y = p.variables; y; y = y->other)
+        if (y->kind == VARIABLE) rename_if_taken(&p, y);
     spread_tables(u);
 }

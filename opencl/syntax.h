@@ -1,10 +1,22 @@
-// The tree of a source in OpenCL C, as far as whole numbers go: names resolved by their scopes, expressions with their types.
+// The tree of a source in OpenCL C, as far as whole numbers go: names resolved by their scopes, expressions with their
+// types.
 #ifndef CLSIM_SYNTAX_H
 #define CLSIM_SYNTAX_H
 #include "tokens.h"
 #include <stdint.h>
 
-typedef enum { VOID_TYPE, BOOL_TYPE, CHAR_TYPE, UCHAR_TYPE, SHORT_TYPE, USHORT_TYPE, INT_TYPE, UINT_TYPE, LONG_TYPE, ULONG_TYPE } base_type;
+typedef enum {
+    VOID_TYPE,
+    BOOL_TYPE,
+    CHAR_TYPE,
+    UCHAR_TYPE,
+    SHORT_TYPE,
+    USHORT_TYPE,
+    INT_TYPE,
+    UINT_TYPE,
+    LONG_TYPE,
+    ULONG_TYPE
+} base_type;
 typedef enum { PRIVATE_SPACE, GLOBAL_SPACE, CONSTANT_SPACE, LOCAL_SPACE } space;
 
 // An integer, a pointer to integers of a space, or an array of integers in a space.
@@ -41,7 +53,23 @@ struct symbol {
     unsigned number; // of a table, from 0
 };
 
-typedef enum { NUMBER, NAME, BRACKETS, INDEX, CALL, UNARY, ADDRESS, CONTENT, CAST, STEP_BEFORE, STEP_BEHIND, BINARY, CHOICE, ASSIGNMENT, COMMA } expression_kind;
+typedef enum {
+    NUMBER,
+    NAME,
+    BRACKETS,
+    INDEX,
+    CALL,
+    UNARY,
+    ADDRESS,
+    CONTENT,
+    CAST,
+    STEP_BEFORE,
+    STEP_BEHIND,
+    BINARY,
+    CHOICE,
+    ASSIGNMENT,
+    COMMA
+} expression_kind;
 
 struct expression {
     expression_kind kind;
@@ -65,18 +93,33 @@ typedef struct declaration {
     size_t length;         // how many of them
 } declaration;
 
-typedef enum { BLOCK, DECLARATIONS, EXPRESSION, IF, WHILE, DO, FOR, BREAK, CONTINUE, RETURN, SWITCH, CASE, DEFAULT, EMPTY } statement_kind;
+typedef enum {
+    BLOCK,
+    DECLARATIONS,
+    EXPRESSION,
+    IF,
+    WHILE,
+    DO,
+    FOR,
+    BREAK,
+    CONTINUE,
+    RETURN,
+    SWITCH,
+    CASE,
+    DEFAULT,
+    EMPTY
+} statement_kind;
 
 struct statement {
     statement_kind kind;
     statement *next; // in its block
     size_t token;
-    expression *test, *step;         // the condition or value, the third part of a `for`
+    expression *test, *step;           // the condition or value, the third part of a `for`
     statement *first, *second, *begin; // parts; `begin` is the first part of a `for`
     declaration *declarations;
-    uint64_t value;     // of a case
-    bool has_continue;  // a loop with a `continue` of its own
-    bool has_break;     // a switch with a `break` of its own
+    uint64_t value;    // of a case
+    bool has_continue; // a loop with a `continue` of its own
+    bool has_break;    // a switch with a `break` of its own
 };
 
 struct function {
@@ -89,10 +132,16 @@ struct function {
     unsigned parameter_count;
     statement *body;
     uint64_t group[3]; // reqd_work_group_size, or zeros
-    struct call { struct call *next; function *callee; } *calls;
-    struct use { struct use *next; const symbol *symbol; } *uses; // of tables
+    struct call {
+        struct call *next;
+        function *callee;
+    } * calls;
+    struct use {
+        struct use *next;
+        const symbol *symbol;
+    } * uses;           // of tables
     struct use *locals; // what it declares in local memory
-    bool *tables;        // which tables it uses, itself or by a call
+    bool *tables;       // which tables it uses, itself or by a call
 };
 
 typedef struct {

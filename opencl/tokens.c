@@ -49,7 +49,10 @@ static int scratch_file(const char *bytes, size_t n) {
     while (n) {
         ssize_t put = write(fd, bytes, n);
         if (put < 0 && errno == EINTR) continue;
-        if (put <= 0) { close(fd); return -1; }
+        if (put <= 0) {
+            close(fd);
+            return -1;
+        }
         bytes += put;
         n -= (size_t)put;
     }
@@ -64,12 +67,33 @@ static char *all_of(arena *a, int fd) {
     return s;
 }
 
-static const char *const macros[] = {"__OPENCL_VERSION__=120", "__OPENCL_C_VERSION__=120", "CL_VERSION_1_0=100", "CL_VERSION_1_1=110",
-    "CL_VERSION_1_2=120", "__ENDIAN_LITTLE__=1", "__CLSIM__=1", "cl_khr_global_int32_base_atomics=1", "cl_khr_global_int32_extended_atomics=1",
-    "cl_khr_local_int32_base_atomics=1", "cl_khr_local_int32_extended_atomics=1", "cl_khr_byte_addressable_store=1", "CHAR_BIT=8",
-    "SCHAR_MAX=127", "SCHAR_MIN=(-127-1)", "CHAR_MAX=127", "CHAR_MIN=(-127-1)", "UCHAR_MAX=255", "SHRT_MAX=32767", "SHRT_MIN=(-32767-1)",
-    "USHRT_MAX=65535", "INT_MAX=2147483647", "INT_MIN=(-2147483647-1)", "UINT_MAX=0xffffffffu", "LONG_MAX=0x7fffffffffffffffl",
-    "LONG_MIN=(-0x7fffffffffffffffl-1)", "ULONG_MAX=0xfffffffffffffffful"};
+static const char *const macros[] = {"__OPENCL_VERSION__=120",
+                                     "__OPENCL_C_VERSION__=120",
+                                     "CL_VERSION_1_0=100",
+                                     "CL_VERSION_1_1=110",
+                                     "CL_VERSION_1_2=120",
+                                     "__ENDIAN_LITTLE__=1",
+                                     "__CLSIM__=1",
+                                     "cl_khr_global_int32_base_atomics=1",
+                                     "cl_khr_global_int32_extended_atomics=1",
+                                     "cl_khr_local_int32_base_atomics=1",
+                                     "cl_khr_local_int32_extended_atomics=1",
+                                     "cl_khr_byte_addressable_store=1",
+                                     "CHAR_BIT=8",
+                                     "SCHAR_MAX=127",
+                                     "SCHAR_MIN=(-127-1)",
+                                     "CHAR_MAX=127",
+                                     "CHAR_MIN=(-127-1)",
+                                     "UCHAR_MAX=255",
+                                     "SHRT_MAX=32767",
+                                     "SHRT_MIN=(-32767-1)",
+                                     "USHRT_MAX=65535",
+                                     "INT_MAX=2147483647",
+                                     "INT_MIN=(-2147483647-1)",
+                                     "UINT_MAX=0xffffffffu",
+                                     "LONG_MAX=0x7fffffffffffffffl",
+                                     "LONG_MIN=(-0x7fffffffffffffffl-1)",
+                                     "ULONG_MAX=0xfffffffffffffffful"};
 static const char *const of_cpp[] = {"-undef", "-nostdinc", "-std=c99", "-x", "c"};
 static const char *const of_mcpp[] = {"-N", "-I-", "-W", "0"};
 
@@ -114,13 +138,17 @@ static int run_over(char **words, const char *bytes, int out, int err) {
     if (!fault) fault = posix_spawnp(&child, words[0], &actions, NULL, words, environ);
     posix_spawn_file_actions_destroy(&actions);
     close(in);
-    if (fault) { errno = fault; return -1; }
+    if (fault) {
+        errno = fault;
+        return -1;
+    }
     while (waitpid(child, &status, 0) < 0 && errno == EINTR) {}
     return status;
 }
 
 char *preprocess(arena *a, const char *source, const char *options, text *log) {
-    const char *given = getenv("CLSIM_CPP"), *programs[] = {given && *given ? given : "cpp", given && *given ? NULL : "mcpp"};
+    const char *given = getenv("CLSIM_CPP"),
+               *programs[] = {given && *given ? given : "cpp", given && *given ? NULL : "mcpp"};
     int out = scratch_file("", 0), err = scratch_file("", 0);
     char *read = NULL;
     if (out < 0 || err < 0) add(log, "no file in memory can be made for the preprocessor\n");
@@ -139,8 +167,8 @@ char *preprocess(arena *a, const char *source, const char *options, text *log) {
 
 // ---- tokens ----
 
-static const char *const symbols[] = {"<<=", ">>=", "...", "<<", ">>", "<=", ">=", "==", "!=", "&&", "||", "+=", "-=", "*=", "/=", "%=", "&=", "|=", "^=",
-    "++", "--", "->"};
+static const char *const symbols[] = {"<<=", ">>=", "...", "<<", ">>", "<=", ">=", "==", "!=", "&&", "||",
+                                      "+=",  "-=",  "*=",  "/=", "%=", "&=", "|=", "^=", "++", "--", "->"};
 
 typedef struct {
     const char *at, *start, *line_start;
@@ -158,7 +186,8 @@ static void read_marker(arena *a, reader *r) {
     unsigned long number = strtoul(s, &after, 10);
     bool is_marker = after != s;
     if (is_marker) {
-        const char *open = memchr(after, '"', (size_t)(end - after)), *shut = open ? memchr(open + 1, '"', (size_t)(end - open - 1)) : NULL;
+        const char *open = memchr(after, '"', (size_t)(end - after)),
+                   *shut = open ? memchr(open + 1, '"', (size_t)(end - open - 1)) : NULL;
         if (shut) {
             size_t n = (size_t)(shut - open - 1);
             bool own = (n == 7 && !memcmp(open + 1, "<stdin>", n)) || n == 0;
@@ -176,16 +205,27 @@ static bool skip_space(arena *a, reader *r) {
     for (;;) {
         const char *first = r->line_start;
         while (isblank((unsigned char)*first)) first++;
-        if (*r->at == '\n') { r->at++; r->line++; r->line_start = r->at; feed = true; }
-        else if (isspace((unsigned char)*r->at)) r->at++;
+        if (*r->at == '\n') {
+            r->at++;
+            r->line++;
+            r->line_start = r->at;
+            feed = true;
+        } else if (isspace((unsigned char)*r->at)) r->at++;
         else if (r->at[0] == '/' && r->at[1] == '/') r->at = strchrnul(r->at, '\n');
         else if (r->at[0] == '/' && r->at[1] == '*') {
             const char *end = strstr(r->at + 2, "*/");
             if (!end) return feed;
-            for (; r->at < end; r->at++) if (*r->at == '\n') { r->line++; r->line_start = r->at + 1; feed = true; }
+            for (; r->at < end; r->at++)
+                if (*r->at == '\n') {
+                    r->line++;
+                    r->line_start = r->at + 1;
+                    feed = true;
+                }
             r->at = end + 2;
-        } else if (r->marked && *r->at == '#' && r->at == first) { read_marker(a, r); feed = true; }
-        else return feed;
+        } else if (r->marked && *r->at == '#' && r->at == first) {
+            read_marker(a, r);
+            feed = true;
+        } else return feed;
     }
 }
 
@@ -193,7 +233,9 @@ static token_kind measure(const char *s, size_t *length) {
     size_t n = 1;
     if (is_word_byte(*s) || (*s == '.' && isdigit((unsigned char)s[1]))) {
         bool number = !isalpha((unsigned char)*s) && *s != '_', hex = s[0] == '0' && (s[1] == 'x' || s[1] == 'X');
-        while (is_word_byte(s[n]) || (number && (s[n] == '.' || ((s[n] == '+' || s[n] == '-') && !hex && (s[n - 1] == 'e' || s[n - 1] == 'E'))))) n++;
+        while (is_word_byte(s[n]) || (number && (s[n] == '.' || ((s[n] == '+' || s[n] == '-') && !hex &&
+                                                                 (s[n - 1] == 'e' || s[n - 1] == 'E')))))
+            n++;
         *length = n;
         return number ? NUMBER_TOKEN : NAME_TOKEN;
     }
@@ -205,7 +247,10 @@ static token_kind measure(const char *s, size_t *length) {
     }
     for (size_t i = 0; i < sizeof symbols / sizeof *symbols; i++) {
         n = strlen(symbols[i]);
-        if (!strncmp(s, symbols[i], n)) { *length = n; return SYMBOL_TOKEN; }
+        if (!strncmp(s, symbols[i], n)) {
+            *length = n;
+            return SYMBOL_TOKEN;
+        }
     }
     *length = 1;
     return strchr("+-*/%<>=&|^~!?:;,()[]{}.", *s) ? SYMBOL_TOKEN : OTHER_TOKEN;
@@ -225,7 +270,12 @@ tokens read_tokens(arena *a, const char *source, bool marked) {
             read.at = more;
         }
         token *t = &read.at[read.count++];
-        *t = (token){.text = "", .space = "", .offset = (size_t)(r.at - source), .line = r.line, .column = (unsigned)(r.at - r.line_start) + 1, .file = r.file};
+        *t = (token){.text = "",
+                     .space = "",
+                     .offset = (size_t)(r.at - source),
+                     .line = r.line,
+                     .column = (unsigned)(r.at - r.line_start) + 1,
+                     .file = r.file};
         if (feed) {
             size_t indent = strspn(r.line_start, " \t");
             char *space = take(a, indent + 2);

@@ -25,7 +25,8 @@ tokens read_tokens(arena *a, const char *source, bool marked);
 // The text in whole lines; with `marked`, each line that begins with `#` is an empty line.
 char *without_markers(arena *a, const char *source, bool marked);
 
-// What the preprocessor makes of a source by a build's options, with line markers. NULL where it fails, and then its messages in `log`.
+// What the preprocessor makes of a source by a build's options, with line markers. NULL where it fails, and then its
+// messages in `log`.
 char *preprocess(arena *a, const char *source, const char *options, text *log);
 // Whether a source or the options ask for it.
 bool needs_preprocessor(const char *source, const char *options);

@@ -5,13 +5,12 @@
 #include <CL/cl.h>
 #include <stdio.h>
 
-static const char *source =
-    "#define NEXT(i) (((i) + 1) % get_global_size(0))\n"
-    "__kernel void shift(__global int *data)\n"
-    "{\n"
-    "    const int i = get_global_id(0);\n"
-    "    data[i] = data[NEXT(i)];\n"
-    "}\n";
+static const char *source = "#define NEXT(i) (((i) + 1) % get_global_size(0))\n"
+                            "__kernel void shift(__global int *data)\n"
+                            "{\n"
+                            "    const int i = get_global_id(0);\n"
+                            "    data[i] = data[NEXT(i)];\n"
+                            "}\n";
 
 int main(void) {
     enum { N = 8 };
@@ -19,7 +18,8 @@ int main(void) {
     cl_platform_id platform;
     cl_device_id device;
     for (int i = 0; i < N; i++) numbers[i] = i;
-    if (clGetPlatformIDs(1, &platform, NULL) || clGetDeviceIDs(platform, CL_DEVICE_TYPE_ALL, 1, &device, NULL)) return 2;
+    if (clGetPlatformIDs(1, &platform, NULL) || clGetDeviceIDs(platform, CL_DEVICE_TYPE_ALL, 1, &device, NULL))
+        return 2;
     cl_context context = clCreateContext(NULL, 1, &device, NULL, NULL, &fault);
     if (fault) return 2;
     cl_command_queue queue = clCreateCommandQueue(context, device, 0, &fault);

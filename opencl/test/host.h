@@ -7,7 +7,11 @@
 #include <stdlib.h>
 #include <string.h>
 
-#define OK(CALL) do { cl_int fault_ = (CALL); if (fault_) fail_with(#CALL, __LINE__, fault_); } while (0)
+#define OK(CALL) \
+    do { \
+        cl_int fault_ = (CALL); \
+        if (fault_) fail_with(#CALL, __LINE__, fault_); \
+    } while (0)
 
 static void fail_with(const char *call, int line, cl_int fault) {
     fprintf(stderr, "line %d: %.60s: error %d\n", line, call, fault);

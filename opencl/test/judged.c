@@ -1,4 +1,5 @@
-// judged FILE [OPTIONS]: what the driver makes of a source, as it is judged. Where it can't be built, the log, with status 1.
+// judged FILE [OPTIONS]: what the driver makes of a source, as it is judged. Where it can't be built, the log, with
+// status 1.
 #include "../source.h"
 #include <stdio.h>
 #include <stdlib.h>
@@ -6,7 +7,8 @@
 int main(int count, char **words) {
     FILE *file = count == 2 || count == 3 ? fopen(words[1], "rb") : NULL;
     if (!file) {
-        fprintf(stderr, count == 2 || count == 3 ? "judged: cannot read %s\n" : "judged: FILE [OPTIONS]\n", count > 1 ? words[1] : "");
+        fprintf(stderr, count == 2 || count == 3 ? "judged: cannot read %s\n" : "judged: FILE [OPTIONS]\n",
+                count > 1 ? words[1] : "");
         return 2;
     }
     static char source[1 << 20];

@@ -1,5 +1,5 @@
-// kernels FOLDER NAME [bug]: runs one of ten kernels of FOLDER on data made here, and compares with what this program works out itself.
-// Status 0: the same. 1: something else. 3: a call failed.
+// kernels FOLDER NAME [bug]: runs one of ten kernels of FOLDER on data made here, and compares with what this program
+// works out itself. Status 0: the same. 1: something else. 3: a call failed.
 #include "host.h"
 #include <stdint.h>
 
@@ -13,7 +13,9 @@ static cl_mem buffer_of(const void *bytes, size_t n) {
     OK(fault);
     return m;
 }
-static void read_back(cl_mem m, void *to, size_t n) { OK(clEnqueueReadBuffer(h.queue, m, CL_TRUE, 0, n, to, 0, NULL, NULL)); }
+static void read_back(cl_mem m, void *to, size_t n) {
+    OK(clEnqueueReadBuffer(h.queue, m, CL_TRUE, 0, n, to, 0, NULL, NULL));
+}
 static void compare(cl_mem m, const void *wanted, size_t n) {
     unsigned char *got = malloc(n);
     read_back(m, got, n);
@@ -58,7 +60,10 @@ static void floyd_warshall(void) {
         for (int y = 0; y < N; y++)
             for (int x = 0; x < N; x++) {
                 uint32_t detour = wanted[y * N + pass] + wanted[pass * N + x];
-                if (detour < wanted[y * N + x]) { wanted[y * N + x] = detour; through[y * N + x] = pass; }
+                if (detour < wanted[y * N + x]) {
+                    wanted[y * N + x] = detour;
+                    through[y * N + x] = pass;
+                }
             }
     }
     compare(d, wanted, sizeof wanted);
@@ -91,7 +96,10 @@ static void bitonic_sort(void) {
 static void reduction(void) {
     enum { N = 100, ITEMS = 128, GROUP = 32 };
     int32_t in[N], sums[ITEMS / GROUP] = {0};
-    for (int i = 0; i < N; i++) { in[i] = (int32_t)(next_number() % 2001) - 1000; sums[i / GROUP] += in[i]; }
+    for (int i = 0; i < N; i++) {
+        in[i] = (int32_t)(next_number() % 2001) - 1000;
+        sums[i / GROUP] += in[i];
+    }
     cl_mem a = buffer_of(in, sizeof in), b = buffer_of((int32_t[ITEMS / GROUP]){0}, sizeof sums);
     cl_kernel k = kernel("sum");
     cl_uint n = N;
@@ -145,7 +153,10 @@ static unsigned ways(unsigned columns, unsigned lefts, unsigned rights, unsigned
 static void n_queens(void) {
     enum { N = 6 };
     uint32_t first[N], wanted[N];
-    for (int i = 0; i < N; i++) { first[i] = 1u << i; wanted[i] = ways(first[i], first[i] << 1, first[i] >> 1, (1u << N) - 1); }
+    for (int i = 0; i < N; i++) {
+        first[i] = 1u << i;
+        wanted[i] = ways(first[i], first[i] << 1, first[i] >> 1, (1u << N) - 1);
+    }
     cl_mem a = buffer_of(first, sizeof first), b = buffer_of(first, sizeof first);
     cl_kernel k = kernel("queens");
     cl_int n = N;
@@ -162,10 +173,16 @@ static void breadth_first(void) {
     enum { N = 32, DEGREE = 3, FAR = -1 };
     int32_t starts[N + 1], neighbours[2 * N * DEGREE], edges[N][N] = {{0}}, n = 0;
     uint32_t levels[N], queue[N], head = 0, tail = 0, wanted[N];
-    for (int i = 1; i < N; i++) { int j = (int)(next_number() % (unsigned)i); edges[i][j] = edges[j][i] = 1; j = (int)(next_number() % N); if (j != i) edges[i][j] = edges[j][i] = 1; }
+    for (int i = 1; i < N; i++) {
+        int j = (int)(next_number() % (unsigned)i);
+        edges[i][j] = edges[j][i] = 1;
+        j = (int)(next_number() % N);
+        if (j != i) edges[i][j] = edges[j][i] = 1;
+    }
     for (int i = 0; i < N; i++) {
         starts[i] = n;
-        for (int j = 0; j < N; j++) if (edges[i][j]) neighbours[n++] = j;
+        for (int j = 0; j < N; j++)
+            if (edges[i][j]) neighbours[n++] = j;
         levels[i] = wanted[i] = (uint32_t)FAR;
     }
     starts[N] = n;
@@ -173,8 +190,12 @@ static void breadth_first(void) {
     queue[tail++] = 0;
     for (; head < tail; head++)
         for (int i = starts[queue[head]]; i < starts[queue[head] + 1]; i++)
-            if (wanted[neighbours[i]] == (uint32_t)FAR) { wanted[neighbours[i]] = wanted[queue[head]] + 1; queue[tail++] = (uint32_t)neighbours[i]; }
-    cl_mem s = buffer_of(starts, sizeof starts), e = buffer_of(neighbours, sizeof neighbours), a = buffer_of(levels, sizeof levels), b = buffer_of(levels, sizeof levels);
+            if (wanted[neighbours[i]] == (uint32_t)FAR) {
+                wanted[neighbours[i]] = wanted[queue[head]] + 1;
+                queue[tail++] = (uint32_t)neighbours[i];
+            }
+    cl_mem s = buffer_of(starts, sizeof starts), e = buffer_of(neighbours, sizeof neighbours),
+           a = buffer_of(levels, sizeof levels), b = buffer_of(levels, sizeof levels);
     cl_kernel k = kernel("visit");
     GIVE(k, 0, s);
     GIVE(k, 1, e);
@@ -209,7 +230,8 @@ static void prefix_sum(void) {
         wanted[i] = totals[g];
         totals[g] += in[i];
     }
-    cl_mem a = buffer_of(in, sizeof in), b = buffer_of(in, sizeof in), t = buffer_of((int32_t[GROUPS]){0}, sizeof totals);
+    cl_mem a = buffer_of(in, sizeof in), b = buffer_of(in, sizeof in),
+           t = buffer_of((int32_t[GROUPS]){0}, sizeof totals);
     cl_kernel k = kernel("scan");
     GIVE(k, 0, a);
     GIVE(k, 1, b);
@@ -225,9 +247,11 @@ static void prefix_sum(void) {
 static void sha256(void) {
     // "abc" and the empty message, padded; the digests stand in FIPS 180-4's examples
     uint32_t messages[2][16] = {{0x61626380, [15] = 24}, {0x80000000}};
-    static const uint32_t wanted[2][8] = {{0xba7816bf, 0x8f01cfea, 0x414140de, 0x5dae2223, 0xb00361a3, 0x96177a9c, 0xb410ff61, 0xf20015ad},
+    static const uint32_t wanted[2][8] = {
+        {0xba7816bf, 0x8f01cfea, 0x414140de, 0x5dae2223, 0xb00361a3, 0x96177a9c, 0xb410ff61, 0xf20015ad},
         {0xe3b0c442, 0x98fc1c14, 0x9afbf4c8, 0x996fb924, 0x27ae41e4, 0x649b934c, 0xa495991b, 0x7852b855}};
-    cl_mem a = buffer_of(messages, sizeof messages), b = buffer_of(wanted + 1, 32), c = buffer_of(messages, sizeof wanted);
+    cl_mem a = buffer_of(messages, sizeof messages), b = buffer_of(wanted + 1, 32),
+           c = buffer_of(messages, sizeof wanted);
     cl_kernel k = kernel("sha256");
     GIVE(k, 0, a);
     GIVE(k, 1, c);
@@ -258,8 +282,13 @@ static void histogram(void) {
 static void matrix_product(void) {
     enum { N = 8 };
     int32_t left[N * N], right[N * N], wanted[N * N] = {0};
-    for (int i = 0; i < N * N; i++) { left[i] = (int32_t)(next_number() % 200) - 100; right[i] = (int32_t)(next_number() % 200) - 100; }
-    for (int y = 0; y < N; y++) for (int x = 0; x < N; x++) for (int i = 0; i < N; i++) wanted[y * N + x] += left[y * N + i] * right[i * N + x];
+    for (int i = 0; i < N * N; i++) {
+        left[i] = (int32_t)(next_number() % 200) - 100;
+        right[i] = (int32_t)(next_number() % 200) - 100;
+    }
+    for (int y = 0; y < N; y++)
+        for (int x = 0; x < N; x++)
+            for (int i = 0; i < N; i++) wanted[y * N + x] += left[y * N + i] * right[i * N + x];
     cl_mem a = buffer_of(left, sizeof left), b = buffer_of(right, sizeof right), c = buffer_of(left, sizeof left);
     cl_kernel k = kernel("multiply");
     cl_uint n = N;
@@ -275,19 +304,36 @@ static void matrix_product(void) {
 }
 
 int main(int count, char **words) {
-    static const struct { const char *name; void (*run)(void); } all[] = {{"floyd_warshall", floyd_warshall}, {"bitonic_sort", bitonic_sort},
-        {"reduction", reduction}, {"life", life}, {"n_queens", n_queens}, {"breadth_first", breadth_first}, {"prefix_sum", prefix_sum}, {"sha256", sha256},
-        {"histogram", histogram}, {"matrix_product", matrix_product}};
+    static const struct {
+        const char *name;
+        void (*run)(void);
+    } all[] = {{"floyd_warshall", floyd_warshall},
+               {"bitonic_sort", bitonic_sort},
+               {"reduction", reduction},
+               {"life", life},
+               {"n_queens", n_queens},
+               {"breadth_first", breadth_first},
+               {"prefix_sum", prefix_sum},
+               {"sha256", sha256},
+               {"histogram", histogram},
+               {"matrix_product", matrix_product}};
     static char source[65536], path[4096];
-    if (count != 3 && !(count == 4 && !strcmp(words[3], "bug"))) { fprintf(stderr, "kernels: FOLDER NAME [bug]\n"); return 2; }
+    if (count != 3 && !(count == 4 && !strcmp(words[3], "bug"))) {
+        fprintf(stderr, "kernels: FOLDER NAME [bug]\n");
+        return 2;
+    }
     snprintf(path, sizeof path, "%s/%s.cl", words[1], words[2]);
     FILE *file = fopen(path, "rb");
-    if (!file) { fprintf(stderr, "kernels: cannot read %s\n", path); return 2; }
+    if (!file) {
+        fprintf(stderr, "kernels: cannot read %s\n", path);
+        return 2;
+    }
     source[fread(source, 1, sizeof source - 1, file)] = 0;
     fclose(file);
     h = open_host();
     program = build_program(&h, source, count == 4 ? "-DBUG" : "");
-    for (size_t i = 0; i < sizeof all / sizeof *all; i++) if (!strcmp(words[2], all[i].name)) all[i].run();
+    for (size_t i = 0; i < sizeof all / sizeof *all; i++)
+        if (!strcmp(words[2], all[i].name)) all[i].run();
     OK(clReleaseProgram(program));
     close_host(&h);
     printf("%s is %s\n", words[2], is_right ? "right" : "wrong");

@@ -1,14 +1,26 @@
-// oclrun SCRIPT..: runs scripts through the calls of OpenCL, each in a context of its own, and writes a line for each command into SCRIPT.out: `ok`, `data HEX`,
-// `launched`, or `error N` with the error of the call.
+// oclrun SCRIPT..: runs scripts through the calls of OpenCL, each in a context of its own, and writes a line for each
+// command into SCRIPT.out: `ok`, `data HEX`, `launched`, or `error N` with the error of the call.
 #include "host.h"
 #include <stdint.h>
 
 enum { MAX_NAMES = 512, MAX_WORDS = 16 };
-typedef struct { char name[64]; cl_mem memory; cl_program program; cl_kernel kernel; } named;
-typedef struct { host *h; named names[MAX_NAMES]; size_t count; char *at; FILE *out; } run;
+typedef struct {
+    char name[64];
+    cl_mem memory;
+    cl_program program;
+    cl_kernel kernel;
+} named;
+typedef struct {
+    host *h;
+    named names[MAX_NAMES];
+    size_t count;
+    char *at;
+    FILE *out;
+} run;
 
 static named *find(run *r, const char *name) {
-    for (size_t i = r->count; i-- > 0;) if (!strcmp(r->names[i].name, name)) return &r->names[i];
+    for (size_t i = r->count; i-- > 0;)
+        if (!strcmp(r->names[i].name, name)) return &r->names[i];
     return NULL;
 }
 static named *add(run *r, const char *name) {
@@ -60,7 +72,8 @@ static cl_int set_argument(run *r, char **w) {
     named *k = find(r, w[1]), *b = find(r, w[4]);
     cl_uint index = (cl_uint)NUMBER(2);
     if (!k) return CL_INVALID_KERNEL;
-    if (!strcmp(w[3], "buffer")) return b ? clSetKernelArg(k->kernel, index, sizeof(cl_mem), &b->memory) : CL_INVALID_MEM_OBJECT;
+    if (!strcmp(w[3], "buffer"))
+        return b ? clSetKernelArg(k->kernel, index, sizeof(cl_mem), &b->memory) : CL_INVALID_MEM_OBJECT;
     if (!strcmp(w[3], "local")) return clSetKernelArg(k->kernel, index, NUMBER(4), NULL);
     char type[64];
     cl_int fault = clGetKernelArgInfo(k->kernel, index, CL_KERNEL_ARG_TYPE_NAME, sizeof type, type, NULL);
@@ -82,7 +95,9 @@ static cl_int release(run *r, const char *name) {
     named *n = find(r, name);
     if (!n) return CL_INVALID_VALUE;
     *n->name = 0;
-    return n->memory ? clReleaseMemObject(n->memory) : n->program ? clReleaseProgram(n->program) : clReleaseKernel(n->kernel);
+    return n->memory    ? clReleaseMemObject(n->memory)
+           : n->program ? clReleaseProgram(n->program)
+                        : clReleaseKernel(n->kernel);
 }
 
 // Does one command; its data in `data`, if it gives any.
@@ -113,11 +128,13 @@ static cl_int perform(run *r, char **w, int count, unsigned char **data, size_t 
     }
     if (!strcmp(w[0], "copy")) {
         named *b = find(r, w[3]);
-        return b ? clEnqueueCopyBuffer(q, a->memory, b->memory, NUMBER(2), NUMBER(4), NUMBER(5), 0, NULL, NULL) : CL_INVALID_MEM_OBJECT;
+        return b ? clEnqueueCopyBuffer(q, a->memory, b->memory, NUMBER(2), NUMBER(4), NUMBER(5), 0, NULL, NULL)
+                 : CL_INVALID_MEM_OBJECT;
     }
     size_t length;
     unsigned char *bytes = bytes_of(w[count - 1], &length);
-    if (!strcmp(w[0], "write")) fault = clEnqueueWriteBuffer(q, a->memory, CL_TRUE, NUMBER(2), length, bytes, 0, NULL, NULL);
+    if (!strcmp(w[0], "write"))
+        fault = clEnqueueWriteBuffer(q, a->memory, CL_TRUE, NUMBER(2), length, bytes, 0, NULL, NULL);
     else fault = clEnqueueFillBuffer(q, a->memory, bytes, length, NUMBER(2), NUMBER(3), 0, NULL, NULL);
     free(bytes);
     return fault;
@@ -127,7 +144,8 @@ static void run_script(run *r) {
     for (char *line; (line = line_of(r));) {
         char *w[MAX_WORDS + 1], *rest = NULL;
         int count = 0;
-        for (char *word = strtok_r(line, " ", &rest); word && count < MAX_WORDS; word = strtok_r(NULL, " ", &rest)) w[count++] = word;
+        for (char *word = strtok_r(line, " ", &rest); word && count < MAX_WORDS; word = strtok_r(NULL, " ", &rest))
+            w[count++] = word;
         unsigned char *data = NULL;
         size_t n = 0;
         cl_int fault = perform(r, w, count, &data, &n);
@@ -140,22 +158,32 @@ static void run_script(run *r) {
         }
         free(data);
     }
-    for (size_t i = 0; i < r->count; i++) if (*r->names[i].name) release(r, r->names[i].name);
+    for (size_t i = 0; i < r->count; i++)
+        if (*r->names[i].name) release(r, r->names[i].name);
 }
 
 int main(int count, char **words) {
-    if (count < 2) { fprintf(stderr, "oclrun: SCRIPT..\n"); return 2; }
+    if (count < 2) {
+        fprintf(stderr, "oclrun: SCRIPT..\n");
+        return 2;
+    }
     for (int i = 1; i < count; i++) {
         static char script[1 << 22], path[4096];
         FILE *file = fopen(words[i], "rb");
-        if (!file) { fprintf(stderr, "oclrun: cannot read %s\n", words[i]); return 2; }
+        if (!file) {
+            fprintf(stderr, "oclrun: cannot read %s\n", words[i]);
+            return 2;
+        }
         script[fread(script, 1, sizeof script - 1, file)] = 0;
         fclose(file);
         host h = open_host();
         static run r;
         snprintf(path, sizeof path, "%s.out", words[i]);
         r = (run){.h = &h, .at = script, .out = fopen(path, "wb")};
-        if (!r.out) { fprintf(stderr, "oclrun: cannot write %s\n", path); return 2; }
+        if (!r.out) {
+            fprintf(stderr, "oclrun: cannot write %s\n", path);
+            return 2;
+        }
         run_script(&r);
         fclose(r.out);
         close_host(&h);

@@ -1,4 +1,5 @@
-// Eight threads on one context, each with a queue, a kernel and a buffer of its own, by map and unmap; a buffer goes before its kernel.
+// Eight threads on one context, each with a queue, a kernel and a buffer of its own, by map and unmap; a buffer goes
+// before its kernel.
 #include "host.h"
 #include <pthread.h>
 #include <stdint.h>
@@ -35,7 +36,8 @@ static void *work(void *number) {
     }
     p = clEnqueueMapBuffer(q, m, CL_TRUE, CL_MAP_READ, 0, ITEMS * sizeof(cl_int), 0, NULL, NULL, &fault);
     OK(fault);
-    for (int i = 0; i < ITEMS; i++) if (p[i] != i * id + TURNS * (TURNS - 1) / 2) exit(5);
+    for (int i = 0; i < ITEMS; i++)
+        if (p[i] != i * id + TURNS * (TURNS - 1) / 2) exit(5);
     OK(clEnqueueUnmapMemObject(q, m, p, 0, NULL, NULL));
     OK(clReleaseMemObject(m));
     OK(clReleaseKernel(k));
@@ -43,7 +45,10 @@ static void *work(void *number) {
     return NULL;
 }
 
-static void CL_CALLBACK set_flag(cl_event e, cl_int status, void *flag) { (void)e; *(cl_int *)flag = status + 7; }
+static void CL_CALLBACK set_flag(cl_event e, cl_int status, void *flag) {
+    (void)e;
+    *(cl_int *)flag = status + 7;
+}
 
 // User events and their callbacks.
 static void events(void) {
@@ -65,9 +70,13 @@ static void dead_objects(void) {
     OK(fault);
     OK(clReleaseMemObject(m));
     size_t n;
-    if (getenv("TEST_DIRECT") && clGetMemObjectInfo(m, CL_MEM_SIZE, sizeof n, &n, NULL) != CL_INVALID_MEM_OBJECT) exit(8);
-    if (clRetainMemObject((cl_mem)h.queue) != CL_INVALID_MEM_OBJECT || clRetainContext((cl_context)h.queue) != CL_INVALID_CONTEXT) exit(9);
-    if (clCreateBuffer(h.context, CL_MEM_READ_ONLY | CL_MEM_WRITE_ONLY, 4, NULL, &fault) || fault != CL_INVALID_VALUE) exit(10);
+    if (getenv("TEST_DIRECT") && clGetMemObjectInfo(m, CL_MEM_SIZE, sizeof n, &n, NULL) != CL_INVALID_MEM_OBJECT)
+        exit(8);
+    if (clRetainMemObject((cl_mem)h.queue) != CL_INVALID_MEM_OBJECT ||
+        clRetainContext((cl_context)h.queue) != CL_INVALID_CONTEXT)
+        exit(9);
+    if (clCreateBuffer(h.context, CL_MEM_READ_ONLY | CL_MEM_WRITE_ONLY, 4, NULL, &fault) || fault != CL_INVALID_VALUE)
+        exit(10);
 }
 
 // Rectangles of a buffer, row by row.
@@ -79,11 +88,16 @@ static void rectangles(void) {
     OK(fault);
     size_t origin[] = {2, 1, 0}, zero[] = {0, 0, 0}, region[] = {4, 4, 1}, outside[] = {6, 5, 0};
     OK(clEnqueueReadBufferRect(h.queue, m, CL_TRUE, origin, zero, region, 8, 0, 4, 0, out, 0, NULL, NULL));
-    for (int i = 0; i < 16; i++) if (out[i] != (i / 4 + 1) * 8 + 2 + i % 4) exit(11);
-    if (clEnqueueReadBufferRect(h.queue, m, CL_TRUE, outside, zero, region, 8, 0, 4, 0, out, 0, NULL, NULL) != CL_INVALID_VALUE) exit(12);
-    OK(clEnqueueCopyBufferRect(h.queue, m, m, zero, (size_t[]){0, 6, 0}, (size_t[]){8, 2, 1}, 8, 0, 8, 0, 0, NULL, NULL));
+    for (int i = 0; i < 16; i++)
+        if (out[i] != (i / 4 + 1) * 8 + 2 + i % 4) exit(11);
+    if (clEnqueueReadBufferRect(h.queue, m, CL_TRUE, outside, zero, region, 8, 0, 4, 0, out, 0, NULL, NULL) !=
+        CL_INVALID_VALUE)
+        exit(12);
+    OK(clEnqueueCopyBufferRect(h.queue, m, m, zero, (size_t[]){0, 6, 0}, (size_t[]){8, 2, 1}, 8, 0, 8, 0, 0, NULL,
+                               NULL));
     OK(clEnqueueReadBuffer(h.queue, m, CL_TRUE, 48, 16, out, 0, NULL, NULL));
-    for (int i = 0; i < 16; i++) if (out[i] != i) exit(13);
+    for (int i = 0; i < 16; i++)
+        if (out[i] != i) exit(13);
     OK(clReleaseMemObject(m));
 }
 

@@ -1,4 +1,9 @@
 //! The program's commands: scripts in and replies out, sources checked, kernels shown as code, and schedules replayed.
+//!
+//! Where `run` ends well, the replies of the machine to the commands were written, a line each and nothing else, and
+//! none is held back in a buffer. `replay_files` answers yes exactly where the schedule leads the launch of its ticket,
+//! on the machine to which the commands before it lead, to a state that shows the fault. A status is the defined one.
+//! `run` goes through the device's queue, as its only client.
 #![tactic(auto)]
 
 pub mod checking;

@@ -1,4 +1,7 @@
-//! The program `clsim`: scripts for a simulated OpenCL 1.2 device.
+//! The program `clsim`: a simulated OpenCL 1.2 device for scripts, schedules and host programs.
+//!
+//! It calls `cli` with the files and the output of the system. The status is the one that `cli` defines, whether
+//! standard error can be written or not; the process ends with 0, 1 or 2.
 #![tactic(auto)]
 
 ghost use Rattle.std.specs.Prelude.{◌≡◌, ◌≤◌, IfOk};

@@ -1,4 +1,8 @@
 //! From the tokens of a source to its syntax tree.
+//!
+//! `parse` gives a tree exactly where the tokens are a program of the grammar, and then the one tree; else Unexpected
+//! or TooDeep, whichever comes first, with its offset. The grammar is a relation between tokens and trees and knows no
+//! machine; laws tie the two. The crate decides on the kinds of tokens, and looks at no name's text.
 #![tactic(auto)]
 
 ghost use Rattle.std.specs.Prelude.{Result};

@@ -1,4 +1,7 @@
 //! From a syntax tree back to text.
+//!
+//! `print` writes the defined text. If any text stands for the tree, so does what is written; it is read back as the
+//! tree, offsets aside, where it has at most 65,536 bytes and is nested at most 64 deep.
 #![tactic(auto)]
 
 ghost use Rattle.clmodel.specs.Tree.{program};

@@ -1,4 +1,7 @@
 //! The type checker: which programs are typed, and the fault of one that isn't (OpenCL 1.2, sections 6.1 to 6.12).
+//!
+//! `check` succeeds only on typed programs, and then hands back the same tree inside `Checked`. It answers a fault only
+//! where that is the least fault of the program. On a typed program its only error is out of memory.
 #![tactic(auto)]
 
 ghost use Rattle.std.specs.Prelude.{◌≡◌, IfOk, IfErr};

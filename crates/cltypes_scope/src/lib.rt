@@ -1,5 +1,9 @@
-//! What names stand for at a place of a program, and the types and the faults of expressions there (OpenCL 1.2, sections 6.2, 6.3, 6.9
-//! and 6.12; C99 6.2.1 and 6.2.3).
+//! What names stand for at a place of a program, and the types and the faults of expressions there (OpenCL 1.2,
+//! sections 6.2, 6.3, 6.9 and 6.12; C99 6.2.1 and 6.2.3).
+//!
+//! A name stands for what the innermost scope that has it declares, else for a function, else for a predefined one. An
+//! expression has its type exactly where it has no fault; else its first fault is answered. Names are numbers here: the
+//! table of names begins with the predefined ones.
 #![tactic(auto)]
 
 mod context;

@@ -1,4 +1,8 @@
 //! Readers and writers, seen as the bytes that they give and take and as counts of their failed calls.
+//!
+//! `Write` takes a whole text, or a call failed: then the failure is counted, and a beginning of the text was written.
+//! `Read` gives all that is left, or counts a failure. `write_pieces` writes the parts of a line one after another,
+//! numbers in decimal. The crate knows neither files nor the standard library's traits.
 #![tactic(auto)]
 
 ghost use Rattle.std.specs.Prelude.{◌≡◌, ℕ, List, [], Option, OnOk};

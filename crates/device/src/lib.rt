@@ -1,4 +1,11 @@
 //! A simulated OpenCL 1.2 device.
+//!
+//! `apply` is a step of the machine: the first refusal of the command's list, with nothing changed; clean over all
+//! schedules, with the buffers that every complete one leaves; or the canonical report with a schedule that shows it,
+//! and no buffer changed. `apply_with`, by 1 to 16 workers, is such a step too. `open` gives the device a queue of
+//! tickets; `drive_one` and `answer` do a request by a step, and `drive_with` and `answer_with` the same by workers.
+//! `prepare` answers the launch that would run, or the launch's refusal. Refusals are tested in their order; refusal 16
+//! comes where memory is refused.
 #![tactic(auto)]
 
 ghost use Rattle.std.specs.Prelude.{◌≡◌, IfOk, IfErr, IfSome, Some, is_some, false, ◌≤◌, ◌<◌, ◌+◌, ◌^◌, length, nat_lt};

@@ -133,10 +133,10 @@ impl Driver {
             queue,
             client,
             request,
-            |device: &mut Device, command: Command| -> Reply
+            |device: &mut Device, asked: Command| -> Reply
                 requires { (1 ≤ workers) × (workers ≤ 16) }
-                ensures { Step (machine_of device.old) command result (machine_of device.new) }
-            { device.apply_with(rt, command, workers, gate) },
+                ensures { Step (machine_of device.old) asked result (machine_of device.new) }
+            { device.apply_with(rt, asked, workers, gate) },
         )
     }
 }

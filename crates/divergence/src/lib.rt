@@ -1,4 +1,4 @@
-//! Whether two work-items stop at the same place.
+//! Whether two work-items stop at the same place: at equal instances of a barrier, or both at their ends.
 #![tactic(auto)]
 
 ghost use Rattle.std.specs.Prelude.{◌≡◌, ◌==◌, ◌&&◌, IsTrue, false};

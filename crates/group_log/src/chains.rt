@@ -84,14 +84,15 @@ impl<T: OfBytes + Copy> Chains<T> {
         None
     }
 
-    /// Adds a value of accesses that begin at a byte, by its slot. Where memory is refused the values stay.
+    /// Adds a value of accesses that begin at a byte, by its slot. An error is out of memory, and the values stay then. Slots may be missing up
+    /// to this one: they are made first, and a list that has so many leaves room for the sum.
     pub(crate) fn add(&mut self, slot: usize, first: u64, value: T) -> Result<(), AllocError>
         ensures added { OnOk result (self.new.values.items ≡ self.old.values.items ++ value ∷ []) }
         ensures same { OnErr result (self.new.values.items ≡ self.old.values.items) }
     {
         if self.newest.len() <= slot {
-            self.newest
-                .resize(slot.checked_add(SLOTS).ok_or(AllocError)?, 0)?;
+            self.newest.resize(slot, 0)?;
+            self.newest.resize(slot + SLOTS, 0)?;
         }
         self.values.reserve(1)?;
         let older = self.newest[slot];

@@ -31,7 +31,7 @@ pub(crate) struct Lasting {
     ghost placed: { All IsPlaced entries.items },
 }
 
-/// Keeps of an access what it tells other groups.
+/// Keeps of an access what it tells other groups, where there is memory for that.
 fn keep_told(told: &mut Chains<Told>, slot: usize, x: &Access)
     requires { x.now.first + byte_count x.now.width < 2 ^ 64 }
     ensures { (log : List TheAccess) → All (IsTold log) told.old.values.items → All (IsTold (x.now ∷ log)) told.new.values.items }
@@ -39,7 +39,8 @@ fn keep_told(told: &mut Chains<Told>, slot: usize, x: &Access)
     match told.find(slot, x) {
         Some(i) => told.values[i] = told.values[i].with(x),
         None => {
-            // Where memory is refused here, a later access that tells the same is kept too.
+            // Where memory is refused here, nothing is known of these bytes, and a later access that tells the same is kept too. No answer depends
+            // on it: only what is known lets an access be left out, and what is kept stands for all accesses, with further ones as without.
             let _ = told.add(slot, x.first, Told::of(x));
         }
     }

@@ -47,7 +47,7 @@ pub(crate) struct Seat {
     pub(crate) needed: bool,
 }
 
-/// Keeps in the places of accesses what a kept one tells of later ones.
+/// Keeps in the places of accesses what a kept one tells of later ones, where there is memory for that.
 fn keep_place(places: &mut Chains<Place>, slot: usize, x: &Access)
     requires { x.now.first + byte_count x.now.width < 2 ^ 64 }
     ensures { (uniform : Bool) (kept : List TheEntry) (e : TheEntry) → e.access ≡ x.now → All (IsFaithful uniform x.now.interval kept) places.old.values.items → All (IsFaithful uniform x.now.interval (kept ++ e ∷ [])) places.new.values.items }
@@ -55,7 +55,8 @@ fn keep_place(places: &mut Chains<Place>, slot: usize, x: &Access)
     match places.find(slot, x) {
         Some(i) => places.values[i] = places.values[i].with(x),
         None => {
-            // Where memory is refused here, a later equal access is kept once more.
+            // Where memory is refused here, nothing is known of this place, and a later equal access is kept once more. No answer depends on it:
+            // only what is known lets an access be left out, and an access that conflicts with one of two equal ones conflicts with the other.
             let _ = places.add(slot, x.first, Place::of(x));
         }
     }

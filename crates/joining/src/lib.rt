@@ -1,5 +1,8 @@
-//! The law of joining: the groups of a launch, each run apart on the launch's first memory, come to the canonical run of the launch once
-//! they are joined in their order. Each law is the contract of a function that does nothing.
+//! The law of joining: the groups of a launch, each run apart on the launch's first memory, come to the canonical run
+//! of the launch once they are joined in their order. Each law is the contract of a function that does nothing.
+//!
+//! The joined runs have its events, the memory that it leaves, and its report. What a group does after its first
+//! conflict with a lower group doesn't count. The crate speaks of definitions alone.
 #![tactic(auto)]
 
 ghost use Rattle.joining.specs.Crossings.{LowerFirst};

@@ -1,4 +1,10 @@
-//! A launch as a program runs or replays it: what it asks of it, and the launch of a kernel on the buffers that its arguments name.
+//! A launch as a program runs or replays it: what it asks of it, and the launch of a kernel on the buffers that its
+//! arguments name.
+//!
+//! `Described` is what a launch says of itself in reports, `Runnable` adds its items. `location_of` names a place as
+//! defined: a buffer by its own name, a local object by its group and its name. A `LoadedLaunch` is the launch of its
+//! setup on the bytes of its buffers. `group_count` counts the work-groups. The runner of groups and the replayer stand
+//! on this crate side by side; it knows no group that runs.
 #![tactic(auto)]
 
 mod described;

@@ -1,8 +1,11 @@
-//! The register code of statements in which no other statements stand, and of what stands round those that do, with the bodies
-//! of helper functions left out of their calls.
+//! The register code of statements that hold no other statement, and of what encloses those that do, with the bodies of
+//! helper functions left out of their calls.
 //!
-//! An error is want of memory. Code that was lent is only longer then: a draft ends with what was there. A scope that was lent has its
-//! variables.
+//! Each function writes exactly the defined code where it succeeds, and the scope after a statement is the defined one.
+//! The code is written from its end: what a jump passes is there before the jump is put in front of it.
+//!
+//! The only error is out of memory. Code that was lent is only longer then: a draft ends with what was there. A scope
+//! that was lent has its variables.
 #![tactic(auto)]
 
 pub mod assignments;

@@ -1,4 +1,7 @@
-//! Laws of an item's next action, and of types.
+//! Laws of an item's next action, and of types: what the definitions say of small kernels, computed by the prover.
+//!
+//! Elements of private arrays keep what is put there, and a budget bounds an item's actions. The launch and the runner
+//! of groups use the bounds; no program calls anything here.
 #![tactic(auto)]
 
 ghost use Rattle.std.specs.Prelude.{◌≡◌, ◌≢◌, ◌⊎◌, ℕ, pos, negsuc, ◌≤ℤ◌, ◌<ℤ◌, map, length, Option, None, Some, List, [], ◌∷◌};

@@ -1,4 +1,9 @@
-//! The objects that a work-group sees: its launch's buffers and its own local objects, as spaces in the order of their numbers.
+//! The objects that a work-group sees: its launch's buffers and its own local objects, as spaces in the order of their
+//! numbers.
+//!
+//! Local objects are unset and have the sizes given. An operation on an object does to each memory that the spaces hold
+//! what the definition says, and leaves the others. Unset comes with the lowest unset byte, and changes nothing. The
+//! crate knows no work-item that runs.
 #![tactic(auto)]
 
 ghost use Rattle.std.specs.Prelude.{◌≡◌, ◌+◌, ◌≤◌, ℕ, None, IfOk, false, length, map, replicate};

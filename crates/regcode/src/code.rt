@@ -1,7 +1,7 @@
 //! Verified code.
 #![tactic(auto)]
 
-ghost use Rattle.std.specs.Prelude.{◌≡◌};
+ghost use Rattle.std.specs.Prelude.{◌≡◌, length};
 ghost use Rattle.regcode.specs.Listed.{listing};
 ghost use Rattle.regcode.specs.Rules.{IsVerified};
 
@@ -52,5 +52,19 @@ impl Code {
         ensures { listing self.now.instructions result.now ≡ self.now }
     {
         &self.tables
+    }
+
+    /// How many instructions it has.
+    pub fn count(&self) -> usize
+        ensures { result ≡ length self.now.instructions }
+    {
+        self.instructions.len()
+    }
+
+    /// How many registers it has: its instructions name these alone.
+    pub fn registers(&self) -> usize
+        ensures { result ≡ length self.now.registers }
+    {
+        self.tables.registers.len()
     }
 }

@@ -1,5 +1,9 @@
-//! A schedule replayed by single steps: whether it leads a launch to a state that shows a fault (own, over the schedules that OpenCL 1.2,
-//! section 3.2 allows).
+//! A schedule replayed by single steps: whether it leads a launch to a state that shows a fault (own, over the
+//! schedules that OpenCL 1.2, section 3.2 allows).
+//!
+//! `replay` answers true exactly where each event of the schedule is possible in its turn and the state after all of
+//! them shows the fault, with its items, places and kinds (out of memory aside). It asks for whole groups with items
+//! and answers below 2^32.
 #![tactic(auto)]
 
 ghost use Rattle.std.specs.Prelude.{IfOk};

@@ -202,6 +202,26 @@ group_same l q x y s local global held h =
       global_interval = global ∙ h.global_interval;
     }
 
+-- a group whose local objects may be made now, and buffers that hold the same memory
+pub group_kept :
+    (l : Launch) (items : List Slot) (bs cs : List (List (Option ℕ))) (groups : List Group) (log : List Access) (s : State) (g : ℕ) (x y : Group) → Tells l items bs groups log s
+    → slice_get groups g ≡ Some x → y.local_interval ≡ x.local_interval → y.global_interval ≡ x.global_interval → SpacesHold (λ b. b) l (length l.buffers) region.Buffer cs s.memory
+    → LocalsHold l g y.locals.items s.memory → Tells l items cs (set groups g y) log s
+group_kept l items bs cs groups log s g x y t there local global buffers locals =
+    record {
+      many = t.many;
+      acting = t.acting;
+      buffers_hold = buffers;
+      grouped = ap (λ n. n * l.group_size) (length-set groups g y) ∙ t.grouped;
+      each = λ q z e. each q z (get_set groups g y q z e);
+      logged = t.logged;
+      paced = t.paced;
+    }
+  where
+    each : (q : ℕ) (z : Group) → ((q ≡ g) × (y ≡ z)) ⊎ ((q ≡ g → ⊥) × (slice_get groups q ≡ Some z)) → IsGroupIn l q z s
+    each q z (inl e) = subst (λ w. IsGroupIn l q w s) e.1 (subst (λ n. IsGroupIn l n y s) (sym e.0) (group_same l g x y s local global locals (t.each g x there)))
+    each q z (inr e) = t.each q z e.1
+
 -- what is kept after an access that isn't possible, for which local objects may have been made
 access_refused :
     (l : Launch) (items : List Slot) (bs cs : List (List (Option ℕ))) (groups : List Group) (log : List Access) (s : State) (k : ℕ) (x y : Group) (o : Object) (element : ℤ)
@@ -211,22 +231,8 @@ access_refused :
     → IsPlayed l s (Item k) (Tells l items cs (set groups (group_of l k) y) log) false
 access_refused l items bs cs groups log s k x y o element op t acts there local global p = (
   stays l s k o element op acts p.0,
-  record {
-    many = t.many;
-    acting = t.acting;
-    buffers_hold = p.1.0;
-    grouped = ap (λ n. n * l.group_size) (length-set groups (group_of l k) y) ∙ t.grouped;
-    each = λ q z e. each q z (get_set groups (group_of l k) y q z e);
-    logged = t.logged;
-    paced = t.paced;
-  },
+  group_kept l items bs cs groups log s (group_of l k) x y t there local global p.1.0 (inl p.1.1),
 )
-  where
-    each : (q : ℕ) (z : Group) → ((q ≡ group_of l k) × (y ≡ z)) ⊎ ((q ≡ group_of l k → ⊥) × (slice_get groups q ≡ Some z)) → IsGroupIn l q z s
-    each q z (inl e) =
-        subst (λ w. IsGroupIn l q w s) e.1
-        (subst (λ n. IsGroupIn l n y s) (sym e.0) (group_same l (group_of l k) x y s local global (inl p.1.1) (t.each (group_of l k) x there)))
-    each q z (inr e) = t.each q z e.1
 
 longest : (a b c : ℕ) → a ≤ b → b ≤ c → a ≤ c
 longest a b c h e = omega (arith, h, e)
@@ -407,6 +413,11 @@ module _
   performed_unset f byte e q =
       let h = subst (IsMoved (ObjectsHold (λ b. b) l g bs ls) (ObjectsHold (λ b. b) l g cs ks) (region_of g o) first op) (e ∙ ap Err q) moved m held in
       (reads_unset l g m o element op first byte (placed l g m o op at same here there held) h.0 h.1, h.2)
+
+-- where memory is refused, a memory is held as before
+pub wanting_kept : (old new : Memory → Type 0) (at : Region) (first : ℕ) (op : Operation) (r : Result Answer SpaceFault) (f : SpaceFault) → r ≡ Err f → f ≡ space_fault.OutOfMemory
+    → IsMoved old new at first op r → (memory : Memory) → old memory → new memory
+wanting_kept old new at first op r f e q moved = subst (IsMoved old new at first op) (e ∙ ap Err q) moved
 
 -- an item's next action in a state
 pub action_as :

@@ -1,6 +1,6 @@
 -- Items that are asked or answered one after another.
-use Rattle.std.proofs.Common.{◌≡◌, ℕ, ◌+◌, ◌<◌, ◌≤◌, ◌⊎◌, Bool, true, false, Some, List, [], ◌∷◌, set, get_or, length, refl, sym, ap, ◌∙◌, inl, inr, arith}
-use Rattle.std.specs.Prelude.{slice_get}
+use Rattle.std.proofs.Common.{◌≡◌, ℕ, ◌+◌, ◌<◌, ◌≤◌, ◌⊎◌, Bool, true, false, Some, List, [], ◌∷◌, set, get_or, length, refl, sym, ap, subst, ◌∙◌, inl, inr, arith}
+use Rattle.std.specs.Prelude.{slice_get, Result, Ok, Err, OnErr}
 use Rattle.std.proofs.lemmas.List.{length-set}
 use Rattle.std.proofs.lemmas.Option.{slice_get_read}
 use Rattle.clmodel.specs.Launch.{Launch}
@@ -9,8 +9,13 @@ use Rattle.clmodel.specs.declared.action.Answer.{Answer}
 use Rattle.clmodel.specs.declared.action.Stop.{Stop}
 use Rattle.clmodel.proofs.Steps.{some_inj}
 use Rattle.objects.proofs.Lists.{get_set}
-use Rattle.replay_play.specs.Items.{acts_of, is_at, AreAlike, AreAt, AreAnswered}
+use Rattle.replay_play.specs.Items.{acts_of, is_at, AreAlike, AreAsked, AreAt, AreAnswered, IsAsked, IsAskedAt}
 use Rattle.replay_play.specs.declared.slot.Slot.{Slot}
+
+-- what holds anyhow holds on an error
+pub on_err : {T E P : Type 0} (r : Result T E) → P → OnErr r P
+on_err (Ok v) p = tt
+on_err (Err e) p = p
 
 -- ---- items that are asked
 
@@ -81,6 +86,29 @@ at_not l old new first end k stop x found from below there told here h =
     let o : (w : Slot) × (slice_get old k ≡ Some w) × ((answers : List Answer) → acts_of l k x answers ≡ acts_of l k w answers) = h.each k x there in
     (k, o.0, from, below, o.1, sym (at_alike l stop k x o.0 o.2) ∙ sym told ∙ here)
 
+-- what is true of an item is true of that of its number once it is put there
+pub at_set : (P : Slot → Type 0) (items : List Slot) (k : ℕ) (y : Slot) → P y → (i : Slot) → slice_get (set items k y) k ≡ Some i → P i
+at_set P items k y mine i e = go (get_set items k y k i e)
+  where
+    go : ((k ≡ k) × (y ≡ i)) ⊎ ((k ≡ k → ⊥) × (slice_get items k ≡ Some i)) → P i
+    go (inl h) = subst P h.1 mine
+    go (inr h) = absurd (h.0 refl)
+
+pub asked_none : (items : List Slot) (first : ℕ) → AreAsked items first first
+asked_none items first k from below i e = absurd (omega (arith, from, below))
+
+pub asked_more : (items : List Slot) (first k : ℕ) (y : Slot) → IsAsked y → AreAsked items first k → AreAsked (set items k y) first (k + 1)
+asked_more items first k y mine h j from below i e = go (get_set items k y j i e) (below_next j k below)
+  where
+    go : ((j ≡ k) × (y ≡ i)) ⊎ ((j ≡ k → ⊥) × (slice_get items j ≡ Some i)) → (j < k) ⊎ (j ≡ k) → IsAsked i
+    go (inl p) q = subst IsAsked p.1 mine
+    go (inr p) (inl q) = h j from q i p.1
+    go (inr p) (inr q) = absurd (p.0 q)
+
+-- the walk came to its end
+pub asked_all : (items : List Slot) (first k end : ℕ) → end ≤ k → AreAsked items first k → AreAsked items first end
+asked_all items first k end past h j from below = h j from (omega (arith, past, below))
+
 -- ---- items that are answered
 
 pub answered_none : (l : Launch) (first : ℕ) (answer : Answer) (items : List Slot) → AreAnswered l first first answer items items
@@ -90,6 +118,11 @@ answered_none l first answer items =
       done = λ k y from below e. absurd (omega (arith, from, below));
       others = λ k y out e. e;
     }
+
+-- the walk's next item was asked
+pub asked_still : (l : Launch) (first end : ℕ) (answer : Answer) (old new : List Slot) (k : ℕ) (x : Slot) → first ≤ k → k < end → slice_get new k ≡ Some x → AreAsked old first end
+    → AreAnswered l first k answer old new → IsAsked x
+asked_still l first end answer old new k x from below there asked h = asked k from below x (h.others k x (inr (omega arith)) there)
 
 pub answered_more :
     (l : Launch) (first : ℕ) (answer : Answer) (old new : List Slot) (k : ℕ) (x y : Slot) → first ≤ k → slice_get new k ≡ Some x

@@ -1,12 +1,13 @@
 -- The items of a launch, started when they are first asked (own).
-use Rattle.std.specs.Prelude.{◌≡◌, ℕ, ◌<◌, ◌≤◌, ◌⊎◌, Bool, true, false, Some, List, [], ◌∷◌, length, slice_get}
+use Rattle.std.specs.Prelude.{◌≡◌, ℕ, ◌<◌, ◌≤◌, ◌⊎◌, Bool, true, false, Option, None, Some, List, [], ◌∷◌, length, slice_get}
+use Rattle.std.specs.Option.{option_and_then}
 use Rattle.clmodel.specs.Launch.{Launch}
 use Rattle.clmodel.specs.Run.{stop_of, both_stop}
 use Rattle.clmodel.specs.declared.action.Action.{Action}
 use Rattle.clmodel.specs.declared.action.Action.TheVariants as action
 use Rattle.clmodel.specs.declared.action.Answer.{Answer}
 use Rattle.clmodel.specs.declared.action.Stop.{Stop}
-use Rattle.item_step.specs.Running.{action_of}
+use Rattle.item_step.specs.Running.{Makes, action_of}
 use Rattle.replay_play.specs.declared.slot.Slot.{Slot}
 use Rattle.replay_play.specs.declared.slot.Slot.TheVariants as slot
 
@@ -21,6 +22,34 @@ abbrev pub IsAsked : Slot → Type 0
 IsAsked slot.Waiting = ⊥
 IsAsked (slot.Running running) = Unit {0}
 IsAsked slot.Ended = Unit {0}
+
+-- an item of this number, if there is one, was asked
+abbrev pub IsAskedAt : List Slot → ℕ → Type 0
+IsAskedAt items item = (i : Slot) → slice_get items item ≡ Some i → IsAsked i
+
+-- the items from `first` on, below `end`, were asked
+abbrev pub AreAsked : List Slot → ℕ → ℕ → Type 0
+AreAsked items first end = (k : ℕ) → first ≤ k → k < end → IsAskedAt items k
+
+-- the place in its code of the instruction where an item stands that is under way
+abbrev pub place_of : Slot → Option ℕ
+place_of slot.Waiting = None
+place_of (slot.Running running) = Some running.state.place
+place_of slot.Ended = None
+
+-- that of the item of a number
+abbrev pub place_in : List Slot → ℕ → Option ℕ
+place_in items item = option_and_then place_of (slice_get items item)
+
+-- where an item is under way, the instruction where it stands makes this action, whatever follows it
+abbrev pub Stands : Slot → Action → Type 0
+Stands slot.Waiting action = Unit {0}
+Stands (slot.Running running) action = Makes running action
+Stands slot.Ended action = Unit {0}
+
+-- so does the item of a number
+abbrev pub StandsAt : List Slot → ℕ → Action → Type 0
+StandsAt items item action = (i : Slot) → slice_get items item ≡ Some i → Stands i action
 
 -- items that act as before
 pub record AreAlike (launch : Launch) (old new : List Slot) : Type 0 where

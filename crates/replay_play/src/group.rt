@@ -1,6 +1,6 @@
 //! What a player keeps of a work-group.
 
-ghost use Rattle.std.specs.Prelude.{◌≡◌, ◌+◌, ◌-◌, ◌<◌, ◌≤◌, ◌^◌, ℕ, List, Option, [], length, All, IfOk, IfSome, OnOk};
+ghost use Rattle.std.specs.Prelude.{◌≡◌, ◌+◌, ◌-◌, ◌<◌, ◌≤◌, ◌^◌, ℕ, List, Option, [], length, All, IfOk, IfSome, OnErr, OnOk};
 ghost use Rattle.clmodel.specs.Cells.{cells_of, lowest_unset, size_of};
 ghost use Rattle.clmodel.specs.Launch.{Launch, access_in, bytes_of, first_byte, region_of};
 ghost use Rattle.clmodel.specs.Run.{Memory, by_region};
@@ -54,8 +54,10 @@ fn perform(
     element: i64,
     operation: Operation,
 ) -> Result<Option<Performed>, AllocError>
-    ensures { IfOk result (λ done. (launch : Launch) (group : ℕ) (memory : Memory) → ObjectsHold (λ b. b) launch group buffers.old.items locals.old.items memory
+    ensures performed { IfOk result (λ done. (launch : Launch) (group : ℕ) (memory : Memory) → ObjectsHold (λ b. b) launch group buffers.old.items locals.old.items memory
         → IsPerformed launch group (ObjectsHold (λ b. b) launch group buffers.new.items locals.new.items) memory object element operation done) }
+    ensures same { OnErr result ((launch : Launch) (group : ℕ) (memory : Memory) → ObjectsHold (λ b. b) launch group buffers.old.items locals.old.items memory
+        → ObjectsHold (λ b. b) launch group buffers.new.items locals.new.items memory) }
 {
     let Some(first) = place(
         buffers.as_slice(),
@@ -119,6 +121,7 @@ impl Group {
         ensures global_interval { self.new.global_interval ≡ self.old.global_interval }
         ensures made { OnOk result ((launch : Launch) (group : ℕ) (memory : Memory) → sizes.now ≡ launch.local_sizes → LocalsHold launch group self.old.locals.items memory
             → SpacesHold (λ cells. cells) launch (length launch.local_sizes) (region.Local group) self.new.locals.items memory) }
+        ensures same { OnErr result (self.new.locals.items ≡ self.old.locals.items) }
     {
         if self.locals.is_empty() {
             self.locals = local_objects(alloc, sizes)?;
@@ -141,6 +144,9 @@ impl Group {
         ensures performed { IfOk result (λ done. (launch : Launch) (group : ℕ) (memory : Memory) → sizes.now ≡ launch.local_sizes
             → SpacesHold (λ b. b) launch (length launch.buffers) region.Buffer buffers.old.items memory → LocalsHold launch group self.old.locals.items memory
             → IsPerformed launch group (ObjectsHold (λ b. b) launch group buffers.new.items self.new.locals.items) memory object element operation done) }
+        ensures same { OnErr result ((launch : Launch) (group : ℕ) (memory : Memory) → sizes.now ≡ launch.local_sizes
+            → SpacesHold (λ b. b) launch (length launch.buffers) region.Buffer buffers.old.items memory → LocalsHold launch group self.old.locals.items memory
+            → SpacesHold (λ b. b) launch (length launch.buffers) region.Buffer buffers.new.items memory × LocalsHold launch group self.new.locals.items memory) }
     {
         self.make_locals(alloc, sizes)?;
         perform(buffers, &mut self.locals, object, element, operation)

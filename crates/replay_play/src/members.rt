@@ -1,8 +1,9 @@
 //! The items of a work-group, one after another.
 
-ghost use Rattle.std.specs.Prelude.{◌≡◌, ◌≤◌, length, IfOk, OnOk};
+ghost use Rattle.std.specs.Prelude.{◌≡◌, ◌≤◌, length, true, IfOk};
+ghost use Rattle.clmodel.specs.Launch.{Launch};
 ghost use Rattle.clmodel.specs.declared.action.Answer.TheVariants.{Done};
-ghost use Rattle.replay_play.specs.Items.{AreAlike, AreAt, AreAnswered};
+ghost use Rattle.replay_play.specs.Items.{AreAlike, AreAsked, AreAt, AreAnswered};
 
 use crate::slot::Slot;
 use clmodel::action::{Answer, Stop};
@@ -22,6 +23,7 @@ pub fn are_at<'a, D: Runnable>(
     requires { end ≤ length items.old.items }
     ensures same { AreAlike (D.launch launch.now) items.old.items items.new.items }
     ensures value { IfOk result (AreAt (D.launch launch.now) items.old.items first end stop.now) }
+    ensures asked { IfOk result (λ yes. yes ≡ true → AreAsked items.new.items first end) }
 {
     for item in first..end {
         if !items[item as usize].is_at(alloc, launch, item, stop)? {
@@ -31,20 +33,14 @@ pub fn are_at<'a, D: Runnable>(
     Ok(true)
 }
 
-/// Answers the items from the first on, below an end, that their barrier is passed. An error is out of memory.
-pub fn answer_all<'a, D: Runnable>(
-    items: &mut Vec<Slot<'a>>,
-    alloc: Global,
-    launch: &'a D,
-    first: u32,
-    end: u32,
-) -> Result<(), AllocError>
+/// Answers the items from the first on, below an end, which were asked, that their barrier is passed.
+pub fn answer_all(items: &mut Vec<Slot<'_>>, first: u32, end: u32)
     requires order { first ≤ end }
     requires inside { end ≤ length items.old.items }
-    ensures { OnOk result (AreAnswered (D.launch launch.now) first end Done items.old.items items.new.items) }
+    requires asked { AreAsked items.old.items first end }
+    ensures { (launch : Launch) → AreAnswered launch first end Done items.old.items items.new.items }
 {
     for item in first..end {
-        items[item as usize].answer(alloc, launch, item, Answer::Done)?;
+        items[item as usize].answer(Answer::Done);
     }
-    Ok(())
 }

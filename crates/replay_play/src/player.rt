@@ -1,6 +1,6 @@
 //! A launch as it is played, one event after another.
 
-ghost use Rattle.std.specs.Prelude.{◌≡◌, ◌+◌, ◌<◌, ◌≤◌, ℕ, ◌*◌, IfOk, IfSome, OnOk, reverse};
+ghost use Rattle.std.specs.Prelude.{◌≡◌, ◌+◌, ◌<◌, ◌≤◌, ℕ, ◌*◌, true, IfOk, IfSome, OnErr, reverse};
 ghost use Rattle.clmodel.specs.Cells.{lowest_unset, size_of};
 ghost use Rattle.clmodel.specs.Launch.{Launch, bytes_of, group_of, region_of};
 ghost use Rattle.clmodel.specs.Run.{State, byte_at, next_action, released, start};
@@ -8,6 +8,7 @@ ghost use Rattle.clmodel.specs.declared.action.Action.TheVariants as action;
 ghost use Rattle.clmodel.specs.declared.action.Instance.{Instance};
 ghost use Rattle.clmodel.specs.declared.schedule.Event.TheVariants as event;
 ghost use Rattle.launches.specs.Groups.{IsRunnable, filled};
+ghost use Rattle.replay_play.specs.Items.{AreAsked, IsAskedAt, StandsAt, place_in};
 ghost use Rattle.replay_play.specs.States.{ActsNext, Gathers, IsAt, IsPlayed};
 
 use crate::group::{Group, new_groups};
@@ -57,7 +58,8 @@ impl<'a, D: Runnable> Player<'a, D> {
         })
     }
 
-    /// Does this access, which is what an item does next, where it is possible. An error is out of memory.
+    /// Does this access, which is what an item that was asked does next, where it is possible. An error is out of memory. The log has
+    /// room for the access before anything is done, so that an error leaves all as it was.
     fn access(
         &mut self,
         item: u32,
@@ -65,10 +67,13 @@ impl<'a, D: Runnable> Player<'a, D> {
         element: i64,
         operation: Operation,
     ) -> Result<bool, AllocError>
-        requires { (launch : Launch) × (state : State) × IsAt D.launch launch self.old state × (item < launch.items) }
-        ensures { IfOk result (λ yes. (launch : Launch) (state : State) → IsAt D.launch launch self.old state → next_action launch state item ≡ action.Access object element operation
+        requires at { (launch : Launch) × (state : State) × IsAt D.launch launch self.old state × (item < launch.items) }
+        requires asked { IsAskedAt self.old.items.items item }
+        ensures played { IfOk result (λ yes. (launch : Launch) (state : State) → IsAt D.launch launch self.old state → next_action launch state item ≡ action.Access object element operation
             → IsPlayed launch state (event.Item item) (IsAt D.launch launch self.new) yes) }
+        ensures same { OnErr result ((launch : Launch) (state : State) → IsAt D.launch launch self.old state → IsAt D.launch launch self.new state) }
     {
+        self.log.reserve(1)?;
         let number = item / self.launch.group_size();
         let group = &mut self.groups[number as usize];
         let Some(done) = group.perform(
@@ -83,8 +88,8 @@ impl<'a, D: Runnable> Player<'a, D> {
             return Ok(false);
         };
         let access = group.access_of(number, item, object, done.first, operation);
-        self.log.push(access)?;
-        self.items[item as usize].answer(self.alloc, self.launch, item, done.answer)?;
+        self.log.push_reserved(access);
+        self.items[item as usize].answer(done.answer);
         Ok(true)
     }
 
@@ -93,12 +98,25 @@ impl<'a, D: Runnable> Player<'a, D> {
     pub fn action(&mut self, item: u32) -> Result<Option<Action>, AllocError>
         ensures same { (launch : Launch) (state : State) → IsAt D.launch launch self.old state → IsAt D.launch launch self.new state }
         ensures value { IfOk result (λ action. (launch : Launch) (state : State) → IsAt D.launch launch self.old state → ActsNext launch state item action) }
+        ensures asked { IfOk result (λ action. IfSome action (λ _. IsAskedAt self.new.items.items item)) }
+        ensures stands { IfOk result (λ action. IfSome action (StandsAt self.new.items.items item)) }
     {
         if item as usize >= self.items.len() {
             return Ok(None);
         }
         let action = self.items[item as usize].next(self.alloc, self.launch, item)?;
         Ok(Some(action))
+    }
+
+    /// The place in its code of the instruction where an item stands, if it is under way. Once `action` has told its next action, it is that
+    /// of the instruction that makes the action. An item that wasn't asked, or has ended, stands nowhere.
+    pub fn place(&self, item: u32) -> Option<usize>
+        ensures { result ≡ place_in self.now.items.items item }
+    {
+        match self.items.get(item as usize) {
+            Some(slot) => slot.place(),
+            None => None,
+        }
     }
 
     /// The accesses so far, the oldest first.
@@ -154,10 +172,11 @@ impl<'a, D: Runnable> Player<'a, D> {
         group.unset_byte(self.buffers.as_slice(), object, first, operation)
     }
 
-    /// An event of an item: its access, where that is what it does next and is possible. An error is out of memory.
+    /// An event of an item: its access, where that is what it does next and is possible. An error is out of memory, and leaves the state.
     pub fn play_item(&mut self, item: u32) -> Result<bool, AllocError>
         requires { (launch : Launch) × (state : State) × IsAt D.launch launch self.old state }
-        ensures { IfOk result (λ yes. (launch : Launch) (state : State) → IsAt D.launch launch self.old state → IsPlayed launch state (event.Item item) (IsAt D.launch launch self.new) yes) }
+        ensures played { IfOk result (λ yes. (launch : Launch) (state : State) → IsAt D.launch launch self.old state → IsPlayed launch state (event.Item item) (IsAt D.launch launch self.new) yes) }
+        ensures same { OnErr result ((launch : Launch) (state : State) → IsAt D.launch launch self.old state → IsAt D.launch launch self.new state) }
     {
         let Some(action) = self.action(item)? else {
             return Ok(false);
@@ -178,6 +197,8 @@ impl<'a, D: Runnable> Player<'a, D> {
         requires { (launch : Launch) × (state : State) × IsAt D.launch launch self.old state × (group * launch.group_size < launch.items) }
         ensures same { (launch : Launch) (state : State) → IsAt D.launch launch self.old state → IsAt D.launch launch self.new state }
         ensures value { IfOk result (λ yes. (launch : Launch) (state : State) → IsAt D.launch launch self.old state → Gathers launch state group stop.now yes) }
+        ensures asked { IfOk result (λ yes. yes ≡ true → (launch : Launch) (state : State) → IsAt D.launch launch self.old state
+            → AreAsked self.new.items.items (group * launch.group_size) (group * launch.group_size + launch.group_size)) }
     {
         let size = self.launch.group_size();
         let first = group * size;
@@ -191,25 +212,26 @@ impl<'a, D: Runnable> Player<'a, D> {
         )
     }
 
-    /// Releases a group from a barrier with these fences, at which its first item is: a walk over its items. An error is out of memory.
-    fn release(&mut self, group: u32, fences: Fences) -> Result<(), AllocError>
+    /// Releases a group, all of whose items were asked, from a barrier with these fences, at which its first item is: a walk over its items.
+    fn release(&mut self, group: u32, fences: Fences)
         requires { (launch : Launch) × (state : State) × (instance : Instance) × IsAt D.launch launch self.old state × (group * launch.group_size < launch.items)
-            × (next_action launch state (group * launch.group_size) ≡ action.Barrier instance fences) }
-        ensures { OnOk result ((launch : Launch) (state : State) → IsAt D.launch launch self.old state → IsAt D.launch launch self.new (released launch state group fences)) }
+            × (next_action launch state (group * launch.group_size) ≡ action.Barrier instance fences)
+            × AreAsked self.old.items.items (group * launch.group_size) (group * launch.group_size + launch.group_size) }
+        ensures { (launch : Launch) (state : State) → IsAt D.launch launch self.old state → IsAt D.launch launch self.new (released launch state group fences) }
     {
         self.groups[group as usize].pass(fences);
         let size = self.launch.group_size();
         let first = group * size;
-        let end = first + size;
-        answer_all(&mut self.items, self.alloc, self.launch, first, end)
+        answer_all(&mut self.items, first, first + size);
     }
 
     /// A group's release, where all its items are at one barrier in the same turns of the loops round it (OpenCL 1.2, section 6.12.8): each
     /// item goes on, and the interval of each fenced address space is one higher. It takes a walk over the group's items to compare them with
-    /// the first, and one to answer them. An error is out of memory.
+    /// the first, and one to answer them. An error is out of memory, and leaves the state.
     pub fn play_release(&mut self, group: u32) -> Result<bool, AllocError>
         requires { (launch : Launch) × (state : State) × IsAt D.launch launch self.old state }
-        ensures { IfOk result (λ yes. (launch : Launch) (state : State) → IsAt D.launch launch self.old state → IsPlayed launch state (event.Release group) (IsAt D.launch launch self.new) yes) }
+        ensures played { IfOk result (λ yes. (launch : Launch) (state : State) → IsAt D.launch launch self.old state → IsPlayed launch state (event.Release group) (IsAt D.launch launch self.new) yes) }
+        ensures same { OnErr result ((launch : Launch) (state : State) → IsAt D.launch launch self.old state → IsAt D.launch launch self.new state) }
     {
         if group as usize >= self.groups.len() {
             return Ok(false);
@@ -224,14 +246,16 @@ impl<'a, D: Runnable> Player<'a, D> {
         if !self.gathers(group, &Stop::At(instance))? {
             return Ok(false);
         }
-        self.release(group, fences)?;
+        self.release(group, fences);
         Ok(true)
     }
 
-    /// An event, where it is possible: an item's access or a group's release (OpenCL 1.2, sections 3.2 and 6.12.8). An error is out of memory.
+    /// An event, where it is possible: an item's access or a group's release (OpenCL 1.2, sections 3.2 and 6.12.8). An error is out of memory,
+    /// and leaves the state.
     pub fn play(&mut self, event: Event) -> Result<bool, AllocError>
         requires { (launch : Launch) × (state : State) × IsAt D.launch launch self.old state }
-        ensures { IfOk result (λ yes. (launch : Launch) (state : State) → IsAt D.launch launch self.old state → IsPlayed launch state event (IsAt D.launch launch self.new) yes) }
+        ensures played { IfOk result (λ yes. (launch : Launch) (state : State) → IsAt D.launch launch self.old state → IsPlayed launch state event (IsAt D.launch launch self.new) yes) }
+        ensures same { OnErr result ((launch : Launch) (state : State) → IsAt D.launch launch self.old state → IsAt D.launch launch self.new state) }
     {
         match event {
             Event::Item(item) => self.play_item(item),

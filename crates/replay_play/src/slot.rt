@@ -1,9 +1,10 @@
 //! A single item as it is played.
 
-ghost use Rattle.std.specs.Prelude.{◌≡◌, Some, [], ◌∷◌, List, replicate, IfOk, OnOk};
+ghost use Rattle.std.specs.Prelude.{◌≡◌, ℕ, Some, [], ◌∷◌, List, replicate, IfOk, OnOk};
+ghost use Rattle.clmodel.specs.Launch.{Launch};
 ghost use Rattle.clmodel.specs.Run.{stop_of};
 ghost use Rattle.clmodel.specs.declared.action.Answer.{Answer};
-ghost use Rattle.replay_play.specs.Items.{acts_of, is_at, IsAsked};
+ghost use Rattle.replay_play.specs.Items.{acts_of, is_at, place_of, IsAsked, Stands};
 ghost use Rattle.replay_play.specs.declared.slot.Slot.TheVariants as slot;
 
 use clmodel::action::{Action, Answer, Stop};
@@ -64,6 +65,24 @@ impl<'a> Slot<'a> {
         Ok(())
     }
 
+    /// The action that the item makes next, once it was asked.
+    fn goes_on(&mut self) -> Action
+        requires { IsAsked self.old }
+        ensures action { (launch : Launch) (item : ℕ) → result ≡ acts_of launch item self.old [] }
+        ensures same { (launch : Launch) (item : ℕ) (answers : List Answer) → acts_of launch item self.new answers ≡ acts_of launch item self.old answers }
+        ensures asked { IsAsked self.new }
+        ensures stands { Stands self.new result }
+    {
+        let Slot::Running(running) = self else {
+            return Action::End;
+        };
+        let action = running.next();
+        if let Action::End = action {
+            *self = Slot::Ended;
+        }
+        action
+    }
+
     /// The action that the item makes next. An error is out of memory.
     pub fn next<D: Runnable>(
         &mut self,
@@ -73,16 +92,22 @@ impl<'a> Slot<'a> {
     ) -> Result<Action, AllocError>
         ensures action { IfOk result (λ action. action ≡ acts_of (D.launch launch.now) item self.old []) }
         ensures same { (answers : List Answer) → acts_of (D.launch launch.now) item self.new answers ≡ acts_of (D.launch launch.now) item self.old answers }
+        ensures asked { OnOk result (IsAsked self.new) }
+        ensures stands { IfOk result (Stands self.new) }
     {
         self.start(alloc, launch, item)?;
-        let Slot::Running(running) = self else {
-            return Ok(Action::End);
-        };
-        let action = running.next();
-        if let Action::End = action {
-            *self = Slot::Ended;
+        Ok(self.goes_on())
+    }
+
+    /// The place in its code of the instruction where the item stands, if it is under way. After `next` it is that of the instruction that
+    /// makes the action.
+    pub fn place(&self) -> Option<usize>
+        ensures { result ≡ place_of self.now }
+    {
+        match self {
+            Slot::Running(running) => Some(running.place()),
+            Slot::Waiting | Slot::Ended => None,
         }
-        Ok(action)
     }
 
     /// Whether the item is at a stop. An error is out of memory.
@@ -95,6 +120,7 @@ impl<'a> Slot<'a> {
     ) -> Result<bool, AllocError>
         ensures same { (answers : List Answer) → acts_of (D.launch launch.now) item self.new answers ≡ acts_of (D.launch launch.now) item self.old answers }
         ensures value { IfOk result (λ yes. yes ≡ is_at (D.launch launch.now) stop.now item self.old) }
+        ensures asked { OnOk result (IsAsked self.new) }
     {
         match stop_of(self.next(alloc, launch, item)?) {
             Some(other) => Ok(same_stop(stop, &other)),
@@ -102,22 +128,15 @@ impl<'a> Slot<'a> {
         }
     }
 
-    /// The item's next action is answered, and the item goes on to the one after it, so that one that comes to its end keeps no memory. An
-    /// error is out of memory.
-    pub fn answer<D: Runnable>(
-        &mut self,
-        alloc: Global,
-        launch: &'a D,
-        item: u32,
-        answer: Answer,
-    ) -> Result<(), AllocError>
-        ensures { OnOk result ((answers : List Answer) → acts_of (D.launch launch.now) item self.new answers ≡ acts_of (D.launch launch.now) item self.old (answer ∷ answers)) }
+    /// The next action of the item, which was asked, is answered, and the item goes on to the one after it, so that one that comes to its end
+    /// keeps no memory.
+    pub fn answer(&mut self, answer: Answer)
+        requires { IsAsked self.old }
+        ensures { (launch : Launch) (item : ℕ) (answers : List Answer) → acts_of launch item self.new answers ≡ acts_of launch item self.old (answer ∷ answers) }
     {
-        self.start(alloc, launch, item)?;
         if let Slot::Running(running) = self {
             running.answer(answer);
         }
-        self.next(alloc, launch, item)?;
-        Ok(())
+        self.goes_on();
     }
 }

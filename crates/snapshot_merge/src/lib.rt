@@ -1,4 +1,9 @@
 //! The work-groups of a launch, run apart and joined.
+//!
+//! `run_launch` answers what the launch's canonical run on one memory comes to: clean with the bytes that it leaves, or
+//! its report and its schedule. `merge` answers the same from the groups' results, of all groups or of those up to one
+//! that stopped. `join_round` joins results whose logs are short lists that stand for them. All ask for whole groups
+//! with items and answers below 2^32.
 #![tactic(auto)]
 
 mod around;

@@ -1,4 +1,6 @@
 //! Tests with threads: the queue with one client, two and sixteen, on a machine that adds and on a device.
+//!
+//! Clients leave, agree, and are handed to `close`; one submits while a command is done.
 #![tactic(auto)]
 
 #[cfg(test)]

@@ -1,5 +1,5 @@
 -- A group's one run, and its result.
-use Rattle.std.proofs.Common.{◌≡◌, ℕ, suc, ◌+◌, ◌*◌, ◌<◌, ◌≤◌, arith, true, true≢false, Option, None, Some, List, Vec, Global, [], ◌∷◌, refl, sym, ◌∙◌, subst, ⊎_elim}
+use Rattle.std.proofs.Common.{◌≡◌, ℕ, suc, ◌+◌, ◌-◌, ◌*◌, ◌<◌, ◌≤◌, arith, nat_lt, le-ltb, if◌then◌else◌, ap, true, false, true≢false, Option, None, Some, List, Vec, Global, [], ◌∷◌, refl, sym, ◌∙◌, subst, ⊎_elim}
 use Rattle.std.proofs.Math.Nat.{suc-mul, mul-le-mul_right}
 use Rattle.std.specs.Prelude.{Result, Ok, Err, IfOk}
 use Rattle.std.specs.declared.alloc.AllocError.{AllocError}
@@ -18,7 +18,7 @@ use Rattle.group_log.specs.declared.group.GroupLog.{GroupLog}
 use Rattle.snapshot_merge.specs.Launches.{group_log}
 use Rattle.spaces.specs.Overlay.{Overlaid}
 use Rattle.workers_draw.specs.Groups.{AreResults}
-use Rattle.workers.specs.Results.{IsListed, AreOfRound, IsOfGroup, IsStopping, number_of, has_stopped}
+use Rattle.workers.specs.Results.{IsListed, AreOfRound, IsOfGroup, IsStopping, number_of, place_among, has_stopped}
 
 abbrev Came : Type 0
 Came = GroupResult Overlaid LastingList
@@ -35,6 +35,13 @@ below_there group last size items e some b =
 pub is_numbered : (launch : Launch) (group : ℕ) (came : Came) → IsOfGroup launch group came → number_of came ≡ group
 is_numbered launch group (Done number spaces log runs) is = is.1.2.0
 is_numbered launch group (Stopped number fault log runs) is = is.1.2.0
+
+-- a group that is so many behind the first of its round has that place
+pub place_of : (first count n : ℕ) → place_among first count (first + n) ≡ n
+place_of first count n =
+    let same : (first + n) - first ≡ n = omega arith in
+    let there : nat_lt (first + n) first ≡ false = le-ltb (first + n) first (omega arith) in
+    ap (λ b. if b then count else ((first + n) - first)) there ∙ same
 
 pub stopped_stops : (launch : Launch) (group : ℕ) (came : Came) → IsOfGroup launch group came → has_stopped came ≡ true → IsStopping launch group
 stopped_stops launch group (Done number spaces log runs) is stop = absurd (true≢false (sym stop))

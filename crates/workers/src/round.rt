@@ -10,7 +10,7 @@ ghost use Rattle.launches.specs.Groups.{HasGroups};
 ghost use Rattle.shadow.specs.Lasting.{StandsWith};
 ghost use Rattle.snapshot_merge.specs.Launches.{group_log};
 ghost use Rattle.spaces_base.specs.Buffers.{bytes_in};
-ghost use Rattle.workers.specs.Results.{IsListed, IsOfGroup, IsStopping, number_of, has_stopped};
+ghost use Rattle.workers.specs.Results.{IsListed, IsOfGroup, IsStopping, number_of, place_among, has_stopped};
 
 use crate::spare::SpareLogs;
 use group_log::GroupLog;
@@ -126,7 +126,7 @@ impl<'a> Work for Round<'a, '_> {
 
     ghost stops = { λ w n. IsStopping (launch_of (setup_of w.launch.now) (bytes_in w.buffers.now)) (w.first + n) };
 
-    ghost number_of = { λ w came. number_of came - w.first };
+    ghost number_of = { λ w came. place_among w.first w.count (number_of came) };
 
     ghost is_stopped = { has_stopped };
 
@@ -150,7 +150,10 @@ impl<'a> Work for Round<'a, '_> {
             GroupResult::Done { group, .. } => *group,
             GroupResult::Stopped { group, .. } => *group,
         };
-        group.saturating_sub(self.first)
+        if group < self.first {
+            return self.count;
+        }
+        group - self.first
     }
 
     fn stopped(came: &GroupResult<Overlay<'a>, LastingList>) -> bool

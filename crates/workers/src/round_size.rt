@@ -15,7 +15,7 @@ const ROUND_BYTES: usize = 7_340_032;
 /// How many bytes an access takes that a result keeps.
 const ACCESS_BYTES: usize = 56;
 
-/// How many bytes a page of a buffer takes that a group changed: 256, and what tells which of them it changed.
+/// How many bytes a page of a buffer takes that a group changed: 256, and its number with the room of the lists.
 const PAGE_BYTES: usize = 272;
 
 /// How many bytes a page takes in the table of the pages from the lowest to the highest that a group changed.

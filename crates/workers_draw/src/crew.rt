@@ -59,8 +59,9 @@ fn together<W: Work>(
     Ok(Worker { seat, outputs })
 }
 
-/// Lets this many workers work. The calling thread makes a call, and is then one of them; it starts all others itself, since a thread's first
-/// threads may be left on its own processor while others idle. A thread that can't be started is done without.
+/// Lets this many workers work. The calling thread makes a call, and is then one of them; it starts all others itself,
+/// since a thread that a started thread starts may be left on that one's processor while others idle. A thread that
+/// can't be started is done without.
 #[cycle(crew)]
 pub(crate) fn crew<W: Work, G: Gate, R: Threads + Wait + Sync, F: FnOnce() -> T, T>(
     rt: &R,

@@ -1,4 +1,5 @@
-//! Tests with threads: the groups that workers draw at gates that hold them, and two workers at a gate in a launch, by itself and on a device.
+//! Tests with threads: the groups that workers draw at gates that hold them, and two workers at a gate in a launch, by
+//! itself and on a device.
 #![tactic(auto)]
 
 #[cfg(test)]

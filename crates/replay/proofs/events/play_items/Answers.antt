@@ -9,13 +9,13 @@ pub returns-then-not-branch : goal.returns-then-not-branch
 returns-then-not-branch g c = λ l s at.
     let now = c.loop.invariant l s at in
     item_never l s now.0 (event.Item c.args.item) c.loop.counter c.args.count (IsAt {D = g.row.D.Denot} g.D.Described.launch l c.play.new.self) c.in_ok-play.field-0 c.loop-test.true now.1
-    (c.in_ok-play.ensures l now.0 now.2) c.if-not-branch.true
+    (c.in_ok-play.ensures.played l now.0 now.2) c.if-not-branch.true
 
 pub loop-preserved : goal.loop-preserved
 loop-preserved g c = λ l s at.
     let now = c.loop.invariant l s at in
     item_more l s now.0 (event.Item c.args.item) c.loop.counter (IsAt {D = g.row.D.Denot} g.D.Described.launch l c.play.new.self) c.in_ok-play.field-0 now.1
-    (c.in_ok-play.ensures l now.0 now.2) c.if-not-branch.false
+    (c.in_ok-play.ensures.played l now.0 now.2) c.if-not-branch.false
 
 pub returns : goal.returns
 returns g c = λ l s at.

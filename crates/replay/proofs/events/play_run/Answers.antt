@@ -22,4 +22,4 @@ returns-in-Release g c =
     let new = IsAt {D = g.row.D.Denot} g.D.Described.launch l c.play.new.self in
     subst (λ es. ArePlayed l s es new answer) (ap (λ r. events_of (r ∷ [])) (sym c.in-Release.is))
     (one_played l s (event.Release c.in-Release.group) new answer (h l s at)))
-    c.play.ensures
+    c.play.ensures.played

@@ -1,6 +1,6 @@
 use Rattle.std.proofs.Common.{◌+◌, ◌*◌, ◌<◌, ◌≤◌, refl, sym, ap, ◌∙◌, subst, arith}
 use Rattle.std.proofs.lemmas.Result.{IfOk-weaker}
-use Rattle.replay_play.specs.Items.{AreAlike, AreAt}
+use Rattle.replay_play.specs.Items.{AreAlike, AreAsked, AreAt}
 use Rattle.replay_play.proofs.Releasing.{group_ends, gathers_as, alike_tells}
 use Rattle.replay_play.proofs.player.Player.gathers.Goals as goal
 
@@ -44,3 +44,11 @@ returns-clause-value g c =
     (subst (λ z. AreAt l p.items.items (n * z) (n * z + z) c.args.stop.now yes) (c.group_size-size.ensures.value ∙ ap (λ z. z.group_size) at.plays)
     (subst (λ z. AreAt z p.items.items (n * c.group_size-size.result) (n * c.group_size-size.result + c.group_size-size.result) c.args.stop.now yes) at.plays h)))
     c.are_at.ensures.value
+
+pub returns-clause-asked : goal.returns-clause-asked
+returns-clause-asked g c =
+    let n = c.args.group in
+    IfOk-weaker c.are_at.result _ _
+    (λ yes h. λ told l s at.
+    subst (λ z. AreAsked c.are_at.new.items.items (n * z) (n * z + z)) (c.group_size-size.ensures.value ∙ ap (λ z. z.group_size) at.plays) (h told))
+    c.are_at.ensures.asked

@@ -5,10 +5,11 @@ use Rattle.clmodel.proofs.Steps.{release_at}
 use Rattle.replay_play.specs.States.{ActsNext, Gathers}
 use Rattle.replay_play.proofs.Playing.{is_none}
 use Rattle.replay_play.proofs.Releasing.{group_begins, group_ends, led_by, no_leader, no_group, not_waiting, straggles, gathered, not_both}
+use Rattle.replay_play.proofs.Walks.{on_err}
 use Rattle.replay_play.proofs.player.Player.play_release.Goals as goal
 
-pub returns-then-group-len : goal.returns-then-group-len
-returns-then-group-len g c = λ l s at.
+pub returns-then-group-len-clause-played : goal.returns-then-group-len-clause-played
+returns-then-group-len-clause-played g c = λ l s at.
     let gs = c.args.self.now.groups in
     let past : length gs.items ≤ c.args.group = omega (arith, c.if-group-len.true, c.len.ensures, gs.ok.0) in
     (no_group l s c.args.group (no_leader l gs.items c.args.group at.runnable.grouped at.tells.grouped past), at)
@@ -24,8 +25,8 @@ overflow_mul-first g c =
     let few = at.runnable.numbered in
     omega (arith, ends, few)
 
-pub returns-in_default : goal.returns-in_default
-returns-in_default g c = λ l s at.
+pub returns-in_default-clause-played : goal.returns-in_default-clause-played
+returns-in_default-clause-played g c = λ l s at.
     let n = c.args.group in
     let gs = c.args.self.now.groups in
     let below : n < length gs.items = omega (arith, c.if-group-len.false, c.len.ensures, gs.ok.0) in
@@ -34,8 +35,8 @@ returns-in_default g c = λ l s at.
     let past = subst (ActsNext l s (n * c.group_size.result)) (is_none c.in_ok-action.field-0 c.in_default.not-Some) (c.in_ok-action.ensures.value l s at) in
     absurd (not_both l.items (n * l.group_size) there (subst (λ z. l.items ≤ z) first past))
 
-pub returns-in_default-action : goal.returns-in_default-action
-returns-in_default-action g c = λ l s at.
+pub returns-in_default-action-clause-played : goal.returns-in_default-action-clause-played
+returns-in_default-action-clause-played g c = λ l s at.
     let n = c.args.group in
     let gs = c.args.self.now.groups in
     let below : n < length gs.items = omega (arith, c.if-group-len.false, c.len.ensures, gs.ok.0) in
@@ -51,8 +52,8 @@ gathers-requires g c =
     let below : c.args.group < length gs.items = omega (arith, c.if-group-len.false, c.len.ensures, gs.ok.0) in
     (l, s, c.action.ensures.same l s at, group_begins l gs.items c.args.group at.runnable at.tells.grouped below)
 
-pub returns-then-not-branch : goal.returns-then-not-branch
-returns-then-not-branch g c = λ l s at.
+pub returns-then-not-branch-clause-played : goal.returns-then-not-branch-clause-played
+returns-then-not-branch-clause-played g c = λ l s at.
     let n = c.args.group in
     let gs = c.args.self.now.groups in
     let below : n < length gs.items = omega (arith, c.if-group-len.false, c.len.ensures, gs.ok.0) in
@@ -71,11 +72,18 @@ release-requires g c =
     let n = c.args.group in
     let gs = c.args.self.now.groups in
     let below : n < length gs.items = omega (arith, c.if-group-len.false, c.len.ensures, gs.ok.0) in
-    let w = led_by l s gs.items n c.group_size.result c.in-Some.action at.runnable at.tells.grouped below (c.group_size.ensures.value ∙ ap (λ z. z.group_size) at.plays) (c.in_ok-action.ensures.value l s at) c.in-Some.is in
-    (l, s, c.in-Barrier.instance, c.gathers.ensures.same l s (c.action.ensures.same l s at), w.begins, w.acts ∙ c.in-Barrier.is)
+    let w = led_by l s gs.items n c.group_size.result c.in-Some.action at.runnable at.tells.grouped below (c.group_size.ensures.value ∙ ap (λ z. z.group_size) at.plays) (c.in_ok-action.ensures.value l s at) c.in-Some.is in (
+      l,
+      s,
+      c.in-Barrier.instance,
+      c.gathers.ensures.same l s (c.action.ensures.same l s at),
+      w.begins,
+      w.acts ∙ c.in-Barrier.is,
+      c.in_ok-gathers.ensures.asked c.if-not-branch.false l s (c.action.ensures.same l s at),
+    )
 
-pub returns : goal.returns
-returns g c = λ l s at.
+pub returns-clause-played : goal.returns-clause-played
+returns-clause-played g c = λ l s at.
     let n = c.args.group in
     let gs = c.args.self.now.groups in
     let below : n < length gs.items = omega (arith, c.if-group-len.false, c.len.ensures, gs.ok.0) in
@@ -86,5 +94,8 @@ returns g c = λ l s at.
           (gathered l s n (n * l.group_size) (At c.in-Barrier.instance) (ap stop_of (w.acts ∙ c.in-Barrier.is))
           (subst (Gathers l s n (At c.in-Barrier.instance)) c.if-not-branch.false (c.in_ok-gathers.ensures.value l s same)))
           (w.acts ∙ c.in-Barrier.is),
-      c.in_ok-release.ensures l s (c.gathers.ensures.same l s same),
+      c.release.ensures l s (c.gathers.ensures.same l s same),
     )
+
+pub returns-in_err-gathers-clause-same : goal.returns-in_err-gathers-clause-same
+returns-in_err-gathers-clause-same g c = on_err c.from_residual-in_err-gathers.result (λ l s at. c.gathers.ensures.same l s (c.action.ensures.same l s at))

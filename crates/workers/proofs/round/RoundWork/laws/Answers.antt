@@ -1,15 +1,15 @@
-use Rattle.std.proofs.Common.{◌+◌, ◌-◌, ◌≡◌, ap, ◌∙◌, arith}
+use Rattle.std.proofs.Common.{◌+◌, ap, ◌∙◌}
 use Rattle.clmodel.specs.Next.{launch_of}
 use Rattle.item_step.specs.Launches.{setup_of}
 use Rattle.spaces_base.specs.Buffers.{bytes_in}
-use Rattle.workers.proofs.Runs.{is_numbered, stopped_stops, stops_stopped}
+use Rattle.workers.proofs.Runs.{is_numbered, place_of, stopped_stops, stops_stopped}
+use Rattle.workers.specs.Results.{place_among}
 use Rattle.workers.proofs.round.RoundWork.laws.Goals as goal
 
 pub returns-clause-numbered : goal.returns-clause-numbered
 returns-clause-numbered c n came is =
-    let first = c.args.self.now.first in
-    let same : (first + n) - first ≡ n = omega arith in
-    ap (λ k. k - first) (is_numbered (launch_of (setup_of c.args.self.now.launch.now) (bytes_in c.args.self.now.buffers.now)) (first + n) came is) ∙ same
+    let round = c.args.self.now in
+    ap (place_among round.first round.count) (is_numbered (launch_of (setup_of round.launch.now) (bytes_in round.buffers.now)) (round.first + n) came is) ∙ place_of round.first round.count n
 
 pub returns-clause-stopped_stops : goal.returns-clause-stopped_stops
 returns-clause-stopped_stops c n came is stop =

@@ -1,0 +1,14 @@
+//! An explanation as text for a terminal: the fault, its items with the lines of source under carets, the reason, the
+//! steps, and the schedule. It knows an explanation as data alone, and neither a launch nor a source. Of a work-item's
+//! ids and of places it promises the text; wording and carets are only tested.
+#![tactic(auto)]
+
+mod items;
+mod lines;
+mod quotes;
+mod steps;
+mod whole;
+
+pub use lines::{ids_text, numbers_text, place_text};
+pub use quotes::write_quote;
+pub use whole::text_of;

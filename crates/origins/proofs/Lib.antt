@@ -1,0 +1,12 @@
+pub mod Walking
+pub mod Marking
+pub mod MarkedStatements
+pub mod Settling
+pub mod Arguments
+pub mod Finding
+pub mod Entering
+pub mod Stating
+pub mod Rows
+pub mod Counting
+pub mod Chaining
+pub mod Landing

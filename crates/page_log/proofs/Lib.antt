@@ -1,0 +1,3 @@
+mod Joined
+mod Sharing
+mod Walks

@@ -1,0 +1,2 @@
+pub mod Talk
+pub use Rattle.counted_io.specs.Sink
