@@ -38,11 +38,9 @@ EARLY = [(b"", text, 2) for text in (b"clsim: out of memory\n", b"error: out of 
 # commands that may be answered so (docs/use/script.md, "Replies")
 GROWING = {b"buffer", b"copy", b"program", b"kernel", b"arg", b"launch", b"read"}
 
-# the calls of crates/refused_calls that take memory, and the one that is made while every request is refused
-CALLS = [b"passes lex", b"passes parse", b"passes check", b"passes lower", b"launches prepare", b"launches start", b"launches one_group",
-         b"launches merge", b"launches run_parallel", b"launches run_launch", b"launches replay", b"store", b"update", b"fetch",
-         b"note in a list", b"note of a running group", b"queue open", b"answer open"]
-REFUSABLE = b"queue drive_one of a buffer where memory may be refused"
+# the calls of crates/refused_calls
+CALLS = [b"passes lex", b"passes parse", b"passes check", b"passes lower", b"store", b"update", b"fetch", b"note in a list",
+         b"note of a running group"]
 
 HEAD = re.compile(rb"run (\d+) status (-?\d+) asked (\d+) refused (\d+) live (-?\d+) output (\d+) error (\d+)\n")
 
@@ -303,7 +301,7 @@ def is_beginning(lines, of):
 
 def wrong_call(whole, run):
     """What is wrong with the lines of one run of the program of direct calls, or nothing: where a request was refused, one line says of a call that
-    it answered so, or of what it needs that there was no memory for it. The lines of the calls that need that may be missing; all others are the same."""
+    it answered so. The lines of the calls that need what it gives may be missing; all others are the same."""
     if run.status != whole.status or not is_beginning(run.error.splitlines(), whole.error.splitlines()):
         return repr(run.came())[:600]
     wanted, came = by_section(whole.output.splitlines()), by_section(run.output.splitlines())
@@ -315,7 +313,7 @@ def wrong_call(whole, run):
         return f"calls of {other!r} came to something else"
     lines = came.get(other[0], [])
     told = [line for line in lines if line not in wanted[other[0]]]
-    if len(told) != 1 or not told[0].endswith((b": out of memory", b": not called")):
+    if len(told) != 1 or not told[0].endswith(b": out of memory"):
         return f"{other[0]!r} came to {lines!r}"
     if not is_beginning([line for line in lines if line != told[0]], wanted[other[0]]):
         return f"{other[0]!r} came to {lines!r}"
@@ -323,11 +321,10 @@ def wrong_call(whole, run):
 
 
 def judged_calls(command, output, library, folder):
-    """What came of the runs of the program of direct calls, and what is wrong. With no request refused its lines are those of its own crate, but for the buffer that is
-    made while every request is refused. Each call that takes memory has to be met by a refusal in some run."""
+    """What came of the runs of the program of direct calls, and what is wrong. With no request refused its lines are those of its own crate. Each
+    call has to be met by a refusal in some run."""
     whole, *runs = each(library, command, folder)
-    wanted = output.replace(REFUSABLE + b": done\n", REFUSABLE + b": out of memory\n")
-    if (whole.output, whole.status) != (wanted, 0):
+    if (whole.output, whole.status) != (output, 0):
         return Counter(), [f"with memory: {whole.came()!r}"]
     counts, said, met = Counter(), [], set()
     for run in runs[:-1]:
@@ -412,7 +409,7 @@ def tried(rows, program, crate):
     outcome = Outcome(0, [], 0, Counter())
     with tempfile.TemporaryDirectory() as place, ThreadPoolExecutor(os.cpu_count()) as pool:
         built = library(place)
-        todo = [*([task_of_calls(crate, built)] if os.path.isdir(crate) else []), *tasks(rows, program, built)]
+        todo = [task_of_calls(crate, built), *tasks(rows, program, built)]
         for title, counts, said in pool.map(lambda task: done(task, place), todo):
             if counts is None:
                 outcome.left_out += 1

@@ -1,27 +1,15 @@
-//! Calls of the crates on small inputs, with a line for what came of each. `tools/rows` runs it with each request for memory refused in turn:
-//! a call then answers that no memory is left, what it was lent is as before, and given again it does its work. The calls that take no memory are
-//! made between two lines on standard error, `refuse: all` and `refuse: none`, between which every request is refused.
+//! Calls of the crates on small inputs, with a line for what came of each. `tools/rows` runs it with each request for memory refused in turn: a
+//! call then answers that no memory is left. A space or a log that it was lent is as before, and given again it does its work.
 #![tactic(auto)]
 
 mod came;
-mod launch_calls;
 mod memory;
 mod passes;
-mod queue;
-mod scripts;
-mod without_memory;
-
-use std::marker::Sync;
-use std::sync::Wait;
-use std::thread::Threads;
 
 /// Tries all calls.
-fn try_all<R: Print + Eprint + AllocGlobal + Threads + Wait + Sync>(rt: &R) {
+fn try_all<R: Print + AllocGlobal>(rt: &R) {
     passes::try_all(rt, rt.alloc());
-    launch_calls::try_all(rt, rt.alloc());
     memory::try_all(rt, rt.alloc());
-    queue::try_all(rt, rt.alloc());
-    without_memory::try_all(rt, rt.alloc());
 }
 
 fn main(rt: HostRuntime) {
