@@ -38,9 +38,15 @@ EARLY = [(b"", text, 2) for text in (b"clsim: out of memory\n", b"error: out of 
 # commands that may be answered so (docs/use/script.md, "Replies")
 GROWING = {b"buffer", b"copy", b"program", b"kernel", b"arg", b"launch", b"read"}
 
-# the calls of crates/refused_calls
-CALLS = [b"passes lex", b"passes parse", b"passes check", b"passes lower", b"store", b"update", b"fetch", b"note in a list",
-         b"note of a running group"]
+# the programs of direct calls: the crates of their names, and their calls that take memory
+CALLS = {
+    "refused_calls": [b"passes lex", b"passes parse", b"passes check", b"passes lower", b"store", b"update", b"fetch", b"note in a list",
+                      b"note of a running group"],
+    "refused_launches": [b"launches prepare", b"launches start", b"launches one_group", b"launches merge", b"launches run_parallel",
+                         b"launches run_launch", b"launches replay", b"queue open", b"answer open"],
+}
+# the call that takes memory while every request is refused
+REFUSABLE = b"queue drive_one of a buffer where memory may be refused"
 
 HEAD = re.compile(rb"run (\d+) status (-?\d+) asked (\d+) refused (\d+) live (-?\d+) output (\d+) error (\d+)\n")
 
@@ -300,8 +306,8 @@ def is_beginning(lines, of):
 
 
 def wrong_call(whole, run):
-    """What is wrong with the lines of one run of the program of direct calls, or nothing: where a request was refused, one line says of a call that
-    it answered so. The lines of the calls that need what it gives may be missing; all others are the same."""
+    """What is wrong with the lines of one run of a program of direct calls, or nothing: where a request was refused, one line says of a call that it
+    answered so, or of what it needs that there was no memory for it. The lines of calls that need that may be missing; all others are the same."""
     if run.status != whole.status or not is_beginning(run.error.splitlines(), whole.error.splitlines()):
         return repr(run.came())[:600]
     wanted, came = by_section(whole.output.splitlines()), by_section(run.output.splitlines())
@@ -313,18 +319,19 @@ def wrong_call(whole, run):
         return f"calls of {other!r} came to something else"
     lines = came.get(other[0], [])
     told = [line for line in lines if line not in wanted[other[0]]]
-    if len(told) != 1 or not told[0].endswith(b": out of memory"):
+    if len(told) != 1 or not told[0].endswith((b": out of memory", b": not called")):
         return f"{other[0]!r} came to {lines!r}"
     if not is_beginning([line for line in lines if line != told[0]], wanted[other[0]]):
         return f"{other[0]!r} came to {lines!r}"
     return None
 
 
-def judged_calls(command, output, library, folder):
-    """What came of the runs of the program of direct calls, and what is wrong. With no request refused its lines are those of its own crate. Each
-    call has to be met by a refusal in some run."""
+def judged_calls(command, calls, output, library, folder):
+    """What came of the runs of a program of direct calls, and what is wrong. With no request refused its lines are those of its own crate, but for
+    the buffer that is made while every request is refused. Each of these calls has to be met by a refusal in some run."""
     whole, *runs = each(library, command, folder)
-    if (whole.output, whole.status) != (output, 0):
+    wanted = output.replace(REFUSABLE + b": done\n", REFUSABLE + b": out of memory\n")
+    if (whole.output, whole.status) != (wanted, 0):
         return Counter(), [f"with memory: {whole.came()!r}"]
     counts, said, met = Counter(), [], set()
     for run in runs[:-1]:
@@ -333,7 +340,7 @@ def judged_calls(command, output, library, folder):
         wrong = wrong_call(whole, run) if run.came() != whole.came() else None
         said += [f"request {run.number}: {wrong}"] if wrong else []
         said += left(whole, run)
-    missing = [call.decode() for call in CALLS if call not in met]
+    missing = [call.decode() for call in calls if call not in met]
     return counts, said + ([f"never met want of memory: {', '.join(missing)}"] if missing else [])
 
 
@@ -376,14 +383,14 @@ def tasks(rows, program, library):
                            lambda folder, row=row, workers=workers: Script(row, workers, program, library, folder).judged())
 
 
-def task_of_calls(crate, library):
-    """The program of direct calls, whose output stands in its crate."""
-    program = os.path.join(crate, "out", os.path.basename(crate))
+def task_of_calls(crates, name, library):
+    """A program of direct calls, whose output stands in its crate."""
+    program = os.path.join(crates, name, "out", name)
     if not os.access(program, os.X_OK):
         raise BadReport(f"no program: {program}")
-    with open(os.path.join(crate, "stdout"), "rb") as file:
+    with open(os.path.join(crates, name, "stdout"), "rb") as file:
         output = file.read()
-    return Task(os.path.basename(crate), lambda folder: judged_calls([program], output, library, folder))
+    return Task(name, lambda folder: judged_calls([program], CALLS[name], output, library, folder))
 
 
 def done(task, place):
@@ -404,12 +411,12 @@ def said_of(title, said):
     return "\n".join([f"FAILED {title}", *(f"  {it}" for it in said[:SHOWN]), *more])
 
 
-def tried(rows, program, crate):
+def tried(rows, program, crates):
     """Tries the rows and the direct calls. Raises NoCompiler where none can be tried."""
     outcome = Outcome(0, [], 0, Counter())
     with tempfile.TemporaryDirectory() as place, ThreadPoolExecutor(os.cpu_count()) as pool:
         built = library(place)
-        todo = [task_of_calls(crate, built), *tasks(rows, program, built)]
+        todo = [*(task_of_calls(crates, name, built) for name in CALLS), *tasks(rows, program, built)]
         for title, counts, said in pool.map(lambda task: done(task, place), todo):
             if counts is None:
                 outcome.left_out += 1
