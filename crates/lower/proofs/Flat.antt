@@ -1,6 +1,7 @@
 -- Code outside all loops, each of whose jumps ends inside it or at its end: that of expressions, typed or not.
 use Rattle.std.proofs.Common.{ℕ, ◌+◌, ◌≤◌, Bool, true, false, if◌then◌else◌, Option, None, Some, List, [], ◌∷◌, ◌++◌, length, arith}
 use Rattle.std.proofs.lemmas.List.{length-append}
+use Rattle.clnum.specs.Integer.{Integer}
 use Rattle.clmodel.specs.BuiltIns.{built_in}
 use Rattle.clmodel.specs.Next.{is_private_array}
 use Rattle.clmodel.specs.Tree.{Term, Number, Variable, Element, ElementAddress, Dereference, Call, Unary, Cast, Binary, Choice, Terms, NoTerm, ThenTerm, Target, TargetVariable, TargetElement, TargetDereference}
@@ -8,10 +9,11 @@ use Rattle.clmodel.specs.declared.setup.BuiltIn.{BuiltIn}
 use Rattle.clmodel.specs.declared.setup.BuiltIn.TheVariants as built_in_function
 use Rattle.clmodel.specs.declared.tree.InfixOperator.{InfixOperator}
 use Rattle.clmodel.specs.declared.tree.InfixOperator.TheVariants.{Arithmetic, LogicalAnd, LogicalOr}
+use Rattle.folding.specs.Constants.{constant_of}
 use Rattle.regcode.specs.declared.instruction.Instruction.{Instruction}
 use Rattle.regcode.specs.declared.instruction.Instruction.TheVariants as instruction
 use Rattle.lower_expr.specs.Scope.{Scope, register_at, register_of}
-use Rattle.lower_expr.specs.Expressions.{kind_of, kind_named, register_for, registers_for, expr_code, terms_code, target_code, variable_code, element_code, infix_code, truth_code, branch_code, choice_code, call_code, count}
+use Rattle.lower_expr.specs.Expressions.{kind_of, kind_named, register_for, registers_for, folded, expr_code, terms_code, target_code, variable_code, element_code, infix_code, truth_code, branch_code, choice_code, call_code, count}
 use Rattle.lower.specs.Accepted.{Stays, Flat}
 
 stays_longer : (i : Instruction) (n m : ℕ) → n ≤ m → Stays i n → Stays i m
@@ -75,6 +77,10 @@ call_flat (Some (built_in_function.Atomic function)) to (a ∷ b ∷ []) = (tt, 
 call_flat (Some (built_in_function.Atomic function)) to (a ∷ b ∷ c ∷ []) = (tt, tt)
 call_flat (Some (built_in_function.Atomic function)) to (a ∷ b ∷ c ∷ d ∷ numbers) = (tt, tt)
 
+folded_flat : (o : Option Integer) (level : ℕ) (code : List Instruction) → Flat code → Flat (folded o level code)
+folded_flat (Some v) level code h = (tt, tt)
+folded_flat None level code h = h
+
 mutual
   pub expression_flat : (scope : Scope) (level : ℕ) (e : Term) → Flat (expr_code scope level e)
   expression_flat scope level (Number at value) = (tt, tt)
@@ -90,25 +96,30 @@ mutual
   expression_flat scope level (Dereference at pointer) =
       flat_both (expr_code scope level pointer) (instruction.Load (register_for scope level (Dereference at pointer)) (register_for scope level pointer) ∷ []) (expression_flat scope level pointer) (tt, tt)
   expression_flat scope level (Call at name arguments) =
-      flat_both (terms_code scope level arguments) (call_code (built_in name) (register_for scope level (Call at name arguments)) (registers_for scope level arguments))
-      (terms_flat scope level arguments) (call_flat (built_in name) (register_for scope level (Call at name arguments)) (registers_for scope level arguments))
+      folded_flat (constant_of scope.variables (Call at name arguments)) level _
+      (flat_both (terms_code scope level arguments) (call_code (built_in name) (register_for scope level (Call at name arguments)) (registers_for scope level arguments))
+      (terms_flat scope level arguments) (call_flat (built_in name) (register_for scope level (Call at name arguments)) (registers_for scope level arguments)))
   expression_flat scope level (Unary at operator operand) =
-      flat_both (expr_code scope level operand) (instruction.Unary (register_for scope level (Unary at operator operand)) operator (register_for scope level operand) ∷ []) (expression_flat scope level operand) (tt, tt)
+      folded_flat (constant_of scope.variables (Unary at operator operand)) level _
+      (flat_both (expr_code scope level operand) (instruction.Unary (register_for scope level (Unary at operator operand)) operator (register_for scope level operand) ∷ []) (expression_flat scope level operand) (tt, tt))
   expression_flat scope level (Cast at target operand) =
-      flat_both (expr_code scope level operand) (instruction.Convert (register_for scope level (Cast at target operand)) (register_for scope level operand) target ∷ []) (expression_flat scope level operand) (tt, tt)
+      folded_flat (constant_of scope.variables (Cast at target operand)) level _
+      (flat_both (expr_code scope level operand) (instruction.Convert (register_for scope level (Cast at target operand)) (register_for scope level operand) target ∷ []) (expression_flat scope level operand) (tt, tt))
   expression_flat scope level (Binary at operator left right) =
       let to = register_for scope level (Binary at operator left right) in
-      flat_both (expr_code scope level left) (infix_code operator to (register_for scope level left) (register_for scope (level + 1) right) (expr_code scope (level + 1) right))
+      folded_flat (constant_of scope.variables (Binary at operator left right)) level _
+      (flat_both (expr_code scope level left) (infix_code operator to (register_for scope level left) (register_for scope (level + 1) right) (expr_code scope (level + 1) right))
       (expression_flat scope level left)
-      (infix_flat operator to (register_for scope level left) (register_for scope (level + 1) right) (expr_code scope (level + 1) right) (expression_flat scope (level + 1) right))
+      (infix_flat operator to (register_for scope level left) (register_for scope (level + 1) right) (expr_code scope (level + 1) right) (expression_flat scope (level + 1) right)))
   expression_flat scope level (Choice at condition chosen otherwise) =
       let to = register_for scope level (Choice at condition chosen otherwise) in
       let first = branch_code to (expr_code scope level chosen) (register_for scope level chosen) (kind_of scope otherwise) in
       let second = branch_code to (expr_code scope level otherwise) (register_for scope level otherwise) (kind_of scope chosen) in
-      flat_both (expr_code scope level condition) (choice_code (register_for scope level condition) first second) (expression_flat scope level condition)
+      folded_flat (constant_of scope.variables (Choice at condition chosen otherwise)) level _
+      (flat_both (expr_code scope level condition) (choice_code (register_for scope level condition) first second) (expression_flat scope level condition)
       (choice_flat (register_for scope level condition) first second
       (flat_both (expr_code scope level chosen) _ (expression_flat scope level chosen) (tt, tt))
-      (flat_both (expr_code scope level otherwise) _ (expression_flat scope level otherwise) (tt, tt)))
+      (flat_both (expr_code scope level otherwise) _ (expression_flat scope level otherwise) (tt, tt))))
 
   pub terms_flat : (scope : Scope) (level : ℕ) (es : Terms) → Flat (terms_code scope level es)
   terms_flat scope level NoTerm = tt

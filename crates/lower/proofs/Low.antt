@@ -1,6 +1,7 @@
 -- The registers that the code of expressions and of targets names: those of levels below one that is as far above its own as it has nodes.
 use Rattle.std.proofs.Common.{ℕ, ◌+◌, ◌*◌, ◌<◌, ◌≤◌, ◌==◌, Bool, true, false, Option, None, Some, List, [], ◌∷◌, ◌++◌, length, if◌then◌else◌, arith}
 use Rattle.std.proofs.Math.Nat.{max-le}
+use Rattle.clnum.specs.Integer as integers
 use Rattle.clnum.specs.declared.operators.BinaryOperator.{BinaryOperator}
 use Rattle.clmodel.specs.BuiltIns.{built_in}
 use Rattle.clmodel.specs.Next.{Variables, is_private_array, is_update, infix_type}
@@ -14,10 +15,12 @@ use Rattle.clmodel.specs.declared.tree.InfixOperator.{InfixOperator}
 use Rattle.clmodel.specs.declared.tree.InfixOperator.TheVariants.{Arithmetic, LogicalAnd, LogicalOr}
 use Rattle.clmodel.specs.declared.tree.VariableType.{VariableType}
 use Rattle.clmodel.specs.declared.tree.VariableType.TheVariants.{Integer}
+use Rattle.folding.specs.Constants.{constant_of}
 use Rattle.regcode.specs.declared.instruction.Instruction.{Instruction}
+use Rattle.regcode.specs.declared.instruction.Instruction.TheVariants as instruction
 use Rattle.lower_expr.proofs.Places.{kind_below}
 use Rattle.lower_expr.specs.Scope.{Scope, register_at, register_in, register_of, free_level}
-use Rattle.lower_expr.specs.Expressions.{count, kind_of, kind_named, type_of_elements, register_for, registers_for, expr_code, terms_code, target_code, target_register, variable_code, element_code, infix_code, call_code, update_code, call_only_code}
+use Rattle.lower_expr.specs.Expressions.{count, kind_of, kind_named, type_of_elements, register_for, registers_for, folded, expr_code, terms_code, target_code, target_register, variable_code, element_code, infix_code, branch_code, choice_code, call_code, update_code, call_only_code}
 use Rattle.lower_code.specs.Code.{type_of_target, hold_code, fetch_code, put_code, combine_code}
 use Rattle.lower.specs.Tables.{registers_of, room, register_count}
 use Rattle.lower_expr.proofs.Short.{some_node}
@@ -136,6 +139,15 @@ module _ (sizes : Sizes) (top : ℕ) (scope : Scope) (within : free_level scope 
   named : (name : ℕ) → LowOption (16 * top) (register_of scope name)
   named name = variables_low top scope.base scope.variables name within
 
+  -- a constant expression names one register
+  folded_low : (level : ℕ) (e : Term) (plain : List Instruction) → level + (term_size sizes e).nodes ≤ top → Low (16 * top) plain
+      → Low (16 * top) (folded (constant_of scope.variables e) level plain)
+  folded_low level e plain h low = either_folded (constant_of scope.variables e)
+    where
+      either_folded : (o : Option integers.Integer) → Low (16 * top) (folded o level plain)
+      either_folded (Some v) = ((at level (Integer v.kind) (let x = some_node sizes e in omega (arith, h, x)), tt), tt)
+      either_folded None = low
+
   mutual
     pub expr_low : (level : ℕ) (e : Term) → level + (term_size sizes e).nodes ≤ top → Low (16 * top) (expr_code scope level e)
     expr_low level (tree.Number a value) h = ((at level (Integer value.kind) (omega (arith, h)), tt), tt)
@@ -155,26 +167,39 @@ module _ (sizes : Sizes) (top : ℕ) (scope : Scope) (within : free_level scope 
         let r : level + 1 ≤ top = omega (arith, h) in
         low_both (16 * top) (expr_code scope level pointer) _ (expr_low level pointer (omega (arith, h))) ((at level (kind_of scope (tree.Dereference a pointer)) r, (at level (kind_of scope pointer) r, tt)), tt)
     expr_low level (tree.Call a name arguments) h =
-        low_both (16 * top) (terms_code scope level arguments) _ (terms_low level arguments (omega (arith, h)))
-        (call_low (16 * top) (built_in name) _ _ (at level (kind_of scope (tree.Call a name arguments)) (omega (arith, h))) (registers_low level arguments (omega (arith, h))))
+        let end = call_code (built_in name) (register_for scope level (tree.Call a name arguments)) (registers_for scope level arguments) in
+        folded_low level (tree.Call a name arguments) (terms_code scope level arguments ++ end) h
+        (low_both (16 * top) (terms_code scope level arguments) end (terms_low level arguments (omega (arith, h)))
+        (call_low (16 * top) (built_in name) _ _ (at level (kind_of scope (tree.Call a name arguments)) (omega (arith, h))) (registers_low level arguments (omega (arith, h)))))
     expr_low level (tree.Unary a operator operand) h =
         let r : level + 1 ≤ top = omega (arith, h) in
-        low_both (16 * top) (expr_code scope level operand) _ (expr_low level operand (omega (arith, h))) ((at level (kind_of scope (tree.Unary a operator operand)) r, (at level (kind_of scope operand) r, tt)), tt)
+        let end : List Instruction = instruction.Unary (register_for scope level (tree.Unary a operator operand)) operator (register_for scope level operand) ∷ [] in
+        folded_low level (tree.Unary a operator operand) (expr_code scope level operand ++ end) h
+        (low_both (16 * top) (expr_code scope level operand) end (expr_low level operand (omega (arith, h))) ((at level (kind_of scope (tree.Unary a operator operand)) r, (at level (kind_of scope operand) r, tt)), tt))
     expr_low level (tree.Cast a target operand) h =
         let r : level + 1 ≤ top = omega (arith, h) in
-        low_both (16 * top) (expr_code scope level operand) _ (expr_low level operand (omega (arith, h))) ((at level (Integer target) r, (at level (kind_of scope operand) r, tt)), tt)
+        let end : List Instruction = instruction.Convert (register_at level (Integer target)) (register_for scope level operand) target ∷ [] in
+        folded_low level (tree.Cast a target operand) (expr_code scope level operand ++ end) h
+        (low_both (16 * top) (expr_code scope level operand) end (expr_low level operand (omega (arith, h))) ((at level (Integer target) r, (at level (kind_of scope operand) r, tt)), tt))
     expr_low level (tree.Binary a operator left right) h =
         let r : level + 1 ≤ top = omega (arith, h) in
         let x = some_node sizes left in
-        low_both (16 * top) (expr_code scope level left) _ (expr_low level left (omega (arith, h)))
-        (infix_low (16 * top) operator _ _ _ (expr_code scope (level + 1) right) (at level _ r) (at level _ r) (at (level + 1) _ (omega (arith, h, some_node sizes right))) (expr_low (level + 1) right (omega (arith, h))))
+        let end = infix_code operator (register_for scope level (tree.Binary a operator left right)) (register_for scope level left) (register_for scope (level + 1) right) (expr_code scope (level + 1) right) in
+        folded_low level (tree.Binary a operator left right) (expr_code scope level left ++ end) h
+        (low_both (16 * top) (expr_code scope level left) end (expr_low level left (omega (arith, h)))
+        (infix_low (16 * top) operator _ _ _ (expr_code scope (level + 1) right) (at level _ r) (at level _ r) (at (level + 1) _ (omega (arith, h, some_node sizes right))) (expr_low (level + 1) right (omega (arith, h)))))
     expr_low level (tree.Choice a condition chosen otherwise) h =
         let r : level + 1 ≤ top = omega (arith, h) in
-        low_both (16 * top) (expr_code scope level condition) _ (expr_low level condition (omega (arith, h))) (
+        let to = register_for scope level (tree.Choice a condition chosen otherwise) in
+        let first = branch_code to (expr_code scope level chosen) (register_for scope level chosen) (kind_of scope otherwise) in
+        let second = branch_code to (expr_code scope level otherwise) (register_for scope level otherwise) (kind_of scope chosen) in
+        let end = choice_code (register_for scope level condition) first second in
+        folded_low level (tree.Choice a condition chosen otherwise) (expr_code scope level condition ++ end) h
+        (low_both (16 * top) (expr_code scope level condition) end (expr_low level condition (omega (arith, h))) (
           (at level (kind_of scope condition) r, tt),
           low_both (16 * top) (expr_code scope level chosen ++ _) _ (low_both (16 * top) (expr_code scope level chosen) _ (expr_low level chosen (omega (arith, h))) ((at level (kind_of scope (tree.Choice a condition chosen otherwise)) r, (at level (kind_of scope chosen) r, tt)), tt))
               (tt, low_both (16 * top) (expr_code scope level otherwise) _ (expr_low level otherwise (omega (arith, h))) ((at level (kind_of scope (tree.Choice a condition chosen otherwise)) r, (at level (kind_of scope otherwise) r, tt)), tt)),
-        )
+        ))
 
     pub terms_low : (level : ℕ) (es : Terms) → level + (terms_size sizes es).nodes ≤ top → Low (16 * top) (terms_code scope level es)
     terms_low level NoTerm h = tt

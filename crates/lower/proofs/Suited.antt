@@ -2,8 +2,8 @@
 use Rattle.std.proofs.Common.{◌≡◌, ℕ, ◌+◌, Bool, true, false, nat_eq, if◌then◌else◌, Option, None, Some, List, [], ◌∷◌, ◌++◌, length, refl, ap, ap₂, sym, subst, ◌∙◌, arith}
 use Rattle.std.proofs.lemmas.List.{length-append}
 use Rattle.std.proofs.lemmas.Option.{same_Some}
-use Rattle.clnum.specs.Conversions as conversions
 use Rattle.clnum.specs.Conversions.{common, unsigned_of}
+use Rattle.clnum.specs.Integer as integers
 use Rattle.clnum.specs.Operations.{unary_kind, truth}
 use Rattle.clnum.specs.declared.int_type.IntType.{IntType}
 use Rattle.clnum.specs.declared.int_type.IntType.TheVariants.{Char, Uchar, Short, Ushort, Int, Uint, Long, Ulong}
@@ -26,26 +26,16 @@ use Rattle.clmodel.specs.declared.tree.InfixOperator.TheVariants.{Arithmetic}
 use Rattle.clmodel.specs.declared.tree.PointerType.{PointerType}
 use Rattle.clmodel.specs.declared.tree.VariableType.{VariableType}
 use Rattle.clmodel.specs.declared.tree.VariableType.TheVariants.{Integer, Pointer}
+use Rattle.folding.proofs.Evaluation.{common_either}
+use Rattle.folding.specs.Constants.{constant_of}
 use Rattle.regcode.specs.Rules.{fetched_kind}
 use Rattle.regcode.specs.declared.instruction.Instruction.{Instruction}
 use Rattle.regcode.specs.declared.instruction.Instruction.TheVariants as instruction
 use Rattle.regcode.specs.declared.tables.RegisterKind.TheVariants as register_kinds
 use Rattle.lower_expr.specs.Scope.{Scope, register_at, register_of, level_of}
-use Rattle.lower_expr.specs.Expressions.{kind_of, kind_named, register_for, registers_for, expr_code, terms_code, target_code, variable_code, type_of_elements, private_load, element_code, address_code, infix_code, truth_code, branch_code, call_code, count}
+use Rattle.lower_expr.specs.Expressions.{kind_of, kind_named, register_for, registers_for, folded, expr_code, terms_code, target_code, variable_code, type_of_elements, private_load, element_code, address_code, infix_code, truth_code, branch_code, call_code, count}
 use Rattle.lower.specs.Accepted.{declared_kind, is_private, Is, Matches, Suits, Suit, ExpressionsSuit, TargetsSuit}
 use Rattle.lower.proofs.Suiting.{same_integer, is_at, is_as, suit_both, constant_suits, move_suits, convert_suits, common_suits, unary_suits, binary_suits, one_suits, two_suit, dimensions_suit, query_suits, point_suits, offset_suits, load_suits, fetch_alone_suits, fetch_number_suits, fetch_pair_suits, private_load_suits, branch_suits}
-
-common_either : (a b : IntType) → common a b ≡ common b a
-unfolding common conversions.promoted
-common_either Char Char = refl
-common_either Uchar Uchar = refl
-common_either Short Short = refl
-common_either Ushort Ushort = refl
-common_either Int Int = refl
-common_either Uint Uint = refl
-common_either Long Long = refl
-common_either Ulong Ulong = refl
-common_either _ _ = refl
 
 pub infix_is : {operator : InfixOperator} (j k r : VariableType) → Operates operator j k r → infix_type operator j k ≡ r
 infix_is _ _ _ rule.arithmetic = refl
@@ -315,6 +305,11 @@ module _ (c : Context) (scope : Scope) (m : Matches c scope) where
       tt,
     )
 
+    -- a constant expression is put into the register of its own type
+    folded_suits : (o : Option integers.Integer) (level : ℕ) (code : List Instruction) → Suit parameters code → Suit parameters (folded o level code)
+    folded_suits (Some v) level code fits = (constant_suits parameters (register_at level (Integer v.kind)) v (is_at level (Integer v.kind)), tt)
+    folded_suits None level code fits = fits
+
     mutual
       pub expression_suits : (level : ℕ) (e : Term) (k : VariableType) → Types c e k → Suit parameters (expr_code scope level e)
       expression_suits level _ _ (rule.number {v = v}) = (constant_suits parameters (register_at level (Integer v.kind)) v (is_at level (Integer v.kind)), tt)
@@ -336,27 +331,31 @@ module _ (c : Context) (scope : Scope) (m : Matches c scope) where
           )
       expression_suits level _ _ (rule.call {a = a} {x = x} {f = f} {es = es} {ks = ks} {k = k} is arguments calls) =
           let to = register_for scope level (tree.Call a x es) in
-          suit_both parameters (terms_code scope level es) (call_code (built_in x) to (registers_for scope level es)) (terms_suit level es ks arguments)
+          folded_suits (constant_of scope.variables (tree.Call a x es)) level _
+          (suit_both parameters (terms_code scope level es) (call_code (built_in x) to (registers_for scope level es)) (terms_suit level es ks arguments)
           (subst (λ g. Suit parameters (call_code g to (registers_for scope level es))) (sym (built_in_is c x f is))
           (subst (λ rs. Suit parameters (call_code (Some f) to rs)) (sym (registers_are scope level es ∙ ap (numbered level) (types_are es ks arguments)))
-          (call_suits f ks k calls level to (is_as level (kind_of scope (tree.Call a x es)) k (type_is (tree.Call a x es) k (rule.call is arguments calls))))))
+          (call_suits f ks k calls level to (is_as level (kind_of scope (tree.Call a x es)) k (type_is (tree.Call a x es) k (rule.call is arguments calls)))))))
       expression_suits level _ _ (rule.unary {a = a} {op = op} {t = t} {e = e} operand) =
-          suit_both parameters (expr_code scope level e) (instruction.Unary (register_for scope level (tree.Unary a op e)) op (register_for scope level e) ∷ []) (expression_suits level e (Integer t) operand) (
+          folded_suits (constant_of scope.variables (tree.Unary a op e)) level _
+          (suit_both parameters (expr_code scope level e) (instruction.Unary (register_for scope level (tree.Unary a op e)) op (register_for scope level e) ∷ []) (expression_suits level e (Integer t) operand) (
             unary_suits parameters (register_for scope level (tree.Unary a op e)) (register_for scope level e) op t
                 (is_as level (kind_of scope (tree.Unary a op e)) (Integer (unary_kind op t)) (type_is (tree.Unary a op e) (Integer (unary_kind op t)) (rule.unary operand)))
                 (is_as level (kind_of scope e) (Integer t) (type_is e (Integer t) operand)),
             tt,
-          )
-      expression_suits level _ _ (rule.cast {t = t} {u = u} {e = e} operand) =
-          suit_both parameters (expr_code scope level e) (instruction.Convert (register_at level (Integer t)) (register_for scope level e) t ∷ []) (expression_suits level e (Integer u) operand)
-          (convert_suits parameters (register_at level (Integer t)) (register_for scope level e) t u (is_at level (Integer t)) (is_as level (kind_of scope e) (Integer u) (type_is e (Integer u) operand)), tt)
+          ))
+      expression_suits level _ _ (rule.cast {a = a} {t = t} {u = u} {e = e} operand) =
+          folded_suits (constant_of scope.variables (tree.Cast a t e)) level _
+          (suit_both parameters (expr_code scope level e) (instruction.Convert (register_at level (Integer t)) (register_for scope level e) t ∷ []) (expression_suits level e (Integer u) operand)
+          (convert_suits parameters (register_at level (Integer t)) (register_for scope level e) t u (is_at level (Integer t)) (is_as level (kind_of scope e) (Integer u) (type_is e (Integer u) operand)), tt))
       expression_suits level _ _ (rule.binary {a = a} {op = op} {d = d} {e = e} {j = j} {k = k} {r = r} left right operates) =
-          suit_both parameters (expr_code scope level d)
+          folded_suits (constant_of scope.variables (tree.Binary a op d e)) level _
+          (suit_both parameters (expr_code scope level d)
           (infix_code op (register_for scope level (tree.Binary a op d e)) (register_for scope level d) (register_for scope (level + 1) e) (expr_code scope (level + 1) e))
           (expression_suits level d j left)
           (infix_suits op level (kind_of scope (tree.Binary a op d e)) (register_for scope level d) (register_for scope (level + 1) e) (expr_code scope (level + 1) e) j k r operates
           (type_is (tree.Binary a op d e) r (rule.binary left right operates))
-          (is_as level (kind_of scope d) j (type_is d j left)) (is_as (level + 1) (kind_of scope e) k (type_is e k right)) (expression_suits (level + 1) e k right))
+          (is_as level (kind_of scope d) j (type_is d j left)) (is_as (level + 1) (kind_of scope e) k (type_is e k right)) (expression_suits (level + 1) e k right)))
       expression_suits level _ _ (rule.choice {a = a} {s = s} {t = t} {u = u} {e = e} {d = d} {f = f} condition chosen otherwise) =
           let kind = kind_of scope (tree.Choice a e d f) in
           let same = type_is (tree.Choice a e d f) (Integer (common t u)) (rule.choice condition chosen otherwise) in
@@ -364,7 +363,8 @@ module _ (c : Context) (scope : Scope) (m : Matches c scope) where
           let second = branch_code (register_at level kind) (expr_code scope level f) (register_for scope level f) (kind_of scope d) in
           let chosen_is = type_is d (Integer t) chosen in
           let otherwise_is = type_is f (Integer u) otherwise in
-          suit_both parameters (expr_code scope level e) (instruction.JumpIfZero (register_for scope level e) (length first + 1) ∷ (first ++ instruction.Jump (length second) ∷ second))
+          folded_suits (constant_of scope.variables (tree.Choice a e d f)) level _
+          (suit_both parameters (expr_code scope level e) (instruction.JumpIfZero (register_for scope level e) (length first + 1) ∷ (first ++ instruction.Jump (length second) ∷ second))
           (expression_suits level e (Integer s) condition) (
             branch_suits parameters (register_for scope level e) (length first + 1) s (is_as level (kind_of scope e) (Integer s) (type_is e (Integer s) condition)),
             suit_both parameters first (instruction.Jump (length second) ∷ second)
@@ -372,7 +372,7 @@ module _ (c : Context) (scope : Scope) (m : Matches c scope) where
                   (λ code same wide. tt),
                   branch_suit level kind (expr_code scope level f) (register_for scope level f) u t (kind_of scope d) (same ∙ ap Integer (common_either t u)) chosen_is (is_as level (kind_of scope f) (Integer u) otherwise_is) (expression_suits level f (Integer u) otherwise),
                 ),
-          )
+          ))
 
       pub terms_suit : (level : ℕ) (es : Terms) (ks : List VariableType) → TypesAll c es ks → Suit parameters (terms_code scope level es)
       terms_suit level _ _ rule.no_argument = tt

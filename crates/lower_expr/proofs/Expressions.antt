@@ -1,6 +1,7 @@
 -- The code of an expression acts as its evaluation.
 use Rattle.std.proofs.Common.{◌≡◌, ℕ, ◌+◌, ◌≤◌, Bool, true, false, Option, None, Some, List, [], ◌∷◌, ◌++◌, length, slice_get, refl, ap, sym, subst, ◌∙◌, arith, if◌then◌else◌}
 use Rattle.std.proofs.lemmas.List.{length-append}
+use Rattle.clnum.specs.Integer as integers
 use Rattle.clnum.specs.Integer.{converted}
 use Rattle.clnum.specs.Operations.{truth, unary_value}
 use Rattle.clnum.specs.declared.int_type.IntType.TheVariants.{Int}
@@ -18,16 +19,18 @@ use Rattle.clmodel.specs.declared.tree.InfixOperator.{InfixOperator}
 use Rattle.clmodel.specs.declared.tree.InfixOperator.TheVariants.{Arithmetic, LogicalAnd, LogicalOr}
 use Rattle.clmodel.specs.declared.tree.VariableType.{VariableType}
 use Rattle.clmodel.specs.declared.tree.VariableType.TheVariants.{Integer}
+use Rattle.folding.specs.Constants.{constant_of}
+use Rattle.folding.proofs.Evaluation.{value_is, kind_is}
 use Rattle.regcode.specs.declared.instruction.Instruction.{Instruction}
 use Rattle.regcode.specs.declared.instruction.Instruction.TheVariants as instruction
 use Rattle.regcode.specs.Machine.{State, ItemContext, reg, array_of, with_put, passed, onward}
 use Rattle.regcode.proofs.Registers.{reg_put}
 use Rattle.lower_expr.specs.Scope.{Scope, register_at, register_of, level_of, Sees, free_level}
-use Rattle.lower_expr.specs.Expressions.{expr_code, terms_code, target_code, target_register, register_for, registers_for, kind_of, kind_named, variable_code, type_of_elements, private_load, element_code, address_code, truth_code, infix_code, branch_code, choice_code, call_code, count}
+use Rattle.lower_expr.specs.Expressions.{folded, expr_code, terms_code, target_code, target_register, register_for, registers_for, kind_of, kind_named, variable_code, type_of_elements, private_load, element_code, address_code, truth_code, infix_code, branch_code, choice_code, call_code, count}
 use Rattle.lower_expr.specs.Agreement.{HasAt, Reached, Hold, HoldsPart, Follows, FollowsAll, FollowsTarget}
 use Rattle.regcode.proofs.Agreement.{Agree, ends, constant_runs, unset_runs, move_runs, jump_runs, convert_runs, common_runs, unary_runs, binary_runs, one_integer_runs, two_integers_run, dimensions_run, query_runs, point_runs, offset_runs, load_runs, private_load_runs, fetch_alone_runs, fetch_number_runs, fetch_pair_runs, branch_runs}
 use Rattle.lower_expr.proofs.Lengths.{call_length}
-use Rattle.lower_expr.proofs.Places.{has_left, has_right, has_moved, reached_here, reached_put, reached_then, register_kept, seen_kept, reached_to, reached_passed, reached_onward, found, look_seen, type_seen, array_seen, elements_seen, hold_then, arguments_kept}
+use Rattle.lower_expr.proofs.Places.{has_left, has_right, has_moved, reached_here, reached_put, reached_then, register_kept, seen_kept, reached_to, reached_passed, reached_onward, found, look_seen, type_seen, constant_seen, array_seen, elements_seen, hold_then, arguments_kept}
 
 module _ (given : ItemContext) (code : List Instruction) (bound : ℕ) where
   -- from states where the variables hold these values the code of an expression acts as its evaluation
@@ -346,6 +349,19 @@ module _ (given : ItemContext) (code : List Instruction) (bound : ℕ) where
       (has_moved code second (middle + 1 + length first + 1) (middle + 1 + by) (omega arith) behind.1)
       (λ w later q value_held. go w later (reached_to level s _ later place whole q) value_held))
 
+  -- a constant expression is one instruction, and its evaluation goes on with that number
+  folded_runs : (scope : Scope) (level : ℕ) (e : Term) (plain : List Instruction) (s : State) (vs : Variables) (after : Operand → Continuation) → Sees scope s.registers vs
+      → (o : Option integers.Integer) → constant_of scope.variables e ≡ o
+      → (HasAt code s.place plain → Follows given code bound level s (s.place + length plain) (register_for scope level e) after → Agree given code bound s (eval given.here e vs after))
+      → HasAt code s.place (folded o level plain) → Follows given code bound level s (s.place + length (folded o level plain)) (register_for scope level e) after
+      → Agree given code bound s (eval given.here e vs after)
+  folded_runs scope level e plain s vs after same None is run has go = run has go
+  folded_runs scope level e plain s vs after same (Some v) is run has go =
+      subst (λ r. Agree given code bound s r) (sym (value_is given.here vs e v (constant_seen scope s.registers vs e same ∙ is) after))
+      (constant_runs given code bound s _ (register_at level (Integer v.kind)) v has.0
+      (last level (Integer v.kind) s s.place s (s.place + 1) after (reached_here level s s.place refl) refl
+      (subst (λ k. Follows given code bound level s (s.place + 1) (register_at level k) after) (kind_is scope.variables e v is) go) (Integral v)))
+
   -- The code of an expression, of arguments, and of a place acts as their evaluation.
   mutual
     pub expr_runs : (scope : Scope) (level : ℕ) (e : Term) (s : State) (vs : Variables) (after : Operand → Continuation) → free_level scope ≤ level → Sees scope s.registers vs
@@ -382,38 +398,46 @@ module _ (given : ItemContext) (code : List Instruction) (bound : ℕ) where
         let before = terms_code scope level arguments in
         let numbers = registers_for scope level arguments in
         let end = call_code (built_in name) (register_at level kind) numbers in
+        folded_runs scope level (tree.Call at name arguments) (before ++ end) s vs after same (constant_of scope.variables (tree.Call at name arguments)) refl
+        (λ has go.
         terms_run scope level arguments s vs (λ values. call given.here (built_in name) values after) free same (has_left code before end s.place has)
         (λ values now r held.
         let here = has_right code before end s.place now.place (sym r.at) has in
         call_runs (built_in name) (register_at level kind) numbers values now after here held
-        (last level kind s (s.place + length before) now _ after r (omega (arith, length-append before end, call_length (built_in name) (register_at level kind) numbers)) go))
+        (last level kind s (s.place + length before) now _ after r (omega (arith, length-append before end, call_length (built_in name) (register_at level kind) numbers)) go))) has go
     expr_runs scope level (tree.Unary at operator operand) s vs after free same has go =
         let kind = kind_of scope (tree.Unary at operator operand) in
         let inner = expr_code scope level operand in
         let from = register_for scope level operand in
         let end : List Instruction = instruction.Unary (register_at level kind) operator from ∷ [] in
+        folded_runs scope level (tree.Unary at operator operand) (inner ++ end) s vs after same (constant_of scope.variables (tree.Unary at operator operand)) refl
+        (λ has go.
         expr_runs scope level operand s vs (λ v. number v (λ n. after (Integral (unary_value operator n)))) free same (has_left code inner end s.place has)
         (λ v now r held.
         let here = has_right code inner end s.place now.place (sym r.at) has in
         unary_runs given code bound now (λ n. after (Integral (unary_value operator n))) (register_at level kind) from operator v here.0 held
-        (λ n. last level kind s (s.place + length inner) now _ after r (omega (arith, length-append inner end)) go (Integral (unary_value operator n))))
+        (λ n. last level kind s (s.place + length inner) now _ after r (omega (arith, length-append inner end)) go (Integral (unary_value operator n))))) has go
     expr_runs scope level (tree.Cast at target operand) s vs after free same has go =
         let inner = expr_code scope level operand in
         let from = register_for scope level operand in
         let end : List Instruction = instruction.Convert (register_at level (Integer target)) from target ∷ [] in
+        folded_runs scope level (tree.Cast at target operand) (inner ++ end) s vs after same (constant_of scope.variables (tree.Cast at target operand)) refl
+        (λ has go.
         expr_runs scope level operand s vs (λ v. number v (λ n. after (Integral (converted n target)))) free same (has_left code inner end s.place has)
         (λ v now r held.
         let here = has_right code inner end s.place now.place (sym r.at) has in
         convert_runs given code bound now (λ n. after (Integral (converted n target))) (register_at level (Integer target)) from target v here.0 held
-        (λ n. last level (Integer target) s (s.place + length inner) now _ after r (omega (arith, length-append inner end)) go (Integral (converted n target))))
+        (λ n. last level (Integer target) s (s.place + length inner) now _ after r (omega (arith, length-append inner end)) go (Integral (converted n target))))) has go
     expr_runs scope level (tree.Binary at operator left right) s vs after free same has go =
         let before = expr_code scope level left in
         let end = infix_code operator (register_for scope level (tree.Binary at operator left right)) (register_for scope level left) (register_for scope (level + 1) right) (expr_code scope (level + 1) right) in
+        folded_runs scope level (tree.Binary at operator left right) (before ++ end) s vs after same (constant_of scope.variables (tree.Binary at operator left right)) refl
+        (λ has go.
         expr_runs scope level left s vs _ free same (has_left code before end s.place has)
         (λ v now r held.
         infix_runs scope level operator left right s (s.place + length before) now _ vs v after free same
         (λ state next seen_now there follows. expr_runs scope (level + 1) right state vs next (omega (arith, free)) seen_now there follows) r held
-        (has_right code before end s.place (s.place + length before) refl has) (omega (arith, length-append before end)) go)
+        (has_right code before end s.place (s.place + length before) refl has) (omega (arith, length-append before end)) go)) has go
     expr_runs scope level (tree.Choice at condition chosen otherwise) s vs after free same has go =
         let kind = kind_of scope (tree.Choice at condition chosen otherwise) in
         let to = register_at level kind in
@@ -421,12 +445,14 @@ module _ (given : ItemContext) (code : List Instruction) (bound : ℕ) where
         let first = branch_code to (expr_code scope level chosen) (register_for scope level chosen) (kind_of scope otherwise) in
         let second = branch_code to (expr_code scope level otherwise) (register_for scope level otherwise) (kind_of scope chosen) in
         let end = choice_code (register_for scope level condition) first second in
+        folded_runs scope level (tree.Choice at condition chosen otherwise) (before ++ end) s vs after same (constant_of scope.variables (tree.Choice at condition chosen otherwise)) refl
+        (λ has go.
         expr_runs scope level condition s vs _ free same (has_left code before end s.place has)
         (λ v now r held.
         choice_runs scope level condition chosen otherwise kind s (s.place + length before) now _ vs v after free same
         (λ state next seen_now there follows. expr_runs scope level chosen state vs next free seen_now there follows)
         (λ state next seen_now there follows. expr_runs scope level otherwise state vs next free seen_now there follows) r held
-        (has_right code before end s.place (s.place + length before) refl has) (omega (arith, length-append before end)) go)
+        (has_right code before end s.place (s.place + length before) refl has) (omega (arith, length-append before end)) go)) has go
 
     pub terms_run : (scope : Scope) (level : ℕ) (es : Terms) (s : State) (vs : Variables) (after : List Operand → Continuation) → free_level scope ≤ level → Sees scope s.registers vs
         → HasAt code s.place (terms_code scope level es)

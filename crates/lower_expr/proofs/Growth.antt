@@ -1,7 +1,10 @@
 -- Code that is only longer than it was.
-use Rattle.std.proofs.Common.{◌≡◌, ◌++◌, List, [], Result, Ok, Err, OnErr, sym, ap, ◌∙◌}
+use Rattle.std.proofs.Common.{◌≡◌, ℕ, ◌++◌, Option, List, [], length, take, drop, Result, Ok, Err, OnErr, refl, sym, ap, ap₂, ◌∙◌}
+use Rattle.std.proofs.Math.Seq.{take-append_seam, drop-append_seam}
 use Rattle.std.proofs.lemmas.List.{append_assoc, append-nil}
+use Rattle.clnum.specs.Integer.{Integer}
 use Rattle.regcode.specs.declared.instruction.Instruction.{Instruction}
+use Rattle.lower_expr.specs.Expressions.{folded}
 use Rattle.lower_expr.specs.Growth.{IsLonger}
 
 pub unchanged : (old new : List Instruction) → new ≡ old → IsLonger old new
@@ -14,3 +17,19 @@ behind old one new added e h = record { added = added ++ h.added; is = h.is ∙ 
 pub on_err : {T E : Type 0} {P : Type 0} → (r : Result T E) → P → OnErr r P
 on_err (Ok x) p = tt
 on_err (Err e) p = p
+
+-- what stands from a place on is left out again
+cut_front : (old mid code : List Instruction) (start : ℕ) → start ≡ length old → mid ≡ old ++ code → take start mid ≡ old
+cut_front old mid code start p e = ap₂ (λ n xs. take n xs) p e ∙ take-append_seam old code
+
+cut_rest : (old mid code : List Instruction) (start : ℕ) → start ≡ length old → mid ≡ old ++ code → drop start mid ≡ code
+cut_rest old mid code start p e = ap₂ (λ n xs. drop n xs) p e ∙ drop-append_seam old code
+
+pub cut_back : (old mid new code : List Instruction) (start : ℕ) → start ≡ length old → mid ≡ old ++ code → new ≡ take start mid → IsLonger old new
+cut_back old mid new code start p e h = unchanged old new (h ∙ cut_front old mid code start p e)
+
+-- a constant in its place
+pub settled : (old mid new code : List Instruction) (start level : ℕ) (o p : Option Integer) → start ≡ length old → mid ≡ old ++ code → o ≡ p
+    → new ≡ take start mid ++ folded o level (drop start mid) → new ≡ old ++ folded p level code
+settled old mid new code start level o p at e same h =
+    h ∙ ap₂ (λ xs ys. xs ++ folded o level ys) (cut_front old mid code start at e) (cut_rest old mid code start at e) ∙ ap (λ q. old ++ folded q level code) same

@@ -1,6 +1,7 @@
 -- The length of the code of an expression depends on the variables in scope alone: neither on the level of its value nor on that of the outermost variable.
 use Rattle.std.proofs.Common.{◌≡◌, ℕ, suc, ◌+◌, ◌==◌, Bool, true, false, Option, None, Some, List, [], ◌∷◌, ◌++◌, length, if◌then◌else◌, refl, sym, ap, ap₂, ◌∙◌}
 use Rattle.std.proofs.lemmas.List.{length-append}
+use Rattle.clnum.specs.Integer.{Integer}
 use Rattle.clmodel.specs.BuiltIns.{built_in}
 use Rattle.clmodel.specs.Next.{Variables, is_private_array, is_update}
 use Rattle.clmodel.specs.Tree.{Term, Number, Variable, Element, ElementAddress, Dereference, Call, Unary, Cast, Binary, Choice, Terms, NoTerm, ThenTerm, Target, TargetVariable, TargetElement, TargetDereference}
@@ -9,9 +10,10 @@ use Rattle.clmodel.specs.declared.setup.BuiltIn.{BuiltIn}
 use Rattle.clmodel.specs.declared.setup.BuiltIn.TheVariants as built_in_function
 use Rattle.clmodel.specs.declared.tree.InfixOperator.{InfixOperator}
 use Rattle.clmodel.specs.declared.tree.InfixOperator.TheVariants.{Arithmetic, LogicalAnd, LogicalOr}
+use Rattle.folding.specs.Constants.{constant_of}
 use Rattle.regcode.specs.declared.instruction.Instruction.{Instruction}
 use Rattle.lower_expr.specs.Scope.{Scope, register_in}
-use Rattle.lower_expr.specs.Expressions.{expr_code, terms_code, target_code, kind_of, registers_for, variable_code, element_code, truth_code, infix_code, choice_code, call_code, update_code, call_only_code}
+use Rattle.lower_expr.specs.Expressions.{folded, expr_code, terms_code, target_code, kind_of, registers_for, variable_code, element_code, truth_code, infix_code, choice_code, call_code, update_code, call_only_code}
 
 -- lists of one length
 pub record SameLength {A : Type 0} (xs ys : List A) : Type 0 where
@@ -113,6 +115,10 @@ element_same : (to to2 : ℕ) (o p : Option ℕ) (name : ℕ) {index index2 : Li
     → SameLength (element_code to o name index register) (element_code to2 p name index2 register2)
 element_same to to2 o p name register register2 is h = joined (variable_same to to2 o p name is) (joined h single)
 
+folded_same : (o : Option Integer) (level level2 : ℕ) {xs ys : List Instruction} → SameLength xs ys → SameLength (folded o level xs) (folded o level2 ys)
+folded_same (Some v) level level2 h = single
+folded_same None level level2 h = h
+
 -- the variables in scope, with the outermost at a level
 abbrev pub from_level : ℕ → Variables → Scope
 from_level base vs = record { base = base; variables = vs }
@@ -128,14 +134,16 @@ module _ (base other : ℕ) (vs : Variables) where
     expr_same level level2 (ElementAddress at name_at name index) =
         element_same _ _ _ _ name _ _ (registered base other vs name) (expr_same (level + 1) (level2 + 1) index)
     expr_same level level2 (Dereference at pointer) = joined (expr_same level level2 pointer) single
-    expr_same level level2 (Call at name arguments) = joined (terms_same level level2 arguments) (call_same (built_in name) _ _ _ _)
-    expr_same level level2 (Unary at operator operand) = joined (expr_same level level2 operand) single
-    expr_same level level2 (Cast at target operand) = joined (expr_same level level2 operand) single
+    expr_same level level2 (Call at name arguments) = folded_same (constant_of vs (Call at name arguments)) level level2 (joined (terms_same level level2 arguments) (call_same (built_in name) _ _ _ _))
+    expr_same level level2 (Unary at operator operand) = folded_same (constant_of vs (Unary at operator operand)) level level2 (joined (expr_same level level2 operand) single)
+    expr_same level level2 (Cast at target operand) = folded_same (constant_of vs (Cast at target operand)) level level2 (joined (expr_same level level2 operand) single)
     expr_same level level2 (Binary at operator left right) =
-        joined (expr_same level level2 left) (infix_same operator _ _ _ _ _ _ (expr_same (level + 1) (level2 + 1) right))
+        folded_same (constant_of vs (Binary at operator left right)) level level2
+        (joined (expr_same level level2 left) (infix_same operator _ _ _ _ _ _ (expr_same (level + 1) (level2 + 1) right)))
     expr_same level level2 (Choice at condition one two) =
-        joined (expr_same level level2 condition)
-        (choice_same _ _ (joined (expr_same level level2 one) single) (joined (expr_same level level2 two) single))
+        folded_same (constant_of vs (Choice at condition one two)) level level2
+        (joined (expr_same level level2 condition)
+        (choice_same _ _ (joined (expr_same level level2 one) single) (joined (expr_same level level2 two) single)))
 
     pub terms_same : (level level2 : ℕ) (es : Terms) → SameLength (terms_code (from_level base vs) level es) (terms_code (from_level other vs) level2 es)
     terms_same level level2 NoTerm = record { same = refl }

@@ -13,6 +13,7 @@ use Rattle.clmodel.specs.Tree.{Term, Terms, NoTerm, ThenTerm}
 use Rattle.clmodel.specs.declared.operand.Operand.{Operand}
 use Rattle.clmodel.specs.declared.tree.VariableType.{VariableType}
 use Rattle.clmodel.specs.declared.tree.VariableType.TheVariants.{Integer, Pointer}
+use Rattle.folding.specs.Constants.{unary_constant, cast_constant, infix_constant, call_constant, constant_of, constants_of}
 use Rattle.regcode.specs.Machine.{State, Registers, entry_at, reg, array_of, with_put, passed, onward}
 use Rattle.regcode.specs.declared.instruction.Instruction.{Instruction}
 use Rattle.regcode.proofs.Registers.{reg_kept}
@@ -200,6 +201,28 @@ mutual
 
 pub type_seen : (scope : Scope) (registers : Registers) (variables : Variables) (e : Term) → Sees scope registers variables → type_of scope.variables e ≡ type_of variables e
 type_seen scope registers variables e h = sym (type_in scope.base scope.variables registers e) ∙ ap (λ vs. type_of vs e) h.same
+
+-- and so do constants
+mutual
+  constant_in : (base : ℕ) (variables : Variables) (registers : Registers) (e : Term) → constant_of (view base variables registers) e ≡ constant_of variables e
+  constant_in base vs registers (tree.Number at value) = refl
+  constant_in base vs registers (tree.Variable at name) = refl
+  constant_in base vs registers (tree.Element at name index) = refl
+  constant_in base vs registers (tree.ElementAddress at name_at name index) = refl
+  constant_in base vs registers (tree.Dereference at pointer) = refl
+  constant_in base vs registers (tree.Call at name arguments) = ap (call_constant (built_in name)) (constants_in base vs registers arguments)
+  constant_in base vs registers (tree.Unary at operator operand) = ap (unary_constant operator) (constant_in base vs registers operand)
+  constant_in base vs registers (tree.Cast at kind operand) = ap (cast_constant kind) (constant_in base vs registers operand)
+  constant_in base vs registers (tree.Binary at operator left right) = ap₂ (infix_constant operator) (constant_in base vs registers left) (constant_in base vs registers right)
+  constant_in base vs registers (tree.Choice at condition chosen otherwise) =
+      rw (constant_in base vs registers condition, constant_in base vs registers chosen, constant_in base vs registers otherwise, type_in base vs registers chosen, type_in base vs registers otherwise) refl
+
+  constants_in : (base : ℕ) (variables : Variables) (registers : Registers) (es : Terms) → constants_of (view base variables registers) es ≡ constants_of variables es
+  constants_in base vs registers NoTerm = refl
+  constants_in base vs registers (ThenTerm es e) = ap₂ (λ xs x. xs ++ x ∷ []) (constants_in base vs registers es) (constant_in base vs registers e)
+
+pub constant_seen : (scope : Scope) (registers : Registers) (variables : Variables) (e : Term) → Sees scope registers variables → constant_of variables e ≡ constant_of scope.variables e
+constant_seen scope registers variables e h = ap (λ vs. constant_of vs e) (sym h.same) ∙ constant_in scope.base scope.variables registers e
 
 -- registers that hold values, and one more
 pub hold_then : (registers : Registers) (numbers : List ℕ) (values : List Operand) (i : ℕ) (v : Operand) → Hold registers numbers values → reg registers i ≡ Some v

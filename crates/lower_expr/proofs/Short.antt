@@ -1,6 +1,7 @@
 -- How many instructions the code of expressions and of targets has: six a node at most.
 use Rattle.std.proofs.Common.{ℕ, suc, ◌+◌, ◌*◌, ◌≤◌, Bool, true, false, Option, None, Some, List, [], ◌∷◌, ◌++◌, length, if◌then◌else◌, arith}
 use Rattle.std.proofs.lemmas.List.{length-append}
+use Rattle.clnum.specs.Integer.{Integer}
 use Rattle.clnum.specs.declared.operators.BinaryOperator.{BinaryOperator}
 use Rattle.clmodel.specs.BuiltIns.{built_in}
 use Rattle.clmodel.specs.Next.{is_private_array}
@@ -11,9 +12,10 @@ use Rattle.clmodel.specs.declared.setup.BuiltIn.{BuiltIn}
 use Rattle.clmodel.specs.declared.tree.InfixOperator.{InfixOperator}
 use Rattle.clmodel.specs.declared.tree.InfixOperator.TheVariants.{Arithmetic, LogicalAnd, LogicalOr}
 use Rattle.clmodel.specs.declared.tree.VariableType.{VariableType}
+use Rattle.folding.specs.Constants.{constant_of}
 use Rattle.regcode.specs.declared.instruction.Instruction.{Instruction}
 use Rattle.lower_expr.specs.Scope.{Scope}
-use Rattle.lower_expr.specs.Expressions.{expr_code, terms_code, target_code, variable_code, element_code, infix_code, choice_code, call_code, call_only_code}
+use Rattle.lower_expr.specs.Expressions.{folded, expr_code, terms_code, target_code, variable_code, element_code, infix_code, choice_code, call_code, call_only_code}
 use Rattle.lower_expr.proofs.Lengths.{call_length, call_only_length}
 use Rattle.lower_expr.specs.Targets.{hold_code, fetch_code, put_code, combine_code}
 
@@ -72,35 +74,6 @@ leaf_fits = omega arith
 node_fits : (n k : ℕ) → k ≤ 6 → 6 * n + k ≤ 6 * suc n
 node_fits n k h = omega (arith, h)
 
-module _ (sizes : Sizes) (scope : Scope) where
-  mutual
-    pub expr_short : (level : ℕ) (e : Term) → Short (6 * (term_size sizes e).nodes) (expr_code scope level e)
-    expr_short level (Number at value) = within single (omega arith)
-    expr_short level (Variable at name) = within (variable_short _ _ name) leaf_fits
-    expr_short level (Element at name index) =
-        either (is_private_array scope.variables name) (within (both (expr_short level index) single) (node_fits (term_size sizes index).nodes 1 (omega arith)))
-        (within (both (element_short _ _ name _ (expr_short (level + 1) index)) single) (omega arith))
-    expr_short level (ElementAddress at name_at name index) = within (element_short _ _ name _ (expr_short (level + 1) index)) (omega arith)
-    expr_short level (Dereference at pointer) = within (both (expr_short level pointer) single) (node_fits (term_size sizes pointer).nodes 1 (omega arith))
-    expr_short level (Call at name arguments) =
-        within (both (terms_short level arguments) (call_short (built_in name) _ _)) (omega arith)
-    expr_short level (Unary at operator operand) = within (both (expr_short level operand) single) (node_fits (term_size sizes operand).nodes 1 (omega arith))
-    expr_short level (Cast at target operand) = within (both (expr_short level operand) single) (node_fits (term_size sizes operand).nodes 1 (omega arith))
-    expr_short level (Binary at operator left right) =
-        within (both (expr_short level left) (infix_short operator _ _ _ (expr_short (level + 1) right))) (omega arith)
-    expr_short level (Choice at condition chosen otherwise) =
-        within (both (expr_short level condition) (choice_short _ (both (expr_short level chosen) single) (both (expr_short level otherwise) single))) (omega arith)
-
-    pub terms_short : (level : ℕ) (es : Terms) → Short (6 * (terms_size sizes es).nodes) (terms_code scope level es)
-    terms_short level NoTerm = within none (omega arith)
-    terms_short level (ThenTerm es e) = within (both (terms_short level es) (expr_short _ e)) (omega arith)
-
-  pub target_short : (level : ℕ) (to : Target) → Short (6 * (target_size sizes to).nodes) (target_code scope level to)
-  target_short level (TargetVariable at name) = within none (omega arith)
-  target_short level (TargetElement at name index) =
-      either (is_private_array scope.variables name) (within (expr_short level index) (omega arith)) (within (element_short _ _ name _ (expr_short (level + 1) index)) (omega arith))
-  target_short level (TargetDereference at pointer) = within (both (expr_short level pointer) single) (node_fits (term_size sizes pointer).nodes 1 (omega arith))
-
 -- each expression has a node
 pub some_node : (sizes : Sizes) (e : Term) → 1 ≤ (term_size sizes e).nodes
 some_node sizes (Number at value) = omega arith
@@ -113,6 +86,46 @@ some_node sizes (Unary at operator operand) = omega arith
 some_node sizes (Cast at target operand) = omega arith
 some_node sizes (Binary at operator left right) = omega arith
 some_node sizes (Choice at condition chosen otherwise) = omega arith
+
+folded_short : (o : Option Integer) (level : ℕ) {n : ℕ} {xs : List Instruction} → 1 ≤ n → Short (6 * n) xs → Short (6 * n) (folded o level xs)
+folded_short (Some v) level some h = within single (omega (arith, some))
+folded_short None level some h = h
+
+module _ (sizes : Sizes) (scope : Scope) where
+  -- a constant expression has one instruction
+  settled : (level : ℕ) (e : Term) {xs : List Instruction} → Short (6 * (term_size sizes e).nodes) xs → Short (6 * (term_size sizes e).nodes) (folded (constant_of scope.variables e) level xs)
+  settled level e h = folded_short (constant_of scope.variables e) level (some_node sizes e) h
+
+  mutual
+    pub expr_short : (level : ℕ) (e : Term) → Short (6 * (term_size sizes e).nodes) (expr_code scope level e)
+    expr_short level (Number at value) = within single (omega arith)
+    expr_short level (Variable at name) = within (variable_short _ _ name) leaf_fits
+    expr_short level (Element at name index) =
+        either (is_private_array scope.variables name) (within (both (expr_short level index) single) (node_fits (term_size sizes index).nodes 1 (omega arith)))
+        (within (both (element_short _ _ name _ (expr_short (level + 1) index)) single) (omega arith))
+    expr_short level (ElementAddress at name_at name index) = within (element_short _ _ name _ (expr_short (level + 1) index)) (omega arith)
+    expr_short level (Dereference at pointer) = within (both (expr_short level pointer) single) (node_fits (term_size sizes pointer).nodes 1 (omega arith))
+    expr_short level (Call at name arguments) =
+        settled level (Call at name arguments) (within (both (terms_short level arguments) (call_short (built_in name) _ _)) (omega arith))
+    expr_short level (Unary at operator operand) =
+        settled level (Unary at operator operand) (within (both (expr_short level operand) single) (node_fits (term_size sizes operand).nodes 1 (omega arith)))
+    expr_short level (Cast at target operand) =
+        settled level (Cast at target operand) (within (both (expr_short level operand) single) (node_fits (term_size sizes operand).nodes 1 (omega arith)))
+    expr_short level (Binary at operator left right) =
+        settled level (Binary at operator left right) (within (both (expr_short level left) (infix_short operator _ _ _ (expr_short (level + 1) right))) (omega arith))
+    expr_short level (Choice at condition chosen otherwise) =
+        settled level (Choice at condition chosen otherwise)
+        (within (both (expr_short level condition) (choice_short _ (both (expr_short level chosen) single) (both (expr_short level otherwise) single))) (omega arith))
+
+    pub terms_short : (level : ℕ) (es : Terms) → Short (6 * (terms_size sizes es).nodes) (terms_code scope level es)
+    terms_short level NoTerm = within none (omega arith)
+    terms_short level (ThenTerm es e) = within (both (terms_short level es) (expr_short _ e)) (omega arith)
+
+  pub target_short : (level : ℕ) (to : Target) → Short (6 * (target_size sizes to).nodes) (target_code scope level to)
+  target_short level (TargetVariable at name) = within none (omega arith)
+  target_short level (TargetElement at name index) =
+      either (is_private_array scope.variables name) (within (expr_short level index) (omega arith)) (within (element_short _ _ name _ (expr_short (level + 1) index)) (omega arith))
+  target_short level (TargetDereference at pointer) = within (both (expr_short level pointer) single) (node_fits (term_size sizes pointer).nodes 1 (omega arith))
 
 -- there are no more arguments than nodes of theirs
 pub few_terms : (sizes : Sizes) (es : Terms) → count es ≤ (terms_size sizes es).nodes

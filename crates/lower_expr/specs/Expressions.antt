@@ -1,6 +1,8 @@
 -- The register code of an expression, of arguments and of targets (own). The value of an expression at a level is left in that
--- level's register of its type, and the registers of lower levels stay as they are. An expression of a wrong type ends the item where its evaluation does.
+-- level's register of its type, and the registers of lower levels stay as they are. A
+-- constant expression is its value. An expression of a wrong type ends the item where its evaluation does.
 use Rattle.std.specs.Prelude.{ℕ, ◌+◌, true, false, if◌then◌else◌, Option, None, Some, List, [], ◌∷◌, ◌++◌, length}
+use Rattle.clnum.specs.Integer as integers
 use Rattle.clnum.specs.Operations.{truth}
 use Rattle.clnum.specs.declared.int_type.IntType.{IntType}
 use Rattle.clmodel.specs.BuiltIns.{built_in}
@@ -13,6 +15,7 @@ use Rattle.clmodel.specs.declared.tree.InfixOperator.{InfixOperator}
 use Rattle.clmodel.specs.declared.tree.InfixOperator.TheVariants.{Arithmetic, LogicalAnd, LogicalOr}
 use Rattle.clmodel.specs.declared.tree.VariableType.{VariableType}
 use Rattle.clmodel.specs.declared.tree.VariableType.TheVariants.{Integer}
+use Rattle.folding.specs.Constants.{constant_of}
 use Rattle.regcode.specs.declared.instruction.FetchOperands.TheVariants as operands
 use Rattle.regcode.specs.declared.instruction.Instruction.{Instruction}
 use Rattle.regcode.specs.declared.instruction.Instruction.TheVariants as instruction
@@ -103,6 +106,11 @@ abbrev pub registers_for : Scope → ℕ → Terms → List ℕ
 registers_for scope level NoTerm = []
 registers_for scope level (ThenTerm terms term) = registers_for scope level terms ++ register_for scope (level + count terms) term ∷ []
 
+-- a constant expression is one instruction, whatever code its form has
+abbrev pub folded : Option integers.Integer → ℕ → List Instruction → List Instruction
+folded (Some value) level code = instruction.Constant (register_at level (Integer value.kind)) value ∷ []
+folded None level code = code
+
 abbrev mutual
   pub expr_code : Scope → ℕ → Term → List Instruction
   expr_code scope level (Number at value) = instruction.Constant (register_at level (Integer value.kind)) value ∷ []
@@ -117,19 +125,24 @@ abbrev mutual
   expr_code scope level (Dereference at pointer) =
       expr_code scope level pointer ++ instruction.Load (register_for scope level (Dereference at pointer)) (register_for scope level pointer) ∷ []
   expr_code scope level (Call at name arguments) =
-      terms_code scope level arguments ++ call_code (built_in name) (register_for scope level (Call at name arguments)) (registers_for scope level arguments)
+      folded (constant_of scope.variables (Call at name arguments)) level
+      (terms_code scope level arguments ++ call_code (built_in name) (register_for scope level (Call at name arguments)) (registers_for scope level arguments))
   expr_code scope level (Unary at operator operand) =
-      expr_code scope level operand ++ instruction.Unary (register_for scope level (Unary at operator operand)) operator (register_for scope level operand) ∷ []
+      folded (constant_of scope.variables (Unary at operator operand)) level
+      (expr_code scope level operand ++ instruction.Unary (register_for scope level (Unary at operator operand)) operator (register_for scope level operand) ∷ [])
   expr_code scope level (Cast at target operand) =
-      expr_code scope level operand ++ instruction.Convert (register_at level (Integer target)) (register_for scope level operand) target ∷ []
+      folded (constant_of scope.variables (Cast at target operand)) level
+      (expr_code scope level operand ++ instruction.Convert (register_at level (Integer target)) (register_for scope level operand) target ∷ [])
   expr_code scope level (Binary at operator left right) =
-      expr_code scope level left
-      ++ infix_code operator (register_for scope level (Binary at operator left right)) (register_for scope level left) (register_for scope (level + 1) right) (expr_code scope (level + 1) right)
+      folded (constant_of scope.variables (Binary at operator left right)) level
+      (expr_code scope level left
+      ++ infix_code operator (register_for scope level (Binary at operator left right)) (register_for scope level left) (register_for scope (level + 1) right) (expr_code scope (level + 1) right))
   expr_code scope level (Choice at condition chosen otherwise) =
-      expr_code scope level condition
+      folded (constant_of scope.variables (Choice at condition chosen otherwise)) level
+      (expr_code scope level condition
       ++ choice_code (register_for scope level condition)
       (branch_code (register_for scope level (Choice at condition chosen otherwise)) (expr_code scope level chosen) (register_for scope level chosen) (kind_of scope otherwise))
-      (branch_code (register_for scope level (Choice at condition chosen otherwise)) (expr_code scope level otherwise) (register_for scope level otherwise) (kind_of scope chosen))
+      (branch_code (register_for scope level (Choice at condition chosen otherwise)) (expr_code scope level otherwise) (register_for scope level otherwise) (kind_of scope chosen)))
 
   pub terms_code : Scope → ℕ → Terms → List Instruction
   terms_code scope level NoTerm = []

@@ -13,9 +13,9 @@ ghost use Rattle.lower_expr.specs.Targets.{target_name, destination_of};
 use crate::emission::{TargetKind, emit_target};
 use crate::instructions::{add, fetch_variable, private_load, private_store};
 use crate::scope::{Level, Register, Scope, level_at, register_at};
-use crate::types::{base_type, infix_type};
 use clmodel::tree::{InfixOperator, Target, VariableType};
 use clnum::BinaryOperator;
+use folding::{base_type, infix_type};
 use regcode::Instruction;
 use std::alloc::AllocError;
 

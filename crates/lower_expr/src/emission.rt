@@ -1,12 +1,14 @@
 //! The emission of the code of expressions.
 #![tactic(auto, using(crate::proofs::Growth::unchanged, crate::proofs::Growth::behind))]
 
-ghost use Rattle.std.specs.Prelude.{◌≡◌, ◌+◌, ◌<◌, ◌≤◌, ◌^◌, [], ◌++◌, IfOk, OnErr};
+ghost use Rattle.std.specs.Prelude.{◌≡◌, ◌+◌, ◌<◌, ◌≤◌, ◌^◌, [], ◌++◌, take, drop, IfOk, OnErr};
 ghost use Rattle.clmodel.specs.Next.{argument_type};
 ghost use Rattle.clmodel.specs.Tree.{term, terms, tree_target};
 ghost use Rattle.clmodel.specs.Typing.Sizes.{term_size, terms_size, target_size};
+ghost use Rattle.folding.specs.Constants.{constant_of, constants_of};
+ghost use Rattle.folding.specs.Known.{constants_in};
 ghost use Rattle.lower_expr.specs.Scope.{free_level};
-ghost use Rattle.lower_expr.specs.Expressions.{kind_of, kind_named, expr_code, address_code, terms_code, registers_for, target_code, target_kind};
+ghost use Rattle.lower_expr.specs.Expressions.{kind_of, kind_named, folded, expr_code, address_code, terms_code, registers_for, target_code, target_kind};
 ghost use Rattle.lower_expr.specs.Growth.{IsLonger};
 ghost use Rattle.lower_expr.specs.Registers.{numbers};
 
@@ -15,10 +17,10 @@ use crate::instructions::{
 };
 use crate::jumps::{begin_choice, begin_infix, between_branches, end_choice, end_infix};
 use crate::scope::{Level, Scope, level_at, register_at};
-use crate::types::base_type;
 use clmodel::setup::built_in_named;
 use clmodel::tree::{Expression, Target, VariableType};
-use clnum::IntType;
+use clnum::{IntType, Value};
+use folding::{Known, base_type, constants};
 use regcode::Instruction;
 use smallvec::SmallVec;
 use std::alloc::AllocError;
@@ -35,9 +37,28 @@ fn levels_suffice(level: Level, arguments: &[Expression])
     ensures { level.0 + (terms_size [] (terms arguments.now)).nodes < 2 ^ 28 }
 {}
 
+/// Puts a constant expression's value in place of the code from a place on, which is that of its form; the code of another one stays.
+fn settle(
+    level: Level,
+    start: usize,
+    kind: VariableType,
+    constant: Option<Value>,
+    code: &mut Vec<Instruction>,
+) -> Result<Known, AllocError>
+    requires { level.0 < 2 ^ 28 }
+    ensures code { IfOk result (λ _. code.new.items ≡ take start code.old.items ++ folded constant level.0 (drop start code.old.items)) }
+    ensures known { IfOk result (λ found. found ≡ record { kind = kind; constant = constant }) }
+    ensures cut { OnErr result (code.new.items ≡ take start code.old.items) }
+{
+    if let Some(value) = constant {
+        code.truncate(start);
+        number(level, value, code)?;
+    }
+    Ok(Known { kind, constant })
+}
+
 /// Adds the code of an expression, which leaves its value in the register of its type at a level, and gives its type (OpenCL 1.2,
 /// section 6.3). The level is at least the first that is free. Err if out of memory.
-#[cycle(emission)]
 pub fn emit_expression(
     scope: &Scope,
     level: Level,
@@ -50,23 +71,50 @@ pub fn emit_expression(
     ensures kind { IfOk result (λ kind. kind ≡ kind_of scope.now (term expression.now)) }
     ensures longer { OnErr result (IsLonger code.old.items code.new.items) }
 {
+    let found = emit(scope, level, expression, code)?;
+    let _constant: Option<Value> = found.constant; // tells the borrow checker of this type
+    Ok(found.kind)
+}
+
+/// The same, which also gives the value of a constant expression. Each node is worked out once, from its parts, whose code it replaces.
+#[cycle(emission)]
+fn emit(
+    scope: &Scope,
+    level: Level,
+    expression: &Expression,
+    code: &mut Vec<Instruction>,
+) -> Result<Known, AllocError>
+    requires free { free_level scope.now ≤ level.0 }
+    requires low { level.0 + (term_size [] (term expression.now)).nodes < 2 ^ 28 }
+    ensures code { IfOk result (λ _. code.new.items ≡ code.old.items ++ expr_code scope.now level.0 (term expression.now)) }
+    ensures kind { IfOk result (λ found. found.kind ≡ kind_of scope.now (term expression.now)) }
+    ensures constant { IfOk result (λ found. found.constant ≡ constant_of scope.now.variables (term expression.now)) }
+    ensures longer { OnErr result (IsLonger code.old.items code.new.items) }
+{
+    let start = code.len();
     match expression {
-        Expression::Number { value, .. } => number(level, *value, code),
-        Expression::Variable { name, .. } => variable(scope, level, *name, code),
+        Expression::Number { value, .. } => {
+            number(level, *value, code)?;
+            Ok(Known::number(*value))
+        }
+        Expression::Variable { name, .. } => Ok(Known::varying(variable(
+            scope, level, *name, code,
+        )?)),
         Expression::Element { name, index, .. } => {
             if scope.is_private_array(*name) {
-                let index = emit_expression(scope, level, index, code)?;
-                return array_element(scope, level, *name, index, code);
+                let index = emit(scope, level, index, code)?;
+                let kind = array_element(scope, level, *name, index.kind, code)?;
+                return Ok(Known::varying(kind));
             }
             let pointer = emit_address(scope, level, *name, index, code)?;
-            load(level, pointer, code)
+            Ok(Known::varying(load(level, pointer, code)?))
         }
-        Expression::ElementAddress { name, index, .. } => emit_address(
+        Expression::ElementAddress { name, index, .. } => Ok(Known::varying(emit_address(
             scope, level, *name, index, code,
-        ),
+        )?)),
         Expression::Dereference { pointer, .. } => {
-            let pointer = emit_expression(scope, level, pointer, code)?;
-            load(level, pointer, code)
+            let pointer = emit(scope, level, pointer, code)?;
+            Ok(Known::varying(load(level, pointer.kind, code)?))
         }
         Expression::Call {
             name,
@@ -76,24 +124,30 @@ pub fn emit_expression(
             let given = arguments.as_slice();
             levels_suffice(level, given);
             let arguments = emit_arguments(scope, level, given, code)?;
-            let kind = call(level, built_in_named(*name), &arguments, code)?;
-            Ok(kind)
+            let function = built_in_named(*name);
+            let kind = call(level, function, &arguments, code)?;
+            let constant = constants::call(function, arguments.known.as_slice());
+            settle(level, start, kind, constant, code)
         }
         Expression::Unary {
             operator,
             operand,
             ..
         } => {
-            let operand = emit_expression(scope, level, operand, code)?;
-            unary(level, *operator, operand, code)
+            let operand = emit(scope, level, operand, code)?;
+            let kind = unary(level, *operator, operand.kind, code)?;
+            let constant = constants::unary(*operator, operand.constant);
+            settle(level, start, kind, constant, code)
         }
         Expression::Cast {
             target,
             operand,
             ..
         } => {
-            let operand = emit_expression(scope, level, operand, code)?;
-            cast(level, *target, operand, code)
+            let operand = emit(scope, level, operand, code)?;
+            let kind = cast(level, *target, operand.kind, code)?;
+            let constant = constants::cast(*target, operand.constant);
+            settle(level, start, kind, constant, code)
         }
         Expression::Binary {
             operator,
@@ -101,11 +155,12 @@ pub fn emit_expression(
             right,
             ..
         } => {
-            let first = emit_expression(scope, level, left, code)?;
-            let place = begin_infix(level, *operator, first, code)?;
-            let second = emit_expression(scope, level_at(level, 1), right, code)?;
-            let kind = end_infix(level, *operator, first, second, place, code)?;
-            Ok(kind)
+            let first = emit(scope, level, left, code)?;
+            let place = begin_infix(level, *operator, first.kind, code)?;
+            let second = emit(scope, level_at(level, 1), right, code)?;
+            let kind = end_infix(level, *operator, first.kind, second.kind, place, code)?;
+            let constant = constants::infix(*operator, first.constant, second.constant);
+            settle(level, start, kind, constant, code)
         }
         Expression::Choice {
             condition,
@@ -113,18 +168,27 @@ pub fn emit_expression(
             otherwise,
             ..
         } => {
-            let condition = emit_expression(scope, level, condition, code)?;
-            let first = begin_choice(level, condition, code)?;
-            let chosen = emit_expression(scope, level, chosen, code)?;
+            let condition = emit(scope, level, condition, code)?;
+            let first = begin_choice(level, condition.kind, code)?;
+            let chosen = emit(scope, level, chosen, code)?;
             let second = between_branches(code)?;
-            let otherwise = emit_expression(scope, level, otherwise, code)?;
-            end_choice(level, condition, chosen, otherwise, first, second, code)
+            let otherwise = emit(scope, level, otherwise, code)?;
+            let kind = end_choice(
+                level,
+                condition.kind,
+                chosen.kind,
+                otherwise.kind,
+                first,
+                second,
+                code,
+            )?;
+            let constant = constants::choice(condition.constant, chosen, otherwise);
+            settle(level, start, kind, constant, code)
         }
     }
 }
 
-/// Adds the code of a pointer variable's value moved by an index, which leaves it at a level, and gives its type. Err if out of
-/// memory.
+/// Adds the code of a pointer variable's value moved by an index, left at a level, and gives its type. Err if out of memory.
 #[cycle(emission)]
 fn emit_address(
     scope: &Scope,
@@ -140,13 +204,14 @@ fn emit_address(
     ensures longer { OnErr result (IsLonger code.old.items code.new.items) }
 {
     let pointer = variable(scope, level, name, code)?;
-    let index = emit_expression(scope, level_at(level, 1), index, code)?;
-    offset(level, pointer, index, code)?;
+    let found = emit(scope, level_at(level, 1), index, code)?;
+    let _constant: Option<Value> = found.constant; // tells the borrow checker of this type
+    offset(level, pointer, found.kind, code)?;
     Ok(pointer)
 }
 
 /// Adds the code of arguments, from left to right, and gives the registers where their values are, the first at a level, and each
-/// further one a level above, with the integer type of the first, or of what it points to. Err if out of memory.
+/// further one a level above, with the integer type of the first, or of what it points to, and each constant value. Err if out of memory.
 #[cycle(emission)]
 pub fn emit_arguments(
     scope: &Scope,
@@ -159,21 +224,29 @@ pub fn emit_arguments(
     ensures code { IfOk result (λ found. code.new.items ≡ code.old.items ++ terms_code scope.now level.0 (terms arguments.now)) }
     ensures registers { IfOk result (λ found. numbers found.registers.items ≡ registers_for scope.now level.0 (terms arguments.now)) }
     ensures kind { IfOk result (λ found. found.kind ≡ argument_type scope.now.variables (terms arguments.now)) }
+    ensures constants { IfOk result (λ found. constants_in found.known.items ≡ constants_of scope.now.variables (terms arguments.now)) }
     ensures longer { OnErr result (IsLonger code.old.items code.new.items) }
 {
     let mut registers = SmallVec::new(scope.allocator());
+    let mut known = SmallVec::new(scope.allocator());
     let mut kind = IntType::Int;
     for i in 0..arguments.len() {
         let argument = &arguments[i];
         let above = level_at(level, i);
         level_suffices(above, argument);
-        let found = emit_expression(scope, above, argument, code)?;
-        registers.push(register_at(above, found))?;
+        let found = emit(scope, above, argument, code)?;
+        let type_found = found.kind;
+        known.push(found)?;
+        registers.push(register_at(above, type_found))?;
         if i == 0 {
-            kind = base_type(found);
+            kind = base_type(type_found);
         }
     }
-    Ok(Arguments { registers, kind })
+    Ok(Arguments {
+        registers,
+        kind,
+        known,
+    })
 }
 
 /// What is left at a level for a target.

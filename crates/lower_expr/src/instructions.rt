@@ -14,10 +14,10 @@ ghost use Rattle.lower_expr.specs.Growth.{IsLonger};
 ghost use Rattle.lower_expr.specs.Registers.{numbers};
 
 use crate::scope::{Level, Register, Scope, level_at, register_at};
-use crate::types::{base_type, call_type, infix_type};
 use clmodel::setup::{AtomicFunction, BuiltIn, WorkItemFunction};
 use clmodel::tree::{InfixOperator, VariableType};
 use clnum::{Builtin, IntType, UnaryOperator, Value, unary_kind};
+use folding::{Known, base_type, call_type};
 use regcode::{FetchOperands, Instruction};
 use smallvec::SmallVec;
 use std::alloc::AllocError;
@@ -31,21 +31,19 @@ pub fn add(code: &mut Vec<Instruction>, instruction: Instruction) -> Result<(), 
     Ok(())
 }
 
-/// Adds the code of a number, and gives its type.
+/// Adds the code of a number.
 pub(crate) fn number(
     level: Level,
     value: Value,
     code: &mut Vec<Instruction>,
-) -> Result<VariableType, AllocError>
+) -> Result<(), AllocError>
     requires { level.0 < 2 ^ 28 }
-    ensures code { IfOk result (λ kind. code.new.items ≡ code.old.items ++ instruction.Constant (register_at level.0 (kinds.Integer value.kind)) value ∷ []) }
-    ensures kind { IfOk result (λ kind. kind ≡ kinds.Integer value.kind) }
-    ensures longer { OnErr result (IsLonger code.old.items code.new.items) }
+    ensures code { OnOk result (code.new.items ≡ code.old.items ++ instruction.Constant (register_at level.0 (kinds.Integer value.kind)) value ∷ []) }
+    ensures same { OnErr result (code.new.items ≡ code.old.items) }
 {
-    let kind = VariableType::Integer(value.kind());
-    let to = register_at(level, kind);
-    add(code, Instruction::Constant { to: to.0, value })?;
-    Ok(kind)
+    let to = register_at(level, VariableType::Integer(value.kind()));
+    code.push(Instruction::Constant { to: to.0, value })?;
+    Ok(())
 }
 
 /// Adds the code of a variable's value, which is left in a register.
@@ -287,11 +285,12 @@ pub(crate) fn cast(
     Ok(kind)
 }
 
-/// The registers of arguments from left to right, and the integer type of the first, or of what it points to; int where there is none.
+/// The registers of arguments, what is known of each, and the integer type of the first, or of what it points to; int where there is none.
 #[derive(Drop)]
 pub struct Arguments {
     pub registers: SmallVec<Register, 2>,
     pub kind: IntType,
+    pub(crate) known: SmallVec<Known, 2>,
 }
 
 /// Adds the call of a built-in function that gives a value, and gives its type. Where there is no such function with that many

@@ -14,9 +14,9 @@ ghost use Rattle.lower_expr.specs.Growth.{IsLonger};
 
 use crate::instructions::add;
 use crate::scope::{Level, Register, level_at, register_at};
-use crate::types::{base_type, infix_type};
 use clmodel::tree::{InfixOperator, VariableType};
 use clnum::{BinaryOperator, IntType, Value};
+use folding::{base_type, infix_type};
 use regcode::Instruction;
 use std::alloc::AllocError;
 

@@ -18,4 +18,3 @@ pub mod expression_laws;
 pub mod instructions;
 mod jumps;
 pub mod scope;
-pub mod types;

@@ -1,4 +1,6 @@
 pub mod Walking
+pub mod Typed
+pub mod Calling
 pub mod Marking
 pub mod MarkedStatements
 pub mod Settling

@@ -1,5 +1,5 @@
 -- Each instruction of a statement's code is one that its node makes, and so of a kernel's.
-use Rattle.std.proofs.Common.{◌≡◌, ℕ, zero, suc, ℤ, pos, negsuc, replicate, ◌+◌, ◌==◌, Bool, true, false, Option, None, Some, List, [], ◌∷◌, ◌++◌, length, if◌then◌else◌, refl, sym, ap, subst, ◌∙◌}
+use Rattle.std.proofs.Common.{◌≡◌, ℕ, zero, suc, ℤ, pos, negsuc, replicate, ◌+◌, ◌==◌, Bool, true, false, Option, None, Some, List, [], ◌∷◌, ◌++◌, length, if◌then◌else◌, refl, sym, ap, ap₂, subst, ◌∙◌}
 use Rattle.std.proofs.lemmas.List.{append_assoc, append-nil}
 use Rattle.clnum.specs.declared.int_type.IntType.{IntType}
 use Rattle.clnum.specs.declared.operators.BinaryOperator.{BinaryOperator}
@@ -19,7 +19,7 @@ use Rattle.lower_code.specs.Code.{Exits, past, body_exits, while_code, hold_code
 use Rattle.lower_code.specs.Code as spec
 use Rattle.origins.specs.declared.names.Meaning.{Meaning}
 use Rattle.origins.specs.declared.names.Named.{Named}
-use Rattle.origins.specs.Names.{positive, array_or_plain, array_meaning, names_of, names_after, names_after_part, names_after_all, parameter_names}
+use Rattle.origins.specs.Names.{positive, array_or_plain, array_kind, array_meaning, names_of, names_after, names_after_part, names_after_all, parameter_names}
 use Rattle.origins.specs.Origins.{Node, OfTerm, OfStmt, OfFunc, Origin, node_at, times, fetch_origins, needed_count, value_count, array_count, Calls, right_origins, call_statement_origins, condition_origins, stmt_origins, part_origins, row_origins, body_origins, call_origins, kernel_origins}
 use Rattle.origins.specs.Marks.{Suits, CallsBarrier, called, names, target_named, loads, stores, combines, Marks}
 use Rattle.origins.proofs.Marking.{none, more, single, joined, turned, inside, seen, variable_marked, call_only_marked, expr_marked, terms_marked, target_marked}
@@ -33,8 +33,12 @@ array_named : (is_local : Bool) (element : IntType) (count : Integer) (name : �
 array_named true element count name = refl
 array_named false element count name = positive_named count.number
 
+array_typed : (is_local : Bool) (element : IntType) (count : Integer) (name : ℕ) → array_kind is_local element ≡ (array_variable is_local element (array_length count) name).kind
+array_typed true element count name = refl
+array_typed false element count name = refl
+
 array_name : (is_local : Bool) (element : IntType) (count : Integer) (name : ℕ) (vs : Variables)
-    → names_of vs ++ record { name = name; meaning = array_or_plain (has_elements (array_variable is_local element (array_length count) name).elements) } ∷ []
+    → names_of vs ++ record { name = name; kind = (array_variable is_local element (array_length count) name).kind; meaning = array_or_plain (has_elements (array_variable is_local element (array_length count) name).elements) } ∷ []
     ≡ names_of (array_variable is_local element (array_length count) name ∷ vs)
 array_name true element count name vs = refl
 array_name false element count name vs = refl
@@ -43,7 +47,9 @@ array_name false element count name vs = refl
 after_named : (vs : Variables) (s : Stmt) → names_after (names_of vs) s ≡ names_of (variables_after vs s)
 after_named vs (Declare at kind name_at name) = refl
 after_named vs (DeclareAs at kind name_at name value) = refl
-after_named vs (DeclareArray at is_local element name_at name length_at count) = ap (λ (m : Meaning). names_of vs ++ record { name = name; meaning = m } ∷ []) (array_named is_local element count name) ∙ array_name is_local element count name vs
+after_named vs (DeclareArray at is_local element name_at name length_at count) =
+    ap₂ (λ (k : VariableType) (m : Meaning). names_of vs ++ record { name = name; kind = k; meaning = m } ∷ []) (array_typed is_local element count name) (array_named is_local element count name)
+    ∙ array_name is_local element count name vs
 after_named vs _ = refl
 
 after_part_named : (vs : Variables) (part : MaybeStmt) → names_after_part (names_of vs) part ≡ names_of (variables_after_part vs part)

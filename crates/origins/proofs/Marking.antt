@@ -9,13 +9,16 @@ use Rattle.clmodel.specs.declared.setup.BuiltIn.{BuiltIn}
 use Rattle.clmodel.specs.declared.setup.BuiltIn.TheVariants as built_in_function
 use Rattle.clmodel.specs.declared.tree.InfixOperator.{InfixOperator}
 use Rattle.clmodel.specs.declared.tree.InfixOperator.TheVariants.{Arithmetic, LogicalAnd, LogicalOr}
+use Rattle.clnum.specs.Integer.{Integer}
+use Rattle.folding.specs.Constants.{constant_of}
 use Rattle.regcode.specs.declared.instruction.Instruction.{Instruction}
 use Rattle.regcode.specs.declared.instruction.Instruction.TheVariants as instruction
 use Rattle.lower_expr.specs.Scope.{Scope, register_at, register_in}
-use Rattle.lower_expr.specs.Expressions.{expr_code, terms_code, target_code, variable_code, element_code, infix_code, call_code, update_code, call_only_code}
-use Rattle.origins.specs.Names.{meaning_behind, meaning_of, named, names_of, array_or_plain}
-use Rattle.origins.specs.Origins.{Node, OfTerm, OfTarget, Origin, entered, times, variable_origins, address_origins, element_origins, indexed_origins, infix_before, infix_behind, expr_origins, terms_origins, target_origins}
+use Rattle.lower_expr.specs.Expressions.{folded, expr_code, terms_code, target_code, variable_code, element_code, infix_code, call_code, update_code, call_only_code}
+use Rattle.origins.specs.Names.{meaning_behind, meaning_of, variables_of, named, names_of, array_or_plain}
+use Rattle.origins.specs.Origins.{Node, OfTerm, OfTarget, Origin, entered, times, variable_origins, address_origins, element_origins, indexed_origins, infix_before, infix_behind, folded_origins, expr_origins, terms_origins, target_origins}
 use Rattle.origins.specs.Marks.{Suits, CallsAtomic, called, names, Each, Marks}
+use Rattle.origins.proofs.Typed.{constant_named}
 use Rattle.origins.specs.declared.names.Meaning.{Meaning}
 use Rattle.origins.specs.declared.names.Meaning.TheVariants.{Unknown, Array, Plain}
 use Rattle.origins.specs.declared.names.Named.{Named}
@@ -175,7 +178,18 @@ choice_marked : (n : Node) (condition by over : ℕ) (i j : Instruction) {one tw
 choice_marked n condition by over i j {is = is} {js = js} p q h k =
     more tt (turned is (i ∷ []) (instruction.Jump over ∷ (js ++ j ∷ [])) (joined h (more p (more tt (joined k (single q))))))
 
+folded_marked : (o : Option Integer) (level : ℕ) (n : Node) {os : List Origin} {is : List Instruction} → Marks os is → Marks (folded_origins o n os) (folded o level is)
+folded_marked (Some v) level n h = single tt
+folded_marked None level n h = h
+
 module _ (scope : Scope) where
+  -- a constant expression is one instruction for both
+  constant_marked : (level : ℕ) (e : Term) {os : List Origin} {is : List Instruction} → Marks os is
+      → Marks (folded_origins (constant_of (variables_of (names_of scope.variables)) e) (OfTerm e) os) (folded (constant_of scope.variables e) level is)
+  constant_marked level e {os = os} {is = is} h =
+      subst (λ (o : Option Integer). Marks (folded_origins o (OfTerm e) os) (folded (constant_of scope.variables e) level is)) (sym (constant_named scope.variables e))
+      (folded_marked (constant_of scope.variables e) level (OfTerm e) h)
+
   mutual
     pub expr_marked : (level : ℕ) (e : Term) → Marks (expr_origins (names_of scope.variables) e) (expr_code scope level e)
     expr_marked level (Number at value) = single tt
@@ -185,13 +199,15 @@ module _ (scope : Scope) where
     expr_marked level (ElementAddress at name_at name index) =
         address_marked _ _ _ _ name _ (OfTerm (ElementAddress at name_at name index)) (seen scope.base scope.variables name) refl (expr_marked (level + 1) index)
     expr_marked level (Dereference at pointer) = joined (expr_marked level pointer) (single refl)
-    expr_marked level (Call at name arguments) = joined (terms_marked level arguments) (call_marked (built_in name) _ _ (OfTerm (Call at name arguments)) refl)
-    expr_marked level (Unary at operator operand) = joined (expr_marked level operand) (single tt)
-    expr_marked level (Cast at target operand) = joined (expr_marked level operand) (single tt)
+    expr_marked level (Call at name arguments) =
+        constant_marked level (Call at name arguments) (joined (terms_marked level arguments) (call_marked (built_in name) _ _ (OfTerm (Call at name arguments)) refl))
+    expr_marked level (Unary at operator operand) = constant_marked level (Unary at operator operand) (joined (expr_marked level operand) (single tt))
+    expr_marked level (Cast at target operand) = constant_marked level (Cast at target operand) (joined (expr_marked level operand) (single tt))
     expr_marked level (Binary at operator left right) =
-        joined (expr_marked level left) (infix_marked operator at left right _ _ _ (expr_marked (level + 1) right))
+        constant_marked level (Binary at operator left right) (joined (expr_marked level left) (infix_marked operator at left right _ _ _ (expr_marked (level + 1) right)))
     expr_marked level (Choice at condition chosen otherwise) =
-        joined (expr_marked level condition) (choice_marked (OfTerm (Choice at condition chosen otherwise)) _ _ _ _ _ tt tt (expr_marked level chosen) (expr_marked level otherwise))
+        constant_marked level (Choice at condition chosen otherwise)
+        (joined (expr_marked level condition) (choice_marked (OfTerm (Choice at condition chosen otherwise)) _ _ _ _ _ tt tt (expr_marked level chosen) (expr_marked level otherwise)))
 
     pub terms_marked : (level : ℕ) (es : Terms) → Marks (terms_origins (names_of scope.variables) es) (terms_code scope level es)
     terms_marked level NoTerm = none

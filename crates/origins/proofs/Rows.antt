@@ -16,11 +16,10 @@ use Rattle.lower_code.specs.Trees.{all_of, part_of}
 use Rattle.lower_code.proofs.Calling.{call_is}
 use Rattle.lower_code.proofs.Lists.{block_is}
 use Rattle.lower_code.proofs.Trees.{row_more}
-use Rattle.origins.specs.Names.{array_meaning, names_after, names_after_part, names_after_all}
+use Rattle.origins.specs.Names.{plain, array_kind, array_meaning, names_after, names_after_part, names_after_all}
 use Rattle.origins.specs.Origins.{Node, OfStmt, Origin, times, array_count, condition_origins}
 use Rattle.origins.specs.Settings.{stmt_in, part_in, row_in, assign_in, step_in, call_in, declare_in, return_in, for_in}
 use Rattle.origins.specs.Walks.{Walks}
-use Rattle.origins.specs.declared.names.Meaning.TheVariants.{Plain}
 use Rattle.origins.specs.declared.names.Named.{Named}
 use Rattle.origins.specs.declared.node.Halt.{Halt}
 use Rattle.origins.specs.declared.setting.Setting.{Setting}
@@ -28,9 +27,9 @@ use Rattle.origins.proofs.Stating.{of_six}
 
 -- the variables behind a declaration are those before it and others
 one_after : (names : List Named) (s : Stmt) → (more : List Named) × (names_after names s ≡ names ++ more)
-one_after names (Declare at kind name_at name) = (record { name = name; meaning = Plain } ∷ [], refl)
-one_after names (DeclareAs at kind name_at name value) = (record { name = name; meaning = Plain } ∷ [], refl)
-one_after names (DeclareArray at is_local element name_at name length_at count) = (record { name = name; meaning = array_meaning is_local count } ∷ [], refl)
+one_after names (Declare at kind name_at name) = (plain name kind ∷ [], refl)
+one_after names (DeclareAs at kind name_at name value) = (plain name kind ∷ [], refl)
+one_after names (DeclareArray at is_local element name_at name length_at count) = (record { name = name; kind = array_kind is_local element; meaning = array_meaning is_local count } ∷ [], refl)
 one_after names (Empty at) = ([], sym (append-nil names))
 one_after names (Block at body) = ([], sym (append-nil names))
 one_after names (Assign at to operator value) = ([], sym (append-nil names))
@@ -96,11 +95,11 @@ module _ (s : Setting) (names : List Named) where
       ap (λ (z : Statement). times 1 (N z)) now ∙ sym (ap (S names) now)
 
   pub declare_as_whole : (e : Statement) (at : ℕ) (kind : VariableType) (name_at name : ℕ) (value : Option (Box Expression Global)) (v : Box Expression Global) (x : Expression)
-      → e ≡ rust_statement.Declare at kind name_at name value → value ≡ Some v → x ≡ v.value → declare_in s names name (term x) (N e) ≡ S names e
+      → e ≡ rust_statement.Declare at kind name_at name value → value ≡ Some v → x ≡ v.value → declare_in s names kind name (term x) (N e) ≡ S names e
   declare_as_whole e at kind name_at name value v x is some x_is =
       let now : e ≡ rust_statement.Declare at kind name_at name (Some v) = is ∙ ap (λ (w : Option (Box Expression Global)). rust_statement.Declare at kind name_at name w) some in
-      ap (λ (y : Expression). declare_in s names name (term y) (N e)) x_is
-      ∙ ap (λ (z : Statement). declare_in s names name (term v.value) (N z)) now
+      ap (λ (y : Expression). declare_in s names kind name (term y) (N e)) x_is
+      ∙ ap (λ (z : Statement). declare_in s names kind name (term v.value) (N z)) now
       ∙ sym (ap (S names) now)
 
   pub array_whole : (e : Statement) (at : ℕ) (is_local : Bool) (element : IntType) (name_at name length_at : ℕ) (count : Integer) (n : ℕ)

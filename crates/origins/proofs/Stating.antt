@@ -13,10 +13,10 @@ use Rattle.clmodel.specs.declared.tree.Parameter.{Parameter}
 use Rattle.clmodel.specs.declared.tree.Expression.{Expression}
 use Rattle.clmodel.specs.declared.tree.Statement.{Statement}
 use Rattle.lower_code.specs.Trees.{all_of}
-use Rattle.origins.specs.Names.{parameter_names}
+use Rattle.origins.specs.Names.{plain, parameter_names}
 use Rattle.origins.specs.Origins.{Node, OfTerm, OfStmt, OfFunc, Origin, times, expr_origins, terms_origins, target_origins, fetch_origins, needed_count, value_count, right_origins, call_statement_origins, row_origins, function_origins}
 use Rattle.origins.specs.Settings.{stmt_in, row_in, right_in, assign_in, call_in, declare_in, calls_in, results_in}
-use Rattle.origins.specs.declared.names.Meaning.TheVariants.{Plain}
+use Rattle.clmodel.specs.declared.tree.VariableType.{VariableType}
 use Rattle.origins.specs.declared.names.Named.{Named}
 use Rattle.origins.specs.declared.setting.Setting.{Setting}
 
@@ -113,9 +113,9 @@ module _ (s : Setting) (names : List Named) where
       ap₂ (λ (w : Bool) (g : Option BuiltIn). call_statement_origins (calls_in s) (results_in s) s.result names w g name arguments n) (sym b) (sym k)
 
   -- a declaration with an initialiser
-  pub declared : (ks : List Named) (name : ℕ) (value : Term) (n : Node) → ks ≡ names ++ record { name = name; meaning = Plain } ∷ []
-      → (times 1 n ++ right_in s ks value) ++ times 1 n ≡ declare_in s names name value n
-  declared ks name value n e =
+  pub declared : (ks : List Named) (kind : VariableType) (name : ℕ) (value : Term) (n : Node) → ks ≡ names ++ plain name kind ∷ []
+      → (times 1 n ++ right_in s ks value) ++ times 1 n ≡ declare_in s names kind name value n
+  declared ks kind name value n e =
       append_assoc (times 1 n) (right_in s ks value) (times 1 n) ∙ ap (λ (ns : List Named). times 1 n ++ (right_in s ns value ++ times 1 n)) e
 
 -- the variables before others

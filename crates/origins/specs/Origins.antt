@@ -1,6 +1,7 @@
 -- Where the instructions of code come from: for each, the node of the tree that it belongs to, and the calls of helpers
 -- round it (own).
 use Rattle.std.specs.Prelude.{ℕ, ◌==◌, Bool, true, false, Option, None, Some, List, [], ◌∷◌, ◌++◌, length, map, replicate, take, slice_get}
+use Rattle.clnum.specs.Integer.{Integer}
 use Rattle.clnum.specs.declared.int_type.IntType.{IntType}
 use Rattle.clnum.specs.declared.operators.BinaryOperator.{BinaryOperator}
 use Rattle.clmodel.specs.Barrier.{is_barrier}
@@ -11,9 +12,10 @@ use Rattle.clmodel.specs.declared.setup.BuiltIn.{BuiltIn}
 use Rattle.clmodel.specs.declared.tree.Function.{Function}
 use Rattle.clmodel.specs.declared.tree.InfixOperator.{InfixOperator}
 use Rattle.clmodel.specs.declared.tree.InfixOperator.TheVariants.{Arithmetic, LogicalAnd, LogicalOr}
+use Rattle.folding.specs.Constants.{constant_of}
 use Rattle.lower_code.specs.Code.{result_in}
 use Rattle.lower_code.specs.Emission.{functions_of}
-use Rattle.origins.specs.Names.{meaning_of, names_after_part, names_after_all, parameter_names}
+use Rattle.origins.specs.Names.{meaning_of, variables_of, plain, names_after_part, names_after_all, parameter_names}
 use Rattle.origins.specs.declared.names.Meaning.{Meaning}
 use Rattle.origins.specs.declared.names.Meaning.TheVariants.{Unknown, Array, Plain}
 use Rattle.origins.specs.declared.names.Named.{Named}
@@ -119,6 +121,11 @@ infix_behind (Arithmetic operator) = 1
 infix_behind LogicalAnd = 4
 infix_behind LogicalOr = 4
 
+-- a constant expression is one instruction of its own
+abbrev pub folded_origins : Option Integer → Node → List Origin → List Origin
+folded_origins (Some value) n origins = times 1 n
+folded_origins None n origins = origins
+
 -- those of an expression: of its operands, and its own
 abbrev mutual
   pub expr_origins : List Named → Term → List Origin
@@ -127,21 +134,29 @@ abbrev mutual
   expr_origins names (Element at name index) = element_origins (meaning_of names name) (OfTerm (Element at name index)) (expr_origins names index)
   expr_origins names (ElementAddress at name_at name index) = address_origins (meaning_of names name) (OfTerm (ElementAddress at name_at name index)) (expr_origins names index)
   expr_origins names (Dereference at pointer) = expr_origins names pointer ++ times 1 (OfTerm (Dereference at pointer))
-  expr_origins names (Call at name arguments) = terms_origins names arguments ++ times 1 (OfTerm (Call at name arguments))
-  expr_origins names (Unary at operator operand) = expr_origins names operand ++ times 1 (OfTerm (Unary at operator operand))
-  expr_origins names (Cast at target operand) = expr_origins names operand ++ times 1 (OfTerm (Cast at target operand))
+  expr_origins names (Call at name arguments) =
+      folded_origins (constant_of (variables_of names) (Call at name arguments)) (OfTerm (Call at name arguments))
+      (terms_origins names arguments ++ times 1 (OfTerm (Call at name arguments)))
+  expr_origins names (Unary at operator operand) =
+      folded_origins (constant_of (variables_of names) (Unary at operator operand)) (OfTerm (Unary at operator operand))
+      (expr_origins names operand ++ times 1 (OfTerm (Unary at operator operand)))
+  expr_origins names (Cast at target operand) =
+      folded_origins (constant_of (variables_of names) (Cast at target operand)) (OfTerm (Cast at target operand))
+      (expr_origins names operand ++ times 1 (OfTerm (Cast at target operand)))
   expr_origins names (Binary at operator left right) =
-      expr_origins names left
+      folded_origins (constant_of (variables_of names) (Binary at operator left right)) (OfTerm (Binary at operator left right))
+      (expr_origins names left
       ++ (times (infix_before operator) (OfTerm (Binary at operator left right))
       ++ (expr_origins names right
-      ++ times (infix_behind operator) (OfTerm (Binary at operator left right))))
+      ++ times (infix_behind operator) (OfTerm (Binary at operator left right)))))
   expr_origins names (Choice at condition chosen otherwise) =
-      expr_origins names condition
+      folded_origins (constant_of (variables_of names) (Choice at condition chosen otherwise)) (OfTerm (Choice at condition chosen otherwise))
+      (expr_origins names condition
       ++ (times 1 (OfTerm (Choice at condition chosen otherwise))
       ++ (expr_origins names chosen
       ++ (times 2 (OfTerm (Choice at condition chosen otherwise))
       ++ (expr_origins names otherwise
-      ++ times 1 (OfTerm (Choice at condition chosen otherwise))))))
+      ++ times 1 (OfTerm (Choice at condition chosen otherwise)))))))
 
   pub terms_origins : List Named → Terms → List Origin
   terms_origins names NoTerm = []
@@ -212,7 +227,7 @@ module _ (calls : Calls) (results : ℕ → Option IntType) (result : Option Int
     stmt_origins names (Declare at kind name_at name) = times 1 (OfStmt (Declare at kind name_at name))
     stmt_origins names (DeclareAs at kind name_at name value) =
         times 1 (OfStmt (DeclareAs at kind name_at name value))
-        ++ (right_origins (names ++ record { name = name; meaning = Plain } ∷ []) (helper_call value) value ++ times 1 (OfStmt (DeclareAs at kind name_at name value)))
+        ++ (right_origins (names ++ plain name kind ∷ []) (helper_call value) value ++ times 1 (OfStmt (DeclareAs at kind name_at name value)))
     stmt_origins names (DeclareArray at is_local element name_at name length_at count) =
         times (array_count is_local) (OfStmt (DeclareArray at is_local element name_at name length_at count))
     stmt_origins names (Assign at target operator value) = assign_origins names target operator value (OfStmt (Assign at target operator value))

@@ -9,8 +9,8 @@ use Rattle.clmodel.specs.Tree.{Term, Terms, Target, Stmt, Stmts, MaybeStmt, Mayb
 use Rattle.lower_code.specs.Code.{result_in}
 use Rattle.lower_code.specs.Emission.{functions_of}
 use Rattle.origins.specs.Origins.{Node, Origin, times, call_origins, origins_at, expr_origins, target_origins, fetch_origins, value_count, right_origins, call_statement_origins, assign_origins, condition_origins, stmt_origins, part_origins, row_origins}
-use Rattle.origins.specs.Names.{names_after_part}
-use Rattle.origins.specs.declared.names.Meaning.TheVariants.{Plain}
+use Rattle.origins.specs.Names.{plain, names_after_part}
+use Rattle.clmodel.specs.declared.tree.VariableType.{VariableType}
 use Rattle.origins.specs.declared.names.Named.{Named}
 use Rattle.origins.specs.declared.setting.Setting.{Setting}
 
@@ -60,5 +60,5 @@ for_in s names first test third body n =
     ++ (condition_origins (names_after_part names first) test n ++ times 1 n))))
 
 -- a declaration with an initialiser, for its node
-abbrev pub declare_in : Setting → List Named → ℕ → Term → Node → List Origin
-declare_in s names name value n = times 1 n ++ (right_in s (names ++ record { name = name; meaning = Plain } ∷ []) value ++ times 1 n)
+abbrev pub declare_in : Setting → List Named → VariableType → ℕ → Term → Node → List Origin
+declare_in s names kind name value n = times 1 n ++ (right_in s (names ++ plain name kind ∷ []) value ++ times 1 n)

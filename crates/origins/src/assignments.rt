@@ -17,7 +17,7 @@ use crate::setting::Setting;
 use crate::targets::{pass_target, then_fetch};
 use clmodel::barrier::is_barrier;
 use clmodel::setup::built_in_named;
-use clmodel::tree::{Expression, Target};
+use clmodel::tree::{Expression, Target, VariableType};
 use clnum::BinaryOperator;
 
 /// A call of a helper in the tree.
@@ -143,16 +143,18 @@ pub fn pass_declaration<'a>(
     setting: Setting<'_>,
     names: &mut Vec<Named>,
     node: Node<'a>,
+    kind: VariableType,
     name: u32,
     value: &'a Expression,
     left: usize,
 ) -> Result<usize, Halt<'a>>
-    ensures walks { Walks (inside_in setting.entry) (declare_in setting.entry names.old.items name (term value.now) (node_of node.entry)) left result }
+    ensures walks { Walks (inside_in setting.entry) (declare_in setting.entry names.old.items kind name (term value.now) (node_of node.entry)) left result }
     ensures names { names.new.items ≡ names.old.items }
 {
     let count = names.len();
     let named = Named {
         name,
+        kind,
         meaning: Meaning::Plain,
     };
     match names.push(named) {

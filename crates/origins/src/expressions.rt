@@ -1,12 +1,15 @@
 //! Walks over the code of expressions and targets.
 #![tactic(auto, using(crate::proofs::Walking::stops, crate::proofs::Walking::goes_on))]
 
-ghost use Rattle.std.specs.Prelude.{◌≡◌, ℕ, List, ◌++◌};
+ghost use Rattle.std.specs.Prelude.{◌≡◌, ℕ, None, List, ◌++◌};
 ghost use Rattle.clmodel.specs.Tree.{term, terms};
+ghost use Rattle.folding.specs.Constants.{constant_of};
+ghost use Rattle.origins.specs.Names.{variables_of};
 ghost use Rattle.origins.specs.Origins.{Origin, node_of, variable_origins, address_origins, expr_origins, terms_origins, times};
 ghost use Rattle.origins.specs.Origins as origins;
 ghost use Rattle.origins.specs.Walks.{Walks};
 
+use crate::known::known_of;
 use crate::names::{Meaning, Named, meaning_of};
 use crate::node::{Halt, Node, pass_own};
 use clmodel::tree::{Expression, InfixOperator};
@@ -72,13 +75,30 @@ pub fn then_expression<'a>(
     }
 }
 
-/// Passes an expression.
+/// Passes an expression. Each node down to a constant one asks all nodes below it, so that a walk asks as many as the
+/// expression has, once for each node above them.
 #[cycle(walk)]
 pub fn pass_expression<'a>(
     names: &[Named],
     expression: &'a Expression,
     left: usize,
 ) -> Result<usize, Halt<'a>>
+    ensures { (inside : ℕ → List Origin) → Walks inside (expr_origins names.now (term expression.now)) left result }
+{
+    match known_of(names, expression).constant {
+        Some(_) => pass_own(Node::Expression(expression), 1, left),
+        None => pass_parts(names, expression, left),
+    }
+}
+
+/// Passes an expression that isn't constant.
+#[cycle(walk)]
+fn pass_parts<'a>(
+    names: &[Named],
+    expression: &'a Expression,
+    left: usize,
+) -> Result<usize, Halt<'a>>
+    requires { constant_of (variables_of names.now) (term expression.now) ≡ None }
     ensures { (inside : ℕ → List Origin) → Walks inside (expr_origins names.now (term expression.now)) left result }
 {
     let node = Node::Expression(expression);

@@ -10,6 +10,7 @@ mod assignments;
 mod expressions;
 mod functions;
 mod helpers;
+mod known;
 mod names;
 mod node;
 mod origin;

@@ -5,8 +5,8 @@ ghost use Rattle.std.specs.Prelude.{◌≡◌, ◌++◌, OnErr, OnOk};
 ghost use Rattle.clmodel.specs.Tree.{stmt};
 ghost use Rattle.origins.specs.Names as spec;
 
-use clmodel::tree::{Parameter, Statement};
-use clnum::Value;
+use clmodel::tree::{AddressSpace, Parameter, PointerType, Statement, VariableType};
+use clnum::{IntType, Value};
 use std::alloc::AllocError;
 
 /// What a name stands for: no variable in scope, a private array, or another variable.
@@ -21,6 +21,7 @@ pub enum Meaning {
 #[derive(Clone, Copy)]
 pub struct Named {
     pub name: u32,
+    pub kind: VariableType,
     pub meaning: Meaning,
 }
 
@@ -35,6 +36,33 @@ pub fn meaning_of(names: &[Named], name: u32) -> Meaning
         }
     }
     found
+}
+
+/// The type of a variable among these; int where there is none.
+pub fn kind_of(names: &[Named], name: u32) -> VariableType
+    ensures { result ≡ spec.kind_of names.now name }
+{
+    let mut found = VariableType::Integer(IntType::Int);
+    for i in 0..names.len() {
+        if name == names[i].name {
+            found = names[i].kind;
+        }
+    }
+    found
+}
+
+/// The type of the variable of an array: that of a local one is a pointer.
+fn array_kind(is_local: bool, element: IntType) -> VariableType
+    ensures { result ≡ spec.array_kind is_local element }
+{
+    if is_local {
+        return VariableType::Pointer(PointerType {
+            space: AddressSpace::Local,
+            is_const: false,
+            element,
+        });
+    }
+    VariableType::Integer(element)
 }
 
 /// What the name of an array stands for, by the number in its brackets: one of no elements is no array.
@@ -56,21 +84,24 @@ pub fn declare(names: &mut Vec<Named>, statement: &Statement) -> Result<(), Allo
     ensures same { OnErr result (names.new.items ≡ names.old.items) }
 {
     match statement {
-        Statement::Declare { name, .. } => {
+        Statement::Declare { kind, name, .. } => {
             names.push(Named {
                 name: *name,
+                kind: *kind,
                 meaning: Meaning::Plain,
             })?;
             Ok(())
         }
         Statement::DeclareArray {
             is_local,
+            element,
             name,
             length,
             ..
         } => {
             names.push(Named {
                 name: *name,
+                kind: array_kind(*is_local, *element),
                 meaning: array_meaning(*is_local, *length),
             })?;
             Ok(())
@@ -89,6 +120,7 @@ pub fn declare_parameters(
     for i in 0..parameters.len() {
         names.push(Named {
             name: parameters[i].name,
+            kind: parameters[i].kind,
             meaning: Meaning::Plain,
         })?;
     }

@@ -127,9 +127,14 @@ fn pass_statement<'a>(
     match statement {
         Statement::Empty { .. } => Ok(left),
         Statement::Block { body, .. } => pass_statements(setting, names, body.as_slice(), left),
-        Statement::Declare { name, value, .. } => match value {
+        Statement::Declare {
+            kind,
+            name,
+            value,
+            ..
+        } => match value {
             None => pass_own(node, 1, left),
-            Some(value) => pass_declaration(setting, names, node, *name, value, left),
+            Some(value) => pass_declaration(setting, names, node, *kind, *name, value, left),
         },
         Statement::DeclareArray { is_local, .. } => pass_own(node, array_count(*is_local), left),
         Statement::Assign {

@@ -2,6 +2,8 @@
 #![tactic(auto)]
 
 #[cfg(test)]
+mod code_sizes;
+#[cfg(test)]
 mod footprints;
 #[cfg(test)]
 mod logs;

@@ -10,7 +10,7 @@ pub returns-in-Ok-clause-walks : goal.returns-in-Ok-clause-walks
 returns-in-Ok-clause-walks c =
     let inside = inside_in c.args.setting in
     settle _ _ _ _ _
-    (declared c.args.setting c.args.names.now.items c.as_slice.result.now c.args.name (term c.args.value.now) (node_of c.args.node) (c.as_slice.ensures.value ∙ c.in-Ok.ensures.items))
+    (declared c.args.setting c.args.names.now.items c.as_slice.result.now c.args.kind c.args.name (term c.args.value.now) (node_of c.args.node) (c.as_slice.ensures.value ∙ c.in-Ok.ensures.items))
     (c.then_own.ensures inside _ _ (c.then_right-valued.ensures _ _ (c.pass_own-begun.ensures inside)))
 
 pub returns-in-Ok-clause-names : goal.returns-in-Ok-clause-names

@@ -7,16 +7,19 @@ use Rattle.origins.specs.Walks.{Walks}
 use Rattle.origins.proofs.expressions.+walk.Given as goal
 
 abbrev pub decreases-then_expression : goal.decreases-then_expression
-decreases-then_expression l = 4 * (size-Expression l.expression.now) + 1
+decreases-then_expression l = 5 * (size-Expression l.expression.now) + 2
 
 abbrev pub decreases-pass_expression : goal.decreases-pass_expression
-decreases-pass_expression l = 4 * (size-Expression l.expression.now)
+decreases-pass_expression l = 5 * (size-Expression l.expression.now) + 1
+
+abbrev pub decreases-pass_parts : goal.decreases-pass_parts
+decreases-pass_parts l = 5 * (size-Expression l.expression.now)
 
 abbrev pub decreases-pass_address : goal.decreases-pass_address
-decreases-pass_address l = 4 * (size-Expression l.index.now) + 2
+decreases-pass_address l = 5 * (size-Expression l.index.now) + 3
 
 abbrev pub decreases-pass_arguments : goal.decreases-pass_arguments
-decreases-pass_arguments l = 4 * (most size-Expression l.arguments.now) + 2
+decreases-pass_arguments l = 5 * (most size-Expression l.arguments.now) + 3
 
 -- the arguments so far are passed
 abbrev pub invariant-pass_arguments-loop-i : goal.invariant-pass_arguments-loop-i
